@@ -1,13 +1,19 @@
-// A library with one function.
+//! What a net of handshake components is: its types, and the definitions of what it does.
+//!
+//! The code here is small. The definitions stand in `specs/`, one file for each subject.
 #![tactic(auto)]
 
-ghost use Rattle.std.specs.Prelude.{◌≡◌};
-ghost use Rattle.bz_model.specs.Echo.{echo_of};
+mod channel;
+mod event;
+mod expr;
+mod kind;
+mod names;
 
-// The `ensures` clause is the contract: what `echo` returns is `echo_of` of its argument, a definition
-// in `specs/Echo.antt`, which a caller's clause can cite too.
-pub fn echo(x: usize) -> usize
-    ensures { result ≡ echo_of x }
-{
-    x
-}
+pub use channel::{Chan, ChanKind, MAX_WIDTH, Move, Phase, Value, carries, fits};
+pub use event::{Cmd, Entry, HostCmd, NetError, Reply, Verb, Who};
+pub use expr::Expr;
+pub use kind::{Kind, MAX_MEMBERS, Param};
+pub use names::{Names, Port};
+
+#[cfg(test)]
+mod tests;

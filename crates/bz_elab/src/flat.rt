@@ -1,0 +1,142 @@
+//! The flat net of a part: its channels, its components, its external ports, and the ends of each channel.
+
+ghost use Rattle.std.specs.Prelude.{◌≡◌, ◌<◌, ◌^◌, length, map};
+ghost use Rattle.std.specs.Option.{option_copied, option_map};
+ghost use Rattle.bz_model.specs.Names.{external, port_number, channel, numbered};
+ghost use Rattle.bz_elab.specs.Flats.{site_of, wiring_of};
+ghost use Rattle.bz_elab.specs.Wires.{WellWired, EndsOf};
+
+use bz_model::{Chan, Kind, Port};
+use std::marker::Model;
+
+/// A component of the net: its kind, the lengths of its arrays in the row's order (0 where there is none), and its
+/// channels in the order of its ports.
+#[derive(Debug, PartialEq, Eq, Drop)]
+pub struct FlatComp {
+    pub kind: Kind,
+    pub sizes: [u32; 2],
+    pub chans: Vec<u32>,
+}
+
+/// The components at the two ends of a channel, counted from 1, `None` where no component stands.
+#[derive(Clone, Copy, Debug, PartialEq, Eq)]
+pub struct Ends {
+    pub active: Option<u32>,
+    pub passive: Option<u32>,
+}
+
+/// What a flat net is made of. Channel, component and port number k is the one at place k - 1, and port k is channel k.
+#[derive(Drop)]
+pub struct Pieces {
+    pub chans: Vec<Chan>,
+    pub comps: Vec<FlatComp>,
+    pub ports: Vec<Port>,
+    pub ends: Vec<Ends>,
+}
+
+/// The flat net of a part. Its channels, components and ports count from 1, and port k is channel k.
+#[derive(Drop)]
+pub struct Flat {
+    chans: Vec<Chan>,
+    comps: Vec<FlatComp>,
+    ports: Vec<Port>,
+    ends: Vec<Ends>,
+}
+
+impl Model for Flat {
+    ghost use Rattle.bz_elab.specs.Flats.{Plan, wiring_of};
+    ghost use Rattle.bz_elab.specs.Wires.{WellWired, EndsOf};
+
+    ghost Value = { Plan };
+
+    ghost view = { λ f. record { wiring = wiring_of f.chans.items f.comps.items f.ports.items; ends = f.ends.items } };
+
+    ghost invariant = { λ f. WellWired (wiring_of f.chans.items f.comps.items f.ports.items) × EndsOf (wiring_of f.chans.items f.comps.items f.ports.items) f.ends.items };
+}
+
+impl Flat {
+    /// The number of the external port of this name, if there is one.
+    pub fn port(&self, name: &[u8]) -> Option<u32>
+        ensures { result ≡ port_number self.now.wiring.ports name.now }
+    {
+        number_of(&self.ports, name)
+    }
+
+    /// The external ports, in order.
+    pub fn ports(&self) -> &[Port]
+        ensures { map external result.now ≡ self.now.wiring.ports }
+    {
+        self.ports.as_slice()
+    }
+
+    pub fn chan_count(&self) -> u32
+        ensures { result ≡ length self.now.wiring.chans }
+    {
+        self.chans.len() as u32
+    }
+
+    /// A channel, if there is such a channel.
+    pub fn chan(&self, chan: u32) -> Option<Chan>
+        ensures { result ≡ channel self.now.wiring.chans chan }
+    {
+        numbered(&self.chans, chan).copied()
+    }
+
+    pub fn comp_count(&self) -> u32
+        ensures { result ≡ length self.now.wiring.sites }
+    {
+        self.comps.len() as u32
+    }
+
+    /// A component, if there is such a component.
+    pub fn comp(&self, comp: u32) -> Option<&FlatComp>
+        ensures { option_map site_of (option_copied result) ≡ numbered self.now.wiring.sites comp }
+    {
+        numbered(&self.comps, comp)
+    }
+
+    /// The components at the ends of a channel, if there is such a channel.
+    pub fn ends(&self, chan: u32) -> Option<Ends>
+        ensures { result ≡ numbered self.now.ends chan }
+    {
+        numbered(&self.ends, chan).copied()
+    }
+
+    /// What the net is made of.
+    pub fn into_pieces(self) -> Pieces
+        ensures wiring { self.wiring ≡ wiring_of result.chans.items result.comps.items result.ports.items }
+        ensures ends { self.ends ≡ result.ends.items }
+        ensures wired { WellWired (wiring_of result.chans.items result.comps.items result.ports.items) }
+        ensures ends_of { EndsOf (wiring_of result.chans.items result.comps.items result.ports.items) result.ends.items }
+    {
+        Pieces {
+            chans: self.chans,
+            comps: self.comps,
+            ports: self.ports,
+            ends: self.ends,
+        }
+    }
+}
+
+// The number of the first port of this name.
+fn number_of(ports: &[Port], name: &[u8]) -> Option<u32>
+    requires { length ports.now < 2 ^ 32 }
+    ensures { result ≡ port_number (map external ports.now) name.now }
+{
+    for (place, port) in ports.iter().enumerate() {
+        if port.name.as_slice() == name {
+            return Some(place as u32 + 1);
+        }
+    }
+    None
+}
+
+// The element of this number, counted from 1.
+fn numbered<T>(items: &[T], number: u32) -> Option<&T>
+    ensures { option_copied result ≡ numbered items.now number }
+{
+    if number == 0 {
+        return None;
+    }
+    items.get(number as usize - 1)
+}

@@ -1,0 +1,14 @@
+mod Tables
+pub mod Arrays
+pub mod Opening
+pub mod TogetherLaws
+pub mod Counts
+pub mod TogetherSteps
+pub mod TogetherDue
+pub mod InTurnLaws
+pub mod InTurnDue
+pub mod CellsLaws
+pub mod ScriptLaws
+pub mod PlanLaws
+pub mod StartLaws
+pub mod MovesLaws

@@ -1,0 +1,165 @@
+-- Of every plan: the heads are the moves that are due, and a port has one.
+use Rattle.std.proofs.Common.{◌≡◌, ℕ, zero, suc, List, get_or, Option, Some, refl, ap, sym, ◌∙◌, subst, IsTrue, map, arith}
+use Rattle.std.specs.Prelude.{◌-◌, ◌<◌, not}
+use Rattle.bz_model.specs.Heads.{Head, IsHead, IsHeadOn, Component, Moves, Turns, HasOneHead, carried, tidy, opens}
+use Rattle.bz_model.specs.declared.channel.Move.TheVariants.{Ask, Take, Reply, Got}
+use Rattle.bz_model.specs.declared.expr.Expr.TheVariants.{Nothing}
+use Rattle.bz_model.specs.declared.channel.Phase.{Phase}
+use Rattle.bz_model.specs.Phases.{may_move, incoming}
+use Rattle.bz_model.specs.Processes.{member}
+use Rattle.bz_model.specs.Terms.{Store, stored}
+use Rattle.bz_kinds.specs.declared.row.Due.{Due}
+use Rattle.bz_kinds.specs.declared.row.Row.{Row}
+use Rattle.bz_kinds.specs.declared.row.Plan.{Plan}
+use Rattle.bz_kinds.specs.declared.row.Plan.TheVariants.{InTurn, Together, Cells, OneByOne}
+use Rattle.bz_kinds.specs.Row.{due_of, row_due, is_open, lead_due, leg_due, leg_of}
+use Rattle.bz_kinds.specs.declared.row.Leg.{Leg}
+use Rattle.bz_kinds.specs.Comp.{todo_of, IsAt, plan_due, IsDue, Goes}
+use Rattle.std.proofs.Math.ListN.{get_or-map}
+use Rattle.bz_kinds.specs.InTurn as turn
+use Rattle.bz_kinds.specs.Together as whole
+use Rattle.bz_kinds.proofs.InTurnDue as in_turn
+use Rattle.bz_kinds.proofs.TogetherDue as together
+use Rattle.bz_kinds.proofs.CellsLaws as cells
+use Rattle.bz_kinds.specs.Cells as cell
+use Rattle.bz_kinds.proofs.ScriptLaws as one_by_one
+use Rattle.bz_kinds.specs.Script as stages
+use Rattle.bz_kinds.specs.declared.row.Script.{Script}
+use Rattle.bz_model.specs.declared.channel.Chan.{Chan}
+use Rattle.bz_model.specs.declared.expr.Expr.{Expr}
+use Rattle.bz_kinds.specs.Cells.{taken_into, answer, cell_due}
+
+pub heads-due : (plan : Plan) (n left : ℕ) (w : List ℕ) → IsAt plan n left w → (h : Head) → IsHead (todo_of plan n left w) h → plan_due plan h.port (get_or w h.port 0) ≡ Some (due_of h)
+heads-due (InTurn row) n left w ok h at = in_turn.heads-due row n left w ok h at
+heads-due (Together row) n left w ok h at = together.heads-due row n left w ok h at
+heads-due Cells n left w ok h at = cells.heads-due n w ok h at
+heads-due (OneByOne script) n left w ok h at = one_by_one.heads-due script left w ok h at
+
+pub due-heads : (plan : Plan) (n left : ℕ) (w : List ℕ) → IsAt plan n left w → (p : ℕ) (d : Due) → plan_due plan p (get_or w p 0) ≡ Some d → (h : Head) × IsHead (todo_of plan n left w) h × (h.port ≡ p)
+due-heads (InTurn row) n left w ok p d e = in_turn.due-heads row n left w ok p d e
+due-heads (Together row) n left w ok p d e = together.due-heads row n left w ok p d e
+due-heads Cells n left w ok p d e = cells.due-heads n w ok p d e
+due-heads (OneByOne script) n left w ok p d e = one_by_one.due-heads script left w ok p d e
+
+pub one-head : (plan : Plan) (n left : ℕ) (w : List ℕ) → IsAt plan n left w → HasOneHead (todo_of plan n left w)
+one-head (InTurn row) n left w ok = in_turn.one-head row n left w ok
+one-head (Together row) n left w ok = together.one-head row n left w ok
+one-head Cells n left w ok = cells.one-head n w ok
+one-head (OneByOne script) n left w ok = one_by_one.one-head script left w ok
+
+-- a head at p is the move that is due there
+pub head-is-due : (plan : Plan) (n left : ℕ) (w : List ℕ) → IsAt plan n left w → (p : ℕ) (h : Head) → IsHead (todo_of plan n left w) h → h.port ≡ p → plan_due plan p (get_or w p 0) ≡ Some (due_of h)
+head-is-due plan n left w ok p h at e = subst (λ q. plan_due plan q (get_or w q 0) ≡ Some (due_of h)) e (heads-due plan n left w ok h at)
+
+-- what is due at p is a head, with the same move
+pub due-is-head : (plan : Plan) (n left : ℕ) (w : List ℕ) → IsAt plan n left w → (p : ℕ) (d : Due) → plan_due plan p (get_or w p 0) ≡ Some d → (h : Head) × (IsHead (todo_of plan n left w) h × (h.port ≡ p)) × (d ≡ due_of h)
+due-is-head plan n left w ok p d e =
+    let (h, at, q) = due-heads plan n left w ok p d e in
+    let f = head-is-due plan n left w ok p h at q in
+    (h, (at, q), cc)
+
+-- a port opens where a move is due and it is closed, and closes where it is open
+lead-alternates : (into : ℕ) (answer : Expr) (a : ℕ) (d : Due) → lead_due into answer a ≡ Some d → opens d.mv ≡ not (is_open a)
+lead-alternates into answer zero d e = absurd (cc)
+lead-alternates into answer (suc zero) d e = let q : record { mv = Take; gives = Nothing; into = into } ≡ d = cc in sym (ap (λ (d : Due). opens d.mv) q)
+lead-alternates into answer (suc (suc zero)) d e = absurd (cc)
+lead-alternates into answer (suc (suc (suc a))) d e = let q : record { mv = Reply; gives = answer; into = 0 } ≡ d = cc in sym (ap (λ (d : Due). opens d.mv) q)
+
+leg-alternates : (leg : Leg) (a : ℕ) (d : Due) → leg_due leg a ≡ Some d → opens d.mv ≡ not (is_open a)
+leg-alternates leg zero d e = absurd (cc)
+leg-alternates leg (suc zero) d e = let q : record { mv = Ask; gives = leg.gives; into = 0 } ≡ d = cc in sym (ap (λ (d : Due). opens d.mv) q)
+leg-alternates leg (suc (suc zero)) d e = absurd (cc)
+leg-alternates leg (suc (suc (suc a))) d e = let q : record { mv = Got; gives = Nothing; into = leg.into } ≡ d = cc in sym (ap (λ (d : Due). opens d.mv) q)
+
+row-alternates : (row : Row) (p a : ℕ) (d : Due) → row_due row p a ≡ Some d → opens d.mv ≡ not (is_open a)
+row-alternates row zero a d e = absurd (cc)
+row-alternates row (suc zero) a d e = lead-alternates row.into row.answer a d e
+row-alternates row (suc (suc i)) a d e = leg-alternates (leg_of row.legs i) a d e
+
+cell-alternates : (p a : ℕ) (d : Due) → cell_due p a ≡ Some d → opens d.mv ≡ not (is_open a)
+cell-alternates zero a d e = absurd (cc)
+cell-alternates (suc j) a d e = lead-alternates (taken_into j) (answer j) a d e
+
+script-alternates : (script : Script) (p a : ℕ) (d : Due) → stages.script_due script p a ≡ Some d → opens d.mv ≡ not (is_open a)
+script-alternates script p zero d e = absurd (cc)
+script-alternates script zero (suc zero) d e = let q : record { mv = Ask; gives = Nothing; into = 0 } ≡ d = cc in sym (ap (λ (d : Due). opens d.mv) q)
+script-alternates script (suc zero) (suc zero) d e = let q : record { mv = Take; gives = Nothing; into = stages.taken_into script } ≡ d = cc in sym (ap (λ (d : Due). opens d.mv) q)
+script-alternates script (suc (suc p)) (suc zero) d e = let q : record { mv = Ask; gives = Nothing; into = 0 } ≡ d = cc in sym (ap (λ (d : Due). opens d.mv) q)
+script-alternates script p (suc (suc zero)) d e = absurd (cc)
+script-alternates script p (suc (suc (suc a))) d e = let q : record { mv = Got; gives = Nothing; into = 1 } ≡ d = cc in sym (ap (λ (d : Due). opens d.mv) q)
+
+pub alternates : (plan : Plan) (p a : ℕ) (d : Due) → plan_due plan p a ≡ Some d → opens d.mv ≡ not (is_open a)
+alternates (InTurn row) p a d e = row-alternates row p a d e
+alternates (Together row) p a d e = row-alternates row p a d e
+alternates Cells p a d e = cell-alternates p a d e
+alternates (OneByOne script) p a d e = script-alternates script p a d e
+
+-- the same of a component that is seen as c
+module _ (plan : Plan) (n left : ℕ) (w : List ℕ) (s : Store) (chans : List Chan) (c : Component) (view : record { proc = record { todo = todo_of plan n left w; store = s }; chans = chans; open_ports = map is_open w } ≡ c) (ok : IsAt plan n left w) where
+  pub head-on-due : (p : ℕ) (h : Head) → IsHeadOn c.proc p h → plan_due plan p (get_or w p 0) ≡ Some (due_of h)
+  head-on-due p h (at, e) = head-is-due plan n left w ok p h (subst (λ (c : Component). IsHead c.proc.todo h) (sym view) at) e
+
+  pub due-on-head : (p : ℕ) (d : Due) → plan_due plan p (get_or w p 0) ≡ Some d → (h : Head) × IsHeadOn c.proc p h × (d ≡ due_of h)
+  due-on-head p d e = subst (λ (c : Component). (h : Head) × IsHeadOn c.proc p h × (d ≡ due_of h)) view (due-is-head plan n left w ok p d e)
+
+  pub one-head-on : HasOneHead c.proc.todo
+  one-head-on = subst (λ (c : Component). HasOneHead c.proc.todo) view (one-head plan n left w ok)
+
+  -- a move that the ports follow is a move of the process
+  pub moves : (p : ℕ) (phase : Phase) (d : Due) (value came : Option ℕ) (left' : ℕ) (w' s' : List ℕ) → plan_due plan p (get_or w p 0) ≡ Some d → IsTrue (may_move phase d.mv) → came ≡ incoming phase d.mv → value ≡ carried d.mv d.gives s came → s' ≡ stored d.into came s → Goes plan n left w p left' w' → Moves c.proc p phase d.mv value (record { todo = todo_of plan n left' w'; store = s' })
+  moves p phase d value came left' w' s' e may in_is v st go =
+      let (h, on, same) = due-is-head plan n left w ok p d e in
+      let v' : value ≡ carried h.move h.gives s (incoming phase h.move) = v ∙ ap (λ came. carried d.mv d.gives s came) in_is ∙ ap (λ (d : Due). carried d.mv d.gives s (incoming phase d.mv)) same in
+      let st' : s' ≡ stored h.into (incoming phase h.move) s = st ∙ ap (λ came. stored d.into came s) in_is ∙ ap (λ (d : Due). stored d.into (incoming phase d.mv) s) same in
+      let m : d.mv ≡ h.move = ap (λ (d : Due). d.mv) same in
+      let t : todo_of plan n left' w' ≡ tidy (stored h.into (incoming phase h.move) s) h.rest = sym (go.leaves h on.0 on.1 (stored h.into (incoming phase h.move) s)) in
+      subst (λ (c : Component). Moves c.proc p phase d.mv value (record { todo = todo_of plan n left' w'; store = s' })) view
+      (record { head = h; on = on; move_is = m; allowed = may; value_is = v'; leaves = λ i. record { todo = t i; store = st' i } })
+
+  -- and the ports that are open are as contracts see them
+  pub turns : (p : ℕ) (d : Due) (left' : ℕ) (w' s' : List ℕ) → plan_due plan p (get_or w p 0) ≡ Some d → Goes plan n left w p left' w' → Turns c p d.mv (record { proc = record { todo = todo_of plan n left' w'; store = s' }; chans = chans; open_ports = map is_open w' })
+  turns p d left' w' s' e go =
+      let flag : opens d.mv ≡ not (is_open (get_or w p 0)) = alternates plan p (get_or w p 0) d e in
+      subst (λ (c : Component). Turns c p d.mv (record { proc = record { todo = todo_of plan n left' w'; store = s' }; chans = chans; open_ports = map is_open w' })) view
+      (record {
+        before = flag ∙ ap not (sym (get_or-map is_open w p 0));
+        here = get_or-map is_open w' p 0 ∙ (go.toggles.here ∙ sym flag);
+        others = λ q ne. get_or-map is_open w' q 0 ∙ (go.toggles.others q ne ∙ sym (get_or-map is_open w q 0));
+      })
+
+-- what the family says is said of the plan
+pub turn-step : (plan : Plan) (row : Row) → plan ≡ InTurn row → (n left : ℕ) (w : List ℕ) (q left' : ℕ) (w' : List ℕ) (p : ℕ) → IsAt plan n left w → p ≡ q → turn.Steps row n left w q left' w' → Goes plan n left w p left' w'
+turn-step plan row e n left w q left' w' p ok is s =
+    rw (e, is) (record { place = s.place; toggles = s.toggles; leaves = s.leaves })
+
+pub whole-step : (plan : Plan) (row : Row) → plan ≡ Together row → (n left : ℕ) (w : List ℕ) (q left' : ℕ) (w' : List ℕ) (p : ℕ) → IsAt plan n left w → p ≡ q → whole.Steps row n left w q left' w' → Goes plan n left w p left' w'
+whole-step plan row e n left w q left' w' p ok is s =
+    rw (e, is) (record { place = s.place; toggles = s.toggles; leaves = s.leaves })
+
+pub cell-step : (plan : Plan) → plan ≡ Cells → (n left : ℕ) (w : List ℕ) (w' : List ℕ) (p : ℕ) → IsAt plan n left w → cell.Steps n w p w' → Goes plan n left w p left w'
+cell-step plan e n left w w' p ok s =
+    rw e (record { place = s.place; toggles = s.toggles; leaves = s.leaves })
+
+-- a port at which a cell's move is due has a number above 0
+pub cell-up : (plan : Plan) → plan ≡ Cells → (p : ℕ) (w : List ℕ) → IsDue plan p w → 0 < get_or w p 0
+cell-up plan e p w due = up p (get_or w p 0) (subst (λ plan. IsDue plan p w) e due)
+  where
+    up : (p a : ℕ) → (d : Due) × (cell_due p a ≡ Some d) → 0 < a
+    up zero a (d, e) = absurd (cc)
+    up (suc j) zero (d, e) = absurd (cc)
+    up (suc j) (suc a) due = omega arith
+
+-- an enclosed port has a number of 2 or more
+leg-port : (row : Row) (p a : ℕ) → (d : Due) × (row_due row p a ≡ Some d) → (p ≡ 1 → ⊥) → p ≡ suc (suc (p - 2))
+leg-port row zero a (d, e) ne = absurd (cc)
+leg-port row (suc zero) a due ne = absurd (ne refl)
+leg-port row (suc (suc i)) a due ne = omega arith
+
+pub turn-port : (plan : Plan) (row : Row) → plan ≡ InTurn row → (p : ℕ) (w : List ℕ) → IsDue plan p w → (p ≡ 1 → ⊥) → p ≡ member (p - 2)
+turn-port plan row e p w due ne = leg-port row p (get_or w p 0) (subst (λ plan. IsDue plan p w) e due) ne
+
+pub whole-port : (plan : Plan) (row : Row) → plan ≡ Together row → (p : ℕ) (w : List ℕ) → IsDue plan p w → (p ≡ 1 → ⊥) → p ≡ member (p - 2)
+whole-port plan row e p w due ne = leg-port row p (get_or w p 0) (subst (λ plan. IsDue plan p w) e due) ne
+
+pub script-step : (plan : Plan) (script : Script) → plan ≡ OneByOne script → (n left : ℕ) (w : List ℕ) (p left' : ℕ) (w' : List ℕ) → stages.Steps script left w p left' w' → Goes plan n left w p left' w'
+script-step plan script e n left w p left' w' s = rw e (record { place = s.place; toggles = s.toggles; leaves = s.leaves })

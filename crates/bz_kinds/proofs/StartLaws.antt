@@ -1,0 +1,138 @@
+-- The ports at the start.
+use Rattle.std.proofs.Common.{◌≡◌, ◌≢◌, inl, inr, ℕ, zero, suc, ◌<◌, ◌≤◌, false, List, [], ◌∷◌, length, get_or, set, map, replicate, refl, ap, sym, ◌∙◌, arith}
+use Rattle.std.proofs.lemmas.Bool.{cases_lt}
+use Rattle.std.proofs.lemmas.List.{get_or-set_other, get_or_past}
+use Rattle.std.proofs.Math.ListN.{length-set, length-replicate}
+use Rattle.bz_model.specs.Terms.{Store, forever, par, all}
+use Rattle.bz_model.specs.Processes.{member, process, start_of}
+use Rattle.bz_model.specs.declared.kind.Kind.{Kind}
+use Rattle.bz_kinds.specs.declared.shape.Shape.{Shape}
+use Rattle.bz_kinds.specs.Comp.{todo_of}
+use Rattle.bz_kinds.specs.declared.row.Row.{Row}
+use Rattle.bz_kinds.specs.declared.row.Plan.{Plan}
+use Rattle.bz_kinds.specs.declared.row.Plan.TheVariants.{InTurn, Together, Cells, OneByOne}
+use Rattle.bz_kinds.specs.Row.{is_open}
+use Rattle.bz_kinds.specs.Together.{busy_count}
+use Rattle.bz_kinds.specs.Cells as cells
+use Rattle.bz_kinds.specs.Script as stages
+use Rattle.bz_kinds.specs.declared.row.Script.{Script}
+use Rattle.bz_kinds.specs.declared.row.Script.TheVariants.{Loop, Halt}
+use Rattle.bz_kinds.specs.Start.{BeginsAt, IsAllDue, IsShapeOf, plan_process}
+use Rattle.std.specs.Prelude.{Result, Ok, Err, IfOk}
+use Rattle.std.proofs.lemmas.List.{length-map}
+use Rattle.bz_model.specs.Heads.{tidy, together}
+use Rattle.bz_model.specs.Rows.{MeetsRow, row_of, ports_of}
+use Rattle.bz_model.specs.declared.channel.Chan.{Chan}
+use Rattle.bz_kinds.proofs.Arrays.{all-cong, tidy-all, together-busy}
+
+zeros : (k i : ℕ) → get_or {A = ℕ} (replicate k 0) i 0 ≡ 0
+zeros zero i = refl
+zeros (suc k) zero = refl
+zeros (suc k) (suc i) = zeros k i
+
+no-legs : (k : ℕ) → busy_count (replicate k 0) ≡ 0
+no-legs zero = refl
+no-legs (suc k) = let r = no-legs k in omega arith
+
+all-closed : (w : List ℕ) (k : ℕ) → length w ≡ k → ((q : ℕ) → is_open (get_or w q 0) ≡ false) → map is_open w ≡ replicate k false
+all-closed [] zero l e = refl
+all-closed [] (suc k) l e = absurd (omega arith)
+all-closed (a ∷ w) zero l e = absurd (omega arith)
+all-closed (a ∷ w) (suc k) l e = let x = e 0 in let r = all-closed w k (omega arith) (λ q. e (suc q)) in λ i. x i ∷ r i
+
+module _ (row : Row) (n : ℕ) where
+  first : List ℕ
+  first = set (replicate (member n) 0) 1 1
+
+  first-long : length first ≡ member n
+  unfolding first
+  first-long = simp (length-set, length-replicate)
+
+  first-lead : get_or first 1 0 ≡ 1
+  unfolding first
+  first-lead = refl
+
+  first-other : (q : ℕ) → q ≢ 1 → get_or first q 0 ≡ 0
+  unfolding first
+  first-other q ne = get_or-set_other (replicate (member n) 0) 1 q 1 0 ne ∙ zeros (member n) q
+
+  first-closed : (q : ℕ) → is_open (get_or first q 0) ≡ false
+  first-closed zero = ap is_open (first-other 0 (omega arith))
+  first-closed (suc zero) = ap is_open first-lead
+  first-closed (suc (suc q)) = ap is_open (first-other (member q) (omega arith))
+
+  pub turn-begins : BeginsAt (InTurn row) n (set (replicate (member n) 0) 1 1)
+  unfolding first
+  turn-begins = record {
+    place = record {
+      long = first-long ∙ omega arith;
+      none = first-other 0 (omega arith);
+      quiet = λ i _. first-other (member i) (omega arith);
+      due = λ i lt e. absurd (omega arith);
+      lead = inl (first-lead, refl);
+    };
+    has_todo = refl;
+    closed = all-closed first (member n) first-long first-closed;
+  }
+
+  pub whole-begins : BeginsAt (Together row) n (set (replicate (member n) 0) 1 1)
+  unfolding first
+  whole-begins = record {
+    place = record {
+      long = first-long ∙ omega arith;
+      none = first-other 0 (omega arith);
+      legs = λ i _. inl (first-other (member i) (omega arith));
+      count = sym (no-legs n);
+      lead = inl (first-lead, refl);
+    };
+    has_todo = refl;
+    closed = all-closed first (member n) first-long first-closed;
+  }
+
+pub cells-begin : (n : ℕ) (w : List ℕ) → length w ≡ member n → get_or w 0 0 ≡ 0 → ((p : ℕ) → 1 ≤ p → p < member n → get_or w p 0 ≡ 1) → BeginsAt Cells n w
+cells-begin n w l z ones = record {
+  place = record { long = l ∙ omega arith; none = z; parts = λ j lt. inl (ones (suc j) (omega arith) (omega arith)) };
+  has_todo = ap par (all-cong (suc n) (λ j. cells.part_left j (get_or w (suc j) 0)) (λ j. forever (cells.round j)) (λ j lt. rw (ones (suc j) (omega arith) (omega arith)) refl));
+  closed = all-closed w (member n) l closed;
+}
+  where
+    closed : (q : ℕ) → is_open (get_or w q 0) ≡ false
+    closed zero = ap is_open z
+    closed (suc q) = elim (cases_lt (suc q) (member n)) [ inl lt ↦ ap is_open (ones (suc q) (omega arith) lt) | inr le ↦ ap is_open (get_or_past w (suc q) 0 (omega arith)) ]
+
+pub pick-turn : (plan : Plan) (row : Row) (n m : ℕ) (w : List ℕ) → plan ≡ InTurn row → m ≡ member n → w ≡ set (replicate m 0) 1 1 → BeginsAt plan n w
+pick-turn plan row n m w e k f = rw (e, f, k) (turn-begins row n)
+
+pub pick-whole : (plan : Plan) (row : Row) (n m : ℕ) (w : List ℕ) → plan ≡ Together row → m ≡ member n → w ≡ set (replicate m 0) 1 1 → BeginsAt plan n w
+pick-whole plan row n m w e k f = rw (e, f, k) (whole-begins row n)
+
+pub pick-cells : (plan : Plan) (n m : ℕ) (w : List ℕ) → plan ≡ Cells → m ≡ member n → IsAllDue m w → BeginsAt plan n w
+pick-cells plan n m w e k a = rw e (cells-begin n w (a.long ∙ k) a.none (λ p le lt. a.due p le (omega arith)))
+
+script-begins : (script : Script) (n : ℕ) → BeginsAt (OneByOne script) n (set (replicate (length (stages.numbers script 0)) 0) 1 1)
+script-begins Loop n = record { place = refl; has_todo = refl; closed = refl }
+script-begins (Halt slot) n = record { place = refl; has_todo = refl; closed = refl }
+
+pub pick-script : (plan : Plan) (script : Script) (n m : ℕ) (w : List ℕ) → plan ≡ OneByOne script → m ≡ length (stages.numbers script 0) → w ≡ set (replicate m 0) 1 1 → BeginsAt plan n w
+pick-script plan script n m w e k f = rw (e, f, k) (script-begins script n)
+
+-- a process is tidy at its start
+tidy-start : (s : Store) (plan : Plan) (n : ℕ) → tidy s (plan_process plan n) ≡ plan_process plan n
+tidy-start s (InTurn row) n = refl
+tidy-start s (Together row) n = refl
+tidy-start s Cells n =
+    ap together (tidy-all s (suc n) (λ j. forever (cells.round j)) (λ i lt. refl)) ∙ together-busy (all (suc n) (λ j. forever (cells.round j))) refl
+tidy-start s (OneByOne Loop) n = refl
+tidy-start s (OneByOne (Halt slot)) n = refl
+
+pub if-ok : {A E : Type 0} (r : Result A E) (P Q : A → Type 0) → ((a : A) → P a → Q a) → IfOk r P → IfOk r Q
+if-ok (Ok a) P Q f p = f a p
+if-ok (Err e) P Q f p = tt
+
+-- a component of a shape is one of its kind
+pub begun : (kind : Kind) (sizes : List ℕ) (chans : List Chan) (shape : Shape) (w s : List ℕ) (ks : List Chan) → MeetsRow kind sizes chans → IsShapeOf kind sizes shape → BeginsAt shape.plan shape.legs w → s ≡ replicate 2 0 → ks ≡ chans → record { proc = record { todo = todo_of shape.plan shape.legs 0 w; store = s }; chans = ks; open_ports = map is_open w } ≡ start_of kind sizes chans
+begun kind sizes chans shape w s ks meets is at e f =
+    let long : length chans ≡ length (ports_of (row_of kind) sizes) = sym (length-map chans (λ c. c.kind)) ∙ ap length meets.kinds_are ∙ length-map (ports_of (row_of kind) sizes) (λ r. r.kind) in
+    let t : todo_of shape.plan shape.legs 0 w ≡ tidy (replicate 2 0) (process kind sizes chans) = at.has_todo ∙ sym (tidy-start (replicate 2 0) shape.plan shape.legs) ∙ ap (tidy (replicate 2 0)) (sym (is.has_process chans)) in
+    let o : map is_open w ≡ replicate (suc (length chans)) false = at.closed ∙ ap (λ k. replicate k false) (is.has_ports ∙ ap suc (sym long)) in
+    λ i. record { proc = record { todo = t i; store = e i }; chans = f i; open_ports = o i }

@@ -1,0 +1,16 @@
+use Rattle.std.proofs.Common.{◌≡◌, ◌+◌, arith}
+use Rattle.bz_model.specs.Processes.{member}
+use Rattle.bz_kinds.proofs.StartLaws.{if-ok, pick-turn, pick-whole, pick-cells, pick-script}
+use Rattle.bz_kinds.proofs.comp.first_ports.Goals as goal
+
+pub returns-in-InTurn : goal.returns-in-InTurn
+returns-in-InTurn c = let two : c.args.legs + 2 ≡ member c.args.legs = omega arith in if-ok _ _ _ (λ w e. pick-turn _ _ _ _ w c.in-InTurn.is two e) c.first_only.ensures
+
+pub returns-in-Together : goal.returns-in-Together
+returns-in-Together c = let two : c.args.legs + 2 ≡ member c.args.legs = omega arith in if-ok _ _ _ (λ w e. pick-whole _ _ _ _ w c.in-Together.is two e) c.first_only-in-Together.ensures
+
+pub returns-in-Cells : goal.returns-in-Cells
+returns-in-Cells c = let two : c.args.legs + 2 ≡ member c.args.legs = omega arith in if-ok _ _ _ (λ w e. pick-cells _ _ _ w c.in-Cells.is two e) c.from_first.ensures
+
+pub returns-in-OneByOne : goal.returns-in-OneByOne
+returns-in-OneByOne c = if-ok _ _ _ (λ w e. pick-script _ _ _ _ w c.in-OneByOne.is c.places.ensures e) c.first_only-in-OneByOne.ensures

@@ -1,0 +1,48 @@
+-- What a component has still to do, by where its ports are.
+use Rattle.std.specs.Prelude.{◌≡◌, ℕ, List, slice_index, length, Option, Some}
+use Rattle.bz_model.specs.Terms.{Store, Term}
+use Rattle.bz_model.specs.Heads.{Head, IsHead, tidy}
+use Rattle.bz_model.specs.Processes.{member}
+use Rattle.bz_kinds.specs.declared.row.Due.{Due}
+use Rattle.bz_kinds.specs.declared.row.Plan.{Plan}
+use Rattle.bz_kinds.specs.declared.row.Plan.TheVariants.{InTurn, Together, Cells, OneByOne}
+use Rattle.bz_kinds.specs.Row.{row_due, Toggles}
+use Rattle.bz_kinds.specs.InTurn as in_turn
+use Rattle.bz_kinds.specs.Together as together
+use Rattle.bz_kinds.specs.Cells as cells
+use Rattle.bz_kinds.specs.Script as stages
+
+-- n: how many handshakes or readers; left: the family's small counter; w: the ports' numbers
+abbrev pub todo_of : Plan → ℕ → ℕ → List ℕ → Term
+todo_of (InTurn row) n left w = in_turn.todo row n left w
+todo_of (Together row) n left w = together.todo row n w
+todo_of Cells n left w = cells.todo n w
+todo_of (OneByOne script) n left w = stages.todo script left
+
+abbrev pub IsAt : Plan → ℕ → ℕ → List ℕ → Type 0
+IsAt (InTurn row) n left w = in_turn.IsPlace n left w
+IsAt (Together row) n left w = together.IsPlace n left w
+IsAt Cells n left w = cells.IsPlace n w
+IsAt (OneByOne script) n left w = w ≡ stages.numbers script left
+
+-- the move due at port p, whose number is a
+abbrev pub plan_due : Plan → ℕ → ℕ → Option Due
+plan_due (InTurn row) p a = row_due row p a
+plan_due (Together row) p a = row_due row p a
+plan_due Cells p a = cells.cell_due p a
+plan_due (OneByOne script) p a = stages.script_due script p a
+
+-- the places for a plan's ports, which count from 1
+abbrev pub places : Plan → ℕ → ℕ
+places (OneByOne script) n = length (stages.numbers script 0)
+places plan n = member n
+
+-- a move at p takes the ports to w'
+pub record Goes (plan : Plan) (n left : ℕ) (w : List ℕ) (p left' : ℕ) (w' : List ℕ) : Type 0 where
+  pub place : IsAt plan n left' w'
+  pub toggles : Toggles w p w'
+  pub leaves : (h : Head) → IsHead (todo_of plan n left w) h → h.port ≡ p → (s : Store) → tidy s h.rest ≡ todo_of plan n left' w'
+
+-- a move is due at p
+abbrev pub IsDue : Plan → ℕ → List ℕ → Type 0
+IsDue plan p w = (d : Due) × (plan_due plan p (slice_index w p) ≡ Some d)

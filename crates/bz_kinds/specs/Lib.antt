@@ -1,0 +1,13 @@
+pub use Rattle.bz_model.specs.Rows
+pub use Rattle.bz_model.specs.Processes
+pub use Rattle.bz_model.specs.Heads
+pub mod Naming
+pub mod Table
+pub mod Row
+pub mod Together
+pub mod InTurn
+pub mod Cells
+pub mod Script
+pub mod Comp
+pub mod Start
+pub mod Moves

@@ -1,0 +1,41 @@
+-- A kind as a plan, and how its component begins.
+use Rattle.std.specs.Prelude.{◌≡◌, ◌<◌, ◌≤◌, ◌^◌, ℕ, suc, false, IsTrue, List, length, map, replicate, slice_index}
+use Rattle.bz_model.specs.declared.kind.Kind.{Kind}
+use Rattle.bz_model.specs.declared.channel.Chan.{Chan}
+use Rattle.bz_model.specs.Terms.{Term, forever, par, all}
+use Rattle.bz_model.specs.Rows.{row_of, ports_of, fits_sizes}
+use Rattle.bz_model.specs.Processes.{member, process}
+use Rattle.bz_kinds.specs.declared.row.Plan.{Plan}
+use Rattle.bz_kinds.specs.declared.row.Plan.TheVariants.{InTurn, Together, Cells, OneByOne}
+use Rattle.bz_kinds.specs.declared.shape.Shape.{Shape}
+use Rattle.bz_kinds.specs.Row.{is_open}
+use Rattle.bz_kinds.specs.Comp.{IsAt, todo_of, places}
+use Rattle.bz_kinds.specs.InTurn as in_turn
+use Rattle.bz_kinds.specs.Together as together
+use Rattle.bz_kinds.specs.Cells as cells
+use Rattle.bz_kinds.specs.Script as stages
+
+-- the process of a plan with n handshakes or readers
+abbrev pub plan_process : Plan → ℕ → Term
+plan_process (InTurn row) n = forever (in_turn.round row n)
+plan_process (Together row) n = forever (together.round row n)
+plan_process Cells n = par (all (suc n) (λ j. forever (cells.round j)))
+plan_process (OneByOne script) n = stages.todo script 0
+
+-- the shape has the process of the kind, and its ports
+pub record IsShapeOf (kind : Kind) (sizes : List ℕ) (s : Shape) : Type 0 where
+  pub has_process : (chans : List Chan) → process kind sizes chans ≡ plan_process s.plan s.legs
+  pub has_ports : places s.plan s.legs ≡ suc (length (ports_of (row_of kind) sizes))
+  pub small : IsTrue (fits_sizes (row_of kind) sizes) → member s.legs < 2 ^ 32
+
+-- the ports of a plan at its start
+pub record BeginsAt (plan : Plan) (n : ℕ) (w : List ℕ) : Type 0 where
+  pub place : IsAt plan n 0 w
+  pub has_todo : todo_of plan n 0 w ≡ plan_process plan n
+  pub closed : map is_open w ≡ replicate (places plan n) false
+
+-- every port from 1 on has a move due
+pub record IsAllDue (count : ℕ) (w : List ℕ) : Type 0 where
+  pub long : length w ≡ count
+  pub none : slice_index w 0 ≡ 0
+  pub due : (p : ℕ) → 1 ≤ p → p < count → slice_index w p ≡ 1

@@ -1,0 +1,232 @@
+//! A component: where its ports are, and the values that it keeps.
+
+ghost use Rattle.std.specs.Prelude.{◌≡◌, ◌≤◌, ◌^◌, ◌<◌, ◌↔◌, ℕ, Some, IsTrue, IfSome, IfOk, IfErr, length, slice_index, slice_set, replicate};
+ghost use Rattle.bz_kinds.specs.declared.error.KindError.TheVariants.{Memory};
+ghost use Rattle.bz_model.specs.Heads.{Head, IsHeadOn, CanMove, Moves, Turns, HasOneHead, carried};
+ghost use Rattle.bz_model.specs.Terms.{stored};
+ghost use Rattle.bz_model.specs.Rows.{MeetsRow};
+ghost use Rattle.bz_model.specs.Processes.{member, start_of};
+ghost use Rattle.bz_kinds.specs.Moves.{AreEnabled};
+ghost use Rattle.bz_kinds.specs.Start.{BeginsAt, IsAllDue};
+ghost use Rattle.bz_kinds.specs.Comp.{IsAt, IsDue, Goes, plan_due};
+
+use crate::error::KindError;
+use crate::move_iter::MoveIter;
+use crate::ports::Ports;
+use crate::row::{Due, Plan};
+use crate::shape::{SLOTS, shape_of};
+use crate::{cells, enclosed, in_turn, script, together};
+use bz_model::{Chan, Kind, Move, Phase, Value};
+use std::alloc::{AllocError, Global};
+use std::marker::Model;
+
+/// A component in a state, seen as its process, its channels and the ports that its own moves have opened.
+#[derive(Drop)]
+pub struct Comp {
+    plan: Plan,
+    size: u32,
+    left: u32,
+    ports: Ports,
+    slots: Vec<Value>,
+    chans: Vec<Chan>,
+}
+
+impl Model for Comp {
+    ghost use Rattle.std.specs.Prelude.{◌<◌, ◌^◌, map};
+    ghost use Rattle.std.specs.Coded.{codes};
+    ghost use Rattle.bz_model.specs.Heads.{Component};
+    ghost use Rattle.bz_model.specs.Codes.{term_code};
+    ghost use Rattle.bz_model.specs.Processes.{member};
+
+    ghost Value = { Component };
+
+    ghost coded = { Prim.hlevel (codes, term_code) };
+
+    ghost use Rattle.bz_kinds.specs.Comp.{todo_of, IsAt};
+    ghost use Rattle.bz_kinds.specs.Row.{is_open};
+
+    ghost view = { λ c. record { proc = record { todo = todo_of c.plan c.size c.left c.ports; store = c.slots.items }; chans = c.chans.items; open_ports = map is_open c.ports } };
+
+    ghost invariant = { λ c. IsAt c.plan c.size c.left c.ports × (member c.size < 2 ^ 32) };
+}
+
+/// A component of this kind at its start, with arrays of these lengths, on these channels in the order of its ports.
+pub fn start(alloc: Global, kind: &Kind, sizes: [u32; 2], chans: &[Chan]) -> Result<Comp, KindError>
+    requires { MeetsRow kind.now sizes chans.now }
+    ensures begun { IfOk result (λ c. c ≡ start_of kind.now sizes chans.now) }
+    ensures memory { IfErr result (λ e. e ≡ Memory) }
+{
+    let shape = shape_of(kind, sizes);
+    let ports = first_ports(alloc, &shape.plan, shape.legs)?;
+    let slots = vec![in alloc; 0; SLOTS]?;
+    let chans = chans.to_vec(alloc)?;
+    Ok(Comp {
+        plan: shape.plan,
+        size: shape.legs,
+        left: 0,
+        ports,
+        slots,
+        chans,
+    })
+}
+
+/// The move that a component can make next at a port, where its channel allows it.
+pub fn next(comp: &Comp, port: u32) -> Option<Move>
+    ensures some { IfSome result (λ m. (h : Head) × IsHeadOn comp.now.proc port h × (h.move ≡ m)) }
+    ensures only { (h : Head) → IsHeadOn comp.now.proc port h → result ≡ Some h.move }
+    ensures one { HasOneHead comp.now.proc.todo }
+{
+    match due_at(&comp.plan, port, comp.ports.get(port)) {
+        Some(due) => Some(due.mv),
+        None => None,
+    }
+}
+
+/// Whether a component can move at a port whose channel has this phase.
+pub fn enabled(comp: &Comp, port: u32, phase: Phase) -> bool
+    ensures { IsTrue result ↔ CanMove comp.now.proc port phase }
+{
+    match next(comp, port) {
+        Some(mv) => phase.allows(mv),
+        None => false,
+    }
+}
+
+/// Makes the move at a port whose channel has this phase: the move, and the value that it carries.
+pub fn apply(comp: &mut Comp, port: u32, phase: Phase) -> (Move, Option<Value>)
+    requires { CanMove comp.old.proc port phase }
+    ensures moves { Moves comp.old.proc port phase result.0 result.1 comp.new.proc }
+    ensures turns { Turns comp.old port result.0 comp.new }
+    ensures chans { comp.new.chans ≡ comp.old.chans }
+{
+    let number = comp.ports.get(port);
+    let Some(due) = due_at(&comp.plan, port, number) else {
+        unreachable!()
+    };
+    let incoming = phase.incoming(due.mv);
+    let value = carried(due, &comp.slots, incoming);
+    advance(&comp.plan, comp.size, &mut comp.left, &mut comp.ports, port);
+    store(&mut comp.slots, due.into, incoming);
+    (due.mv, value)
+}
+
+/// The ports at which a component can move, rising. `phases` are those of the channels at its ports, in their order.
+pub fn moves<'a>(comp: &'a Comp, phases: &'a [Phase]) -> MoveIter<'a>
+    requires { length phases.now < 2 ^ 32 }
+    ensures { AreEnabled comp.now.proc phases.now result }
+{
+    MoveIter::new(&comp.plan, &comp.ports, phases)
+}
+
+/// The same component in the same state.
+pub fn dup(alloc: Global, comp: &Comp) -> Result<Comp, KindError>
+    ensures same { IfOk result (λ c. c ≡ comp.now) }
+    ensures memory { IfErr result (λ e. e ≡ Memory) }
+{
+    let ports = comp.ports.dup(alloc)?;
+    let slots = comp.slots.to_vec(alloc)?;
+    let chans = comp.chans.to_vec(alloc)?;
+    Ok(Comp {
+        plan: comp.plan,
+        size: comp.size,
+        left: comp.left,
+        ports,
+        slots,
+        chans,
+    })
+}
+
+// The ports of a plan at its start.
+fn first_ports(alloc: Global, plan: &Plan, legs: u32) -> Result<Ports, AllocError>
+    requires { member legs < 2 ^ 32 }
+    ensures { IfOk result (BeginsAt plan.now legs) }
+{
+    match plan {
+        Plan::InTurn(_) => first_only(alloc, legs as usize + 2),
+        Plan::Together(_) => first_only(alloc, legs as usize + 2),
+        Plan::Cells => from_first(alloc, legs as usize + 2),
+        Plan::OneByOne(script) => first_only(alloc, script::places(*script)),
+    }
+}
+
+// Port 1 alone has a move due.
+fn first_only(alloc: Global, count: usize) -> Result<Ports, AllocError>
+    ensures { IfOk result (λ w. w ≡ slice_set (replicate count 0) 1 1) }
+{
+    let mut ports = Ports::new(alloc, count)?;
+    ports.set(1, 1);
+    Ok(ports)
+}
+
+// All ports have a move due.
+fn from_first(alloc: Global, count: usize) -> Result<Ports, AllocError>
+    ensures { IfOk result (λ w. IsAllDue count w) }
+{
+    let mut ports = Ports::new(alloc, count)?;
+    ports.set_from(1, 1);
+    Ok(ports)
+}
+
+// What the due move carries: what it sends, else what came in.
+fn carried(due: Due, slots: &[Value], incoming: Option<Value>) -> Option<Value>
+    ensures { result ≡ carried due.mv due.gives slots.now incoming }
+{
+    match due.mv {
+        Move::Ask | Move::Reply => due.gives.value(slots),
+        Move::Take | Move::Got => incoming,
+    }
+}
+
+// Puts a value that came in into its slot.
+fn store(slots: &mut [Value], slot: u32, value: Option<Value>)
+    ensures { slots.new ≡ stored slot value slots.old }
+{
+    if let Some(value) = value {
+        put(slots, slot, value);
+    }
+}
+
+fn put(slots: &mut [Value], slot: u32, value: Value)
+    ensures { slots.new ≡ slice_set slots.old slot value }
+{
+    if (slot as usize) < slots.len() {
+        slots[slot as usize] = value;
+    }
+}
+
+/// The move due at a port, whose number is `number`.
+pub(crate) fn due_at(plan: &Plan, port: u32, number: u8) -> Option<Due>
+    ensures { result ≡ plan_due plan.now port number }
+{
+    match plan {
+        Plan::InTurn(row) | Plan::Together(row) => enclosed::due(row, port, number),
+        Plan::Cells => cells::due(port, number),
+        Plan::OneByOne(script) => script::due(*script, port, number),
+    }
+}
+
+// Takes the ports to where they are after the due move at `port`.
+fn advance(plan: &Plan, size: u32, left: &mut u32, ports: &mut Ports, port: u32)
+    requires place { IsAt plan.now size left.old ports.old }
+    requires small { member size < 2 ^ 32 }
+    requires due { IsDue plan.now port ports.old }
+    ensures { Goes plan.now size left.old ports.old port left.new ports.new }
+{
+    let number = ports.get(port);
+    match plan {
+        Plan::InTurn(_) => match (port, number) {
+            (1, 1) => in_turn::take(ports, left, size),
+            (1, _) => in_turn::reply(ports, left, size),
+            (_, 1) => in_turn::ask(ports, left, size, port - 2),
+            _ => in_turn::got(ports, left, size, port - 2),
+        },
+        Plan::Together(_) => match (port, number) {
+            (1, 1) => together::take(ports, left, size),
+            (1, _) => together::reply(ports, left, size),
+            (_, 1) => together::ask(ports, left, size, port - 2),
+            _ => together::got(ports, left, size, port - 2),
+        },
+        Plan::Cells => cells::step(ports, size, port),
+        Plan::OneByOne(script) => script::step(*script, ports, left, port),
+    }
+}

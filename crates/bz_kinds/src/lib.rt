@@ -1,0 +1,23 @@
+//! What a component of each kind does: its ports, its state, and its moves one at a time.
+#![tactic(auto)]
+
+mod cells;
+mod comp;
+mod enclosed;
+mod error;
+mod in_turn;
+mod move_iter;
+mod naming;
+mod ports;
+mod row;
+mod script;
+mod shape;
+mod table;
+mod together;
+
+pub use comp::{Comp, apply, dup, enabled, moves, next, start};
+pub use error::KindError;
+pub use move_iter::MoveIter;
+pub use naming::kind_of;
+pub use table::{PortRow, is_passive, kinds_are, port_table, sizes_fit, widths_fit};
+

@@ -1,0 +1,63 @@
+//! A kind as a row of data in its family.
+
+ghost use Rattle.std.specs.Prelude.{◌≡◌};
+ghost use Rattle.bz_kinds.specs.Row.{leg_of};
+
+use bz_model::{Expr, Move};
+
+/// One handshake of an active port: what its request sends, and the slot for what comes back.
+#[derive(Clone, Copy, Debug, PartialEq, Eq)]
+pub struct Leg {
+    pub gives: Expr,
+    pub into: u32,
+}
+
+/// The handshakes that a port encloses, by place.
+#[derive(Clone, Copy, Debug, PartialEq, Eq)]
+pub enum Legs {
+    Each(Leg),
+    Two(Leg, Leg),
+}
+
+/// A passive port that encloses handshakes.
+#[derive(Clone, Copy, Debug, PartialEq, Eq)]
+pub struct Row {
+    pub into: u32,
+    pub legs: Legs,
+    pub answer: Expr,
+}
+
+/// A component of one move at a time: port 1 is taken and port 2 called for ever, or port 1 is taken once into a slot.
+#[derive(Clone, Copy, Debug, PartialEq, Eq)]
+pub enum Script {
+    Loop,
+    Halt(u32),
+}
+
+/// The family of a kind, with what sets the kind apart in it.
+#[derive(Clone, Copy, Debug, PartialEq, Eq)]
+pub enum Plan {
+    InTurn(Row),
+    Together(Row),
+    Cells,
+    OneByOne(Script),
+}
+
+/// A move that is due at a port: what it sends, and the slot for what comes in.
+#[derive(Clone, Copy, Debug, PartialEq, Eq)]
+pub struct Due {
+    pub mv: Move,
+    pub gives: Expr,
+    pub into: u32,
+}
+
+impl Legs {
+    pub fn leg(&self, i: u32) -> Leg
+        ensures { result ≡ leg_of self.now i }
+    {
+        match *self {
+            Legs::Each(leg) => leg,
+            Legs::Two(first, second) => { if i == 0 { first } else { second } }
+        }
+    }
+}

@@ -1,0 +1,58 @@
+-- What each kind does: its process, written with the handshakes of its ports.
+use Rattle.std.specs.Prelude.{ℕ, zero, suc, false, List, length, replicate, slice_index}
+use Rattle.bz_model.specs.declared.channel.Chan.{Chan}
+use Rattle.bz_model.specs.declared.expr.Expr.{Expr}
+use Rattle.bz_model.specs.declared.expr.Expr.TheVariants.{Nothing, Slot}
+use Rattle.bz_model.specs.declared.kind.Kind.{Kind}
+use Rattle.bz_model.specs.declared.kind.Kind.TheVariants.{Loop, Sequence, SequenceOptimised, Concur, Fork, ForkPush, Fetch, Variable, Halt, HaltPush, Continue, ContinuePush}
+use Rattle.bz_model.specs.Terms.{Term, ask, take, reply, got, seq, par, forever, done, all, in_turn, term}
+use Rattle.bz_model.specs.Heads.{Component, tidy}
+
+-- a whole handshake of an active port. Slot 1 is for what comes with a move that brings nothing
+abbrev pub call : ℕ → Term
+call p = seq (ask p Nothing) (got p 1)
+
+-- one that sends a value with the request
+abbrev pub push : ℕ → Expr → Term
+push p e = seq (ask p e) (got p 1)
+
+-- one that gets a value with the acknowledgement, into slot x
+abbrev pub pull : ℕ → ℕ → Term
+pull p x = seq (ask p Nothing) (got p x)
+
+-- a handshake of a passive port round a body: what is taken goes into slot x, and e is replied
+abbrev pub enclosed : ℕ → ℕ → Term → Expr → Term
+enclosed p x body e = seq (take p x) (seq body (reply p e))
+
+-- the port of member i of an array that follows port 1; members count from 0
+abbrev pub member : ℕ → ℕ
+member i = suc (suc i)
+
+-- the length of a kind's only array
+abbrev pub size : List ℕ → ℕ
+size sizes = slice_index sizes 0
+
+abbrev pub process : Kind → List ℕ → List Chan → Term
+process Loop sizes chans = seq (take 1 1) (forever (call 2))
+process Sequence sizes chans = forever (enclosed 1 1 (in_turn 0 (size sizes) (λ i. call (member i))) Nothing)
+process SequenceOptimised sizes chans = forever (enclosed 1 1 (in_turn 0 (size sizes) (λ i. call (member i))) Nothing)
+process Concur sizes chans = forever (enclosed 1 1 (par (all (size sizes) (λ i. call (member i)))) Nothing)
+process Fork sizes chans = forever (enclosed 1 1 (par (all (size sizes) (λ i. call (member i)))) Nothing)
+process ForkPush sizes chans = forever (enclosed 1 0 (par (all (size sizes) (λ i. push (member i) (Slot 0)))) Nothing)
+process Fetch sizes chans = forever (enclosed 1 1 (seq (pull 2 0) (seq (push 3 (Slot 0)) done)) Nothing)
+process Variable sizes chans =
+    par (term (forever (enclosed 1 0 done Nothing)) (all (size sizes) (λ i. forever (enclosed (member i) 1 done (Slot 0)))))
+process Halt sizes chans = seq (take 1 1) done
+process HaltPush sizes chans = seq (take 1 0) done
+process Continue sizes chans = forever (enclosed 1 1 done Nothing)
+process ContinuePush sizes chans = forever (enclosed 1 0 done Nothing)
+
+-- how many values a component keeps
+abbrev pub slots : Kind → List ℕ → ℕ
+slots kind sizes = 2
+
+-- a component at the start: all that it keeps is 0, and no port is open
+abbrev pub start_of : Kind → List ℕ → List Chan → Component
+start_of kind sizes chans =
+    let s = replicate (slots kind sizes) 0 in
+    record { proc = record { todo = tidy s (process kind sizes chans); store = s }; chans = chans; open_ports = replicate (suc (length chans)) false }

@@ -1,0 +1,100 @@
+//! The external ports and the channels of a net, by name and number.
+
+ghost use Rattle.std.specs.Prelude.{◌≡◌, ◌<◌, ◌^◌, ◌-◌, length, map, slice_get};
+ghost use Rattle.std.specs.Option.{option_copied, option_map};
+ghost use Rattle.bz_model.specs.Names.{external, port_number, port_name, port_sense, channel, numbered};
+
+use crate::channel::Chan;
+use std::marker::Model;
+
+/// An external port: its name, and its declared sense.
+#[derive(Debug, PartialEq, Eq, Drop)]
+pub struct Port {
+    pub name: Vec<u8>,
+    pub passive: bool,
+}
+
+/// The external ports and the channels of a net, each counted from 1. Port k is channel k.
+#[derive(Drop)]
+pub struct Names {
+    ports: Vec<Port>,
+    chans: Vec<Chan>,
+}
+
+impl Model for Names {
+    ghost use Rattle.std.specs.Prelude.{map, length, ◌<◌, ◌^◌};
+    ghost use Rattle.bz_model.specs.Names.{Outside, external};
+
+    ghost Value = { Outside };
+
+    ghost view = { λ n. record { ports = map external n.ports.items; chans = n.chans.items } };
+
+    ghost invariant = { λ n. length n.ports.items < 2 ^ 32 };
+}
+
+impl Names {
+    /// The names of a net with these external ports and channels.
+    pub fn new(ports: Vec<Port>, chans: Vec<Chan>) -> Names
+        requires { length ports.items < 2 ^ 32 }
+        ensures { result ≡ record { ports = map external ports.items; chans = chans.items } }
+    {
+        Names { ports, chans }
+    }
+
+    /// The number of the port of this name, if there is one.
+    pub fn port(&self, name: &[u8]) -> Option<u32>
+        ensures { result ≡ port_number self.now.ports name.now }
+    {
+        number_of(&self.ports, name)
+    }
+
+    /// The name of a port, if there is such a port.
+    pub fn name(&self, port: u32) -> Option<&[u8]>
+        ensures { option_copied result ≡ port_name self.now.ports port }
+    {
+        match numbered(&self.ports, port) {
+            Some(port) => Some(port.name.as_slice()),
+            None => None,
+        }
+    }
+
+    /// Whether a port is declared passive, if there is such a port.
+    pub fn passive(&self, port: u32) -> Option<bool>
+        ensures { result ≡ port_sense self.now.ports port }
+    {
+        match numbered(&self.ports, port) {
+            Some(port) => Some(port.passive),
+            None => None,
+        }
+    }
+
+    /// A channel, if there is such a channel.
+    pub fn chan(&self, chan: u32) -> Option<Chan>
+        ensures { result ≡ channel self.now.chans chan }
+    {
+        numbered(&self.chans, chan).copied()
+    }
+}
+
+// The number of the first port of this name.
+fn number_of(ports: &[Port], name: &[u8]) -> Option<u32>
+    requires { length ports.now < 2 ^ 32 }
+    ensures { result ≡ port_number (map external ports.now) name.now }
+{
+    for (place, port) in ports.iter().enumerate() {
+        if port.name.as_slice() == name {
+            return Some(place as u32 + 1);
+        }
+    }
+    None
+}
+
+// The element of this number, counted from 1.
+fn numbered<T>(items: &[T], number: u32) -> Option<&T>
+    ensures { option_copied result ≡ numbered items.now number }
+{
+    if number == 0 {
+        return None;
+    }
+    items.get(number as usize - 1)
+}

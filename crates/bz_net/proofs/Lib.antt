@@ -1,0 +1,10 @@
+pub mod Sites
+pub mod Stands
+pub mod Sides
+pub mod Phases
+pub mod Ties
+pub mod Readiness
+pub mod Soundness
+pub mod Opening
+pub mod Hosts
+pub mod Playing

@@ -1,0 +1,129 @@
+-- What every net keeps: its wiring, the tie of phases and components, the marks of those that can move, and the run that
+-- its journal tells.
+use Rattle.std.specs.Prelude.{◌≡◌, ◌≢◌, ℕ, zero, suc, ◌+◌, ◌-◌, ◌<◌, ◌≤◌, ◌^◌, Bool, true, false, Option, None, Some, List, [], ◌∷◌, length, map, slice_set, slice_index_or}
+use Rattle.bz_model.specs.declared.channel.Move.{Move}
+use Rattle.bz_model.specs.declared.channel.Phase.{Phase}
+use Rattle.bz_model.specs.declared.channel.Phase.TheVariants.{Idle, Asked, Taken, Replied, Broken}
+use Rattle.bz_elab.specs.declared.flat.FlatComp.{FlatComp}
+use Rattle.bz_model.specs.declared.channel.Chan.{Chan}
+use Rattle.bz_model.specs.declared.event.Entry.{Entry}
+use Rattle.bz_model.specs.declared.event.Verb.{Verb}
+use Rattle.bz_model.specs.declared.event.Reply.{Reply}
+use Rattle.bz_elab.specs.declared.flat.Ends.{Ends}
+use Rattle.bz_model.specs.Heads.{Proc, Component, Moves, Turns, open_at}
+use Rattle.bz_net.specs.Sides.{Sided}
+use Rattle.bz_model.specs.Phases.{phase_after}
+use Rattle.bz_model.specs.Nets.{Site, Wiring, State, IsPort, no_proc, site_at, chan_at, chan_in, passive_at, opening, StepsAt}
+use Rattle.bz_model.specs.Hosts.{reply_to, host_after}
+use Rattle.bz_model.specs.Runs.{CanStep, Run}
+use Rattle.bz_model.specs.Rows.{MeetsRow}
+use Rattle.bz_model.specs.Processes.{start_of}
+use Rattle.bz_elab.specs.Wires.{WellWired, EndsOf, at_side}
+
+abbrev pub proc_of : Component → Proc
+proc_of c = c.proc
+
+-- of components, a state speaks of the processes alone
+abbrev pub state_of : List Phase → List Component → State
+state_of phases comps = record { phases = phases; procs = map proc_of comps }
+
+abbrev pub no_comp : Component
+no_comp = record { proc = no_proc; chans = []; open_ports = [] }
+
+abbrev pub comp_at : List Component → ℕ → Component
+comp_at comps c = slice_index_or comps (c - 1) no_comp
+
+abbrev pub phase_in : List Phase → ℕ → Phase
+phase_in phases k = slice_index_or phases (k - 1) Idle
+
+-- whether the passive end of a channel, or its active end, is open in this phase
+abbrev pub is_open : Phase → Bool → Bool
+is_open Taken true = true
+is_open phase true = false
+is_open Idle false = false
+is_open phase false = true
+
+-- each phase is tied to the components at both ends
+pub record Tied (w : Wiring) (phases : List Phase) (comps : List Component) : Type 0 where
+  pub phases_len : length phases ≡ length w.chans
+  pub comps_len : length comps ≡ length w.sites
+  pub sides : (c : ℕ) → 0 < c → c ≤ length w.sites → Sided (passive_at w.sites c) (comp_at comps c).proc.todo
+  pub opened : (c p : ℕ) → IsPort w.sites c p → open_at (comp_at comps c) p ≡ is_open (phase_in phases (chan_at w.sites c p)) (passive_at w.sites c p)
+  pub kept : (k : ℕ) → phase_in phases k ≢ Broken
+
+abbrev pub flag_at : List Bool → ℕ → Bool
+flag_at flags c = slice_index_or flags (c - 1) false
+
+abbrev pub IsMarked : List Bool → ℕ → Type 0
+IsMarked flags c = (0 < c) × (c ≤ length flags) × (flag_at flags c ≡ true)
+
+-- the flags mark exactly the components that can move
+pub record MarksReady (w : Wiring) (s : State) (flags : List Bool) : Type 0 where
+  pub flags_len : length flags ≡ length w.sites
+  pub marked : (c : ℕ) → 0 < c → c ≤ length w.sites → flag_at flags c ≡ true → CanStep w.sites s c
+  pub marks : (c : ℕ) → 0 < c → c ≤ length w.sites → CanStep w.sites s c → flag_at flags c ≡ true
+
+-- what reading a component's channels and processes needs
+pub record Placed (sites : List Site) (phases : List Phase) (comps : List Component) : Type 0 where
+  pub comps_len : length comps ≡ length sites
+  pub chan_from : (c p : ℕ) → IsPort sites c p → 0 < chan_at sites c p
+  pub chan_to : (c p : ℕ) → IsPort sites c p → chan_at sites c p ≤ length phases
+  pub ports_few : (c : ℕ) → length (site_at sites c).chans < 2 ^ 32
+
+-- each component can be started on its channels
+pub record StartsWell (chans : List Chan) (sites : List Site) : Type 0 where
+  pub chan_from : (c p : ℕ) → IsPort sites c p → 0 < chan_at sites c p
+  pub chan_to : (c p : ℕ) → IsPort sites c p → chan_at sites c p ≤ length chans
+  pub rows : (c : ℕ) → 0 < c → c ≤ length sites → MeetsRow (site_at sites c).kind (site_at sites c).sizes (map (chan_in chans) (site_at sites c).chans)
+
+-- the first n components are at their start
+pub record Started (chans : List Chan) (sites : List Site) (comps : List Component) (n : ℕ) : Type 0 where
+  pub len : length comps ≡ n
+  pub each : (c : ℕ) → 0 < c → c ≤ n → comp_at comps c ≡ start_of (site_at sites c).kind (site_at sites c).sizes (map (chan_in chans) (site_at sites c).chans)
+
+-- whether component c can move, as its flag says
+pub record Exact (sites : List Site) (s : State) (flags : List Bool) (c : ℕ) : Type 0 where
+  pub marked : flag_at flags c ≡ true → CanStep sites s c
+  pub marks : CanStep sites s c → flag_at flags c ≡ true
+
+-- there are so many flags, and each is exact
+pub record MarksAll (sites : List Site) (s : State) (flags : List Bool) (n : ℕ) : Type 0 where
+  pub len : length flags ≡ n
+  pub each : (c : ℕ) → 0 < c → c ≤ n → Exact sites s flags c
+
+-- the flag of c was computed again, and no other changed
+pub record Refreshed (sites : List Site) (s : State) (old new : List Bool) (c : ℕ) : Type 0 where
+  pub len : length new ≡ length old
+  pub here : Exact sites s new c
+  pub others : (d : ℕ) → 0 < d → d ≢ c → flag_at new d ≡ flag_at old d
+
+-- the flags at both ends of a channel were computed again, and no other changed
+pub record RefreshedEnds (sites : List Site) (s : State) (old new : List Bool) (pair : Ends) : Type 0 where
+  pub len : length new ≡ length old
+  pub at_end : (c : ℕ) (side : Bool) → at_side pair side ≡ Some c → Exact sites s new c
+  pub others : (d : ℕ) → 0 < d → at_side pair true ≢ Some d → at_side pair false ≢ Some d → flag_at new d ≡ flag_at old d
+
+-- component c moved at port p, on channel k, and the flags at its ends were computed again
+pub record MovedAt (sites : List Site) (ends : List Ends) (phases : List Phase) (comps : List Component) (phases' : List Phase) (comps' : List Component) (old new : List Bool) (c p k : ℕ) (mv : Move) (value : Option ℕ) : Type 0 where
+  pub steps_at : StepsAt sites (state_of phases comps) c p
+  pub chan_is : k ≡ chan_at sites c p
+  pub rest : Component
+  pub moves : Moves (comp_at comps c).proc p (phase_in phases k) mv value rest.proc
+  pub turns : Turns (comp_at comps c) p mv rest
+  pub phases_is : phases' ≡ slice_set phases (k - 1) (phase_after (phase_in phases k) mv value)
+  pub comps_is : comps' ≡ slice_set comps (c - 1) rest
+  pub refreshed : RefreshedEnds sites (state_of phases' comps') old new (slice_index_or ends (k - 1) (record { active = None; passive = None }))
+
+-- a host command was made at an external port, and the flags at the ends of its channel were computed again
+pub record CommandedAt (sites : List Site) (ends : List Ends) (comps : List Component) (phases phases' : List Phase) (old new : List Bool) (verb : Verb) (port : ℕ) (value : Option ℕ) (reply : Reply) : Type 0 where
+  pub reply_is : reply ≡ reply_to verb (phase_in phases port)
+  pub phases_is : phases' ≡ slice_set phases (port - 1) (host_after verb value (phase_in phases port))
+  pub refreshed : RefreshedEnds sites (state_of phases' comps) old new (slice_index_or ends (port - 1) (record { active = None; passive = None }))
+
+pub record Sound (w : Wiring) (phases : List Phase) (comps : List Component) (ends : List Ends) (flags : List Bool) (journal : List Entry) (limit : ℕ) : Type 0 where
+  pub wired : WellWired w
+  pub ends_of : EndsOf w ends
+  pub tied : Tied w phases comps
+  pub ready : MarksReady w (state_of phases comps) flags
+  pub run : Run w (opening w) journal (state_of phases comps)
+  pub within : length journal ≤ limit

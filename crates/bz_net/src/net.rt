@@ -1,0 +1,411 @@
+//! A net: its events, and what can be read of it.
+
+ghost use Rattle.std.specs.Prelude.{◌≡◌, ◌≢◌, ◌<◌, ◌≤◌, ◌-◌, min, length, None, MatchBool, MatchOption, OnOk, OnErr, IfOk, IfErr};
+ghost use Rattle.bz_model.specs.Nets.{StepsAt, opening, outside, phase_at};
+ghost use Rattle.bz_model.specs.Hosts.{refusal_at};
+ghost use Rattle.bz_model.specs.Runs.{CanStep, Rest, IsNext, Run};
+ghost use Rattle.bz_net.specs.Simulation.{Adds, IsOpened};
+ghost use Rattle.bz_net.specs.Ends.{TellsEnds};
+ghost use Rattle.bz_net.specs.Replies.{Admits, RefusesEntry, RefusesFire, IsFiring, IsLowestFiring, RefusesLowest, IsPicked, Replies, RefusesCommand};
+ghost use Rattle.bz_net.specs.Resting.{TellsRest};
+ghost use Rattle.bz_net.specs.Running.{Ran};
+ghost use Rattle.bz_net.specs.Serving.{Serves, Refuses};
+
+use crate::event::{Answer, Event, RestReply, RunEnd};
+use crate::moves::{
+    can_fire, command, lowest_port, mark_all, move_comp, next_from, refusal_of, start_all,
+};
+use bz_elab::{Ends, Flat, FlatComp};
+use bz_kinds::Comp;
+use bz_model::{Entry, Names, NetError, Phase, Reply, Value, Verb, Who};
+use std::alloc::Global;
+use std::marker::Model;
+
+/// A net, its journal, and which components can move.
+#[derive(Drop)]
+pub struct Net {
+    names: Names,
+    sites: Vec<FlatComp>,
+    ends: Vec<Ends>,
+    phases: Vec<Phase>,
+    comps: Vec<Comp>,
+    ready: Vec<bool>,
+    journal: Vec<Entry>,
+    limit: usize,
+}
+
+impl Model for Net {
+    ghost use Rattle.bz_net.specs.Simulation.{Simulation};
+    ghost use Rattle.bz_model.specs.Codes.{term_code};
+    ghost use Rattle.std.specs.Coded.{codes};
+
+    ghost Value = { Simulation };
+
+    ghost coded = { Prim.hlevel (codes, term_code) };
+
+    ghost use Rattle.std.specs.Prelude.{map, ◌-◌, vec_len, vec_capacity};
+    ghost use Rattle.bz_elab.specs.Flats.{site_of};
+    ghost use Rattle.bz_net.specs.Keeping.{state_of};
+
+    ghost view = { λ n. record {
+      wiring = record { chans = n.names.chans; sites = map site_of n.sites.items; ports = n.names.ports };
+      state = state_of n.phases.items n.comps.items;
+      journal = n.journal.items;
+      limit = n.limit;
+      room = vec_capacity n.journal - vec_len n.journal;
+    } };
+
+    ghost use Rattle.bz_net.specs.Keeping.{Sound};
+
+    ghost invariant = { λ n. Sound
+        (record { chans = n.names.chans; sites = map site_of n.sites.items; ports = n.names.ports })
+        n.phases.items n.comps.items
+        n.ends.items n.ready.items n.journal.items n.limit };
+}
+
+impl Net {
+    /// Opens a net with room for a journal of `limit` entries: all channels are idle, and each component is at its start.
+    /// Where memory is refused, the flat net is gone.
+    pub fn open(alloc: Global, flat: Flat, limit: u32) -> Result<Net, NetError>
+        requires least { 0 < limit }
+        requires most { limit ≤ 16777216 }
+        ensures ok { IfOk result (IsOpened flat.wiring limit) }
+        ensures err { IfErr result (λ e. e ≡ NetError.Memory) }
+    {
+        let pieces = flat.into_pieces();
+        let comps = start_all(alloc, &pieces.chans, &pieces.comps)?;
+        let phases = match vec![in alloc; Phase::Idle; pieces.chans.len()] {
+            Ok(phases) => phases,
+            Err(_) => return Err(NetError::Memory),
+        };
+        let ready = mark_all(alloc, &pieces.comps, &comps, &phases)?;
+        Ok(Net {
+            names: Names::new(pieces.ports, pieces.chans),
+            sites: pieces.comps,
+            ends: pieces.ends,
+            phases,
+            comps,
+            ready,
+            journal: Vec::new(alloc),
+            limit: limit as usize,
+        })
+    }
+
+    /// Whether a component can move.
+    pub fn is_ready(&self, comp: u32) -> bool
+        ensures { MatchBool result (CanStep self.now.wiring.sites self.now.state comp)
+            (CanStep self.now.wiring.sites self.now.state comp → ⊥) }
+    {
+        if comp == 0 || comp as usize > self.ready.len() {
+            return false;
+        }
+        self.ready[comp as usize - 1]
+    }
+
+    /// Makes sure that one more entry can be added.
+    fn admit(&mut self) -> Result<(), NetError>
+        ensures ok { OnOk result (Admits self.old self.new) }
+        ensures cause { IfErr result (RefusesEntry self.old) }
+        ensures err { OnErr result (self.new ≡ self.old) }
+    {
+        if self.journal.len() >= self.limit {
+            return Err(NetError::JournalFull);
+        }
+        match self.journal.reserve(1) {
+            Ok(()) => Ok(()),
+            Err(_) => Err(NetError::Memory),
+        }
+    }
+
+    /// Fires the one move that a component has at a port.
+    pub fn fire_move(&mut self, who: Who, comp: u32, port: u32) -> Result<Entry, NetError>
+        ensures fired { IfOk result (IsFiring who comp port) }
+        ensures adds { IfOk result (λ entry. Adds self.old entry self.new) }
+        ensures cause { IfErr result (RefusesFire self.old comp port) }
+        ensures err { OnErr result (self.new ≡ self.old) }
+    {
+        if !can_fire(&self.sites, &self.comps, &self.phases, comp, port) {
+            return Err(NetError::NotEnabled);
+        }
+        self.admit()?;
+        let (chan, mv, value) = move_comp(
+            &self.sites,
+            &self.ends,
+            &mut self.comps,
+            &mut self.phases,
+            &mut self.ready,
+            comp,
+            port,
+        );
+        let entry = Entry::Fired {
+            who,
+            comp,
+            port,
+            chan,
+            mv,
+            value,
+        };
+        self.journal.push(entry).unwrap();
+        Ok(entry)
+    }
+
+    /// Fires a component at its lowest port that can move.
+    pub fn fire(&mut self, who: Who, comp: u32) -> Result<Entry, NetError>
+        ensures fired { IfOk result (IsLowestFiring self.old who comp) }
+        ensures adds { IfOk result (λ entry. Adds self.old entry self.new) }
+        ensures cause { IfErr result (RefusesLowest self.old comp) }
+        ensures err { OnErr result (self.new ≡ self.old) }
+    {
+        if comp == 0 || comp as usize > self.sites.len() {
+            return Err(NetError::NotEnabled);
+        }
+        match lowest_port(&self.sites, &self.comps, &self.phases, comp) {
+            Some(port) => self.fire_move(who, comp, port),
+            None => Err(NetError::NotEnabled),
+        }
+    }
+
+    /// The component that is next to fire, from a number on.
+    pub fn next_ready(&self, from: u32) -> Option<u32>
+        ensures { MatchOption result (Rest self.now.wiring.sites self.now.state)
+            (IsNext (CanStep self.now.wiring.sites self.now.state) from) }
+    {
+        next_from(&self.ready, from)
+    }
+
+    /// Notes in the journal that no component can move.
+    fn note_rest(&mut self, who: Who) -> Result<(), NetError>
+        requires { Rest self.old.wiring.sites self.old.state }
+        ensures adds { OnOk result (Adds self.old (Entry.Rested who) self.new) }
+        ensures cause { IfErr result (RefusesEntry self.old) }
+        ensures err { OnErr result (self.new ≡ self.old) }
+    {
+        self.admit()?;
+        self.journal.push(Entry::Rested { who }).unwrap();
+        Ok(())
+    }
+
+    /// Fires the next component at its lowest port, or notes that none can move.
+    pub fn step(&mut self, who: Who, from: u32) -> Result<Entry, NetError>
+        ensures picked { IfOk result (IsPicked self.old who from) }
+        ensures adds { IfOk result (λ entry. Adds self.old entry self.new) }
+        ensures cause { IfErr result (RefusesEntry self.old) }
+        ensures err { OnErr result (self.new ≡ self.old) }
+    {
+        match self.next_ready(from) {
+            Some(comp) => self.fire(who, comp),
+            None => {
+                self.note_rest(who)?;
+                Ok(Entry::Rested { who })
+            }
+        }
+    }
+
+    /// Asks whether any component can move.
+    pub fn rest(&mut self, who: Who) -> Result<RestReply, NetError>
+        ensures ok { IfOk result (TellsRest self.old self.new who) }
+        ensures resting { IfErr result (λ e. Rest self.old.wiring.sites self.old.state) }
+        ensures cause { IfErr result (RefusesEntry self.old) }
+        ensures err { OnErr result (self.new ≡ self.old) }
+    {
+        match self.next_ready(1) {
+            Some(comp) => Ok(RestReply::Ready(comp)),
+            None => {
+                self.note_rest(who)?;
+                Ok(RestReply::Rest)
+            }
+        }
+    }
+
+    /// Fires one component after another, each the next from the number after the last, until `fuel`
+    /// firings are made or none can move.
+    pub fn run(&mut self, who: Who, from: u32, fuel: u64) -> RunEnd
+        ensures { Ran self.old self.new who from fuel result }
+    {
+        let mut next = from;
+        for fired in 0..fuel {
+            match self.step(who, next) {
+                Ok(Entry::Fired { comp, .. }) => {
+                    let _ = &self.limit;
+                    next = comp + 1;
+                }
+                Ok(_) => return RunEnd::Rest(fired),
+                Err(e) => return RunEnd::Refused(fired, e),
+            }
+        }
+        RunEnd::Spent(fuel)
+    }
+
+    /// The entries so far.
+    pub fn journal(&self) -> &[Entry]
+        ensures entries { result.now ≡ self.now.journal }
+        ensures run { Run self.now.wiring (opening self.now.wiring) self.now.journal self.now.state }
+        ensures within { length self.now.journal ≤ self.now.limit }
+    {
+        &self.journal
+    }
+
+    /// The external ports and the channels of the net.
+    pub fn names(&self) -> &Names
+        ensures { result.now ≡ outside self.now.wiring }
+    {
+        &self.names
+    }
+
+    /// The phase of a channel.
+    pub fn phase(&self, chan: u32) -> Phase
+        requires from { 0 < chan }
+        requires to { chan ≤ length self.now.wiring.chans }
+        ensures phase { result ≡ phase_at self.now.state chan }
+        ensures kept { result ≢ Phase.Broken }
+    {
+        self.phases[chan as usize - 1]
+    }
+
+    /// The components at the active and at the passive end of a channel, `None` where there is none.
+    pub fn ends(&self, chan: u32) -> [Option<u32>; 2]
+        requires from { 0 < chan }
+        requires to { chan ≤ length self.now.wiring.chans }
+        ensures { TellsEnds self.now.wiring.sites chan result }
+    {
+        let pair = self.ends[chan as usize - 1];
+        [pair.active, pair.passive]
+    }
+
+    /// Makes room for the next `count` entries, or for as many as the limit still allows.
+    pub fn reserve(&mut self, count: usize) -> Result<(), NetError>
+        ensures ok { OnOk result (min count (self.old.limit - length self.old.journal) ≤ self.new.room) }
+        ensures memory { IfErr result (λ e. e ≡ NetError.Memory) }
+        ensures same { self.new ≡ record self.old { room = self.new.room } }
+        ensures no_less { self.old.room ≤ self.new.room }
+    {
+        let most = self.limit - self.journal.len();
+        match self.journal.reserve(count.min(most)) {
+            Ok(()) => Ok(()),
+            Err(_) => Err(NetError::Memory),
+        }
+    }
+
+    /// Makes any one event.
+    pub fn serve(&mut self, who: Who, event: Event<'_>) -> Result<Answer, NetError>
+        ensures ok { IfOk result (Serves self.old self.new who event.entry) }
+        ensures cause { IfErr result (Refuses self.old event.entry) }
+        ensures err { OnErr result (self.new ≡ self.old) }
+    {
+        match event {
+            Event::Move { comp, port } => Ok(Answer::Fired(self.fire_move(who, comp, port)?)),
+            Event::Fire { comp } => Ok(Answer::Fired(self.fire(who, comp)?)),
+            Event::Step { from } => match self.step(who, from)? {
+                Entry::Rested { .. } => Ok(Answer::Rest(RestReply::Rest)),
+                entry => Ok(Answer::Fired(entry)),
+            },
+            Event::Rest => Ok(Answer::Rest(self.rest(who)?)),
+            Event::Host(cmd) => Ok(Answer::Host(self.host(who, cmd.verb, &cmd.port, cmd.value)?)),
+        }
+    }
+
+    /// Makes one host command on the external port of this name.
+    fn host(
+        &mut self,
+        who: Who,
+        verb: Verb,
+        name: &[u8],
+        value: Option<Value>,
+    ) -> Result<Reply, NetError>
+        ensures replies { IfOk result (Replies self.old self.new who verb name.now value) }
+        ensures cause { IfErr result (RefusesCommand self.old verb name.now value) }
+        ensures err { OnErr result (self.new ≡ self.old) }
+    {
+        let Some(port) = self.names.port(name) else {
+            return Err(NetError::UnknownPort);
+        };
+        match refusal_of(&self.names, verb, port, value) {
+            Some(e) => return Err(e),
+            None => {}
+        }
+        self.command_at(who, verb, port, value)
+    }
+
+    /// Makes one host command that is not refused at an external port.
+    fn command_at(
+        &mut self,
+        who: Who,
+        verb: Verb,
+        port: u32,
+        value: Option<Value>,
+    ) -> Result<Reply, NetError>
+        requires from { 0 < port }
+        requires to { port ≤ length self.old.wiring.ports }
+        requires agreed { refusal_at self.old.wiring verb port value ≡ None }
+        ensures adds { IfOk result (λ reply. Adds self.old (Entry.Host who verb port value reply) self.new) }
+        ensures cause { IfErr result (RefusesEntry self.old) }
+        ensures err { OnErr result (self.new ≡ self.old) }
+    {
+        self.admit()?;
+        let reply = command(
+            &self.sites,
+            &self.ends,
+            &self.comps,
+            &mut self.phases,
+            &mut self.ready,
+            verb,
+            port,
+            value,
+        );
+        self.journal
+            .push(Entry::Host {
+                who,
+                verb,
+                port,
+                value,
+                reply,
+            })
+            .unwrap();
+        Ok(reply)
+    }
+
+    /// Begins a handshake at a port declared passive.
+    pub fn offer(&mut self, who: Who, port: &[u8], value: Option<Value>) -> Result<Reply, NetError>
+        ensures replies { IfOk result (Replies self.old self.new who Verb.Offer port.now value) }
+        ensures cause { IfErr result (RefusesCommand self.old Verb.Offer port.now value) }
+        ensures err { OnErr result (self.new ≡ self.old) }
+    {
+        self.host(who, Verb::Offer, port, value)
+    }
+
+    /// Ends a handshake at a port declared passive.
+    pub fn collect(&mut self, who: Who, port: &[u8]) -> Result<Reply, NetError>
+        ensures replies { IfOk result (Replies self.old self.new who Verb.Collect port.now None) }
+        ensures cause { IfErr result (RefusesCommand self.old Verb.Collect port.now None) }
+        ensures err { OnErr result (self.new ≡ self.old) }
+    {
+        self.host(who, Verb::Collect, port, None)
+    }
+
+    /// Takes a request at a port declared active.
+    pub fn accept(&mut self, who: Who, port: &[u8]) -> Result<Reply, NetError>
+        ensures replies { IfOk result (Replies self.old self.new who Verb.Accept port.now None) }
+        ensures cause { IfErr result (RefusesCommand self.old Verb.Accept port.now None) }
+        ensures err { OnErr result (self.new ≡ self.old) }
+    {
+        self.host(who, Verb::Accept, port, None)
+    }
+
+    /// Acknowledges a request at a port declared active.
+    pub fn answer(&mut self, who: Who, port: &[u8], value: Option<Value>) -> Result<Reply, NetError>
+        ensures replies { IfOk result (Replies self.old self.new who Verb.Answer port.now value) }
+        ensures cause { IfErr result (RefusesCommand self.old Verb.Answer port.now value) }
+        ensures err { OnErr result (self.new ≡ self.old) }
+    {
+        self.host(who, Verb::Answer, port, value)
+    }
+
+    /// Reads the phase of a port.
+    pub fn watch(&mut self, who: Who, port: &[u8]) -> Result<Reply, NetError>
+        ensures replies { IfOk result (Replies self.old self.new who Verb.Watch port.now None) }
+        ensures cause { IfErr result (RefusesCommand self.old Verb.Watch port.now None) }
+        ensures err { OnErr result (self.new ≡ self.old) }
+    {
+        self.host(who, Verb::Watch, port, None)
+    }
+}
