@@ -1,5 +1,6 @@
 -- The ends of channels: which port of which component holds which end.
 use Rattle.std.specs.Prelude.{◌≡◌, ℕ, ◌-◌, ◌<◌, ◌≤◌, ◌^◌, Bool, true, false, not, Option, None, Some, List, length, map, slice_index_or}
+use Rattle.bz_model.specs.Names.{External}
 use Rattle.bz_model.specs.Rows.{MeetsRow}
 use Rattle.bz_model.specs.Nets.{Site, Wiring, IsPort, site_at, chan_at, passive_at, chan_in}
 use Rattle.bz_model.specs.Hosts.{port_is_passive}
@@ -59,3 +60,18 @@ pub record EndsOf (w : Wiring) (ends : List Ends) : Type 0 where
   pub finds : (c p : ℕ) → IsPort w.sites c p → end_at ends (chan_at w.sites c p) (passive_at w.sites c p) ≡ Some c
   pub stands : StandsIn w.sites ends
   pub holds : (k c : ℕ) (side : Bool) → 0 < k → end_at ends k side ≡ Some c → (p : ℕ) × IsEnd w.sites k side c p
+
+-- What is wrong with the ends of a net.
+
+-- two ports hold one end of channel k
+abbrev pub HasTwo : List Site → ℕ → Type 0
+HasTwo sites k = (side : Bool) × (c p d q : ℕ) × IsEnd sites k side c p × IsEnd sites k side d q × ((c ≡ d) × (p ≡ q) → ⊥)
+
+-- one component end alone, and no host at the other
+abbrev pub IsLoose : List Site → List External → ℕ → Type 0
+IsLoose sites ports k = (length ports < k) × (side : Bool) × HasEnd sites k side × (HasEnd sites k (not side) → ⊥)
+
+-- An external port with a component end where the host's is to be: beside another one, or alone and of the other sense
+-- than declared. (Two ends of the declared sense are `HasTwo`.)
+abbrev pub IsMisused : List Site → List External → ℕ → Type 0
+IsMisused sites ports k = (0 < k) × (k ≤ length ports) × HasEnd sites k (not (port_is_passive ports k))

@@ -1,14 +1,19 @@
 //! Why a part has no net.
 
 ghost use Rattle.std.specs.Prelude.{◌≡◌};
+ghost use Rattle.bz_kinds.specs.declared.error.KindError.{KindError};
 ghost use Rattle.bz_elab.specs.declared.error.ElabError.TheVariants.{Memory};
+ghost use Rattle.bz_elab.specs.declared.error.Fault.TheVariants as fault;
+ghost use Rattle.bz_elab.specs.Faults.{fault_of, error_at};
 
+use bz_kinds::KindError;
 use std::alloc::{AllocError, AllocFailed};
 use thiserror::Error;
 
 /// The reasons, in the order in which they are looked for.
 ///
-/// A part is told by its number in the text and a component by its position in that part, each counted from 1.
+/// A part is told by its place in the list of parts, counted from 0, and a component by its position in that part, counted
+/// from 1.
 #[derive(Clone, Copy, Debug, PartialEq, Eq, Error)]
 pub enum ElabError {
     /// No part has the name asked for.
@@ -16,28 +21,28 @@ pub enum ElabError {
     NoPart,
     /// A part that the top reaches reaches itself.
     #[error("E2 Recursive {0}")]
-    Recursive(u32),
+    Recursive(usize),
     /// A path of more than `MOST_INSTANCES` instances.
     #[error("E3 TooDeep")]
     TooDeep,
     /// No kind and no part has the component's name.
     #[error("E4 UnknownComponent {0} {1}")]
-    UnknownComponent(u32, u32),
+    UnknownComponent(usize, usize),
     #[error("E5 BadParameter {0} {1}")]
-    BadParameter(u32, u32),
+    BadParameter(usize, usize),
     /// A wrong number of entries, or an array of a length that its kind forbids.
     #[error("E6 PortCount {0} {1}")]
-    PortCount(u32, u32),
+    PortCount(usize, usize),
     /// An entry that is no channel of the part.
     #[error("E7 BadChannel {0} {1}")]
-    BadChannel(u32, u32),
+    BadChannel(usize, usize),
     /// More components, channels or component ends than a net may have.
     #[error("E8 TooBig")]
     TooBig,
     #[error("E9 KindMismatch {0} {1}")]
-    KindMismatch(u32, u32),
+    KindMismatch(usize, usize),
     #[error("E10 WidthMismatch {0} {1}")]
-    WidthMismatch(u32, u32),
+    WidthMismatch(usize, usize),
     /// A channel with two active or two passive component ends.
     #[error("E11 TwoEnds {0}")]
     TwoEnds(u32),
@@ -64,5 +69,62 @@ impl<T: Drop> From<AllocFailed<T>> for ElabError {
 
     fn from(_error: AllocFailed<T>) -> ElabError {
         ElabError::Memory
+    }
+}
+
+/// What is wrong with one component of a part.
+#[derive(Clone, Copy, Debug, PartialEq, Eq)]
+pub enum Fault {
+    UnknownComponent,
+    BadParameter,
+    PortCount,
+    BadChannel,
+    KindMismatch,
+    WidthMismatch,
+    Memory,
+}
+
+impl Fault {
+    /// The refusal of a component, by the place of its part and its position.
+    pub fn at(self, part: usize, position: usize) -> ElabError
+        ensures { result ≡ error_at self part position }
+    {
+        match self {
+            Fault::UnknownComponent => ElabError::UnknownComponent(part, position),
+            Fault::BadParameter => ElabError::BadParameter(part, position),
+            Fault::PortCount => ElabError::PortCount(part, position),
+            Fault::BadChannel => ElabError::BadChannel(part, position),
+            Fault::KindMismatch => ElabError::KindMismatch(part, position),
+            Fault::WidthMismatch => ElabError::WidthMismatch(part, position),
+            Fault::Memory => ElabError::Memory,
+        }
+    }
+}
+
+impl From<KindError> for Fault {
+    ghost from_gives = { λ k e. e ≡ fault_of k };
+
+    fn from(error: KindError) -> Fault {
+        match error {
+            KindError::UnknownComponent => Fault::UnknownComponent,
+            KindError::BadParameter => Fault::BadParameter,
+            KindError::Memory => Fault::Memory,
+        }
+    }
+}
+
+impl From<AllocError> for Fault {
+    ghost from_gives = { λ _ e. e ≡ fault.Memory };
+
+    fn from(_error: AllocError) -> Fault {
+        Fault::Memory
+    }
+}
+
+impl<T: Drop> From<AllocFailed<T>> for Fault {
+    ghost from_gives = { λ _ e. e ≡ fault.Memory };
+
+    fn from(_error: AllocFailed<T>) -> Fault {
+        Fault::Memory
     }
 }

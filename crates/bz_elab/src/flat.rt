@@ -55,6 +55,21 @@ impl Model for Flat {
 }
 
 impl Flat {
+    // The net of these pieces.
+    pub(crate) fn of(pieces: Pieces) -> Flat
+        requires wired { WellWired (wiring_of pieces.chans.items pieces.comps.items pieces.ports.items) }
+        requires ends_of { EndsOf (wiring_of pieces.chans.items pieces.comps.items pieces.ports.items) pieces.ends.items }
+        ensures wiring { result.wiring ≡ wiring_of pieces.chans.items pieces.comps.items pieces.ports.items }
+        ensures ends { result.ends ≡ pieces.ends.items }
+    {
+        Flat {
+            chans: pieces.chans,
+            comps: pieces.comps,
+            ports: pieces.ports,
+            ends: pieces.ends,
+        }
+    }
+
     /// The number of the external port of this name, if there is one.
     pub fn port(&self, name: &[u8]) -> Option<u32>
         ensures { result ≡ port_number self.now.wiring.ports name.now }

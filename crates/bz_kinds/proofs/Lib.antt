@@ -12,3 +12,4 @@ pub mod ScriptLaws
 pub mod PlanLaws
 pub mod StartLaws
 pub mod MovesLaws
+pub mod RowLaws

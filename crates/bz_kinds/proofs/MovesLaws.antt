@@ -1,17 +1,16 @@
 -- The ports at which a move may be made are those of the moves that are due.
-use Rattle.std.proofs.Common.{◌≡◌, ◌≢◌, ◌⊎◌, inl, inr, ℕ, zero, suc, ◌+◌, ◌-◌, ◌<◌, ◌≤◌, ◌↔◌, Bool, true, false, IsTrue, List, [], ◌∷◌, length, get_or, map, Contains, Option, Some, None, refl, ap, sym, ◌∙◌, subst, arith}
+use Rattle.std.proofs.Common.{◌≡◌, ℕ, zero, suc, ◌+◌, ◌-◌, ◌<◌, ◌≤◌, ◌↔◌, Bool, true, false, IsTrue, List, [], ◌∷◌, length, get_or, map, Contains, Option, Some, None, refl, ◌∙◌, subst, arith}
 use Rattle.std.specs.Prelude.{if◌then◌else◌}
 use Rattle.std.specs.List.Sorted.{IsStrictlyIncreasing}
-use Rattle.std.proofs.lemmas.Bool.{cases_eq}
 use Rattle.bz_model.specs.declared.channel.Chan.{Chan}
 use Rattle.bz_model.specs.declared.channel.Phase.{Phase}
 use Rattle.bz_model.specs.declared.channel.Phase.TheVariants.{Idle}
 use Rattle.bz_model.specs.Phases.{may_move}
 use Rattle.bz_model.specs.Terms.{Store}
-use Rattle.bz_model.specs.Heads.{Head, IsHeadOn, Component, CanMove}
+use Rattle.bz_model.specs.Heads.{Component, CanMove}
 use Rattle.bz_kinds.specs.declared.row.Due.{Due}
 use Rattle.bz_kinds.specs.declared.row.Plan.{Plan}
-use Rattle.bz_kinds.specs.Row.{due_of, is_open}
+use Rattle.bz_kinds.specs.Row.{is_open}
 use Rattle.bz_kinds.specs.Comp.{todo_of, IsAt, plan_due}
 use Rattle.bz_kinds.specs.Moves.{phase_of, may_make, ports_left, AreEnabled}
 use Rattle.bz_kinds.proofs.PlanLaws.{head-on-due, due-on-head}
@@ -56,6 +55,7 @@ module _ (plan : Plan) (w : List ℕ) where
       later (k, (lt, may), e) =
           let one : suc p + k ≡ p + suc k = omega arith in
           (suc k, (omega arith, subst (λ n. May n (get_or phases k Idle)) one may), omega arith)
+
       cases : (Contains (ports_left plan w (suc p) phases) q → (k : ℕ) × Has (suc p) phases k × (suc p + k ≡ q)) → (b : Bool) → may_make (plan_due plan p (get_or w p 0)) phase ≡ b → Contains (Joined b p (ports_left plan w (suc p) phases)) q → (k : ℕ) × Has p (phase ∷ phases) k × (p + k ≡ q)
       cases rest true is (zero, lt, e) =
           let none : p + 0 ≡ p = omega arith in
@@ -93,6 +93,7 @@ module _ (plan : Plan) (n left : ℕ) (w : List ℕ) (s : Store) (chans : List C
           let (d, due, allowed) = may-is (plan_due plan p (get_or w p 0)) phase may in
           let (h, on, same) = due-on-head plan n left w s chans c view ok p d due in
           (h, on, subst (λ (d : Due). IsTrue (may_move phase d.mv)) same allowed)
+
       back : CanMove c.proc p phase → May plan w p phase
       back (h, on, allowed) = rw (head-on-due plan n left w s chans c view ok p h on) allowed
 
@@ -104,6 +105,7 @@ module _ (plan : Plan) (n left : ℕ) (w : List ℕ) (s : Store) (chans : List C
           let (k, (lt, may), e) = found plan w 1 phases p has in
           let at : k ≡ p - 1 = omega arith in
           (omega arith, omega arith, (may-can p (phase_of phases p)).0 (subst (λ k. May plan w p (get_or phases k Idle)) at (subst (λ p. May plan w p (get_or phases k Idle)) e may)))
+
       back : (p : ℕ) → 1 ≤ p × p ≤ length phases × CanMove c.proc p (phase_of phases p) → Contains (ports_left plan w 1 phases) p
       back p (from, to, can) =
           let at : 1 + (p - 1) ≡ p = omega arith in

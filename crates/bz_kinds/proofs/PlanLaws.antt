@@ -1,12 +1,12 @@
 -- Of every plan: the heads are the moves that are due, and a port has one.
-use Rattle.std.proofs.Common.{◌≡◌, ℕ, zero, suc, List, get_or, Option, Some, refl, ap, sym, ◌∙◌, subst, IsTrue, map, arith}
-use Rattle.std.specs.Prelude.{◌-◌, ◌<◌, not}
+use Rattle.std.proofs.Common.{IfSome, None, refl, ◌≡◌, ℕ, zero, suc, List, get_or, Option, Some, ap, sym, ◌∙◌, subst, IsTrue, map}
+use Rattle.std.specs.Prelude.{not}
 use Rattle.bz_model.specs.Heads.{Head, IsHead, IsHeadOn, Component, Moves, Turns, HasOneHead, carried, tidy, opens}
+use Rattle.bz_model.specs.declared.channel.Move.{Move}
 use Rattle.bz_model.specs.declared.channel.Move.TheVariants.{Ask, Take, Reply, Got}
 use Rattle.bz_model.specs.declared.expr.Expr.TheVariants.{Nothing}
 use Rattle.bz_model.specs.declared.channel.Phase.{Phase}
 use Rattle.bz_model.specs.Phases.{may_move, incoming}
-use Rattle.bz_model.specs.Processes.{member}
 use Rattle.bz_model.specs.Terms.{Store, stored}
 use Rattle.bz_kinds.specs.declared.row.Due.{Due}
 use Rattle.bz_kinds.specs.declared.row.Row.{Row}
@@ -14,14 +14,14 @@ use Rattle.bz_kinds.specs.declared.row.Plan.{Plan}
 use Rattle.bz_kinds.specs.declared.row.Plan.TheVariants.{InTurn, Together, Cells, OneByOne}
 use Rattle.bz_kinds.specs.Row.{due_of, row_due, is_open, lead_due, leg_due, leg_of}
 use Rattle.bz_kinds.specs.declared.row.Leg.{Leg}
-use Rattle.bz_kinds.specs.Comp.{todo_of, IsAt, plan_due, IsDue, Goes}
+use Rattle.bz_kinds.specs.Comp.{todo_of, IsAt, plan_due, Goes}
 use Rattle.std.proofs.Math.ListN.{get_or-map}
+use Rattle.std.specs.Option.{option_map}
 use Rattle.bz_kinds.specs.InTurn as turn
 use Rattle.bz_kinds.specs.Together as whole
 use Rattle.bz_kinds.proofs.InTurnDue as in_turn
 use Rattle.bz_kinds.proofs.TogetherDue as together
 use Rattle.bz_kinds.proofs.CellsLaws as cells
-use Rattle.bz_kinds.specs.Cells as cell
 use Rattle.bz_kinds.proofs.ScriptLaws as one_by_one
 use Rattle.bz_kinds.specs.Script as stages
 use Rattle.bz_kinds.specs.declared.row.Script.{Script}
@@ -105,6 +105,19 @@ module _ (plan : Plan) (n left : ℕ) (w : List ℕ) (s : Store) (chans : List C
   pub one-head-on : HasOneHead c.proc.todo
   one-head-on = subst (λ (c : Component). HasOneHead c.proc.todo) view (one-head plan n left w ok)
 
+  -- the move that is due at p is that of the head there
+  pub next-some : (p : ℕ) (next : Option Move) → next ≡ option_map (λ (d : Due). d.mv) (plan_due plan p (get_or w p 0)) → IfSome next (λ m. (h : Head) × IsHeadOn c.proc p h × (h.move ≡ m))
+  next-some p next is = rw is (cases (plan_due plan p (get_or w p 0)) refl)
+    where
+      cases : (o : Option Due) → plan_due plan p (get_or w p 0) ≡ o → IfSome (option_map (λ (d : Due). d.mv) o) (λ m. (h : Head) × IsHeadOn c.proc p h × (h.move ≡ m))
+      cases None e = tt
+      cases (Some d) e =
+          let (h, on, same) = due-on-head p d e in
+          (h, on, sym (ap (λ (d : Due). d.mv) same))
+
+  pub next-only : (p : ℕ) (next : Option Move) → next ≡ option_map (λ (d : Due). d.mv) (plan_due plan p (get_or w p 0)) → (h : Head) → IsHeadOn c.proc p h → next ≡ Some h.move
+  next-only p next is h on = is ∙ ap (option_map (λ (d : Due). d.mv)) (head-on-due p h on)
+
   -- a move that the ports follow is a move of the process
   pub moves : (p : ℕ) (phase : Phase) (d : Due) (value came : Option ℕ) (left' : ℕ) (w' s' : List ℕ) → plan_due plan p (get_or w p 0) ≡ Some d → IsTrue (may_move phase d.mv) → came ≡ incoming phase d.mv → value ≡ carried d.mv d.gives s came → s' ≡ stored d.into came s → Goes plan n left w p left' w' → Moves c.proc p phase d.mv value (record { todo = todo_of plan n left' w'; store = s' })
   moves p phase d value came left' w' s' e may in_is v st go =
@@ -128,38 +141,11 @@ module _ (plan : Plan) (n left : ℕ) (w : List ℕ) (s : Store) (chans : List C
       })
 
 -- what the family says is said of the plan
-pub turn-step : (plan : Plan) (row : Row) → plan ≡ InTurn row → (n left : ℕ) (w : List ℕ) (q left' : ℕ) (w' : List ℕ) (p : ℕ) → IsAt plan n left w → p ≡ q → turn.Steps row n left w q left' w' → Goes plan n left w p left' w'
-turn-step plan row e n left w q left' w' p ok is s =
-    rw (e, is) (record { place = s.place; toggles = s.toggles; leaves = s.leaves })
+pub turn-step : (plan : Plan) (row : Row) → plan ≡ InTurn row → (n left : ℕ) (w : List ℕ) (p left' : ℕ) (w' : List ℕ) → turn.Steps row n left w p left' w' → Goes plan n left w p left' w'
+turn-step plan row e n left w p left' w' s = rw e (record { place = s.place; toggles = s.toggles; leaves = s.leaves })
 
-pub whole-step : (plan : Plan) (row : Row) → plan ≡ Together row → (n left : ℕ) (w : List ℕ) (q left' : ℕ) (w' : List ℕ) (p : ℕ) → IsAt plan n left w → p ≡ q → whole.Steps row n left w q left' w' → Goes plan n left w p left' w'
-whole-step plan row e n left w q left' w' p ok is s =
-    rw (e, is) (record { place = s.place; toggles = s.toggles; leaves = s.leaves })
-
-pub cell-step : (plan : Plan) → plan ≡ Cells → (n left : ℕ) (w : List ℕ) (w' : List ℕ) (p : ℕ) → IsAt plan n left w → cell.Steps n w p w' → Goes plan n left w p left w'
-cell-step plan e n left w w' p ok s =
-    rw e (record { place = s.place; toggles = s.toggles; leaves = s.leaves })
-
--- a port at which a cell's move is due has a number above 0
-pub cell-up : (plan : Plan) → plan ≡ Cells → (p : ℕ) (w : List ℕ) → IsDue plan p w → 0 < get_or w p 0
-cell-up plan e p w due = up p (get_or w p 0) (subst (λ plan. IsDue plan p w) e due)
-  where
-    up : (p a : ℕ) → (d : Due) × (cell_due p a ≡ Some d) → 0 < a
-    up zero a (d, e) = absurd (cc)
-    up (suc j) zero (d, e) = absurd (cc)
-    up (suc j) (suc a) due = omega arith
-
--- an enclosed port has a number of 2 or more
-leg-port : (row : Row) (p a : ℕ) → (d : Due) × (row_due row p a ≡ Some d) → (p ≡ 1 → ⊥) → p ≡ suc (suc (p - 2))
-leg-port row zero a (d, e) ne = absurd (cc)
-leg-port row (suc zero) a due ne = absurd (ne refl)
-leg-port row (suc (suc i)) a due ne = omega arith
-
-pub turn-port : (plan : Plan) (row : Row) → plan ≡ InTurn row → (p : ℕ) (w : List ℕ) → IsDue plan p w → (p ≡ 1 → ⊥) → p ≡ member (p - 2)
-turn-port plan row e p w due ne = leg-port row p (get_or w p 0) (subst (λ plan. IsDue plan p w) e due) ne
-
-pub whole-port : (plan : Plan) (row : Row) → plan ≡ Together row → (p : ℕ) (w : List ℕ) → IsDue plan p w → (p ≡ 1 → ⊥) → p ≡ member (p - 2)
-whole-port plan row e p w due ne = leg-port row p (get_or w p 0) (subst (λ plan. IsDue plan p w) e due) ne
+pub whole-step : (plan : Plan) (row : Row) → plan ≡ Together row → (n left : ℕ) (w : List ℕ) (p left' : ℕ) (w' : List ℕ) → whole.Steps row n left w p left' w' → Goes plan n left w p left' w'
+whole-step plan row e n left w p left' w' s = rw e (record { place = s.place; toggles = s.toggles; leaves = s.leaves })
 
 pub script-step : (plan : Plan) (script : Script) → plan ≡ OneByOne script → (n left : ℕ) (w : List ℕ) (p left' : ℕ) (w' : List ℕ) → stages.Steps script left w p left' w' → Goes plan n left w p left' w'
 script-step plan script e n left w p left' w' s = rw e (record { place = s.place; toggles = s.toggles; leaves = s.leaves })

@@ -49,3 +49,7 @@ is_open (suc (suc a)) = true
 pub record Toggles (w : List ℕ) (p : ℕ) (w' : List ℕ) : Type 0 where
   pub here : is_open (slice_index w' p) ≡ not (is_open (slice_index w p))
   pub others : (q : ℕ) → q ≢ p → is_open (slice_index w' q) ≡ is_open (slice_index w q)
+
+-- a move of a row is due at port p
+abbrev pub IsRowDue : ℕ → List ℕ → Type 0
+IsRowDue p w = (row : Row) × (d : Due) × (row_due row p (slice_index w p) ≡ Some d)

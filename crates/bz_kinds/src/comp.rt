@@ -12,7 +12,7 @@ ghost use Rattle.bz_kinds.specs.Comp.{IsAt, IsDue, Goes, plan_due};
 
 use crate::error::KindError;
 use crate::move_iter::MoveIter;
-use crate::ports::Ports;
+use crate::ports::{CLOSED_DUE, Ports};
 use crate::row::{Due, Plan};
 use crate::shape::{SLOTS, shape_of};
 use crate::{cells, enclosed, in_turn, script, together};
@@ -76,20 +76,14 @@ pub fn next(comp: &Comp, port: u32) -> Option<Move>
     ensures only { (h : Head) → IsHeadOn comp.now.proc port h → result ≡ Some h.move }
     ensures one { HasOneHead comp.now.proc.todo }
 {
-    match due_at(&comp.plan, port, comp.ports.get(port)) {
-        Some(due) => Some(due.mv),
-        None => None,
-    }
+    due_at(&comp.plan, port, comp.ports.get(port)).map(|due| due.mv)
 }
 
 /// Whether a component can move at a port whose channel has this phase.
 pub fn enabled(comp: &Comp, port: u32, phase: Phase) -> bool
     ensures { IsTrue result ↔ CanMove comp.now.proc port phase }
 {
-    match next(comp, port) {
-        Some(mv) => phase.allows(mv),
-        None => false,
-    }
+    next(comp, port).is_some_and(|mv| phase.allows(mv))
 }
 
 /// Makes the move at a port whose channel has this phase: the move, and the value that it carries.
@@ -99,8 +93,7 @@ pub fn apply(comp: &mut Comp, port: u32, phase: Phase) -> (Move, Option<Value>)
     ensures turns { Turns comp.old port result.0 comp.new }
     ensures chans { comp.new.chans ≡ comp.old.chans }
 {
-    let number = comp.ports.get(port);
-    let Some(due) = due_at(&comp.plan, port, number) else {
+    let Some(due) = due_at(&comp.plan, port, comp.ports.get(port)) else {
         unreachable!()
     };
     let incoming = phase.incoming(due.mv);
@@ -154,7 +147,7 @@ fn first_only(alloc: Global, count: usize) -> Result<Ports, AllocError>
     ensures { IfOk result (λ w. w ≡ slice_set (replicate count 0) 1 1) }
 {
     let mut ports = Ports::new(alloc, count)?;
-    ports.set(1, 1);
+    ports.set(1, CLOSED_DUE);
     Ok(ports)
 }
 
@@ -163,7 +156,7 @@ fn from_first(alloc: Global, count: usize) -> Result<Ports, AllocError>
     ensures { IfOk result (λ w. IsAllDue count w) }
 {
     let mut ports = Ports::new(alloc, count)?;
-    ports.set_from(1, 1);
+    ports.set_from(1, CLOSED_DUE);
     Ok(ports)
 }
 
@@ -212,20 +205,9 @@ fn advance(plan: &Plan, size: u32, left: &mut u32, ports: &mut Ports, port: u32)
     requires due { IsDue plan.now port ports.old }
     ensures { Goes plan.now size left.old ports.old port left.new ports.new }
 {
-    let number = ports.get(port);
     match plan {
-        Plan::InTurn(_) => match (port, number) {
-            (1, 1) => in_turn::take(ports, left, size),
-            (1, _) => in_turn::reply(ports, left, size),
-            (_, 1) => in_turn::ask(ports, left, size, port - 2),
-            _ => in_turn::got(ports, left, size, port - 2),
-        },
-        Plan::Together(_) => match (port, number) {
-            (1, 1) => together::take(ports, left, size),
-            (1, _) => together::reply(ports, left, size),
-            (_, 1) => together::ask(ports, left, size, port - 2),
-            _ => together::got(ports, left, size, port - 2),
-        },
+        Plan::InTurn(_) => in_turn::step(ports, left, size, port),
+        Plan::Together(_) => together::step(ports, left, size, port),
         Plan::Cells => cells::step(ports, size, port),
         Plan::OneByOne(script) => script::step(*script, ports, left, port),
     }

@@ -21,3 +21,5 @@ pub use move_iter::MoveIter;
 pub use naming::kind_of;
 pub use table::{PortRow, is_passive, kinds_are, port_table, sizes_fit, widths_fit};
 
+#[cfg(test)]
+mod tests;

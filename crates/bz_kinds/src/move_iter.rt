@@ -70,8 +70,5 @@ impl<'a> Iterator for MoveIter<'a> {
 fn may_make(plan: &Plan, ports: &Ports, port: u32, phase: Phase) -> bool
     ensures { result ≡ may_make (plan_due plan.now port (slice_index ports.now port)) phase }
 {
-    match due_at(plan, port, ports.get(port)) {
-        Some(due) => phase.allows(due.mv),
-        None => false,
-    }
+    due_at(plan, port, ports.get(port)).is_some_and(|due| phase.allows(due.mv))
 }

@@ -4,7 +4,7 @@ ghost use Rattle.std.specs.Prelude.{◌≡◌, Some, length, slice_index};
 ghost use Rattle.bz_kinds.specs.declared.row.Due.{Due};
 ghost use Rattle.bz_kinds.specs.Script.{numbers, script_due, taken_into, Steps};
 
-use crate::ports::Ports;
+use crate::ports::{CLOSED, CLOSED_DUE, OPEN, OPEN_DUE, Ports};
 use crate::row::{Due, Script};
 use bz_model::{Expr, Move};
 
@@ -23,9 +23,9 @@ pub fn due(script: Script, port: u32, number: u8) -> Option<Due>
     ensures { result ≡ script_due script port number }
 {
     let (mv, into) = match (port, number) {
-        (_, 0 | 2) => return None,
-        (1, 1) => (Move::Take, taken_into(script)),
-        (_, 1) => (Move::Ask, 0),
+        (_, CLOSED | OPEN) => return None,
+        (1, CLOSED_DUE) => (Move::Take, taken_into(script)),
+        (_, CLOSED_DUE) => (Move::Ask, 0),
         _ => (Move::Got, 1),
     };
     Some(Due {
@@ -52,20 +52,20 @@ pub fn step(script: Script, ports: &mut Ports, stage: &mut u32, port: u32)
 {
     match (script, *stage) {
         (Script::Loop, 0) => {
-            ports.set(1, 2);
-            ports.set(2, 1);
+            ports.set(1, OPEN);
+            ports.set(2, CLOSED_DUE);
             *stage = 1;
         }
         (Script::Loop, 1) => {
-            ports.set(2, 3);
+            ports.set(2, OPEN_DUE);
             *stage = 2;
         }
         (Script::Loop, _) => {
-            ports.set(2, 1);
+            ports.set(2, CLOSED_DUE);
             *stage = 1;
         }
         (Script::Halt(_), _) => {
-            ports.set(1, 2);
+            ports.set(1, OPEN);
             *stage = 1;
         }
     }

@@ -1,29 +1,18 @@
-use Rattle.std.proofs.Common.{◌≡◌, ap, Some, get_or}
+use Rattle.std.proofs.Common.{◌≡◌, get_or, arith}
+use Rattle.std.specs.Option.{option_map}
 use Rattle.bz_kinds.specs.declared.row.Due.{Due}
-use Rattle.bz_kinds.specs.Row.{due_of}
 use Rattle.bz_kinds.specs.Comp.{plan_due}
-use Rattle.bz_kinds.proofs.PlanLaws.{head-on-due, due-on-head, one-head-on}
+use Rattle.bz_kinds.proofs.PlanLaws.{next-some, next-only, one-head-on}
 use Rattle.bz_kinds.proofs.comp.next.Goals as goal
 
-pub returns-in-Some-clause-some : goal.returns-in-Some-clause-some
-returns-in-Some-clause-some c =
-    let found : plan_due c.comp.inside.plan c.args.port (get_or c.comp.inside.ports c.args.port 0) ≡ Some c.in-Some.due = cc in
-    let (h, on, is) = due-on-head _ _ _ _ _ _ _ c.comp.view_is c.comp.invariant.0 c.args.port c.in-Some.due found in
-    (h, on, cc)
+is_due : (c : goal.After-map) → c.map.result ≡ option_map (λ (d : Due). d.mv) (plan_due c.comp.inside.plan c.args.port (get_or c.comp.inside.ports c.args.port 0))
+is_due c = grind (arith)
 
-pub returns-in-Some-clause-only : goal.returns-in-Some-clause-only
-returns-in-Some-clause-only c h on =
-    let due = head-on-due _ _ _ _ _ _ _ c.comp.view_is c.comp.invariant.0 c.args.port h on in
-    let same : c.in-Some.due ≡ due_of h = cc in
-    ap (λ (d : Due). Some d.mv) same
+pub returns-clause-some : goal.returns-clause-some
+returns-clause-some c = next-some _ _ _ _ _ _ _ c.comp.view_is c.comp.invariant.0 c.args.port c.map.result (is_due c)
 
-pub returns-in-Some-clause-one : goal.returns-in-Some-clause-one
-returns-in-Some-clause-one c = one-head-on _ _ _ _ _ _ _ c.comp.view_is c.comp.invariant.0
+pub returns-clause-only : goal.returns-clause-only
+returns-clause-only c = next-only _ _ _ _ _ _ _ c.comp.view_is c.comp.invariant.0 c.args.port c.map.result (is_due c)
 
-pub returns-in-None-clause-only : goal.returns-in-None-clause-only
-returns-in-None-clause-only c h on =
-    let due = head-on-due _ _ _ _ _ _ _ c.comp.view_is c.comp.invariant.0 c.args.port h on in
-    absurd (cc)
-
-pub returns-in-None-clause-one : goal.returns-in-None-clause-one
-returns-in-None-clause-one c = one-head-on _ _ _ _ _ _ _ c.comp.view_is c.comp.invariant.0
+pub returns-clause-one : goal.returns-clause-one
+returns-clause-one c = one-head-on _ _ _ _ _ _ _ c.comp.view_is c.comp.invariant.0

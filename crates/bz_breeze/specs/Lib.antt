@@ -1,0 +1,6 @@
+pub mod Records
+pub mod Turns
+pub mod Forms
+pub mod Faults
+pub mod Parts
+pub mod Views

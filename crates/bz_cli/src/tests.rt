@@ -1,0 +1,252 @@
+use super::*;
+use bz_model::{Cmd, HostCmd, Value, Verb};
+use std::alloc::{AllocError, Global};
+use std::io;
+use std::io::Read;
+use std::test::Fail;
+
+/// A reader of so many bytes, a few at a time, that fails at its end or tells of it.
+#[derive(Drop)]
+struct Stream {
+    left: usize,
+    at_once: usize,
+    fails: bool,
+}
+
+impl Read for Stream {
+    fn read(&mut self, buf: &mut [u8]) -> io::Result<usize> {
+        if self.left == 0 && self.fails {
+            return Err(io::Error::from(io::ErrorKind::BrokenPipe));
+        }
+        let n = buf.len().min(self.left).min(self.at_once);
+        for byte in buf[..n].iter_mut() {
+            *byte = b'a';
+        }
+        self.left -= n;
+        Ok(n)
+    }
+}
+
+#[test]
+fn reads_the_whole_input(rt: HostRuntime) -> Result<(), Fail> {
+    let alloc = rt.alloc();
+    let whole = b"(breeze-part \"p\")\n\x00\xff";
+    let mut input = whole.as_slice();
+    let text = read_input(alloc, &mut input)?;
+    assert_eq!(rt; text.as_slice(), whole.as_slice());
+    assert!(rt; input.is_empty());
+    let text = read_input(alloc, &mut input)?;
+    assert!(rt; text.is_empty());
+    for (left, at_once) in [
+        (1, 1),
+        (8191, 8192),
+        (8192, 8192),
+        (8193, 8192),
+        (20_000, 7),
+    ] {
+        let mut input = Stream {
+            left,
+            at_once,
+            fails: false,
+        };
+        let text = read_input(alloc, &mut input)?;
+        assert_eq!(rt; text.len(), left);
+        assert!(rt; text.iter().all(|byte| *byte == b'a'));
+    }
+    Ok(())
+}
+
+#[test]
+fn reads_up_to_the_limit(rt: HostRuntime) -> Result<(), Fail> {
+    let alloc = rt.alloc();
+    let mut input = Stream {
+        left: 67_108_864,
+        at_once: 1 << 20,
+        fails: false,
+    };
+    assert_eq!(rt; read_input(alloc, &mut input)?.len(), 67_108_864);
+    let mut input = Stream {
+        left: 67_108_870,
+        at_once: 1 << 20,
+        fails: false,
+    };
+    assert_eq!(rt; read_input(alloc, &mut input), Err(InputFault::Read));
+    assert_eq!(rt; input.left, 5);
+    Ok(())
+}
+
+#[test]
+fn stops_where_the_reader_fails(rt: HostRuntime) -> Result<(), Fail> {
+    let alloc = rt.alloc();
+    for left in [0, 1, 8192, 10_000] {
+        let mut input = Stream {
+            left,
+            at_once: 100,
+            fails: true,
+        };
+        assert_eq!(rt; read_input(alloc, &mut input), Err(InputFault::Read));
+    }
+    Ok(())
+}
+
+/// A host command.
+fn host(alloc: Global, verb: Verb, port: &[u8], value: Option<Value>) -> Result<Cmd, AllocError> {
+    let port = Vec::from_slice(alloc, port)?;
+    Ok(Cmd::Host(HostCmd { verb, port, value }))
+}
+
+#[test]
+fn reads_commands(rt: HostRuntime) -> Result<(), Fail> {
+    let alloc = rt.alloc();
+    let sessions = parse_words(alloc, &["offer:i:5", "run:9", "watch:o"])?;
+    assert_eq!(rt; sessions.len(), 1);
+    let first = host(alloc, Verb::Offer, b"i", Some(5))?;
+    let last = host(alloc, Verb::Watch, b"o", None)?;
+    assert_eq!(rt;
+        sessions[0].as_slice(),
+        [first, Cmd::Run(9), last].as_slice()
+    );
+    Ok(())
+}
+
+#[test]
+fn reads_names_freely(rt: HostRuntime) -> Result<(), Fail> {
+    let alloc = rt.alloc();
+    let cases: [(&str, Verb, &[u8], Option<Value>); 11] = [
+        ("offer:activate", Verb::Offer, b"activate", None),
+        ("offer:i:0", Verb::Offer, b"i", Some(0)),
+        ("offer:i:00012", Verb::Offer, b"i", Some(12)),
+        (
+            "offer:i:18446744073709551615",
+            Verb::Offer,
+            b"i",
+            Some(Value::MAX),
+        ),
+        ("offer:%:5", Verb::Offer, b"", Some(5)),
+        ("watch:%", Verb::Watch, b"", None),
+        ("watch:%61", Verb::Watch, b"a", None),
+        ("watch:a%3ab%3Ac%25", Verb::Watch, b"a:b:c%", None),
+        ("watch:%Ff%00", Verb::Watch, b"\xff\x00", None),
+        ("watch:[0] /", Verb::Watch, b"[0] /", None),
+        ("watch:\u{e9}", Verb::Watch, b"\xc3\xa9", None),
+    ];
+    for (word, verb, port, value) in cases {
+        let sessions = parse_words(alloc, &[word])?;
+        assert_eq!(rt; sessions.len(), 1);
+        let command = host(alloc, verb, port, value)?;
+        assert_eq!(rt; sessions[0].as_slice(), [command].as_slice());
+    }
+    Ok(())
+}
+
+#[test]
+fn reads_counts(rt: HostRuntime) -> Result<(), Fail> {
+    let alloc = rt.alloc();
+    let cases = [
+        ("run:0", 0),
+        ("run:007", 7),
+        ("run:100", 100),
+        ("run:18446744073709551615", u64::MAX),
+    ];
+    for (word, count) in cases {
+        let sessions = parse_words(alloc, &[word])?;
+        assert_eq!(rt; sessions.len(), 1);
+        assert_eq!(rt; sessions[0].as_slice(), [Cmd::Run(count)].as_slice());
+    }
+    Ok(())
+}
+
+#[test]
+fn names_the_first_bad_word(rt: HostRuntime) -> Result<(), Fail> {
+    let alloc = rt.alloc();
+    let bad = [
+        "",
+        "offer",
+        "offer:",
+        "offer:i:",
+        "offer::5",
+        "offer:i:x",
+        "offer:i:-1",
+        "offer:i:+5",
+        "offer:i:5:6",
+        "offer:i:18446744073709551616",
+        "Offer:i",
+        " offer:i",
+        "go:i",
+        "watch:",
+        "watch:i:5",
+        "watch:%a",
+        "watch:a%",
+        "watch:%%",
+        "watch:%6",
+        "watch:%g1",
+        "watch:%1g",
+        "watch:i:",
+        "run",
+        "run:",
+        "run:+5",
+        "run:5:6",
+        "run:1x",
+        "run:18446744073709551616",
+        "//",
+        ":",
+        "%",
+        "collect:i",
+        "accept:i",
+        "accept:i:5",
+        "answer:i",
+        "answer:i:5",
+    ];
+    for word in bad {
+        assert_eq!(rt; parse_words(alloc, &[word]), Err(SessionError::BadWord(1)));
+        let words = ["watch:o", "/", word, "run:+5"];
+        assert_eq!(rt; parse_words(alloc, &words), Err(SessionError::BadWord(3)));
+    }
+    Ok(())
+}
+
+#[test]
+fn splits_sessions(rt: HostRuntime) -> Result<(), Fail> {
+    let alloc = rt.alloc();
+    let sessions = parse_words(alloc, &[])?;
+    assert_eq!(rt; sessions.len(), 1);
+    assert!(rt; sessions[0].is_empty());
+
+    let sessions = parse_words(alloc, &["/", "run:1", "run:2", "/", "/", "run:3"])?;
+    let wanted: [&[Cmd]; 4] = [&[], &[Cmd::Run(1), Cmd::Run(2)], &[], &[Cmd::Run(3)]];
+    assert_eq!(rt; sessions.len(), 4);
+    for (session, commands) in sessions.iter().zip(wanted) {
+        assert_eq!(rt; session.as_slice(), commands);
+    }
+
+    let words = ["/"; 17];
+    assert_eq!(rt; parse_words(alloc, &words[..15])?.len(), 16);
+    assert_eq!(rt;
+        parse_words(alloc, &words[..16]),
+        Err(SessionError::BadWord(16))
+    );
+    assert_eq!(rt; parse_words(alloc, &words), Err(SessionError::BadWord(16)));
+    Ok(())
+}
+
+#[test]
+fn shows_its_faults(rt: HostRuntime) -> Result<(), Fail> {
+    let alloc = rt.alloc();
+    assert_eq!(rt;
+        format!(in alloc; "{}", InputFault::Read)?.as_str(),
+        "F1 Read"
+    );
+    assert_eq!(rt;
+        format!(in alloc; "{}", InputFault::Memory)?.as_str(),
+        "F3 Memory"
+    );
+    assert_eq!(rt;
+        format!(in alloc; "{}", SessionError::BadWord(12))?.as_str(),
+        "H1 BadWord 12"
+    );
+    assert_eq!(rt;
+        format!(in alloc; "{}", SessionError::Memory)?.as_str(),
+        "F3 Memory"
+    );
+    Ok(())
+}

@@ -1,0 +1,126 @@
+-- The net as far as the walk has come.
+use Rattle.std.specs.Prelude.{◌≡◌, ℕ, zero, suc, ◌+◌, ◌-◌, ◌<◌, ◌≤◌, ⊤, IsTrue, Some, List, [], ◌∷◌, ◌++◌, length, map, drop, slice_get, slice_index_or}
+use Rattle.std.specs.List.{flat_map, All}
+use Rattle.bz_model.specs.declared.channel.Chan.{Chan}
+use Rattle.bz_model.specs.declared.kind.Kind.{Kind}
+use Rattle.bz_model.specs.Rows.{row_of, ports_of, has_widths}
+use Rattle.bz_breeze.specs.declared.part.Part.{Part}
+use Rattle.bz_breeze.specs.declared.part.Component.{Component}
+use Rattle.bz_elab.specs.declared.error.ElabError.{ElabError}
+use Rattle.bz_elab.specs.declared.error.ElabError.TheVariants.{TooBig, Memory}
+use Rattle.bz_elab.specs.declared.flat.FlatComp.{FlatComp}
+use Rattle.bz_elab.specs.declared.walk.Draft.{Draft}
+use Rattle.bz_elab.specs.Entries.{flattened, sizes_of, arranged, FitsPorts}
+use Rattle.bz_elab.specs.Paths.{Path, Place, Role, instance, of_kind, Stop, copy, leaf, component, copied, joined, role, leaf_role, each_from, visit, walk, own_chans, own_places, most_instances}
+use Rattle.bz_elab.specs.Refusals.{IsChannel, kinds_of, widths_of, chans_of, actuals_of, formals_of, own_ends, IsTooMany, AppliesTo}
+
+-- What one component has to be.
+
+pub record IsSoundLeaf (chans : List Chan) (c : Component) (kind : Kind) : Type 0 where
+  pub fits : FitsPorts kind c.entries.items
+  pub within : All (IsChannel chans) (flattened c.entries.items)
+  pub kinds : kinds_of (chans_of chans kind c.entries.items) ≡ map (λ r. r.kind) (ports_of (row_of kind) (sizes_of c.entries.items))
+  pub widths : IsTrue (has_widths kind (chans_of chans kind c.entries.items))
+
+pub record IsSoundInstance (chans : List Chan) (c : Component) (part : Part) : Type 0 where
+  pub count : length (flattened c.entries.items) ≡ length part.ports.items
+  pub within : All (IsChannel chans) (flattened c.entries.items)
+  pub kinds : kinds_of (actuals_of chans c.entries.items) ≡ kinds_of (formals_of part)
+  pub widths : widths_of (actuals_of chans c.entries.items) ≡ widths_of (formals_of part)
+
+abbrev pub IsSound : List Chan → Component → Role → Type 0
+IsSound chans c (of_kind kind) = IsSoundLeaf chans c kind
+IsSound chans c (instance part) = IsSoundInstance chans c part
+IsSound chans c role = ⊥
+
+-- a component that is no instance, by the numbers of its part's channels
+pub record IsFlat (chans : List Chan) (c : Component) (f : FlatComp) : Type 0 where
+  pub role_is : leaf_role c ≡ of_kind f.kind
+  pub sizes_are : f.sizes ≡ sizes_of c.entries.items
+  pub chans_are : f.chans.items ≡ arranged f.kind c.entries.items
+  pub sound : IsSoundLeaf chans c f.kind
+
+-- each component of a part is sound
+abbrev pub IsSoundPart : List Part → Part → Type 0
+IsSoundPart parts part = (i : ℕ) (c : Component) → component part i ≡ Some c → IsSound part.channels.items c (role parts c)
+
+-- a part and all that it reaches is sound, and no path goes on for more than so many instances
+pub record IsSoundBelow (parts : List Part) (part : Part) (depth : ℕ) : Type 0 where
+  pub short : (below : Path) (q : Part) → copied parts part below ≡ Some q → length below ≤ depth
+  pub sound : (below : Path) (q : Part) → copied parts part below ≡ Some q → IsSoundPart parts q
+
+-- Numbers of places. Number k is this place's, by the list of all places so far.
+
+abbrev pub IsNumber : List Place → Place → ℕ → Type 0
+IsNumber places place k = (0 < k) × (slice_get places (k - 1) ≡ Some place)
+
+abbrev pub AreNumbers : List Place → List Place → List ℕ → Type 0
+AreNumbers places [] [] = Unit {0}
+AreNumbers places [] (k ∷ ks) = ⊥
+AreNumbers places (p ∷ ps) [] = ⊥
+AreNumbers places (p ∷ ps) (k ∷ ks) = IsNumber places p k × AreNumbers places ps ks
+
+-- n numbers from k on
+abbrev pub numbers_from : ℕ → ℕ → List ℕ
+numbers_from k zero = []
+numbers_from k (suc n) = k ∷ numbers_from (suc k) n
+
+-- the channels of the copy at a path are these
+abbrev pub CopyNumbers : List Part → Part → List Place → Path → List ℕ → Type 0
+CopyNumbers parts top places path chans =
+    (c : ℕ) → 0 < c → c ≤ length chans → IsNumber places (joined parts top path c) (slice_index_or chans (c - 1) 0)
+
+-- channels of a copy, by their numbers in the part and in the net
+abbrev pub AreActuals : List ℕ → List ℕ → List ℕ → Type 0
+AreActuals chans [] [] = Unit {0}
+AreActuals chans [] (k ∷ ks) = ⊥
+AreActuals chans (e ∷ es) [] = ⊥
+AreActuals chans (e ∷ es) (k ∷ ks) = (0 < e) × (e ≤ length chans) × (k ≡ slice_index_or chans (e - 1) 0) × AreActuals chans es ks
+
+-- a component of the net is that of a leaf, on the channels that its entries come to
+pub record IsLeaf (parts : List Part) (top : Part) (places : List Place) (path : Path) (c : Component) (f : FlatComp) : Type 0 where
+  pub role_is : leaf_role c ≡ of_kind f.kind
+  pub sizes_are : f.sizes ≡ sizes_of c.entries.items
+  pub chans : AreNumbers places (map (joined parts top path) (arranged f.kind c.entries.items)) f.chans.items
+
+abbrev pub AreLeaves : List Part → Part → List Place → List Stop → List FlatComp → Type 0
+AreLeaves parts top places [] [] = Unit {0}
+AreLeaves parts top places [] (f ∷ fs) = ⊥
+AreLeaves parts top places (copy path part ∷ stops) fs = AreLeaves parts top places stops fs
+AreLeaves parts top places (leaf path c ∷ stops) [] = ⊥
+AreLeaves parts top places (leaf path c ∷ stops) (f ∷ fs) = IsLeaf parts top places path c f × AreLeaves parts top places stops fs
+
+-- the net grew by the channels and components of these stops
+pub record Grows (parts : List Part) (top : Part) (before : List Place) (old new : Draft) (stops : List Stop) : Type 0 where
+  pub comps : List FlatComp
+  pub chans_are : new.chans.items ≡ old.chans.items ++ flat_map own_chans stops
+  pub comps_are : new.comps.items ≡ old.comps.items ++ comps
+  pub ends_are : new.ends ≡ old.ends + length (flat_map own_ends stops)
+  pub leaves : AreLeaves parts top (before ++ flat_map own_places stops) stops comps
+
+-- what lies below the copy of a part, with at most so many instances more on a path
+abbrev pub below_copy : List Part → Path → ℕ → Part → List Stop
+below_copy parts path depth part = each_from 1 (visit parts path (walk parts depth)) part.components.items
+
+abbrev pub Flattened : List Part → Part → List ℕ → ℕ → Draft → Draft → Type 0
+Flattened parts part chans depth old new =
+    (top : Part) (path : Path) (before : List Place) → copied parts top path ≡ Some part → length before ≡ length old.chans.items
+    → CopyNumbers parts top before path chans → Grows parts top before old new (below_copy parts path depth part)
+
+-- a copy was entered: the channels of its part but for its ports were added, and `chans` are all of them
+pub record Entered (old new : Draft) (part : Part) (ports : ℕ) (actuals chans : List ℕ) : Type 0 where
+  pub chans_are : new.chans.items ≡ old.chans.items ++ drop ports part.channels.items
+  pub comps_are : new.comps.items ≡ old.comps.items
+  pub ends_are : new.ends ≡ old.ends
+  pub numbers : chans ≡ actuals ++ numbers_from (suc (length old.chans.items)) (length part.channels.items - ports)
+
+-- why the walk of the net of `top` ends at these stops
+abbrev pub EndsWalk : List Part → Part → Draft → List Stop → ElabError → Type 0
+EndsWalk parts top old stops Memory = ⊤
+EndsWalk parts top old stops TooBig = IsTooMany (length old.comps.items) (length old.chans.items) old.ends stops
+EndsWalk parts top old stops e = AppliesTo parts top e
+
+abbrev pub Fails : List Part → Part → ℕ → Draft → ElabError → Type 0
+Fails parts part depth old e =
+    (top : Part) (path : Path) → copied parts top path ≡ Some part → length path + depth ≡ most_instances
+    → EndsWalk parts top old (below_copy parts path depth part) e

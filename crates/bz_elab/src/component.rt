@@ -1,0 +1,284 @@
+//! One component of a part: what it is, and whether its entries are what its kind or its part asks for.
+
+ghost use Rattle.std.specs.Prelude.{◌≡◌, ◌<◌, ◌≤◌, ◌⊎◌, ◌↔◌, ◌+◌, ℕ, length, map, not, count_by, slice_get, slice_index_or, IsTrue, IfOk, IfErr};
+ghost use Rattle.std.specs.List.{All};
+ghost use Rattle.std.specs.Option.{option_copied};
+ghost use Rattle.bz_model.specs.Rows.{row_of};
+ghost use Rattle.bz_model.specs.Nets.{chan_in};
+ghost use Rattle.bz_kinds.specs.Table.{seen};
+ghost use Rattle.bz_elab.specs.declared.error.Fault.TheVariants as fault;
+ghost use Rattle.bz_elab.specs.Entries.{flattened, singles, lists, single_of, list_of, sizes_of, in_row, FitsPorts};
+ghost use Rattle.bz_elab.specs.Paths.{leaf_role, of_kind, instance};
+ghost use Rattle.bz_elab.specs.Refusals.{HasFault, IsChannel, kinds_of, widths_of, formals_of, HasPortChannels};
+ghost use Rattle.bz_elab.specs.Growth.{IsFlat, IsSoundInstance};
+
+use crate::error::Fault;
+use crate::flat::FlatComp;
+use bz_breeze::{Component, Part, Slot};
+use bz_kinds::{PortRow, kind_of, kinds_are, port_table, sizes_fit, widths_fit};
+use bz_model::{Chan, ChanKind, Kind, MAX_MEMBERS};
+use std::alloc::{AllocError, Global};
+
+/// A component that is no instance, by the numbers that its part's channels have in that part.
+pub fn leaf_of(alloc: Global, channels: &[Chan], component: &Component) -> Result<FlatComp, Fault>
+    ensures ok { IfOk result (IsFlat channels.now component.now) }
+    ensures err { IfErr result (λ f. (f ≡ fault.Memory) ⊎ HasFault channels.now component.now (leaf_role component.now) f) }
+{
+    let entries = component.entries.as_slice();
+    let kind = kind_of(
+        alloc,
+        component.name.as_slice(),
+        component.params.as_slice(),
+    )?;
+    if !fits_ports(&kind, entries) {
+        return Err(Fault::PortCount);
+    }
+    let named = flattened(alloc, entries)?;
+    if !are_channels(named.as_slice(), channels.len()) {
+        return Err(Fault::BadChannel);
+    }
+    let sizes = sizes_of(entries);
+    let chans = arranged(alloc, port_table(&kind), entries)?;
+    let carried = carried(alloc, channels, chans.as_slice())?;
+    if !kinds_are(&kind, sizes, carried.as_slice()) {
+        return Err(Fault::KindMismatch);
+    }
+    if !widths_fit(&kind, carried.as_slice()) {
+        return Err(Fault::WidthMismatch);
+    }
+    Ok(FlatComp { kind, sizes, chans })
+}
+
+/// The channels that an instance's entries name, by their numbers in the part that it is a component of.
+pub fn instance_of(
+    alloc: Global,
+    channels: &[Chan],
+    component: &Component,
+    inner: &Part,
+) -> Result<Vec<u32>, Fault>
+    requires { HasPortChannels inner.now }
+    ensures ok { IfOk result (λ v. (v.items ≡ flattened component.now.entries.items) × IsSoundInstance channels.now component.now inner.now) }
+    ensures err { IfErr result (λ f. (f ≡ fault.Memory) ⊎ HasFault channels.now component.now (instance inner.now) f) }
+{
+    let named = flattened(alloc, component.entries.as_slice())?;
+    if named.len() != inner.ports.len() {
+        return Err(Fault::PortCount);
+    }
+    if !are_channels(named.as_slice(), channels.len()) {
+        return Err(Fault::BadChannel);
+    }
+    let carried = carried(alloc, channels, named.as_slice())?;
+    let asked = &inner.channels[..inner.ports.len()];
+    if !have_kinds(carried.as_slice(), asked) {
+        return Err(Fault::KindMismatch);
+    }
+    if !have_widths(carried.as_slice(), asked) {
+        return Err(Fault::WidthMismatch);
+    }
+    Ok(named)
+}
+
+// All channels that entries name, in order.
+fn flattened(alloc: Global, entries: &[Slot]) -> Result<Vec<u32>, AllocError>
+    ensures { IfOk result (λ v. v.items ≡ flattened entries.now) }
+{
+    let mut named = Vec::new(alloc);
+    for entry in entries {
+        match entry {
+            Slot::One(chan) => named.push(*chan)?,
+            Slot::Many(chans) => named.extend_from_slice(chans.as_slice())?,
+        }
+    }
+    Ok(named)
+}
+
+// The single entry at a place among the single entries.
+fn single(entries: &[Slot], place: usize) -> Option<u32>
+    ensures { result ≡ slice_get (singles entries.now) place }
+{
+    let mut before = 0;
+    for entry in entries {
+        if let Slot::One(chan) = entry {
+            if before == place {
+                return Some(*chan);
+            }
+            before += 1;
+        }
+    }
+    None
+}
+
+// The list at a place among the lists.
+fn list(entries: &[Slot], place: usize) -> Option<&[u32]>
+    ensures { option_copied result ≡ slice_get (lists entries.now) place }
+{
+    let mut before = 0;
+    for entry in entries {
+        if let Slot::Many(chans) = entry {
+            if before == place {
+                return Some(chans.as_slice());
+            }
+            before += 1;
+        }
+    }
+    None
+}
+
+// Whether the entries are what a kind's ports ask for.
+fn fits_ports(kind: &Kind, entries: &[Slot]) -> bool
+    ensures { IsTrue result ↔ FitsPorts kind.now entries.now }
+{
+    has_entries(port_table(kind), entries)
+        && has_members(entries)
+        && sizes_fit(kind, sizes_of(entries))
+}
+
+// Whether there is a single entry for each single port and a list for each array.
+fn has_entries(rows: &[PortRow], entries: &[Slot]) -> bool
+    ensures { IsTrue result ↔ (length (singles entries.now) ≡ count_by (λ r. not r.array) (map seen rows.now)) × (length (lists entries.now) ≡ count_by (λ r. r.array) (map seen rows.now)) }
+{
+    let arrays = array_count(rows);
+    let listed = list_count(entries);
+    listed == arrays && entries.len() - listed == rows.len() - arrays
+}
+
+fn array_count(rows: &[PortRow]) -> usize
+    ensures count { result ≡ count_by (λ r. r.array) (map seen rows.now) }
+    ensures within { result ≤ length rows.now }
+{
+    let mut count = 0;
+    for row in rows {
+        if row.array {
+            count += 1;
+        }
+    }
+    count
+}
+
+fn list_count(entries: &[Slot]) -> usize
+    ensures count { result ≡ length (lists entries.now) }
+    ensures within { result ≤ length entries.now }
+{
+    let mut count = 0;
+    for entry in entries {
+        if let Slot::Many(_) = entry {
+            count += 1;
+        }
+    }
+    count
+}
+
+// Whether no list is longer than an array may be.
+fn has_members(entries: &[Slot]) -> bool
+    ensures { IsTrue result ↔ All (λ l. length l ≤ MAX_MEMBERS) (lists entries.now) }
+{
+    for entry in entries {
+        match entry {
+            Slot::One(_) => {}
+            Slot::Many(chans) => {
+                if chans.len() > MAX_MEMBERS as usize {
+                    return false;
+                }
+            }
+        }
+    }
+    true
+}
+
+// The lengths of the lists, in order, 0 where there is none.
+fn sizes_of(entries: &[Slot]) -> [u32; 2]
+    requires { All (λ l. length l ≤ MAX_MEMBERS) (lists entries.now) }
+    ensures { result ≡ sizes_of entries.now }
+{
+    [size_at(entries, 0), size_at(entries, 1)]
+}
+
+fn size_at(entries: &[Slot], place: usize) -> u32
+    requires { All (λ l. length l ≤ MAX_MEMBERS) (lists entries.now) }
+    ensures { result ≡ slice_index_or (map length (lists entries.now)) place 0 }
+{
+    match list(entries, place) {
+        Some(chans) => chans.len() as u32,
+        None => 0,
+    }
+}
+
+// The channels of a component's ports, in the order of a row.
+fn arranged(alloc: Global, rows: &[PortRow], entries: &[Slot]) -> Result<Vec<u32>, AllocError>
+    ensures { IfOk result (λ v. v.items ≡ in_row (map seen rows.now) (singles entries.now) (lists entries.now)) }
+{
+    let mut chans = Vec::new(alloc);
+    let mut ones = 0;
+    let mut manys = 0;
+    for row in rows {
+        if row.array {
+            match list(entries, manys) {
+                Some(members) => chans.extend_from_slice(members)?,
+                None => {}
+            }
+            manys += 1;
+        } else {
+            match single(entries, ones) {
+                Some(chan) => chans.push(chan)?,
+                None => {}
+            }
+            ones += 1;
+        }
+    }
+    Ok(chans)
+}
+
+// Whether all numbers are those of channels, of which there are so many.
+fn are_channels(numbers: &[u32], count: usize) -> bool
+    ensures { IsTrue result ↔ All (λ k. (0 < k) × (k ≤ count)) numbers.now }
+{
+    numbers.iter().all(|k| 0 < *k && *k as usize <= count)
+}
+
+// The channels of these numbers.
+fn carried(alloc: Global, channels: &[Chan], numbers: &[u32]) -> Result<Vec<Chan>, AllocError>
+    requires { All (IsChannel channels.now) numbers.now }
+    ensures { IfOk result (λ v. v.items ≡ map (chan_in channels.now) numbers.now) }
+{
+    let mut carried = Vec::new(alloc);
+    for number in numbers {
+        carried.push(channels[*number as usize - 1])?;
+    }
+    Ok(carried)
+}
+
+// Whether channels are of the same kinds as others, in order.
+fn have_kinds(chans: &[Chan], asked: &[Chan]) -> bool
+    ensures { IsTrue result ↔ (kinds_of chans.now ≡ kinds_of asked.now) }
+{
+    if chans.len() != asked.len() {
+        return false;
+    }
+    for (i, chan) in chans.iter().enumerate() {
+        if !is_same(chan.kind, asked[i].kind) {
+            return false;
+        }
+    }
+    true
+}
+
+fn is_same(kind: ChanKind, other: ChanKind) -> bool
+    ensures { IsTrue result ↔ (kind ≡ other) }
+{
+    kind == other
+}
+
+// Whether channels are of the same widths as others, in order.
+fn have_widths(chans: &[Chan], asked: &[Chan]) -> bool
+    ensures { IsTrue result ↔ (widths_of chans.now ≡ widths_of asked.now) }
+{
+    if chans.len() != asked.len() {
+        return false;
+    }
+    for (i, chan) in chans.iter().enumerate() {
+        if chan.width != asked[i].width {
+            return false;
+        }
+    }
+    true
+}

@@ -1,0 +1,119 @@
+//! The ends of each channel: which component holds which.
+
+ghost use Rattle.std.specs.Prelude.{◌≡◌, ◌<◌, ◌≤◌, ◌+◌, ◌-◌, ◌^◌, ℕ, List, length, map, slice_index_or, IfOk, IfErr};
+ghost use Rattle.bz_model.specs.Names.{external};
+ghost use Rattle.bz_model.specs.Nets.{Site};
+ghost use Rattle.bz_elab.specs.declared.error.ElabError.TheVariants.{Memory};
+ghost use Rattle.bz_elab.specs.Flats.{site_of, sites_of};
+ghost use Rattle.bz_elab.specs.Seats.{ChansFit, CompsFit, WellEnded, WiringFault, Seats, Seated, IsHere, Passed};
+
+use crate::error::ElabError;
+use crate::flat::{Ends, FlatComp};
+use bz_kinds::is_passive;
+use bz_model::Port;
+use std::alloc::Global;
+
+/// The ends of each channel, where each channel with a component end has one of each sense, the host holding the other
+/// one at an external port.
+pub fn wire(
+    alloc: Global,
+    comps: &[FlatComp],
+    ports: &[Port],
+    chans: u32,
+) -> Result<Vec<Ends>, ElabError>
+    requires fit { CompsFit chans (sites_of comps.now) }
+    requires ports_to { length ports.now ≤ chans }
+    ensures ok { IfOk result (λ ends. (length ends.items ≡ chans) × WellEnded (sites_of comps.now) (map external ports.now) ends.items) }
+    ensures err { IfErr result (WiringFault (sites_of comps.now) (map external ports.now)) }
+{
+    let (ends, least) = table(alloc, comps, chans)?;
+    if least != u32::MAX {
+        return Err(ElabError::TwoEnds(least));
+    }
+    for k in ports.len()..ends.len() {
+        let pair = ends[k];
+        if pair.active.is_some() != pair.passive.is_some() {
+            return Err(ElabError::LooseEnd(k as u32 + 1));
+        }
+    }
+    for (k, port) in ports.iter().enumerate() {
+        let pair = ends[k];
+        let at_host = if port.passive {
+            pair.active
+        } else {
+            pair.passive
+        };
+        if at_host.is_some() {
+            return Err(ElabError::PortSense(k as u32 + 1));
+        }
+    }
+    Ok(ends)
+}
+
+// The ends of each channel and the least channel with two of one sense, `u32::MAX` where there is none.
+fn table(alloc: Global, comps: &[FlatComp], chans: u32) -> Result<(Vec<Ends>, u32), ElabError>
+    requires { CompsFit chans (sites_of comps.now) }
+    ensures ok { IfOk result (λ r. (length r.0.items ≡ chans) × Seated (sites_of comps.now) (Passed (length comps.now + 1) 0) r.0.items r.1) }
+    ensures err { IfErr result (λ e. e ≡ Memory) }
+{
+    let none = Ends {
+        active: None,
+        passive: None,
+    };
+    let mut ends = vec![in alloc; none; chans as usize]?;
+    let mut least = u32::MAX;
+    for (i, comp) in comps.iter().enumerate() {
+        least = seat_comp(ends.as_mut_slice(), least, comp, i as u32 + 1);
+    }
+    Ok((ends, least))
+}
+
+// Notes all ends of a component; answers the least channel, with `clash`, at which one of its sense stood already.
+fn seat_comp(ends: &mut [Ends], clash: u32, comp: &FlatComp, number: u32) -> u32
+    requires number_from { 0 < number }
+    requires few { length comp.now.chans.items < 2 ^ 32 }
+    requires small { length ends.old < 2 ^ 32 - 1 }
+    requires within { ChansFit (length ends.old) comp.now.chans.items }
+    ensures { (sites : List Site) → IsHere sites number (site_of comp.now) → Seated sites (Passed number 0) ends.old clash → Seated sites (Passed number (length comp.now.chans.items)) ends.new result }
+{
+    let mut least = clash;
+    for (i, chan) in comp.chans.iter().enumerate() {
+        if seat(
+            ends,
+            *chan,
+            is_passive(&comp.kind, comp.sizes, i as u32 + 1),
+            number,
+        ) {
+            least = least.min(*chan);
+        }
+    }
+    least
+}
+
+// Notes an end; true where one of its sense stood there already.
+fn seat(ends: &mut [Ends], chan: u32, passive: bool, comp: u32) -> bool
+    requires from { 0 < chan }
+    requires to { chan ≤ length ends.old }
+    ensures { Seats ends.old ends.new chan passive comp result }
+{
+    let k = chan as usize - 1;
+    let pair = ends[k];
+    if passive {
+        if pair.passive.is_some() {
+            return true;
+        }
+        ends[k] = Ends {
+            active: pair.active,
+            passive: Some(comp),
+        };
+    } else {
+        if pair.active.is_some() {
+            return true;
+        }
+        ends[k] = Ends {
+            active: Some(comp),
+            passive: pair.passive,
+        };
+    }
+    false
+}
