@@ -13,7 +13,7 @@ rest_no_colon : (x : ℕ) (xs : List ℕ) → NoColon (x ∷ xs) → NoColon xs
 rest_no_colon x xs none = λ i h. none (suc i) (omega arith)
 
 -- the first colon of a text is at one place
-pub first_colon : (xs ys zs ws : List ℕ) → NoColon xs → NoColon zs → xs ++ colon ∷ ys ≡ zs ++ colon ∷ ws → (xs ≡ zs) × (ys ≡ ws)
+first_colon : (xs ys zs ws : List ℕ) → NoColon xs → NoColon zs → xs ++ colon ∷ ys ≡ zs ++ colon ∷ ws → (xs ≡ zs) × (ys ≡ ws)
 first_colon [] ys [] ws p q e = (refl, (cons_same e).1)
 first_colon [] ys (z ∷ zs) ws p q e = absurd (q 0 (omega arith) (sym (cons_same e).0))
 first_colon (x ∷ xs) ys [] ws p q e = absurd (p 0 (omega arith) (cons_same e).0)
@@ -22,7 +22,8 @@ first_colon (x ∷ xs) ys (z ∷ zs) ws p q e =
     let same = first_colon xs ys zs ws (rest_no_colon x xs p) (rest_no_colon z zs q) both.1 in
     (ap₂ (λ a as'. a ∷ as') both.0 same.0, same.1)
 
-pub has_colon : (text xs ys : List ℕ) → text ≡ xs ++ colon ∷ ys → NoColon text → ⊥
+-- a text with a colon has one
+has_colon : (text xs ys : List ℕ) → text ≡ xs ++ colon ∷ ys → NoColon text → ⊥
 has_colon [] [] ys e none = cc
 has_colon [] (x ∷ xs) ys e none = cc
 has_colon (t ∷ ts) [] ys e none = none 0 (omega arith) (cons_same e).0

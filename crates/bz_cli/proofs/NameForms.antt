@@ -23,7 +23,7 @@ spells_rest rest (by_number p h l v s) (itself p' q' t) e = absurd (p' ((cons_sa
 spells_rest rest (by_number p h l v s) (by_number p' h' l' v' t) e = spells_rest rest s t (cons_same (cons_same (cons_same e).1).1).1
 
 -- a form spells one list of bytes at most
-pub same_bytes : {form a other b : List ℕ} → SpellsBytes form a → SpellsBytes other b → form ≡ other → a ≡ b
+same_bytes : {form a other b : List ℕ} → SpellsBytes form a → SpellsBytes other b → form ≡ other → a ≡ b
 same_bytes nothing nothing e = refl
 same_bytes nothing (itself p q t) e = cc
 same_bytes nothing (by_number p h l v t) e = cc
@@ -59,13 +59,6 @@ lone_percent nothing e = cc
 lone_percent (itself p q s) e = p (cons_same e).0
 lone_percent (by_number p h l v s) e = let tail = (cons_same e).1 in cc
 
-no_bytes : {form : List ℕ} → 0 < length form → SpellsBytes form [] → ⊥
-no_bytes h nothing = omega arith
-
-pub name_from_bytes : (form name : List ℕ) → 0 < length form → SpellsBytes form name → IsName form name
-name_from_bytes form [] h s = absurd (no_bytes h s)
-name_from_bytes form (b ∷ bs) h s = s
-
 bytes_from_name : (form name : List ℕ) → form ≢ percent ∷ [] → IsName form name → SpellsBytes form name
 bytes_from_name form [] h s = absurd (h s)
 bytes_from_name form (b ∷ bs) h s = s
@@ -83,6 +76,7 @@ same_name form [] (b ∷ bs) s t = absurd (lone_percent t s)
 same_name form (x ∷ xs) [] s t = absurd (lone_percent s t)
 same_name form (x ∷ xs) (b ∷ bs) s t = same_bytes s t refl
 
+-- `%` alone has no colon, nor has any name
 lone : (form : List ℕ) (i : ℕ) → form ≡ percent ∷ [] → i < length form → get_or form i 0 ≢ colon
 lone form i e h is =
     let P : List ℕ → Type 0 = λ s. (i < length s) × (get_or s i 0 ≡ colon) in

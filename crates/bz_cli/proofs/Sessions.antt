@@ -133,7 +133,7 @@ more_separator (separator is' d) is = separator is' (more_separator d is)
 
 -- ---- the words of a slice
 
-texts_more : (words : List (Bor (List ℕ))) (i : ℕ) (d : Bor (List ℕ)) → i < length words → texts (take (i + 1) words) ≡ texts (take i words) ++ (get_or words i d).now ∷ []
+pub texts_more : (words : List (Bor (List ℕ))) (i : ℕ) (d : Bor (List ℕ)) → i < length words → texts (take (i + 1) words) ≡ texts (take i words) ++ (get_or words i d).now ∷ []
 texts_more words i d h = ap texts (take_more words i d h) ∙ map-append (λ w. w.now) (take i words) (get_or words i d ∷ [])
 
 -- a `/` begins a session

@@ -1,1 +1,4 @@
 pub mod Words
+pub mod Opening
+pub mod Playing
+pub mod Running

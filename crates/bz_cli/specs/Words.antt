@@ -50,9 +50,11 @@ takes_value verb = false
 -- each of either case, for the byte of that number.
 pub data SpellsBytes : List ℕ → List ℕ → Type 0 where
   nothing : SpellsBytes [] []
-  itself : {b : ℕ} {form name : List ℕ} → b ≢ percent → b ≢ colon → SpellsBytes form name → SpellsBytes (b ∷ form) (b ∷ name)
-  by_number : {p high low b : ℕ} {form name : List ℕ} → p ≡ percent → digit_value high < 16 → digit_value low < 16
-      → b ≡ digit_value high * 16 + digit_value low → SpellsBytes form name → SpellsBytes (p ∷ high ∷ low ∷ form) (b ∷ name)
+  itself : {b : ℕ} {form name : List ℕ} → b ≢ percent → b ≢ colon
+      → SpellsBytes form name → SpellsBytes (b ∷ form) (b ∷ name)
+  by_number : {p high low b : ℕ} {form name : List ℕ} → p ≡ percent
+      → digit_value high < 16 → digit_value low < 16 → b ≡ digit_value high * 16 + digit_value low
+      → SpellsBytes form name → SpellsBytes (p ∷ high ∷ low ∷ form) (b ∷ name)
 
 -- The form of a name. The empty one is `%`.
 abbrev pub IsName : List ℕ → List ℕ → Type 0

@@ -1,10 +1,17 @@
 //! The commands of `breezesim`, over any reader and writer.
 #![tactic(auto)]
 
+mod fault;
 mod input;
+mod open;
+mod playing;
+mod run;
 #[cfg(test)]
 mod tests;
 mod words;
 
+pub use fault::Fault;
 pub use input::{INPUT_LIMIT, InputFault, read_input};
+pub use playing::{Stop, play};
+pub use run::run_cmd;
 pub use words::{MAX_SESSIONS, SessionError, parse_words};

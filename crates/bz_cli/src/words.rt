@@ -49,7 +49,8 @@ pub fn parse_words(alloc: Global, words: &[&str]) -> Result<Vec<Vec<Cmd>>, Sessi
     ensures right { IfSome (outcome_of result) (ComesTo (texts words.now)) }
 
     // Whatever the words come to is answered.
-    ensures only { (o : Outcome) → ComesTo (texts words.now) o → IfSome (outcome_of result) (λ p. p ≡ o) }
+    ensures only { (o : Outcome) → ComesTo (texts words.now) o
+        → IfSome (outcome_of result) (λ p. p ≡ o) }
 {
     let mut sessions = Vec::new(alloc);
     let mut session = Vec::new(alloc);
@@ -73,7 +74,7 @@ pub fn parse_words(alloc: Global, words: &[&str]) -> Result<Vec<Vec<Cmd>>, Sessi
 }
 
 // The command that a word spells, if it spells one.
-fn command(alloc: Global, word: &str) -> Result<Option<Cmd>, AllocError>
+pub(crate) fn command(alloc: Global, word: &str) -> Result<Option<Cmd>, AllocError>
     ensures some { IfOk result (λ o. IfSome o (λ c. IsWord word.now (command_of c))) }
     ensures none { IfOk result (λ o. IfNone o ((c : Command) → IsWord word.now c → ⊥)) }
 {
@@ -194,7 +195,8 @@ fn name(alloc: Global, form: &[u8]) -> Result<Option<Vec<u8>>, AllocError>
 
 // The byte of a name that stands first in a form, and what follows it.
 fn name_byte(first: u8, after: &[u8]) -> Option<(u8, &[u8])>
-    ensures some { IfSome result (λ r. (piece : List ℕ) × (first ∷ after.now ≡ piece ++ r.1.now) × SpellsBytes piece (r.0 ∷ [])) }
+    ensures some { IfSome result (λ r. (piece : List ℕ)
+        × (first ∷ after.now ≡ piece ++ r.1.now) × SpellsBytes piece (r.0 ∷ [])) }
     ensures none { IfNone result ((name : List ℕ) → SpellsBytes (first ∷ after.now) name → ⊥) }
 {
     match first {

@@ -1,0 +1,38 @@
+-- The net that a text denotes, or why it denotes none.
+use Rattle.std.specs.Prelude.{◌≡◌, ℕ, List, map, Ok, Err, IfSome, ⊤}
+use Rattle.bz_sexpr.specs.Data.{Datum}
+use Rattle.bz_sexpr.specs.Spelling.{Outcome, data_are, ComesTo}
+use Rattle.bz_sexpr.specs.Views.{outcome_of}
+use Rattle.bz_breeze.specs.declared.part.Part.{Part}
+use Rattle.bz_breeze.specs.Records.{part_record}
+use Rattle.bz_breeze.specs.Parts.{parts}
+use Rattle.bz_breeze.specs.Faults.{Tells}
+use Rattle.bz_elab.specs.Refusals.{Elaborated, Applies}
+use Rattle.bz_model.specs.Nets.{Wiring}
+use Rattle.bz_net.specs.Simulation.{Simulation, IsOpened}
+use Rattle.bz_cli.specs.declared.fault.Fault.{Fault}
+use Rattle.bz_cli.specs.declared.fault.Fault.TheVariants as fault
+
+-- The text spells data, the data name parts, and the part of this name has this net.
+pub record Denotes (text name : List ℕ) (w : Wiring) : Type 0 where
+  pub forms : List Datum
+  pub spelt : ComesTo text (data_are forms)
+  pub listed : List Part
+  pub read : parts forms ≡ Ok (map part_record listed)
+  pub net : Elaborated listed name w
+
+-- The net of this part, at its opening, with a journal of so many entries.
+abbrev pub Opens : List ℕ → List ℕ → ℕ → Simulation → Type 0
+Opens text name limit net = (w : Wiring) × Denotes text name w × IsOpened w limit net
+
+-- Why a text denotes no net of this name: it spells no data; its data name no parts; the part has no net. Of a reader that
+-- failed, and of memory that was refused, nothing is said.
+abbrev pub RefusesNet : List ℕ → List ℕ → Fault → Type 0
+RefusesNet text name (fault.Text e) = IfSome (outcome_of (Err e)) (ComesTo text)
+RefusesNet text name (fault.Part e) = (forms : List Datum) × ComesTo text (data_are forms) × Tells (parts forms) e
+RefusesNet text name (fault.Net e part) =
+    (forms : List Datum) × ComesTo text (data_are forms)
+    × ((listed : List Part) × (parts forms ≡ Ok (map part_record listed)) × Applies listed name e)
+RefusesNet text name fault.Read = ⊤
+RefusesNet text name fault.Memory = ⊤
+RefusesNet text name fault = ⊥

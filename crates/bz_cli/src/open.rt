@@ -1,0 +1,73 @@
+//! From a netlist to a net at its opening.
+
+ghost use Rattle.std.specs.Prelude.{◌≡◌, ◌≤◌, ◌<◌, ◌⊎◌, ℕ, IfOk, IfErr};
+ghost use Rattle.std.specs.declared.alloc.Global.{Global};
+ghost use Rattle.std.specs.declared.vec.Vec.{Vec};
+ghost use Rattle.bz_cli.specs.declared.fault.Fault.{Fault};
+ghost use Rattle.bz_cli.specs.Opening.{Opens, RefusesNet};
+
+use crate::fault::Fault;
+use bz_breeze::{BreezeError, Part};
+use bz_elab::{ElabError, elaborate};
+use bz_net::Net;
+use bz_sexpr::SexprError;
+use std::alloc::Global;
+
+/// The net of a part of the text, at its opening, with a journal of at most `limit` entries.
+pub(crate) fn open_net(alloc: Global, part: &[u8], limit: u32, text: &[u8]) -> Result<Net, Fault>
+    requires least { 0 < limit }
+    requires most { limit ≤ 16777216 }
+    ensures ok { IfOk result (Opens text.now part.now limit) }
+    ensures err { IfErr result (RefusesNet text.now part.now) }
+{
+    let data = match bz_sexpr::read(alloc, text) {
+        Ok(data) => data,
+        Err(SexprError::Memory) => return Err(Fault::Memory),
+        Err(error) => return Err(Fault::Text(error)),
+    };
+    let parts = match bz_breeze::parts(alloc, data.as_slice()) {
+        Ok(parts) => parts,
+        Err(BreezeError::Memory) => return Err(Fault::Memory),
+        Err(error) => return Err(Fault::Part(error)),
+    };
+    let flat = match elaborate(alloc, parts.list(), part) {
+        Ok(flat) => flat,
+        Err(ElabError::Memory) => return Err(Fault::Memory),
+        Err(error) => return Err(in_part(alloc, parts.list(), part, error)),
+    };
+    match Net::open(alloc, flat, limit) {
+        Ok(net) => Ok(net),
+        Err(_) => Err(Fault::Memory),
+    }
+}
+
+// The refusal of a net, with the name of the part that it is in, or else the name asked for.
+fn in_part(alloc: Global, parts: &[Part], asked: &[u8], error: ElabError) -> Fault
+    ensures { (result ≡ Fault.Memory) ⊎ ((name : Vec ℕ Global) × (result ≡ Fault.Net error name)) }
+{
+    let name = match part_of(error) {
+        Some(part) => match parts.get(part) {
+            Some(part) => part.name.as_slice(),
+            None => asked,
+        },
+        None => asked,
+    };
+    match Vec::from_slice(alloc, name) {
+        Ok(part) => Fault::Net { error, part },
+        Err(_) => Fault::Memory,
+    }
+}
+
+// The number of the part that a refusal is in, where it is in one.
+fn part_of(error: ElabError) -> Option<usize> {
+    match error {
+        ElabError::Recursive(part)
+        | ElabError::UnknownComponent(part, _)
+        | ElabError::BadParameter(part, _)
+        | ElabError::PortCount(part, _)
+        | ElabError::BadChannel(part, _)
+        | ElabError::KindMismatch(part, _)
+        | ElabError::WidthMismatch(part, _) => Some(part),
+        _ => None,
+    }
+}
