@@ -87,13 +87,13 @@ rests_before old new due fired (fewer, (mid, to, plays, adds)) = record {
   entries = plays.entries ++ Rested (who.Worker 1) ∷ [];
   journal = adds.journal ∙ (ap (λ xs. xs ++ Rested (who.Worker 1) ∷ []) plays.journal ∙ append_assoc old.journal plays.entries (Rested (who.Worker 1) ∷ []));
   plays = inr (record {
-      fired = fired;
-      fewer = fewer;
-      firings = plays.entries;
-      fires = (to, subst (λ s. Firings old.wiring.sites (who.Worker 1) old.state 1 fired plays.entries to s) (sym adds.follows.1) plays.firings);
-      rests = subst (λ (w : Wiring). runs.Rest w.sites new.state) plays.wiring (subst (λ s. runs.Rest mid.wiring.sites s) (sym adds.follows.1) adds.follows.0);
-      entries_are = refl;
-    });
+    fired = fired;
+    fewer = fewer;
+    firings = plays.entries;
+    fires = (to, subst (λ s. Firings old.wiring.sites (who.Worker 1) old.state 1 fired plays.entries to s) (sym adds.follows.1) plays.firings);
+    rests = subst (λ (w : Wiring). runs.Rest w.sites new.state) plays.wiring (subst (λ s. runs.Rest mid.wiring.sites s) (sym adds.follows.1) adds.follows.0);
+    entries_are = refl;
+  });
   wiring = adds.wiring ∙ plays.wiring;
   limit = adds.limit ∙ plays.limit;
 }

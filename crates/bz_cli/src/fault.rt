@@ -66,11 +66,18 @@ fn name_at(place: &Place) -> NameForm<'_> {
 }
 
 // A refusal of elaboration, with the part told by its name.
-fn show_net_error<W: fmt::Write>(error: ElabError, part: NameForm<'_>, f: &mut fmt::Formatter<W>) -> fmt::Result {
+fn show_net_error<W: fmt::Write>(
+    error: ElabError,
+    part: NameForm<'_>,
+    f: &mut fmt::Formatter<W>,
+) -> fmt::Result {
     match error {
         ElabError::NoPart => write!(f, "E1 NoPart {part}"),
         ElabError::Recursive(_) => write!(f, "E2 Recursive {part}"),
-        ElabError::UnknownComponent(_, position) => write!(f, "E4 UnknownComponent {part} {position}"),
+        ElabError::UnknownComponent(_, position) => write!(
+            f,
+            "E4 UnknownComponent {part} {position}"
+        ),
         ElabError::BadParameter(_, position) => write!(f, "E5 BadParameter {part} {position}"),
         ElabError::PortCount(_, position) => write!(f, "E6 PortCount {part} {position}"),
         ElabError::BadChannel(_, position) => write!(f, "E7 BadChannel {part} {position}"),

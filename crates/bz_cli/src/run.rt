@@ -40,7 +40,14 @@ pub fn run_cmd<R: Read, W: Write>(
         Err(InputFault::Read) => return Err(Fault::Read),
         Err(InputFault::Memory) => return Err(Fault::Memory),
     };
-    play_text(alloc, part, journal, text.as_slice(), cmds.as_slice(), output)
+    play_text(
+        alloc,
+        part,
+        journal,
+        text.as_slice(),
+        cmds.as_slice(),
+        output,
+    )
 }
 
 // Plays the commands on a part of the text, and writes the trace.
