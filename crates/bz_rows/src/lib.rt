@@ -1,0 +1,13 @@
+//! Worked examples from bytes to bytes, over all crates. Nothing stands on this crate.
+#![tactic(auto)]
+
+#[cfg(test)]
+mod faults;
+#[cfg(test)]
+mod netlists;
+#[cfg(test)]
+mod nets;
+#[cfg(test)]
+mod playing;
+#[cfg(test)]
+mod traces;

@@ -1,0 +1,178 @@
+//! A net, event by event.
+
+ghost use Rattle.std.specs.Prelude.{◌<◌, ◌≤◌};
+
+use crate::netlists::{BUFFER, CELL, KNOT};
+use bz_model::{Entry, HostCmd, Move, NetError, Phase, Reply, Verb, Who};
+use bz_net::{Answer, Event, Net, RestReply, RunEnd};
+use std::alloc::Global;
+use std::test::Fail;
+
+const HOST: Who = Who::Host(1);
+
+const WORKER: Who = Who::Worker(1);
+
+// The net of a part, at its opening.
+fn net_of(alloc: Global, netlist: &str, part: &str, limit: u32) -> Result<Net, Fail>
+    requires least { 0 < limit }
+    requires most { limit ≤ 16777216 }
+{
+    let data = bz_sexpr::read(alloc, netlist.as_bytes())?;
+    let parts = bz_breeze::parts(alloc, data.as_slice())?;
+    let flat = bz_elab::elaborate(alloc, parts.list(), part.as_bytes())?;
+    Ok(Net::open(alloc, flat, limit)?)
+}
+
+fn fired(comp: u32, port: u32, chan: u32, mv: Move, value: Option<u64>) -> Entry {
+    Entry::Fired {
+        who: WORKER,
+        comp,
+        port,
+        chan,
+        mv,
+        value,
+    }
+}
+
+#[test]
+fn buffer_by_single_moves(rt: HostRuntime) -> Result<(), Fail> {
+    let mut net = net_of(rt.alloc(), BUFFER, "buffer", 100)?;
+    assert_eq!(rt; net.journal().len(), 0);
+    assert_eq!(rt; net.next_ready(1), None);
+    assert_eq!(rt;
+        net.offer(HOST, b"activate".as_slice(), None),
+        Ok(Reply::Done)
+    );
+    assert!(rt; net.is_ready(2));
+    assert!(rt; !net.is_ready(3));
+    assert_eq!(rt; net.next_ready(3), Some(2));
+    assert_eq!(rt; net.fire_move(WORKER, 2, 2), Err(NetError::NotEnabled));
+    assert_eq!(rt;
+        net.fire_move(WORKER, 2, 1),
+        Ok(fired(2, 1, 1, Move::Take, None))
+    );
+    assert_eq!(rt; net.fire(WORKER, 2), Ok(fired(2, 2, 4, Move::Ask, None)));
+    assert_eq!(rt; net.step(WORKER, 1), Ok(fired(3, 1, 4, Move::Take, None)));
+    assert_eq!(rt; net.rest(WORKER), Ok(RestReply::Ready(3)));
+    assert_eq!(rt; net.run(WORKER, 1, 100), RunEnd::Rest(3));
+    assert_eq!(rt; net.rest(WORKER), Ok(RestReply::Rest));
+    assert_eq!(rt;
+        net.watch(HOST, b"i".as_slice()),
+        Ok(Reply::Watched(Phase::Asked(None)))
+    );
+    assert_eq!(rt; net.journal().len(), 10);
+    Ok(())
+}
+
+#[test]
+fn what_is_told_of_a_net(rt: HostRuntime) -> Result<(), Fail> {
+    let net = net_of(rt.alloc(), BUFFER, "buffer", 100)?;
+    assert_eq!(rt; net.names().port(b"o".as_slice()), Some(3));
+    assert_eq!(rt; net.names().passive(1), Some(true));
+    assert_eq!(rt; net.ends(1), [None, Some(2)]);
+    assert_eq!(rt; net.ends(4), [Some(2), Some(3)]);
+    assert_eq!(rt; net.ends(2), [Some(4), None]);
+    assert_eq!(rt; net.ends(7), [Some(4), Some(1)]);
+    assert_eq!(rt; net.phase(4), Phase::Idle);
+    Ok(())
+}
+
+#[test]
+fn no_move_at_both_ends_of_a_channel(rt: HostRuntime) -> Result<(), Fail> {
+    let mut net = net_of(rt.alloc(), KNOT, "knot", 100)?;
+    assert_eq!(rt; net.fire_move(WORKER, 1, 1), Err(NetError::NotEnabled));
+    assert_eq!(rt; net.fire_move(WORKER, 1, 2), Err(NetError::NotEnabled));
+    assert_eq!(rt; net.ends(1), [Some(1), Some(1)]);
+    assert_eq!(rt; net.run(WORKER, 1, 5), RunEnd::Rest(0));
+    Ok(())
+}
+
+#[test]
+fn one_handshake_from_both_sides(rt: HostRuntime) -> Result<(), Fail> {
+    let mut net = net_of(rt.alloc(), BUFFER, "buffer", 100)?;
+    assert_eq!(rt;
+        net.answer(HOST, b"i".as_slice(), Some(5)),
+        Ok(Reply::NotTaken(Phase::Idle))
+    );
+    assert_eq!(rt; net.accept(HOST, b"i".as_slice()), Ok(Reply::NotYet));
+    assert_eq!(rt;
+        net.offer(HOST, b"activate".as_slice(), None),
+        Ok(Reply::Done)
+    );
+    assert_eq!(rt;
+        net.collect(HOST, b"activate".as_slice()),
+        Ok(Reply::NotYet)
+    );
+    assert_eq!(rt; net.run(WORKER, 1, 100), RunEnd::Rest(6));
+    assert_eq!(rt; net.accept(HOST, b"i".as_slice()), Ok(Reply::Done));
+    assert_eq!(rt; net.answer(HOST, b"i".as_slice(), Some(5)), Ok(Reply::Done));
+    assert_eq!(rt; net.phase(2), Phase::Replied(Some(5)));
+    assert_eq!(rt; net.run(WORKER, 1, 100), RunEnd::Rest(14));
+    assert_eq!(rt; net.accept(HOST, b"o".as_slice()), Ok(Reply::Value(5)));
+    assert_eq!(rt;
+        net.collect(HOST, b"o".as_slice()),
+        Err(NetError::WrongSide)
+    );
+    Ok(())
+}
+
+#[test]
+fn a_full_journal(rt: HostRuntime) -> Result<(), Fail> {
+    let mut net = net_of(rt.alloc(), BUFFER, "buffer", 3)?;
+    assert!(rt; net.reserve(3).is_ok());
+    assert_eq!(rt;
+        net.offer(HOST, b"activate".as_slice(), None),
+        Ok(Reply::Done)
+    );
+    assert_eq!(rt; net.fire(WORKER, 2), Ok(fired(2, 1, 1, Move::Take, None)));
+    assert_eq!(rt; net.fire(WORKER, 2), Ok(fired(2, 2, 4, Move::Ask, None)));
+    assert_eq!(rt; net.fire_move(WORKER, 3, 1), Err(NetError::JournalFull));
+    assert_eq!(rt; net.fire_move(WORKER, 5, 1), Err(NetError::NotEnabled));
+    assert_eq!(rt; net.rest(WORKER), Ok(RestReply::Ready(3)));
+    assert_eq!(rt;
+        net.watch(HOST, b"i".as_slice()),
+        Err(NetError::JournalFull)
+    );
+    assert_eq!(rt;
+        net.watch(HOST, b"zz".as_slice()),
+        Err(NetError::UnknownPort)
+    );
+    assert_eq!(rt; net.journal().len(), 3);
+    assert_eq!(rt; net.phase(4), Phase::Asked(None));
+    Ok(())
+}
+
+#[test]
+fn any_event_by_one_call(rt: HostRuntime) -> Result<(), Fail> {
+    let mut net = net_of(rt.alloc(), CELL, "cell", 100)?;
+    let offer = HostCmd {
+        verb: Verb::Offer,
+        port: vec![in rt.alloc(); b'w']?,
+        value: Some(7),
+    };
+    assert_eq!(rt;
+        net.serve(HOST, Event::Rest),
+        Ok(Answer::Rest(RestReply::Rest))
+    );
+    assert_eq!(rt;
+        net.serve(HOST, Event::Host(&offer)),
+        Ok(Answer::Host(Reply::Done))
+    );
+    assert_eq!(rt;
+        net.serve(WORKER, Event::Step { from: 1 }),
+        Ok(Answer::Fired(fired(1, 1, 1, Move::Take, Some(7))))
+    );
+    assert_eq!(rt;
+        net.serve(WORKER, Event::Fire { comp: 1 }),
+        Ok(Answer::Fired(fired(1, 1, 1, Move::Reply, None)))
+    );
+    assert_eq!(rt;
+        net.serve(WORKER, Event::Move { comp: 1, port: 2 }),
+        Err(NetError::NotEnabled)
+    );
+    assert_eq!(rt;
+        net.serve(WORKER, Event::Step { from: 1 }),
+        Ok(Answer::Rest(RestReply::Rest))
+    );
+    Ok(())
+}
