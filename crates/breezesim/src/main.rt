@@ -1,7 +1,7 @@
 //! The program `breezesim`.
 #![tactic(auto)]
 
-use bz_cli::{Fault, run_cmd};
+use bz_cli::{Fault, list_cmd, run_cmd};
 use clap::error::ErrorKind;
 use clap::{Arg, ArgAction, ArgMatches, Command, Error, value_parser};
 use std::alloc::{AllocError, Global};
@@ -14,6 +14,9 @@ const MAX_JOURNAL: u32 = 16_777_216;
 
 /// The journal where none is asked for.
 const JOURNAL: u32 = 1_000_000;
+
+/// How many bytes of output are gathered before they go out.
+const BUFFER_SIZE: usize = 65_536;
 
 /// The status of a bad command line.
 const BAD_COMMAND_LINE: u8 = 2;
@@ -40,7 +43,7 @@ fn journal_arg<'a>(alloc: Global) -> Arg<'a> {
 fn words_arg<'a>(alloc: Global) -> Arg<'a> {
     Arg::new(alloc, "words")
         .value_name("WORDS")
-        .help("offer:P, offer:P:V, watch:P, run:N")
+        .help("offer:P[:V], collect:P, accept:P, answer:P[:V], watch:P, run:N")
         .num_args(0..)
         .action(ArgAction::Append)
 }
@@ -51,9 +54,13 @@ fn command_line<'a>(alloc: Global) -> Result<Command<'a>, AllocError> {
         .arg(part_arg(alloc))?
         .arg(journal_arg(alloc))?
         .arg(words_arg(alloc))?;
+    let list = Command::new(alloc, "list")
+        .about("Lists the ports and components of a part's net, of the netlist on standard input")
+        .arg(part_arg(alloc))?;
     Command::new(alloc, "breezesim")
         .about("A simulator of Breeze handshake circuits in which every answer is proved")
         .subcommand_required(true)
+        .subcommand(list)?
         .subcommand(run)
 }
 
@@ -65,17 +72,34 @@ fn run<'a>(rt: &HostRuntime, matches: &ArgMatches<'a>) -> ExitCode {
     if journal == 0 || journal > MAX_JOURNAL {
         return ExitCode::from(BAD_COMMAND_LINE);
     }
-    let Ok(mut output) = BufWriter::with_capacity(alloc, 65_536, io::writer(rt)) else {
+    let Ok(mut output) = BufWriter::with_capacity(alloc, BUFFER_SIZE, io::writer(rt)) else {
         return refuse(rt, &Fault::Memory);
     };
-    match run_cmd(
+    let result = run_cmd(
         alloc,
         part.as_bytes(),
         journal,
         words,
         &mut rt.reader(),
         &mut output,
-    ) {
+    );
+    ends(rt, result)
+}
+
+fn list<'a>(rt: &HostRuntime, matches: &ArgMatches<'a>) -> ExitCode {
+    let part = matches.get_str("part").unwrap_or("");
+    let Ok(mut output) = BufWriter::with_capacity(rt.alloc(), BUFFER_SIZE, io::writer(rt)) else {
+        return refuse(rt, &Fault::Memory);
+    };
+    ends(
+        rt,
+        list_cmd(rt.alloc(), part.as_bytes(), &mut rt.reader(), &mut output),
+    )
+}
+
+// The exit status of a command.
+fn ends(rt: &HostRuntime, answer: Result<(), Fault>) -> ExitCode {
+    match answer {
         Ok(()) => ExitCode::SUCCESS,
         Err(fault) => refuse(rt, &fault),
     }
@@ -116,6 +140,7 @@ fn main(rt: HostRuntime) -> ExitCode {
     match command.try_get_matches_from(words.as_slice()) {
         Err(error) => explain(&rt, &error),
         Ok(matches) => match matches.subcommand() {
+            Some(("list", matches)) => list(&rt, matches),
             Some(("run", matches)) => run(&rt, matches),
             _ => ExitCode::from(BAD_COMMAND_LINE),
         },

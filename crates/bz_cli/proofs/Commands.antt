@@ -6,7 +6,7 @@ use Rattle.bz_model.specs.declared.channel.TheConstants.{MAX_WIDTH}
 use Rattle.bz_model.specs.declared.event.Verb.{Verb}
 use Rattle.bz_model.specs.declared.event.Verb.TheVariants.{Offer, Collect, Accept, Answer, Watch}
 use Rattle.bz_model.specs.Traces.{verb_text}
-use Rattle.bz_cli.specs.Words.{colon, Command, host, run, IsName, takes_value, is_taken, AreOperands, IsNumber, IsWord}
+use Rattle.bz_cli.specs.Words.{colon, Command, host, run, IsName, takes_value, AreOperands, IsNumber, IsWord}
 use Rattle.bz_cli.proofs.NameForms.{cons_same, NoColon, name_no_colon, same_name}
 
 rest_no_colon : (x : ℕ) (xs : List ℕ) → NoColon (x ∷ xs) → NoColon xs
@@ -63,10 +63,10 @@ no_name_alone operands verb front none name None is = none name is
 no_name_alone operands verb front none name (Some v) (f, d, e, is, takes, n) = has_colon operands f d e front
 
 -- a host word, from its parts
-pub host_word : (word head operands : List ℕ) (verb same_verb : Verb) (name : List ℕ) (value : Option ℕ) → word ≡ head ++ colon ∷ operands → head ≡ verb_text verb → is_taken verb ≡ true → same_verb ≡ verb
+pub host_word : (word head operands : List ℕ) (verb same_verb : Verb) (name : List ℕ) (value : Option ℕ) → word ≡ head ++ colon ∷ operands → head ≡ verb_text verb → same_verb ≡ verb
     → AreOperands operands verb name value → IsWord word (host same_verb name value)
-host_word word head operands verb same_verb name value cut is taken same are =
-    subst (λ (v : Verb). IsWord word (host v name value)) (sym same) (operands, cut ∙ ap (λ s. s ++ colon ∷ operands) is, taken, are)
+host_word word head operands verb same_verb name value cut is same are =
+    subst (λ (v : Verb). IsWord word (host v name value)) (sym same) (operands, cut ∙ ap (λ s. s ++ colon ∷ operands) is, are)
 
 and_right : (a b : Bool) → a && b ≡ true → b ≡ true
 and_right true b e = e
@@ -114,7 +114,7 @@ same_verb a b e = sym (third_tells a) ∙ ap (λ s. verb_by_third (get_or s 2 0)
 
 -- no command: a word without a colon
 no_cut : (word : List ℕ) → NoColon word → (c : Command) → IsWord word c → ⊥
-no_cut word none (host verb name value) (rest, e, taken, are) = has_colon word (verb_text verb) rest e none
+no_cut word none (host verb name value) (rest, e, are) = has_colon word (verb_text verb) rest e none
 no_cut word none (run n) (rest, e, number) = has_colon word (codes "run") rest e none
 
 -- `/` is no command
@@ -135,15 +135,15 @@ same_operands operands verb a b (Some v) (Some w) (f, d, e, is, takes, n) (g, k,
 
 -- a word spells one command at most
 pub same_command : (word : List ℕ) (a b : Command) → IsWord word a → IsWord word b → a ≡ b
-same_command word (host v a x) (host w b y) (rest, e, taken, are) (rest', e', taken', are') =
+same_command word (host v a x) (host w b y) (rest, e, are) (rest', e', are') =
     let same = first_colon (verb_text v) rest (verb_text w) rest' (verb_no_colon v) (verb_no_colon w) (sym e ∙ e') in
     let verbs : v ≡ w = same_verb v w same.0 in
     let P : List ℕ → Verb → Type 0 = λ s u. AreOperands s u a x in
     let both = same_operands rest' w a b x y (subst (λ (u : Verb). P rest' u) verbs (subst (λ (s : List ℕ). P s v) same.1 are)) are' in
     cc (verbs, both.0, both.1)
-same_command word (host v a x) (run n) (rest, e, taken, are) (digits, e', number) =
+same_command word (host v a x) (run n) (rest, e, are) (digits, e', number) =
     absurd (no_run v (first_colon (verb_text v) rest (codes "run") digits (verb_no_colon v) run_no_colon (sym e ∙ e')).0)
-same_command word (run n) (host w b y) (digits, e, number) (rest, e', taken, are) =
+same_command word (run n) (host w b y) (digits, e, number) (rest, e', are) =
     absurd (no_run w (first_colon (verb_text w) rest (codes "run") digits (verb_no_colon w) run_no_colon (sym e' ∙ e)).0)
 same_command word (run n) (run m) (digits, e, number) (digits', e', number') =
     ap run (same_number 64 digits digits' n m number number' (first_colon (codes "run") digits (codes "run") digits' run_no_colon run_no_colon (sym e ∙ e')).1)

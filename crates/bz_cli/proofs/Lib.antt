@@ -5,3 +5,4 @@ pub mod Sessions
 pub mod Played
 pub mod Spelt
 pub mod Outcomes
+pub mod Lines

@@ -9,7 +9,7 @@ use Rattle.bz_model.specs.declared.channel.TheConstants.{MAX_WIDTH}
 use Rattle.bz_model.specs.declared.event.Cmd.{Cmd}
 use Rattle.bz_model.specs.declared.event.Cmd.TheVariants as cmd
 use Rattle.bz_model.specs.declared.event.Verb.{Verb}
-use Rattle.bz_model.specs.declared.event.Verb.TheVariants.{Offer, Answer, Watch}
+use Rattle.bz_model.specs.declared.event.Verb.TheVariants.{Offer, Answer}
 use Rattle.bz_model.specs.Traces.{verb_text}
 use Rattle.bz_cli.specs.declared.words.TheConstants.{MAX_SESSIONS}
 use Rattle.bz_cli.specs.declared.words.SessionError.{SessionError}
@@ -33,12 +33,6 @@ pub data Command : Type 0 where
 abbrev pub command_of : Cmd → Command
 command_of (cmd.Host c) = host c.verb c.port.items c.value
 command_of (cmd.Run n) = run n
-
--- The verbs that are taken yet.
-abbrev pub is_taken : Verb → Bool
-is_taken Offer = true
-is_taken Watch = true
-is_taken verb = false
 
 -- The verbs that may bring a value.
 abbrev pub takes_value : Verb → Bool
@@ -78,7 +72,7 @@ AreOperands operands verb name (Some v) =
 abbrev pub IsWord : List ℕ → Command → Type 0
 IsWord word (host verb name value) =
     (operands : List ℕ) × (word ≡ verb_text verb ++ colon ∷ operands)
-    × (is_taken verb ≡ true) × AreOperands operands verb name value
+    × AreOperands operands verb name value
 IsWord word (run n) = (digits : List ℕ) × (word ≡ codes "run" ++ colon ∷ digits) × IsNumber 64 digits n
 
 -- Sessions: the commands that words spell, with a `/` between one session and the next.

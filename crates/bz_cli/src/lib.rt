@@ -3,6 +3,8 @@
 
 mod fault;
 mod input;
+mod list;
+mod listing;
 mod open;
 mod playing;
 mod run;
@@ -12,6 +14,7 @@ mod words;
 
 pub use fault::Fault;
 pub use input::{INPUT_LIMIT, InputFault, read_input};
+pub use list::list_cmd;
 pub use playing::{Stop, play};
 pub use run::run_cmd;
 pub use words::{MAX_SESSIONS, SessionError, parse_words};

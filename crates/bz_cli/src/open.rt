@@ -4,11 +4,11 @@ ghost use Rattle.std.specs.Prelude.{◌≡◌, ◌≤◌, ◌<◌, ◌⊎◌, �
 ghost use Rattle.std.specs.declared.alloc.Global.{Global};
 ghost use Rattle.std.specs.declared.vec.Vec.{Vec};
 ghost use Rattle.bz_cli.specs.declared.fault.Fault.{Fault};
-ghost use Rattle.bz_cli.specs.Opening.{Opens, RefusesNet};
+ghost use Rattle.bz_cli.specs.Opening.{Denotes, Opens, RefusesNet};
 
 use crate::fault::Fault;
 use bz_breeze::{BreezeError, Part};
-use bz_elab::{ElabError, elaborate};
+use bz_elab::{ElabError, Flat, elaborate};
 use bz_net::Net;
 use bz_sexpr::SexprError;
 use std::alloc::Global;
@@ -18,6 +18,21 @@ pub(crate) fn open_net(alloc: Global, part: &[u8], limit: u32, text: &[u8]) -> R
     requires least { 0 < limit }
     requires most { limit ≤ 16777216 }
     ensures ok { IfOk result (Opens text.now part.now limit) }
+    ensures err { IfErr result (RefusesNet text.now part.now) }
+{
+    let flat = match flat_of(alloc, part, text) {
+        Ok(flat) => flat,
+        Err(fault) => return Err(fault),
+    };
+    match Net::open(alloc, flat, limit) {
+        Ok(net) => Ok(net),
+        Err(_) => Err(Fault::Memory),
+    }
+}
+
+/// The flat net of a part of the text.
+pub(crate) fn flat_of(alloc: Global, part: &[u8], text: &[u8]) -> Result<Flat, Fault>
+    ensures ok { IfOk result (λ flat. Denotes text.now part.now flat.wiring) }
     ensures err { IfErr result (RefusesNet text.now part.now) }
 {
     let data = match bz_sexpr::read(alloc, text) {
@@ -30,14 +45,10 @@ pub(crate) fn open_net(alloc: Global, part: &[u8], limit: u32, text: &[u8]) -> R
         Err(BreezeError::Memory) => return Err(Fault::Memory),
         Err(error) => return Err(Fault::Part(error)),
     };
-    let flat = match elaborate(alloc, parts.list(), part) {
-        Ok(flat) => flat,
-        Err(ElabError::Memory) => return Err(Fault::Memory),
-        Err(error) => return Err(in_part(alloc, parts.list(), part, error)),
-    };
-    match Net::open(alloc, flat, limit) {
-        Ok(net) => Ok(net),
-        Err(_) => Err(Fault::Memory),
+    match elaborate(alloc, parts.list(), part) {
+        Ok(flat) => Ok(flat),
+        Err(ElabError::Memory) => Err(Fault::Memory),
+        Err(error) => Err(in_part(alloc, parts.list(), part, error)),
     }
 }
 

@@ -112,7 +112,7 @@ fn reads_commands(rt: HostRuntime) -> Result<(), Fail> {
 #[test]
 fn reads_names_freely(rt: HostRuntime) -> Result<(), Fail> {
     let alloc = rt.alloc();
-    let cases: [(&str, Verb, &[u8], Option<Value>); 11] = [
+    let cases: [(&str, Verb, &[u8], Option<Value>); 15] = [
         ("offer:activate", Verb::Offer, b"activate", None),
         ("offer:i:0", Verb::Offer, b"i", Some(0)),
         ("offer:i:00012", Verb::Offer, b"i", Some(12)),
@@ -123,6 +123,10 @@ fn reads_names_freely(rt: HostRuntime) -> Result<(), Fail> {
             Some(Value::MAX),
         ),
         ("offer:%:5", Verb::Offer, b"", Some(5)),
+        ("collect:i", Verb::Collect, b"i", None),
+        ("accept:i", Verb::Accept, b"i", None),
+        ("answer:i", Verb::Answer, b"i", None),
+        ("answer:i:007", Verb::Answer, b"i", Some(7)),
         ("watch:%", Verb::Watch, b"", None),
         ("watch:%61", Verb::Watch, b"a", None),
         ("watch:a%3ab%3Ac%25", Verb::Watch, b"a:b:c%", None),
@@ -191,11 +195,10 @@ fn names_the_first_bad_word(rt: HostRuntime) -> Result<(), Fail> {
         "//",
         ":",
         "%",
-        "collect:i",
-        "accept:i",
+        "collect",
+        "collect:i:5",
         "accept:i:5",
-        "answer:i",
-        "answer:i:5",
+        "answer:i:",
     ];
     for word in bad {
         assert_eq!(rt; parse_words(alloc, &[word]), Err(SessionError::BadWord(1)));

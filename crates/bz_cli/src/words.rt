@@ -1,11 +1,11 @@
 //! Words of the command line as commands: `offer:i:5 run:9 watch:o`.
 
-ghost use Rattle.std.specs.Prelude.{◌≡◌, ◌≢◌, ℕ, ◌<◌, ◌^◌, ◌++◌, List, [], ◌∷◌, true, Option, IfOk, IfSome, IfNone};
+ghost use Rattle.std.specs.Prelude.{◌≡◌, ◌≢◌, ℕ, ◌<◌, ◌^◌, ◌++◌, List, [], ◌∷◌, Option, IfOk, IfSome, IfNone};
 ghost use Rattle.std.specs.Option.{SomeIff};
 ghost use Rattle.std.specs.Char.{digit_value};
 ghost use Rattle.std.specs.Str.Parse.{IsNumeral, digits_value};
 ghost use Rattle.bz_model.specs.Traces.{verb_text};
-ghost use Rattle.bz_cli.specs.Words.{Command, SpellsBytes, IsName, AreOperands, IsWord, is_taken, takes_value, command_of, Outcome, ComesTo, outcome_of, texts};
+ghost use Rattle.bz_cli.specs.Words.{Command, SpellsBytes, IsName, AreOperands, IsWord, takes_value, command_of, Outcome, ComesTo, outcome_of, texts};
 ghost use Rattle.bz_cli.specs.declared.words.SessionError.TheVariants.{Memory};
 
 use bz_model::{Cmd, HostCmd, MAX_WIDTH, Value, Verb};
@@ -118,27 +118,19 @@ fn host_command(alloc: Global, verb: Verb, operands: &str) -> Result<Option<Host
     Ok(Some(HostCmd { verb, port, value }))
 }
 
-// The verb of this word, if it is taken.
+// The verb of this word, if there is one.
 fn verb(word: &str) -> Option<Verb>
-    ensures some { IfSome result (λ v. (word.now ≡ verb_text v) × (is_taken v ≡ true)) }
-    ensures none { IfNone result ((v : Verb) → is_taken v ≡ true → word.now ≢ verb_text v) }
+    ensures some { IfSome result (λ v. word.now ≡ verb_text v) }
+    ensures none { IfNone result ((v : Verb) → word.now ≢ verb_text v) }
 {
-    let verb = match word {
-        "offer" => Verb::Offer,
-        "collect" => Verb::Collect,
-        "accept" => Verb::Accept,
-        "answer" => Verb::Answer,
-        "watch" => Verb::Watch,
-        _ => return None,
-    };
-    if is_taken(verb) { Some(verb) } else { None }
-}
-
-// Whether words with this verb are taken yet.
-fn is_taken(verb: Verb) -> bool
-    ensures { result ≡ is_taken verb }
-{
-    matches!(verb, Verb::Offer | Verb::Watch)
+    match word {
+        "offer" => Some(Verb::Offer),
+        "collect" => Some(Verb::Collect),
+        "accept" => Some(Verb::Accept),
+        "answer" => Some(Verb::Answer),
+        "watch" => Some(Verb::Watch),
+        _ => None,
+    }
 }
 
 // Whether a command of this verb may bring a value.

@@ -1,12 +1,14 @@
 //! The flat net of a part: its channels, its components, its external ports, and the ends of each channel.
 
-ghost use Rattle.std.specs.Prelude.{◌≡◌, ◌<◌, ◌^◌, length, map};
+ghost use Rattle.std.specs.Prelude.{◌≡◌, ◌<◌, ◌^◌, length, map, IfOk, IfErr};
 ghost use Rattle.std.specs.Option.{option_copied, option_map};
 ghost use Rattle.bz_model.specs.Names.{external, port_number, channel, numbered};
 ghost use Rattle.bz_elab.specs.Flats.{site_of, wiring_of};
 ghost use Rattle.bz_elab.specs.Wires.{WellWired, EndsOf};
 
-use bz_model::{Chan, Kind, Port};
+use crate::error::ElabError;
+use bz_model::{Chan, Kind, Port, dup_ports, number_of, numbered};
+use std::alloc::{AllocError, Global};
 use std::marker::Model;
 
 /// A component of the net: its kind, the lengths of its arrays in the row's order (0 where there is none), and its
@@ -117,6 +119,23 @@ impl Flat {
         numbered(&self.ends, chan).copied()
     }
 
+    /// The same net.
+    pub fn dup(&self, alloc: Global) -> Result<Flat, ElabError>
+        ensures ok { IfOk result (λ f. f ≡ self.now) }
+        ensures err { IfErr result (λ e. e ≡ ElabError.Memory) }
+    {
+        let chans = Vec::from_slice(alloc, &self.chans)?;
+        let comps = dup_comps(alloc, &self.comps)?;
+        let ports = dup_ports(alloc, &self.ports)?;
+        let ends = Vec::from_slice(alloc, &self.ends)?;
+        Ok(Flat {
+            chans,
+            comps,
+            ports,
+            ends,
+        })
+    }
+
     /// What the net is made of.
     pub fn into_pieces(self) -> Pieces
         ensures wiring { self.wiring ≡ wiring_of result.chans.items result.comps.items result.ports.items }
@@ -133,25 +152,19 @@ impl Flat {
     }
 }
 
-// The number of the first port of this name.
-fn number_of(ports: &[Port], name: &[u8]) -> Option<u32>
-    requires { length ports.now < 2 ^ 32 }
-    ensures { result ≡ port_number (map external ports.now) name.now }
+/// The same components.
+pub fn dup_comps(alloc: Global, comps: &[FlatComp]) -> Result<Vec<FlatComp>, AllocError>
+    ensures { IfOk result (λ v. map site_of v.items ≡ map site_of comps.now) }
 {
-    for (place, port) in ports.iter().enumerate() {
-        if port.name.as_slice() == name {
-            return Some(place as u32 + 1);
-        }
+    let mut same = Vec::new(alloc);
+    for comp in comps {
+        let kind = comp.kind.dup(alloc)?;
+        let chans = Vec::from_slice(alloc, &comp.chans)?;
+        same.push(FlatComp {
+            kind,
+            sizes: comp.sizes,
+            chans,
+        })?;
     }
-    None
-}
-
-// The element of this number, counted from 1.
-fn numbered<T>(items: &[T], number: u32) -> Option<&T>
-    ensures { option_copied result ≡ numbered items.now number }
-{
-    if number == 0 {
-        return None;
-    }
-    items.get(number as usize - 1)
+    Ok(same)
 }

@@ -9,7 +9,7 @@ mod level;
 mod walk;
 
 pub use error::ElabError;
-pub use flat::{Ends, Flat, FlatComp, Pieces};
+pub use flat::{Ends, Flat, FlatComp, Pieces, dup_comps};
 pub use level::elaborate;
 
 #[cfg(test)]

@@ -14,12 +14,14 @@ mod script;
 mod shape;
 mod table;
 mod together;
+mod word;
 
 pub use comp::{Comp, apply, dup, enabled, moves, next, start};
 pub use error::KindError;
 pub use move_iter::MoveIter;
 pub use naming::kind_of;
 pub use table::{PortRow, is_passive, kinds_are, port_table, sizes_fit, widths_fit};
+pub use word::kind_word;
 
 #[cfg(test)]
 mod tests;

@@ -13,7 +13,7 @@ pub use channel::{Chan, ChanKind, MAX_WIDTH, Move, Phase, Value, carries, fits};
 pub use event::{Cmd, Entry, HostCmd, NetError, Reply, Verb, Who};
 pub use expr::Expr;
 pub use kind::{Kind, MAX_MEMBERS, Param};
-pub use names::{Names, Port};
+pub use names::{Names, Port, dup_ports, number_of, numbered};
 
 #[cfg(test)]
 mod tests;

@@ -1,10 +1,11 @@
 //! The external ports and the channels of a net, by name and number.
 
-ghost use Rattle.std.specs.Prelude.{◌≡◌, ◌<◌, ◌^◌, ◌-◌, length, map, slice_get};
+ghost use Rattle.std.specs.Prelude.{◌≡◌, ◌<◌, ◌^◌, ◌-◌, length, map, slice_get, IfOk};
 ghost use Rattle.std.specs.Option.{option_copied, option_map};
 ghost use Rattle.bz_model.specs.Names.{external, port_number, port_name, port_sense, channel, numbered};
 
 use crate::channel::Chan;
+use std::alloc::{AllocError, Global};
 use std::marker::Model;
 
 /// An external port: its name, and its declared sense.
@@ -74,10 +75,34 @@ impl Names {
     {
         numbered(&self.chans, chan).copied()
     }
+
+    /// The same names.
+    pub fn dup(&self, alloc: Global) -> Result<Names, AllocError>
+        ensures { IfOk result (λ n. n ≡ self.now) }
+    {
+        let ports = dup_ports(alloc, &self.ports)?;
+        let chans = Vec::from_slice(alloc, &self.chans)?;
+        Ok(Names { ports, chans })
+    }
 }
 
-// The number of the first port of this name.
-fn number_of(ports: &[Port], name: &[u8]) -> Option<u32>
+/// The same ports.
+pub fn dup_ports(alloc: Global, ports: &[Port]) -> Result<Vec<Port>, AllocError>
+    ensures { IfOk result (λ v. map external v.items ≡ map external ports.now) }
+{
+    let mut same = Vec::new(alloc);
+    for port in ports {
+        let name = Vec::from_slice(alloc, &port.name)?;
+        same.push(Port {
+            name,
+            passive: port.passive,
+        })?;
+    }
+    Ok(same)
+}
+
+/// The number of the first port of this name.
+pub fn number_of(ports: &[Port], name: &[u8]) -> Option<u32>
     requires { length ports.now < 2 ^ 32 }
     ensures { result ≡ port_number (map external ports.now) name.now }
 {
@@ -89,8 +114,8 @@ fn number_of(ports: &[Port], name: &[u8]) -> Option<u32>
     None
 }
 
-// The element of this number, counted from 1.
-fn numbered<T>(items: &[T], number: u32) -> Option<&T>
+/// The element of this number, counted from 1.
+pub fn numbered<T>(items: &[T], number: u32) -> Option<&T>
     ensures { option_copied result ≡ numbered items.now number }
 {
     if number == 0 {

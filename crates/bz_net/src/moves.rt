@@ -13,7 +13,7 @@ ghost use Rattle.bz_net.specs.Keeping.{state_of, Started, Placed, Refreshed, Ref
 use bz_elab::{Ends, FlatComp};
 use bz_kinds::Comp;
 use bz_model::{Chan, ChanKind, Move, Names, NetError, Phase, Reply, Value, Verb, fits};
-use std::alloc::Global;
+use std::alloc::{AllocError, Global};
 
 /// The channel at a component's port.
 pub(crate) fn chan_of(sites: &[FlatComp], comp: u32, port: u32) -> Option<u32>
@@ -267,6 +267,20 @@ pub(crate) fn start_all(
         }
     }
     Ok(comps)
+}
+
+/// The same components.
+pub(crate) fn dup_all(alloc: Global, comps: &[Comp]) -> Result<Vec<Comp>, AllocError>
+    ensures { IfOk result (λ v. v.items ≡ comps.now) }
+{
+    let mut same = Vec::new(alloc);
+    for comp in comps {
+        let Ok(copy) = bz_kinds::dup(alloc, comp) else {
+            return Err(AllocError);
+        };
+        same.push(copy)?;
+    }
+    Ok(same)
 }
 
 /// A component at its start.

@@ -13,12 +13,12 @@ ghost use Rattle.bz_net.specs.Serving.{Serves, Refuses};
 
 use crate::event::{Answer, Event, RestReply, RunEnd};
 use crate::moves::{
-    can_fire, command, lowest_port, mark_all, move_comp, next_from, refusal_of, start_all,
+    can_fire, command, dup_all, lowest_port, mark_all, move_comp, next_from, refusal_of, start_all,
 };
-use bz_elab::{Ends, Flat, FlatComp};
+use bz_elab::{Ends, Flat, FlatComp, dup_comps};
 use bz_kinds::Comp;
 use bz_model::{Entry, Names, NetError, Phase, Reply, Value, Verb, Who};
-use std::alloc::Global;
+use std::alloc::{AllocError, Global};
 use std::marker::Model;
 
 /// A net, its journal, and which components can move.
@@ -88,6 +88,42 @@ impl Net {
             ready,
             journal: Vec::new(alloc),
             limit: limit as usize,
+        })
+    }
+
+    /// The same net, with room for as many entries; what is done on one does not show on the other.
+    pub fn dup(&self, alloc: Global) -> Result<Net, NetError>
+        ensures same { IfOk result (λ n. n ≡ record self.now { room = n.room }) }
+        ensures room { IfOk result (λ n. self.now.room ≤ n.room) }
+        ensures err { IfErr result (λ e. e ≡ NetError.Memory) }
+    {
+        match self.copy(alloc) {
+            Ok(net) => Ok(net),
+            Err(_) => Err(NetError::Memory),
+        }
+    }
+
+    fn copy(&self, alloc: Global) -> Result<Net, AllocError>
+        ensures same { IfOk result (λ n. n ≡ record self.now { room = n.room }) }
+        ensures room { IfOk result (λ n. self.now.room ≤ n.room) }
+    {
+        let names = self.names.dup(alloc)?;
+        let sites = dup_comps(alloc, &self.sites)?;
+        let ends = Vec::from_slice(alloc, &self.ends)?;
+        let phases = Vec::from_slice(alloc, &self.phases)?;
+        let comps = dup_all(alloc, &self.comps)?;
+        let ready = Vec::from_slice(alloc, &self.ready)?;
+        let mut journal = Vec::with_capacity(alloc, self.journal.capacity())?;
+        journal.extend_from_slice(&self.journal)?;
+        Ok(Net {
+            names,
+            sites,
+            ends,
+            phases,
+            comps,
+            ready,
+            journal,
+            limit: self.limit,
         })
     }
 
@@ -226,6 +262,7 @@ impl Net {
         for fired in 0..fuel {
             match self.step(who, next) {
                 Ok(Entry::Fired { comp, .. }) => {
+                    // A read of the net brings its bound on component numbers, so the sum fits.
                     let _ = &self.limit;
                     next = comp + 1;
                 }

@@ -17,7 +17,7 @@ fn refuses(
     let outcome = play(alloc, netlist, part, 10, &["run:5"])?;
     assert_eq!(rt; outcome.fault.as_str(), line);
     assert_eq!(rt; outcome.status, 1);
-    assert_eq!(rt; outcome.trace.as_slice(), b"".as_slice());
+    assert_eq!(rt; outcome.text.as_slice(), b"".as_slice());
     Ok(())
 }
 
@@ -34,7 +34,7 @@ fn stops(
     let outcome = play(alloc, netlist.as_bytes(), part, 2, words)?;
     assert_eq!(rt; outcome.fault.as_str(), line);
     assert_eq!(rt; outcome.status, 3);
-    assert_eq!(rt; outcome.trace.as_slice(), trace.as_bytes());
+    assert_eq!(rt; outcome.text.as_slice(), trace.as_bytes());
     Ok(())
 }
 
@@ -168,7 +168,7 @@ fn words(rt: HostRuntime) -> Result<(), Fail> {
         )?;
         assert_eq!(rt; outcome.fault.as_str(), "H1 BadWord 2");
         assert_eq!(rt; outcome.status, 2);
-        assert_eq!(rt; outcome.trace.as_slice(), b"".as_slice());
+        assert_eq!(rt; outcome.text.as_slice(), b"".as_slice());
     }
     Ok(())
 }
@@ -228,6 +228,24 @@ fn events(rt: HostRuntime) -> Result<(), Fail> {
         "trace 1\n",
         "N5 TooLarge word 1",
     )?;
+    stops(
+        &rt,
+        rt.alloc(),
+        BUFFER,
+        "buffer",
+        &["accept:activate"],
+        "trace 1\n",
+        "N2 WrongSide word 1",
+    )?;
+    stops(
+        &rt,
+        rt.alloc(),
+        BUFFER,
+        "buffer",
+        &["answer:i"],
+        "trace 1\n",
+        "N3 ValueMissing word 1",
+    )?;
     let two = "trace 1\nh1 offer activate done\nw1 fire 2 take 1\n";
     stops(
         &rt,
@@ -274,7 +292,7 @@ fn netlists_that_are_cut(rt: HostRuntime) -> Result<(), Fail> {
     for end in [1, 40, 200, 300] {
         let outcome = play(rt.alloc(), &whole[..end], "buffer", 10, &["run:5"])?;
         assert_eq!(rt; outcome.status, 1);
-        assert_eq!(rt; outcome.trace.as_slice(), b"".as_slice());
+        assert_eq!(rt; outcome.text.as_slice(), b"".as_slice());
     }
     Ok(())
 }

@@ -4,6 +4,10 @@
 #[cfg(test)]
 mod faults;
 #[cfg(test)]
+mod hosts;
+#[cfg(test)]
+mod lists;
+#[cfg(test)]
 mod netlists;
 #[cfg(test)]
 mod nets;

@@ -26,3 +26,48 @@ pub const EMPTY: &str = "(breeze-part \"p\" (ports) (channels) (components))";
 /// A sequence whose one output is its own activation.
 pub const KNOT: &str = "(breeze-part \"knot\" (ports) (channels (sync))
  (components (component \"$BrzSequence\" () (1 (1)))))";
+
+/// A Continue on port `s`, and a variable on ports `w` and `r`.
+pub const ECHO: &str = "(breeze-part \"echo\"
+ (ports (sync-port \"s\" passive) (port \"w\" passive input) (port \"r\" passive output))
+ (channels (sync) (push 8) (pull 8))
+ (components
+  (component \"$BrzContinue\" () (1))
+  (component \"$BrzVariable\" (8 1 \"v\" \"\") (2 (3)))))
+";
+
+/// Once asked on `go`: a handshake on `s`, then a value fetched from `i` to `o`.
+pub const WIRES: &str = "(breeze-part \"wires\"
+ (ports (sync-port \"go\" passive) (sync-port \"s\" active) (port \"i\" active input) (port \"o\" active output))
+ (channels (sync) (sync) (pull 8) (push 8) (sync))
+ (components
+  (component \"$BrzSequence\" (2) (1 (2 5)))
+  (component \"$BrzFetch\" (8) (5 3 4))))
+";
+
+/// The one-place buffer as a compiler writes it, with what is not looked at.
+pub const DECORATED: &str = ";;; Breeze file
+(import \"[balsa.types.basic]\")
+(breeze-part \"buffer\"
+ (ports
+  (sync-port \"activate\" passive (at 3 1 \"buffer.balsa\" 0))
+  (port \"i\" active input (numeric-type #f 8) (at 3 1 \"buffer.balsa\" 0))
+  (port \"o\" active output (numeric-type #f 8) (at 3 1 \"buffer.balsa\" 0)))
+ (attributes (is-procedure) (line-count 5))
+ (channels
+  (sync (at 3 1 \"buffer.balsa\" 0) (name \"c\"))
+  (pull 8 (at 3 1 \"buffer.balsa\" 0) (name \"c\"))
+  (push 8 (at 3 1 \"buffer.balsa\" 0) (name \"c\"))
+  (sync (at 3 1 \"buffer.balsa\" 0) (name \"c\"))
+  (sync (at 3 1 \"buffer.balsa\" 0) (name \"c\"))
+  (sync (at 3 1 \"buffer.balsa\" 0) (name \"c\"))
+  (push 8 (at 3 1 \"buffer.balsa\" 0) (name \"c\"))
+  (pull 8 (at 3 1 \"buffer.balsa\" 0) (name \"c\")))
+ (components
+  (component \"$BrzVariable\" (8 1 \"x\" \"\") (7 (8)) (at 3 1 \"buffer.balsa\" 0))
+  (component \"$BrzLoop\" () (1 4) (at 3 1 \"buffer.balsa\" 0))
+  (component \"$BrzSequenceOptimised\" (2 \"S\") (4 (5 6)) (at 3 1 \"buffer.balsa\" 0))
+  (component \"$BrzFetch\" (8 \"false\") (5 2 7) (at 3 1 \"buffer.balsa\" 0))
+  (component \"$BrzFetch\" (8 \"false\") (6 8 3) (at 3 1 \"buffer.balsa\" 0)))
+ (call-contexts))
+";

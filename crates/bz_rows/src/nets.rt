@@ -6,14 +6,15 @@ use crate::netlists::{BUFFER, CELL, KNOT};
 use bz_model::{Entry, HostCmd, Move, NetError, Phase, Reply, Verb, Who};
 use bz_net::{Answer, Event, Net, RestReply, RunEnd};
 use std::alloc::Global;
+use std::process::Abort;
 use std::test::Fail;
 
 const HOST: Who = Who::Host(1);
 
 const WORKER: Who = Who::Worker(1);
 
-// The net of a part, at its opening.
-fn net_of(alloc: Global, netlist: &str, part: &str, limit: u32) -> Result<Net, Fail>
+/// The net of a part, at its opening.
+pub fn net_of(alloc: Global, netlist: &str, part: &str, limit: u32) -> Result<Net, Fail>
     requires least { 0 < limit }
     requires most { limit ≤ 16777216 }
 {
@@ -21,6 +22,18 @@ fn net_of(alloc: Global, netlist: &str, part: &str, limit: u32) -> Result<Net, F
     let parts = bz_breeze::parts(alloc, data.as_slice())?;
     let flat = bz_elab::elaborate(alloc, parts.list(), part.as_bytes())?;
     Ok(Net::open(alloc, flat, limit)?)
+}
+
+// The phase of a channel of the net.
+fn phase_of(rt: &impl Abort, net: &Net, chan: u32) -> Phase {
+    assert!(rt; net.names().chan(chan).is_some());
+    net.phase(chan)
+}
+
+// The components at the ends of a channel of the net.
+fn ends_of(rt: &impl Abort, net: &Net, chan: u32) -> [Option<u32>; 2] {
+    assert!(rt; net.names().chan(chan).is_some());
+    net.ends(chan)
 }
 
 fn fired(comp: u32, port: u32, chan: u32, mv: Move, value: Option<u64>) -> Entry {
@@ -69,11 +82,11 @@ fn what_is_told_of_a_net(rt: HostRuntime) -> Result<(), Fail> {
     let net = net_of(rt.alloc(), BUFFER, "buffer", 100)?;
     assert_eq!(rt; net.names().port(b"o".as_slice()), Some(3));
     assert_eq!(rt; net.names().passive(1), Some(true));
-    assert_eq!(rt; net.ends(1), [None, Some(2)]);
-    assert_eq!(rt; net.ends(4), [Some(2), Some(3)]);
-    assert_eq!(rt; net.ends(2), [Some(4), None]);
-    assert_eq!(rt; net.ends(7), [Some(4), Some(1)]);
-    assert_eq!(rt; net.phase(4), Phase::Idle);
+    assert_eq!(rt; ends_of(&rt, &net, 1), [None, Some(2)]);
+    assert_eq!(rt; ends_of(&rt, &net, 4), [Some(2), Some(3)]);
+    assert_eq!(rt; ends_of(&rt, &net, 2), [Some(4), None]);
+    assert_eq!(rt; ends_of(&rt, &net, 7), [Some(4), Some(1)]);
+    assert_eq!(rt; phase_of(&rt, &net, 4), Phase::Idle);
     Ok(())
 }
 
@@ -82,7 +95,7 @@ fn no_move_at_both_ends_of_a_channel(rt: HostRuntime) -> Result<(), Fail> {
     let mut net = net_of(rt.alloc(), KNOT, "knot", 100)?;
     assert_eq!(rt; net.fire_move(WORKER, 1, 1), Err(NetError::NotEnabled));
     assert_eq!(rt; net.fire_move(WORKER, 1, 2), Err(NetError::NotEnabled));
-    assert_eq!(rt; net.ends(1), [Some(1), Some(1)]);
+    assert_eq!(rt; ends_of(&rt, &net, 1), [Some(1), Some(1)]);
     assert_eq!(rt; net.run(WORKER, 1, 5), RunEnd::Rest(0));
     Ok(())
 }
@@ -106,7 +119,7 @@ fn one_handshake_from_both_sides(rt: HostRuntime) -> Result<(), Fail> {
     assert_eq!(rt; net.run(WORKER, 1, 100), RunEnd::Rest(6));
     assert_eq!(rt; net.accept(HOST, b"i".as_slice()), Ok(Reply::Done));
     assert_eq!(rt; net.answer(HOST, b"i".as_slice(), Some(5)), Ok(Reply::Done));
-    assert_eq!(rt; net.phase(2), Phase::Replied(Some(5)));
+    assert_eq!(rt; phase_of(&rt, &net, 2), Phase::Replied(Some(5)));
     assert_eq!(rt; net.run(WORKER, 1, 100), RunEnd::Rest(14));
     assert_eq!(rt; net.accept(HOST, b"o".as_slice()), Ok(Reply::Value(5)));
     assert_eq!(rt;
@@ -138,7 +151,7 @@ fn a_full_journal(rt: HostRuntime) -> Result<(), Fail> {
         Err(NetError::UnknownPort)
     );
     assert_eq!(rt; net.journal().len(), 3);
-    assert_eq!(rt; net.phase(4), Phase::Asked(None));
+    assert_eq!(rt; phase_of(&rt, &net, 4), Phase::Asked(None));
     Ok(())
 }
 
@@ -174,5 +187,35 @@ fn any_event_by_one_call(rt: HostRuntime) -> Result<(), Fail> {
         net.serve(WORKER, Event::Step { from: 1 }),
         Ok(Answer::Rest(RestReply::Rest))
     );
+    Ok(())
+}
+
+#[test]
+fn copies_go_apart(rt: HostRuntime) -> Result<(), Fail> {
+    let mut net = net_of(rt.alloc(), BUFFER, "buffer", 3)?;
+    assert!(rt; net.reserve(3).is_ok());
+    assert_eq!(rt; net.offer(HOST, b"activate", None), Ok(Reply::Done));
+    assert_eq!(rt; net.fire(WORKER, 2), Ok(fired(2, 1, 1, Move::Take, None)));
+    let mut copy = net.dup(rt.alloc())?;
+    assert_eq!(rt; copy.journal(), net.journal());
+    for chan in 1..9 {
+        assert_eq!(rt; phase_of(&rt, &copy, chan), phase_of(&rt, &net, chan));
+        assert_eq!(rt; ends_of(&rt, &copy, chan), ends_of(&rt, &net, chan));
+    }
+    for comp in 0..7 {
+        assert_eq!(rt; copy.is_ready(comp), net.is_ready(comp));
+    }
+    assert_eq!(rt; copy.next_ready(1), net.next_ready(1));
+    assert_eq!(rt; copy.names().name(2), net.names().name(2));
+    // what one copy does, the other has still to do
+    assert_eq!(rt; copy.fire(WORKER, 2), Ok(fired(2, 2, 4, Move::Ask, None)));
+    assert_eq!(rt; net.journal().len(), 2);
+    assert_eq!(rt; copy.journal().len(), 3);
+    assert_eq!(rt; phase_of(&rt, &net, 4), Phase::Idle);
+    assert_eq!(rt; phase_of(&rt, &copy, 4), Phase::Asked(None));
+    assert_eq!(rt; net.next_ready(1), Some(2));
+    assert_eq!(rt; copy.next_ready(1), Some(3));
+    assert_eq!(rt; net.fire(WORKER, 2), Ok(fired(2, 2, 4, Move::Ask, None)));
+    assert_eq!(rt; copy.journal(), net.journal());
     Ok(())
 }

@@ -19,7 +19,7 @@ w1 fire 4 ask 2
 w1 rest
 h1 watch i asked
 ";
-    assert_eq!(rt; outcome.trace.as_slice(), want.as_bytes());
+    assert_eq!(rt; outcome.text.as_slice(), want.as_bytes());
     assert_eq!(rt; outcome.status, 0);
     Ok(())
 }
@@ -27,7 +27,7 @@ h1 watch i asked
 #[test]
 fn empty_part_rests(rt: HostRuntime) -> Result<(), Fail> {
     let outcome = play(rt.alloc(), EMPTY.as_bytes(), "p", 10, &["run:5"])?;
-    assert_eq!(rt; outcome.trace.as_slice(), b"trace 1\nw1 rest\n".as_slice());
+    assert_eq!(rt; outcome.text.as_slice(), b"trace 1\nw1 rest\n".as_slice());
     assert_eq!(rt; outcome.status, 0);
     Ok(())
 }
@@ -35,7 +35,7 @@ fn empty_part_rests(rt: HostRuntime) -> Result<(), Fail> {
 #[test]
 fn no_words_are_an_empty_trace(rt: HostRuntime) -> Result<(), Fail> {
     let outcome = play(rt.alloc(), BUFFER.as_bytes(), "buffer", 10, &[])?;
-    assert_eq!(rt; outcome.trace.as_slice(), b"trace 1\n".as_slice());
+    assert_eq!(rt; outcome.text.as_slice(), b"trace 1\n".as_slice());
     assert_eq!(rt; outcome.status, 0);
     Ok(())
 }
@@ -43,7 +43,7 @@ fn no_words_are_an_empty_trace(rt: HostRuntime) -> Result<(), Fail> {
 #[test]
 fn sequence_on_both_ends_of_a_channel_rests(rt: HostRuntime) -> Result<(), Fail> {
     let outcome = play(rt.alloc(), KNOT.as_bytes(), "knot", 10, &["run:5"])?;
-    assert_eq!(rt; outcome.trace.as_slice(), b"trace 1\nw1 rest\n".as_slice());
+    assert_eq!(rt; outcome.text.as_slice(), b"trace 1\nw1 rest\n".as_slice());
     assert_eq!(rt; outcome.status, 0);
     Ok(())
 }
@@ -54,10 +54,10 @@ fn second_offer_is_told_busy(rt: HostRuntime) -> Result<(), Fail> {
         "offer:w:1",
         "offer:w:2",
         "run:9",
-        "watch:w",
+        "collect:w",
         "offer:r",
         "run:9",
-        "watch:r",
+        "collect:r",
     ];
     let outcome = play(rt.alloc(), CELL.as_bytes(), "cell", 100, &words)?;
     let want = "trace 1
@@ -66,14 +66,132 @@ h1 offer w 2 busy asked 1
 w1 fire 1 take 1 1
 w1 fire 1 reply 1
 w1 rest
-h1 watch w replied
+h1 collect w done
 h1 offer r done
 w1 fire 1 take 2
 w1 fire 1 reply 2 1
 w1 rest
-h1 watch r replied 1
+h1 collect r value 1
 ";
-    assert_eq!(rt; outcome.trace.as_slice(), want.as_bytes());
+    assert_eq!(rt; outcome.text.as_slice(), want.as_bytes());
+    assert_eq!(rt; outcome.status, 0);
+    Ok(())
+}
+
+#[test]
+fn value_goes_through_the_buffer(rt: HostRuntime) -> Result<(), Fail> {
+    let words = [
+        "offer:activate",
+        "run:100",
+        "accept:i",
+        "answer:i:5",
+        "run:100",
+        "accept:o",
+        "answer:o",
+        "run:100",
+    ];
+    let outcome = play(rt.alloc(), BUFFER.as_bytes(), "buffer", 1_000_000, &words)?;
+    let want = "trace 1
+h1 offer activate done
+w1 fire 2 take 1
+w1 fire 2 ask 4
+w1 fire 3 take 4
+w1 fire 3 ask 5
+w1 fire 4 take 5
+w1 fire 4 ask 2
+w1 rest
+h1 accept i done
+h1 answer i 5 done
+w1 fire 4 got 2 5
+w1 fire 4 ask 7 5
+w1 fire 1 take 7 5
+w1 fire 1 reply 7
+w1 fire 4 got 7
+w1 fire 4 reply 5
+w1 fire 3 got 5
+w1 fire 3 ask 6
+w1 fire 5 take 6
+w1 fire 5 ask 8
+w1 fire 1 take 8
+w1 fire 1 reply 8 5
+w1 fire 5 got 8 5
+w1 fire 5 ask 3 5
+w1 rest
+h1 accept o value 5
+h1 answer o done
+w1 fire 5 got 3
+w1 fire 5 reply 6
+w1 fire 3 got 6
+w1 fire 3 reply 4
+w1 fire 2 got 4
+w1 fire 2 ask 4
+w1 fire 3 take 4
+w1 fire 3 ask 5
+w1 fire 4 take 5
+w1 fire 4 ask 2
+w1 rest
+";
+    assert_eq!(rt; outcome.text.as_slice(), want.as_bytes());
+    assert_eq!(rt; outcome.status, 0);
+    Ok(())
+}
+
+#[test]
+fn two_offers_at_once(rt: HostRuntime) -> Result<(), Fail> {
+    let words = ["offer:activate", "offer:activate"];
+    let outcome = play(rt.alloc(), BUFFER.as_bytes(), "buffer", 10, &words)?;
+    let want = "trace 1
+h1 offer activate done
+h1 offer activate busy asked
+";
+    assert_eq!(rt; outcome.text.as_slice(), want.as_bytes());
+    assert_eq!(rt; outcome.status, 0);
+    Ok(())
+}
+
+#[test]
+fn nothing_to_collect(rt: HostRuntime) -> Result<(), Fail> {
+    let words = [
+        "offer:activate",
+        "run:100",
+        "collect:activate",
+        "watch:activate",
+    ];
+    let outcome = play(rt.alloc(), BUFFER.as_bytes(), "buffer", 100, &words)?;
+    let want = "w1 rest
+h1 collect activate not-yet
+h1 watch activate taken
+";
+    assert!(rt; outcome.text.ends_with(want.as_bytes()));
+    assert_eq!(rt; outcome.status, 0);
+    Ok(())
+}
+
+#[test]
+fn values_of_eight_bits(rt: HostRuntime) -> Result<(), Fail> {
+    let words = ["offer:activate", "run:100", "accept:i", "answer:i:256"];
+    let outcome = play(rt.alloc(), BUFFER.as_bytes(), "buffer", 100, &words)?;
+    assert!(rt; outcome.text.ends_with(b"w1 rest\nh1 accept i done\n"));
+    assert_eq!(rt; outcome.fault.as_str(), "N5 TooLarge word 4");
+    assert_eq!(rt; outcome.status, 3);
+
+    let words = ["offer:activate", "run:100", "accept:i", "answer:i:255"];
+    let outcome = play(rt.alloc(), BUFFER.as_bytes(), "buffer", 100, &words)?;
+    assert!(rt;
+        outcome
+            .text
+            .ends_with(b"h1 accept i done\nh1 answer i 255 done\n")
+    );
+    assert_eq!(rt; outcome.status, 0);
+    Ok(())
+}
+
+#[test]
+fn nothing_taken_to_answer(rt: HostRuntime) -> Result<(), Fail> {
+    let outcome = play(rt.alloc(), BUFFER.as_bytes(), "buffer", 10, &["answer:o"])?;
+    let want = b"trace 1\nh1 answer o not-taken idle\n";
+    assert_eq!(rt; outcome.text.as_slice(), want.as_slice());
+    assert_eq!(rt; outcome.status, 0);
     Ok(())
 }
 
@@ -86,6 +204,6 @@ h1 offer activate done
 w1 fire 2 take 1
 w1 fire 2 ask 4
 ";
-    assert_eq!(rt; outcome.trace.as_slice(), want.as_bytes());
+    assert_eq!(rt; outcome.text.as_slice(), want.as_bytes());
     Ok(())
 }

@@ -10,4 +10,5 @@ mod trace;
 
 pub use name_form::NameForm;
 pub use output::WriteFault;
+pub use parts::{Part, put_parts};
 pub use trace::write_trace;
