@@ -1,5 +1,5 @@
 -- Data read in turn, a step at a time.
-use Rattle.std.proofs.Common.{◌≡◌, ℕ, suc, ◌+◌, ◌<◌, List, [], ◌∷◌, ◌++◌, Result, Ok, Err, map, drop, drop-cons, add-one, get_or, length, Option, Some, None, refl, sym, ap, ◌∙◌, arith, rules, Vec, Global}
+use Rattle.std.proofs.Common.{◌≡◌, ℕ, ◌+◌, ◌<◌, List, [], ◌∷◌, ◌++◌, Result, Ok, Err, map, drop, drop-cons, add-one, get_or, length, Some, refl, sym, ap, ◌∙◌, rules, Vec, Global}
 use Rattle.bz_sexpr.specs.Data.{Datum, items, span_of}
 use Rattle.bz_sexpr.specs.declared.datum.Span.{Span}
 use Rattle.bz_sexpr.specs.declared.datum.Datum as declared
@@ -7,11 +7,11 @@ use Rattle.bz_sexpr.specs.declared.datum.Datum.{Items, the_lemmas}
 use Rattle.bz_sexpr.specs.Views.{list_of, data_of, datum_view}
 use Rattle.std.proofs.lemmas.Option.{IfSome_then}
 use Rattle.std.proofs.lemmas.Simd.{map-map}
-use Rattle.bz_breeze.specs.Records.{PartRecord, part_record}
+use Rattle.bz_breeze.specs.Records.{part_record}
 use Rattle.bz_breeze.specs.declared.part.Part.{Part}
-use Rattle.bz_breeze.specs.Turns.{in_turn, if_read, beside, FaultAt, at_byte}
+use Rattle.bz_breeze.specs.Turns.{in_turn, if_read, at_byte}
 use Rattle.bz_breeze.specs.Faults.{HasFault, Fault, Tells, fault_of}
-use Rattle.bz_breeze.specs.Parts.{part, parts, part_items, part_names, listed_part, named_part}
+use Rattle.bz_breeze.specs.Parts.{part, part_items, part_names, listed_part, named_part}
 use Rattle.bz_breeze.specs.declared.error.BreezeError.{BreezeError}
 use Rattle.bz_breeze.specs.declared.error.Code.{Code}
 use Rattle.bz_breeze.specs.declared.error.Refusal.{Refusal}
@@ -22,19 +22,13 @@ module _ {S E X : Type 0} (step : S → Datum → Result S E) (v : X → Datum) 
   front : i < length ds → d ≡ get_or ds i d → in_turn step s (map v (drop i ds)) ≡ if_read (step s (v d)) (λ t. in_turn step t (map v (drop (i + 1) ds)))
   front lt is = rw (add-one, drop-cons ds i d lt, ← is) refl
 
+  -- a step that reads the datum
   pub turn_more : (t : S) → i < length ds → d ≡ get_or ds i d → step s (v d) ≡ Ok t → in_turn step s (map v (drop i ds)) ≡ in_turn step t (map v (drop (i + 1) ds))
   turn_more t lt is h = front lt is ∙ ap (λ r. if_read r (λ t. in_turn step t (map v (drop (i + 1) ds)))) h
 
+  -- a step that finds it at fault
   pub turn_fault : (e : E) → i < length ds → d ≡ get_or ds i d → step s (v d) ≡ Err e → in_turn step s (map v (drop i ds)) ≡ Err e
   turn_fault e lt is h = front lt is ∙ ap (λ r. if_read r (λ t. in_turn step t (map v (drop (i + 1) ds)))) h
-
-module _ {A E X : Type 0} (f : List A → Datum → Result A E) (v : X → Datum) (ds : List X) (i : ℕ) (d : X) (before : List A) where
-  pub each_more : (x : A) → i < length ds → d ≡ get_or ds i d → f before (v d) ≡ Ok x
-      → in_turn (beside f) before (map v (drop i ds)) ≡ in_turn (beside f) (before ++ x ∷ []) (map v (drop (i + 1) ds))
-  each_more x lt is h = turn_more (beside f) v ds i d before (before ++ x ∷ []) lt is (ap (λ r. if_read r (λ y. Ok (before ++ y ∷ []))) h)
-
-  pub each_fault : (e : E) → i < length ds → d ≡ get_or ds i d → f before (v d) ≡ Err e → in_turn (beside f) before (map v (drop i ds)) ≡ Err e
-  each_fault e lt is h = turn_fault (beside f) v ds i d before e lt is (ap (λ r. if_read r (λ y. Ok (before ++ y ∷ []))) h)
 
 -- the data of a list, there and back
 pub list_of-data_of : (ds : List Datum) → list_of (data_of ds) ≡ ds
@@ -47,6 +41,7 @@ fault_within at (Ok x) k (At c b) h = cc
 fault_within at (Err code) k (At c b) h = cc
 fault_within at r k NoMemory h = tt
 
+-- how a list is seen
 pub view_items : (v : Vec declared.Datum Global) (span : Span) → datum_view (Items v span) ≡ items (data_of (map datum_view v.items)) span
 view_items v span = search (rules, the_lemmas)
 

@@ -1,5 +1,5 @@
 -- What a refusal tells. A want of memory says nothing of the text.
-use Rattle.std.specs.Prelude.{◌≡◌, ℕ, List, Option, Some, None, Result, Ok, Err, IfSome}
+use Rattle.std.specs.Prelude.{◌≡◌, ℕ, List, Option, Some, None, Result, Err, IfSome}
 use Rattle.std.specs.Option.{option_map}
 use Rattle.bz_breeze.specs.Turns.{FaultAt}
 use Rattle.bz_breeze.specs.declared.error.Code.{Code}

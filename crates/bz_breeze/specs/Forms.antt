@@ -1,5 +1,5 @@
 -- The members of a part's lists: what each names, or its fault.
-use Rattle.std.specs.Prelude.{ℕ, ◌==◌, nat_lt, nat_le, map, List, [], ◌∷◌, Bool, true, false, ◌||◌, Option, Some, None, Result, Ok, Err, if◌then◌else◌, bytes_eq, codes}
+use Rattle.std.specs.Prelude.{ℕ, ◌==◌, nat_lt, nat_le, map, List, ◌∷◌, Bool, true, false, ◌||◌, Option, Some, None, Result, Ok, Err, if◌then◌else◌, bytes_eq, codes}
 use Rattle.std.specs.List.{filter_map, list_any}
 use Rattle.std.specs.Option.{option_map, option_and_then}
 use Rattle.bz_model.specs.Names.{External}

@@ -1,6 +1,6 @@
 //! Why a netlist is refused.
 
-ghost use Rattle.std.specs.Prelude.{◌≡◌, IfOk, Some};
+ghost use Rattle.std.specs.Prelude.{◌≡◌, Some};
 ghost use Rattle.std.specs.Option.{option_copied};
 ghost use Rattle.bz_breeze.specs.Faults.{fault_of, fault_at, place_in};
 ghost use Rattle.bz_breeze.specs.declared.error.Refusal.TheVariants.{NoMemory};
@@ -17,7 +17,7 @@ pub struct Place {
 }
 
 /// Why a netlist is refused, with the first place at fault in the text.
-#[derive(Debug, Drop, Error)]
+#[derive(Debug, PartialEq, Eq, Drop, Error)]
 pub enum BreezeError {
     /// A part, a form or a member that has none of the shapes, a second form of one head, a port whose name an earlier
     /// one has, a channel of width 0, or, at the part's closing parenthesis, fewer channels than ports.

@@ -28,6 +28,7 @@ pub(crate) fn inside(datum: &Datum) -> Option<&[Datum]>
     }
 }
 
+/// Of `"NAME" SENSE ..`, the name, and whether the sense is passive.
 fn named_port(items: &[Datum]) -> Result<(&[u8], bool), Code>
     ensures { if_read result (λ p. Ok (record { name = p.0.now; passive = p.1 })) ≡ named_port (map datum_view items.now) }
 {
@@ -44,6 +45,7 @@ fn named_port(items: &[Datum]) -> Result<(&[u8], bool), Code>
     }
 }
 
+/// Of `port "NAME" SENSE ..` or `sync-port "NAME" SENSE ..`, the same.
 fn listed_port(items: &[Datum]) -> Result<(&[u8], bool), Code>
     ensures { if_read result (λ p. Ok (record { name = p.0.now; passive = p.1 })) ≡ listed_port (map datum_view items.now) }
 {
@@ -91,6 +93,7 @@ pub(crate) fn ports(alloc: Global, members: &[Datum]) -> Result<Vec<Port>, Refus
     Ok(ports)
 }
 
+/// A channel of this kind, with its width at the front of the rest.
 fn wide_channel(kind: ChanKind, rest: &[Datum]) -> Result<Chan, Code>
     ensures { result ≡ wide_channel kind (map datum_view rest.now) }
 {
@@ -105,6 +108,7 @@ fn wide_channel(kind: ChanKind, rest: &[Datum]) -> Result<Chan, Code>
     }
 }
 
+/// The channel of `sync ..`, `push W ..` or `pull W ..`.
 fn listed_channel(items: &[Datum]) -> Result<Chan, Code>
     ensures { result ≡ listed_channel (map datum_view items.now) }
 {
@@ -126,6 +130,7 @@ fn listed_channel(items: &[Datum]) -> Result<Chan, Code>
     }
 }
 
+/// The channel that a member of `channels` names.
 fn channel(member: &Datum) -> Result<Chan, Code>
     ensures { result ≡ channel (datum_view member.now) }
 {
@@ -150,6 +155,7 @@ pub(crate) fn channels(alloc: Global, members: &[Datum]) -> Result<Vec<Chan>, Re
     Ok(channels)
 }
 
+/// A parameter by its shape, where symbols and lists are none.
 fn param(alloc: Global, datum: &Datum) -> Result<Option<Param>, AllocError>
     ensures { IfOk result (λ o. option_map param_record o ≡ param (datum_view datum.now)) }
 {
@@ -182,6 +188,7 @@ fn params(alloc: Global, list: &[Datum]) -> Result<Vec<Param>, AllocError>
     Ok(params)
 }
 
+/// The number of a channel.
 fn number(datum: &Datum) -> Result<u32, Code>
     ensures { result ≡ number (datum_view datum.now) }
 {
@@ -191,7 +198,7 @@ fn number(datum: &Datum) -> Result<u32, Code>
     }
 }
 
-/// The numbers that the list names, where a fault is one of the byte `at`.
+/// The channels' numbers in an entry of the component at the byte `at`.
 fn numbers(alloc: Global, list: &[Datum], at: usize) -> Result<Vec<u32>, Refusal>
     ensures ok { IfOk result (λ v. numbers (map datum_view list.now) ≡ Ok v.items) }
     ensures err { IfErr result (HasFault (at_byte at (numbers (map datum_view list.now)))) }
@@ -206,6 +213,7 @@ fn numbers(alloc: Global, list: &[Datum], at: usize) -> Result<Vec<u32>, Refusal
     Ok(numbers)
 }
 
+/// An entry of the component at the byte `at`.
 fn slot(alloc: Global, datum: &Datum, at: usize) -> Result<Slot, Refusal>
     ensures ok { IfOk result (λ s. slot (datum_view datum.now) ≡ Ok (slot_record s)) }
     ensures err { IfErr result (HasFault (at_byte at (slot (datum_view datum.now)))) }
@@ -230,7 +238,7 @@ fn slots(alloc: Global, list: &[Datum], at: usize) -> Result<Vec<Slot>, Refusal>
     Ok(slots)
 }
 
-/// What stands in a component, of a list after its head.
+/// What stands in a component after its head.
 #[derive(Clone, Copy)]
 struct Fields<'d> {
     name: &'d [u8],
@@ -238,6 +246,7 @@ struct Fields<'d> {
     entries: &'d [Datum],
 }
 
+/// Of `(PARAMETERS) (ENTRIES) ..`, after a name.
 fn named_fields<'d>(name: &'d [u8], items: &'d [Datum]) -> Option<Fields<'d>>
     ensures { option_map fields_view result ≡ named_fields name.now (map datum_view items.now) }
 {
@@ -251,6 +260,7 @@ fn named_fields<'d>(name: &'d [u8], items: &'d [Datum]) -> Option<Fields<'d>>
     })
 }
 
+/// Of `"NAME" (PARAMETERS) (ENTRIES) ..`.
 fn fields_of(items: &[Datum]) -> Option<Fields<'_>>
     ensures { option_map fields_view result ≡ fields_of (map datum_view items.now) }
 {
@@ -260,6 +270,7 @@ fn fields_of(items: &[Datum]) -> Option<Fields<'_>>
     }
 }
 
+/// The component with these fields, at the byte `at`.
 fn component_of(alloc: Global, component: Fields<'_>, at: usize) -> Result<Component, Refusal>
     ensures ok { IfOk result (λ c. component_of (Some (fields_view component.entry)) ≡ Ok (component_record c)) }
     ensures err { IfErr result (HasFault (at_byte at (component_of (Some (fields_view component.entry))))) }
@@ -274,6 +285,7 @@ fn component_of(alloc: Global, component: Fields<'_>, at: usize) -> Result<Compo
     })
 }
 
+/// The component of `component "NAME" (PARAMETERS) (ENTRIES) ..`, at the byte `at`.
 fn listed_component(alloc: Global, items: &[Datum], at: usize) -> Result<Component, Refusal>
     ensures ok { IfOk result (λ c. listed_component (map datum_view items.now) ≡ Ok (component_record c)) }
     ensures err { IfErr result (HasFault (at_byte at (listed_component (map datum_view items.now)))) }

@@ -3,7 +3,6 @@
 ghost use Rattle.std.specs.Prelude.{◌≡◌, [], ◌∷◌, ◌++◌, map, not, position, bytes_eq, if◌then◌else◌, IfOk, OnErr};
 ghost use Rattle.bz_breeze.specs.Forms.{is_among};
 
-use crate::error::Refusal;
 use indexmap::IndexSet;
 use std::alloc::{AllocError, Global};
 use std::marker::Model;

@@ -1,6 +1,6 @@
 //! Reading the parts of a netlist.
 
-ghost use Rattle.std.specs.Prelude.{◌≡◌, ◌-◌, ◌∷◌, ◌++◌, [], map, IfOk, IfErr, IfSome, Ok, Some};
+ghost use Rattle.std.specs.Prelude.{◌≡◌, ◌∷◌, ◌++◌, [], map, IfOk, IfErr, IfSome, Ok, Some};
 ghost use Rattle.std.specs.Option.{option_map};
 ghost use Rattle.bz_sexpr.specs.Views.{datum_view};
 ghost use Rattle.bz_breeze.specs.Records.{part_record};
@@ -25,6 +25,7 @@ struct Lists {
     components: Option<Vec<Component>>,
 }
 
+/// The lists with the ports that a form at the byte `at` names.
 fn ports_form(alloc: Global, lists: Lists, members: &[Datum], at: usize) -> Result<Lists, Refusal>
     ensures ok { IfOk result (λ l. ports_form (lists_view lists) at (map datum_view members.now) ≡ Ok (lists_view l)) }
     ensures err { IfErr result (HasFault (ports_form (lists_view lists) at (map datum_view members.now))) }
@@ -39,6 +40,7 @@ fn ports_form(alloc: Global, lists: Lists, members: &[Datum], at: usize) -> Resu
     })
 }
 
+/// The lists with the channels that a form at the byte `at` names.
 fn channels_form(
     alloc: Global,
     lists: Lists,
@@ -58,6 +60,7 @@ fn channels_form(
     })
 }
 
+/// The lists with the components that a form at the byte `at` names.
 fn components_form(
     alloc: Global,
     lists: Lists,
@@ -77,6 +80,7 @@ fn components_form(
     })
 }
 
+/// The lists after a list of the part, which is read where its head is one of three.
 fn headed_form(alloc: Global, lists: Lists, items: &[Datum], at: usize) -> Result<Lists, Refusal>
     ensures ok { IfOk result (λ l. headed_form (lists_view lists) at (map datum_view items.now) ≡ Ok (lists_view l)) }
     ensures err { IfErr result (HasFault (headed_form (lists_view lists) at (map datum_view items.now))) }
@@ -107,6 +111,7 @@ fn form(alloc: Global, lists: Lists, item: &Datum) -> Result<Lists, Refusal>
     }
 }
 
+/// The part of a name that these lists make, with its last byte at `end`.
 fn finished(alloc: Global, name: &[u8], lists: Lists, end: usize) -> Result<Part, Refusal>
     ensures ok { IfOk result (λ p. finished name.now end (lists_view lists) ≡ Ok (part_record p)) }
     ensures err { IfErr result (HasFault (finished name.now end (lists_view lists))) }
@@ -195,6 +200,7 @@ fn named_part(
     }
 }
 
+/// What follows the symbol `breeze-part`.
 fn after_head(items: &[Datum]) -> Option<&[Datum]>
     ensures { option_map (λ ds. map datum_view ds.now) result ≡ after_head (map datum_view items.now) }
 {

@@ -1,9 +1,7 @@
-use Rattle.std.proofs.Common.{◌≡◌, List, Option, None, Some, ◌∙◌, ap, sym, arith, bytes_eq, position, slice_get, map}
+use Rattle.std.proofs.Common.{◌≡◌, None, Some, ◌∙◌, ap, sym, arith, bytes_eq, position, slice_get}
 use Rattle.std.proofs.lemmas.Grind.{common_steps}
 use Rattle.std.proofs.lemmas.Option.{gets}
 use Rattle.std.specs.Option.{option_copied}
-use Rattle.bz_breeze.specs.declared.part.Part.{Part}
-use Rattle.bz_breeze.specs.Parts.{part_named}
 use Rattle.bz_breeze.proofs.Names.{position-map, find-at_place, find-no_place}
 use Rattle.bz_breeze.proofs.part_list.Parts.find.Goals as goal
 
