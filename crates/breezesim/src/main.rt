@@ -129,6 +129,9 @@ fn words_of(rt: &HostRuntime) -> Result<Vec<String>, Fault> {
     args.collect(rt.alloc()).map_err(|_| Fault::Memory)
 }
 
+#[cfg(test)]
+mod tests;
+
 fn main(rt: HostRuntime) -> ExitCode {
     let words = match words_of(&rt) {
         Ok(words) => words,
