@@ -1,0 +1,4 @@
+pub mod Rows
+pub mod States
+pub mod Scan
+pub mod Search

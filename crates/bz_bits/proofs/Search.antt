@@ -1,0 +1,84 @@
+-- A search that skips words, by a row that tells which words have a 1.
+use Rattle.std.proofs.Common.{◌≡◌, ◌≢◌, ℕ, ◌+◌, ◌*◌, ◌/◌, ◌^◌, ◌<◌, ◌≤◌, Bool, true, false, List, length, get_or, set, replicate, Option, Some, None, sym, ◌∙◌, subst, arith, inl, inr}
+use Rattle.std.proofs.lemmas.Bool.{cases_eq, cases_lt, true≢false}
+use Rattle.std.proofs.lemmas.List.{length-set, length-replicate, get_or-replicate, get_or-set_same, get_or-set_other, get_or_past}
+use Rattle.bz_bits.specs.Row.{IsNext, IsNextInWord, HasOne, Sums}
+
+-- a search word by word: none of the words before `at` has a 1 from `from` on
+pub found_later : (xs : List Bool) (from at k : ℕ) → from ≤ 64 * at → ((j : ℕ) → from ≤ j → j < 64 * at → get_or xs j false ≡ false) → IsNextInWord xs (64 * at) (Some k) → IsNext xs from (Some k)
+found_later xs from at k le before found = (
+  omega (arith, found.1.0, le),
+  found.1.1,
+  found.1.2,
+  λ j from_le lt. elim (cases_lt j (64 * at)) [ inl low ↦ before j from_le low | inr high ↦ found.1.3 j high lt ],
+)
+
+-- the row beyond its end
+pub nothing_past : (xs : List Bool) (j : ℕ) → length xs ≤ j → get_or xs j false ≡ false
+nothing_past xs j le = get_or_past xs j false le
+
+pub one_within : (xs : List Bool) (j : ℕ) → get_or xs j false ≡ true → j < length xs
+one_within xs j one_here = elim (cases_lt j (length xs)) [ inl lt ↦ lt | inr ge ↦ absurd (true≢false (sym one_here ∙ get_or_past xs j false ge)) ]
+
+module _ (xs ys : List Bool) (s : Sums xs ys) where
+  -- a word that is told to have a 1
+  pub told_one : (w : ℕ) → get_or ys w false ≡ true → HasOne xs w true
+  told_one w one_here = subst (HasOne xs w) one_here (s.told w)
+
+  pub told_none : (w : ℕ) → get_or ys w false ≡ false → HasOne xs w false
+  told_none w none_here = subst (HasOne xs w) none_here (s.told w)
+
+  pub word_fits : (w : ℕ) → get_or ys w false ≡ true → 64 * w < 2 ^ 64
+  word_fits w one_here = let one = told_one w one_here in omega (arith, one.1, one_within xs one.0 one.2, s.small)
+
+  module _ (from : ℕ) (here : IsNextInWord xs from None) where
+    pub through_none : IsNext ys (from / 64 + 1) None → IsNext xs from None
+    through_none none j le =
+        elim (cases_eq (j / 64) (from / 64)) [
+          | inl e ↦ here j le e
+          | inr ne ↦ told_none (j / 64) (none (j / 64) (omega (arith, ne))) j (let same : j / 64 ≡ j / 64 = omega arith in same)
+        ]
+
+    pub through_some : (w k : ℕ) → IsNext ys (from / 64 + 1) (Some w) → IsNextInWord xs (64 * w) (Some k) → IsNext xs from (Some k)
+    through_some w k next found =
+        found_later xs from w k (omega (arith, next.0))
+        (λ j le lt.
+        elim (cases_eq (j / 64) (from / 64)) [
+          | inl e ↦ here j le e
+          | inr ne ↦ told_none (j / 64) (next.3 (j / 64) (omega (arith, ne)) (omega arith)) j (let same : j / 64 ≡ j / 64 = omega arith in same)
+        ])
+        found
+
+  -- such a word has one
+  not_none : (w : ℕ) → get_or ys w false ≡ true → IsNextInWord xs (64 * w) None → ⊥
+  not_none w one_here none = let one = told_one w one_here in true≢false (sym one.2 ∙ none one.0 (omega (arith, one.1)) (omega (arith, one.1)))
+
+  pub through : (from w : ℕ) → IsNextInWord xs from None → IsNext ys (from / 64 + 1) (Some w) → (r : Option ℕ) → IsNextInWord xs (64 * w) r → IsNext xs from r
+  through from w here next None none = absurd (not_none w next.2 none)
+  through from w here next (Some k) found = through_some from here w k next found
+
+  module _ (k : ℕ) (b v : Bool) (lt : k < length xs) (now : HasOne (set xs k b) (k / 64) v) where
+    kept : (i : ℕ) → i ≢ k / 64 → (c : Bool) → HasOne xs i c → HasOne (set xs k b) i c
+    kept i ne true one = (one.0, one.1, get_or-set_other xs k one.0 b false (λ e. ne (omega (arith, one.1, e))) ∙ one.2)
+    kept i ne false none = λ j at. get_or-set_other xs k j b false (λ e. ne (omega (arith, at, e))) ∙ none j at
+
+    told_after : (i : ℕ) → HasOne (set xs k b) i (get_or (set ys (k / 64) v) i false)
+    told_after i =
+        elim (cases_eq i (k / 64)) [
+          | inl e ↦ subst (λ (m : ℕ). HasOne (set xs k b) m (get_or (set ys (k / 64) v) m false)) (sym e)
+              (subst (HasOne (set xs k b) (k / 64)) (sym (get_or-set_same ys (k / 64) v false (omega (arith, lt, s.room)))) now)
+          | inr ne ↦ subst (HasOne (set xs k b) i) (sym (get_or-set_other ys (k / 64) i v false ne)) (kept i ne (get_or ys i false) (s.told i))
+        ]
+
+    -- a bit is written, and then what the row above tells of its word
+    pub sums_set : Sums (set xs k b) (set ys (k / 64) v)
+    sums_set = record { room = omega (arith, length-set xs k b, length-set ys (k / 64) v, s.room); small = omega (arith, length-set xs k b, s.small); told = told_after }
+
+pub sums_none : (n m : ℕ) → n ≤ 64 * m → n < 2 ^ 64 → Sums (replicate n false) (replicate m false)
+sums_none n m room small = record {
+  room = omega (arith, length-replicate n false, length-replicate m false);
+  small = omega (arith, length-replicate n false);
+  told = λ i. subst (HasOne (replicate n false) i) (sym (get_or_none m i)) (λ j at. get_or_none n j);
+} where
+  get_or_none : (n i : ℕ) → get_or (replicate n false) i false ≡ false
+  get_or_none n i = elim (cases_lt i n) [ inl lt ↦ get_or-replicate n i false false lt | inr ge ↦ get_or_past (replicate n false) i false (omega (arith, length-replicate n false)) ]

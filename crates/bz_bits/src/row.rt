@@ -1,0 +1,138 @@
+//! A row of bits, in words of 64.
+ghost use Rattle.std.specs.Prelude.{◌≡◌, ◌+◌, ◌*◌, ◌/◌, ◌==◌, ◌^◌, ◌<◌, ◌≤◌, ℕ, true, false, length, replicate, slice_index_or, slice_set, IfOk};
+ghost use Rattle.std.specs.Int.{bit_at};
+ghost use Rattle.bz_bits.specs.Row.{bits, IsNext, IsNextInWord, HasOne};
+
+use std::alloc::{AllocError, Allocator, Global};
+use std::marker::Model;
+
+/// A row of bits of a fixed length. A contract sees it as that list.
+#[derive(Drop)]
+pub struct BitRow<A: Allocator = Global> {
+    words: Vec<u64, A>,
+    len: usize,
+}
+
+impl<A: Allocator> Model for BitRow<A> {
+    ghost use Rattle.std.specs.Prelude.{List, Bool};
+    ghost use Rattle.bz_bits.specs.Row.{bits, IsRow};
+
+    ghost Value = { List Bool };
+
+    ghost view = { λ r. bits r.words.items r.len };
+
+    ghost invariant = { λ r. IsRow r.words.items r.len };
+}
+
+impl<A: Allocator> BitRow<A> {
+    /// A row of `len` bits that are all 0.
+    pub fn new(alloc: A, len: usize) -> Result<Self, AllocError>
+        ensures { IfOk result (λ r. r ≡ replicate len false) }
+    {
+        let count = len.div_ceil(64);
+        let words = Vec::from_elem(alloc, 0u64, count)?;
+        Ok(BitRow { words, len })
+    }
+
+    pub fn len(&self) -> usize
+        ensures { result ≡ length self.now }
+    {
+        self.len
+    }
+
+    pub fn get(&self, place: usize) -> bool
+        requires { place < length self.now }
+        ensures { result ≡ slice_index_or self.now place false }
+    {
+        (self.words[place / 64] >> (place % 64)) & 1 == 1
+    }
+
+    pub fn set(&mut self, place: usize, bit: bool)
+        requires { place < length self.old }
+        ensures { self.new ≡ slice_set self.old place bit }
+    {
+        if bit {
+            self.raise(place);
+        } else {
+            self.lower(place);
+        }
+    }
+
+    pub fn raise(&mut self, place: usize)
+        requires { place < length self.old }
+        ensures { self.new ≡ slice_set self.old place true }
+    {
+        let word = &mut self.words[place / 64];
+        *word |= 1 << (place % 64);
+    }
+
+    pub fn lower(&mut self, place: usize)
+        requires { place < length self.old }
+        ensures { self.new ≡ slice_set self.old place false }
+    {
+        let word = &mut self.words[place / 64];
+        *word &= !(1 << (place % 64));
+    }
+
+    /// The first place at or above `from` whose bit is 1. It looks at each word from there on.
+    pub fn next_from(&self, from: usize) -> Option<usize>
+        ensures { IsNext self.now from result }
+    {
+        if let Some(place) = self.next_in_word(from) {
+            return Some(place);
+        }
+        for at in from / 64 + 1..self.words.len() {
+            if let Some(place) = self.next_in_word(64 * at) {
+                return Some(place);
+            }
+        }
+        None
+    }
+
+    /// The first place at or above `from`, in the word of `from`, whose bit is 1.
+    pub(crate) fn next_in_word(&self, from: usize) -> Option<usize>
+        ensures { IsNextInWord self.now from result }
+    {
+        if self.len <= from {
+            return None;
+        }
+        let found = above(self.words[from / 64], from % 64);
+        if found == 0 {
+            return None;
+        }
+        Some(from / 64 * 64 + found.trailing_zeros() as usize)
+    }
+
+    /// Whether the word of `place` has a 1.
+    pub(crate) fn has_one(&self, place: usize) -> bool
+        ensures { HasOne self.now (place / 64) result }
+    {
+        self.next_in_word(place / 64 * 64).is_some()
+    }
+
+    /// How many words there are.
+    pub(crate) fn word_count(&self) -> usize
+        ensures room { length self.now ≤ 64 * result }
+        ensures tight { 64 * result < length self.now + 64 }
+        ensures fits { length self.now < 2 ^ 64 }
+    {
+        self.words.len()
+    }
+
+    /// The 64 bits of one word, of which those past the end are 0.
+    pub(crate) fn word(&self, at: usize) -> u64
+        requires { 64 * at < length self.now }
+        ensures { (i : ℕ) → i < 64 → (bit_at result i == 1) ≡ slice_index_or self.now (64 * at + i) false }
+    {
+        self.words[at]
+    }
+}
+
+/// The bits of `word` from a place on.
+pub(crate) fn above(word: u64, place: usize) -> u64
+    requires { place < 64 }
+    ensures below { (i : ℕ) → i < place → bit_at result i ≡ 0 }
+    ensures rest { (i : ℕ) → place ≤ i → bit_at result i ≡ bit_at word i }
+{
+    word & (u64::MAX << place)
+}

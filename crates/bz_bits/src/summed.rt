@@ -1,0 +1,90 @@
+//! A row of bits that can be searched without reading all its words.
+ghost use Rattle.std.specs.Prelude.{◌≡◌, ◌<◌, false, length, replicate, slice_index_or, slice_set, IfOk};
+ghost use Rattle.bz_bits.specs.Row.{IsNext, Sums};
+
+use crate::row::BitRow;
+use std::alloc::{AllocError, Allocator, Global};
+use std::marker::Model;
+
+/// A row of bits of a fixed length, with two shorter rows above it: one tells which words have a 1, the other which
+/// blocks of 64 words do. A contract sees the row alone.
+#[derive(Drop)]
+pub struct SummedRow<A: Allocator + Copy = Global> {
+    row: BitRow<A>,
+    words: BitRow<A>,
+    blocks: BitRow<A>,
+}
+
+impl<A: Allocator + Copy> Model for SummedRow<A> {
+    ghost use Rattle.std.specs.Prelude.{List, Bool};
+    ghost use Rattle.bz_bits.specs.Row.{Sums};
+
+    ghost Value = { List Bool };
+
+    ghost view = { λ s. s.row };
+
+    ghost invariant = { λ s. Sums s.row s.words × Sums s.words s.blocks };
+}
+
+impl<A: Allocator + Copy> SummedRow<A> {
+    /// A row of `len` bits that are all 0.
+    pub fn new(alloc: A, len: usize) -> Result<Self, AllocError>
+        ensures { IfOk result (λ s. s ≡ replicate len false) }
+    {
+        let row = BitRow::new(alloc, len)?;
+        let words = BitRow::new(alloc, len / 64 + 1)?;
+        let blocks = BitRow::new(alloc, len / 4096 + 1)?;
+        Ok(SummedRow { row, words, blocks })
+    }
+
+    pub fn len(&self) -> usize
+        ensures { result ≡ length self.now }
+    {
+        self.row.len()
+    }
+
+    pub fn get(&self, place: usize) -> bool
+        requires { place < length self.now }
+        ensures { result ≡ slice_index_or self.now place false }
+    {
+        self.row.get(place)
+    }
+
+    pub fn set(&mut self, place: usize, bit: bool)
+        requires { place < length self.old }
+        ensures { self.new ≡ slice_set self.old place bit }
+    {
+        let word = place / 64;
+        let block = word / 64;
+        self.row.set(place, bit);
+        self.words.set(word, self.row.has_one(place));
+        self.blocks.set(block, self.words.has_one(word));
+    }
+
+    /// The first place at or above `from` whose bit is 1.
+    pub fn next_from(&self, from: usize) -> Option<usize>
+        ensures { IsNext self.now from result }
+    {
+        if let Some(place) = self.row.next_in_word(from) {
+            return Some(place);
+        }
+        match next_word(&self.words, &self.blocks, from / 64 + 1) {
+            Some(word) => self.row.next_in_word(64 * word),
+            None => None,
+        }
+    }
+}
+
+// The first word at or above `from` that has a 1.
+fn next_word<A: Allocator>(words: &BitRow<A>, blocks: &BitRow<A>, from: usize) -> Option<usize>
+    requires { Sums words.now blocks.now }
+    ensures { IsNext words.now from result }
+{
+    if let Some(word) = words.next_in_word(from) {
+        return Some(word);
+    }
+    match blocks.next_from(from / 64 + 1) {
+        Some(block) => words.next_in_word(64 * block),
+        None => None,
+    }
+}

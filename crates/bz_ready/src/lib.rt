@@ -1,0 +1,9 @@
+//! A set of numbers, such as those of the components that can move.
+#![tactic(auto)]
+
+mod order;
+mod set;
+#[cfg(test)]
+mod tests;
+
+pub use set::ReadySet;
