@@ -1,8 +1,9 @@
 -- What a net keeps holds at its opening.
-use Rattle.std.proofs.Common.{◌≡◌, ◌≢◌, ℕ, zero, suc, ◌+◌, ◌-◌, ◌<◌, ◌≤◌, Bool, true, false, Option, Some, None, List, [], ◌∷◌, length, map, get_or, ◌++◌, ◌⊎◌, inl, inr, length-append, replicate, refl, sym, ap, subst, ◌∙◌, arith}
+use Rattle.std.proofs.Common.{◌≡◌, ◌≢◌, ℕ, zero, suc, ◌+◌, ◌-◌, ◌<◌, ◌≤◌, Bool, true, false, Option, Some, None, List, [], ◌∷◌, length, map, get_or, ◌++◌, ◌⊎◌, inl, inr, length-append, replicate, refl, sym, ap, subst, ◌∙◌, arith, add-one}
 use Rattle.std.specs.Prelude.{MatchOption, is_some}
 use Rattle.std.proofs.lemmas.List.{length-map, length-replicate, get_or_append_left, get_or_push}
 use Rattle.std.proofs.lemmas.Bool.{false≢true, cases_eq}
+use Rattle.std.proofs.lemmas.Bool.Decides.{leb_tells}
 use Rattle.bz_model.specs.declared.channel.Chan.{Chan}
 use Rattle.bz_model.specs.declared.channel.Phase.{Phase}
 use Rattle.bz_model.specs.declared.channel.Phase.TheVariants.{Idle, Broken}
@@ -17,7 +18,7 @@ use Rattle.bz_elab.specs.declared.flat.FlatComp.{FlatComp}
 use Rattle.bz_elab.specs.Flats.{site_of}
 use Rattle.bz_elab.specs.Wires.{WellWired, EndsOf}
 use Rattle.bz_net.specs.Sides.{Sided}
-use Rattle.bz_net.specs.Keeping.{Tied, Sound, MarksAll, Exact, Started, StartsWell, flag_at, is_open, no_comp, proc_of, state_of}
+use Rattle.bz_net.specs.Keeping.{Tied, Sound, MarksAll, MarksReady, Refreshed, Exact, Started, StartsWell, flag_at, is_open, no_comp, proc_of, state_of}
 use Rattle.bz_net.proofs.Sites.{site_at_map}
 use Rattle.bz_net.proofs.Sides.{sided-tidy, starts}
 
@@ -88,31 +89,46 @@ module _ (w : Wiring) (comps : List Component) (started : Started w.chans w.site
     kept = λ k e. idle_broken (sym (idle_at (length w.chans) (k - 1)) ∙ e);
   }
 
-exact_from : (sites : List Site) (s : State) (c : ℕ) (o : Option ℕ) (b : Bool) → b ≡ is_some o → MatchOption o (CanStep sites s c → ⊥) (IsLowest sites s c) → (b ≡ true → CanStep sites s c) × (CanStep sites s c → b ≡ true)
-exact_from sites s c None b e none = (λ t. absurd (false≢true (sym e ∙ t)), λ can. absurd (none can))
-exact_from sites s c (Some p) b e low = (λ t. (p, low.steps_at), λ can. e)
-
--- one more flag
-pub marks_more : (sites : List Site) (s : State) (flags : List Bool) (n : ℕ) (o : Option ℕ) (b : Bool) → MarksAll sites s flags n → b ≡ is_some o → MatchOption o (CanStep sites s (n + 1) → ⊥) (IsLowest sites s (n + 1)) → MarksAll sites s (flags ++ b ∷ []) (n + 1)
-marks_more sites s flags n o b all e found = record {
-  len = simp length-append (omega (arith, all.len));
-  each = λ c from to. elim (cases_eq c (n + 1)) [
-    | inl last ↦ record { marked = λ t. rw last (fresh.0 (sym (new_flag c last) ∙ t)); marks = λ can. new_flag c last ∙ fresh.1 (subst (CanStep sites s) last can) }
-    | inr earlier ↦ record { marked = λ t. (old c from to earlier).marked (sym (same c from to earlier) ∙ t); marks = λ can. same c from to earlier ∙ (old c from to earlier).marks can }
-  ];
+-- before any component is looked at, none is marked
+pub marks_none : (sites : List Site) (s : State) (row : List Bool) → row ≡ replicate (length sites + 1) false → MarksAll sites s row 0
+marks_none sites s row is = record {
+  len = ap length is ∙ (length-replicate (length sites + 1) false ∙ add-one (length sites));
+  each = λ c to. record {
+    marked = λ e. absurd (false≢true (sym (plain c) ∙ e));
+    marks = λ can. let from = can.1.is_port.comp_from in absurd (omega (arith, from));
+  };
+  unmarked = λ c lt. plain c;
 }
   where
-    fresh : (b ≡ true → CanStep sites s (n + 1)) × (CanStep sites s (n + 1) → b ≡ true)
-    fresh = exact_from sites s (n + 1) o b e found
+    plain : (c : ℕ) → flag_at row c ≡ false
+    plain c = ap (λ r. flag_at r c) is ∙ closed_at (length sites + 1) c
 
-    old : (c : ℕ) → 0 < c → c ≤ n + 1 → c ≢ n + 1 → Exact sites s flags c
-    old c from to earlier = all.each c from (omega arith)
+-- one more component is looked at
+pub marks_more : (sites : List Site) (s : State) (old new : List Bool) (n : ℕ) → MarksAll sites s old n → Refreshed sites s old new (n + 1) → MarksAll sites s new (n + 1)
+marks_more sites s old new n all looked = record {
+  len = looked.len ∙ all.len;
+  each = λ c to. elim (cases_eq c (n + 1)) [
+    | inl last ↦ rw last looked.here
+    | inr earlier ↦ record {
+      marked = λ e. (all.each c (omega arith)).marked (sym (looked.others c earlier) ∙ e);
+      marks = λ can. looked.others c earlier ∙ (all.each c (omega arith)).marks can;
+    }
+  ];
+  unmarked = λ c lt. looked.others c (λ e. omega arith) ∙ all.unmarked c (omega arith);
+}
 
-    same : (c : ℕ) → 0 < c → c ≤ n + 1 → c ≢ n + 1 → flag_at (flags ++ b ∷ []) c ≡ flag_at flags c
-    same c from to earlier = get_or_append_left flags (b ∷ []) false (c - 1) (let len = all.len in omega arith)
-
-    new_flag : (c : ℕ) → c ≡ n + 1 → flag_at (flags ++ b ∷ []) c ≡ b
-    new_flag c last = get_or_push flags b false (c - 1) (let len = all.len in omega arith)
+-- all have been looked at
+pub marks_ready : (w : Wiring) (s : State) (row : List Bool) (n : ℕ) → n ≡ length w.sites → MarksAll w.sites s row n → MarksReady w s row
+marks_ready w s row n count all = record {
+  row_len = all.len;
+  exact = λ c. elim (leb_tells c n) [
+    | inl to ↦ all.each c to.1
+    | inr past ↦ record {
+      marked = λ e. absurd (false≢true (sym (all.unmarked c past.1) ∙ e));
+      marks = λ can. let to = can.1.is_port.comp_to in let beyond = past.1 in absurd (omega (arith, to, count, beyond));
+    }
+  ];
+}
 
 pub sound_opening : (w : Wiring) (phases : List Phase) (comps : List Component) (ends : List Ends) (flags : List Bool) (journal : List Entry) (limit n : ℕ) → WellWired w → EndsOf w ends → phases ≡ replicate (length w.chans) Idle → n ≡ length w.sites → Started w.chans w.sites comps n → MarksAll w.sites (state_of phases comps) flags n → journal ≡ [] → Sound w phases comps ends flags journal limit
 sound_opening w phases comps ends flags journal limit n wired ends_of idle count started all none =
@@ -121,11 +137,7 @@ sound_opening w phases comps ends flags journal limit n wired ends_of idle count
       wired = wired;
       ends_of = ends_of;
       tied = rw idle (tied_opening w comps begun);
-      ready = record {
-        flags_len = all.len ∙ count;
-        marked = λ c from to e. (all.each c from (rw count to)).marked e;
-        marks = λ c from to can. (all.each c from (rw count to)).marks can;
-      };
+      ready = marks_ready w (state_of phases comps) flags n count all;
       run = ap (λ f. state_of f comps) idle ∙ state_opening w comps begun;
       within = omega arith;
     })

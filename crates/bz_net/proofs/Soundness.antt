@@ -33,13 +33,24 @@ placed_from w phases comps wired tied = record {
 pub sound_placed : (w : Wiring) (phases : List Phase) (comps : List Component) (ends : List Ends) (flags : List Bool) (journal : List Entry) (limit : ℕ) → Sound w phases comps ends flags journal limit → Placed w.sites phases comps
 sound_placed w phases comps ends flags journal limit sound = placed_from w phases comps sound.wired sound.tied
 
-pub answered : (w : Wiring) (s : State) (flags : List Bool) (c : ℕ) (b : Bool) → MarksReady w s flags → 0 < c → c ≤ length flags → b ≡ flag_at flags c → MatchBool b (CanStep w.sites s c) (CanStep w.sites s c → ⊥)
-answered w s flags c true ready from to e =
-    let len = ready.flags_len in
-    ready.marked c from (omega arith) (sym e)
-answered w s flags c false ready from to e =
-    let len = ready.flags_len in
-    λ can. cc (ready.marks c from (omega arith) can)
+pub answered : (w : Wiring) (s : State) (row : List Bool) (c : ℕ) (b : Bool) → MarksReady w s row → b ≡ flag_at row c → MatchBool b (CanStep w.sites s c) (CanStep w.sites s c → ⊥)
+answered w s row c true ready e = (ready.exact c).marked (sym e)
+answered w s row c false ready e = λ can. cc (e, (ready.exact c).marks can)
+
+-- equal lists are as sound
+pub sound_same : (w w' : Wiring) (phases phases' : List Phase) (comps comps' : List Component) (ends ends' : List Ends) (row : List Bool) (journal journal' : List Entry) (limit : ℕ) → w' ≡ w → phases' ≡ phases → comps' ≡ comps → ends' ≡ ends → journal' ≡ journal → Sound w phases comps ends row journal limit → Sound w' phases' comps' ends' row journal' limit
+sound_same w w' phases phases' comps comps' ends ends' row journal journal' limit e f g h j sound = rw (e, f, g, h, j) sound
+
+-- a row that marks all is as good as another
+pub sound_marked : (w : Wiring) (phases : List Phase) (comps : List Component) (ends : List Ends) (old new : List Bool) (journal : List Entry) (limit : ℕ) → Sound w phases comps ends old journal limit → MarksReady w (state_of phases comps) new → Sound w phases comps ends new journal limit
+sound_marked w phases comps ends old new journal limit sound ready = record {
+  wired = sound.wired;
+  ends_of = sound.ends_of;
+  tied = sound.tied;
+  ready = ready;
+  run = sound.run;
+  within = sound.within;
+}
 
 module _ (w : Wiring) (phases : List Phase) (comps : List Component) (phases' : List Phase) (comps' : List Component) (ends : List Ends) (old new : List Bool) (journal : List Entry) (limit : ℕ) (who : Who) (c p k : ℕ) (mv : Move) (value : Option ℕ) (sound : Sound w phases comps ends old journal limit) (does : MovedAt w.sites ends phases comps phases' comps' old new c p k mv value) where
   state_is : state_of phases' comps' ≡ moved (state_of phases comps) k (phase_after (phase_in phases k) mv value) c does.rest.proc

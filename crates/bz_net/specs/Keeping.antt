@@ -51,17 +51,22 @@ pub record Tied (w : Wiring) (phases : List Phase) (comps : List Component) : Ty
   pub opened : (c p : ℕ) → IsPort w.sites c p → open_at (comp_at comps c) p ≡ is_open (phase_in phases (chan_at w.sites c p)) (passive_at w.sites c p)
   pub kept : (k : ℕ) → phase_in phases k ≢ Broken
 
+-- A row of flags tells of each number whether it is marked.
 abbrev pub flag_at : List Bool → ℕ → Bool
-flag_at flags c = slice_index_or flags (c - 1) false
+flag_at row c = slice_index_or row c false
 
 abbrev pub IsMarked : List Bool → ℕ → Type 0
-IsMarked flags c = (0 < c) × (c ≤ length flags) × (flag_at flags c ≡ true)
+IsMarked row c = flag_at row c ≡ true
 
--- the flags mark exactly the components that can move
-pub record MarksReady (w : Wiring) (s : State) (flags : List Bool) : Type 0 where
-  pub flags_len : length flags ≡ length w.sites
-  pub marked : (c : ℕ) → 0 < c → c ≤ length w.sites → flag_at flags c ≡ true → CanStep w.sites s c
-  pub marks : (c : ℕ) → 0 < c → c ≤ length w.sites → CanStep w.sites s c → flag_at flags c ≡ true
+-- component c can move exactly where it is marked
+pub record Exact (sites : List Site) (s : State) (row : List Bool) (c : ℕ) : Type 0 where
+  pub marked : flag_at row c ≡ true → CanStep sites s c
+  pub marks : CanStep sites s c → flag_at row c ≡ true
+
+-- the row has a flag for each component, and marks exactly those that can move
+pub record MarksReady (w : Wiring) (s : State) (row : List Bool) : Type 0 where
+  pub row_len : length row ≡ suc (length w.sites)
+  pub exact : (c : ℕ) → Exact w.sites s row c
 
 -- what reading a component's channels and processes needs
 pub record Placed (sites : List Site) (phases : List Phase) (comps : List Component) : Type 0 where
@@ -81,29 +86,25 @@ pub record Started (chans : List Chan) (sites : List Site) (comps : List Compone
   pub len : length comps ≡ n
   pub each : (c : ℕ) → 0 < c → c ≤ n → comp_at comps c ≡ start_of (site_at sites c).kind (site_at sites c).sizes (map (chan_in chans) (site_at sites c).chans)
 
--- whether component c can move, as its flag says
-pub record Exact (sites : List Site) (s : State) (flags : List Bool) (c : ℕ) : Type 0 where
-  pub marked : flag_at flags c ≡ true → CanStep sites s c
-  pub marks : CanStep sites s c → flag_at flags c ≡ true
+-- of the first n components, those that can move are marked, and no others yet
+pub record MarksAll (sites : List Site) (s : State) (row : List Bool) (n : ℕ) : Type 0 where
+  pub len : length row ≡ suc (length sites)
+  pub each : (c : ℕ) → c ≤ n → Exact sites s row c
+  pub unmarked : (c : ℕ) → n < c → flag_at row c ≡ false
 
--- there are so many flags, and each is exact
-pub record MarksAll (sites : List Site) (s : State) (flags : List Bool) (n : ℕ) : Type 0 where
-  pub len : length flags ≡ n
-  pub each : (c : ℕ) → 0 < c → c ≤ n → Exact sites s flags c
-
--- the flag of c was computed again, and no other changed
+-- whether c can move was looked at again, and no other flag changed
 pub record Refreshed (sites : List Site) (s : State) (old new : List Bool) (c : ℕ) : Type 0 where
   pub len : length new ≡ length old
   pub here : Exact sites s new c
-  pub others : (d : ℕ) → 0 < d → d ≢ c → flag_at new d ≡ flag_at old d
+  pub others : (d : ℕ) → d ≢ c → flag_at new d ≡ flag_at old d
 
--- the flags at both ends of a channel were computed again, and no other changed
+-- the same of the components at both ends of a channel
 pub record RefreshedEnds (sites : List Site) (s : State) (old new : List Bool) (pair : Ends) : Type 0 where
   pub len : length new ≡ length old
   pub at_end : (c : ℕ) (side : Bool) → at_side pair side ≡ Some c → Exact sites s new c
-  pub others : (d : ℕ) → 0 < d → at_side pair true ≢ Some d → at_side pair false ≢ Some d → flag_at new d ≡ flag_at old d
+  pub others : (d : ℕ) → at_side pair true ≢ Some d → at_side pair false ≢ Some d → flag_at new d ≡ flag_at old d
 
--- component c moved at port p, on channel k, and the flags at its ends were computed again
+-- component c moved at port p, on channel k, and the components at its ends were looked at again
 pub record MovedAt (sites : List Site) (ends : List Ends) (phases : List Phase) (comps : List Component) (phases' : List Phase) (comps' : List Component) (old new : List Bool) (c p k : ℕ) (mv : Move) (value : Option ℕ) : Type 0 where
   pub steps_at : StepsAt sites (state_of phases comps) c p
   pub chan_is : k ≡ chan_at sites c p
@@ -114,16 +115,16 @@ pub record MovedAt (sites : List Site) (ends : List Ends) (phases : List Phase) 
   pub comps_is : comps' ≡ slice_set comps (c - 1) rest
   pub refreshed : RefreshedEnds sites (state_of phases' comps') old new (slice_index_or ends (k - 1) (record { active = None; passive = None }))
 
--- a host command was made at an external port, and the flags at the ends of its channel were computed again
+-- a host command was made at an external port, and the components at the ends of its channel were looked at again
 pub record CommandedAt (sites : List Site) (ends : List Ends) (comps : List Component) (phases phases' : List Phase) (old new : List Bool) (verb : Verb) (port : ℕ) (value : Option ℕ) (reply : Reply) : Type 0 where
   pub reply_is : reply ≡ reply_to verb (phase_in phases port)
   pub phases_is : phases' ≡ slice_set phases (port - 1) (host_after verb value (phase_in phases port))
   pub refreshed : RefreshedEnds sites (state_of phases' comps) old new (slice_index_or ends (port - 1) (record { active = None; passive = None }))
 
-pub record Sound (w : Wiring) (phases : List Phase) (comps : List Component) (ends : List Ends) (flags : List Bool) (journal : List Entry) (limit : ℕ) : Type 0 where
+pub record Sound (w : Wiring) (phases : List Phase) (comps : List Component) (ends : List Ends) (row : List Bool) (journal : List Entry) (limit : ℕ) : Type 0 where
   pub wired : WellWired w
   pub ends_of : EndsOf w ends
   pub tied : Tied w phases comps
-  pub ready : MarksReady w (state_of phases comps) flags
+  pub ready : MarksReady w (state_of phases comps) row
   pub run : Run w (opening w) journal (state_of phases comps)
   pub within : length journal ≤ limit

@@ -1,18 +1,19 @@
 //! Reads and moves of components, over the lists that a net keeps.
 
-ghost use Rattle.std.specs.Prelude.{◌≡◌, ◌≤◌, ◌<◌, ◌^◌, ℕ, length, map, All, [], MatchOption, MatchBool, IfSome, IfOk, IfErr};
+ghost use Rattle.std.specs.Prelude.{◌≡◌, ◌≤◌, ◌<◌, ◌^◌, ℕ, suc, length, map, All, [], MatchOption, MatchBool, IfSome, IfOk, IfErr};
 ghost use Rattle.bz_model.specs.Nets.{IsPort, StepsAt, chan_at, chan_in, site_at};
 ghost use Rattle.bz_model.specs.Hosts.{reply_to, host_after, fits_side, received, refusal_at};
 ghost use Rattle.bz_model.specs.Rows.{MeetsRow};
 ghost use Rattle.bz_model.specs.Processes.{start_of};
-ghost use Rattle.bz_model.specs.Runs.{CanStep, IsLowest, IsNext};
+ghost use Rattle.bz_model.specs.Runs.{CanStep, IsLowest};
 ghost use Rattle.bz_elab.specs.Flats.{site_of};
 ghost use Rattle.bz_elab.specs.Wires.{StandsIn};
-ghost use Rattle.bz_net.specs.Keeping.{state_of, Started, Placed, Refreshed, RefreshedEnds, MovedAt, CommandedAt, IsMarked, MarksAll, StartsWell};
+ghost use Rattle.bz_net.specs.Keeping.{state_of, Started, Placed, Refreshed, RefreshedEnds, MovedAt, CommandedAt, MarksAll, StartsWell};
 
 use bz_elab::{Ends, FlatComp};
 use bz_kinds::Comp;
 use bz_model::{Chan, ChanKind, Move, Names, NetError, Phase, Reply, Value, Verb, fits};
+use bz_ready::ReadySet;
 use std::alloc::{AllocError, Global};
 
 /// The channel at a component's port.
@@ -72,30 +73,33 @@ pub(crate) fn lowest_port(
     None
 }
 
-/// Computes the flag of one component again.
-fn refresh(sites: &[FlatComp], comps: &[Comp], phases: &[Phase], ready: &mut [bool], comp: u32)
+/// Looks again whether one component can move.
+fn refresh(sites: &[FlatComp], comps: &[Comp], phases: &[Phase], ready: &mut ReadySet, comp: u32)
     requires placed { Placed (map site_of sites.now) phases.now comps.now }
     requires from { 0 < comp }
     requires to { comp ≤ length sites.now }
-    requires flags { length ready.old ≡ length sites.now }
-    ensures { Refreshed (map site_of sites.now) (state_of phases.now comps.now) ready.old ready.new comp }
+    requires row { length ready.old.row ≡ suc (length sites.now) }
+    ensures { Refreshed (map site_of sites.now) (state_of phases.now comps.now) ready.old.row ready.new.row comp }
 {
-    ready[comp as usize - 1] = lowest_port(sites, comps, phases, comp).is_some();
+    match lowest_port(sites, comps, phases, comp) {
+        Some(_) => ready.insert(comp),
+        None => ready.remove(comp),
+    }
 }
 
-/// Computes the flags of the components at both ends of a channel again.
+/// Looks again whether the components at both ends of a channel can move.
 pub(crate) fn refresh_ends(
     sites: &[FlatComp],
     comps: &[Comp],
     phases: &[Phase],
-    ready: &mut [bool],
+    ready: &mut ReadySet,
     ends: Ends,
 )
     requires placed { Placed (map site_of sites.now) phases.now comps.now }
-    requires flags { length ready.old ≡ length sites.now }
+    requires row { length ready.old.row ≡ suc (length sites.now) }
     requires active { IfSome ends.active (λ c. (0 < c) × (c ≤ length sites.now)) }
     requires passive { IfSome ends.passive (λ c. (0 < c) × (c ≤ length sites.now)) }
-    ensures { RefreshedEnds (map site_of sites.now) (state_of phases.now comps.now) ready.old ready.new ends }
+    ensures { RefreshedEnds (map site_of sites.now) (state_of phases.now comps.now) ready.old.row ready.new.row ends }
 {
     if let Some(comp) = ends.active {
         refresh(sites, comps, phases, ready, comp);
@@ -105,25 +109,24 @@ pub(crate) fn refresh_ends(
     }
 }
 
-/// Moves a component at a port, and computes the flags at both ends of the channel again.
-/// Replys the channel, the move and its value.
+/// Moves a component at a port, and looks again whether the components at both ends of the channel can move. Answers the channel, the move and its value.
 pub(crate) fn move_comp(
     sites: &[FlatComp],
     ends: &[Ends],
     comps: &mut [Comp],
     phases: &mut [Phase],
-    ready: &mut [bool],
+    ready: &mut ReadySet,
     comp: u32,
     port: u32,
 ) -> (u32, Move, Option<Value>)
     requires placed { Placed (map site_of sites.now) phases.old comps.old }
     requires steps { StepsAt (map site_of sites.now) (state_of phases.old comps.old) comp port }
-    requires flags { length ready.old ≡ length sites.now }
+    requires row { length ready.old.row ≡ suc (length sites.now) }
     requires ends_len { length ends.now ≡ length phases.old }
     requires stands { StandsIn (map site_of sites.now) ends.now }
     ensures { MovedAt (map site_of sites.now) ends.now
         phases.old comps.old phases.new comps.new
-        ready.old ready.new comp port result.0 result.1 result.2 }
+        ready.old.row ready.new.row comp port result.0 result.1 result.2 }
 {
     let chan = sites[comp as usize - 1].chans[port as usize - 1];
     let phase = phases[chan as usize - 1];
@@ -201,13 +204,13 @@ pub(crate) fn refusal_of(
     }
 }
 
-/// Makes a host command at an external port, and computes the flags at the ends of its channel again.
+/// Makes a host command at an external port, and looks again whether the components at the ends of its channel can move.
 pub(crate) fn command(
     sites: &[FlatComp],
     ends: &[Ends],
     comps: &[Comp],
     phases: &mut [Phase],
-    ready: &mut [bool],
+    ready: &mut ReadySet,
     verb: Verb,
     port: u32,
     value: Option<Value>,
@@ -215,37 +218,18 @@ pub(crate) fn command(
     requires placed { Placed (map site_of sites.now) phases.old comps.now }
     requires from { 0 < port }
     requires to { port ≤ length phases.old }
-    requires flags { length ready.old ≡ length sites.now }
+    requires row { length ready.old.row ≡ suc (length sites.now) }
     requires ends_len { length ends.now ≡ length phases.old }
     requires stands { StandsIn (map site_of sites.now) ends.now }
     ensures { CommandedAt (map site_of sites.now) ends.now
         comps.now phases.old phases.new
-        ready.old ready.new verb port value result }
+        ready.old.row ready.new.row verb port value result }
 {
     let place = port as usize - 1;
     let (reply, after) = reply_to(verb, value, phases[place]);
     phases[place] = after;
     refresh_ends(sites, comps, phases, ready, ends[place]);
     reply
-}
-
-/// The least marked number at or above `from`, else the least marked number.
-pub(crate) fn next_from(ready: &[bool], from: u32) -> Option<u32>
-    requires { length ready.now < 2 ^ 32 }
-    ensures { MatchOption result ((k : ℕ) → IsMarked ready.now k → ⊥) (IsNext (IsMarked ready.now) from) }
-{
-    let count = ready.len() as u32;
-    for place in from.saturating_sub(1)..count {
-        if ready[place as usize] {
-            return Some(place + 1);
-        }
-    }
-    for place in 0..count {
-        if ready[place as usize] {
-            return Some(place + 1);
-        }
-    }
-    None
 }
 
 /// A component at its start for each flat component.
@@ -303,25 +287,21 @@ fn start_one(alloc: Global, chans: &[Chan], site: &FlatComp) -> Result<Comp, Net
     }
 }
 
-/// The flag of each component.
+/// The components that can move.
 pub(crate) fn mark_all(
     alloc: Global,
     sites: &[FlatComp],
     comps: &[Comp],
     phases: &[Phase],
-) -> Result<Vec<bool>, NetError>
+) -> Result<ReadySet, AllocError>
     requires placed { Placed (map site_of sites.now) phases.now comps.now }
     requires few { length sites.now ≤ 1000000 }
-    ensures ok { IfOk result (λ ready. MarksAll (map site_of sites.now) (state_of phases.now comps.now) ready.items (length sites.now)) }
-    ensures err { IfErr result (λ e. e ≡ NetError.Memory) }
+    ensures { IfOk result (λ ready. MarksAll (map site_of sites.now) (state_of phases.now comps.now) ready.row (length sites.now)) }
 {
-    let mut ready = Vec::new(alloc);
     let count = sites.len() as u32;
+    let mut ready = ReadySet::new(alloc, count)?;
     for place in 0..count {
-        match ready.push(lowest_port(sites, comps, phases, place + 1).is_some()) {
-            Ok(()) => {}
-            Err(_) => return Err(NetError::Memory),
-        }
+        refresh(sites, comps, phases, &mut ready, place + 1);
     }
     Ok(ready)
 }

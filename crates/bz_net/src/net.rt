@@ -13,11 +13,12 @@ ghost use Rattle.bz_net.specs.Serving.{Serves, Refuses};
 
 use crate::event::{Answer, Event, RestReply, RunEnd};
 use crate::moves::{
-    can_fire, command, dup_all, lowest_port, mark_all, move_comp, next_from, refusal_of, start_all,
+    can_fire, command, dup_all, lowest_port, mark_all, move_comp, refusal_of, start_all,
 };
 use bz_elab::{Ends, Flat, FlatComp, dup_comps};
 use bz_kinds::Comp;
 use bz_model::{Entry, Names, NetError, Phase, Reply, Value, Verb, Who};
+use bz_ready::ReadySet;
 use std::alloc::{AllocError, Global};
 use std::marker::Model;
 
@@ -29,7 +30,7 @@ pub struct Net {
     ends: Vec<Ends>,
     phases: Vec<Phase>,
     comps: Vec<Comp>,
-    ready: Vec<bool>,
+    ready: ReadySet,
     journal: Vec<Entry>,
     limit: usize,
 }
@@ -60,7 +61,7 @@ impl Model for Net {
     ghost invariant = { λ n. Sound
         (record { chans = n.names.chans; sites = map site_of n.sites.items; ports = n.names.ports })
         n.phases.items n.comps.items
-        n.ends.items n.ready.items n.journal.items n.limit };
+        n.ends.items n.ready.row n.journal.items n.limit };
 }
 
 impl Net {
@@ -78,7 +79,10 @@ impl Net {
             Ok(phases) => phases,
             Err(_) => return Err(NetError::Memory),
         };
-        let ready = mark_all(alloc, &pieces.comps, &comps, &phases)?;
+        let ready = match mark_all(alloc, &pieces.comps, &comps, &phases) {
+            Ok(ready) => ready,
+            Err(_) => return Err(NetError::Memory),
+        };
         Ok(Net {
             names: Names::new(pieces.ports, pieces.chans),
             sites: pieces.comps,
@@ -112,7 +116,7 @@ impl Net {
         let ends = Vec::from_slice(alloc, &self.ends)?;
         let phases = Vec::from_slice(alloc, &self.phases)?;
         let comps = dup_all(alloc, &self.comps)?;
-        let ready = Vec::from_slice(alloc, &self.ready)?;
+        let ready = mark_all(alloc, &self.sites, &self.comps, &self.phases)?;
         let mut journal = Vec::with_capacity(alloc, self.journal.capacity())?;
         journal.extend_from_slice(&self.journal)?;
         Ok(Net {
@@ -132,10 +136,10 @@ impl Net {
         ensures { MatchBool result (CanStep self.now.wiring.sites self.now.state comp)
             (CanStep self.now.wiring.sites self.now.state comp → ⊥) }
     {
-        if comp == 0 || comp as usize > self.ready.len() {
+        if comp as usize > self.sites.len() {
             return false;
         }
-        self.ready[comp as usize - 1]
+        self.ready.contains(comp)
     }
 
     /// Makes sure that one more entry can be added.
@@ -206,7 +210,7 @@ impl Net {
         ensures { MatchOption result (Rest self.now.wiring.sites self.now.state)
             (IsNext (CanStep self.now.wiring.sites self.now.state) from) }
     {
-        next_from(&self.ready, from)
+        self.ready.next_from(from)
     }
 
     /// Notes in the journal that no component can move.

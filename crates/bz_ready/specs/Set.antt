@@ -1,5 +1,5 @@
 -- A set of numbers, as its members by place and as a row that tells of each number whether it is one.
-use Rattle.std.specs.Prelude.{◌≡◌, ℕ, ◌<◌, ◌≤◌, ◌^◌, Bool, true, false, List, length, slice_index, slice_index_or, Option, Some, None, refl}
+use Rattle.std.specs.Prelude.{◌≡◌, ◌⊎◌, ℕ, ◌<◌, ◌≤◌, ◌^◌, Bool, true, false, List, length, slice_index, slice_index_or, Option, Some, None, refl}
 use Rattle.std.specs.List.{Contains}
 use Rattle.std.specs.Coded.{Coded, code_by, coded×, coded_list, coded_ℕ, coded_bool}
 use Rattle.bz_ready.specs.Order.{IsEach}
@@ -26,7 +26,8 @@ pub record IsSet (order : List ℕ) (len : ℕ) (row : List Bool) : Type 0 where
   pub inside : (i : ℕ) → i < len → slice_index_or row (slice_index order i) false ≡ true
   pub outside : (i : ℕ) → len ≤ i → i < length order → slice_index_or row (slice_index order i) false ≡ false
 
--- the least member at or above k, else the least member
+-- The least member at or above k; where there is none, the least of all.
 abbrev pub IsNextFrom : List Bool → ℕ → Option ℕ → Type 0
 IsNextFrom row k None = (j : ℕ) → slice_index_or row j false ≡ false
-IsNextFrom row k (Some m) = (slice_index_or row m false ≡ true) × ((j : ℕ) → k ≤ j → slice_index_or row j false ≡ true → (k ≤ m) × (m ≤ j)) × ((j : ℕ) → j < m → slice_index_or row j false ≡ true → j < k)
+IsNextFrom row k (Some m) = (slice_index_or row m false ≡ true)
+    × (((k ≤ m) × ((j : ℕ) → k ≤ j → j < m → slice_index_or row j false ≡ false)) ⊎ ((j : ℕ) → slice_index_or row j false ≡ true → (m ≤ j) × (j < k)))

@@ -98,7 +98,8 @@ impl<A: Allocator + Copy> ReadySet<A> {
         self.order.number(place)
     }
 
-    /// The least member at or above `number`, else the least member.
+    /// The least member at or above `number`, else the least of all.
+    #[tactic(auto, using(crate::proofs::Nexts::above, crate::proofs::Nexts::around))]
     pub fn next_from(&self, number: u32) -> Option<u32>
         ensures { IsNextFrom self.now.row number result }
     {

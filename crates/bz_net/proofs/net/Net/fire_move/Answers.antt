@@ -14,12 +14,11 @@ invariant_of-self c =
     let d = c.move_comp-chan.new in
     let w : Wiring = record { chans = n.names.chans; sites = map site_of n.sites.items; ports = n.names.ports } in
     let r = c.move_comp-chan.result in
-    let does : MovedAt w.sites n.ends.items n.phases.items n.comps.items d.phases d.comps n.ready.items d.ready c.args.comp c.args.port r.0 r.1 r.2 = rw (c.deref-4.ensures.value, c.deref-5.ensures.value, c.deref_mut.ensures.value, c.deref_mut-2.ensures.value, c.deref_mut-3.ensures.value) at c.move_comp-chan.ensures in
+    let does : MovedAt w.sites n.ends.items n.phases.items n.comps.items d.phases d.comps n.ready.row d.ready.row c.args.comp c.args.port r.0 r.1 r.2 = rw (c.deref-4.ensures.value, c.deref-5.ensures.value, c.deref_mut.ensures.value, c.deref_mut-2.ensures.value) at c.move_comp-chan.ensures in
     let place : length n.journal.items < n.limit = subst (λ (v : Simulation). length v.journal < v.limit) (sym c.self-2.view_is) c.in_ok-admit.ensures.ok.has_place in
     let phases : take n.phases.len (d.phases ++ drop (length d.phases) n.phases.items) ≡ d.phases = take_at _ _ _ (omega arith) in
     let procs : take n.comps.len (d.comps ++ drop (length d.comps) n.comps.items) ≡ d.comps = take_at _ _ _ (omega arith) in
-    let flags : take n.ready.len (d.ready ++ drop (length d.ready) n.ready.items) ≡ d.ready = take_at _ _ _ (omega arith) in
-    rw (phases, procs, flags, c.push.ensures.items, c.unwrap.ensures) (sound_fired w n.phases.items n.comps.items d.phases d.comps n.ends.items n.ready.items d.ready n.journal.items n.limit c.args.who c.args.comp c.args.port r.0 r.1 r.2 c.self-2.invariant does place)
+    rw (phases, procs, c.push.ensures.items, c.unwrap.ensures) (sound_fired w n.phases.items n.comps.items d.phases d.comps n.ends.items n.ready.row d.ready.row n.journal.items n.limit c.args.who c.args.comp c.args.port r.0 r.1 r.2 c.self-2.invariant does place)
 
 pub returns-clause-adds : goal.returns-clause-adds
 returns-clause-adds c =
@@ -27,7 +26,7 @@ returns-clause-adds c =
     let d = c.move_comp-chan.new in
     let w : Wiring = record { chans = n.names.chans; sites = map site_of n.sites.items; ports = n.names.ports } in
     let r = c.move_comp-chan.result in
-    let does : MovedAt w.sites n.ends.items n.phases.items n.comps.items d.phases d.comps n.ready.items d.ready c.args.comp c.args.port r.0 r.1 r.2 = rw (c.deref-4.ensures.value, c.deref-5.ensures.value, c.deref_mut.ensures.value, c.deref_mut-2.ensures.value, c.deref_mut-3.ensures.value) at c.move_comp-chan.ensures in
+    let does : MovedAt w.sites n.ends.items n.phases.items n.comps.items d.phases d.comps n.ready.row d.ready.row c.args.comp c.args.port r.0 r.1 r.2 = rw (c.deref-4.ensures.value, c.deref-5.ensures.value, c.deref_mut.ensures.value, c.deref_mut-2.ensures.value) at c.move_comp-chan.ensures in
     let step : Step w.sites (state_of n.phases.items n.comps.items) c.args.comp c.args.port r.0 r.1 r.2 (state_of d.phases d.comps) = stepped w _ _ _ _ _ _ _ n.journal.items n.limit c.args.who _ _ _ _ _ c.self-2.invariant does in
     let phases : take n.phases.len (d.phases ++ drop (length d.phases) n.phases.items) ≡ d.phases = take_at _ _ _ (omega arith) in
     let procs : take n.comps.len (d.comps ++ drop (length d.comps) n.comps.items) ≡ d.comps = take_at _ _ _ (omega arith) in
@@ -49,9 +48,9 @@ returns-clause-adds c =
 pub can_fire-requires : goal.can_fire-requires
 can_fire-requires c =
     let n = c.self.inside in
-    rw (c.deref.ensures.value, c.deref-2.ensures.value, c.deref-3.ensures.value) (sound_placed (record { chans = n.names.chans; sites = map site_of n.sites.items; ports = n.names.ports }) n.phases.items n.comps.items n.ends.items n.ready.items n.journal.items n.limit c.self.invariant)
+    rw (c.deref.ensures.value, c.deref-2.ensures.value, c.deref-3.ensures.value) (sound_placed (record { chans = n.names.chans; sites = map site_of n.sites.items; ports = n.names.ports }) n.phases.items n.comps.items n.ends.items n.ready.row n.journal.items n.limit c.self.invariant)
 
 pub move_comp-chan-requires-clause-placed : goal.move_comp-chan-requires-clause-placed
 move_comp-chan-requires-clause-placed c =
     let n = c.self-2.inside in
-    rw (c.deref-4.ensures.value, c.deref_mut.ensures.value, c.deref_mut-2.ensures.value) (sound_placed (record { chans = n.names.chans; sites = map site_of n.sites.items; ports = n.names.ports }) n.phases.items n.comps.items n.ends.items n.ready.items n.journal.items n.limit c.self-2.invariant)
+    rw (c.deref-4.ensures.value, c.deref_mut.ensures.value, c.deref_mut-2.ensures.value) (sound_placed (record { chans = n.names.chans; sites = map site_of n.sites.items; ports = n.names.ports }) n.phases.items n.comps.items n.ends.items n.ready.row n.journal.items n.limit c.self-2.invariant)
