@@ -1,0 +1,81 @@
+#!/usr/bin/env python3
+"""Times programs with the command line of breezesim side by side.
+
+    measure.py PROGRAM [OTHER]      MOVES=1000000 and ROUNDS=3 may be set in the environment
+
+Each row is one workload: the best time of each program in seconds, and, where there are two, how many times as long the first
+takes. A row of moves leaves out the time of the same command without any. The netlists are made by netlists.py, in a folder that
+goes away.
+"""
+import os
+import subprocess
+import sys
+import tempfile
+import time
+
+HERE = os.path.dirname(os.path.abspath(__file__))
+MOVES = int(os.environ.get("MOVES", "1000000"))
+ROUNDS = int(os.environ.get("ROUNDS", "3"))
+
+
+def seconds(program, arguments, netlist):
+    """The best time of some rounds; None where the program refuses."""
+    best = None
+    for _ in range(ROUNDS):
+        with open(netlist, "rb") as text:
+            begin = time.monotonic()
+            done = subprocess.run([program, *arguments], stdin=text, stdout=subprocess.DEVNULL, stderr=subprocess.PIPE)
+            took = time.monotonic() - begin
+        if done.returncode != 0:
+            print(f"    {program}: {done.stderr.decode(errors='replace').strip()}")
+            return None
+        best = took if best is None else min(best, took)
+    return best
+
+
+def show(label, times):
+    cells = ["refused" if t is None else f"{t:8.3f} s" for t in times]
+    if len(times) == 2 and None not in times and times[1] > 0:
+        cells.append(f"{times[0] / times[1]:6.1f} times")
+    print(f"{label:40}" + "  ".join(cells), flush=True)
+
+
+def run(words):
+    return ["run", "--part", "bench", "--journal", "16777216", *words]
+
+
+def without(times, empty):
+    """What is left of the times without those of an empty run."""
+    return [None if t is None or e is None else max(t - e, 0.0) for t, e in zip(times, empty)]
+
+
+def moves(programs, shape, size, netlist):
+    empty = [seconds(p, run(["run:0"]), netlist) for p in programs]
+    show(f"{shape} {size}: opened", empty)
+    full = [seconds(p, run(["offer:go", f"run:{MOVES}"]), netlist) for p in programs]
+    show(f"{shape} {size}: {MOVES} moves", without(full, empty))
+
+
+def main():
+    programs = sys.argv[1:]
+    if not 1 <= len(programs) <= 2:
+        sys.exit(__doc__)
+    with tempfile.TemporaryDirectory() as folder:
+        def netlist(shape, size):
+            path = os.path.join(folder, f"{shape}{size}")
+            with open(path, "wb") as text:
+                subprocess.run([sys.executable, os.path.join(HERE, "netlists.py"), shape, str(size)], stdout=text, check=True)
+            return path
+
+        for size in (10, 1000, 100000):
+            moves(programs, "pipeline", size, netlist("pipeline", size))
+        for size in (64, 4096, 100000):
+            moves(programs, "loops", size, netlist("loops", size))
+        text = netlist("large", 1000000)
+        print(f"large: {os.path.getsize(text)} bytes")
+        show("large: listed", [seconds(p, ["list", "--part", "bench"], text) for p in programs])
+        show("large: opened", [seconds(p, run(["run:0"]), text) for p in programs])
+
+
+if __name__ == "__main__":
+    main()

@@ -1,0 +1,105 @@
+#!/usr/bin/env python3
+"""Netlists to measure on, written to standard output.
+
+    netlists.py loops N       N Loops, each driving a Continue, started side by side by Concurs
+    netlists.py pipeline N    N one-place buffers in a row, from a Constant to a ContinuePush
+    netlists.py large N       a part of about N components, most of them Continues under Sequences
+
+Each has one part, `bench`, and one port, `go`.
+"""
+import sys
+
+MOST_MEMBERS = 4096
+
+
+class Netlist:
+    """A part as it grows: a channel is known by its number, the first being the port's."""
+
+    def __init__(self):
+        self.channels = ["(sync)"]
+        self.components = []
+
+    def channel(self, form="(sync)"):
+        self.channels.append(form)
+        return len(self.channels)
+
+    def component(self, kind, entries, parameters=""):
+        written = " ".join(
+            "(" + " ".join(map(str, entry)) + ")" if isinstance(entry, list) else str(entry)
+            for entry in entries
+        )
+        self.components.append(f'  (component "$Brz{kind}" ({parameters}) ({written}))')
+
+    def text(self):
+        lines = ['(breeze-part "bench"', ' (ports (sync-port "go" passive))', " (channels"]
+        lines += ["  " + form for form in self.channels]
+        lines += [" )", " (components", *self.components, " ))"]
+        return "\n".join(lines) + "\n"
+
+
+def start(net, activate, count):
+    """Channels that are all activated by one, through as few layers of Concurs as do."""
+    if count <= MOST_MEMBERS:
+        outs = [net.channel() for _ in range(count)]
+        net.component("Concur", [activate, outs], str(count))
+        return outs
+    layers = -(-count // MOST_MEMBERS)
+    share, more = divmod(count, layers)
+    outs = []
+    for place, above in enumerate(start(net, activate, layers)):
+        outs += start(net, above, share + (place < more))
+    return outs
+
+
+def loops(count):
+    net = Netlist()
+    for activate in start(net, 1, count):
+        out = net.channel()
+        net.component("Loop", [activate, out])
+        net.component("Continue", [out])
+    return net
+
+
+def pipeline(count):
+    net = Netlist()
+    starts = start(net, 1, count)
+    source = net.channel("(pull 8)")
+    net.component("Constant", [source], "8 165")
+    for place, activate in enumerate(starts):
+        again, first, second = (net.channel() for _ in range(3))
+        write, read, out = (net.channel(form) for form in ("(push 8)", "(pull 8)", "(push 8)"))
+        net.component("Loop", [activate, again])
+        net.component("Sequence", [again, [first, second]], "2")
+        net.component("Fetch", [first, source, write], "8")
+        net.component("Variable", [write, [read]], '8 1 "x" ""')
+        net.component("Fetch", [second, read, out], "8")
+        if place + 1 == count:
+            net.component("ContinuePush", [out], "8")
+        else:
+            source = net.channel("(pull 8)")
+            net.component("PassivatorPush", [[source], out], "1 8")
+    return net
+
+
+def large(count):
+    net = Netlist()
+    waiting = [1]
+    while len(net.components) + len(waiting) < count:
+        activate = waiting.pop(0)
+        outs = [net.channel() for _ in range(8)]
+        net.component("Sequence", [activate, outs], "8")
+        waiting += outs
+    for activate in waiting:
+        net.component("Continue", [activate])
+    return net
+
+
+def main():
+    shapes = {"loops": loops, "pipeline": pipeline, "large": large}
+    if len(sys.argv) != 3 or sys.argv[1] not in shapes:
+        sys.exit(__doc__)
+    sys.stdout.write(shapes[sys.argv[1]](int(sys.argv[2])).text())
+
+
+if __name__ == "__main__":
+    main()
