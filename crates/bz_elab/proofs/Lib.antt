@@ -2,6 +2,12 @@ pub mod Seating
 pub mod Sites
 pub mod Verdicts
 pub mod Slots
-pub mod Tops
 pub mod Roles
-pub mod TopFits
+pub mod Counting
+pub mod Growing
+pub mod Soundness
+pub mod Failing
+pub mod Distinct
+pub mod Meeting
+pub mod Wiring
+pub mod Refusing

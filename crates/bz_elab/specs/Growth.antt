@@ -1,5 +1,5 @@
 -- The net as far as the walk has come.
-use Rattle.std.specs.Prelude.{◌≡◌, ℕ, zero, suc, ◌+◌, ◌-◌, ◌<◌, ◌≤◌, ⊤, IsTrue, Some, List, [], ◌∷◌, ◌++◌, length, map, drop, slice_get, slice_index_or}
+use Rattle.std.specs.Prelude.{◌≡◌, ℕ, zero, suc, ◌+◌, ◌-◌, ◌<◌, ◌≤◌, ⊤, ◌⊎◌, IsTrue, Some, List, [], ◌∷◌, ◌++◌, length, map, drop, slice_get, slice_index_or}
 use Rattle.std.specs.List.{flat_map, All}
 use Rattle.bz_model.specs.declared.channel.Chan.{Chan}
 use Rattle.bz_model.specs.declared.kind.Kind.{Kind}
@@ -8,11 +8,14 @@ use Rattle.bz_breeze.specs.declared.part.Part.{Part}
 use Rattle.bz_breeze.specs.declared.part.Component.{Component}
 use Rattle.bz_elab.specs.declared.error.ElabError.{ElabError}
 use Rattle.bz_elab.specs.declared.error.ElabError.TheVariants.{TooBig, Memory}
+use Rattle.bz_elab.specs.declared.error.Fault.{Fault}
 use Rattle.bz_elab.specs.declared.flat.FlatComp.{FlatComp}
 use Rattle.bz_elab.specs.declared.walk.Draft.{Draft}
+use Rattle.bz_elab.specs.Faults.{error_at}
 use Rattle.bz_elab.specs.Entries.{flattened, sizes_of, arranged, FitsPorts}
-use Rattle.bz_elab.specs.Paths.{Path, Place, Role, instance, of_kind, Stop, copy, leaf, component, copied, joined, role, leaf_role, each_from, visit, walk, own_chans, own_places, most_instances}
-use Rattle.bz_elab.specs.Refusals.{IsChannel, kinds_of, widths_of, chans_of, actuals_of, formals_of, own_ends, IsTooMany, AppliesTo}
+use Rattle.bz_elab.specs.Paths.{Path, Place, Role, instance, of_kind, Stop, copy, leaf, component, copied, joined, role, leaf_role, each_from, visit, walk, own_chans, own_places, stops, all_places, most_instances}
+use Rattle.bz_elab.specs.Refusals.{IsChannel, kinds_of, widths_of, chans_of, actuals_of, formals_of, own_comps, own_ends, most_ends, IsTooMany, HasFault, AppliesTo}
+use Rattle.bz_elab.specs.Wires.{most_comps, most_chans}
 
 -- What one component has to be.
 
@@ -95,8 +98,13 @@ pub record Grows (parts : List Part) (top : Part) (before : List Place) (old new
   pub comps : List FlatComp
   pub chans_are : new.chans.items ≡ old.chans.items ++ flat_map own_chans stops
   pub comps_are : new.comps.items ≡ old.comps.items ++ comps
-  pub ends_are : new.ends ≡ old.ends + length (flat_map own_ends stops)
   pub leaves : AreLeaves parts top (before ++ flat_map own_places stops) stops comps
+
+-- the net grew by as much as these stops have
+pub record Counts (old new : Draft) (stops : List Stop) : Type 0 where
+  pub comps_are : length new.comps.items ≡ length old.comps.items + length (flat_map own_comps stops)
+  pub chans_are : length new.chans.items ≡ length old.chans.items + length (flat_map own_chans stops)
+  pub ends_are : new.ends ≡ old.ends + length (flat_map own_ends stops)
 
 -- what lies below the copy of a part, with at most so many instances more on a path
 abbrev pub below_copy : List Part → Path → ℕ → Part → List Stop
@@ -107,12 +115,41 @@ Flattened parts part chans depth old new =
     (top : Part) (path : Path) (before : List Place) → copied parts top path ≡ Some part → length before ≡ length old.chans.items
     → CopyNumbers parts top before path chans → Grows parts top before old new (below_copy parts path depth part)
 
+abbrev pub Counted : List Part → Part → ℕ → Draft → Draft → Type 0
+Counted parts part depth old new = (path : Path) → Counts old new (below_copy parts path depth part)
+
 -- a copy was entered: the channels of its part but for its ports were added, and `chans` are all of them
 pub record Entered (old new : Draft) (part : Part) (ports : ℕ) (actuals chans : List ℕ) : Type 0 where
   pub chans_are : new.chans.items ≡ old.chans.items ++ drop ports part.channels.items
   pub comps_are : new.comps.items ≡ old.comps.items
   pub ends_are : new.ends ≡ old.ends
   pub numbers : chans ≡ actuals ++ numbers_from (suc (length old.chans.items)) (length part.channels.items - ports)
+
+-- a component that is no instance was added, on the net's channels in place of its part's
+pub record LeafAdded (own : List Chan) (chans : List ℕ) (c : Component) (old new : Draft) : Type 0 where
+  pub named : FlatComp
+  pub added : FlatComp
+  pub flat : IsFlat own c named
+  pub actuals : AreActuals chans named.chans.items added.chans.items
+  pub kind_is : added.kind ≡ named.kind
+  pub sizes_are : added.sizes ≡ named.sizes
+  pub chans_are : new.chans.items ≡ old.chans.items
+  pub comps_are : new.comps.items ≡ old.comps.items ++ added ∷ []
+  pub ends_are : new.ends ≡ old.ends + length added.chans.items
+
+-- the copy of an instance's part was entered, and `inner` are all its channels
+pub record CopyAdded (own : List Chan) (chans : List ℕ) (c : Component) (part : Part) (old new : Draft) (inner : List ℕ) : Type 0 where
+  pub ports : List ℕ
+  pub actuals : AreActuals chans (flattened c.entries.items) ports
+  pub sound : IsSoundInstance own c part
+  pub entered : Entered old new part (length part.ports.items) ports inner
+  pub count : length inner ≡ length part.channels.items
+
+-- a component at this place was not added: for want of memory, for a fault, or since the net would be too big
+abbrev pub Refused : List Chan → Component → Role → Draft → Stop → ℕ → ℕ → ElabError → Type 0
+Refused own c role old stop n i e =
+    (e ≡ Memory) ⊎ (((f : Fault) × (e ≡ error_at f n i) × HasFault own c role f)
+    ⊎ ((e ≡ TooBig) × IsTooMany (length old.comps.items) (length old.chans.items) old.ends (stop ∷ [])))
 
 -- why the walk of the net of `top` ends at these stops
 abbrev pub EndsWalk : List Part → Part → Draft → List Stop → ElabError → Type 0
@@ -124,3 +161,16 @@ abbrev pub Fails : List Part → Part → ℕ → Draft → ElabError → Type 0
 Fails parts part depth old e =
     (top : Part) (path : Path) → copied parts top path ≡ Some part → length path + depth ≡ most_instances
     → EndsWalk parts top old (below_copy parts path depth part) e
+
+-- a draft within what a net may have
+pub record Within (d : Draft) : Type 0 where
+  pub comps_few : length d.comps.items ≤ most_comps
+  pub chans_few : length d.chans.items ≤ most_chans
+  pub ends_few : d.ends ≤ most_ends
+
+-- the channels, components and ends of the net of `top`
+pub record IsNet (parts : List Part) (top : Part) (d : Draft) : Type 0 where
+  pub chans_are : d.chans.items ≡ flat_map own_chans (stops parts top)
+  pub comps_len : length d.comps.items ≡ length (flat_map own_comps (stops parts top))
+  pub ends_are : d.ends ≡ length (flat_map own_ends (stops parts top))
+  pub leaves : AreLeaves parts top (all_places parts top) (stops parts top) d.comps.items

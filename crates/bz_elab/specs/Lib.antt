@@ -6,4 +6,3 @@ pub mod Paths
 pub mod Faults
 pub mod Refusals
 pub mod Growth
-pub mod Tops

@@ -66,14 +66,6 @@ pub record At (parts : List Part) (top : Part) (n i : ℕ) : Type 0 where
 abbrev pub FaultAt : List Part → Part → Fault → ℕ → ℕ → Type 0
 FaultAt parts top f n i = (at : At parts top n i) × HasFault at.part.channels.items at.comp (role parts at.comp) f
 
--- instances are refused until they are elaborated
-abbrev pub IsRefusedInstance : Role → Type 0
-IsRefusedInstance (instance part) = ⊤
-IsRefusedInstance role = ⊥
-
-abbrev pub RefusedInstanceAt : List Part → Part → ℕ → ℕ → Type 0
-RefusedInstanceAt parts top n i = (at : At parts top n i) × IsRefusedInstance (role parts at.comp)
-
 -- part n of the text is reached by the top, and reaches itself by one instance or more
 pub record IsRecursive (parts : List Part) (top : Part) (n : ℕ) : Type 0 where
   pub path : Path
@@ -114,7 +106,7 @@ abbrev pub AppliesTo : List Part → Part → ElabError → Type 0
 AppliesTo parts top NoPart = ⊥
 AppliesTo parts top (Recursive n) = IsRecursive parts top n
 AppliesTo parts top TooDeep = IsTooDeep parts top
-AppliesTo parts top (UnknownComponent n i) = FaultAt parts top fault.UnknownComponent n i ⊎ RefusedInstanceAt parts top n i
+AppliesTo parts top (UnknownComponent n i) = FaultAt parts top fault.UnknownComponent n i
 AppliesTo parts top (BadParameter n i) = FaultAt parts top fault.BadParameter n i
 AppliesTo parts top (PortCount n i) = FaultAt parts top fault.PortCount n i
 AppliesTo parts top (BadChannel n i) = FaultAt parts top fault.BadChannel n i

@@ -72,6 +72,14 @@ impl<T: Drop> From<AllocFailed<T>> for ElabError {
     }
 }
 
+/// Where a component stands: the place of its part in the list of parts, counted from 0, and its position in that part,
+/// counted from 1.
+#[derive(Clone, Copy, Debug, PartialEq, Eq)]
+pub struct Spot {
+    pub part: usize,
+    pub position: usize,
+}
+
 /// What is wrong with one component of a part.
 #[derive(Clone, Copy, Debug, PartialEq, Eq)]
 pub enum Fault {
@@ -85,10 +93,11 @@ pub enum Fault {
 }
 
 impl Fault {
-    /// The refusal of a component, by the place of its part and its position.
-    pub fn at(self, part: usize, position: usize) -> ElabError
-        ensures { result ≡ error_at self part position }
+    /// The refusal of a component that stands here.
+    pub fn at(self, spot: Spot) -> ElabError
+        ensures { result ≡ error_at self spot.part spot.position }
     {
+        let Spot { part, position } = spot;
         match self {
             Fault::UnknownComponent => ElabError::UnknownComponent(part, position),
             Fault::BadParameter => ElabError::BadParameter(part, position),

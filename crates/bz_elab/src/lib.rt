@@ -2,15 +2,15 @@
 #![tactic(auto)]
 
 mod component;
+mod elaboration;
 mod ends;
 mod error;
 mod flat;
-mod level;
 mod walk;
 
+pub use elaboration::elaborate;
 pub use error::ElabError;
 pub use flat::{Ends, Flat, FlatComp, Pieces, dup_comps};
-pub use level::elaborate;
 
 #[cfg(test)]
 mod tests;

@@ -1,5 +1,4 @@
-use Rattle.std.proofs.Common.{◌≡◌, ◌∙◌, map, ap, sym}
-use Rattle.bz_model.specs.Nets.{Site}
+use Rattle.std.proofs.Common.{◌≡◌, ◌∙◌, ap}
 use Rattle.bz_elab.specs.Flats.{site_of}
 use Rattle.bz_model.proofs.Copies.{copied_more}
 use Rattle.bz_elab.proofs.flat.dup_comps.Goals as goal

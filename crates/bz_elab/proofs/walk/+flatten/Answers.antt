@@ -1,0 +1,122 @@
+use Rattle.std.proofs.Common.{arith, ◌≡◌, ◌<◌, ◌++◌, [], List, length, take, refl, sym, ◌∙◌, ap, suc, subst, add-one}
+use Rattle.std.proofs.lemmas.List.{take_all}
+use Rattle.std.proofs.lemmas.Option.{slice_get_read}
+use Rattle.std.proofs.lemmas.Result.{err_from_is_err_and}
+use Rattle.std.specs.List.{flat_map}
+use Rattle.bz_breeze.specs.declared.part.Component.{Component}
+use Rattle.bz_elab.specs.Paths.{Role, each_from, visit, walk, own_places}
+use Rattle.bz_elab.specs.Growth.{Counts, IsSound}
+use Rattle.bz_elab.proofs.Counting.{counts_step, counts_leaf_step, counts_copy_step, leaf_ends}
+use Rattle.bz_elab.proofs.Growing.{flatten_step, leaf_step, copy_step, copies_grow, length_grown, component_at, actuals_count}
+use Rattle.bz_elab.proofs.Soundness.{part_at, SoundUpTo, sound_leaf, sound_copy, sound_all}
+use Rattle.bz_elab.proofs.Failing.{leaf_fails, copy_fails, deeper_fails, deep_ends, sound_by_none, sound_by_some}
+use Rattle.bz_elab.proofs.walk.+flatten.Goals as goal
+use Rattle.bz_elab.proofs.walk.+flatten.Goals.{in-None+in_ok-add_leaf-in-None, in-Some+else-depth-eq0+in_ok-inner_chans-in-Some+in_ok-flatten-in-Some}
+
+pub returns-in_err-add_leaf-in-None-clause-err : goal.returns-in_err-add_leaf-in-None-clause-err
+returns-in_err-add_leaf-in-None-clause-err t c =
+    let p = err_from_is_err_and c.from_residual.result c.from_residual.ensures.1 in
+    let none = sym (rw c.as_slice.ensures.value at c.in-None.ensures.part) in
+    let refused = rw c.as_slice-in-None.ensures.value at c.in_err-add_leaf-in-None.ensures.err in
+    rw (p.1, p.2) (leaf_fails c.args.parts.now c.args.part.now c.args.number c.args.depth c.loop-place.place c.deref-component-items.result.now c.component-item.result _ _ _
+    c.requires.part_is c.deref-component-items.ensures.value (omega arith) c.component-item.is none c.loop-place.invariant.counts refused)
+
+pub returns-then-depth-eq0-clause-err : goal.returns-then-depth-eq0-clause-err
+returns-then-depth-eq0-clause-err t c top path at full =
+    let some = rw c.as_slice.ensures.value at c.in-Some.ensures.part in
+    let (inner, is) = part_at c.args.parts.now c.in-Some.inner c.in-Some.ensures.within in
+    deep_ends c.args.parts.now top c.args.part.now inner c.args.draft.now [] path (suc c.loop-place.place) c.component-item.result at
+    (component_at c.args.part.now c.deref-component-items.result.now c.loop-place.place c.component-item.result c.deref-component-items.ensures.value c.component-item.is (omega arith))
+    (sym some ∙ is) (omega (arith, full, c.if-depth-eq0.true))
+
+pub returns-in_err-inner_chans-in-Some-clause-err : goal.returns-in_err-inner_chans-in-Some-clause-err
+returns-in_err-inner_chans-in-Some-clause-err t c =
+    let p = err_from_is_err_and c.from_residual-in_err-inner_chans-in-Some.result c.from_residual-in_err-inner_chans-in-Some.ensures.1 in
+    let inner = slice_get_read c.args.parts.now (length c.args.parts.now) c.in-Some.inner c.index-parts-inner.result refl c.in-Some.ensures.within c.index-parts-inner.is in
+    let some = sym (rw c.as_slice.ensures.value at c.in-Some.ensures.part) ∙ inner in
+    let refused = rw c.as_slice-in-Some.ensures.value at c.in_err-inner_chans-in-Some.ensures.err in
+    rw (p.1, p.2) (copy_fails c.args.parts.now c.args.part.now c.index-parts-inner.result c.args.number c.args.depth c.loop-place.place c.deref-component-items.result.now c.component-item.result _ _ _
+    c.requires.part_is c.deref-component-items.ensures.value (omega arith) c.component-item.is some (omega (arith, c.if-depth-eq0.false)) c.loop-place.invariant.counts refused)
+
+pub flatten-requires : goal.flatten-requires
+flatten-requires t c =
+    let inner = slice_get_read c.args.parts.now (length c.args.parts.now) c.in-Some.inner c.index-parts-inner.result refl c.in-Some.ensures.within c.index-parts-inner.is in
+    (omega (arith, c.decreases, c.if-depth-eq0.false), (c.requires.whole, (inner, (rw c.as_slice-in-Some-2.ensures.value c.in_ok-inner_chans-in-Some.ensures.ok.count, c.add_copy.ensures.within))))
+
+pub returns-in_err-flatten-in-Some-clause-err : goal.returns-in_err-flatten-in-Some-clause-err
+returns-in_err-flatten-in-Some-clause-err t c =
+    let p = err_from_is_err_and c.from_residual-in_err-flatten-in-Some.result c.from_residual-in_err-flatten-in-Some.ensures.1 in
+    let inner = slice_get_read c.args.parts.now (length c.args.parts.now) c.in-Some.inner c.index-parts-inner.result refl c.in-Some.ensures.within c.index-parts-inner.is in
+    let some = sym (rw c.as_slice.ensures.value at c.in-Some.ensures.part) ∙ inner in
+    let added = c.in_ok-inner_chans-in-Some.ensures.ok in
+    rw (p.1, p.2) (deeper_fails c.args.parts.now c.args.part.now c.index-parts-inner.result c.args.depth c.loop-place.place c.deref-component-items.result.now c.component-item.result _ _ _ _ _ _
+    c.deref-component-items.ensures.value (omega arith) c.component-item.is some (omega (arith, c.if-depth-eq0.false)) c.loop-place.invariant.counts added.entered
+    c.in_err-flatten-in-Some.ensures.err)
+
+pub loop-place-preserved : goal.loop-place-preserved
+loop-place-preserved t c =
+    let parts = c.args.parts.now in
+    let part = c.args.part.now in
+    let items = c.deref-component-items.result.now in
+    let i = c.loop-place.place in
+    let x = c.component-item.result in
+    let old = c.args.draft.now in
+    let inv = c.loop-place.invariant in
+    let lt : i < length items = omega arith in
+    let has = component_at part items i x c.deref-component-items.ensures.value c.component-item.is lt in
+    elim c.match-find.branch [
+      | in-None+in_ok-add_leaf-in-None w ↦
+          let none = sym (rw c.as_slice.ensures.value at w.in-None.ensures.part) in
+          let added = rw w.as_slice-in-None.ensures.value at w.in_ok-add_leaf-in-None.ensures.ok in
+          let new = w.add_leaf.new.draft in
+          let ends = leaf_ends part.channels.items c.args.chans.now x added.named added.added added.flat added.actuals in
+          let role = subst (λ (r : Role). IsSound part.channels.items x r) (sym added.flat.role_is) added.flat.sound in
+          rw w.draft-is (record {
+            within = w.add_leaf.ensures.within;
+            grows = λ top path before at len n.
+                let so_far = inv.grows top path before at len n in
+                let stops = each_from 1 (visit parts path (walk parts c.args.depth)) (take i items) in
+                let n2 = copies_grow parts top before (flat_map own_places stops) path c.args.chans.now n in
+                flatten_step parts top path before c.args.depth i items x old _ new c.component-item.is lt so_far
+                (leaf_step parts top path (before ++ flat_map own_places stops) c.args.depth (suc i) part.channels.items c.args.chans.now x added.named added.added _ new none n2 added.flat added.actuals
+                added.kind_is added.sizes_are added.chans_are added.comps_are);
+            counts = λ path. counts_step parts path c.args.depth i items x old _ new lt c.component-item.is (inv.counts path)
+                (counts_leaf_step parts path c.args.depth (suc i) x added.added _ new none ends added.chans_are added.comps_are added.ends_are);
+            sound = rw add-one (sound_leaf parts part c.args.depth i x inv.sound has none (sound_by_none parts part.channels.items x none role));
+          })
+      | in-Some+else-depth-eq0+in_ok-inner_chans-in-Some+in_ok-flatten-in-Some w ↦
+          let inner = w.index-parts-inner.result in
+          let read = slice_get_read parts (length parts) w.in-Some.inner inner refl w.in-Some.ensures.within w.index-parts-inner.is in
+          let some = sym (rw c.as_slice.ensures.value at w.in-Some.ensures.part) ∙ read in
+          let added = rw w.as_slice-in-Some.ensures.value at w.in_ok-inner_chans-in-Some.ensures.ok in
+          let deeper = rw w.as_slice-in-Some-2.ensures.value at w.in_ok-flatten-in-Some.ensures.ok in
+          let mid = w.add_copy.new.draft in
+          let new = w.flatten.new.draft in
+          let pos : 0 < c.args.depth = omega (arith, w.if-depth-eq0.false) in
+          let count = actuals_count c.args.chans.now _ added.ports _ added.actuals added.sound.count in
+          rw w.draft-is (record {
+            within = w.flatten.ensures.within;
+            grows = λ top path before at len n.
+                let so_far = inv.grows top path before at len n in
+                let stops = each_from 1 (visit parts path (walk parts c.args.depth)) (take i items) in
+                let n2 = copies_grow parts top before (flat_map own_places stops) path c.args.chans.now n in
+                let len2 = length_grown parts top before old _ stops so_far len in
+                flatten_step parts top path before c.args.depth i items x old _ new c.component-item.is lt so_far
+                (copy_step parts top part inner path (before ++ flat_map own_places stops) c.args.depth (suc i) x c.args.chans.now added.ports _ _ mid new some at has n2 added.actuals len2
+                added.entered count pos deeper);
+            counts = λ path. counts_step parts path c.args.depth i items x old _ new lt c.component-item.is (inv.counts path)
+                (counts_copy_step parts path c.args.depth (suc i) x inner _ mid new added.ports _ some pos added.entered w.in_ok-flatten-in-Some.ensures.counted);
+            sound = rw add-one (sound_copy parts part c.args.depth i x inner inv.sound has some (sound_by_some parts part.channels.items x inner some added.sound) pos w.in_ok-flatten-in-Some.ensures.sound);
+          })
+    ]
+
+pub returns-clause-sound : goal.returns-clause-sound
+returns-clause-sound t c =
+    let all : c.loop-place.place ≡ length c.args.part.now.components.items = omega (arith, ap length c.deref-component-items.ensures.value) in
+    sound_all c.args.parts.now c.args.part.now c.args.depth (subst (λ n. SoundUpTo c.args.parts.now c.args.part.now c.args.depth n) all c.loop-place.invariant.sound)
+
+pub returns-clause-counted : goal.returns-clause-counted
+returns-clause-counted t c path =
+    let items = c.deref-component-items.result.now in
+    let whole : take c.loop-place.place items ≡ c.args.part.now.components.items = take_all c.loop-place.place items (omega arith) ∙ c.deref-component-items.ensures.value in
+    subst (λ (xs : List Component). Counts c.args.draft.now c.loop-place.draft (each_from 1 (visit c.args.parts.now path (walk c.args.parts.now c.args.depth)) xs)) whole (c.loop-place.invariant.counts path)

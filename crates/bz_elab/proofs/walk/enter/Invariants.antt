@@ -1,0 +1,12 @@
+use Rattle.std.proofs.Common.{◌≡◌, ◌++◌, ◌-◌, take, drop, length, suc}
+use Rattle.bz_elab.specs.Growth.{numbers_from, Within}
+use Rattle.bz_elab.proofs.walk.enter.Given as goal
+
+abbrev pub invariant-loop-i : goal.invariant-loop-i
+invariant-loop-i l = record {
+  within : Within l.draft;
+  chans_are : l.draft.chans.items ≡ l.fn.draft.chans.items ++ take (l.i - l.ports) (drop l.ports l.part.channels.items);
+  comps_are : l.draft.comps.items ≡ l.fn.draft.comps.items;
+  ends_are : l.draft.ends ≡ l.fn.draft.ends;
+  numbers : l.chans.items ≡ l.fn.actuals.items ++ numbers_from (suc (length l.fn.draft.chans.items)) (l.i - l.ports);
+}
