@@ -78,23 +78,23 @@ numbers_level places n (k ∷ ks) same all =
 
 -- the channels of a component's ports are channels of its part
 pub within_own : (chans : List Chan) (c : Component) (f : FlatComp) → IsFlat chans c f → All (IsChannel chans) f.chans.items
-within_own chans c f flat = rw flat.chans_are (all_arranged (IsChannel chans) (row_of f.kind) c.entries.items flat.sound.within)
+within_own chans c f flat = rw flat.chans_are (all_arranged (IsChannel chans) f.kind chans c.entries.items flat.sound.within)
 
-site_level : (parts : List Part) (top : Part) (places : List Place) (chans : List Chan) (c : Component) (f : FlatComp)
+site_level : (parts : List Part) (top : Part) (places : List Place) (chans : List Chan) (c : Component) (f : FlatComp) → top.channels.items ≡ chans
     → ((k : ℕ) → 0 < k → k ≤ length chans → number_in places (here k) ≡ k) → IsFlat chans c f → leaf_site parts top places [] c ≡ site_of f
-site_level parts top places chans c f same flat =
-    let at : (kind : Role) → kind ≡ of_kind f.kind → record { kind = kind_in kind; sizes = sizes_of c.entries.items; chans = map (λ k. number_in places (here k)) (arranged (kind_in kind) c.entries.items) } ≡ site_of f =
-    λ kind e. rw (e, ← flat.chans_are, ← flat.sizes_are) (ap (λ ks. record { kind = f.kind; sizes = f.sizes; chans = ks }) (numbers_level places (length chans) f.chans.items same (within_own chans c f flat))) in
+site_level parts top places chans c f its same flat =
+    let at : (kind : Role) → kind ≡ of_kind f.kind → record { kind = kind_in kind; sizes = sizes_of c.entries.items; chans = map (λ k. number_in places (here k)) (arranged (kind_in kind) top.channels.items c.entries.items) } ≡ site_of f =
+    λ kind e. rw (e, its, ← flat.chans_are, ← flat.sizes_are) (ap (λ ks. record { kind = f.kind; sizes = f.sizes; chans = ks }) (numbers_level places (length chans) f.chans.items same (within_own chans c f flat))) in
     at (leaf_role c) flat.role_is
 
-sites_level : (parts : List Part) (top : Part) (places : List Place) (chans : List Chan) (cs : List Component) (fs : List FlatComp)
+sites_level : (parts : List Part) (top : Part) (places : List Place) (chans : List Chan) (cs : List Component) (fs : List FlatComp) → top.channels.items ≡ chans
     → ((k : ℕ) → 0 < k → k ≤ length chans → number_in places (here k) ≡ k) → AreOwn parts chans cs fs → flat_map (own_sites parts top places) (leaves cs) ≡ sites_of fs
-sites_level parts top places chans [] [] same own = refl
-sites_level parts top places chans [] (f ∷ fs) same own = absurd own
-sites_level parts top places chans (c ∷ cs) [] same own = absurd own
-sites_level parts top places chans (c ∷ cs) (f ∷ fs) same own =
-    ap (λ s. s ∷ flat_map (own_sites parts top places) (leaves cs)) (site_level parts top places chans c f same own.0.flat)
-    ∙ ap (λ ss. site_of f ∷ ss) (sites_level parts top places chans cs fs same own.1)
+sites_level parts top places chans [] [] its same own = refl
+sites_level parts top places chans [] (f ∷ fs) its same own = absurd own
+sites_level parts top places chans (c ∷ cs) [] its same own = absurd own
+sites_level parts top places chans (c ∷ cs) (f ∷ fs) its same own =
+    ap (λ s. s ∷ flat_map (own_sites parts top places) (leaves cs)) (site_level parts top places chans c f its same own.0.flat)
+    ∙ ap (λ ss. site_of f ∷ ss) (sites_level parts top places chans cs fs its same own.1)
 
 -- the net is the part's
 pub net_level : (parts : List Part) (top : Part) (fs : List FlatComp) → AreOwn parts top.channels.items top.components.items fs
@@ -105,7 +105,7 @@ net_level parts top fs own =
     let chans = ap (flat_map own_chans) at ∙ chans_level top in
     let places = ap (flat_map own_places) at ∙ places_level top in
     let sites : flat_map (own_sites parts top (all_places parts top)) (stops parts top) ≡ sites_of fs =
-    rw (places, at) (sites_level parts top (places_from [] 1 (length top.channels.items)) top.channels.items top.components.items fs (number_level (length top.channels.items)) own) in
+    rw (places, at) (sites_level parts top (places_from [] 1 (length top.channels.items)) top.channels.items top.components.items fs refl (number_level (length top.channels.items)) own) in
     ap (λ cs. record { chans = cs; sites = flat_map (own_sites parts top (all_places parts top)) (stops parts top); ports = map external top.ports.items }) chans
     ∙ ap (λ ss. record { chans = top.channels.items; sites = ss; ports = map external top.ports.items }) sites
 
@@ -129,7 +129,7 @@ ends_level parts chans (c ∷ cs) [] own = absurd own
 ends_level parts chans (c ∷ cs) (f ∷ fs) own =
     let flat = own.0.flat in
     let one : length f.chans.items ≡ length (flattened c.entries.items) =
-    ap length flat.chans_are ∙ length-arranged (row_of f.kind) c.entries.items flat.sound.fits.singles_are flat.sound.fits.lists_are in
+    ap length flat.chans_are ∙ length-arranged f.kind chans c.entries.items flat.sound.fits.singles_are flat.sound.fits.lists_are in
     let more = ends_level parts chans cs fs own.1 in
     length-append (flattened c.entries.items) (flat_map own_ends (leaves cs)) ∙ (omega (arith, one, more, length-append f.chans.items (ends_of fs)))
 

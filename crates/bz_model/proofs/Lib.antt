@@ -1,0 +1,4 @@
+pub mod Residues
+pub mod Bounds
+pub mod Fitting
+pub mod Starts

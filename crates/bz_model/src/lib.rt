@@ -8,12 +8,14 @@ mod event;
 mod expr;
 mod kind;
 mod names;
+mod operation;
 
 pub use channel::{Chan, ChanKind, MAX_WIDTH, Move, Phase, Value, carries, fits};
 pub use event::{Cmd, Entry, HostCmd, NetError, Reply, Verb, Who};
-pub use expr::Expr;
+pub use expr::{Expr, Operand, Source};
 pub use kind::{Kind, MAX_MEMBERS, Param};
 pub use names::{Names, Port};
+pub use operation::{BinaryOp, UnaryOp, low_bits};
 
 #[cfg(test)]
 mod tests;
