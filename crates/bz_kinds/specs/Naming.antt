@@ -142,7 +142,7 @@ given width value signed = None
 abbrev pub const_by : List Param → Option Kind
 const_by params =
     option_and_then (λ op. option_map (λ right. BinaryFuncConstR op (flag params 1) right) (given (number params 2) (number params 3) (flag params 2)))
-      (option_and_then binary_named (text params 0))
+    (option_and_then binary_named (text params 0))
 
 abbrev pub slice_by : List Param → Option Kind
 slice_by params = option_map (λ low. Slice low) (number params 2)

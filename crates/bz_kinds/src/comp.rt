@@ -104,7 +104,14 @@ pub fn apply(comp: &mut Comp, port: u32, phase: Phase) -> (Move, Option<Value>)
     let incoming = phase.incoming(due.mv);
     let value = carried(due, &comp.slots, incoming);
     store(&mut comp.slots, due.into, incoming);
-    advance(&comp.plan, comp.size, &mut comp.left, &mut comp.ports, port, &comp.slots);
+    advance(
+        &comp.plan,
+        comp.size,
+        &mut comp.left,
+        &mut comp.ports,
+        port,
+        &comp.slots,
+    );
     (due.mv, value)
 }
 

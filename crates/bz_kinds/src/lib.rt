@@ -22,4 +22,6 @@ pub use naming::kind_of;
 pub use table::{PortRow, is_passive, kinds_are, port_table, sizes_fit, widths_fit};
 
 #[cfg(test)]
+mod function_tests;
+#[cfg(test)]
 mod tests;

@@ -76,7 +76,11 @@ pub fn shape_of(kind: &Kind, sizes: [u32; 2], chans: &[Chan]) -> Shape
         Kind::Variable => array(Plan::Cells, sizes),
         Kind::Constant(value) => fixed(constant(*value, width(chans, 0)), 0),
         Kind::UnaryFunc { op, signed } => fixed(unary(*op, *signed, chans), 1),
-        Kind::BinaryFunc { op, left_signed, right_signed } => fixed(
+        Kind::BinaryFunc {
+            op,
+            left_signed,
+            right_signed,
+        } => fixed(
             two_pulls(Expr::Binary {
                 op: *op,
                 left: operand(chans, 2, 0, *left_signed),
@@ -85,7 +89,11 @@ pub fn shape_of(kind: &Kind, sizes: [u32; 2], chans: &[Chan]) -> Shape
             }),
             2,
         ),
-        Kind::BinaryFuncConstR { op, left_signed, right } => fixed(
+        Kind::BinaryFuncConstR {
+            op,
+            left_signed,
+            right,
+        } => fixed(
             one_pull(Expr::Binary {
                 op: *op,
                 left: operand(chans, 2, 0, *left_signed),

@@ -18,4 +18,8 @@ pub use names::{Names, Port};
 pub use operation::{BinaryOp, UnaryOp, low_bits};
 
 #[cfg(test)]
+mod operation_tests;
+#[cfg(test)]
+mod operation_values;
+#[cfg(test)]
 mod tests;
