@@ -1,5 +1,5 @@
 -- The text of the command `list`: a net's ports and components, a line for each.
-use Rattle.std.specs.Prelude.{ℕ, zero, suc, Bool, true, false, List, [], ◌∷◌, ◌++◌, length, drop, codes, decimal}
+use Rattle.std.specs.Prelude.{ℕ, zero, suc, Bool, true, false, List, [], ◌∷◌, ◌++◌, length, codes, decimal}
 use Rattle.std.specs.List.{flat_map}
 use Rattle.bz_model.specs.declared.channel.Chan.{Chan}
 use Rattle.bz_model.specs.declared.channel.ChanKind.{ChanKind}
@@ -8,7 +8,7 @@ use Rattle.bz_model.specs.declared.kind.Kind.{Kind}
 use Rattle.bz_model.specs.Names.{External}
 use Rattle.bz_model.specs.Nets.{Site, Wiring, chan_in}
 use Rattle.bz_model.specs.Traces.{name_form}
-use Rattle.bz_kinds.specs.Naming.{kind_name}
+use Rattle.bz_kinds.specs.KindWords.{kind_word}
 
 abbrev pub sense_text : Bool → List ℕ
 sense_text true = codes "passive"
@@ -28,9 +28,9 @@ abbrev pub port_line : ℕ → External → Chan → List ℕ
 port_line k port chan =
     codes "port " ++ (decimal k ++ (codes " " ++ (name_form port.name ++ (codes " " ++ (sense_text port.passive ++ (codes " " ++ (carried_text chan.kind chan.width ++ codes "\n")))))))
 
--- component k: its kind without `$Brz`, and its channels in the order of its ports
+-- component k: its kind, and its channels in the order of its ports
 abbrev pub comp_head : ℕ → Kind → List ℕ
-comp_head k kind = codes "component " ++ (decimal k ++ (codes " " ++ drop 4 (kind_name kind)))
+comp_head k kind = codes "component " ++ (decimal k ++ (codes " " ++ kind_word kind))
 
 abbrev pub comp_line : ℕ → Site → List ℕ
 comp_line k site = comp_head k site.kind ++ (flat_map spaced site.chans ++ codes "\n")

@@ -44,7 +44,7 @@ counts_then old mid new ss ts a b = record {
 -- the ends of a leaf are its entries
 pub leaf_ends : (own : List Chan) (outer : List ℕ) (c : Component) (g f : FlatComp) → IsFlat own c g → AreActuals outer g.chans.items f.chans.items → length f.chans.items ≡ length (flattened c.entries.items)
 leaf_ends own outer c g f flat are =
-    actuals_length outer g.chans.items f.chans.items are ∙ (ap length flat.chans_are ∙ length-arranged (row_of g.kind) c.entries.items flat.sound.fits.singles_are flat.sound.fits.lists_are)
+    actuals_length outer g.chans.items f.chans.items are ∙ (ap length flat.chans_are ∙ length-arranged g.kind own c.entries.items flat.sound.fits.singles_are flat.sound.fits.lists_are)
 
 pub counts_leaf : (path : Path) (c : Component) (f : FlatComp) (old new : Draft) → length f.chans.items ≡ length (flattened c.entries.items)
     → new.chans.items ≡ old.chans.items → new.comps.items ≡ old.comps.items ++ f ∷ [] → new.ends ≡ old.ends + length f.chans.items → Counts old new (leaf path c ∷ [])

@@ -10,7 +10,7 @@ use Rattle.bz_breeze.specs.declared.part.Component.{Component}
 use Rattle.bz_elab.specs.declared.flat.FlatComp.{FlatComp}
 use Rattle.bz_elab.specs.Entries.{arranged}
 use Rattle.bz_elab.specs.Flats.{site_of}
-use Rattle.bz_elab.specs.Paths.{Path, Place, Stop, copy, leaf, named, each_from, visit, walk, stops, own_places, places_from, all_places, joined, is_place, one_more, number_in, leaf_site, own_sites, leaf_role, kind_in, most_instances}
+use Rattle.bz_elab.specs.Paths.{Path, Place, Stop, copy, leaf, named, each_from, visit, walk, stops, own_places, places_from, all_places, joined, is_place, one_more, number_in, leaf_site, own_sites, leaf_role, kind_in, most_instances, chans_at}
 use Rattle.bz_elab.specs.Growth.{IsNumber, AreNumbers, IsLeaf, AreLeaves}
 
 abbrev place : Path → ℕ → Place
@@ -176,7 +176,7 @@ numbers_are places place (e ∷ es) (k ∷ ks) d h =
 site_is : (parts : List Part) (top : Part) (places : List Place) (path : Path) (c : Component) (f : FlatComp) → Differ places → IsLeaf parts top places path c f → site_of f ≡ leaf_site parts top places path c
 site_is parts top places path c f d is =
     let k : kind_in (leaf_role c) ≡ f.kind = ap kind_in is.role_is in
-    let ks = numbers_are places (joined parts top path) (arranged f.kind c.entries.items) f.chans.items d is.chans in
+    let ks = numbers_are places (joined parts top path) (arranged f.kind (chans_at parts top path) c.entries.items) f.chans.items d is.chans in
     rw (k, is.sizes_are, ← ks) refl
 
 -- the components of a net are those of its leaves

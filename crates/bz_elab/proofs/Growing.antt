@@ -11,7 +11,7 @@ use Rattle.bz_breeze.specs.declared.part.Component.{Component}
 use Rattle.bz_elab.specs.declared.flat.FlatComp.{FlatComp}
 use Rattle.bz_elab.specs.declared.walk.Draft.{Draft}
 use Rattle.bz_elab.specs.Entries.{flattened, arranged}
-use Rattle.bz_elab.specs.Paths.{Path, Place, Stop, copy, leaf, named, component, copied, joined, of_kind, each_from, visit, walk, stops, own_chans, own_places, places_from, ports_at, most_instances}
+use Rattle.bz_elab.specs.Paths.{Path, Place, Stop, copy, leaf, named, component, copied, joined, of_kind, each_from, visit, walk, stops, own_chans, own_places, places_from, ports_at, most_instances, chans_at}
 use Rattle.bz_elab.specs.Growth.{IsNumber, AreNumbers, AreLeaves, IsNet, numbers_from, CopyNumbers, Grows, Flattened, below_copy, AreActuals, Entered, IsFlat, Counts, Counted}
 use Rattle.bz_elab.proofs.Counting.{each_from-push, counts_then, counts_copy, actuals_length}
 
@@ -90,10 +90,11 @@ actual_numbers parts top before path chans (e ∷ es) (k ∷ ks) n h =
 
 -- one leaf more: f is g, on the net's channels in place of its part's
 pub grows_leaf : (parts : List Part) (top : Part) (before : List Place) (path : Path) (own : List Chan) (outer : List ℕ) (c : Component) (g f : FlatComp) (old new : Draft)
-    → CopyNumbers parts top before path outer → IsFlat own c g → AreActuals outer g.chans.items f.chans.items → f.kind ≡ g.kind → f.sizes ≡ g.sizes
+    → chans_at parts top path ≡ own → CopyNumbers parts top before path outer → IsFlat own c g → AreActuals outer g.chans.items f.chans.items → f.kind ≡ g.kind → f.sizes ≡ g.sizes
     → new.chans.items ≡ old.chans.items → new.comps.items ≡ old.comps.items ++ f ∷ [] → Grows parts top before old new (leaf path c ∷ [])
-grows_leaf parts top before path own outer c g f old new n flat h kind sizes same push =
-    let order : g.chans.items ≡ arranged f.kind c.entries.items = flat.chans_are ∙ ap (λ k. arranged k c.entries.items) (sym kind) in
+grows_leaf parts top before path own outer c g f old new here n flat h kind sizes same push =
+    let order : g.chans.items ≡ arranged f.kind (chans_at parts top path) c.entries.items =
+    flat.chans_are ∙ ap (λ k. arranged k own c.entries.items) (sym kind) ∙ ap (λ chans. arranged f.kind chans c.entries.items) (sym here) in
     record {
       comps = f ∷ [];
       chans_are = same ∙ sym (append-nil old.chans.items);
@@ -250,10 +251,10 @@ flatten_step parts top path before depth idx items x old mid new is lt a b =
     subst (λ ss. Grows parts top before old new ss) (sym f) (grows_then parts top before old mid new _ _ a b)
 
 pub leaf_step : (parts : List Part) (top : Part) (path : Path) (before : List Place) (depth i : ℕ) (own : List Chan) (outer : List ℕ) (x : Component) (g f : FlatComp) (old new : Draft)
-    → named parts x.name.items ≡ None → CopyNumbers parts top before path outer → IsFlat own x g → AreActuals outer g.chans.items f.chans.items → f.kind ≡ g.kind → f.sizes ≡ g.sizes
+    → named parts x.name.items ≡ None → chans_at parts top path ≡ own → CopyNumbers parts top before path outer → IsFlat own x g → AreActuals outer g.chans.items f.chans.items → f.kind ≡ g.kind → f.sizes ≡ g.sizes
     → new.chans.items ≡ old.chans.items → new.comps.items ≡ old.comps.items ++ f ∷ [] → Grows parts top before old new (visit parts path (walk parts depth) i x)
-leaf_step parts top path before depth i own outer x g f old new none n flat are kind sizes same push =
-    rw (none, visit) (grows_leaf parts top before path own outer x g f old new n flat are kind sizes same push)
+leaf_step parts top path before depth i own outer x g f old new none here n flat are kind sizes same push =
+    rw (none, visit) (grows_leaf parts top before path own outer x g f old new here n flat are kind sizes same push)
 
 pub copy_step : (parts : List Part) (top part in_part : Part) (path : Path) (before : List Place) (depth i : ℕ) (x : Component) (outer actuals chans : List ℕ) (old mid new : Draft)
     → named parts x.name.items ≡ Some in_part → copied parts top path ≡ Some part → component part i ≡ Some x

@@ -14,7 +14,7 @@ use Rattle.bz_breeze.specs.declared.part.Component.{Component}
 use Rattle.bz_elab.specs.declared.flat.FlatComp.{FlatComp}
 use Rattle.bz_elab.specs.Entries.{flattened, arranged}
 use Rattle.bz_elab.specs.Flats.{site_of}
-use Rattle.bz_elab.specs.Paths.{Path, Place, Role, of_kind, Stop, copy, leaf, named, component, inner, copied, joined, role, role_by, each_from, visit, walk, stops, own_chans, own_places, places_from, ports_at, most_instances}
+use Rattle.bz_elab.specs.Paths.{Path, Place, Role, of_kind, Stop, copy, leaf, named, component, inner, copied, joined, role, role_by, each_from, visit, walk, stops, own_chans, own_places, places_from, ports_at, most_instances, chans_of_copy}
 use Rattle.bz_elab.specs.Refusals.{IsChannel, actuals_of, formals_of, own_ends}
 use Rattle.bz_elab.specs.Seats.{ChansFit}
 use Rattle.bz_elab.specs.Growth.{IsSound, IsSoundLeaf, IsSoundInstance, IsSoundBelow, IsNumber, AreNumbers, IsLeaf, AreLeaves}
@@ -180,11 +180,13 @@ leaf_placed : (parts : List Part) (top : Part) (depth : ℕ) (places : List Plac
 leaf_placed parts top depth places path c f s (part, i, at, has, none) is =
     let role_is : role parts c ≡ of_kind f.kind = ap (λ o. role_by o c) none ∙ is.role_is in
     let sound : IsSoundLeaf part.channels.items c f.kind = subst (λ (r : Role). IsSound part.channels.items c r) role_is (s.sound path part at i c has) in
-    let es = arranged f.kind c.entries.items in
-    let within = all_arranged (IsChannel part.channels.items) (row_of f.kind) c.entries.items sound.within in
-    let carried = numbers_chans parts top depth places path part es f.chans.items s at within is.chans in
-    let many = numbers_count places (map (joined parts top path) es) f.chans.items is.chans in
-    let all = length-arranged (row_of f.kind) c.entries.items sound.fits.singles_are sound.fits.lists_are in
+    let own = part.channels.items in
+    let es = arranged f.kind own c.entries.items in
+    let chans : AreNumbers places (map (joined parts top path) es) f.chans.items = subst (λ o. AreNumbers places (map (joined parts top path) (arranged f.kind (chans_of_copy o) c.entries.items)) f.chans.items) at is.chans in
+    let within = all_arranged (IsChannel own) f.kind own c.entries.items sound.within in
+    let carried = numbers_chans parts top depth places path part es f.chans.items s at within chans in
+    let many = numbers_count places (map (joined parts top path) es) f.chans.items chans in
+    let all = length-arranged f.kind own c.entries.items sound.fits.singles_are sound.fits.lists_are in
     record {
       few = let n = length-map es (joined parts top path) in omega (arith, many, all, n);
       within = let n = length-map places (chan_of parts top) in rw n (numbers_fit places _ f.chans.items is.chans);

@@ -1,15 +1,17 @@
 -- Entries, and the ports that they stand for.
-use Rattle.std.proofs.Common.{◌≡◌, ℕ, zero, suc, ◌+◌, ◌<◌, true, false, not, None, Some, List, [], ◌∷◌, ◌++◌, length, map, drop, take, refl, sym, ◌∙◌, ap, arith, get_or, zero-add, append_assoc, length-append, count_by, slice_get, if◌then◌else◌, cond, ◌⊎◌, inl, inr}
+use Rattle.std.proofs.Common.{◌≡◌, ℕ, zero, suc, ◌+◌, ◌<◌, ◌≢◌, true, false, not, None, Some, List, [], ◌∷◌, ◌++◌, length, map, drop, take, refl, sym, ◌∙◌, ap, arith, get_or, set, zero-add, append_assoc, length-append, count_by, slice_get, if◌then◌else◌, cond, ◌⊎◌, inl, inr}
 use Rattle.std.specs.List.{All}
 use Rattle.std.proofs.lemmas.List.{take_more, drop_more, drop-drop}
 use Rattle.std.proofs.lemmas.List.Elements.{filter_map-append, All-nil, All-cons, All-head, All-tail, All-append}
 use Rattle.std.proofs.lemmas.List.Sums.{sum_by-cons}
-use Rattle.bz_model.specs.Rows.{PortRow}
+use Rattle.bz_model.specs.Rows.{PortRow, row_of}
 use Rattle.bz_kinds.specs.declared.table.PortRow as code
 use Rattle.bz_kinds.specs.Table.{seen}
 use Rattle.bz_breeze.specs.declared.part.Slot.{Slot}
 use Rattle.bz_breeze.specs.declared.part.Slot.TheVariants.{One, Many}
-use Rattle.bz_elab.specs.Entries.{flattened, singles, lists, list_of, first_list, in_row}
+use Rattle.bz_model.specs.declared.channel.Chan.{Chan}
+use Rattle.bz_model.specs.declared.kind.Kind.{Kind}
+use Rattle.bz_elab.specs.Entries.{flattened, singles, lists, list_of, first_list, in_row, pulls, guard_second, has_guard, in_order, arranged}
 use Rattle.std.proofs.Math.ListN.{get_or-map as read-map}
 
 pub drop_item : {X : Type 0} (xs : List X) (i : ℕ) (x : X) → i < length xs → x ≡ get_or xs i x → drop i xs ≡ x ∷ drop (i + 1) xs
@@ -114,8 +116,88 @@ all_in_row P (r ∷ rs) ones (l ∷ ls) a b = elim r.array as (λ v. All P (if v
 ]
 
 -- what holds of all that entries name holds of the channels in the order of a row
-pub all_arranged : (P : ℕ → Type 0) (rs : List PortRow) (es : List Slot) → All P (flattened es) → All P (in_row rs (singles es) (lists es))
-all_arranged P rs es h = all_in_row P rs (singles es) (lists es) (all_singles P es h) (all_lists P es h)
+pub all_rows : (P : ℕ → Type 0) (rs : List PortRow) (es : List Slot) → All P (flattened es) → All P (in_row rs (singles es) (lists es))
+all_rows P rs es h = all_in_row P rs (singles es) (lists es) (all_singles P es h) (all_lists P es h)
+
+-- the order of a While has the same entries
+all_three : (P : ℕ → Type 0) (a b c : ℕ) → P a → P b → P c → All P (a ∷ b ∷ c ∷ [])
+all_three P a b c x y z = All-cons P a (b ∷ c ∷ []) x (All-cons P b (c ∷ []) y (All-cons P c [] z (All-nil P)))
+
+all_guard : (P : ℕ → Type 0) (chans : List Chan) (ks : List ℕ) → All P ks → All P (guard_second chans ks)
+all_guard P chans [] h = h
+all_guard P chans (a ∷ []) h = h
+all_guard P chans (a ∷ b ∷ []) h = h
+all_guard P chans (a ∷ b ∷ c ∷ d ∷ ks) h = h
+all_guard P chans (a ∷ b ∷ c ∷ []) h =
+    let x = h 0 a (omega arith) in
+    let y = h 1 b (omega arith) in
+    let z = h 2 c (omega arith) in
+    elim (pulls chans a) as (λ v. All P (if v then b ∷ a ∷ c ∷ [] else (if pulls chans b then a ∷ b ∷ c ∷ [] else (if pulls chans c then a ∷ c ∷ b ∷ [] else a ∷ b ∷ c ∷ [])))) [
+      | true ↦ all_three P b a c y x z
+      | false ↦ elim (pulls chans b) as (λ v. All P (if v then a ∷ b ∷ c ∷ [] else (if pulls chans c then a ∷ c ∷ b ∷ [] else a ∷ b ∷ c ∷ []))) [
+        | true ↦ h
+        | false ↦ elim (pulls chans c) as (λ v. All P (if v then a ∷ c ∷ b ∷ [] else a ∷ b ∷ c ∷ [])) [ true ↦ all_three P a c b x z y | false ↦ h ]
+      ]
+    ]
+
+length_guard : (chans : List Chan) (ks : List ℕ) → length (guard_second chans ks) ≡ length ks
+length_guard chans [] = refl
+length_guard chans (a ∷ []) = refl
+length_guard chans (a ∷ b ∷ []) = refl
+length_guard chans (a ∷ b ∷ c ∷ d ∷ ks) = refl
+length_guard chans (a ∷ b ∷ c ∷ []) =
+    elim (pulls chans a) as (λ v. length (if v then b ∷ a ∷ c ∷ [] else (if pulls chans b then a ∷ b ∷ c ∷ [] else (if pulls chans c then a ∷ c ∷ b ∷ [] else a ∷ b ∷ c ∷ []))) ≡ 3) [
+      | true ↦ refl
+      | false ↦ elim (pulls chans b) as (λ v. length (if v then a ∷ b ∷ c ∷ [] else (if pulls chans c then a ∷ c ∷ b ∷ [] else a ∷ b ∷ c ∷ [])) ≡ 3) [
+        | true ↦ refl
+        | false ↦ elim (pulls chans c) as (λ v. length (if v then a ∷ c ∷ b ∷ [] else a ∷ b ∷ c ∷ []) ≡ 3) [ true ↦ refl | false ↦ refl ]
+      ]
+    ]
+
+-- three entries, exchanged or left
+pub guard_first : (chans : List Chan) (ks : List ℕ) → length ks ≡ 3 → pulls chans (get_or ks 0 0) ≡ true → set (set ks 0 (get_or ks 1 0)) 1 (get_or ks 0 0) ≡ guard_second chans ks
+guard_first chans [] l e = absurd (omega arith)
+guard_first chans (a ∷ []) l e = absurd (omega arith)
+guard_first chans (a ∷ b ∷ []) l e = absurd (omega arith)
+guard_first chans (a ∷ b ∷ c ∷ d ∷ ks) l e = absurd (omega arith)
+guard_first chans (a ∷ b ∷ c ∷ []) l e = rw e refl
+
+pub guard_last : (chans : List Chan) (ks : List ℕ) → length ks ≡ 3 → pulls chans (get_or ks 0 0) ≡ false → pulls chans (get_or ks 1 0) ≡ false → pulls chans (get_or ks 2 0) ≡ true → set (set ks 1 (get_or ks 2 0)) 2 (get_or ks 1 0) ≡ guard_second chans ks
+guard_last chans [] l e f g = absurd (omega arith)
+guard_last chans (a ∷ []) l e f g = absurd (omega arith)
+guard_last chans (a ∷ b ∷ []) l e f g = absurd (omega arith)
+guard_last chans (a ∷ b ∷ c ∷ d ∷ ks) l e f g = absurd (omega arith)
+guard_last chans (a ∷ b ∷ c ∷ []) l e f g = rw (e, f, g) refl
+
+pub guard_stays : (chans : List Chan) (ks : List ℕ) → length ks ≡ 3 → pulls chans (get_or ks 0 0) ≡ false → pulls chans (get_or ks 1 0) ≡ true → ks ≡ guard_second chans ks
+guard_stays chans [] l e f = refl
+guard_stays chans (a ∷ []) l e f = refl
+guard_stays chans (a ∷ b ∷ []) l e f = refl
+guard_stays chans (a ∷ b ∷ c ∷ d ∷ ks) l e f = refl
+guard_stays chans (a ∷ b ∷ c ∷ []) l e f = rw (e, f) refl
+
+pub guard_none : (chans : List Chan) (ks : List ℕ) → length ks ≡ 3 → pulls chans (get_or ks 0 0) ≡ false → pulls chans (get_or ks 1 0) ≡ false → pulls chans (get_or ks 2 0) ≡ false → ks ≡ guard_second chans ks
+guard_none chans [] l e f g = refl
+guard_none chans (a ∷ []) l e f g = refl
+guard_none chans (a ∷ b ∷ []) l e f g = refl
+guard_none chans (a ∷ b ∷ c ∷ d ∷ ks) l e f g = refl
+guard_none chans (a ∷ b ∷ c ∷ []) l e f g = rw (e, f, g) refl
+
+pub guard_other : (chans : List Chan) (ks : List ℕ) → length ks ≢ 3 → ks ≡ guard_second chans ks
+guard_other chans [] l = refl
+guard_other chans (a ∷ []) l = refl
+guard_other chans (a ∷ b ∷ []) l = refl
+guard_other chans (a ∷ b ∷ c ∷ []) l = absurd (l refl)
+guard_other chans (a ∷ b ∷ c ∷ d ∷ ks) l = refl
+
+all_order : (P : ℕ → Type 0) (kind : Kind) (chans : List Chan) (ks : List ℕ) → All P ks → All P (in_order kind chans ks)
+all_order P kind chans ks h = elim (has_guard kind) as (λ v. All P (if v then guard_second chans ks else ks)) [ true ↦ all_guard P chans ks h | false ↦ h ]
+
+length_order : (kind : Kind) (chans : List Chan) (ks : List ℕ) → length (in_order kind chans ks) ≡ length ks
+length_order kind chans ks = elim (has_guard kind) as (λ v. length (if v then guard_second chans ks else ks) ≡ length ks) [ true ↦ length_guard chans ks | false ↦ refl ]
+
+pub all_arranged : (P : ℕ → Type 0) (kind : Kind) (chans : List Chan) (es : List Slot) → All P (flattened es) → All P (arranged kind chans es)
+all_arranged P kind chans es h = all_order P kind chans (in_row (row_of kind) (singles es) (lists es)) (all_rows P (row_of kind) es h)
 
 -- Where there is an entry for each port, none is left out.
 
@@ -155,9 +237,9 @@ length-in_row (r ∷ rs) ones (l ∷ ls) a b = elim (counts r rs) [
 ]
 
 -- all that entries name, and nothing else
-pub length-arranged : (rs : List PortRow) (es : List Slot) → length (singles es) ≡ single_count rs → length (lists es) ≡ array_count rs
-    → length (in_row rs (singles es) (lists es)) ≡ length (flattened es)
-length-arranged rs es a b = length-in_row rs (singles es) (lists es) a b ∙ sym (length-flattened es)
+pub length-arranged : (kind : Kind) (chans : List Chan) (es : List Slot) → length (singles es) ≡ single_count (row_of kind) → length (lists es) ≡ array_count (row_of kind)
+    → length (arranged kind chans es) ≡ length (flattened es)
+length-arranged kind chans es a b = length_order kind chans (in_row (row_of kind) (singles es) (lists es)) ∙ length-in_row (row_of kind) (singles es) (lists es) a b ∙ sym (length-flattened es)
 
 -- The order of a row, one port after another.
 

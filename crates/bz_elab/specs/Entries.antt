@@ -1,7 +1,12 @@
 -- The entries of a component, and the channels of its ports by them.
-use Rattle.std.specs.Prelude.{◌≡◌, ℕ, ◌≤◌, not, IsTrue, if◌then◌else◌, Option, Some, None, List, [], ◌∷◌, ◌++◌, length, map, drop, take, count_by, filter_map, slice_index_or}
+use Rattle.std.specs.Prelude.{◌≡◌, ℕ, ◌≤◌, Bool, true, false, not, IsTrue, if◌then◌else◌, Option, Some, None, List, [], ◌∷◌, ◌++◌, length, map, drop, take, count_by, filter_map, slice_index_or}
 use Rattle.std.specs.List.{flat_map, All}
+use Rattle.bz_model.specs.declared.channel.Chan.{Chan}
+use Rattle.bz_model.specs.declared.channel.ChanKind.{ChanKind}
+use Rattle.bz_model.specs.declared.channel.ChanKind.TheVariants.{Pull}
 use Rattle.bz_model.specs.declared.kind.Kind.{Kind}
+use Rattle.bz_model.specs.declared.kind.Kind.TheVariants.{While}
+use Rattle.bz_model.specs.Nets.{chan_in}
 use Rattle.bz_model.specs.Rows.{PortRow, row_of, fits_sizes, max_members}
 use Rattle.bz_breeze.specs.declared.part.Slot.{Slot}
 use Rattle.bz_breeze.specs.declared.part.Slot.TheVariants.{One, Many}
@@ -44,9 +49,35 @@ in_row [] ones manys = []
 in_row (r ∷ rs) ones manys =
     if r.array then first_list manys ++ in_row rs ones (drop 1 manys) else take 1 ones ++ in_row rs (drop 1 ones) manys
 
--- the channels of a component's ports, in the order of the ports of its kind
-abbrev pub arranged : Kind → List Slot → List ℕ
-arranged kind slots = in_row (row_of kind) (singles slots) (lists slots)
+-- whether channel k is a pull channel
+abbrev pub is_pull : ChanKind → Bool
+is_pull Pull = true
+is_pull kind = false
+
+abbrev pub pulls : List Chan → ℕ → Bool
+pulls chans k = is_pull (chan_in chans k).kind
+
+-- the first entry on a pull channel becomes the second of three, if there is one, and the other two keep their order
+abbrev pub guard_second : List Chan → List ℕ → List ℕ
+guard_second chans (a ∷ b ∷ c ∷ []) =
+    if pulls chans a then b ∷ a ∷ c ∷ []
+    else (if pulls chans b then a ∷ b ∷ c ∷ []
+    else (if pulls chans c then a ∷ c ∷ b ∷ []
+    else a ∷ b ∷ c ∷ []))
+guard_second chans ks = ks
+
+-- single entries fill the single ports in order, but for those of a While, whose guard is on a pull channel
+abbrev pub has_guard : Kind → Bool
+has_guard While = true
+has_guard kind = false
+
+abbrev pub in_order : Kind → List Chan → List ℕ → List ℕ
+in_order kind chans ks = if has_guard kind then guard_second chans ks else ks
+
+-- the channels of a component's ports, in the order of the ports of its kind, by their numbers in a part with these
+-- channels
+abbrev pub arranged : Kind → List Chan → List Slot → List ℕ
+arranged kind chans slots = in_order kind chans (in_row (row_of kind) (singles slots) (lists slots))
 
 -- there is a single entry for each single port of the kind and a list for each array, of a length that it allows
 pub record FitsPorts (kind : Kind) (slots : List Slot) : Type 0 where

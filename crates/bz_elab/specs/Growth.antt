@@ -13,7 +13,7 @@ use Rattle.bz_elab.specs.declared.flat.FlatComp.{FlatComp}
 use Rattle.bz_elab.specs.declared.walk.Draft.{Draft}
 use Rattle.bz_elab.specs.Faults.{error_at}
 use Rattle.bz_elab.specs.Entries.{flattened, sizes_of, arranged, FitsPorts}
-use Rattle.bz_elab.specs.Paths.{Path, Place, Role, instance, of_kind, Stop, copy, leaf, component, copied, joined, role, leaf_role, each_from, visit, walk, own_chans, own_places, stops, all_places, most_instances}
+use Rattle.bz_elab.specs.Paths.{Path, Place, Role, instance, of_kind, Stop, copy, leaf, component, copied, joined, role, leaf_role, each_from, visit, walk, own_chans, own_places, stops, all_places, most_instances, chans_at}
 use Rattle.bz_elab.specs.Refusals.{IsChannel, kinds_of, widths_of, chans_of, actuals_of, formals_of, own_comps, own_ends, most_ends, IsTooMany, HasFault, AppliesTo}
 use Rattle.bz_elab.specs.Wires.{most_comps, most_chans}
 
@@ -40,7 +40,7 @@ IsSound chans c role = ⊥
 pub record IsFlat (chans : List Chan) (c : Component) (f : FlatComp) : Type 0 where
   pub role_is : leaf_role c ≡ of_kind f.kind
   pub sizes_are : f.sizes ≡ sizes_of c.entries.items
-  pub chans_are : f.chans.items ≡ arranged f.kind c.entries.items
+  pub chans_are : f.chans.items ≡ arranged f.kind chans c.entries.items
   pub sound : IsSoundLeaf chans c f.kind
 
 -- each component of a part is sound
@@ -84,7 +84,7 @@ AreActuals chans (e ∷ es) (k ∷ ks) = (0 < e) × (e ≤ length chans) × (k �
 pub record IsLeaf (parts : List Part) (top : Part) (places : List Place) (path : Path) (c : Component) (f : FlatComp) : Type 0 where
   pub role_is : leaf_role c ≡ of_kind f.kind
   pub sizes_are : f.sizes ≡ sizes_of c.entries.items
-  pub chans : AreNumbers places (map (joined parts top path) (arranged f.kind c.entries.items)) f.chans.items
+  pub chans : AreNumbers places (map (joined parts top path) (arranged f.kind (chans_at parts top path) c.entries.items)) f.chans.items
 
 abbrev pub AreLeaves : List Part → Part → List Place → List Stop → List FlatComp → Type 0
 AreLeaves parts top places [] [] = Unit {0}

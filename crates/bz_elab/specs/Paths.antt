@@ -151,12 +151,20 @@ abbrev pub kind_in : Role → Kind
 kind_in (of_kind kind) = kind
 kind_in role = Loop
 
+-- the channels of the part whose copy is at a path
+abbrev pub chans_of_copy : Option Part → List Chan
+chans_of_copy None = []
+chans_of_copy (Some part) = part.channels.items
+
+abbrev pub chans_at : List Part → Part → Path → List Chan
+chans_at parts top path = chans_of_copy (copied parts top path)
+
 -- a component that is no instance, on the channels that its entries come to
 abbrev pub leaf_site : List Part → Part → List Place → Path → Component → Site
 leaf_site parts top places path c = record {
   kind = kind_in (leaf_role c);
   sizes = sizes_of c.entries.items;
-  chans = map (λ k. number_in places (joined parts top path k)) (arranged (kind_in (leaf_role c)) c.entries.items);
+  chans = map (λ k. number_in places (joined parts top path k)) (arranged (kind_in (leaf_role c)) (chans_at parts top path) c.entries.items);
 }
 
 abbrev pub own_sites : List Part → Part → List Place → Stop → List Site

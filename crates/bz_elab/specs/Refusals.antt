@@ -30,7 +30,7 @@ widths_of chans = map (λ c. c.width) chans
 
 -- the channels of a component's ports, in the order of the ports of its kind
 abbrev pub chans_of : List Chan → Kind → List Slot → List Chan
-chans_of chans kind slots = map (chan_in chans) (arranged kind slots)
+chans_of chans kind slots = map (chan_in chans) (arranged kind chans slots)
 
 -- the channels that an instance's entries name, and those of the ports of its part
 abbrev pub actuals_of : List Chan → List Slot → List Chan

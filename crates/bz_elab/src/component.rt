@@ -7,7 +7,7 @@ ghost use Rattle.bz_model.specs.Rows.{row_of};
 ghost use Rattle.bz_model.specs.Nets.{chan_in};
 ghost use Rattle.bz_kinds.specs.Table.{seen};
 ghost use Rattle.bz_elab.specs.declared.error.Fault.TheVariants as fault;
-ghost use Rattle.bz_elab.specs.Entries.{flattened, singles, lists, single_of, list_of, sizes_of, in_row, FitsPorts};
+ghost use Rattle.bz_elab.specs.Entries.{flattened, singles, lists, single_of, list_of, sizes_of, in_row, in_order, arranged, guard_second, pulls, FitsPorts};
 ghost use Rattle.bz_elab.specs.Paths.{leaf_role, of_kind, instance};
 ghost use Rattle.bz_elab.specs.Refusals.{HasFault, IsChannel, kinds_of, widths_of, formals_of, HasPortChannels};
 ghost use Rattle.bz_elab.specs.Growth.{IsFlat, IsSoundInstance};
@@ -38,7 +38,7 @@ pub fn leaf_of(alloc: Global, channels: &[Chan], component: &Component) -> Resul
         return Err(Fault::BadChannel);
     }
     let sizes = sizes_of(entries);
-    let chans = arranged(alloc, port_table(&kind), entries)?;
+    let chans = arranged(alloc, &kind, channels, entries)?;
     let carried = carried(alloc, channels, chans.as_slice())?;
     if !kinds_are(&kind, sizes, carried.as_slice()) {
         return Err(Fault::KindMismatch);
@@ -203,8 +203,23 @@ fn size_at(entries: &[Slot], place: usize) -> u32
     }
 }
 
-// The channels of a component's ports, in the order of a row.
-fn arranged(alloc: Global, rows: &[PortRow], entries: &[Slot]) -> Result<Vec<u32>, AllocError>
+// The channels of a component's ports, in the order of the ports of its kind.
+fn arranged(
+    alloc: Global,
+    kind: &Kind,
+    channels: &[Chan],
+    entries: &[Slot],
+) -> Result<Vec<u32>, AllocError>
+    requires { All (IsChannel channels.now) (flattened entries.now) }
+    ensures { IfOk result (λ v. v.items ≡ arranged kind.now channels.now entries.now) }
+{
+    let mut chans = in_row(alloc, port_table(kind), entries)?;
+    put_in_order(kind, channels, &mut chans);
+    Ok(chans)
+}
+
+// The channels of the entries, in the order of a row.
+fn in_row(alloc: Global, rows: &[PortRow], entries: &[Slot]) -> Result<Vec<u32>, AllocError>
     ensures { IfOk result (λ v. v.items ≡ in_row (map seen rows.now) (singles entries.now) (lists entries.now)) }
 {
     let mut chans = Vec::new(alloc);
@@ -226,6 +241,44 @@ fn arranged(alloc: Global, rows: &[PortRow], entries: &[Slot]) -> Result<Vec<u32
         }
     }
     Ok(chans)
+}
+
+// Puts the entries of a While in the order of its ports.
+fn put_in_order(kind: &Kind, channels: &[Chan], chans: &mut [u32])
+    requires { All (IsChannel channels.now) chans.old }
+    ensures { chans.new ≡ in_order kind.now channels.now chans.old }
+{
+    match kind {
+        Kind::While => put_guard_second(channels, chans),
+        _ => {}
+    }
+}
+
+fn put_guard_second(channels: &[Chan], chans: &mut [u32])
+    requires { All (IsChannel channels.now) chans.old }
+    ensures { chans.new ≡ guard_second channels.now chans.old }
+{
+    if chans.len() != 3 {
+        return;
+    }
+    let (first, second, third) = (chans[0], chans[1], chans[2]);
+    if pulls(channels, first) {
+        chans[0] = second;
+        chans[1] = first;
+    } else if !pulls(channels, second) {
+        if pulls(channels, third) {
+            chans[1] = third;
+            chans[2] = second;
+        }
+    }
+}
+
+// Whether the channel of a number is a pull channel.
+fn pulls(channels: &[Chan], number: u32) -> bool
+    requires { IsChannel channels.now number }
+    ensures { result ≡ pulls channels.now number }
+{
+    matches!(channels[number as usize - 1].kind, ChanKind::Pull)
 }
 
 // Whether all numbers are those of channels, of which there are so many.

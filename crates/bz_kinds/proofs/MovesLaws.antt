@@ -84,7 +84,7 @@ may-is None phase may = absurd (cc)
 may-is (Some d) phase may = (d, refl, may)
 
 -- of a component that is seen as c
-module _ (plan : Plan) (n left : ℕ) (w : List ℕ) (s : Store) (chans : List Chan) (c : Component) (view : record { proc = record { todo = todo_of plan n left w; store = s }; chans = chans; open_ports = map is_open w } ≡ c) (ok : IsAt plan n left w) where
+module _ (plan : Plan) (n left : ℕ) (w : List ℕ) (s : Store) (chans : List Chan) (c : Component) (view : record { proc = record { todo = todo_of plan n left w; store = s }; chans = chans; open_ports = map is_open w } ≡ c) (ok : IsAt plan n left w s) where
   may-can : (p : ℕ) (phase : Phase) → May plan w p phase ↔ CanMove c.proc p phase
   may-can p phase = (there, back)
     where

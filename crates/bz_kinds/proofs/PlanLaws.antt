@@ -7,7 +7,9 @@ use Rattle.bz_model.specs.declared.channel.Move.TheVariants.{Ask, Take, Reply, G
 use Rattle.bz_model.specs.declared.expr.Expr.TheVariants.{Nothing}
 use Rattle.bz_model.specs.declared.channel.Phase.{Phase}
 use Rattle.bz_model.specs.Phases.{may_move, incoming}
-use Rattle.bz_model.specs.Terms.{Store, stored}
+use Rattle.bz_model.specs.Terms.{Store, stored, IsNarrow}
+use Rattle.bz_model.specs.Widths.{Sends}
+use Rattle.bz_model.proofs.Fitting.{sends-head, sends-tidy}
 use Rattle.bz_kinds.specs.declared.row.Due.{Due}
 use Rattle.bz_kinds.specs.declared.row.Row.{Row}
 use Rattle.bz_kinds.specs.declared.row.Plan.{Plan}
@@ -19,6 +21,7 @@ use Rattle.std.proofs.Math.ListN.{get_or-map}
 use Rattle.std.specs.Option.{option_map}
 use Rattle.bz_kinds.specs.InTurn as turn
 use Rattle.bz_kinds.specs.Together as whole
+use Rattle.bz_kinds.specs.Cells as cell
 use Rattle.bz_kinds.proofs.InTurnDue as in_turn
 use Rattle.bz_kinds.proofs.TogetherDue as together
 use Rattle.bz_kinds.proofs.CellsLaws as cells
@@ -29,33 +32,33 @@ use Rattle.bz_model.specs.declared.channel.Chan.{Chan}
 use Rattle.bz_model.specs.declared.expr.Expr.{Expr}
 use Rattle.bz_kinds.specs.Cells.{taken_into, answer, cell_due}
 
-pub heads-due : (plan : Plan) (n left : ℕ) (w : List ℕ) → IsAt plan n left w → (h : Head) → IsHead (todo_of plan n left w) h → plan_due plan h.port (get_or w h.port 0) ≡ Some (due_of h)
-heads-due (InTurn row) n left w ok h at = in_turn.heads-due row n left w ok h at
-heads-due (Together row) n left w ok h at = together.heads-due row n left w ok h at
-heads-due Cells n left w ok h at = cells.heads-due n w ok h at
-heads-due (OneByOne script) n left w ok h at = one_by_one.heads-due script left w ok h at
+pub heads-due : (plan : Plan) (n left : ℕ) (w : List ℕ) (s : Store) → IsAt plan n left w s → (h : Head) → IsHead (todo_of plan n left w) h → plan_due plan h.port (get_or w h.port 0) ≡ Some (due_of h)
+heads-due (InTurn row) n left w s ok h at = in_turn.heads-due row n left w ok h at
+heads-due (Together row) n left w s ok h at = together.heads-due row n left w ok h at
+heads-due Cells n left w s ok h at = cells.heads-due n w ok h at
+heads-due (OneByOne script) n left w s ok h at = one_by_one.heads-due script left w ok h at
 
-pub due-heads : (plan : Plan) (n left : ℕ) (w : List ℕ) → IsAt plan n left w → (p : ℕ) (d : Due) → plan_due plan p (get_or w p 0) ≡ Some d → (h : Head) × IsHead (todo_of plan n left w) h × (h.port ≡ p)
-due-heads (InTurn row) n left w ok p d e = in_turn.due-heads row n left w ok p d e
-due-heads (Together row) n left w ok p d e = together.due-heads row n left w ok p d e
-due-heads Cells n left w ok p d e = cells.due-heads n w ok p d e
-due-heads (OneByOne script) n left w ok p d e = one_by_one.due-heads script left w ok p d e
+pub due-heads : (plan : Plan) (n left : ℕ) (w : List ℕ) (s : Store) → IsAt plan n left w s → (p : ℕ) (d : Due) → plan_due plan p (get_or w p 0) ≡ Some d → (h : Head) × IsHead (todo_of plan n left w) h × (h.port ≡ p)
+due-heads (InTurn row) n left w s ok p d e = in_turn.due-heads row n left w ok p d e
+due-heads (Together row) n left w s ok p d e = together.due-heads row n left w ok p d e
+due-heads Cells n left w s ok p d e = cells.due-heads n w ok p d e
+due-heads (OneByOne script) n left w s ok p d e = one_by_one.due-heads script left w ok p d e
 
-pub one-head : (plan : Plan) (n left : ℕ) (w : List ℕ) → IsAt plan n left w → HasOneHead (todo_of plan n left w)
-one-head (InTurn row) n left w ok = in_turn.one-head row n left w ok
-one-head (Together row) n left w ok = together.one-head row n left w ok
-one-head Cells n left w ok = cells.one-head n w ok
-one-head (OneByOne script) n left w ok = one_by_one.one-head script left w ok
+pub one-head : (plan : Plan) (n left : ℕ) (w : List ℕ) (s : Store) → IsAt plan n left w s → HasOneHead (todo_of plan n left w)
+one-head (InTurn row) n left w s ok = in_turn.one-head row n left w ok
+one-head (Together row) n left w s ok = together.one-head row n left w ok
+one-head Cells n left w s ok = cells.one-head n w ok
+one-head (OneByOne script) n left w s ok = one_by_one.one-head script left w ok
 
 -- a head at p is the move that is due there
-pub head-is-due : (plan : Plan) (n left : ℕ) (w : List ℕ) → IsAt plan n left w → (p : ℕ) (h : Head) → IsHead (todo_of plan n left w) h → h.port ≡ p → plan_due plan p (get_or w p 0) ≡ Some (due_of h)
-head-is-due plan n left w ok p h at e = subst (λ q. plan_due plan q (get_or w q 0) ≡ Some (due_of h)) e (heads-due plan n left w ok h at)
+pub head-is-due : (plan : Plan) (n left : ℕ) (w : List ℕ) (s : Store) → IsAt plan n left w s → (p : ℕ) (h : Head) → IsHead (todo_of plan n left w) h → h.port ≡ p → plan_due plan p (get_or w p 0) ≡ Some (due_of h)
+head-is-due plan n left w s ok p h at e = subst (λ q. plan_due plan q (get_or w q 0) ≡ Some (due_of h)) e (heads-due plan n left w s ok h at)
 
 -- what is due at p is a head, with the same move
-pub due-is-head : (plan : Plan) (n left : ℕ) (w : List ℕ) → IsAt plan n left w → (p : ℕ) (d : Due) → plan_due plan p (get_or w p 0) ≡ Some d → (h : Head) × (IsHead (todo_of plan n left w) h × (h.port ≡ p)) × (d ≡ due_of h)
-due-is-head plan n left w ok p d e =
-    let (h, at, q) = due-heads plan n left w ok p d e in
-    let f = head-is-due plan n left w ok p h at q in
+pub due-is-head : (plan : Plan) (n left : ℕ) (w : List ℕ) (s : Store) → IsAt plan n left w s → (p : ℕ) (d : Due) → plan_due plan p (get_or w p 0) ≡ Some d → (h : Head) × (IsHead (todo_of plan n left w) h × (h.port ≡ p)) × (d ≡ due_of h)
+due-is-head plan n left w s ok p d e =
+    let (h, at, q) = due-heads plan n left w s ok p d e in
+    let f = head-is-due plan n left w s ok p h at q in
     (h, (at, q), cc)
 
 -- a port opens where a move is due and it is closed, and closes where it is open
@@ -86,7 +89,9 @@ script-alternates script zero (suc zero) d e = let q : record { mv = Ask; gives 
 script-alternates script (suc zero) (suc zero) d e = let q : record { mv = Take; gives = Nothing; into = stages.taken_into script } ≡ d = cc in sym (ap (λ (d : Due). opens d.mv) q)
 script-alternates script (suc (suc p)) (suc zero) d e = let q : record { mv = Ask; gives = Nothing; into = 0 } ≡ d = cc in sym (ap (λ (d : Due). opens d.mv) q)
 script-alternates script p (suc (suc zero)) d e = absurd (cc)
-script-alternates script p (suc (suc (suc a))) d e = let q : record { mv = Got; gives = Nothing; into = 1 } ≡ d = cc in sym (ap (λ (d : Due). opens d.mv) q)
+script-alternates script zero (suc (suc (suc a))) d e = let q : record { mv = Got; gives = Nothing; into = stages.got_into script 0 } ≡ d = cc in sym (ap (λ (d : Due). opens d.mv) q)
+script-alternates script (suc zero) (suc (suc (suc a))) d e = let q : record { mv = Reply; gives = Nothing; into = 0 } ≡ d = cc in sym (ap (λ (d : Due). opens d.mv) q)
+script-alternates script (suc (suc p)) (suc (suc (suc a))) d e = let q : record { mv = Got; gives = Nothing; into = stages.got_into script (suc (suc p)) } ≡ d = cc in sym (ap (λ (d : Due). opens d.mv) q)
 
 pub alternates : (plan : Plan) (p a : ℕ) (d : Due) → plan_due plan p a ≡ Some d → opens d.mv ≡ not (is_open a)
 alternates (InTurn row) p a d e = row-alternates row p a d e
@@ -95,15 +100,15 @@ alternates Cells p a d e = cell-alternates p a d e
 alternates (OneByOne script) p a d e = script-alternates script p a d e
 
 -- the same of a component that is seen as c
-module _ (plan : Plan) (n left : ℕ) (w : List ℕ) (s : Store) (chans : List Chan) (c : Component) (view : record { proc = record { todo = todo_of plan n left w; store = s }; chans = chans; open_ports = map is_open w } ≡ c) (ok : IsAt plan n left w) where
+module _ (plan : Plan) (n left : ℕ) (w : List ℕ) (s : Store) (chans : List Chan) (c : Component) (view : record { proc = record { todo = todo_of plan n left w; store = s }; chans = chans; open_ports = map is_open w } ≡ c) (ok : IsAt plan n left w s) where
   pub head-on-due : (p : ℕ) (h : Head) → IsHeadOn c.proc p h → plan_due plan p (get_or w p 0) ≡ Some (due_of h)
-  head-on-due p h (at, e) = head-is-due plan n left w ok p h (subst (λ (c : Component). IsHead c.proc.todo h) (sym view) at) e
+  head-on-due p h (at, e) = head-is-due plan n left w s ok p h (subst (λ (c : Component). IsHead c.proc.todo h) (sym view) at) e
 
   pub due-on-head : (p : ℕ) (d : Due) → plan_due plan p (get_or w p 0) ≡ Some d → (h : Head) × IsHeadOn c.proc p h × (d ≡ due_of h)
-  due-on-head p d e = subst (λ (c : Component). (h : Head) × IsHeadOn c.proc p h × (d ≡ due_of h)) view (due-is-head plan n left w ok p d e)
+  due-on-head p d e = subst (λ (c : Component). (h : Head) × IsHeadOn c.proc p h × (d ≡ due_of h)) view (due-is-head plan n left w s ok p d e)
 
   pub one-head-on : HasOneHead c.proc.todo
-  one-head-on = subst (λ (c : Component). HasOneHead c.proc.todo) view (one-head plan n left w ok)
+  one-head-on = subst (λ (c : Component). HasOneHead c.proc.todo) view (one-head plan n left w s ok)
 
   -- the move that is due at p is that of the head there
   pub next-some : (p : ℕ) (next : Option Move) → next ≡ option_map (λ (d : Due). d.mv) (plan_due plan p (get_or w p 0)) → IfSome next (λ m. (h : Head) × IsHeadOn c.proc p h × (h.move ≡ m))
@@ -119,18 +124,18 @@ module _ (plan : Plan) (n left : ℕ) (w : List ℕ) (s : Store) (chans : List C
   next-only p next is h on = is ∙ ap (option_map (λ (d : Due). d.mv)) (head-on-due p h on)
 
   -- a move that the ports follow is a move of the process
-  pub moves : (p : ℕ) (phase : Phase) (d : Due) (value came : Option ℕ) (left' : ℕ) (w' s' : List ℕ) → plan_due plan p (get_or w p 0) ≡ Some d → IsTrue (may_move phase d.mv) → came ≡ incoming phase d.mv → value ≡ carried d.mv d.gives s came → s' ≡ stored d.into came s → Goes plan n left w p left' w' → Moves c.proc p phase d.mv value (record { todo = todo_of plan n left' w'; store = s' })
+  pub moves : (p : ℕ) (phase : Phase) (d : Due) (value came : Option ℕ) (left' : ℕ) (w' s' : List ℕ) → plan_due plan p (get_or w p 0) ≡ Some d → IsTrue (may_move phase d.mv) → came ≡ incoming phase d.mv → value ≡ carried d.mv d.gives s came → s' ≡ stored d.into came s → Goes plan n left w p left' w' s' → Moves c.proc p phase d.mv value (record { todo = todo_of plan n left' w'; store = s' })
   moves p phase d value came left' w' s' e may in_is v st go =
-      let (h, on, same) = due-is-head plan n left w ok p d e in
+      let (h, on, same) = due-is-head plan n left w s ok p d e in
       let v' : value ≡ carried h.move h.gives s (incoming phase h.move) = v ∙ ap (λ came. carried d.mv d.gives s came) in_is ∙ ap (λ (d : Due). carried d.mv d.gives s (incoming phase d.mv)) same in
       let st' : s' ≡ stored h.into (incoming phase h.move) s = st ∙ ap (λ came. stored d.into came s) in_is ∙ ap (λ (d : Due). stored d.into (incoming phase d.mv) s) same in
       let m : d.mv ≡ h.move = ap (λ (d : Due). d.mv) same in
-      let t : todo_of plan n left' w' ≡ tidy (stored h.into (incoming phase h.move) s) h.rest = sym (go.leaves h on.0 on.1 (stored h.into (incoming phase h.move) s)) in
+      let t : todo_of plan n left' w' ≡ tidy (stored h.into (incoming phase h.move) s) h.rest = sym (go.leaves h on.0 on.1) ∙ ap (λ s. tidy s h.rest) st' in
       subst (λ (c : Component). Moves c.proc p phase d.mv value (record { todo = todo_of plan n left' w'; store = s' })) view
       (record { head = h; on = on; move_is = m; allowed = may; value_is = v'; leaves = λ i. record { todo = t i; store = st' i } })
 
   -- and the ports that are open are as contracts see them
-  pub turns : (p : ℕ) (d : Due) (left' : ℕ) (w' s' : List ℕ) → plan_due plan p (get_or w p 0) ≡ Some d → Goes plan n left w p left' w' → Turns c p d.mv (record { proc = record { todo = todo_of plan n left' w'; store = s' }; chans = chans; open_ports = map is_open w' })
+  pub turns : (p : ℕ) (d : Due) (left' : ℕ) (w' s' : List ℕ) → plan_due plan p (get_or w p 0) ≡ Some d → Goes plan n left w p left' w' s' → Turns c p d.mv (record { proc = record { todo = todo_of plan n left' w'; store = s' }; chans = chans; open_ports = map is_open w' })
   turns p d left' w' s' e go =
       let flag : opens d.mv ≡ not (is_open (get_or w p 0)) = alternates plan p (get_or w p 0) d e in
       subst (λ (c : Component). Turns c p d.mv (record { proc = record { todo = todo_of plan n left' w'; store = s' }; chans = chans; open_ports = map is_open w' })) view
@@ -141,11 +146,35 @@ module _ (plan : Plan) (n left : ℕ) (w : List ℕ) (s : Store) (chans : List C
       })
 
 -- what the family says is said of the plan
-pub turn-step : (plan : Plan) (row : Row) → plan ≡ InTurn row → (n left : ℕ) (w : List ℕ) (p left' : ℕ) (w' : List ℕ) → turn.Steps row n left w p left' w' → Goes plan n left w p left' w'
-turn-step plan row e n left w p left' w' s = rw e (record { place = s.place; toggles = s.toggles; leaves = s.leaves })
+pub turn-step : (plan : Plan) (row : Row) → plan ≡ InTurn row → (n left : ℕ) (w : List ℕ) (p left' : ℕ) (w' : List ℕ) (s : Store) → turn.Steps row n left w p left' w' → Goes plan n left w p left' w' s
+turn-step plan row e n left w p left' w' s st = rw e (record { place = st.place; toggles = st.toggles; leaves = λ h at f. st.leaves h at f s })
 
-pub whole-step : (plan : Plan) (row : Row) → plan ≡ Together row → (n left : ℕ) (w : List ℕ) (p left' : ℕ) (w' : List ℕ) → whole.Steps row n left w p left' w' → Goes plan n left w p left' w'
-whole-step plan row e n left w p left' w' s = rw e (record { place = s.place; toggles = s.toggles; leaves = s.leaves })
+pub whole-step : (plan : Plan) (row : Row) → plan ≡ Together row → (n left : ℕ) (w : List ℕ) (p left' : ℕ) (w' : List ℕ) (s : Store) → whole.Steps row n left w p left' w' → Goes plan n left w p left' w' s
+whole-step plan row e n left w p left' w' s st = rw e (record { place = st.place; toggles = st.toggles; leaves = λ h at f. st.leaves h at f s })
 
-pub script-step : (plan : Plan) (script : Script) → plan ≡ OneByOne script → (n left : ℕ) (w : List ℕ) (p left' : ℕ) (w' : List ℕ) → stages.Steps script left w p left' w' → Goes plan n left w p left' w'
-script-step plan script e n left w p left' w' s = rw e (record { place = s.place; toggles = s.toggles; leaves = s.leaves })
+pub cell-step : (plan : Plan) → plan ≡ Cells → (n left : ℕ) (w : List ℕ) (p : ℕ) (w' : List ℕ) (s : Store) → cell.Steps n w p w' → Goes plan n left w p left w' s
+cell-step plan e n left w p w' s st = rw e (record { place = st.place; toggles = st.toggles; leaves = λ h at f. st.leaves h at f s })
+
+pub script-step : (plan : Plan) (script : Script) → plan ≡ OneByOne script → (n left : ℕ) (w : List ℕ) (p left' : ℕ) (w' : List ℕ) (s : Store) → stages.Steps script left w p left' w' s → Goes plan n left w p left' w' s
+script-step plan script e n left w p left' w' s st = rw e (record { place = st.place; toggles = st.toggles; leaves = st.leaves })
+
+-- a plan stands where it is while what comes in is stored
+pub still-at : (plan : Plan) (n left : ℕ) (w : List ℕ) (s s' : Store) → IsAt plan n left w s → IsAt plan n left w s'
+still-at (InTurn row) n left w s s' ok = ok
+still-at (Together row) n left w s s' ok = ok
+still-at Cells n left w s s' ok = ok
+still-at (OneByOne script) n left w s s' ok = ok
+
+-- what a move sends is narrow, and what is left sends what fits
+module _ (plan : Plan) (n left : ℕ) (w : List ℕ) (s : Store) (chans : List Chan) (bits : ℕ) (ok : IsAt plan n left w s) (sends : Sends chans bits (todo_of plan n left w)) where
+  pub due-narrow : (p : ℕ) (d : Due) → plan_due plan p (get_or w p 0) ≡ Some d → IsNarrow d.gives
+  due-narrow p d e =
+      let (h, on, same) = due-is-head plan n left w s ok p d e in
+      let narrow : IsNarrow h.gives = (sends-head chans bits (todo_of plan n left w) h on.0 sends).0.0.0 in
+      subst IsNarrow (sym (ap (λ (d : Due). d.gives) same)) narrow
+
+  pub still-sends : (p : ℕ) (d : Due) (left' : ℕ) (w' s' : List ℕ) → plan_due plan p (get_or w p 0) ≡ Some d → Goes plan n left w p left' w' s' → Sends chans bits (todo_of plan n left' w')
+  still-sends p d left' w' s' e go =
+      let (h, on, same) = due-is-head plan n left w s ok p d e in
+      let rest = (sends-head chans bits (todo_of plan n left w) h on.0 sends).1 in
+      subst (Sends chans bits) (go.leaves h on.0 on.1) (sends-tidy chans bits s' h.rest rest)

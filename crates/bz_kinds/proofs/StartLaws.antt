@@ -1,10 +1,10 @@
 -- The ports at the start.
-use Rattle.std.proofs.Common.{◌≡◌, ◌≢◌, inl, inr, ℕ, zero, suc, ◌<◌, ◌≤◌, false, List, [], ◌∷◌, length, get_or, set, map, replicate, refl, ap, sym, ◌∙◌, arith}
+use Rattle.std.proofs.Common.{◌≡◌, ◌≢◌, inl, inr, ℕ, zero, suc, ◌<◌, ◌≤◌, ◌^◌, false, List, [], ◌∷◌, length, get_or, set, map, replicate, refl, ap, sym, ◌∙◌, subst, arith}
 use Rattle.std.proofs.lemmas.Bool.{cases_lt}
 use Rattle.std.proofs.lemmas.List.{get_or-set_other, get_or_past}
 use Rattle.std.proofs.Math.ListN.{length-set, length-replicate}
 use Rattle.bz_model.specs.Terms.{Store, forever, par, all}
-use Rattle.bz_model.specs.Processes.{member, process, start_of}
+use Rattle.bz_model.specs.Processes.{member, process, slots, start_of}
 use Rattle.bz_model.specs.declared.kind.Kind.{Kind}
 use Rattle.bz_kinds.specs.declared.shape.Shape.{Shape}
 use Rattle.bz_kinds.specs.Comp.{todo_of}
@@ -16,11 +16,15 @@ use Rattle.bz_kinds.specs.Together.{busy_count}
 use Rattle.bz_kinds.specs.Cells as cells
 use Rattle.bz_kinds.specs.Script as stages
 use Rattle.bz_kinds.specs.declared.row.Script.{Script}
-use Rattle.bz_kinds.specs.declared.row.Script.TheVariants.{Loop, Halt}
+use Rattle.bz_kinds.specs.declared.row.Script.TheVariants.{Loop, While, Halt}
 use Rattle.bz_kinds.specs.Start.{BeginsAt, IsAllDue, IsShapeOf, plan_process}
 use Rattle.std.specs.Prelude.{Result, Ok, Err, IfOk}
 use Rattle.std.proofs.lemmas.List.{length-map}
-use Rattle.bz_model.specs.Heads.{tidy, together}
+use Rattle.bz_model.specs.Heads.{Component, tidy, together}
+use Rattle.bz_model.specs.Widths.{Sends, Fitted}
+use Rattle.bz_model.proofs.Fitting.{sends-tidy}
+use Rattle.bz_model.proofs.Starts.{starts-fit}
+use Rattle.std.proofs.lemmas.Nat.{pow_pos}
 use Rattle.bz_model.specs.Rows.{MeetsRow, row_of, ports_of}
 use Rattle.bz_model.specs.declared.channel.Chan.{Chan}
 use Rattle.bz_kinds.proofs.Arrays.{all-cong, tidy-all, together-busy}
@@ -64,7 +68,7 @@ module _ (row : Row) (n : ℕ) where
   pub turn-begins : BeginsAt (InTurn row) n (set (replicate (member n) 0) 1 1)
   unfolding first
   turn-begins = record {
-    place = record {
+    place = λ s. record {
       long = first-long ∙ omega arith;
       none = first-other 0 (omega arith);
       quiet = λ i _. first-other (member i) (omega arith);
@@ -78,7 +82,7 @@ module _ (row : Row) (n : ℕ) where
   pub whole-begins : BeginsAt (Together row) n (set (replicate (member n) 0) 1 1)
   unfolding first
   whole-begins = record {
-    place = record {
+    place = λ s. record {
       long = first-long ∙ omega arith;
       none = first-other 0 (omega arith);
       legs = λ i _. inl (first-other (member i) (omega arith));
@@ -91,7 +95,7 @@ module _ (row : Row) (n : ℕ) where
 
 pub cells-begin : (n : ℕ) (w : List ℕ) → length w ≡ member n → get_or w 0 0 ≡ 0 → ((p : ℕ) → 1 ≤ p → p < member n → get_or w p 0 ≡ 1) → BeginsAt Cells n w
 cells-begin n w l z ones = record {
-  place = record { long = l ∙ omega arith; none = z; parts = λ j lt. inl (ones (suc j) (omega arith) (omega arith)) };
+  place = λ s. record { long = l ∙ omega arith; none = z; parts = λ j lt. inl (ones (suc j) (omega arith) (omega arith)) };
   has_todo = ap par (all-cong (suc n) (λ j. cells.part_left j (get_or w (suc j) 0)) (λ j. forever (cells.round j)) (λ j lt. rw (ones (suc j) (omega arith) (omega arith)) refl));
   closed = all-closed w (member n) l closed;
 }
@@ -110,8 +114,9 @@ pub pick-cells : (plan : Plan) (n m : ℕ) (w : List ℕ) → plan ≡ Cells →
 pick-cells plan n m w e k a = rw e (cells-begin n w (a.long ∙ k) a.none (λ p le lt. a.due p le (omega arith)))
 
 script-begins : (script : Script) (n : ℕ) → BeginsAt (OneByOne script) n (set (replicate (length (stages.numbers script 0)) 0) 1 1)
-script-begins Loop n = record { place = refl; has_todo = refl; closed = refl }
-script-begins (Halt slot) n = record { place = refl; has_todo = refl; closed = refl }
+script-begins Loop n = record { place = λ s. refl; has_todo = refl; closed = refl }
+script-begins While n = record { place = λ s. refl; has_todo = refl; closed = refl }
+script-begins (Halt slot) n = record { place = λ s. refl; has_todo = refl; closed = refl }
 
 pub pick-script : (plan : Plan) (script : Script) (n m : ℕ) (w : List ℕ) → plan ≡ OneByOne script → m ≡ length (stages.numbers script 0) → w ≡ set (replicate m 0) 1 1 → BeginsAt plan n w
 pick-script plan script n m w e k f = rw (e, f, k) (script-begins script n)
@@ -123,6 +128,7 @@ tidy-start s (Together row) n = refl
 tidy-start s Cells n =
     ap together (tidy-all s (suc n) (λ j. forever (cells.round j)) (λ i lt. refl)) ∙ together-busy (all (suc n) (λ j. forever (cells.round j))) refl
 tidy-start s (OneByOne Loop) n = refl
+tidy-start s (OneByOne While) n = refl
 tidy-start s (OneByOne (Halt slot)) n = refl
 
 pub if-ok : {A E : Type 0} (r : Result A E) (P Q : A → Type 0) → ((a : A) → P a → Q a) → IfOk r P → IfOk r Q
@@ -130,9 +136,25 @@ if-ok (Ok a) P Q f p = f a p
 if-ok (Err e) P Q f p = tt
 
 -- a component of a shape is one of its kind
-pub begun : (kind : Kind) (sizes : List ℕ) (chans : List Chan) (shape : Shape) (w s : List ℕ) (ks : List Chan) → MeetsRow kind sizes chans → IsShapeOf kind sizes shape → BeginsAt shape.plan shape.legs w → s ≡ replicate 2 0 → ks ≡ chans → record { proc = record { todo = todo_of shape.plan shape.legs 0 w; store = s }; chans = ks; open_ports = map is_open w } ≡ start_of kind sizes chans
+pub begun : (kind : Kind) (sizes : List ℕ) (chans : List Chan) (shape : Shape) (w s : List ℕ) (ks : List Chan) → MeetsRow kind sizes chans → IsShapeOf kind sizes chans shape → BeginsAt shape.plan shape.legs w → s ≡ replicate (slots kind sizes) 0 → ks ≡ chans → record { proc = record { todo = todo_of shape.plan shape.legs 0 w; store = s }; chans = ks; open_ports = map is_open w } ≡ start_of kind sizes chans
 begun kind sizes chans shape w s ks meets is at e f =
     let long : length chans ≡ length (ports_of (row_of kind) sizes) = sym (length-map chans (λ c. c.kind)) ∙ ap length meets.kinds_are ∙ length-map (ports_of (row_of kind) sizes) (λ r. r.kind) in
-    let t : todo_of shape.plan shape.legs 0 w ≡ tidy (replicate 2 0) (process kind sizes chans) = at.has_todo ∙ sym (tidy-start (replicate 2 0) shape.plan shape.legs) ∙ ap (tidy (replicate 2 0)) (sym (is.has_process chans)) in
+    let zeros = replicate (slots kind sizes) 0 in
+    let t : todo_of shape.plan shape.legs 0 w ≡ tidy zeros (process kind sizes chans) = at.has_todo ∙ sym (tidy-start zeros shape.plan shape.legs) ∙ ap (tidy zeros) (sym is.has_process) in
     let o : map is_open w ≡ replicate (suc (length chans)) false = at.closed ∙ ap (λ k. replicate k false) (is.has_ports ∙ ap suc (sym long)) in
     λ i. record { proc = record { todo = t i; store = e i }; chans = f i; open_ports = o i }
+
+-- and all that it sends fits
+pub begins-fit : (kind : Kind) (sizes : List ℕ) (chans : List Chan) (shape : Shape) (w : List ℕ) (ks : List Chan) → MeetsRow kind sizes chans → IsShapeOf kind sizes chans shape → BeginsAt shape.plan shape.legs w → ks ≡ chans → (bits : ℕ) × Sends ks bits (todo_of shape.plan shape.legs 0 w)
+begins-fit kind sizes chans shape w ks meets is at f =
+    let (bits, sends) = starts-fit kind sizes chans meets in
+    let t : process kind sizes chans ≡ todo_of shape.plan shape.legs 0 w = is.has_process ∙ sym at.has_todo in
+    (bits, subst (λ ks. Sends ks bits (todo_of shape.plan shape.legs 0 w)) (sym f) (subst (Sends chans bits) t sends))
+
+zero-keeps : (n bits : ℕ) → get_or {A = ℕ} (replicate n 0) 0 0 < 2 ^ bits
+zero-keeps n bits = rw (zeros n 0) (pow_pos bits)
+
+pub start-fits : (kind : Kind) (sizes : List ℕ) (chans : List Chan) (c : Component) → MeetsRow kind sizes chans → c ≡ start_of kind sizes chans → Fitted c
+start-fits kind sizes chans c meets is =
+    let (bits, sends) = starts-fit kind sizes chans meets in
+    rw is (record { bits = bits; keeps = zero-keeps (slots kind sizes) bits; sends = sends-tidy chans bits (replicate (slots kind sizes) 0) (process kind sizes chans) sends })

@@ -19,11 +19,12 @@ todo_of (Together row) n left w = together.todo row n w
 todo_of Cells n left w = cells.todo n w
 todo_of (OneByOne script) n left w = stages.todo script left
 
-abbrev pub IsAt : Plan → ℕ → ℕ → List ℕ → Type 0
-IsAt (InTurn row) n left w = in_turn.IsPlace n left w
-IsAt (Together row) n left w = together.IsPlace n left w
-IsAt Cells n left w = cells.IsPlace n w
-IsAt (OneByOne script) n left w = w ≡ stages.numbers script left
+-- s: the values kept, which conditions look at
+abbrev pub IsAt : Plan → ℕ → ℕ → List ℕ → Store → Type 0
+IsAt (InTurn row) n left w s = in_turn.IsPlace n left w
+IsAt (Together row) n left w s = together.IsPlace n left w
+IsAt Cells n left w s = cells.IsPlace n w
+IsAt (OneByOne script) n left w s = w ≡ stages.numbers script left
 
 -- the move due at port p, whose number is a
 abbrev pub plan_due : Plan → ℕ → ℕ → Option Due
@@ -37,11 +38,11 @@ abbrev pub places : Plan → ℕ → ℕ
 places (OneByOne script) n = length (stages.numbers script 0)
 places plan n = member n
 
--- a move at p takes the ports to w'
-pub record Goes (plan : Plan) (n left : ℕ) (w : List ℕ) (p left' : ℕ) (w' : List ℕ) : Type 0 where
-  pub place : IsAt plan n left' w'
+-- a move at p, after which s is kept, takes the ports to w'
+pub record Goes (plan : Plan) (n left : ℕ) (w : List ℕ) (p left' : ℕ) (w' : List ℕ) (s : Store) : Type 0 where
+  pub place : IsAt plan n left' w' s
   pub toggles : Toggles w p w'
-  pub leaves : (h : Head) → IsHead (todo_of plan n left w) h → h.port ≡ p → (s : Store) → tidy s h.rest ≡ todo_of plan n left' w'
+  pub leaves : (h : Head) → IsHead (todo_of plan n left w) h → h.port ≡ p → tidy s h.rest ≡ todo_of plan n left' w'
 
 -- a move is due at p
 abbrev pub IsDue : Plan → ℕ → List ℕ → Type 0

@@ -11,3 +11,4 @@ pub mod Script
 pub mod Comp
 pub mod Start
 pub mod Moves
+pub mod KindWords

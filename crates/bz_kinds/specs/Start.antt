@@ -2,9 +2,9 @@
 use Rattle.std.specs.Prelude.{◌≡◌, ◌<◌, ◌≤◌, ◌^◌, ℕ, suc, false, IsTrue, List, length, map, replicate, slice_index}
 use Rattle.bz_model.specs.declared.kind.Kind.{Kind}
 use Rattle.bz_model.specs.declared.channel.Chan.{Chan}
-use Rattle.bz_model.specs.Terms.{Term, forever, par, all}
+use Rattle.bz_model.specs.Terms.{Store, Term, forever, par, all}
 use Rattle.bz_model.specs.Rows.{row_of, ports_of, fits_sizes}
-use Rattle.bz_model.specs.Processes.{member, process}
+use Rattle.bz_model.specs.Processes.{member, process, slots}
 use Rattle.bz_kinds.specs.declared.row.Plan.{Plan}
 use Rattle.bz_kinds.specs.declared.row.Plan.TheVariants.{InTurn, Together, Cells, OneByOne}
 use Rattle.bz_kinds.specs.declared.shape.Shape.{Shape}
@@ -22,15 +22,16 @@ plan_process (Together row) n = forever (together.round row n)
 plan_process Cells n = par (all (suc n) (λ j. forever (cells.round j)))
 plan_process (OneByOne script) n = stages.todo script 0
 
--- the shape has the process of the kind, and its ports
-pub record IsShapeOf (kind : Kind) (sizes : List ℕ) (s : Shape) : Type 0 where
-  pub has_process : (chans : List Chan) → process kind sizes chans ≡ plan_process s.plan s.legs
+-- the shape has the process of the kind on these channels, its ports, and as many slots
+pub record IsShapeOf (kind : Kind) (sizes : List ℕ) (chans : List Chan) (s : Shape) : Type 0 where
+  pub has_process : process kind sizes chans ≡ plan_process s.plan s.legs
+  pub has_slots : s.slots ≡ slots kind sizes
   pub has_ports : places s.plan s.legs ≡ suc (length (ports_of (row_of kind) sizes))
   pub small : IsTrue (fits_sizes (row_of kind) sizes) → member s.legs < 2 ^ 32
 
 -- the ports of a plan at its start
 pub record BeginsAt (plan : Plan) (n : ℕ) (w : List ℕ) : Type 0 where
-  pub place : IsAt plan n 0 w
+  pub place : (s : Store) → IsAt plan n 0 w s
   pub has_todo : todo_of plan n 0 w ≡ plan_process plan n
   pub closed : map is_open w ≡ replicate (places plan n) false
 

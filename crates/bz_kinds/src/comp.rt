@@ -3,9 +3,11 @@
 ghost use Rattle.std.specs.Prelude.{◌≡◌, ◌≤◌, ◌^◌, ◌<◌, ◌↔◌, ℕ, Some, IsTrue, IfSome, IfOk, IfErr, length, slice_index, slice_set, replicate};
 ghost use Rattle.bz_kinds.specs.declared.error.KindError.TheVariants.{Memory};
 ghost use Rattle.bz_model.specs.Heads.{Head, IsHeadOn, CanMove, Moves, Turns, HasOneHead, carried};
-ghost use Rattle.bz_model.specs.Terms.{stored};
+ghost use Rattle.bz_model.specs.Terms.{stored, IsNarrow};
 ghost use Rattle.bz_model.specs.Rows.{MeetsRow};
 ghost use Rattle.bz_model.specs.Processes.{member, start_of};
+ghost use Rattle.bz_model.specs.Phases.{incoming};
+ghost use Rattle.bz_model.specs.Widths.{Fitted, FitsAt};
 ghost use Rattle.bz_kinds.specs.Moves.{AreEnabled};
 ghost use Rattle.bz_kinds.specs.Start.{BeginsAt, IsAllDue};
 ghost use Rattle.bz_kinds.specs.Comp.{IsAt, IsDue, Goes, plan_due};
@@ -14,7 +16,7 @@ use crate::error::KindError;
 use crate::move_iter::MoveIter;
 use crate::ports::{CLOSED_DUE, Ports};
 use crate::row::{Due, Plan};
-use crate::shape::{SLOTS, shape_of};
+use crate::shape::shape_of;
 use crate::{cells, enclosed, in_turn, script, together};
 use bz_model::{Chan, Kind, Move, Phase, Value};
 use std::alloc::{AllocError, Global};
@@ -32,11 +34,12 @@ pub struct Comp {
 }
 
 impl Model for Comp {
-    ghost use Rattle.std.specs.Prelude.{◌<◌, ◌^◌, map};
+    ghost use Rattle.std.specs.Prelude.{◌<◌, ◌^◌, ℕ, map};
     ghost use Rattle.std.specs.Coded.{codes};
     ghost use Rattle.bz_model.specs.Heads.{Component};
     ghost use Rattle.bz_model.specs.Codes.{term_code};
     ghost use Rattle.bz_model.specs.Processes.{member};
+    ghost use Rattle.bz_model.specs.Widths.{Sends};
 
     ghost Value = { Component };
 
@@ -47,18 +50,19 @@ impl Model for Comp {
 
     ghost view = { λ c. record { proc = record { todo = todo_of c.plan c.size c.left c.ports; store = c.slots.items }; chans = c.chans.items; open_ports = map is_open c.ports } };
 
-    ghost invariant = { λ c. IsAt c.plan c.size c.left c.ports × (member c.size < 2 ^ 32) };
+    ghost invariant = { λ c. IsAt c.plan c.size c.left c.ports c.slots.items × (member c.size < 2 ^ 32) × ((bits : ℕ) × Sends c.chans.items bits (todo_of c.plan c.size c.left c.ports)) };
 }
 
 /// A component of this kind at its start, with arrays of these lengths, on these channels in the order of its ports.
 pub fn start(alloc: Global, kind: &Kind, sizes: [u32; 2], chans: &[Chan]) -> Result<Comp, KindError>
     requires { MeetsRow kind.now sizes chans.now }
     ensures begun { IfOk result (λ c. c ≡ start_of kind.now sizes chans.now) }
+    ensures fitted { IfOk result (λ c. Fitted c) }
     ensures memory { IfErr result (λ e. e ≡ Memory) }
 {
-    let shape = shape_of(kind, sizes);
+    let shape = shape_of(kind, sizes, chans);
     let ports = first_ports(alloc, &shape.plan, shape.legs)?;
-    let slots = vec![in alloc; 0; SLOTS]?;
+    let slots = vec![in alloc; 0; shape.slots as usize]?;
     let chans = chans.to_vec(alloc)?;
     Ok(Comp {
         plan: shape.plan,
@@ -92,14 +96,22 @@ pub fn apply(comp: &mut Comp, port: u32, phase: Phase) -> (Move, Option<Value>)
     ensures moves { Moves comp.old.proc port phase result.0 result.1 comp.new.proc }
     ensures turns { Turns comp.old port result.0 comp.new }
     ensures chans { comp.new.chans ≡ comp.old.chans }
+    ensures fits { Fitted comp.old → FitsAt comp.old.chans port (incoming phase result.0) → FitsAt comp.old.chans port result.1 × Fitted comp.new }
 {
     let Some(due) = due_at(&comp.plan, port, comp.ports.get(port)) else {
         unreachable!()
     };
     let incoming = phase.incoming(due.mv);
     let value = carried(due, &comp.slots, incoming);
-    advance(&comp.plan, comp.size, &mut comp.left, &mut comp.ports, port);
     store(&mut comp.slots, due.into, incoming);
+    advance(
+        &comp.plan,
+        comp.size,
+        &mut comp.left,
+        &mut comp.ports,
+        port,
+        &comp.slots,
+    );
     (due.mv, value)
 }
 
@@ -162,6 +174,7 @@ fn from_first(alloc: Global, count: usize) -> Result<Ports, AllocError>
 
 // What the due move carries: what it sends, else what came in.
 fn carried(due: Due, slots: &[Value], incoming: Option<Value>) -> Option<Value>
+    requires { IsNarrow due.gives }
     ensures { result ≡ carried due.mv due.gives slots.now incoming }
 {
     match due.mv {
@@ -198,17 +211,17 @@ pub(crate) fn due_at(plan: &Plan, port: u32, number: u8) -> Option<Due>
     }
 }
 
-// Takes the ports to where they are after the due move at `port`.
-fn advance(plan: &Plan, size: u32, left: &mut u32, ports: &mut Ports, port: u32)
-    requires place { IsAt plan.now size left.old ports.old }
+// Takes the ports to where they are after the due move at `port`. `slots` has what came in with it.
+fn advance(plan: &Plan, size: u32, left: &mut u32, ports: &mut Ports, port: u32, slots: &[Value])
+    requires place { IsAt plan.now size left.old ports.old slots.now }
     requires small { member size < 2 ^ 32 }
     requires due { IsDue plan.now port ports.old }
-    ensures { Goes plan.now size left.old ports.old port left.new ports.new }
+    ensures { Goes plan.now size left.old ports.old port left.new ports.new slots.now }
 {
     match plan {
         Plan::InTurn(_) => in_turn::step(ports, left, size, port),
         Plan::Together(_) => together::step(ports, left, size, port),
         Plan::Cells => cells::step(ports, size, port),
-        Plan::OneByOne(script) => script::step(*script, ports, left, port),
+        Plan::OneByOne(script) => script::step(*script, ports, left, port, slots),
     }
 }

@@ -24,4 +24,6 @@ pub use table::{PortRow, is_passive, kinds_are, port_table, sizes_fit, widths_fi
 pub use word::kind_word;
 
 #[cfg(test)]
+mod function_tests;
+#[cfg(test)]
 mod tests;

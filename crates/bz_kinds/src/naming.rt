@@ -1,12 +1,39 @@
 //! Kinds by the names and parameters that netlists give them.
 
-ghost use Rattle.std.specs.Prelude.{◌≡◌, ◌≢◌, bytes_eq, IfOk, IfErr, Ok, Err, slice_get};
+ghost use Rattle.std.specs.Prelude.{◌≡◌, ◌%◌, ◌^◌, bytes_eq};
 ghost use Rattle.std.specs.Option.{option_copied};
-ghost use Rattle.bz_kinds.specs.Naming.{kind_named, kind_with, bad_parameters, texts};
+ghost use Rattle.bz_kinds.specs.Naming.{named, kind_by, kind_with, text, number, flag, given_flag, variable_by, constant_by, unary_by, binary_by, const_by, slice_by, given, unary_named, binary_named};
 
 use crate::error::KindError;
-use bz_model::{Kind, Param};
+use bz_model::{BinaryOp, Kind, MAX_WIDTH, Operand, Param, Source, UnaryOp, Value};
 use std::alloc::Global;
+
+/// The names of kinds.
+#[derive(Clone, Copy)]
+pub enum Name {
+    Loop,
+    Sequence,
+    SequenceOptimised,
+    Concur,
+    Fork,
+    ForkPush,
+    While,
+    Fetch,
+    Variable,
+    Constant,
+    UnaryFunc,
+    BinaryFunc,
+    BinaryFuncConstR,
+    Slice,
+    Combine,
+    CombineEqual,
+    Adapt,
+    Split,
+    Halt,
+    HaltPush,
+    Continue,
+    ContinuePush,
+}
 
 /// The kind of this name with these parameters.
 ///
@@ -14,53 +41,83 @@ use std::alloc::Global;
 pub fn kind_of(_alloc: Global, name: &[u8], params: &[Param]) -> Result<Kind, KindError>
     ensures { result ≡ kind_with name.now params.now }
 {
-    let Some(kind) = kind_named(name) else {
+    let Some(name) = named(name) else {
         return Err(KindError::UnknownComponent);
     };
-    if bad_parameters(&kind, params) {
+    let Some(kind) = kind_by(name, params) else {
         return Err(KindError::BadParameter);
-    }
+    };
     Ok(kind)
 }
 
-fn kind_named(name: &[u8]) -> Option<Kind>
-    ensures { result ≡ kind_named name.now }
+fn named(name: &[u8]) -> Option<Name>
+    ensures { result ≡ named name.now }
 {
     if is(name, "$BrzLoop") {
-        return Some(Kind::Loop);
+        return Some(Name::Loop);
     }
     if is(name, "$BrzSequence") {
-        return Some(Kind::Sequence);
+        return Some(Name::Sequence);
     }
     if is(name, "$BrzSequenceOptimised") {
-        return Some(Kind::SequenceOptimised);
+        return Some(Name::SequenceOptimised);
     }
     if is(name, "$BrzConcur") {
-        return Some(Kind::Concur);
+        return Some(Name::Concur);
     }
     if is(name, "$BrzFork") {
-        return Some(Kind::Fork);
+        return Some(Name::Fork);
     }
     if is(name, "$BrzForkPush") {
-        return Some(Kind::ForkPush);
+        return Some(Name::ForkPush);
+    }
+    if is(name, "$BrzWhile") {
+        return Some(Name::While);
     }
     if is(name, "$BrzFetch") {
-        return Some(Kind::Fetch);
+        return Some(Name::Fetch);
     }
     if is(name, "$BrzVariable") {
-        return Some(Kind::Variable);
+        return Some(Name::Variable);
+    }
+    if is(name, "$BrzConstant") {
+        return Some(Name::Constant);
+    }
+    if is(name, "$BrzUnaryFunc") {
+        return Some(Name::UnaryFunc);
+    }
+    if is(name, "$BrzBinaryFunc") {
+        return Some(Name::BinaryFunc);
+    }
+    if is(name, "$BrzBinaryFuncConstR") {
+        return Some(Name::BinaryFuncConstR);
+    }
+    if is(name, "$BrzSlice") {
+        return Some(Name::Slice);
+    }
+    if is(name, "$BrzCombine") {
+        return Some(Name::Combine);
+    }
+    if is(name, "$BrzCombineEqual") {
+        return Some(Name::CombineEqual);
+    }
+    if is(name, "$BrzAdapt") {
+        return Some(Name::Adapt);
+    }
+    if is(name, "$BrzSplit") {
+        return Some(Name::Split);
     }
     if is(name, "$BrzHalt") {
-        return Some(Kind::Halt);
+        return Some(Name::Halt);
     }
     if is(name, "$BrzHaltPush") {
-        return Some(Kind::HaltPush);
+        return Some(Name::HaltPush);
     }
     if is(name, "$BrzContinue") {
-        return Some(Kind::Continue);
+        return Some(Name::Continue);
     }
     if is(name, "$BrzContinuePush") {
-        return Some(Kind::ContinuePush);
+        return Some(Name::ContinuePush);
     }
     None
 }
@@ -71,27 +128,252 @@ fn is(name: &[u8], text: &str) -> bool
     name == text.as_bytes()
 }
 
-fn bad_parameters(kind: &Kind, params: &[Param]) -> bool
-    ensures { result ≡ bad_parameters kind.now params.now }
+// The kind of this name, unless it cannot have these parameters.
+fn kind_by(name: Name, params: &[Param]) -> Option<Kind>
+    ensures { result ≡ kind_by name params.now }
 {
-    match kind {
-        Kind::Variable => match text(params, 1) {
-            Some(text) => !text.is_empty(),
-            None => false,
-        },
-        _ => false,
+    match name {
+        Name::Loop => Some(Kind::Loop),
+        Name::Sequence => Some(Kind::Sequence),
+        Name::SequenceOptimised => Some(Kind::SequenceOptimised),
+        Name::Concur => Some(Kind::Concur),
+        Name::Fork => Some(Kind::Fork),
+        Name::ForkPush => Some(Kind::ForkPush),
+        Name::While => Some(Kind::While),
+        Name::Fetch => Some(Kind::Fetch),
+        Name::Variable => variable(params),
+        Name::Constant => constant(params),
+        Name::UnaryFunc => unary_func(params),
+        Name::BinaryFunc => binary_func(params),
+        Name::BinaryFuncConstR => binary_func_const(params),
+        Name::Slice => slice(params),
+        Name::Combine => Some(Kind::Combine),
+        Name::CombineEqual => Some(Kind::CombineEqual),
+        Name::Adapt => Some(Kind::Adapt {
+            signed: flag(params, 1),
+        }),
+        Name::Split => Some(Kind::Split),
+        Name::Halt => Some(Kind::Halt),
+        Name::HaltPush => Some(Kind::HaltPush),
+        Name::Continue => Some(Kind::Continue),
+        Name::ContinuePush => Some(Kind::ContinuePush),
     }
+}
+
+fn variable(params: &[Param]) -> Option<Kind>
+    ensures { result ≡ variable_by params.now }
+{
+    match text(params, 1) {
+        Some(text) => {
+            if text.is_empty() {
+                Some(Kind::Variable)
+            } else {
+                None
+            }
+        }
+        None => Some(Kind::Variable),
+    }
+}
+
+fn constant(params: &[Param]) -> Option<Kind>
+    ensures { result ≡ constant_by params.now }
+{
+    match number(params, 1) {
+        Some(value) => Some(Kind::Constant(cut(value))),
+        None => None,
+    }
+}
+
+fn unary_func(params: &[Param]) -> Option<Kind>
+    ensures { result ≡ unary_by params.now }
+{
+    let Some(text) = text(params, 0) else {
+        return None;
+    };
+    let Some(op) = unary_named(text) else {
+        return None;
+    };
+    Some(Kind::UnaryFunc {
+        op,
+        signed: flag(params, 0),
+    })
+}
+
+fn binary_func(params: &[Param]) -> Option<Kind>
+    ensures { result ≡ binary_by params.now }
+{
+    let Some(text) = text(params, 0) else {
+        return None;
+    };
+    let Some(op) = binary_named(text) else {
+        return None;
+    };
+    Some(Kind::BinaryFunc {
+        op,
+        left_signed: flag(params, 1),
+        right_signed: flag(params, 2),
+    })
+}
+
+fn binary_func_const(params: &[Param]) -> Option<Kind>
+    ensures { result ≡ const_by params.now }
+{
+    let Some(text) = text(params, 0) else {
+        return None;
+    };
+    let Some(op) = binary_named(text) else {
+        return None;
+    };
+    let Some(right) = given(number(params, 2), number(params, 3), flag(params, 2)) else {
+        return None;
+    };
+    Some(Kind::BinaryFuncConstR {
+        op,
+        left_signed: flag(params, 1),
+        right,
+    })
+}
+
+fn slice(params: &[Param]) -> Option<Kind>
+    ensures { result ≡ slice_by params.now }
+{
+    match number(params, 2) {
+        Some(low) => Some(Kind::Slice(low)),
+        None => None,
+    }
+}
+
+// A second operand of this width and value.
+fn given(width: Option<u128>, value: Option<u128>, signed: bool) -> Option<Operand>
+    ensures { result ≡ given width value signed }
+{
+    let Some(width) = width else {
+        return None;
+    };
+    let Some(value) = value else {
+        return None;
+    };
+    if width < 1 || width > MAX_WIDTH as u128 {
+        return None;
+    }
+    Some(Operand {
+        source: Source::Given(cut(value)),
+        width: width as u32,
+        signed,
+    })
+}
+
+// The bits that a channel can carry.
+fn cut(value: u128) -> Value
+    ensures { result ≡ value % 2 ^ MAX_WIDTH }
+{
+    (value % (1 << MAX_WIDTH)) as Value
+}
+
+fn unary_named(text: &[u8]) -> Option<UnaryOp>
+    ensures { result ≡ unary_named text.now }
+{
+    if is(text, "Negate") {
+        return Some(UnaryOp::Negate);
+    }
+    if is(text, "Invert") {
+        return Some(UnaryOp::Invert);
+    }
+    None
+}
+
+fn binary_named(text: &[u8]) -> Option<BinaryOp>
+    ensures { result ≡ binary_named text.now }
+{
+    if is(text, "Add") {
+        return Some(BinaryOp::Add);
+    }
+    if is(text, "Subtract") {
+        return Some(BinaryOp::Subtract);
+    }
+    if is(text, "ReverseSubtract") {
+        return Some(BinaryOp::ReverseSubtract);
+    }
+    if is(text, "Equals") {
+        return Some(BinaryOp::Equals);
+    }
+    if is(text, "NotEquals") {
+        return Some(BinaryOp::NotEquals);
+    }
+    if is(text, "LessThan") {
+        return Some(BinaryOp::LessThan);
+    }
+    if is(text, "GreaterThan") {
+        return Some(BinaryOp::GreaterThan);
+    }
+    if is(text, "LessOrEquals") {
+        return Some(BinaryOp::LessOrEquals);
+    }
+    if is(text, "GreaterOrEquals") {
+        return Some(BinaryOp::GreaterOrEquals);
+    }
+    if is(text, "And") {
+        return Some(BinaryOp::And);
+    }
+    if is(text, "Or") {
+        return Some(BinaryOp::Or);
+    }
+    if is(text, "Xor") {
+        return Some(BinaryOp::Xor);
+    }
+    None
 }
 
 // The text at a place among the parameters that are texts.
 fn text(params: &[Param], place: usize) -> Option<&[u8]>
-    ensures { option_copied result ≡ slice_get (texts params.now) place }
+    ensures { option_copied result ≡ text params.now place }
 {
     let mut before = 0;
     for param in params {
         if let Param::Word(text) = param {
             if before == place {
                 return Some(text.as_slice());
+            }
+            before += 1;
+        }
+    }
+    None
+}
+
+// The number at a place among the parameters that are numbers.
+fn number(params: &[Param], place: usize) -> Option<u128>
+    ensures { result ≡ number params.now place }
+{
+    let mut before = 0;
+    for param in params {
+        if let Param::Num(number) = param {
+            if before == place {
+                return Some(*number);
+            }
+            before += 1;
+        }
+    }
+    None
+}
+
+// The truth value at a place among the parameters that are such values, false where there is none.
+fn flag(params: &[Param], place: usize) -> bool
+    ensures { result ≡ flag params.now place }
+{
+    match given_flag(params, place) {
+        Some(flag) => flag,
+        None => false,
+    }
+}
+
+fn given_flag(params: &[Param], place: usize) -> Option<bool>
+    ensures { result ≡ given_flag params.now place }
+{
+    let mut before = 0;
+    for param in params {
+        if let Param::Flag(flag) = param {
+            if before == place {
+                return Some(*flag);
             }
             before += 1;
         }

@@ -6,36 +6,39 @@ ghost use Rattle.bz_kinds.specs.Row.{leg_of};
 use bz_model::{Expr, Move};
 
 /// One handshake of an active port: what its request sends, and the slot for what comes back.
-#[derive(Clone, Copy, Debug, PartialEq, Eq)]
+#[derive(Clone, Copy)]
 pub struct Leg {
     pub gives: Expr,
     pub into: u32,
 }
 
-/// The handshakes that a port encloses, by place.
-#[derive(Clone, Copy, Debug, PartialEq, Eq)]
+/// The handshakes that a port encloses, by place: all alike, two, or pulls of which each has its own slot.
+#[derive(Clone, Copy)]
 pub enum Legs {
     Each(Leg),
     Two(Leg, Leg),
+    Spread,
 }
 
 /// A passive port that encloses handshakes.
-#[derive(Clone, Copy, Debug, PartialEq, Eq)]
+#[derive(Clone, Copy)]
 pub struct Row {
     pub into: u32,
     pub legs: Legs,
     pub answer: Expr,
 }
 
-/// A component of one move at a time: port 1 is taken and port 2 called for ever, or port 1 is taken once into a slot.
-#[derive(Clone, Copy, Debug, PartialEq, Eq)]
+/// A component of one move at a time: port 1 is taken and port 2 called for ever; port 1 encloses calls of port 3 as long
+/// as port 2 brings 1; or port 1 is taken once into a slot.
+#[derive(Clone, Copy)]
 pub enum Script {
     Loop,
+    While,
     Halt(u32),
 }
 
 /// The family of a kind, with what sets the kind apart in it.
-#[derive(Clone, Copy, Debug, PartialEq, Eq)]
+#[derive(Clone, Copy)]
 pub enum Plan {
     InTurn(Row),
     Together(Row),
@@ -44,7 +47,7 @@ pub enum Plan {
 }
 
 /// A move that is due at a port: what it sends, and the slot for what comes in.
-#[derive(Clone, Copy, Debug, PartialEq, Eq)]
+#[derive(Clone, Copy)]
 pub struct Due {
     pub mv: Move,
     pub gives: Expr,
@@ -58,6 +61,10 @@ impl Legs {
         match *self {
             Legs::Each(leg) => leg,
             Legs::Two(first, second) => { if i == 0 { first } else { second } }
+            Legs::Spread => Leg {
+                gives: Expr::Nothing,
+                into: i,
+            },
         }
     }
 }

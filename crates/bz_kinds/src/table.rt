@@ -1,12 +1,12 @@
 //! The ports of each kind.
 
-ghost use Rattle.std.specs.Prelude.{◌≡◌, ◌==◌, ◌↔◌, ℕ, List, [], map, suc, IsTrue, All, slice_index_or};
+ghost use Rattle.std.specs.Prelude.{◌≡◌, ◌+◌, ◌*◌, ◌==◌, nat_le, ◌↔◌, ℕ, List, [], map, suc, IsTrue, All, slice_index_or};
 ghost use Rattle.std.specs.List.{list_all};
 ghost use Rattle.bz_model.specs.declared.channel.ChanKind.TheVariants.{Sync};
-ghost use Rattle.bz_model.specs.Rows.{row_of, ports_of, is_passive, active_port, fits_sizes, has_widths, width};
+ghost use Rattle.bz_model.specs.Rows.{row_of, ports_of, is_passive, active_port, fits_sizes, is_wide, least_width, asks_widths, has_widths, width};
 ghost use Rattle.bz_kinds.specs.Table.{seen, count_of, others_of, are_equal};
 
-use bz_model::{Chan, ChanKind, Kind, MAX_MEMBERS};
+use bz_model::{Chan, ChanKind, Kind, MAX_MEMBERS, MAX_WIDTH};
 
 /// A port of a kind: its name, what its channel carries, whether it is the passive end, and whether it is an array of ports.
 #[derive(Clone, Copy, Debug, PartialEq, Eq)]
@@ -29,6 +29,69 @@ const ACTIVATE_OUT: PortRow = PortRow {
     kind: ChanKind::Sync,
     passive: false,
     array: false,
+};
+
+const GUARD: PortRow = PortRow {
+    name: "guard",
+    kind: ChanKind::Pull,
+    passive: false,
+    array: false,
+};
+
+const REPLIED: PortRow = PortRow {
+    name: "out",
+    kind: ChanKind::Pull,
+    passive: true,
+    array: false,
+};
+
+const PULLS_A: PortRow = PortRow {
+    name: "inpA",
+    kind: ChanKind::Pull,
+    passive: false,
+    array: false,
+};
+
+const PULLS_B: PortRow = PortRow {
+    name: "inpB",
+    kind: ChanKind::Pull,
+    passive: false,
+    array: false,
+};
+
+const PULLS_LOW: PortRow = PortRow {
+    name: "ls",
+    kind: ChanKind::Pull,
+    passive: false,
+    array: false,
+};
+
+const PULLS_HIGH: PortRow = PortRow {
+    name: "ms",
+    kind: ChanKind::Pull,
+    passive: false,
+    array: false,
+};
+
+const PUSHES_LOW: PortRow = PortRow {
+    name: "ls",
+    kind: ChanKind::Push,
+    passive: false,
+    array: false,
+};
+
+const PUSHES_HIGH: PortRow = PortRow {
+    name: "ms",
+    kind: ChanKind::Push,
+    passive: false,
+    array: false,
+};
+
+const PULLS_EACH: PortRow = PortRow {
+    name: "inp",
+    kind: ChanKind::Pull,
+    passive: false,
+    array: true,
 };
 
 const CALLED: PortRow = PortRow {
@@ -95,6 +158,20 @@ static FORK: [PortRow; 2] = [CALLED, CALLS_EACH];
 
 static FORK_PUSH: [PortRow; 2] = [PUSHED, PUSHES_EACH];
 
+static WHILE: [PortRow; 3] = [ACTIVATE, GUARD, ACTIVATE_OUT];
+
+static CONSTANT: [PortRow; 1] = [REPLIED];
+
+static FUNCTION: [PortRow; 2] = [REPLIED, PULLS];
+
+static TWO_INPUTS: [PortRow; 3] = [REPLIED, PULLS_A, PULLS_B];
+
+static COMBINE: [PortRow; 3] = [REPLIED, PULLS_LOW, PULLS_HIGH];
+
+static COMBINE_EQUAL: [PortRow; 2] = [REPLIED, PULLS_EACH];
+
+static SPLIT: [PortRow; 3] = [PUSHED, PUSHES_LOW, PUSHES_HIGH];
+
 static FETCH: [PortRow; 3] = [ACTIVATE, PULLS, PUSHES];
 
 static VARIABLE: [PortRow; 2] = [WRITTEN, READ_EACH];
@@ -112,8 +189,18 @@ pub fn port_table(kind: &Kind) -> &'static [PortRow]
         Kind::Sequence | Kind::SequenceOptimised | Kind::Concur => &SEQUENCE,
         Kind::Fork => &FORK,
         Kind::ForkPush => &FORK_PUSH,
+        Kind::While => &WHILE,
         Kind::Fetch => &FETCH,
         Kind::Variable => &VARIABLE,
+        Kind::Constant(_) => &CONSTANT,
+        Kind::UnaryFunc { .. } => &FUNCTION,
+        Kind::BinaryFunc { .. } => &TWO_INPUTS,
+        Kind::BinaryFuncConstR { .. } => &FUNCTION,
+        Kind::Slice(_) => &FUNCTION,
+        Kind::Combine => &COMBINE,
+        Kind::CombineEqual => &COMBINE_EQUAL,
+        Kind::Adapt { .. } => &FUNCTION,
+        Kind::Split => &SPLIT,
         Kind::Halt | Kind::Continue => &CALLED_ALONE,
         Kind::HaltPush | Kind::ContinuePush => &PUSHED_ALONE,
     }
@@ -147,11 +234,69 @@ pub fn kinds_are(kind: &Kind, sizes: [u32; 2], chans: &[Chan]) -> bool
 pub fn widths_fit(kind: &Kind, chans: &[Chan]) -> bool
     ensures { IsTrue result ↔ IsTrue (has_widths kind.now chans.now) }
 {
+    are_wide(chans) && are_asked(kind, chans)
+}
+
+// Whether the widths are in the limits of what the channels carry.
+fn are_wide(chans: &[Chan]) -> bool
+    ensures { result ≡ list_all is_wide chans.now }
+{
+    chans.iter().all(|chan| least_width(chan.kind) <= chan.width && chan.width <= MAX_WIDTH)
+}
+
+fn least_width(kind: ChanKind) -> u32
+    ensures { result ≡ least_width kind }
+{
     match kind {
+        ChanKind::Sync => 0,
+        ChanKind::Push | ChanKind::Pull => 1,
+    }
+}
+
+// Whether the widths are as the kind asks.
+fn are_asked(kind: &Kind, chans: &[Chan]) -> bool
+    ensures { result ≡ asks_widths kind.now chans.now }
+{
+    match kind {
+        Kind::ForkPush => have_one_width(chans),
+        Kind::While => width(chans, 1) == 1,
         Kind::Fetch => width(chans, 1) == width(chans, 2),
         Kind::Variable => have_one_width(chans),
-        Kind::ForkPush => have_one_width(chans),
+        Kind::Slice(low) => is_within(*low, width(chans, 0), width(chans, 1)),
+        Kind::Combine => is_sum(width(chans, 0), width(chans, 1), width(chans, 2)),
+        Kind::CombineEqual => match chans {
+            [] => true,
+            [out, inputs @ ..] => {
+                have_one_width(inputs) && is_product(out.width, inputs.len(), width(inputs, 0))
+            }
+        },
+        Kind::Split => is_sum(width(chans, 0), width(chans, 1), width(chans, 2)),
         _ => true,
+    }
+}
+
+// Whether a width, from bit `low` on, is within another one.
+fn is_within(low: u128, width: u32, whole: u32) -> bool
+    ensures { result ≡ nat_le (low + width) whole }
+{
+    match low.checked_add(u128::from(width)) {
+        Some(end) => end <= u128::from(whole),
+        None => false,
+    }
+}
+
+fn is_sum(sum: u32, low: u32, high: u32) -> bool
+    ensures { result ≡ (sum == low + high) }
+{
+    u64::from(sum) == u64::from(low) + u64::from(high)
+}
+
+fn is_product(product: u32, count: usize, width: u32) -> bool
+    ensures { result ≡ (product == count * width) }
+{
+    match count.checked_mul(width as usize) {
+        Some(bits) => product as usize == bits,
+        None => false,
     }
 }
 
@@ -221,8 +366,8 @@ fn all_carry(chans: &[Chan], kind: ChanKind) -> bool
     chans.iter().all(|chan| chan.kind == kind)
 }
 
-// The width of the channel at a place, counted from 0.
-fn width(chans: &[Chan], place: usize) -> u32
+/// The width of the channel at a place, counted from 0.
+pub(crate) fn width(chans: &[Chan], place: usize) -> u32
     ensures { result ≡ width chans.now (suc place) }
 {
     match chans.get(place) {

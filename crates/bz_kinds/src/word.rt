@@ -1,13 +1,13 @@
 //! The words by which texts name the kinds.
 
-ghost use Rattle.std.specs.Prelude.{◌≡◌, drop};
-ghost use Rattle.bz_kinds.specs.Naming.{kind_name};
+ghost use Rattle.std.specs.Prelude.{◌≡◌};
+ghost use Rattle.bz_kinds.specs.KindWords.{kind_word};
 
 use bz_model::Kind;
 
 /// A kind's name without the `$Brz` that netlists put in front.
 pub fn kind_word(kind: &Kind) -> &'static [u8]
-    ensures { result.now ≡ drop 4 (kind_name kind.now) }
+    ensures { result.now ≡ kind_word kind.now }
 {
     match kind {
         Kind::Loop => b"Loop",
@@ -16,8 +16,18 @@ pub fn kind_word(kind: &Kind) -> &'static [u8]
         Kind::Concur => b"Concur",
         Kind::Fork => b"Fork",
         Kind::ForkPush => b"ForkPush",
+        Kind::While => b"While",
         Kind::Fetch => b"Fetch",
         Kind::Variable => b"Variable",
+        Kind::Constant(_) => b"Constant",
+        Kind::UnaryFunc { .. } => b"UnaryFunc",
+        Kind::BinaryFunc { .. } => b"BinaryFunc",
+        Kind::BinaryFuncConstR { .. } => b"BinaryFuncConstR",
+        Kind::Slice(_) => b"Slice",
+        Kind::Combine => b"Combine",
+        Kind::CombineEqual => b"CombineEqual",
+        Kind::Adapt { .. } => b"Adapt",
+        Kind::Split => b"Split",
         Kind::Halt => b"Halt",
         Kind::HaltPush => b"HaltPush",
         Kind::Continue => b"Continue",

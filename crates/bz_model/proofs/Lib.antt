@@ -1,1 +1,5 @@
 pub mod Copies
+pub mod Residues
+pub mod Bounds
+pub mod Fitting
+pub mod Starts

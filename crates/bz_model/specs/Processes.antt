@@ -1,11 +1,15 @@
 -- What each kind does: its process, written with the handshakes of its ports.
-use Rattle.std.specs.Prelude.{ℕ, zero, suc, false, List, length, replicate, slice_index}
+use Rattle.std.specs.Prelude.{ℕ, zero, suc, ◌%◌, ◌^◌, Bool, false, List, length, replicate, slice_index}
 use Rattle.bz_model.specs.declared.channel.Chan.{Chan}
 use Rattle.bz_model.specs.declared.expr.Expr.{Expr}
-use Rattle.bz_model.specs.declared.expr.Expr.TheVariants.{Nothing, Slot}
+use Rattle.bz_model.specs.declared.expr.Expr.TheVariants.{Nothing, Slot, Fixed, Unary, Binary, Bits, Pair, Joined}
+use Rattle.bz_model.specs.declared.expr.Operand.{Operand}
+use Rattle.bz_model.specs.declared.expr.Source.TheVariants.{Kept}
+use Rattle.bz_model.specs.declared.operation.UnaryOp.TheVariants.{Extend}
 use Rattle.bz_model.specs.declared.kind.Kind.{Kind}
-use Rattle.bz_model.specs.declared.kind.Kind.TheVariants.{Loop, Sequence, SequenceOptimised, Concur, Fork, ForkPush, Fetch, Variable, Halt, HaltPush, Continue, ContinuePush}
-use Rattle.bz_model.specs.Terms.{Term, ask, take, reply, got, seq, par, forever, done, all, in_turn, term}
+use Rattle.bz_model.specs.declared.kind.Kind.TheVariants.{Loop, Sequence, SequenceOptimised, Concur, Fork, ForkPush, While, Fetch, Variable, Constant, UnaryFunc, BinaryFunc, BinaryFuncConstR, Slice, Combine, CombineEqual, Adapt, Split, Halt, HaltPush, Continue, ContinuePush}
+use Rattle.bz_model.specs.Terms.{Term, ask, take, reply, got, seq, par, forever, while, done, all, in_turn, no_terms, term}
+use Rattle.bz_model.specs.Rows.{width}
 use Rattle.bz_model.specs.Heads.{Component, tidy}
 
 -- a whole handshake of an active port. Slot 1 is for what comes with a move that brings nothing
@@ -32,6 +36,14 @@ member i = suc (suc i)
 abbrev pub size : List ℕ → ℕ
 size sizes = slice_index sizes 0
 
+-- what port p pulls into slot x, with a sign or not, as an input of an operation
+abbrev pub operand : List Chan → ℕ → ℕ → Bool → Operand
+operand chans p x signed = record { source = Kept x; width = width chans p; signed = signed }
+
+-- two terms side by side
+abbrev pub both : Term → Term → Term
+both a b = par (term a (term b no_terms))
+
 abbrev pub process : Kind → List ℕ → List Chan → Term
 process Loop sizes chans = seq (take 1 1) (forever (call 2))
 process Sequence sizes chans = forever (enclosed 1 1 (in_turn 0 (size sizes) (λ i. call (member i))) Nothing)
@@ -39,9 +51,25 @@ process SequenceOptimised sizes chans = forever (enclosed 1 1 (in_turn 0 (size s
 process Concur sizes chans = forever (enclosed 1 1 (par (all (size sizes) (λ i. call (member i)))) Nothing)
 process Fork sizes chans = forever (enclosed 1 1 (par (all (size sizes) (λ i. call (member i)))) Nothing)
 process ForkPush sizes chans = forever (enclosed 1 0 (par (all (size sizes) (λ i. push (member i) (Slot 0)))) Nothing)
+process While sizes chans = forever (enclosed 1 1 (while 2 0 (call 3)) Nothing)
 process Fetch sizes chans = forever (enclosed 1 1 (seq (pull 2 0) (seq (push 3 (Slot 0)) done)) Nothing)
 process Variable sizes chans =
     par (term (forever (enclosed 1 0 done Nothing)) (all (size sizes) (λ i. forever (enclosed (member i) 1 done (Slot 0)))))
+process (Constant value) sizes chans = forever (enclosed 1 1 done (Fixed (value % 2 ^ width chans 1)))
+process (UnaryFunc op signed) sizes chans =
+    forever (enclosed 1 1 (seq (pull 2 0) done) (Unary op (operand chans 2 0 signed) (width chans 1)))
+process (BinaryFunc op left right) sizes chans =
+    forever (enclosed 1 1 (both (pull 2 0) (pull 3 1)) (Binary op (operand chans 2 0 left) (operand chans 3 1 right) (width chans 1)))
+process (BinaryFuncConstR op left right) sizes chans =
+    forever (enclosed 1 1 (seq (pull 2 0) done) (Binary op (operand chans 2 0 left) right (width chans 1)))
+process (Slice low) sizes chans = forever (enclosed 1 1 (seq (pull 2 0) done) (Bits 0 low (width chans 1)))
+process Combine sizes chans = forever (enclosed 1 1 (both (pull 2 0) (pull 3 1)) (Pair (width chans 2) (width chans 3)))
+process CombineEqual sizes chans =
+    forever (enclosed 1 1 (par (all (size sizes) (λ i. pull (member i) i))) (Joined (size sizes) (width chans 2)))
+process (Adapt signed) sizes chans =
+    forever (enclosed 1 1 (seq (pull 2 0) done) (Unary Extend (operand chans 2 0 signed) (width chans 1)))
+process Split sizes chans =
+    forever (enclosed 1 0 (both (push 2 (Bits 0 0 (width chans 2))) (push 3 (Bits 0 (width chans 2) (width chans 3)))) Nothing)
 process Halt sizes chans = seq (take 1 1) done
 process HaltPush sizes chans = seq (take 1 0) done
 process Continue sizes chans = forever (enclosed 1 1 done Nothing)
@@ -49,6 +77,7 @@ process ContinuePush sizes chans = forever (enclosed 1 0 done Nothing)
 
 -- how many values a component keeps
 abbrev pub slots : Kind → List ℕ → ℕ
+slots CombineEqual sizes = size sizes
 slots kind sizes = 2
 
 -- a component at the start: all that it keeps is 0, and no port is open

@@ -1,11 +1,12 @@
 -- The ports of each kind, and what its arrays and channels have to be.
-use Rattle.std.specs.Prelude.{◌≡◌, ℕ, zero, suc, Bool, true, false, ◌==◌, ◌&&◌, nat_le, IsTrue, if◌then◌else◌, List, [], ◌∷◌, ◌++◌, map, replicate, slice_index_or, codes}
+use Rattle.std.specs.Prelude.{◌≡◌, ℕ, zero, suc, ◌+◌, ◌*◌, length, drop, Bool, true, false, ◌==◌, ◌&&◌, nat_le, IsTrue, if◌then◌else◌, List, [], ◌∷◌, ◌++◌, map, replicate, slice_index_or, codes}
 use Rattle.std.specs.List.{list_all}
 use Rattle.bz_model.specs.declared.channel.Chan.{Chan}
 use Rattle.bz_model.specs.declared.channel.ChanKind.{ChanKind}
 use Rattle.bz_model.specs.declared.channel.ChanKind.TheVariants.{Sync, Push, Pull}
 use Rattle.bz_model.specs.declared.kind.Kind.{Kind}
-use Rattle.bz_model.specs.declared.kind.Kind.TheVariants.{Loop, Sequence, SequenceOptimised, Concur, Fork, ForkPush, Fetch, Variable, Halt, HaltPush, Continue, ContinuePush}
+use Rattle.bz_model.specs.declared.channel.TheConstants.{MAX_WIDTH}
+use Rattle.bz_model.specs.declared.kind.Kind.TheVariants.{Loop, Sequence, SequenceOptimised, Concur, Fork, ForkPush, While, Fetch, Variable, Constant, UnaryFunc, BinaryFunc, BinaryFuncConstR, Slice, Combine, CombineEqual, Adapt, Split, Halt, HaltPush, Continue, ContinuePush}
 
 -- a port: its name, what its channel carries, whether it is the passive end, and whether it is an array of ports
 pub record PortRow : Type 0 where
@@ -34,8 +35,18 @@ row_of SequenceOptimised = passive_port (codes "activate") Sync ∷ active_array
 row_of Concur = passive_port (codes "activate") Sync ∷ active_array (codes "out") Sync ∷ []
 row_of Fork = passive_port (codes "inp") Sync ∷ active_array (codes "out") Sync ∷ []
 row_of ForkPush = passive_port (codes "inp") Push ∷ active_array (codes "out") Push ∷ []
+row_of While = passive_port (codes "activate") Sync ∷ active_port (codes "guard") Pull ∷ active_port (codes "activateOut") Sync ∷ []
 row_of Fetch = passive_port (codes "activate") Sync ∷ active_port (codes "inp") Pull ∷ active_port (codes "out") Push ∷ []
 row_of Variable = passive_port (codes "write") Push ∷ passive_array (codes "read") Pull ∷ []
+row_of (Constant value) = passive_port (codes "out") Pull ∷ []
+row_of (UnaryFunc op signed) = passive_port (codes "out") Pull ∷ active_port (codes "inp") Pull ∷ []
+row_of (BinaryFunc op left right) = passive_port (codes "out") Pull ∷ active_port (codes "inpA") Pull ∷ active_port (codes "inpB") Pull ∷ []
+row_of (BinaryFuncConstR op left right) = passive_port (codes "out") Pull ∷ active_port (codes "inp") Pull ∷ []
+row_of (Slice low) = passive_port (codes "out") Pull ∷ active_port (codes "inp") Pull ∷ []
+row_of Combine = passive_port (codes "out") Pull ∷ active_port (codes "ls") Pull ∷ active_port (codes "ms") Pull ∷ []
+row_of CombineEqual = passive_port (codes "out") Pull ∷ active_array (codes "inp") Pull ∷ []
+row_of (Adapt signed) = passive_port (codes "out") Pull ∷ active_port (codes "inp") Pull ∷ []
+row_of Split = passive_port (codes "inp") Push ∷ active_port (codes "ls") Push ∷ active_port (codes "ms") Push ∷ []
 row_of Halt = passive_port (codes "inp") Sync ∷ []
 row_of HaltPush = passive_port (codes "inp") Push ∷ []
 row_of Continue = passive_port (codes "inp") Sync ∷ []
@@ -86,12 +97,32 @@ abbrev pub are_equal : List ℕ → Bool
 are_equal [] = true
 are_equal (n ∷ ns) = list_all (λ m. m == n) ns
 
--- the widths that the kind asks for
+-- a sync channel has width 0, and no channel is wider than the greatest width
+abbrev pub least_width : ChanKind → ℕ
+least_width Sync = 0
+least_width Push = 1
+least_width Pull = 1
+
+abbrev pub is_wide : Chan → Bool
+is_wide c = nat_le (least_width c.kind) c.width && nat_le c.width MAX_WIDTH
+
+abbrev pub widths : List Chan → List ℕ
+widths chans = map (λ c. c.width) chans
+
+-- the widths that the kind asks for; those of a CombineEqual's inputs, which are equal, add up to its output's
+abbrev pub asks_widths : Kind → List Chan → Bool
+asks_widths ForkPush chans = are_equal (widths chans)
+asks_widths While chans = width chans 2 == 1
+asks_widths Fetch chans = width chans 2 == width chans 3
+asks_widths Variable chans = are_equal (widths chans)
+asks_widths (Slice low) chans = nat_le (low + width chans 1) (width chans 2)
+asks_widths Combine chans = width chans 1 == width chans 2 + width chans 3
+asks_widths CombineEqual chans = are_equal (widths (drop 1 chans)) && (width chans 1 == length (drop 1 chans) * width chans 2)
+asks_widths Split chans = width chans 1 == width chans 2 + width chans 3
+asks_widths kind chans = true
+
 abbrev pub has_widths : Kind → List Chan → Bool
-has_widths Fetch chans = width chans 2 == width chans 3
-has_widths Variable chans = are_equal (map (λ c. c.width) chans)
-has_widths ForkPush chans = are_equal (map (λ c. c.width) chans)
-has_widths kind chans = true
+has_widths kind chans = list_all is_wide chans && asks_widths kind chans
 
 -- a component with arrays of these lengths, on these channels in port order, meets the row of its kind
 pub record MeetsRow (kind : Kind) (sizes : List ℕ) (chans : List Chan) : Type 0 where

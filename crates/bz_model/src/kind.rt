@@ -2,12 +2,16 @@
 
 ghost use Rattle.std.specs.Prelude.{◌≡◌, IfOk};
 
+use crate::channel::Value;
+use crate::expr::Operand;
+use crate::operation::{BinaryOp, UnaryOp};
 use std::alloc::{AllocError, Global};
 
 /// The most members that an array port has. The least is 1.
 pub const MAX_MEMBERS: u32 = 4096;
 
-/// The kinds of component. `specs/Rows.antt` has the ports of each, `specs/Processes.antt` what each does.
+/// The kinds of component, with their parameters. `specs/Rows.antt` has the ports of each, `specs/Processes.antt` what each
+/// does.
 #[derive(Debug, PartialEq, Eq, Drop)]
 pub enum Kind {
     Loop,
@@ -16,8 +20,34 @@ pub enum Kind {
     Concur,
     Fork,
     ForkPush,
+    While,
     Fetch,
     Variable,
+    /// A value, of which the bits that `out` carries are replied.
+    Constant(Value),
+    UnaryFunc {
+        op: UnaryOp,
+        signed: bool,
+    },
+    BinaryFunc {
+        op: BinaryOp,
+        left_signed: bool,
+        right_signed: bool,
+    },
+    /// As BinaryFunc, where B is given.
+    BinaryFuncConstR {
+        op: BinaryOp,
+        left_signed: bool,
+        right: Operand,
+    },
+    /// The bits of a value from this one on.
+    Slice(u128),
+    Combine,
+    CombineEqual,
+    Adapt {
+        signed: bool,
+    },
+    Split,
     Halt,
     HaltPush,
     Continue,
@@ -29,20 +59,49 @@ impl Kind {
     pub fn dup(&self, _alloc: Global) -> Result<Kind, AllocError>
         ensures { IfOk result (λ k. k ≡ self.now) }
     {
-        Ok(match self {
-            Kind::Loop => Kind::Loop,
-            Kind::Sequence => Kind::Sequence,
-            Kind::SequenceOptimised => Kind::SequenceOptimised,
-            Kind::Concur => Kind::Concur,
-            Kind::Fork => Kind::Fork,
-            Kind::ForkPush => Kind::ForkPush,
-            Kind::Fetch => Kind::Fetch,
-            Kind::Variable => Kind::Variable,
-            Kind::Halt => Kind::Halt,
-            Kind::HaltPush => Kind::HaltPush,
-            Kind::Continue => Kind::Continue,
-            Kind::ContinuePush => Kind::ContinuePush,
-        })
+        match self {
+            Kind::Loop => Ok(Kind::Loop),
+            Kind::Sequence => Ok(Kind::Sequence),
+            Kind::SequenceOptimised => Ok(Kind::SequenceOptimised),
+            Kind::Concur => Ok(Kind::Concur),
+            Kind::Fork => Ok(Kind::Fork),
+            Kind::ForkPush => Ok(Kind::ForkPush),
+            Kind::While => Ok(Kind::While),
+            Kind::Fetch => Ok(Kind::Fetch),
+            Kind::Variable => Ok(Kind::Variable),
+            Kind::Constant(value) => Ok(Kind::Constant(*value)),
+            Kind::UnaryFunc { op, signed } => Ok(Kind::UnaryFunc {
+                op: *op,
+                signed: *signed,
+            }),
+            Kind::BinaryFunc {
+                op,
+                left_signed,
+                right_signed,
+            } => Ok(Kind::BinaryFunc {
+                op: *op,
+                left_signed: *left_signed,
+                right_signed: *right_signed,
+            }),
+            Kind::BinaryFuncConstR {
+                op,
+                left_signed,
+                right,
+            } => Ok(Kind::BinaryFuncConstR {
+                op: *op,
+                left_signed: *left_signed,
+                right: *right,
+            }),
+            Kind::Slice(low) => Ok(Kind::Slice(*low)),
+            Kind::Combine => Ok(Kind::Combine),
+            Kind::CombineEqual => Ok(Kind::CombineEqual),
+            Kind::Adapt { signed } => Ok(Kind::Adapt { signed: *signed }),
+            Kind::Split => Ok(Kind::Split),
+            Kind::Halt => Ok(Kind::Halt),
+            Kind::HaltPush => Ok(Kind::HaltPush),
+            Kind::Continue => Ok(Kind::Continue),
+            Kind::ContinuePush => Ok(Kind::ContinuePush),
+        }
     }
 }
 

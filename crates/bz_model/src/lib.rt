@@ -8,12 +8,18 @@ mod event;
 mod expr;
 mod kind;
 mod names;
+mod operation;
 
 pub use channel::{Chan, ChanKind, MAX_WIDTH, Move, Phase, Value, carries, fits};
 pub use event::{Cmd, Entry, HostCmd, NetError, Reply, Verb, Who};
-pub use expr::Expr;
+pub use expr::{Expr, Operand, Source};
 pub use kind::{Kind, MAX_MEMBERS, Param};
 pub use names::{Names, Port, dup_ports, number_of, numbered};
+pub use operation::{BinaryOp, UnaryOp, low_bits};
 
+#[cfg(test)]
+mod operation_tests;
+#[cfg(test)]
+mod operation_values;
 #[cfg(test)]
 mod tests;

@@ -1,6 +1,5 @@
 use Rattle.std.proofs.Common.{sym}
 use Rattle.std.proofs.lemmas.Result.{err_from_is_err_and}
-use Rattle.bz_model.specs.Rows.{row_of}
 use Rattle.bz_elab.specs.declared.error.Fault.TheVariants as fault
 use Rattle.bz_elab.specs.Refusals.{IsChannel}
 use Rattle.bz_elab.proofs.Slots.{all_arranged}
@@ -26,18 +25,24 @@ returns-then-not-are_channels-clause-err c =
     let tells = rw (c.as_slice-3.ensures.value, named) at c.are_channels.ensures in
     leaf_fault c.args.channels.now c.args.component.now _ fault.BadChannel role (λ within. not_both _ (tells.1 within) c.if-not-are_channels.true)
 
+pub arranged-requires : goal.arranged-requires
+arranged-requires c =
+    let named = rw c.as_slice-entries.ensures.value at c.in_ok-named.ensures in
+    let tells = rw (c.as_slice-3.ensures.value, named) at c.are_channels.ensures in
+    rw c.as_slice-entries.ensures.value (tells.0 c.if-not-are_channels.false)
+
 pub carried-requires : goal.carried-requires
 carried-requires c =
     let entries = c.args.component.now.entries.items in
     let named = rw c.as_slice-entries.ensures.value at c.in_ok-named.ensures in
     let tells = rw (c.as_slice-3.ensures.value, named) at c.are_channels.ensures in
-    let chans = rw (c.as_slice-entries.ensures.value, c.port_table.ensures) at c.in_ok-chans.ensures in
-    rw (c.as_slice-4.ensures.value, chans) (all_arranged (IsChannel c.args.channels.now) (row_of c.in_ok-kind.kind) entries (tells.0 c.if-not-are_channels.false))
+    let chans = rw c.as_slice-entries.ensures.value at c.in_ok-chans.ensures in
+    rw (c.as_slice-4.ensures.value, chans) (all_arranged (IsChannel c.args.channels.now) c.in_ok-kind.kind c.args.channels.now entries (tells.0 c.if-not-are_channels.false))
 
 pub returns-then-not-kinds_are-clause-err : goal.returns-then-not-kinds_are-clause-err
 returns-then-not-kinds_are-clause-err c =
     let role = role_kind c.args.component.now c.in_ok-kind.kind (sym (rw (c.as_slice.ensures.value, c.as_slice-2.ensures.value) at c.in_ok-kind.ensures)) in
-    let chans = rw (c.as_slice-entries.ensures.value, c.port_table.ensures) at c.in_ok-chans.ensures in
+    let chans = rw c.as_slice-entries.ensures.value at c.in_ok-chans.ensures in
     let carried = rw (c.as_slice-4.ensures.value, chans) at c.in_ok-carried.ensures in
     let sizes = rw c.as_slice-entries.ensures.value at c.sizes_of-sizes.ensures in
     let tells = rw (c.as_slice-5.ensures.value, carried, sizes) at c.kinds_are.ensures in
@@ -46,7 +51,7 @@ returns-then-not-kinds_are-clause-err c =
 pub returns-then-not-widths_fit-clause-err : goal.returns-then-not-widths_fit-clause-err
 returns-then-not-widths_fit-clause-err c =
     let role = role_kind c.args.component.now c.in_ok-kind.kind (sym (rw (c.as_slice.ensures.value, c.as_slice-2.ensures.value) at c.in_ok-kind.ensures)) in
-    let chans = rw (c.as_slice-entries.ensures.value, c.port_table.ensures) at c.in_ok-chans.ensures in
+    let chans = rw c.as_slice-entries.ensures.value at c.in_ok-chans.ensures in
     let carried = rw (c.as_slice-4.ensures.value, chans) at c.in_ok-carried.ensures in
     let tells = rw (c.as_slice-6.ensures.value, carried) at c.widths_fit.ensures in
     leaf_fault c.args.channels.now c.args.component.now _ fault.WidthMismatch role (λ widths. not_both _ (tells.1 widths) c.if-not-widths_fit.true)
@@ -57,7 +62,7 @@ returns-clause-ok c =
     let fits = rw c.as_slice-entries.ensures.value at c.fits_ports.ensures in
     let named = rw c.as_slice-entries.ensures.value at c.in_ok-named.ensures in
     let within = rw (c.as_slice-3.ensures.value, named) at c.are_channels.ensures in
-    let chans = rw (c.as_slice-entries.ensures.value, c.port_table.ensures) at c.in_ok-chans.ensures in
+    let chans = rw c.as_slice-entries.ensures.value at c.in_ok-chans.ensures in
     let carried = rw (c.as_slice-4.ensures.value, chans) at c.in_ok-carried.ensures in
     let sizes = rw c.as_slice-entries.ensures.value at c.sizes_of-sizes.ensures in
     let kinds = rw (c.as_slice-5.ensures.value, carried, sizes) at c.kinds_are.ensures in

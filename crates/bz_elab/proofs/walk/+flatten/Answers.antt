@@ -4,7 +4,7 @@ use Rattle.std.proofs.lemmas.Option.{slice_get_read}
 use Rattle.std.proofs.lemmas.Result.{err_from_is_err_and}
 use Rattle.std.specs.List.{flat_map}
 use Rattle.bz_breeze.specs.declared.part.Component.{Component}
-use Rattle.bz_elab.specs.Paths.{Role, each_from, visit, walk, own_places}
+use Rattle.bz_elab.specs.Paths.{Role, chans_of_copy, each_from, visit, walk, own_places}
 use Rattle.bz_elab.specs.Growth.{Counts, IsSound}
 use Rattle.bz_elab.proofs.Counting.{counts_step, counts_leaf_step, counts_copy_step, leaf_ends}
 use Rattle.bz_elab.proofs.Growing.{flatten_step, leaf_step, copy_step, copies_grow, length_grown, component_at, actuals_count}
@@ -78,7 +78,7 @@ loop-place-preserved t c =
                 let stops = each_from 1 (visit parts path (walk parts c.args.depth)) (take i items) in
                 let n2 = copies_grow parts top before (flat_map own_places stops) path c.args.chans.now n in
                 flatten_step parts top path before c.args.depth i items x old _ new c.component-item.is lt so_far
-                (leaf_step parts top path (before ++ flat_map own_places stops) c.args.depth (suc i) part.channels.items c.args.chans.now x added.named added.added _ new none n2 added.flat added.actuals
+                (leaf_step parts top path (before ++ flat_map own_places stops) c.args.depth (suc i) part.channels.items c.args.chans.now x added.named added.added _ new none (ap chans_of_copy at) n2 added.flat added.actuals
                 added.kind_is added.sizes_are added.chans_are added.comps_are);
             counts = λ path. counts_step parts path c.args.depth i items x old _ new lt c.component-item.is (inv.counts path)
                 (counts_leaf_step parts path c.args.depth (suc i) x added.added _ new none ends added.chans_are added.comps_are added.ends_are);

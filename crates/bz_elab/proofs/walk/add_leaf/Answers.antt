@@ -13,7 +13,7 @@ pub actuals-requires : goal.actuals-requires
 actuals-requires c =
     let flat = c.in-Ok.ensures.ok in
     rw (c.as_slice.ensures.value, flat.chans_are, c.requires.chans)
-    (all_arranged (IsChannel c.args.own.now) (row_of c.in-Ok.named.kind) c.args.component.now.entries.items flat.sound.within)
+    (all_arranged (IsChannel c.args.own.now) c.in-Ok.named.kind c.args.own.now c.args.component.now.entries.items flat.sound.within)
 
 pub returns-in_ok-chans-in-Ok-clause-ok : goal.returns-in_ok-chans-in-Ok-clause-ok
 returns-in_ok-chans-in-Ok-clause-ok c =

@@ -2,10 +2,10 @@ use Rattle.bz_kinds.proofs.PlanLaws.{turn-step, whole-step, script-step}
 use Rattle.bz_kinds.proofs.comp.advance.Goals as goal
 
 pub returns-in-InTurn : goal.returns-in-InTurn
-returns-in-InTurn c = turn-step _ _ c.in-InTurn.is _ _ _ _ _ _ (c.step.ensures c.in-InTurn.field-0)
+returns-in-InTurn c = turn-step _ _ c.in-InTurn.is _ _ _ _ _ _ _ (c.step.ensures c.in-InTurn.field-0)
 
 pub returns-in-Together : goal.returns-in-Together
-returns-in-Together c = whole-step _ _ c.in-Together.is _ _ _ _ _ _ (c.step-in-Together.ensures c.in-Together.field-0)
+returns-in-Together c = whole-step _ _ c.in-Together.is _ _ _ _ _ _ _ (c.step-in-Together.ensures c.in-Together.field-0)
 
 pub returns-in-OneByOne : goal.returns-in-OneByOne
-returns-in-OneByOne c = script-step _ _ c.in-OneByOne.is _ _ _ _ _ _ c.step-in-OneByOne.ensures
+returns-in-OneByOne c = script-step _ _ c.in-OneByOne.is _ _ _ _ _ _ _ c.step-in-OneByOne.ensures

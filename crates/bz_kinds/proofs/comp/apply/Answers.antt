@@ -1,12 +1,14 @@
-use Rattle.std.proofs.Common.{◌≡◌, ◌∙◌, ap, sym, subst, List, ℕ, length, Some, get_or, IsTrue}
+use Rattle.std.proofs.Common.{◌≡◌, ◌∙◌, ap, sym, subst, refl, List, ℕ, length, Some, get_or, IsTrue}
+use Rattle.std.specs.Vec.{with_items}
 use Rattle.std.proofs.lemmas.List.{with_items_is}
-use Rattle.bz_model.specs.Heads.{carried}
+use Rattle.bz_model.specs.Heads.{carried, Component}
 use Rattle.bz_model.specs.Terms.{stored}
 use Rattle.bz_model.specs.Phases.{may_move}
+use Rattle.bz_model.proofs.Fitting.{fits-move}
 use Rattle.bz_kinds.specs.declared.row.Due.{Due}
 use Rattle.bz_kinds.specs.Row.{due_of}
-use Rattle.bz_kinds.specs.Comp.{plan_due}
-use Rattle.bz_kinds.proofs.PlanLaws.{head-on-due, moves, turns}
+use Rattle.bz_kinds.specs.Comp.{plan_due, Goes}
+use Rattle.bz_kinds.proofs.PlanLaws.{head-on-due, moves, turns, due-narrow, still-at, still-sends}
 use Rattle.bz_kinds.proofs.comp.apply.Goals as goal
 
 pub unreachable-requires : goal.unreachable-requires
@@ -14,6 +16,16 @@ unreachable-requires c =
     let (h, on, ok) = c.requires in
     let due = head-on-due _ _ _ _ _ _ _ c.comp.view_is c.comp.invariant.0 c.args.port h on in
     cc
+
+pub carried-value-requires : goal.carried-value-requires
+carried-value-requires c =
+    let found : plan_due c.comp.inside.plan c.args.port (get_or c.comp.inside.ports c.args.port 0) ≡ Some c.in-Some.due = cc in
+    let (at, small, (bits, sends)) = c.comp.invariant in
+    due-narrow _ _ _ _ _ _ bits at sends c.args.port c.in-Some.due found
+
+-- the ports follow the move, where the values are those kept
+goes : (c : goal.After-advance) → Goes c.comp.inside.plan c.comp.inside.size c.comp.inside.left c.comp.inside.ports c.args.port c.advance.new.left c.advance.new.ports (with_items c.comp.inside.slots c.store.new.slots).items
+goes c = subst (λ (s : List ℕ). Goes c.comp.inside.plan c.comp.inside.size c.comp.inside.left c.comp.inside.ports c.args.port c.advance.new.left c.advance.new.ports s) c.deref-2.ensures.value c.advance.ensures
 
 pub returns-clause-moves : goal.returns-clause-moves
 returns-clause-moves c =
@@ -26,9 +38,18 @@ returns-clause-moves c =
     moves _ _ _ _ _ _ _ c.comp.view_is c.comp.invariant.0 c.args.port c.args.phase c.in-Some.due _ _ _ _ _ found may c.incoming-incoming.ensures
     (c.carried-value.ensures ∙ ap (λ (s : List ℕ). carried c.in-Some.due.mv c.in-Some.due.gives s c.incoming-incoming.result) c.deref.ensures.value)
     (with_items_is c.comp.inside.slots c.store.new.slots long ∙ c.store.ensures ∙ ap (λ (s : List ℕ). stored c.in-Some.due.into c.incoming-incoming.result s) c.deref_mut.ensures.value)
-    c.advance.ensures
+    (goes c)
 
 pub returns-clause-turns : goal.returns-clause-turns
 returns-clause-turns c =
     let found : plan_due c.comp.inside.plan c.args.port (get_or c.comp.inside.ports c.args.port 0) ≡ Some c.in-Some.due = cc in
-    turns _ _ _ _ _ _ _ c.comp.view_is c.comp.invariant.0 c.args.port c.in-Some.due _ _ _ found c.advance.ensures
+    turns _ _ _ _ _ _ _ c.comp.view_is c.comp.invariant.0 c.args.port c.in-Some.due _ _ _ found (goes c)
+
+pub returns-clause-fits : goal.returns-clause-fits
+returns-clause-fits c fitted came = fits-move c.args.comp.now _ c.args.port c.args.phase c.in-Some.due.mv _ (ap (λ (v : Component). v.chans) c.comp.view_is) (returns-clause-moves c) came fitted
+
+pub invariant_of-comp : goal.invariant_of-comp
+invariant_of-comp c =
+    let found : plan_due c.comp.inside.plan c.args.port (get_or c.comp.inside.ports c.args.port 0) ≡ Some c.in-Some.due = cc in
+    let (at, small, (bits, sends)) = c.comp.invariant in
+    ((goes c).place, small, (bits, still-sends _ _ _ _ _ _ bits at sends c.args.port c.in-Some.due _ _ _ found (goes c)))

@@ -1,0 +1,211 @@
+-- Of each kind: what its process sends fits, on channels that meet its row.
+use Rattle.std.proofs.Common.{◌≡◌, ℕ, zero, suc, ◌+◌, ◌*◌, ◌%◌, ◌/◌, ◌<◌, ◌≤◌, ◌^◌, Bool, true, false, IsTrue, ◌&&◌, ◌++◌, List, [], ◌∷◌, length, map, drop, replicate, get_or, refl, ap, sym, ◌∙◌, subst, arith}
+use Rattle.std.specs.Prelude.{slice_index_or, nat_le, ◌==◌, ◌-◌, codes}
+use Rattle.std.specs.List.{list_all}
+use Rattle.std.proofs.lemmas.Bool.{leb-true}
+use Rattle.std.proofs.lemmas.List.{length-map, length-drop}
+use Rattle.std.proofs.lemmas.Nat.{pow_pos}
+use Rattle.std.proofs.Math.Nat.{mod-lt}
+use Rattle.bz_model.specs.declared.channel.Chan.{Chan}
+use Rattle.bz_model.specs.declared.channel.ChanKind.{ChanKind}
+use Rattle.bz_model.specs.declared.channel.ChanKind.TheVariants.{Sync, Push, Pull}
+use Rattle.bz_model.specs.declared.kind.Kind.{Kind}
+use Rattle.bz_model.specs.declared.kind.Kind.TheVariants.{Loop, Sequence, SequenceOptimised, Concur, Fork, ForkPush, While, Fetch, Variable, Constant, UnaryFunc, BinaryFunc, BinaryFuncConstR, Slice, Combine, CombineEqual, Adapt, Split, Halt, HaltPush, Continue, ContinuePush}
+use Rattle.bz_model.specs.declared.expr.Expr.{Expr}
+use Rattle.bz_model.specs.declared.expr.Expr.TheVariants.{Slot, Unary, Binary, Bits}
+use Rattle.bz_model.specs.declared.expr.Operand.{Operand}
+use Rattle.bz_model.specs.declared.operation.UnaryOp.{UnaryOp}
+use Rattle.bz_model.specs.declared.operation.BinaryOp.{BinaryOp}
+use Rattle.bz_model.specs.Operations.{joined}
+use Rattle.bz_model.specs.declared.operation.UnaryOp.TheVariants.{Extend}
+use Rattle.bz_model.specs.Terms.{Store, extended, Term, all, in_turn, forever, done}
+use Rattle.bz_model.specs.Rows.{PortRow, active_array, passive_array, row_of, ports_of, first_size, width, widths, are_equal, is_wide, least_width, asks_widths, has_widths, MeetsRow}
+use Rattle.bz_model.specs.Processes.{process, size, member, operand, enclosed, call, pull, push}
+use Rattle.bz_model.specs.Widths.{FitsAt, GivesAt, TakesAt, Sends}
+use Rattle.bz_model.proofs.Fitting.{nothing, sends-all, sends-turns}
+use Rattle.bz_model.proofs.Bounds.{unary-fits, binary-fits}
+use Rattle.bz_model.proofs.Residues.{beside-fits, joined-fits}
+
+pub both-true : (a b : Bool) → IsTrue (a && b) → IsTrue a × IsTrue b
+both-true true true e = (e, e)
+both-true true false e = absurd (cc)
+both-true false b e = absurd (cc)
+
+-- the widths of channels that meet a row
+pub widest : (chans : List Chan) (p : ℕ) → IsTrue (list_all is_wide chans) → width chans p ≤ 64
+widest chans zero e = omega arith
+widest [] (suc i) e = omega arith
+widest (c ∷ cs) (suc zero) e = leb-true c.width 64 (both-true (nat_le (least_width c.kind) c.width) (nat_le c.width 64) (both-true (is_wide c) (list_all is_wide cs) e).0).1
+widest (c ∷ cs) (suc (suc i)) e = widest cs (suc i) (both-true (is_wide c) (list_all is_wide cs) e).1
+
+pub least : (chans : List Chan) (ks : List ChanKind) → IsTrue (list_all is_wide chans) → map (λ c. c.kind) chans ≡ Pull ∷ ks → 0 < width chans 1
+least [] ks e k = absurd (cc)
+least (c ∷ cs) ks e k =
+    let pulls : c.kind ≡ Pull = ap (λ ks. slice_index_or ks 0 Sync) k in
+    let one = leb-true (least_width c.kind) c.width (both-true (nat_le (least_width c.kind) c.width) (nat_le c.width 64) (both-true (is_wide c) (list_all is_wide cs) e).0).0 in
+    let up : least_width c.kind ≡ 1 = ap least_width pulls in
+    omega arith
+
+eq-true : (a b : ℕ) → IsTrue (a == b) → a ≡ b
+eq-true a b e = grind (arith)
+
+all-are : (chans : List Chan) (w i : ℕ) → IsTrue (list_all (λ m. m == w) (widths chans)) → i < length chans → width chans (suc i) ≡ w
+all-are [] w i e lt = absurd (omega arith)
+all-are (c ∷ cs) w zero e lt = eq-true c.width w (both-true (c.width == w) (list_all (λ m. m == w) (widths cs)) e).0
+all-are (c ∷ cs) w (suc i) e lt = all-are cs w i (both-true (c.width == w) (list_all (λ m. m == w) (widths cs)) e).1 (omega arith)
+
+pub equal : (chans : List Chan) (i : ℕ) → IsTrue (are_equal (widths chans)) → i < length chans → width chans (suc i) ≡ width chans 1
+equal [] i e lt = absurd (omega arith)
+equal (c ∷ cs) zero e lt = refl
+equal (c ∷ cs) (suc i) e lt = all-are cs c.width i e (omega arith)
+
+length-array : (n : ℕ) (r : PortRow) → length (replicate n r ++ []) ≡ n
+length-array zero r = refl
+length-array (suc n) r = ap suc (length-array n r)
+
+size-first : (sizes : List ℕ) → size sizes ≡ first_size sizes
+size-first [] = refl
+size-first (n ∷ ns) = refl
+
+count : (kind : Kind) (sizes : List ℕ) (chans : List Chan) → MeetsRow kind sizes chans → length chans ≡ length (ports_of (row_of kind) sizes)
+count kind sizes chans meets = sym (length-map chans (λ c. c.kind)) ∙ ap length meets.kinds_are ∙ length-map (ports_of (row_of kind) sizes) (λ r. r.kind)
+
+module _ (chans : List Chan) (w : ℕ) where
+  apart : (p x : ℕ) → TakesAt chans w p (suc x)
+  apart p x e = absurd (omega arith)
+
+  calls : (p : ℕ) → Sends chans w (call p)
+  calls p = (nothing chans w p, apart p 0)
+
+  pulls : (p x : ℕ) → width chans p ≤ w → Sends chans w (pull p x)
+  pulls p x le = (nothing chans w p, λ e. le)
+
+  pushes : (p : ℕ) (e : Expr) → GivesAt chans w p e → Sends chans w (push p e)
+  pushes p e g = (g, apart p 0)
+
+  -- slot 0 is sent as it is
+  sent : (p : ℕ) → w ≡ width chans p → GivesAt chans w p (Slot 0)
+  sent p e = (tt, λ s lt. subst (λ w. get_or s 0 0 < 2 ^ w) e lt)
+
+module _ (sizes : List ℕ) (chans : List Chan) where
+  abbrev Fits : Kind → Type 0
+  Fits kind = MeetsRow kind sizes chans → (w : ℕ) × Sends chans w (process kind sizes chans)
+
+  wide : (kind : Kind) → MeetsRow kind sizes chans → IsTrue (list_all is_wide chans)
+  wide kind meets = (both-true (list_all is_wide chans) (asks_widths kind chans) meets.widths_fit).0
+
+  asked : (kind : Kind) → MeetsRow kind sizes chans → IsTrue (asks_widths kind chans)
+  asked kind meets = (both-true (list_all is_wide chans) (asks_widths kind chans) meets.widths_fit).1
+
+  loops : Fits Loop
+  loops meets = (0, (apart chans 0 1 0, calls chans 0 2))
+
+  sequences : Fits Sequence
+  sequences meets = (0, (apart chans 0 1 0, (sends-turns chans 0 0 (size sizes) (λ i. call (member i)) (λ i. calls chans 0 (member i)), nothing chans 0 1)))
+
+  concurs : Fits Concur
+  concurs meets = (0, (apart chans 0 1 0, (sends-all chans 0 (size sizes) (λ i. call (member i)) (λ i lt. calls chans 0 (member i)), nothing chans 0 1)))
+
+  fork_pushes : Fits ForkPush
+  fork_pushes meets =
+      let w = width chans 1 in
+      let n : length chans ≡ suc (size sizes) = count ForkPush sizes chans meets ∙ ap suc (length-array (first_size sizes) (active_array (codes "out") Push) ∙ sym (size-first sizes)) in
+      let same : (i : ℕ) → i < size sizes → w ≡ width chans (member i) = λ i lt. sym (equal chans (suc i) (asked ForkPush meets) (omega arith)) in
+      (w, ((λ e. omega arith), (sends-all chans w (size sizes) (λ i. push (member i) (Slot 0)) (λ i lt. pushes chans w (member i) (Slot 0) (sent chans w (member i) (same i lt))), nothing chans w 1)))
+
+  whiles : Fits While
+  whiles meets = let w = width chans 2 in (w, (apart chans w 1 0, (((λ e. omega arith), calls chans w 3), nothing chans w 1)))
+
+  fetches : Fits Fetch
+  fetches meets =
+      let w = width chans 2 in
+      let same : w ≡ width chans 3 = eq-true (width chans 2) (width chans 3) (asked Fetch meets) in
+      (w, (apart chans w 1 0, ((pulls chans w 2 0 (omega arith), (pushes chans w 3 (Slot 0) (sent chans w 3 same), tt)), nothing chans w 1)))
+
+  variables : Fits Variable
+  variables meets =
+      let w = width chans 1 in
+      let n : length chans ≡ suc (size sizes) = count Variable sizes chans meets ∙ ap suc (length-array (first_size sizes) (passive_array (codes "read") Pull) ∙ sym (size-first sizes)) in
+      let same : (i : ℕ) → i < size sizes → w ≡ width chans (member i) = λ i lt. sym (equal chans (suc i) (asked Variable meets) (omega arith)) in
+      (w, (((λ e. omega arith), (tt, nothing chans w 1)), sends-all chans w (size sizes) (λ i. forever (enclosed (member i) 1 done (Slot 0))) (λ i lt. (apart chans w (member i) 0, (tt, sent chans w (member i) (same i lt))))))
+
+  constants : (v : ℕ) → Fits (Constant v)
+  constants v meets = (0, (apart chans 0 1 0, (tt, (tt, λ s lt. mod-lt v (pow_pos (width chans 1))))))
+
+  -- one pull, and an answer that fits whatever is kept
+  answers : (kind : Kind) (e : Expr) → MeetsRow kind sizes chans → GivesAt chans 64 1 e → TakesAt chans 64 1 1 × ((Sends chans 64 (pull 2 0) × Unit {0}) × GivesAt chans 64 1 e)
+  answers kind e meets gives = (apart chans 64 1 0, ((pulls chans 64 2 0 (widest chans 2 (wide kind meets)), tt), gives))
+
+  unaries : (kind : Kind) (op : UnaryOp) (a : Operand) → MeetsRow kind sizes chans → GivesAt chans 64 1 (Unary op a (width chans 1))
+  unaries kind op a meets = (widest chans 1 (wide kind meets), λ s lt. unary-fits op (width chans 1) (extended s a))
+
+  binaries : (kind : Kind) (op : BinaryOp) (a b : Operand) (ks : List ChanKind) → MeetsRow kind sizes chans → map (λ c. c.kind) chans ≡ Pull ∷ ks → GivesAt chans 64 1 (Binary op a b (width chans 1))
+  binaries kind op a b ks meets pulled = (widest chans 1 (wide kind meets), λ s lt. binary-fits op (width chans 1) (extended s a) (extended s b) (least chans ks (wide kind meets) pulled))
+
+  binary_funcs : (op : BinaryOp) (left right : Bool) → Fits (BinaryFunc op left right)
+  binary_funcs op left right meets =
+      let k = wide (BinaryFunc op left right) meets in
+      (64, (apart chans 64 1 0, ((pulls chans 64 2 0 (widest chans 2 k), (pulls chans 64 3 1 (widest chans 3 k), tt)), binaries (BinaryFunc op left right) op (operand chans 2 0 left) (operand chans 3 1 right) (Pull ∷ Pull ∷ []) meets meets.kinds_are)))
+
+  slices : (low : ℕ) → Fits (Slice low)
+  slices low meets = (64, answers (Slice low) (Bits 0 low (width chans 1)) meets (tt, λ s lt. mod-lt (get_or s 0 0 / 2 ^ low) (pow_pos (width chans 1))))
+
+  combines : Fits Combine
+  combines meets =
+      let k = wide Combine meets in
+      let low = width chans 2 in
+      let high = width chans 3 in
+      let sum : width chans 1 ≡ width chans 2 + width chans 3 = eq-true (width chans 1) (width chans 2 + width chans 3) (asked Combine meets) in
+      let most = widest chans 1 k in
+      let turned : high + low ≡ width chans 1 = omega arith in
+      let fits : (s : Store) → get_or s 0 0 % 2 ^ low + get_or s 1 0 % 2 ^ high * 2 ^ low < 2 ^ width chans 1 = λ s. subst (λ w. get_or s 0 0 % 2 ^ low + get_or s 1 0 % 2 ^ high * 2 ^ low < 2 ^ w) turned (beside-fits (get_or s 0 0 % 2 ^ low) (get_or s 1 0 % 2 ^ high) low high (mod-lt (get_or s 0 0) (pow_pos low)) (mod-lt (get_or s 1 0) (pow_pos high))) in
+      (64, (apart chans 64 1 0, ((pulls chans 64 2 0 (widest chans 2 k), (pulls chans 64 3 1 (widest chans 3 k), tt)), (omega arith, λ s lt. fits s))))
+
+  combine_equals : Fits CombineEqual
+  combine_equals meets =
+      let k = wide CombineEqual meets in
+      let m : length chans ≡ suc (size sizes) = count CombineEqual sizes chans meets ∙ ap suc (length-array (first_size sizes) (active_array (codes "inp") Pull) ∙ sym (size-first sizes)) in
+      let n : length (drop 1 chans) ≡ size sizes = length-drop 1 chans ∙ (let d : length chans - 1 ≡ size sizes = omega arith in d) in
+      let sum : width chans 1 ≡ length (drop 1 chans) * width chans 2 = eq-true (width chans 1) (length (drop 1 chans) * width chans 2) (both-true (are_equal (widths (drop 1 chans))) (width chans 1 == length (drop 1 chans) * width chans 2) (asked CombineEqual meets)).1 in
+      let all_is : width chans 1 ≡ size sizes * width chans 2 = sum ∙ ap (λ n. n * width chans 2) n in
+      let most = widest chans 1 k in
+      let fits : (s : Store) → joined (size sizes) (width chans 2) s < 2 ^ width chans 1 = λ s. subst (λ w. joined (size sizes) (width chans 2) s < 2 ^ w) (sym all_is) (joined-fits (size sizes) (width chans 2) s) in
+      (64, (apart chans 64 1 0, (sends-all chans 64 (size sizes) (λ i. pull (member i) i) (λ i lt. pulls chans 64 (member i) i (widest chans (member i) k)), (omega arith, λ s lt. fits s))))
+
+  splits : Fits Split
+  splits meets =
+      let k = wide Split meets in
+      let low : GivesAt chans 64 2 (Bits 0 0 (width chans 2)) = (tt, λ s lt. mod-lt (get_or s 0 0 / 2 ^ 0) (pow_pos (width chans 2))) in
+      let high : GivesAt chans 64 3 (Bits 0 (width chans 2) (width chans 3)) = (tt, λ s lt. mod-lt (get_or s 0 0 / 2 ^ width chans 2) (pow_pos (width chans 3))) in
+      (64, ((λ e. widest chans 1 k), ((pushes chans 64 2 (Bits 0 0 (width chans 2)) low, (pushes chans 64 3 (Bits 0 (width chans 2) (width chans 3)) high, tt)), nothing chans 64 1)))
+
+-- on channels that meet the kind's row, all that the process sends fits
+pub starts-fit : (kind : Kind) (sizes : List ℕ) (chans : List Chan) → MeetsRow kind sizes chans → (w : ℕ) × Sends chans w (process kind sizes chans)
+starts-fit Loop sizes chans meets = loops sizes chans meets
+starts-fit Sequence sizes chans meets = sequences sizes chans meets
+starts-fit SequenceOptimised sizes chans meets = sequences sizes chans (record { sizes_fit = meets.sizes_fit; kinds_are = meets.kinds_are; widths_fit = meets.widths_fit })
+starts-fit Concur sizes chans meets = concurs sizes chans meets
+starts-fit Fork sizes chans meets = (0, (apart chans 0 1 0, (sends-all chans 0 (size sizes) (λ i. call (member i)) (λ i lt. calls chans 0 (member i)), nothing chans 0 1)))
+starts-fit ForkPush sizes chans meets = fork_pushes sizes chans meets
+starts-fit While sizes chans meets = whiles sizes chans meets
+starts-fit Fetch sizes chans meets = fetches sizes chans meets
+starts-fit Variable sizes chans meets = variables sizes chans meets
+starts-fit (Constant v) sizes chans meets = constants sizes chans v meets
+starts-fit (UnaryFunc op signed) sizes chans meets =
+    let a = operand chans 2 0 signed in
+    (64, answers sizes chans (UnaryFunc op signed) (Unary op a (width chans 1)) meets (unaries sizes chans (UnaryFunc op signed) op a meets))
+starts-fit (BinaryFunc op left right) sizes chans meets = binary_funcs sizes chans op left right meets
+starts-fit (BinaryFuncConstR op left right) sizes chans meets =
+    let a = operand chans 2 0 left in
+    (64, answers sizes chans (BinaryFuncConstR op left right) (Binary op a right (width chans 1)) meets (binaries sizes chans (BinaryFuncConstR op left right) op a right (Pull ∷ []) meets meets.kinds_are))
+starts-fit (Slice low) sizes chans meets = slices sizes chans low meets
+starts-fit Combine sizes chans meets = combines sizes chans meets
+starts-fit CombineEqual sizes chans meets = combine_equals sizes chans meets
+starts-fit (Adapt signed) sizes chans meets =
+    let a = operand chans 2 0 signed in
+    (64, answers sizes chans (Adapt signed) (Unary Extend a (width chans 1)) meets (unaries sizes chans (Adapt signed) Extend a meets))
+starts-fit Split sizes chans meets = splits sizes chans meets
+starts-fit Halt sizes chans meets = (0, (apart chans 0 1 0, tt))
+starts-fit HaltPush sizes chans meets = (width chans 1, ((λ e. omega arith), tt))
+starts-fit Continue sizes chans meets = (0, (apart chans 0 1 0, (tt, nothing chans 0 1)))
+starts-fit ContinuePush sizes chans meets = (width chans 1, ((λ e. omega arith), (tt, nothing chans (width chans 1) 1)))
