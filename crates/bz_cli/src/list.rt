@@ -33,12 +33,7 @@ pub fn list_cmd<R: Read, W: Write>(
 }
 
 // Lists the net of a part of the text.
-fn list_net<W: Write>(
-    alloc: Global,
-    part: &[u8],
-    text: &[u8],
-    output: &mut W,
-) -> Result<(), Fault>
+fn list_net<W: Write>(alloc: Global, part: &[u8], text: &[u8], output: &mut W) -> Result<(), Fault>
     ensures { ListsText text.now part.now (W.contents output.old) (W.contents output.new) result }
 {
     let flat = match flat_of(alloc, part, text) {

@@ -16,11 +16,7 @@ use bz_trace::{Part, WriteFault, put_parts};
 use std::io::Write;
 
 /// Writes the text of a net, under the name of its part. It takes no memory.
-pub(crate) fn write_list<W: Write>(
-    out: &mut W,
-    name: &[u8],
-    flat: Flat,
-) -> Result<(), WriteFault>
+pub(crate) fn write_list<W: Write>(out: &mut W, name: &[u8], flat: Flat) -> Result<(), WriteFault>
     ensures { Writes (W.contents out.old) (W.contents out.new) result
         (list_text name.now flat.wiring) }
 {
@@ -82,12 +78,7 @@ fn chan_at(chans: &[Chan], place: usize) -> Chan
     }
 }
 
-fn put_port<W: Write>(
-    out: &mut W,
-    place: usize,
-    port: &Port,
-    chan: Chan,
-) -> Result<(), WriteFault>
+fn put_port<W: Write>(out: &mut W, place: usize, port: &Port, chan: Chan) -> Result<(), WriteFault>
     requires { place < 2 ^ 63 }
     ensures { Writes (W.contents out.old) (W.contents out.new) result
         (port_line (place + 1) (external port.now) chan) }
