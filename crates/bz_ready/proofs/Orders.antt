@@ -1,8 +1,9 @@
 -- An order of numbers, and the exchange of two of them.
-use Rattle.std.proofs.Common.{◌≡◌, ℕ, ◌+◌, ◌<◌, ◌^◌, List, length, get_or, refl, sym, ap, ◌∙◌, subst, arith, inl, inr}
+use Rattle.std.proofs.Common.{◌≡◌, ℕ, ◌+◌, ◌<◌, ◌^◌, List, [], ◌∷◌, ◌++◌, length, get_or, set, refl, sym, ap, ◌∙◌, subst, arith, inl, inr}
 use Rattle.std.proofs.lemmas.Bool.{cases_eq}
+use Rattle.std.proofs.lemmas.List.{get_or_default, map-id}
 use Rattle.std.proofs.lemmas.List.Edits.{Swapped, swapped_from_swap, length-swap}
-use Rattle.std.proofs.lemmas.List.FromFn.{length-range_with_len, get_or-range_with_len}
+use Rattle.std.proofs.lemmas.List.FromFn.{length-range_with_len, get_or-range_with_len, map-range_with_len_more}
 use Rattle.std.specs.List.{swap, range_with_len}
 use Rattle.bz_ready.specs.Order.{IsOrder, IsEach}
 
@@ -59,6 +60,19 @@ module _ (f g h k : ℕ → ℕ) (n a b : ℕ) (al : a < n) (bl : b < n)
           | inr y ↦ subst P (sym (s.2 i x y)) (number_in i lt)
         ]
       ]
+
+-- one number more
+pub counted_more : (k : ℕ) (ns all : List ℕ) → all ≡ ns ++ k ∷ [] → ns ≡ range_with_len 0 k → all ≡ range_with_len 0 (k + 1)
+counted_more k ns all e f =
+    let id = λ (x : ℕ). x in let more = map-range_with_len_more id 0 k k (let z : 0 + k ≡ k = omega arith in z) in
+    e ∙ ap (λ (l : List ℕ). l ++ k ∷ []) (f ∙ sym (map-id (range_with_len 0 k))) ∙ sym more ∙ map-id (range_with_len 0 (k + 1))
+
+-- an exchange, written as two writes
+pub swap_is : (ns : List ℕ) (i j d : ℕ) → i < length ns → j < length ns → set (set ns i (get_or ns j d)) j (get_or ns i d) ≡ swap ns i j
+swap_is [] i j d il jl = absurd (omega arith)
+swap_is (e ∷ ns) i j d il jl =
+    let xs = e ∷ ns in
+    ap (λ (n : ℕ). set (set xs i n) j (get_or xs i d)) (get_or_default xs j d e jl) ∙ ap (λ (n : ℕ). set (set xs i (get_or xs j e)) j n) (get_or_default xs i d e il)
 
 pub order_swapped : (o p : List ℕ) (a b x y : ℕ) → IsOrder o p → a < length o → b < length o → x ≡ get_or o a 0 → y ≡ get_or o b 0 → IsOrder (swap o a b) (swap p x y)
 order_swapped o p a b x y is al bl xe ye =

@@ -1,7 +1,8 @@
-//! The numbers below a limit in some order, and the place of each.
+//! The numbers below a limit in some order, and for each a node with its place.
 ghost use Rattle.std.specs.Prelude.{◌≡◌, ◌<◌, ◌≤◌, ◌^◌, length, slice_index, IfOk};
 ghost use Rattle.std.specs.List.{swap, range_with_len};
 
+use bz_arena::{Arena, Id};
 use std::alloc::{AllocError, Allocator};
 use std::marker::Model;
 
@@ -9,7 +10,7 @@ use std::marker::Model;
 #[derive(Drop)]
 pub struct Order<A: Allocator + Copy> {
     numbers: Vec<u32, A>,
-    places: Vec<u32, A>,
+    places: Arena<u32, A>,
 }
 
 impl<A: Allocator + Copy> Model for Order<A> {
@@ -20,7 +21,7 @@ impl<A: Allocator + Copy> Model for Order<A> {
 
     ghost view = { λ o. o.numbers.items };
 
-    ghost invariant = { λ o. IsOrder o.numbers.items o.places.items };
+    ghost invariant = { λ o. IsOrder o.numbers.items o.places };
 }
 
 impl<A: Allocator + Copy> Order<A> {
@@ -32,7 +33,7 @@ impl<A: Allocator + Copy> Order<A> {
         ensures each { IfOk result IsEach }
     {
         let numbers = counted(alloc, limit)?;
-        let places = counted(alloc, limit)?;
+        let places = nodes(alloc, limit)?;
         Ok(Order { numbers, places })
     }
 
@@ -51,7 +52,7 @@ impl<A: Allocator + Copy> Order<A> {
         ensures held { result < length self.now }
         ensures value { slice_index self.now result ≡ number }
     {
-        self.places[number as usize] as usize
+        *self.places.get(Id::at(number as usize)) as usize
     }
 
     /// Exchanges the numbers at two places.
@@ -63,8 +64,11 @@ impl<A: Allocator + Copy> Order<A> {
     {
         let x = self.numbers[a];
         let y = self.numbers[b];
+        if a == b {
+            return;
+        }
         self.numbers.swap(a, b);
-        self.places.swap(x as usize, y as usize);
+        self.places.swap(Id::at(x as usize), Id::at(y as usize));
     }
 }
 
@@ -77,4 +81,18 @@ fn counted<A: Allocator>(alloc: A, limit: u32) -> Result<Vec<u32, A>, AllocError
         numbers.push(number)?;
     }
     Ok(numbers)
+}
+
+// A node for each number below `limit`, which has that number.
+fn nodes<A: Allocator + Copy>(alloc: A, limit: u32) -> Result<Arena<u32, A>, AllocError>
+    ensures { IfOk result (λ nodes. nodes ≡ range_with_len 0 limit) }
+{
+    let mut nodes = Arena::new(alloc);
+    for number in 0..limit {
+        match nodes.push(number) {
+            Ok(_) => {}
+            Err(_) => return Err(AllocError),
+        }
+    }
+    Ok(nodes)
 }

@@ -1,0 +1,3 @@
+pub mod Ends
+pub mod Joined
+pub mod Pairs

@@ -1,0 +1,178 @@
+//! A block with room for 256 nodes, of which the first are there.
+ghost use Rattle.std.specs.Prelude.{◌≡◌, ◌≢◌, ◌<◌, ◌≤◌, ◌%◌, ◌++◌, [], ◌∷◌, length, slice_index_or, IfOk, IfErr};
+ghost use Rattle.std.specs.Borrow.{sem};
+
+use crate::pair::pair_of;
+use std::alloc::Allocator;
+use std::marker::Model;
+
+pub(crate) const CHUNK_LEN: usize = 256;
+
+/// A chunk with no node has no block yet. A contract sees the list of its nodes.
+#[derive(Drop)]
+pub struct Chunk<T, A: Allocator + Copy> {
+    nodes: Vec<T, A>,
+}
+
+impl<T, A: Allocator + Copy> Model for Chunk<T, A> {
+    ghost use Rattle.std.specs.Prelude.{List, ◌≤◌, ◌<◌, length, vec_capacity};
+
+    ghost Value = { List T };
+
+    ghost view = { λ c. c.nodes.items };
+
+    ghost invariant = { λ c. (length c.nodes.items ≤ 256) × (0 < length c.nodes.items → 256 ≤ vec_capacity c.nodes) };
+}
+
+impl<T, A: Allocator + Copy> Chunk<T, A> {
+    ghost use Rattle.bz_arena.specs.Lends.{lends_in_chunk, lends_nodes};
+    ghost use Rattle.bz_arena.specs.Pairs.{UpdatesBoth};
+
+    pub(crate) fn new(alloc: A) -> Chunk<T, A>
+        ensures { result ≡ [] }
+    {
+        Chunk {
+            nodes: Vec::new(alloc),
+        }
+    }
+
+    /// A chunk with one node, or the node where there was no memory.
+    pub(crate) fn with_node(alloc: A, node: T) -> Result<Chunk<T, A>, T>
+        ensures made { IfOk result (λ c. c ≡ node ∷ []) }
+        ensures handed_back { IfErr result (λ back. back ≡ node) }
+    {
+        let Ok(mut nodes) = Vec::with_capacity(alloc, CHUNK_LEN) else {
+            return Err(node);
+        };
+        match nodes.push(node) {
+            Ok(()) => Ok(Chunk { nodes }),
+            Err(_refused) => unreachable!(),
+        }
+    }
+
+    pub(crate) fn push(&mut self, node: T)
+        requires { (0 < length self.old) × (length self.old < 256) }
+        ensures { self.new ≡ self.old ++ node ∷ [] }
+    {
+        match self.nodes.push(node) {
+            Ok(()) => {}
+            Err(_refused) => unreachable!(),
+        }
+    }
+
+    pub(crate) fn len(&self) -> usize
+        ensures value { result ≡ length self.now }
+        ensures fits { result ≤ 256 }
+    {
+        self.nodes.len()
+    }
+
+    pub(crate) fn get(&self, index: usize) -> &T
+        requires { index < length self.now }
+        ensures { result.now ≡ slice_index_or self.now index result.now }
+    {
+        &self.nodes[index]
+    }
+
+    pub(crate) fn get_mut(&mut self, index: usize) -> &mut T
+        requires { index < length self.old }
+        ensures* writes_back { sem 𝓛 (lends_in_chunk T.row A.row A.Allocator self.entry index result) }
+        ensures value { result.now ≡ slice_index_or self.old index result.now }
+    {
+        &mut self.nodes[index]
+    }
+
+    /// The nodes as a slice.
+    pub(crate) fn nodes_mut(&mut self) -> &mut [T]
+        ensures* writes_back { sem 𝓛 (lends_nodes T.row A.row A.Allocator self.entry result) }
+        ensures value { result.now ≡ self.old }
+    {
+        self.nodes.as_mut_slice()
+    }
+
+    /// Hands two nodes at once to `f`.
+    pub(crate) fn update_pair<R, F: FnOnce(&mut T, &mut T) -> R>(
+        &mut self,
+        a: usize,
+        b: usize,
+        f: F,
+    ) -> R
+        requires first_held { a < length self.old }
+        requires second_held { b < length self.old }
+        requires different { a ≢ b }
+        requires callable { F.IsAlwaysCallable f }
+        ensures { UpdatesBoth F.FnOnce f self.old a b result self.new }
+    {
+        let (x, y) = pair_of(self.nodes.as_mut_slice(), a, b);
+        f(x, y)
+    }
+
+    pub(crate) fn end(self)
+        requires { self ≡ [] }
+    {
+        let Chunk { nodes } = self;
+        nodes.destroy_empty();
+    }
+
+    pub(crate) fn into_full(self) -> FullChunk<T, A>
+        requires { (0 < length self) × (length self % 256 ≡ 0) }
+        ensures { result.chunk ≡ self }
+    {
+        let count = self.nodes.len();
+        prove!(count == CHUNK_LEN);
+        FullChunk { chunk: self }
+    }
+}
+
+/// A chunk that has all its nodes.
+#[derive(Drop)]
+pub struct FullChunk<T, A: Allocator + Copy> {
+    chunk: Chunk<T, A>,
+    ghost whole: { length chunk ≡ 256 },
+}
+
+impl<T, A: Allocator + Copy> FullChunk<T, A> {
+    ghost use Rattle.bz_arena.specs.Lends.{lends_in_full};
+    ghost use Rattle.bz_arena.specs.Pairs.{UpdatesBoth};
+
+    pub(crate) fn get(&self, index: usize) -> &T
+        requires { index < 256 }
+        ensures { result.now ≡ slice_index_or self.now.chunk index result.now }
+    {
+        self.chunk.get(index)
+    }
+
+    pub(crate) fn get_mut(&mut self, index: usize) -> &mut T
+        requires { index < 256 }
+        ensures* writes_back { sem 𝓛 (lends_in_full T.row A.row A.Allocator self.entry index result) }
+        ensures value { result.now ≡ slice_index_or self.old.chunk index result.now }
+    {
+        self.chunk.get_mut(index)
+    }
+
+    /// Two nodes at once.
+    pub(crate) fn pair_mut(&mut self, a: usize, b: usize) -> (&mut T, &mut T)
+        requires first_held { a < 256 }
+        requires second_held { b < 256 }
+        requires different { a ≢ b }
+        ensures first { result.0.now ≡ slice_index_or self.old.chunk a result.0.now }
+        ensures second { result.1.now ≡ slice_index_or self.old.chunk b result.1.now }
+    {
+        pair_of(self.chunk.nodes_mut(), a, b)
+    }
+
+    pub(crate) fn update_pair<R, F: FnOnce(&mut T, &mut T) -> R>(
+        &mut self,
+        a: usize,
+        b: usize,
+        f: F,
+    ) -> R
+        requires first_held { a < 256 }
+        requires second_held { b < 256 }
+        requires different { a ≢ b }
+        requires callable { F.IsAlwaysCallable f }
+        ensures { UpdatesBoth F.FnOnce f self.old.chunk a b result self.new.chunk }
+    {
+        self.chunk.update_pair(a, b, f)
+    }
+}

@@ -1,0 +1,13 @@
+//! A list of nodes that never move, each under an id that stays good.
+#![tactic(auto)]
+
+mod arena;
+mod chunk;
+mod full;
+mod id;
+mod pair;
+#[cfg(test)]
+mod tests;
+
+pub use arena::Arena;
+pub use id::{Id, Ids};

@@ -1,0 +1,5 @@
+use Rattle.bz_ready.proofs.Orders.{counted_more}
+use Rattle.bz_ready.proofs.order.nodes.Goals as goal
+
+pub loop-number-preserved : goal.loop-number-preserved
+loop-number-preserved g c = counted_more c.loop-number.number _ _ c.in-Ok.ensures.appended c.loop-number.invariant
