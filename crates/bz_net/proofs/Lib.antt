@@ -4,6 +4,7 @@ pub mod Sides
 pub mod Phases
 pub mod Ties
 pub mod Readiness
+pub mod Fitting
 pub mod Soundness
 pub mod Opening
 pub mod Hosts

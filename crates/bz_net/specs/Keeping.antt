@@ -11,8 +11,9 @@ use Rattle.bz_model.specs.declared.event.Verb.{Verb}
 use Rattle.bz_model.specs.declared.event.Reply.{Reply}
 use Rattle.bz_elab.specs.declared.flat.Ends.{Ends}
 use Rattle.bz_model.specs.Heads.{Proc, Component, Moves, Turns, open_at}
+use Rattle.bz_model.specs.Widths.{FitsAt, FitsChan, Fitted}
 use Rattle.bz_net.specs.Sides.{Sided}
-use Rattle.bz_model.specs.Phases.{phase_after}
+use Rattle.bz_model.specs.Phases.{incoming, phase_after}
 use Rattle.bz_model.specs.Nets.{Site, Wiring, State, IsPort, no_proc, site_at, chan_at, chan_in, passive_at, opening, StepsAt}
 use Rattle.bz_model.specs.Hosts.{reply_to, host_after}
 use Rattle.bz_model.specs.Runs.{CanStep, Run}
@@ -51,6 +52,12 @@ pub record Tied (w : Wiring) (phases : List Phase) (comps : List Component) : Ty
   pub opened : (c p : ℕ) → IsPort w.sites c p → open_at (comp_at comps c) p ≡ is_open (phase_in phases (chan_at w.sites c p)) (passive_at w.sites c p)
   pub kept : (k : ℕ) → phase_in phases k ≢ Broken
 
+-- what is on each channel fits its width, and so does all that the components keep and are to send
+pub record Fits (w : Wiring) (phases : List Phase) (comps : List Component) : Type 0 where
+  pub on_chans : (k : ℕ) → FitsChan (chan_in w.chans k) (phase_in phases k)
+  pub chans_of : (c : ℕ) → 0 < c → c ≤ length w.sites → (comp_at comps c).chans ≡ map (chan_in w.chans) (site_at w.sites c).chans
+  pub in_comps : (c : ℕ) → 0 < c → c ≤ length w.sites → Fitted (comp_at comps c)
+
 -- A row of flags tells of each number whether it is marked.
 abbrev pub flag_at : List Bool → ℕ → Bool
 flag_at row c = slice_index_or row c false
@@ -85,6 +92,7 @@ pub record StartsWell (chans : List Chan) (sites : List Site) : Type 0 where
 pub record Started (chans : List Chan) (sites : List Site) (comps : List Component) (n : ℕ) : Type 0 where
   pub len : length comps ≡ n
   pub each : (c : ℕ) → 0 < c → c ≤ n → comp_at comps c ≡ start_of (site_at sites c).kind (site_at sites c).sizes (map (chan_in chans) (site_at sites c).chans)
+  pub fitted : (c : ℕ) → 0 < c → c ≤ n → Fitted (comp_at comps c)
 
 -- of the first n components, those that can move are marked, and no others yet
 pub record MarksAll (sites : List Site) (s : State) (row : List Bool) (n : ℕ) : Type 0 where
@@ -111,6 +119,8 @@ pub record MovedAt (sites : List Site) (ends : List Ends) (phases : List Phase) 
   pub rest : Component
   pub moves : Moves (comp_at comps c).proc p (phase_in phases k) mv value rest.proc
   pub turns : Turns (comp_at comps c) p mv rest
+  pub same_chans : rest.chans ≡ (comp_at comps c).chans
+  pub fits : Fitted (comp_at comps c) → FitsAt (comp_at comps c).chans p (incoming (phase_in phases k) mv) → FitsAt (comp_at comps c).chans p value × Fitted rest
   pub phases_is : phases' ≡ slice_set phases (k - 1) (phase_after (phase_in phases k) mv value)
   pub comps_is : comps' ≡ slice_set comps (c - 1) rest
   pub refreshed : RefreshedEnds sites (state_of phases' comps') old new (slice_index_or ends (k - 1) (record { active = None; passive = None }))
@@ -125,6 +135,7 @@ pub record Sound (w : Wiring) (phases : List Phase) (comps : List Component) (en
   pub wired : WellWired w
   pub ends_of : EndsOf w ends
   pub tied : Tied w phases comps
+  pub fits : Fits w phases comps
   pub ready : MarksReady w (state_of phases comps) row
   pub run : Run w (opening w) journal (state_of phases comps)
   pub within : length journal ≤ limit

@@ -5,6 +5,7 @@ ghost use Rattle.bz_model.specs.Nets.{IsPort, StepsAt, chan_at, chan_in, site_at
 ghost use Rattle.bz_model.specs.Hosts.{reply_to, host_after, fits_side, received, refusal_at};
 ghost use Rattle.bz_model.specs.Rows.{MeetsRow};
 ghost use Rattle.bz_model.specs.Processes.{start_of};
+ghost use Rattle.bz_model.specs.Widths.{Fitted};
 ghost use Rattle.bz_model.specs.Runs.{CanStep, IsLowest};
 ghost use Rattle.bz_elab.specs.Flats.{site_of};
 ghost use Rattle.bz_elab.specs.Wires.{StandsIn};
@@ -272,6 +273,7 @@ fn start_one(alloc: Global, chans: &[Chan], site: &FlatComp) -> Result<Comp, Net
     requires chans { All (λ k. (0 < k) × (k ≤ length chans.now)) site.now.chans.items }
     requires meets { MeetsRow site.now.kind site.now.sizes (map (chan_in chans.now) site.now.chans.items) }
     ensures ok { IfOk result (λ comp. comp ≡ start_of site.now.kind site.now.sizes (map (chan_in chans.now) site.now.chans.items)) }
+    ensures fitted { IfOk result (λ comp. Fitted comp) }
     ensures err { IfErr result (λ e. e ≡ NetError.Memory) }
 {
     let mut own = Vec::new(alloc);

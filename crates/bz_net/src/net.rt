@@ -1,7 +1,8 @@
 //! A net: its events, and what can be read of it.
 
 ghost use Rattle.std.specs.Prelude.{◌≡◌, ◌≢◌, ◌<◌, ◌≤◌, ◌-◌, min, length, None, MatchBool, MatchOption, OnOk, OnErr, IfOk, IfErr};
-ghost use Rattle.bz_model.specs.Nets.{StepsAt, opening, outside, phase_at};
+ghost use Rattle.bz_model.specs.Nets.{StepsAt, chan_in, opening, outside, phase_at};
+ghost use Rattle.bz_model.specs.Widths.{FitsChan};
 ghost use Rattle.bz_model.specs.Hosts.{refusal_at};
 ghost use Rattle.bz_model.specs.Runs.{CanStep, Rest, IsNext, Run};
 ghost use Rattle.bz_net.specs.Simulation.{Adds, IsOpened};
@@ -299,6 +300,7 @@ impl Net {
         requires to { chan ≤ length self.now.wiring.chans }
         ensures phase { result ≡ phase_at self.now.state chan }
         ensures kept { result ≢ Phase.Broken }
+        ensures fits { FitsChan (chan_in self.now.wiring.chans chan) result }
     {
         self.phases[chan as usize - 1]
     }
