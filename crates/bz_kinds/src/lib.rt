@@ -11,7 +11,9 @@ mod naming;
 mod ports;
 mod row;
 mod script;
+mod select;
 mod shape;
+mod specification;
 mod table;
 mod together;
 

@@ -2,3 +2,4 @@ pub mod Residues
 pub mod Bounds
 pub mod Fitting
 pub mod Starts
+pub mod Sets

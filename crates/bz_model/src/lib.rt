@@ -9,6 +9,7 @@ mod expr;
 mod kind;
 mod names;
 mod operation;
+mod spans;
 
 pub use channel::{Chan, ChanKind, MAX_WIDTH, Move, Phase, Value, carries, fits};
 pub use event::{Cmd, Entry, HostCmd, NetError, Reply, Verb, Who};
@@ -16,6 +17,7 @@ pub use expr::{Expr, Operand, Source};
 pub use kind::{Kind, MAX_MEMBERS, Param};
 pub use names::{Names, Port};
 pub use operation::{BinaryOp, UnaryOp, low_bits};
+pub use spans::{Span, Spans};
 
 #[cfg(test)]
 mod operation_tests;
