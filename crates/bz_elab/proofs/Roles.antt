@@ -27,6 +27,11 @@ role_fault chans c kind.UnknownComponent e = inr (let r : leaf_role c ≡ unknow
 role_fault chans c kind.BadParameter e = inr (let r : leaf_role c ≡ misfit = ap kind_role e in subst (λ (r : Role). HasFault chans c r fault.BadParameter) (sym r) tt)
 role_fault chans c kind.Memory e = inl refl
 
+pub role_fault_or : (chans : List Chan) (c : Component) (e : KindError) → (e ≡ kind.Memory) ⊎ (kind_with c.name.items c.params.items ≡ Err e)
+    → (fault_of e ≡ fault.Memory) ⊎ HasFault chans c (leaf_role c) (fault_of e)
+role_fault_or chans c e (inl m) = inl (ap fault_of m)
+role_fault_or chans c e (inr is) = role_fault chans c e is
+
 pub leaf_fault : (chans : List Chan) (c : Component) (k : Kind) (f : Fault) → leaf_role c ≡ of_kind k → HasFault chans c (of_kind k) f
     → (f ≡ fault.Memory) ⊎ HasFault chans c (leaf_role c) f
 leaf_fault chans c k f e h = inr (subst (λ (r : Role). HasFault chans c r f) (sym e) h)

@@ -7,7 +7,7 @@ use Rattle.bz_model.specs.declared.channel.ChanKind.TheVariants.{Pull}
 use Rattle.bz_model.specs.declared.kind.Kind.{Kind}
 use Rattle.bz_model.specs.declared.kind.Kind.TheVariants.{While}
 use Rattle.bz_model.specs.Nets.{chan_in}
-use Rattle.bz_model.specs.Rows.{PortRow, row_of, fits_sizes, max_members}
+use Rattle.bz_model.specs.Rows.{PortRow, row_of, has_sizes, max_members}
 use Rattle.bz_breeze.specs.declared.part.Slot.{Slot}
 use Rattle.bz_breeze.specs.declared.part.Slot.TheVariants.{One, Many}
 
@@ -84,4 +84,4 @@ pub record FitsPorts (kind : Kind) (slots : List Slot) : Type 0 where
   pub singles_are : length (singles slots) ≡ count_by (λ r. not r.array) (row_of kind)
   pub lists_are : length (lists slots) ≡ count_by (λ r. r.array) (row_of kind)
   pub members : All (λ l. length l ≤ max_members) (lists slots)
-  pub sizes : IsTrue (fits_sizes (row_of kind) (sizes_of slots))
+  pub sizes : IsTrue (has_sizes kind (sizes_of slots))

@@ -13,7 +13,7 @@ use std::marker::Model;
 
 /// A component of the net: its kind, the lengths of its arrays in the row's order (0 where there is none), and its
 /// channels in the order of its ports.
-#[derive(Debug, PartialEq, Eq, Drop)]
+#[derive(Debug, Drop)]
 pub struct FlatComp {
     pub kind: Kind,
     pub sizes: [u32; 2],

@@ -146,7 +146,7 @@ fn a_buffer(rt: HostRuntime) -> Result<(), Fail> {
     };
     assert!(rt; flat.ends(3) == Some(at_host));
     let fetch = match flat.comp(4) {
-        Some(comp) => comp.kind == Kind::Fetch
+        Some(comp) => matches!(&comp.kind, Kind::Fetch)
             && comp.chans.as_slice() == [5, 2, 7].as_slice()
             && comp.sizes == [0, 0],
         None => false,

@@ -9,6 +9,9 @@ pub mod InTurnLaws
 pub mod InTurnDue
 pub mod CellsLaws
 pub mod ScriptLaws
+pub mod SelectLaws
+pub mod Pieces
+pub mod Numbers
 pub mod PlanLaws
 pub mod StartLaws
 pub mod MovesLaws

@@ -1,5 +1,5 @@
 -- Of every plan: the heads are the moves that are due, and a port has one.
-use Rattle.std.proofs.Common.{IfSome, None, refl, ◌≡◌, ℕ, zero, suc, List, get_or, Option, Some, ap, sym, ◌∙◌, subst, IsTrue, map}
+use Rattle.std.proofs.Common.{IfSome, None, refl, ◌≡◌, ℕ, zero, suc, List, get_or, Option, Some, ap, sym, ◌∙◌, subst, IsTrue, map, arith}
 use Rattle.std.specs.Prelude.{not}
 use Rattle.bz_model.specs.Heads.{Head, IsHead, IsHeadOn, Component, Moves, Turns, HasOneHead, carried, tidy, opens}
 use Rattle.bz_model.specs.declared.channel.Move.{Move}
@@ -13,7 +13,7 @@ use Rattle.bz_model.proofs.Fitting.{sends-head, sends-tidy}
 use Rattle.bz_kinds.specs.declared.row.Due.{Due}
 use Rattle.bz_kinds.specs.declared.row.Row.{Row}
 use Rattle.bz_kinds.specs.declared.row.Plan.{Plan}
-use Rattle.bz_kinds.specs.declared.row.Plan.TheVariants.{InTurn, Together, Cells, OneByOne}
+use Rattle.bz_kinds.specs.declared.row.Plan.TheVariants.{InTurn, Together, Cells, Select, OneByOne}
 use Rattle.bz_kinds.specs.Row.{due_of, row_due, is_open, lead_due, leg_due, leg_of}
 use Rattle.bz_kinds.specs.declared.row.Leg.{Leg}
 use Rattle.bz_kinds.specs.Comp.{todo_of, IsAt, plan_due, Goes}
@@ -26,6 +26,13 @@ use Rattle.bz_kinds.proofs.InTurnDue as in_turn
 use Rattle.bz_kinds.proofs.TogetherDue as together
 use Rattle.bz_kinds.proofs.CellsLaws as cells
 use Rattle.bz_kinds.proofs.ScriptLaws as one_by_one
+use Rattle.bz_kinds.proofs.SelectLaws as select
+use Rattle.bz_kinds.specs.Select as selection
+use Rattle.bz_kinds.specs.Select.{select_row}
+use Rattle.bz_model.specs.Specifications.{set_of}
+use Rattle.bz_model.specs.declared.spans.Span.{Span}
+use Rattle.bz_model.specs.declared.channel.Phase.TheVariants.{Idle, Asked, Taken, Replied, Broken}
+use Rattle.std.proofs.lemmas.List.{get_or-set_other}
 use Rattle.bz_kinds.specs.Script as stages
 use Rattle.bz_kinds.specs.declared.row.Script.{Script}
 use Rattle.bz_model.specs.declared.channel.Chan.{Chan}
@@ -36,18 +43,21 @@ pub heads-due : (plan : Plan) (n left : ℕ) (w : List ℕ) (s : Store) → IsAt
 heads-due (InTurn row) n left w s ok h at = in_turn.heads-due row n left w ok h at
 heads-due (Together row) n left w s ok h at = together.heads-due row n left w ok h at
 heads-due Cells n left w s ok h at = cells.heads-due n w ok h at
+heads-due (Select spans) n left w s ok h at = select.heads-due spans n left w ok.0 h at
 heads-due (OneByOne script) n left w s ok h at = one_by_one.heads-due script left w ok h at
 
 pub due-heads : (plan : Plan) (n left : ℕ) (w : List ℕ) (s : Store) → IsAt plan n left w s → (p : ℕ) (d : Due) → plan_due plan p (get_or w p 0) ≡ Some d → (h : Head) × IsHead (todo_of plan n left w) h × (h.port ≡ p)
 due-heads (InTurn row) n left w s ok p d e = in_turn.due-heads row n left w ok p d e
 due-heads (Together row) n left w s ok p d e = together.due-heads row n left w ok p d e
 due-heads Cells n left w s ok p d e = cells.due-heads n w ok p d e
+due-heads (Select spans) n left w s ok p d e = select.due-heads spans n left w ok.0 p d e
 due-heads (OneByOne script) n left w s ok p d e = one_by_one.due-heads script left w ok p d e
 
 pub one-head : (plan : Plan) (n left : ℕ) (w : List ℕ) (s : Store) → IsAt plan n left w s → HasOneHead (todo_of plan n left w)
 one-head (InTurn row) n left w s ok = in_turn.one-head row n left w ok
 one-head (Together row) n left w s ok = together.one-head row n left w ok
 one-head Cells n left w s ok = cells.one-head n w ok
+one-head (Select spans) n left w s ok = select.one-head spans n left w ok.0
 one-head (OneByOne script) n left w s ok = one_by_one.one-head script left w ok
 
 -- a head at p is the move that is due there
@@ -97,6 +107,7 @@ pub alternates : (plan : Plan) (p a : ℕ) (d : Due) → plan_due plan p a ≡ S
 alternates (InTurn row) p a d e = row-alternates row p a d e
 alternates (Together row) p a d e = row-alternates row p a d e
 alternates Cells p a d e = cell-alternates p a d e
+alternates (Select spans) p a d e = row-alternates select_row p a d e
 alternates (OneByOne script) p a d e = script-alternates script p a d e
 
 -- the same of a component that is seen as c
@@ -158,12 +169,48 @@ cell-step plan e n left w p w' s st = rw e (record { place = st.place; toggles =
 pub script-step : (plan : Plan) (script : Script) → plan ≡ OneByOne script → (n left : ℕ) (w : List ℕ) (p left' : ℕ) (w' : List ℕ) (s : Store) → stages.Steps script left w p left' w' s → Goes plan n left w p left' w' s
 script-step plan script e n left w p left' w' s st = rw e (record { place = st.place; toggles = st.toggles; leaves = st.leaves })
 
--- a plan stands where it is while what comes in is stored
-pub still-at : (plan : Plan) (n left : ℕ) (w : List ℕ) (s s' : Store) → IsAt plan n left w s → IsAt plan n left w s'
-still-at (InTurn row) n left w s s' ok = ok
-still-at (Together row) n left w s s' ok = ok
-still-at Cells n left w s s' ok = ok
-still-at (OneByOne script) n left w s s' ok = ok
+pub select-step : (plan : Plan) (spans : List Span) → plan ≡ Select spans → (n left : ℕ) (w : List ℕ) (p left' : ℕ) (w' : List ℕ) (s : Store) → selection.Steps spans n left w p left' w' s → Goes plan n left w p left' w' s
+select-step plan spans e n left w p left' w' s st = rw e (record { place = (st.place, st.picked); toggles = st.toggles; leaves = st.leaves })
+
+none-comes : (phase : Phase) → incoming phase Ask ≡ None
+none-comes Idle = refl
+none-comes (Asked v) = refl
+none-comes Taken = refl
+none-comes (Replied v) = refl
+none-comes Broken = refl
+
+apart-kept : (came : Option ℕ) (s : Store) → get_or (stored 1 came s) 0 0 ≡ get_or s 0 0
+apart-kept None s = refl
+apart-kept (Some v) s = get_or-set_other s 1 0 v 0 (omega arith)
+
+-- a handshake of a selection leaves slot 0
+leg-kept : (a i : ℕ) (d : Due) (phase : Phase) (came : Option ℕ) (s : Store) → leg_due (leg_of select_row.legs i) a ≡ Some d → came ≡ incoming phase d.mv → get_or (stored d.into came s) 0 0 ≡ get_or s 0 0
+leg-kept zero i d phase came s e f = absurd (cc)
+leg-kept (suc zero) i d phase came s e f =
+    let q : record { mv = Ask; gives = Nothing; into = 0 } ≡ d = cc in
+    let g : came ≡ None = f ∙ sym (ap (λ (d : Due). incoming phase d.mv) q) ∙ none-comes phase in
+    rw g refl
+leg-kept (suc (suc zero)) i d phase came s e f = absurd (cc)
+leg-kept (suc (suc (suc a))) i d phase came s e f =
+    let q : record { mv = Got; gives = Nothing; into = 1 } ≡ d = cc in
+    ap (λ (d : Due). get_or (stored d.into came s) 0 0) (sym q) ∙ apart-kept came s
+
+slot-kept : (p : ℕ) (w : List ℕ) (d : Due) (phase : Phase) (came : Option ℕ) (s : Store) → row_due select_row p (get_or w p 0) ≡ Some d → came ≡ incoming phase d.mv → get_or w 1 0 ≡ 2 → get_or (stored d.into came s) 0 0 ≡ get_or s 0 0
+slot-kept zero w d phase came s e f waits = absurd (cc)
+slot-kept (suc zero) w d phase came s e f waits = absurd (let g = subst (λ a. lead_due 0 Nothing a ≡ Some d) waits e in cc)
+slot-kept (suc (suc i)) w d phase came s e f waits = leg-kept (get_or w (suc (suc i)) 0) i d phase came s e f
+
+still-picked : (spans : List Span) (n left : ℕ) (w : List ℕ) (p : ℕ) (d : Due) (phase : Phase) (came : Option ℕ) (s : Store) → selection.IsPlace n left w → selection.Picked spans n left s → row_due select_row p (get_or w p 0) ≡ Some d → came ≡ incoming phase d.mv → selection.Picked spans n left (stored d.into came s)
+still-picked spans n zero w p d phase came s at picked e f = tt
+still-picked spans n (suc i) w p d phase came s at picked e f = ap (λ v. set_of spans n v) (slot-kept p w d phase came s e f at.turn.0) ∙ picked
+
+-- a plan stands where it is while what comes in with the due move is stored
+pub still-at : (plan : Plan) (n left : ℕ) (w : List ℕ) (p : ℕ) (d : Due) (phase : Phase) (came : Option ℕ) (s s' : Store) → IsAt plan n left w s → plan_due plan p (get_or w p 0) ≡ Some d → came ≡ incoming phase d.mv → s' ≡ stored d.into came s → IsAt plan n left w s'
+still-at (InTurn row) n left w p d phase came s s' ok e f st = ok
+still-at (Together row) n left w p d phase came s s' ok e f st = ok
+still-at Cells n left w p d phase came s s' ok e f st = ok
+still-at (Select spans) n left w p d phase came s s' ok e f st = rw st (ok.0, still-picked spans n left w p d phase came s ok.0 ok.1 e f)
+still-at (OneByOne script) n left w p d phase came s s' ok e f st = ok
 
 -- what a move sends is narrow, and what is left sends what fits
 module _ (plan : Plan) (n left : ℕ) (w : List ℕ) (s : Store) (chans : List Chan) (bits : ℕ) (ok : IsAt plan n left w s) (sends : Sends chans bits (todo_of plan n left w)) where

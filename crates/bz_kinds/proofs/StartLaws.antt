@@ -9,8 +9,11 @@ use Rattle.bz_model.specs.declared.kind.Kind.{Kind}
 use Rattle.bz_kinds.specs.declared.shape.Shape.{Shape}
 use Rattle.bz_kinds.specs.Comp.{todo_of}
 use Rattle.bz_kinds.specs.declared.row.Row.{Row}
+use Rattle.bz_kinds.specs.declared.row.Legs.TheVariants.{Spread}
+use Rattle.bz_model.specs.declared.expr.Expr.TheVariants.{Nothing}
+use Rattle.bz_model.specs.declared.spans.Span.{Span}
 use Rattle.bz_kinds.specs.declared.row.Plan.{Plan}
-use Rattle.bz_kinds.specs.declared.row.Plan.TheVariants.{InTurn, Together, Cells, OneByOne}
+use Rattle.bz_kinds.specs.declared.row.Plan.TheVariants.{InTurn, Together, Cells, Select, OneByOne}
 use Rattle.bz_kinds.specs.Row.{is_open}
 use Rattle.bz_kinds.specs.Together.{busy_count}
 use Rattle.bz_kinds.specs.Cells as cells
@@ -93,6 +96,21 @@ module _ (row : Row) (n : ℕ) where
     closed = all-closed first (member n) first-long first-closed;
   }
 
+  pub select-begins : (spans : List Span) → BeginsAt (Select spans) n (set (replicate (member n) 0) 1 1)
+  unfolding first
+  select-begins spans = record {
+    place = λ s. (
+      record {
+        long = first-long ∙ omega arith;
+        none = first-other 0 (omega arith);
+        turn = (inl first-lead, λ i. first-other (member i) (omega arith));
+      },
+      tt,
+    );
+    has_todo = refl;
+    closed = all-closed first (member n) first-long first-closed;
+  }
+
 pub cells-begin : (n : ℕ) (w : List ℕ) → length w ≡ member n → get_or w 0 0 ≡ 0 → ((p : ℕ) → 1 ≤ p → p < member n → get_or w p 0 ≡ 1) → BeginsAt Cells n w
 cells-begin n w l z ones = record {
   place = λ s. record { long = l ∙ omega arith; none = z; parts = λ j lt. inl (ones (suc j) (omega arith) (omega arith)) };
@@ -109,6 +127,9 @@ pick-turn plan row n m w e k f = rw (e, f, k) (turn-begins row n)
 
 pub pick-whole : (plan : Plan) (row : Row) (n m : ℕ) (w : List ℕ) → plan ≡ Together row → m ≡ member n → w ≡ set (replicate m 0) 1 1 → BeginsAt plan n w
 pick-whole plan row n m w e k f = rw (e, f, k) (whole-begins row n)
+
+pub pick-select : (plan : Plan) (spans : List Span) (n m : ℕ) (w : List ℕ) → plan ≡ Select spans → m ≡ member n → w ≡ set (replicate m 0) 1 1 → BeginsAt plan n w
+pick-select plan spans n m w e k f = rw (e, f, k) (select-begins (record { into = 0; legs = Spread; answer = Nothing }) n spans)
 
 pub pick-cells : (plan : Plan) (n m : ℕ) (w : List ℕ) → plan ≡ Cells → m ≡ member n → IsAllDue m w → BeginsAt plan n w
 pick-cells plan n m w e k a = rw e (cells-begin n w (a.long ∙ k) a.none (λ p le lt. a.due p le (omega arith)))
@@ -127,6 +148,7 @@ tidy-start s (InTurn row) n = refl
 tidy-start s (Together row) n = refl
 tidy-start s Cells n =
     ap together (tidy-all s (suc n) (λ j. forever (cells.round j)) (λ i lt. refl)) ∙ together-busy (all (suc n) (λ j. forever (cells.round j))) refl
+tidy-start s (Select spans) n = refl
 tidy-start s (OneByOne Loop) n = refl
 tidy-start s (OneByOne While) n = refl
 tidy-start s (OneByOne (Halt slot)) n = refl

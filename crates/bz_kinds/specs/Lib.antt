@@ -1,6 +1,7 @@
 pub use Rattle.bz_model.specs.Rows
 pub use Rattle.bz_model.specs.Processes
 pub use Rattle.bz_model.specs.Heads
+pub mod Texts
 pub mod Naming
 pub mod Table
 pub mod Row
@@ -8,6 +9,7 @@ pub mod Together
 pub mod InTurn
 pub mod Cells
 pub mod Script
+pub mod Select
 pub mod Comp
 pub mod Start
 pub mod Moves

@@ -9,9 +9,10 @@ use Rattle.bz_model.specs.declared.operation.UnaryOp.TheVariants.{Negate, Invert
 use Rattle.bz_model.specs.declared.operation.BinaryOp.{BinaryOp}
 use Rattle.bz_model.specs.declared.operation.BinaryOp.TheVariants.{Add, Subtract, ReverseSubtract, Equals, NotEquals, LessThan, GreaterThan, LessOrEquals, GreaterOrEquals, And, Or, Xor}
 use Rattle.bz_model.specs.declared.kind.Kind.{Kind}
-use Rattle.bz_model.specs.declared.kind.Kind.TheVariants.{Loop, Sequence, SequenceOptimised, Concur, Fork, ForkPush, While, Fetch, Variable, Constant, UnaryFunc, BinaryFunc, BinaryFuncConstR, Slice, Combine, CombineEqual, Adapt, Split, Halt, HaltPush, Continue, ContinuePush}
+use Rattle.bz_model.specs.declared.kind.Kind.TheVariants.{Loop, Sequence, SequenceOptimised, Concur, Fork, ForkPush, While, Case, Fetch, Variable, Constant, UnaryFunc, BinaryFunc, BinaryFuncConstR, Slice, Combine, CombineEqual, Adapt, Split, Halt, HaltPush, Continue, ContinuePush}
 use Rattle.bz_model.specs.declared.kind.Param.{Param}
 use Rattle.bz_model.specs.declared.kind.Param.TheVariants.{Num, Flag, Word}
+use Rattle.bz_kinds.specs.Texts.{specification}
 use Rattle.bz_kinds.specs.declared.naming.Name.{Name}
 use Rattle.bz_kinds.specs.declared.naming.Name.TheVariants as name
 use Rattle.bz_kinds.specs.declared.error.KindError.{KindError}
@@ -26,6 +27,7 @@ name_of name.Concur = codes "$BrzConcur"
 name_of name.Fork = codes "$BrzFork"
 name_of name.ForkPush = codes "$BrzForkPush"
 name_of name.While = codes "$BrzWhile"
+name_of name.Case = codes "$BrzCase"
 name_of name.Fetch = codes "$BrzFetch"
 name_of name.Variable = codes "$BrzVariable"
 name_of name.Constant = codes "$BrzConstant"
@@ -44,7 +46,7 @@ name_of name.ContinuePush = codes "$BrzContinuePush"
 
 abbrev pub all_names : List Name
 all_names =
-    name.Loop ∷ name.Sequence ∷ name.SequenceOptimised ∷ name.Concur ∷ name.Fork ∷ name.ForkPush ∷ name.While ∷ name.Fetch ∷ name.Variable ∷ name.Constant ∷ name.UnaryFunc ∷ name.BinaryFunc ∷ name.BinaryFuncConstR ∷ name.Slice ∷ name.Combine ∷ name.CombineEqual ∷ name.Adapt ∷ name.Split ∷ name.Halt ∷ name.HaltPush ∷ name.Continue ∷ name.ContinuePush ∷ []
+    name.Loop ∷ name.Sequence ∷ name.SequenceOptimised ∷ name.Concur ∷ name.Fork ∷ name.ForkPush ∷ name.While ∷ name.Case ∷ name.Fetch ∷ name.Variable ∷ name.Constant ∷ name.UnaryFunc ∷ name.BinaryFunc ∷ name.BinaryFuncConstR ∷ name.Slice ∷ name.Combine ∷ name.CombineEqual ∷ name.Adapt ∷ name.Split ∷ name.Halt ∷ name.HaltPush ∷ name.Continue ∷ name.ContinuePush ∷ []
 
 abbrev pub named : List ℕ → Option Name
 named text = find (λ n. bytes_eq text (name_of n)) all_names
@@ -122,6 +124,9 @@ variable_by params = variable_with (text params 1)
 abbrev pub cut : ℕ → ℕ
 cut value = value % 2 ^ MAX_WIDTH
 
+abbrev pub case_by : List Param → Option Kind
+case_by params = option_map (λ spans. Case spans) (option_and_then specification (text params 0))
+
 abbrev pub constant_by : List Param → Option Kind
 constant_by params = option_map (λ value. Constant (cut value)) (number params 1)
 
@@ -156,6 +161,7 @@ kind_by name.Concur params = Some Concur
 kind_by name.Fork params = Some Fork
 kind_by name.ForkPush params = Some ForkPush
 kind_by name.While params = Some While
+kind_by name.Case params = case_by params
 kind_by name.Fetch params = Some Fetch
 kind_by name.Variable params = variable_by params
 kind_by name.Constant params = constant_by params

@@ -17,7 +17,7 @@ use crate::move_iter::MoveIter;
 use crate::ports::{CLOSED_DUE, Ports};
 use crate::row::{Due, Plan};
 use crate::shape::shape_of;
-use crate::{cells, enclosed, in_turn, script, together};
+use crate::{cells, enclosed, in_turn, script, select, together};
 use bz_model::{Chan, Kind, Move, Phase, Value};
 use std::alloc::{AllocError, Global};
 use std::marker::Model;
@@ -60,7 +60,7 @@ pub fn start(alloc: Global, kind: &Kind, sizes: [u32; 2], chans: &[Chan]) -> Res
     ensures fitted { IfOk result (λ c. Fitted c) }
     ensures memory { IfErr result (λ e. e ≡ Memory) }
 {
-    let shape = shape_of(kind, sizes, chans);
+    let shape = shape_of(alloc, kind, sizes, chans)?;
     let ports = first_ports(alloc, &shape.plan, shape.legs)?;
     let slots = vec![in alloc; 0; shape.slots as usize]?;
     let chans = chans.to_vec(alloc)?;
@@ -128,11 +128,12 @@ pub fn dup(alloc: Global, comp: &Comp) -> Result<Comp, KindError>
     ensures same { IfOk result (λ c. c ≡ comp.now) }
     ensures memory { IfErr result (λ e. e ≡ Memory) }
 {
+    let plan = comp.plan.dup(alloc)?;
     let ports = comp.ports.dup(alloc)?;
     let slots = comp.slots.to_vec(alloc)?;
     let chans = comp.chans.to_vec(alloc)?;
     Ok(Comp {
-        plan: comp.plan,
+        plan,
         size: comp.size,
         left: comp.left,
         ports,
@@ -150,6 +151,7 @@ fn first_ports(alloc: Global, plan: &Plan, legs: u32) -> Result<Ports, AllocErro
         Plan::InTurn(_) => first_only(alloc, legs as usize + 2),
         Plan::Together(_) => first_only(alloc, legs as usize + 2),
         Plan::Cells => from_first(alloc, legs as usize + 2),
+        Plan::Select(_) => first_only(alloc, legs as usize + 2),
         Plan::OneByOne(script) => first_only(alloc, script::places(*script)),
     }
 }
@@ -207,6 +209,7 @@ pub(crate) fn due_at(plan: &Plan, port: u32, number: u8) -> Option<Due>
     match plan {
         Plan::InTurn(row) | Plan::Together(row) => enclosed::due(row, port, number),
         Plan::Cells => cells::due(port, number),
+        Plan::Select(_) => enclosed::due(&select::ROW, port, number),
         Plan::OneByOne(script) => script::due(*script, port, number),
     }
 }
@@ -222,6 +225,7 @@ fn advance(plan: &Plan, size: u32, left: &mut u32, ports: &mut Ports, port: u32,
         Plan::InTurn(_) => in_turn::step(ports, left, size, port),
         Plan::Together(_) => together::step(ports, left, size, port),
         Plan::Cells => cells::step(ports, size, port),
+        Plan::Select(spans) => select::step(spans, ports, left, size, port, slots),
         Plan::OneByOne(script) => script::step(*script, ports, left, port, slots),
     }
 }

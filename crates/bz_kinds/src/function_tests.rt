@@ -267,35 +267,26 @@ fn while_calls_as_long_as_its_guard_brings_1(rt: HostRuntime) -> Result<(), Fail
 fn names_with_parameters(rt: HostRuntime) -> Result<(), Fail> {
     let alloc = rt.alloc();
     let constant = [Param::Num(8), Param::Num(300)];
-    assert_eq!(rt;
-        kind_of(alloc, b"$BrzConstant", &constant),
-        Ok(Kind::Constant(300))
-    );
+    let kind = kind_of(alloc, b"$BrzConstant", &constant);
+    assert!(rt; matches!(&kind, Ok(Kind::Constant(300))));
     let short = [Param::Num(8)];
-    assert_eq!(rt;
-        kind_of(alloc, b"$BrzConstant", &short),
-        Err(KindError::BadParameter)
-    );
-    assert_eq!(rt;
-        kind_of(alloc, b"$BrzMemory", &short),
-        Err(KindError::UnknownComponent)
-    );
+    let kind = kind_of(alloc, b"$BrzConstant", &short);
+    assert!(rt; matches!(&kind, Err(KindError::BadParameter)));
+    let kind = kind_of(alloc, b"$BrzMemory", &short);
+    assert!(rt; matches!(&kind, Err(KindError::UnknownComponent)));
     let adapt = [
         Param::Num(16),
         Param::Num(8),
         Param::Flag(true),
         Param::Flag(true),
     ];
-    assert_eq!(rt;
-        kind_of(alloc, b"$BrzAdapt", &adapt),
-        Ok(Kind::Adapt { signed: true })
-    );
-    assert_eq!(rt;
-        kind_of(alloc, b"$BrzAdapt", &short),
-        Ok(Kind::Adapt { signed: false })
-    );
+    let kind = kind_of(alloc, b"$BrzAdapt", &adapt);
+    assert!(rt; matches!(&kind, Ok(Kind::Adapt { signed: true })));
+    let kind = kind_of(alloc, b"$BrzAdapt", &short);
+    assert!(rt; matches!(&kind, Ok(Kind::Adapt { signed: false })));
     let slice = [Param::Num(4), Param::Num(8), Param::Num(4)];
-    assert_eq!(rt; kind_of(alloc, b"$BrzSlice", &slice), Ok(Kind::Slice(4)));
+    let kind = kind_of(alloc, b"$BrzSlice", &slice);
+    assert!(rt; matches!(&kind, Ok(Kind::Slice(4))));
     Ok(())
 }
 
@@ -309,41 +300,119 @@ fn names_of_operations(rt: HostRuntime) -> Result<(), Fail> {
         Param::Flag(true),
         Param::Flag(false),
     ];
-    let wanted = Kind::BinaryFunc {
-        op: BinaryOp::LessThan,
-        left_signed: true,
-        right_signed: false,
-    };
-    assert_eq!(rt; kind_of(alloc, b"$BrzBinaryFunc", &less), Ok(wanted));
-    assert_eq!(rt;
-        kind_of(alloc, b"$BrzUnaryFunc", &less),
-        Err(KindError::BadParameter)
-    );
-    let given = [
-        Param::Num(8),
-        Param::Num(8),
-        Param::Num(4),
-        Param::Num(19),
-        word(alloc, "Subtract")?,
+    match kind_of(alloc, b"$BrzBinaryFunc", &less)? {
+        Kind::BinaryFunc {
+            op,
+            left_signed,
+            right_signed,
+        } => {
+            assert_eq!(rt; op, BinaryOp::LessThan);
+            assert!(rt; left_signed && !right_signed);
+        }
+        _ => assert!(rt; false),
+    }
+    let kind = kind_of(alloc, b"$BrzUnaryFunc", &less);
+    assert!(rt; matches!(&kind, Err(KindError::BadParameter)));
+    Ok(())
+}
+
+#[test]
+fn names_of_operations_with_an_operand(rt: HostRuntime) -> Result<(), Fail> {
+    let alloc = rt.alloc();
+    for (width, fits) in [(4, true), (64, true), (65, false), (0, false)] {
+        let given = [
+            Param::Num(8),
+            Param::Num(8),
+            Param::Num(width),
+            Param::Num(19),
+            word(alloc, "Subtract")?,
+        ];
+        match kind_of(alloc, b"$BrzBinaryFuncConstR", &given) {
+            Ok(
+                Kind::BinaryFuncConstR {
+                    op,
+                    left_signed,
+                    right,
+                },
+            ) => {
+                assert!(rt; fits);
+                assert_eq!(rt; op, BinaryOp::Subtract);
+                assert!(rt; !left_signed && !right.signed);
+                assert_eq!(rt; right.source, Source::Given(19));
+                assert_eq!(rt; u128::from(right.width), width);
+            }
+            Err(KindError::BadParameter) => assert!(rt; !fits),
+            _ => assert!(rt; false),
+        }
+    }
+    Ok(())
+}
+
+fn case_of(alloc: Global, text: &str) -> Result<Kind, KindError> {
+    kind_of(
+        alloc,
+        b"$BrzCase",
+        &[Param::Num(3), Param::Num(2), word(alloc, text)?],
+    )
+}
+
+#[test]
+fn case_calls_the_first_set_that_holds_the_value(rt: HostRuntime) -> Result<(), Fail> {
+    let rows = [
+        ("0..2,5;3", 5, Some(2)),
+        ("0..2,5;3", 0, Some(2)),
+        ("0..2,5;3", 2, Some(2)),
+        ("0..2,5;3", 3, Some(3)),
+        ("0..2,5;3", 4, None),
+        ("1..6;3", 3, Some(2)),
+        ("7;0..340282366920938463463374607431768211455", 6, Some(3)),
     ];
-    let wanted = Kind::BinaryFuncConstR {
-        op: BinaryOp::Subtract,
-        left_signed: false,
-        right: Operand {
-            source: Source::Given(19),
-            width: 4,
-            signed: false,
-        },
-    };
-    assert_eq!(rt; kind_of(alloc, b"$BrzBinaryFuncConstR", &given), Ok(wanted));
-    let wide = [
-        Param::Num(8),
-        Param::Num(8),
-        Param::Num(65),
-        Param::Num(19),
-        word(alloc, "Subtract")?,
+    for (text, value, port) in rows {
+        let kind = case_of(rt.alloc(), text)?;
+        let mut comp = begun(&rt, rt.alloc(), &kind, 2, &[push(3), SYNC, SYNC])?;
+        for _ in 0..2 {
+            let take = make(&rt, &mut comp, 1, Phase::Asked(Some(value)));
+            assert_eq!(rt; take, made(Move::Take, Some(value)));
+            for other in 2..4 {
+                assert_eq!(rt; next(&comp, other).is_some(), port == Some(other));
+            }
+            if let Some(port) = port {
+                assert_eq!(rt; next(&comp, 1), None);
+                make(&rt, &mut comp, port, Phase::Idle);
+                make(&rt, &mut comp, port, Phase::Replied(None));
+            }
+            assert_eq!(rt;
+                make(&rt, &mut comp, 1, Phase::Taken),
+                made(Move::Reply, None)
+            );
+        }
+    }
+    Ok(())
+}
+
+#[test]
+fn texts_that_are_no_specification(rt: HostRuntime) -> Result<(), Fail> {
+    let texts = [
+        "",
+        ";",
+        "1;",
+        "1,,2",
+        "a",
+        "1..",
+        "2..1",
+        "1...3",
+        "1.2",
+        "1..2..3",
+        " 1",
+        "340282366920938463463374607431768211456",
     ];
-    let refused = kind_of(alloc, b"$BrzBinaryFuncConstR", &wide);
-    assert_eq!(rt; refused, Err(KindError::BadParameter));
+    for text in texts {
+        let kind = case_of(rt.alloc(), text);
+        assert!(rt; matches!(&kind, Err(KindError::BadParameter)));
+    }
+    let three = case_of(rt.alloc(), "1..1;2;3")?;
+    assert!(rt; sizes_fit(&three, [3, 0]));
+    assert!(rt; !sizes_fit(&three, [2, 0]));
+    assert!(rt; !sizes_fit(&three, [4, 0]));
     Ok(())
 }

@@ -1,12 +1,15 @@
 //! Kinds by the names and parameters that netlists give them.
 
-ghost use Rattle.std.specs.Prelude.{◌≡◌, ◌%◌, ◌^◌, bytes_eq};
+ghost use Rattle.std.specs.Prelude.{◌≡◌, ◌⊎◌, ◌%◌, ◌^◌, bytes_eq, IfOk, IfErr, Ok, Err};
+ghost use Rattle.bz_model.specs.declared.kind.Kind.TheVariants.{Adapt};
+ghost use Rattle.bz_kinds.specs.declared.error.KindError.TheVariants.{Memory};
 ghost use Rattle.std.specs.Option.{option_copied};
-ghost use Rattle.bz_kinds.specs.Naming.{named, kind_by, kind_with, text, number, flag, given_flag, variable_by, constant_by, unary_by, binary_by, const_by, slice_by, given, unary_named, binary_named};
+ghost use Rattle.bz_kinds.specs.Naming.{named, kind_by, kind_with, text, number, flag, given_flag, case_by, variable_by, constant_by, unary_by, binary_by, const_by, slice_by, given, unary_named, binary_named};
 
 use crate::error::KindError;
+use crate::specification::specification;
 use bz_model::{BinaryOp, Kind, MAX_WIDTH, Operand, Param, Source, UnaryOp, Value};
-use std::alloc::Global;
+use std::alloc::{AllocError, Global};
 
 /// The names of kinds.
 #[derive(Clone, Copy)]
@@ -18,6 +21,7 @@ pub enum Name {
     Fork,
     ForkPush,
     While,
+    Case,
     Fetch,
     Variable,
     Constant,
@@ -38,13 +42,14 @@ pub enum Name {
 /// The kind of this name with these parameters.
 ///
 /// A name that no kind has is `UnknownComponent`; parameters that the kind cannot have are `BadParameter`.
-pub fn kind_of(_alloc: Global, name: &[u8], params: &[Param]) -> Result<Kind, KindError>
-    ensures { result ≡ kind_with name.now params.now }
+pub fn kind_of(alloc: Global, name: &[u8], params: &[Param]) -> Result<Kind, KindError>
+    ensures ok { IfOk result (λ kind. kind_with name.now params.now ≡ Ok kind) }
+    ensures err { IfErr result (λ e. (e ≡ Memory) ⊎ (kind_with name.now params.now ≡ Err e)) }
 {
     let Some(name) = named(name) else {
         return Err(KindError::UnknownComponent);
     };
-    let Some(kind) = kind_by(name, params) else {
+    let Some(kind) = kind_by(alloc, name, params)? else {
         return Err(KindError::BadParameter);
     };
     Ok(kind)
@@ -73,6 +78,9 @@ fn named(name: &[u8]) -> Option<Name>
     }
     if is(name, "$BrzWhile") {
         return Some(Name::While);
+    }
+    if is(name, "$BrzCase") {
+        return Some(Name::Case);
     }
     if is(name, "$BrzFetch") {
         return Some(Name::Fetch);
@@ -129,35 +137,54 @@ fn is(name: &[u8], text: &str) -> bool
 }
 
 // The kind of this name, unless it cannot have these parameters.
-fn kind_by(name: Name, params: &[Param]) -> Option<Kind>
-    ensures { result ≡ kind_by name params.now }
+fn kind_by(alloc: Global, name: Name, params: &[Param]) -> Result<Option<Kind>, AllocError>
+    ensures { IfOk result (λ kind. kind ≡ kind_by name params.now) }
 {
     match name {
-        Name::Loop => Some(Kind::Loop),
-        Name::Sequence => Some(Kind::Sequence),
-        Name::SequenceOptimised => Some(Kind::SequenceOptimised),
-        Name::Concur => Some(Kind::Concur),
-        Name::Fork => Some(Kind::Fork),
-        Name::ForkPush => Some(Kind::ForkPush),
-        Name::While => Some(Kind::While),
-        Name::Fetch => Some(Kind::Fetch),
-        Name::Variable => variable(params),
-        Name::Constant => constant(params),
-        Name::UnaryFunc => unary_func(params),
-        Name::BinaryFunc => binary_func(params),
-        Name::BinaryFuncConstR => binary_func_const(params),
-        Name::Slice => slice(params),
-        Name::Combine => Some(Kind::Combine),
-        Name::CombineEqual => Some(Kind::CombineEqual),
-        Name::Adapt => Some(Kind::Adapt {
-            signed: flag(params, 1),
-        }),
-        Name::Split => Some(Kind::Split),
-        Name::Halt => Some(Kind::Halt),
-        Name::HaltPush => Some(Kind::HaltPush),
-        Name::Continue => Some(Kind::Continue),
-        Name::ContinuePush => Some(Kind::ContinuePush),
+        Name::Loop => Ok(Some(Kind::Loop)),
+        Name::Sequence => Ok(Some(Kind::Sequence)),
+        Name::SequenceOptimised => Ok(Some(Kind::SequenceOptimised)),
+        Name::Concur => Ok(Some(Kind::Concur)),
+        Name::Fork => Ok(Some(Kind::Fork)),
+        Name::ForkPush => Ok(Some(Kind::ForkPush)),
+        Name::While => Ok(Some(Kind::While)),
+        Name::Case => case(alloc, params),
+        Name::Fetch => Ok(Some(Kind::Fetch)),
+        Name::Variable => Ok(variable(params)),
+        Name::Constant => Ok(constant(params)),
+        Name::UnaryFunc => Ok(unary_func(params)),
+        Name::BinaryFunc => Ok(binary_func(params)),
+        Name::BinaryFuncConstR => Ok(binary_func_const(params)),
+        Name::Slice => Ok(slice(params)),
+        Name::Combine => Ok(Some(Kind::Combine)),
+        Name::CombineEqual => Ok(Some(Kind::CombineEqual)),
+        Name::Adapt => Ok(Some(adapt(params))),
+        Name::Split => Ok(Some(Kind::Split)),
+        Name::Halt => Ok(Some(Kind::Halt)),
+        Name::HaltPush => Ok(Some(Kind::HaltPush)),
+        Name::Continue => Ok(Some(Kind::Continue)),
+        Name::ContinuePush => Ok(Some(Kind::ContinuePush)),
     }
+}
+
+fn adapt(params: &[Param]) -> Kind
+    ensures { result ≡ Adapt (flag params.now 1) }
+{
+    Kind::Adapt {
+        signed: flag(params, 1),
+    }
+}
+
+fn case(alloc: Global, params: &[Param]) -> Result<Option<Kind>, AllocError>
+    ensures { IfOk result (λ kind. kind ≡ case_by params.now) }
+{
+    let Some(text) = text(params, 0) else {
+        return Ok(None);
+    };
+    let Some(spans) = specification(alloc, text)? else {
+        return Ok(None);
+    };
+    Ok(Some(Kind::Case(spans)))
 }
 
 fn variable(params: &[Param]) -> Option<Kind>

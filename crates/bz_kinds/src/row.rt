@@ -1,9 +1,10 @@
 //! A kind as a row of data in its family.
 
-ghost use Rattle.std.specs.Prelude.{◌≡◌};
+ghost use Rattle.std.specs.Prelude.{◌≡◌, IfOk};
 ghost use Rattle.bz_kinds.specs.Row.{leg_of};
 
-use bz_model::{Expr, Move};
+use bz_model::{Expr, Move, Spans};
+use std::alloc::{AllocError, Global};
 
 /// One handshake of an active port: what its request sends, and the slot for what comes back.
 #[derive(Clone, Copy)]
@@ -38,11 +39,12 @@ pub enum Script {
 }
 
 /// The family of a kind, with what sets the kind apart in it.
-#[derive(Clone, Copy)]
+#[derive(Drop)]
 pub enum Plan {
     InTurn(Row),
     Together(Row),
     Cells,
+    Select(Spans),
     OneByOne(Script),
 }
 
@@ -52,6 +54,24 @@ pub struct Due {
     pub mv: Move,
     pub gives: Expr,
     pub into: u32,
+}
+
+impl Plan {
+    /// The same plan.
+    pub fn dup(&self, alloc: Global) -> Result<Plan, AllocError>
+        ensures { IfOk result (λ p. p ≡ self.now) }
+    {
+        match self {
+            Plan::InTurn(row) => Ok(Plan::InTurn(*row)),
+            Plan::Together(row) => Ok(Plan::Together(*row)),
+            Plan::Cells => Ok(Plan::Cells),
+            Plan::Select(spans) => {
+                let spans = spans.dup(alloc)?;
+                Ok(Plan::Select(spans))
+            }
+            Plan::OneByOne(script) => Ok(Plan::OneByOne(*script)),
+        }
+    }
 }
 
 impl Legs {

@@ -1,6 +1,6 @@
 //! The plan of each kind.
 
-ghost use Rattle.std.specs.Prelude.{◌≡◌, ◌<◌, ◌%◌, ◌^◌};
+ghost use Rattle.std.specs.Prelude.{◌≡◌, ◌<◌, ◌%◌, ◌^◌, IfOk, Ok};
 ghost use Rattle.bz_model.specs.declared.expr.Expr.TheVariants.{Nothing, Fixed, Unary, Bits, Joined};
 ghost use Rattle.bz_model.specs.Processes.{size, operand};
 ghost use Rattle.bz_model.specs.Rows.{MeetsRow, width};
@@ -11,9 +11,10 @@ ghost use Rattle.bz_kinds.specs.Start.{IsShapeOf};
 use crate::row::{Leg, Legs, Plan, Row, Script};
 use crate::table::width;
 use bz_model::{Chan, Expr, Kind, Operand, Source, UnaryOp, Value, low_bits};
+use std::alloc::{AllocError, Global};
 
 /// How a component is made: its plan, how many handshakes or readers it has, and how many values it keeps.
-#[derive(Clone, Copy)]
+#[derive(Drop)]
 pub struct Shape {
     pub plan: Plan,
     pub legs: u32,
@@ -60,9 +61,14 @@ const FETCHES: Row = Row {
 };
 
 /// The shape of a kind whose arrays have these lengths, on channels that meet its row.
-pub fn shape_of(kind: &Kind, sizes: [u32; 2], chans: &[Chan]) -> Shape
+pub fn shape_of(
+    alloc: Global,
+    kind: &Kind,
+    sizes: [u32; 2],
+    chans: &[Chan],
+) -> Result<Shape, AllocError>
     requires { MeetsRow kind.now sizes chans.now }
-    ensures { IsShapeOf kind.now sizes chans.now result }
+    ensures { IfOk result (IsShapeOf kind.now sizes chans.now) }
 {
     match kind {
         Kind::Loop => fixed(Plan::OneByOne(Script::Loop), 0),
@@ -72,6 +78,10 @@ pub fn shape_of(kind: &Kind, sizes: [u32; 2], chans: &[Chan]) -> Shape
         Kind::Fork => array(Plan::Together(CALLS), sizes),
         Kind::ForkPush => array(Plan::Together(PUSHES), sizes),
         Kind::While => fixed(Plan::OneByOne(Script::While), 0),
+        Kind::Case(spans) => {
+            let spans = spans.dup(alloc)?;
+            array(Plan::Select(spans), sizes)
+        }
         Kind::Fetch => fixed(Plan::InTurn(FETCHES), 2),
         Kind::Variable => array(Plan::Cells, sizes),
         Kind::Constant(value) => fixed(constant(*value, width(chans, 0)), 0),
@@ -110,11 +120,11 @@ pub fn shape_of(kind: &Kind, sizes: [u32; 2], chans: &[Chan]) -> Shape
             }),
             2,
         ),
-        Kind::CombineEqual => Shape {
+        Kind::CombineEqual => Ok(Shape {
             plan: joins(sizes[0], width(chans, 1)),
             legs: sizes[0],
             slots: sizes[0],
-        },
+        }),
         Kind::Adapt { signed } => fixed(unary(UnaryOp::Extend, *signed, chans), 1),
         Kind::Split => fixed(split(width(chans, 1), width(chans, 2)), 2),
         Kind::Halt => fixed(Plan::OneByOne(Script::Halt(1)), 0),
@@ -125,19 +135,19 @@ pub fn shape_of(kind: &Kind, sizes: [u32; 2], chans: &[Chan]) -> Shape
 }
 
 // A plan with so many handshakes.
-fn fixed(plan: Plan, legs: u32) -> Shape
-    ensures { result ≡ record { plan = plan; legs = legs; slots = 2 } }
+fn fixed(plan: Plan, legs: u32) -> Result<Shape, AllocError>
+    ensures { result ≡ Ok (record { plan = plan; legs = legs; slots = 2 }) }
 {
-    Shape {
+    Ok(Shape {
         plan,
         legs,
         slots: 2,
-    }
+    })
 }
 
 // A plan for the members of the first array.
-fn array(plan: Plan, sizes: [u32; 2]) -> Shape
-    ensures { result ≡ record { plan = plan; legs = size sizes; slots = 2 } }
+fn array(plan: Plan, sizes: [u32; 2]) -> Result<Shape, AllocError>
+    ensures { result ≡ Ok (record { plan = plan; legs = size sizes; slots = 2 }) }
 {
     fixed(plan, sizes[0])
 }

@@ -3,7 +3,7 @@
 ghost use Rattle.std.specs.Prelude.{◌≡◌, ◌+◌, ◌*◌, ◌==◌, nat_le, ◌↔◌, ℕ, List, [], map, suc, IsTrue, All, slice_index_or};
 ghost use Rattle.std.specs.List.{list_all};
 ghost use Rattle.bz_model.specs.declared.channel.ChanKind.TheVariants.{Sync};
-ghost use Rattle.bz_model.specs.Rows.{row_of, ports_of, is_passive, active_port, fits_sizes, is_wide, least_width, asks_widths, has_widths, width};
+ghost use Rattle.bz_model.specs.Rows.{row_of, ports_of, is_passive, active_port, fits_sizes, has_sizes, asks_sizes, is_wide, least_width, asks_widths, has_widths, width};
 ghost use Rattle.bz_kinds.specs.Table.{seen, count_of, others_of, are_equal};
 
 use bz_model::{Chan, ChanKind, Kind, MAX_MEMBERS, MAX_WIDTH};
@@ -172,6 +172,8 @@ static COMBINE_EQUAL: [PortRow; 2] = [REPLIED, PULLS_EACH];
 
 static SPLIT: [PortRow; 3] = [PUSHED, PUSHES_LOW, PUSHES_HIGH];
 
+static CASE: [PortRow; 2] = [PUSHED, CALLS_EACH];
+
 static FETCH: [PortRow; 3] = [ACTIVATE, PULLS, PUSHES];
 
 static VARIABLE: [PortRow; 2] = [WRITTEN, READ_EACH];
@@ -190,6 +192,7 @@ pub fn port_table(kind: &Kind) -> &'static [PortRow]
         Kind::Fork => &FORK,
         Kind::ForkPush => &FORK_PUSH,
         Kind::While => &WHILE,
+        Kind::Case(_) => &CASE,
         Kind::Fetch => &FETCH,
         Kind::Variable => &VARIABLE,
         Kind::Constant(_) => &CONSTANT,
@@ -218,9 +221,19 @@ pub fn is_passive(kind: &Kind, sizes: [u32; 2], port: u32) -> bool
 
 /// Whether a kind's arrays may have these lengths, in the table's order.
 pub fn sizes_fit(kind: &Kind, sizes: [u32; 2]) -> bool
-    ensures { IsTrue result ↔ IsTrue (fits_sizes (row_of kind.now) sizes) }
+    ensures { IsTrue result ↔ IsTrue (has_sizes kind.now sizes) }
 {
-    fits(port_table(kind), &sizes)
+    fits(port_table(kind), &sizes) && are_members(kind, sizes)
+}
+
+// Whether there are as many members as the kind asks.
+fn are_members(kind: &Kind, sizes: [u32; 2]) -> bool
+    ensures { result ≡ asks_sizes kind.now sizes }
+{
+    match kind {
+        Kind::Case(spans) => spans.has_sets(sizes[0]),
+        _ => true,
+    }
 }
 
 /// Whether channels, in the order of the ports, carry what the kind's ports do.

@@ -221,41 +221,29 @@ fn kinds_go_by_names_and_parameters(rt: HostRuntime) -> Result<(), Fail> {
     params.push(Param::Num(8))?;
     params.push(Param::Word(b"x".to_vec(alloc)?))?;
     params.push(Param::Word(Vec::new(alloc)))?;
-    assert_eq!(rt;
-        kind_of(alloc, b"$BrzVariable", &params),
-        Ok(Kind::Variable)
-    );
-    assert_eq!(rt; kind_of(alloc, b"$BrzFork", &params), Ok(Kind::Fork));
-    assert_eq!(rt;
-        kind_of(alloc, b"$BrzForkPush", &params),
-        Ok(Kind::ForkPush)
-    );
-    assert_eq!(rt;
-        kind_of(alloc, b"$BrzWireFork", &params),
-        Err(KindError::UnknownComponent)
-    );
-    assert_eq!(rt;
-        kind_of(alloc, b"Fork", &params),
-        Err(KindError::UnknownComponent)
-    );
-    assert_eq!(rt;
-        kind_of(alloc, b"$BrzMemory", &params),
-        Err(KindError::UnknownComponent)
-    );
+    let kind = kind_of(alloc, b"$BrzVariable", &params);
+    assert!(rt; matches!(&kind, Ok(Kind::Variable)));
+    let kind = kind_of(alloc, b"$BrzFork", &params);
+    assert!(rt; matches!(&kind, Ok(Kind::Fork)));
+    let kind = kind_of(alloc, b"$BrzForkPush", &params);
+    assert!(rt; matches!(&kind, Ok(Kind::ForkPush)));
+    let kind = kind_of(alloc, b"$BrzWireFork", &params);
+    assert!(rt; matches!(&kind, Err(KindError::UnknownComponent)));
+    let kind = kind_of(alloc, b"Fork", &params);
+    assert!(rt; matches!(&kind, Err(KindError::UnknownComponent)));
+    let kind = kind_of(alloc, b"$BrzMemory", &params);
+    assert!(rt; matches!(&kind, Err(KindError::UnknownComponent)));
     params.push(Param::Word(b"y".to_vec(alloc)?))?;
-    assert_eq!(rt;
-        kind_of(alloc, b"$BrzVariable", &params),
-        Ok(Kind::Variable)
-    );
+    let kind = kind_of(alloc, b"$BrzVariable", &params);
+    assert!(rt; matches!(&kind, Ok(Kind::Variable)));
     let mut params = Vec::new(alloc);
     params.push(Param::Word(b"x".to_vec(alloc)?))?;
     params.push(Param::Flag(true))?;
     params.push(Param::Word(b"1..3".to_vec(alloc)?))?;
-    assert_eq!(rt;
-        kind_of(alloc, b"$BrzVariable", &params),
-        Err(KindError::BadParameter)
-    );
-    assert_eq!(rt; kind_of(alloc, b"$BrzLoop", &params), Ok(Kind::Loop));
+    let kind = kind_of(alloc, b"$BrzVariable", &params);
+    assert!(rt; matches!(&kind, Err(KindError::BadParameter)));
+    let kind = kind_of(alloc, b"$BrzLoop", &params);
+    assert!(rt; matches!(&kind, Ok(Kind::Loop)));
     Ok(())
 }
 

@@ -17,6 +17,7 @@ pub fn kind_word(kind: &Kind) -> &'static [u8]
         Kind::Fork => b"Fork",
         Kind::ForkPush => b"ForkPush",
         Kind::While => b"While",
+        Kind::Case(_) => b"Case",
         Kind::Fetch => b"Fetch",
         Kind::Variable => b"Variable",
         Kind::Constant(_) => b"Constant",

@@ -10,7 +10,7 @@ use Rattle.bz_model.specs.declared.channel.Chan.{Chan}
 use Rattle.bz_model.specs.declared.channel.ChanKind.{ChanKind}
 use Rattle.bz_model.specs.declared.channel.ChanKind.TheVariants.{Sync, Push, Pull}
 use Rattle.bz_model.specs.declared.kind.Kind.{Kind}
-use Rattle.bz_model.specs.declared.kind.Kind.TheVariants.{Loop, Sequence, SequenceOptimised, Concur, Fork, ForkPush, While, Fetch, Variable, Constant, UnaryFunc, BinaryFunc, BinaryFuncConstR, Slice, Combine, CombineEqual, Adapt, Split, Halt, HaltPush, Continue, ContinuePush}
+use Rattle.bz_model.specs.declared.kind.Kind.TheVariants.{Loop, Sequence, SequenceOptimised, Concur, Fork, ForkPush, While, Case, Fetch, Variable, Constant, UnaryFunc, BinaryFunc, BinaryFuncConstR, Slice, Combine, CombineEqual, Adapt, Split, Halt, HaltPush, Continue, ContinuePush}
 use Rattle.bz_model.specs.declared.expr.Expr.{Expr}
 use Rattle.bz_model.specs.declared.expr.Expr.TheVariants.{Slot, Unary, Binary, Bits}
 use Rattle.bz_model.specs.declared.expr.Operand.{Operand}
@@ -18,7 +18,7 @@ use Rattle.bz_model.specs.declared.operation.UnaryOp.{UnaryOp}
 use Rattle.bz_model.specs.declared.operation.BinaryOp.{BinaryOp}
 use Rattle.bz_model.specs.Operations.{joined}
 use Rattle.bz_model.specs.declared.operation.UnaryOp.TheVariants.{Extend}
-use Rattle.bz_model.specs.Terms.{Store, extended, Term, all, in_turn, forever, done}
+use Rattle.bz_model.specs.Terms.{Store, extended, Term, all, in_turn, forever, when, done, picks}
 use Rattle.bz_model.specs.Rows.{PortRow, active_array, passive_array, row_of, ports_of, first_size, width, widths, are_equal, is_wide, least_width, asks_widths, has_widths, MeetsRow}
 use Rattle.bz_model.specs.Processes.{process, size, member, operand, enclosed, call, pull, push}
 use Rattle.bz_model.specs.Widths.{FitsAt, GivesAt, TakesAt, Sends}
@@ -188,6 +188,9 @@ starts-fit Concur sizes chans meets = concurs sizes chans meets
 starts-fit Fork sizes chans meets = (0, (apart chans 0 1 0, (sends-all chans 0 (size sizes) (λ i. call (member i)) (λ i lt. calls chans 0 (member i)), nothing chans 0 1)))
 starts-fit ForkPush sizes chans meets = fork_pushes sizes chans meets
 starts-fit While sizes chans meets = whiles sizes chans meets
+starts-fit (Case spans) sizes chans meets =
+    let w = width chans 1 in
+    (w, ((λ e. omega arith), (sends-turns chans w 0 (size sizes) (λ i. when (picks spans (size sizes) 0 i) (call (member i))) (λ i. calls chans w (member i)), nothing chans w 1)))
 starts-fit Fetch sizes chans meets = fetches sizes chans meets
 starts-fit Variable sizes chans meets = variables sizes chans meets
 starts-fit (Constant v) sizes chans meets = constants sizes chans v meets

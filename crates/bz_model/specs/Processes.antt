@@ -7,8 +7,8 @@ use Rattle.bz_model.specs.declared.expr.Operand.{Operand}
 use Rattle.bz_model.specs.declared.expr.Source.TheVariants.{Kept}
 use Rattle.bz_model.specs.declared.operation.UnaryOp.TheVariants.{Extend}
 use Rattle.bz_model.specs.declared.kind.Kind.{Kind}
-use Rattle.bz_model.specs.declared.kind.Kind.TheVariants.{Loop, Sequence, SequenceOptimised, Concur, Fork, ForkPush, While, Fetch, Variable, Constant, UnaryFunc, BinaryFunc, BinaryFuncConstR, Slice, Combine, CombineEqual, Adapt, Split, Halt, HaltPush, Continue, ContinuePush}
-use Rattle.bz_model.specs.Terms.{Term, ask, take, reply, got, seq, par, forever, while, done, all, in_turn, no_terms, term}
+use Rattle.bz_model.specs.declared.kind.Kind.TheVariants.{Loop, Sequence, SequenceOptimised, Concur, Fork, ForkPush, While, Case, Fetch, Variable, Constant, UnaryFunc, BinaryFunc, BinaryFuncConstR, Slice, Combine, CombineEqual, Adapt, Split, Halt, HaltPush, Continue, ContinuePush}
+use Rattle.bz_model.specs.Terms.{Term, ask, take, reply, got, seq, par, forever, while, when, done, picks, all, in_turn, no_terms, term}
 use Rattle.bz_model.specs.Rows.{width}
 use Rattle.bz_model.specs.Heads.{Component, tidy}
 
@@ -52,6 +52,8 @@ process Concur sizes chans = forever (enclosed 1 1 (par (all (size sizes) (λ i.
 process Fork sizes chans = forever (enclosed 1 1 (par (all (size sizes) (λ i. call (member i)))) Nothing)
 process ForkPush sizes chans = forever (enclosed 1 0 (par (all (size sizes) (λ i. push (member i) (Slot 0)))) Nothing)
 process While sizes chans = forever (enclosed 1 1 (while 2 0 (call 3)) Nothing)
+process (Case spans) sizes chans =
+    forever (enclosed 1 0 (in_turn 0 (size sizes) (λ i. when (picks spans (size sizes) 0 i) (call (member i)))) Nothing)
 process Fetch sizes chans = forever (enclosed 1 1 (seq (pull 2 0) (seq (push 3 (Slot 0)) done)) Nothing)
 process Variable sizes chans =
     par (term (forever (enclosed 1 0 done Nothing)) (all (size sizes) (λ i. forever (enclosed (member i) 1 done (Slot 0)))))

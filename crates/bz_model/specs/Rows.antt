@@ -1,12 +1,13 @@
 -- The ports of each kind, and what its arrays and channels have to be.
-use Rattle.std.specs.Prelude.{◌≡◌, ℕ, zero, suc, ◌+◌, ◌*◌, length, drop, Bool, true, false, ◌==◌, ◌&&◌, nat_le, IsTrue, if◌then◌else◌, List, [], ◌∷◌, ◌++◌, map, replicate, slice_index_or, codes}
+use Rattle.std.specs.Prelude.{◌≡◌, ℕ, zero, suc, ◌+◌, ◌*◌, length, drop, Bool, true, false, ◌==◌, ◌&&◌, nat_le, IsTrue, if◌then◌else◌, List, [], ◌∷◌, ◌++◌, map, replicate, slice_index, slice_index_or, codes}
 use Rattle.std.specs.List.{list_all}
 use Rattle.bz_model.specs.declared.channel.Chan.{Chan}
 use Rattle.bz_model.specs.declared.channel.ChanKind.{ChanKind}
 use Rattle.bz_model.specs.declared.channel.ChanKind.TheVariants.{Sync, Push, Pull}
 use Rattle.bz_model.specs.declared.kind.Kind.{Kind}
 use Rattle.bz_model.specs.declared.channel.TheConstants.{MAX_WIDTH}
-use Rattle.bz_model.specs.declared.kind.Kind.TheVariants.{Loop, Sequence, SequenceOptimised, Concur, Fork, ForkPush, While, Fetch, Variable, Constant, UnaryFunc, BinaryFunc, BinaryFuncConstR, Slice, Combine, CombineEqual, Adapt, Split, Halt, HaltPush, Continue, ContinuePush}
+use Rattle.bz_model.specs.Specifications.{set_count}
+use Rattle.bz_model.specs.declared.kind.Kind.TheVariants.{Loop, Sequence, SequenceOptimised, Concur, Fork, ForkPush, While, Case, Fetch, Variable, Constant, UnaryFunc, BinaryFunc, BinaryFuncConstR, Slice, Combine, CombineEqual, Adapt, Split, Halt, HaltPush, Continue, ContinuePush}
 
 -- a port: its name, what its channel carries, whether it is the passive end, and whether it is an array of ports
 pub record PortRow : Type 0 where
@@ -36,6 +37,7 @@ row_of Concur = passive_port (codes "activate") Sync ∷ active_array (codes "ou
 row_of Fork = passive_port (codes "inp") Sync ∷ active_array (codes "out") Sync ∷ []
 row_of ForkPush = passive_port (codes "inp") Push ∷ active_array (codes "out") Push ∷ []
 row_of While = passive_port (codes "activate") Sync ∷ active_port (codes "guard") Pull ∷ active_port (codes "activateOut") Sync ∷ []
+row_of (Case spans) = passive_port (codes "inp") Push ∷ active_array (codes "out") Sync ∷ []
 row_of Fetch = passive_port (codes "activate") Sync ∷ active_port (codes "inp") Pull ∷ active_port (codes "out") Push ∷ []
 row_of Variable = passive_port (codes "write") Push ∷ passive_array (codes "read") Pull ∷ []
 row_of (Constant value) = passive_port (codes "out") Pull ∷ []
@@ -88,6 +90,15 @@ fits_sizes (r ∷ rs) sizes =
     then nat_le 1 (first_size sizes) && nat_le (first_size sizes) max_members && fits_sizes rs (other_sizes sizes)
     else fits_sizes rs sizes
 
+-- there are as many members as sets
+abbrev pub asks_sizes : Kind → List ℕ → Bool
+asks_sizes (Case spans) sizes = slice_index sizes 0 == set_count spans
+asks_sizes kind sizes = true
+
+-- the lengths that the kind's arrays may have
+abbrev pub has_sizes : Kind → List ℕ → Bool
+has_sizes kind sizes = fits_sizes (row_of kind) sizes && asks_sizes kind sizes
+
 -- the width of the channel at a port
 abbrev pub width : List Chan → ℕ → ℕ
 width chans zero = 0
@@ -126,6 +137,6 @@ has_widths kind chans = list_all is_wide chans && asks_widths kind chans
 
 -- a component with arrays of these lengths, on these channels in port order, meets the row of its kind
 pub record MeetsRow (kind : Kind) (sizes : List ℕ) (chans : List Chan) : Type 0 where
-  pub sizes_fit : IsTrue (fits_sizes (row_of kind) sizes)
+  pub sizes_fit : IsTrue (has_sizes kind sizes)
   pub kinds_are : map (λ c. c.kind) chans ≡ map (λ r. r.kind) (ports_of (row_of kind) sizes)
   pub widths_fit : IsTrue (has_widths kind chans)

@@ -5,6 +5,7 @@ ghost use Rattle.std.specs.Prelude.{◌≡◌, IfOk};
 use crate::channel::Value;
 use crate::expr::Operand;
 use crate::operation::{BinaryOp, UnaryOp};
+use crate::spans::Spans;
 use std::alloc::{AllocError, Global};
 
 /// The most members that an array port has. The least is 1.
@@ -12,7 +13,7 @@ pub const MAX_MEMBERS: u32 = 4096;
 
 /// The kinds of component, with their parameters. `specs/Rows.antt` has the ports of each, `specs/Processes.antt` what each
 /// does.
-#[derive(Debug, PartialEq, Eq, Drop)]
+#[derive(Debug, Drop)]
 pub enum Kind {
     Loop,
     Sequence,
@@ -21,6 +22,8 @@ pub enum Kind {
     Fork,
     ForkPush,
     While,
+    /// The sets of values, one for each member.
+    Case(Spans),
     Fetch,
     Variable,
     /// A value, of which the bits that `out` carries are replied.
@@ -56,7 +59,7 @@ pub enum Kind {
 
 impl Kind {
     /// The same kind.
-    pub fn dup(&self, _alloc: Global) -> Result<Kind, AllocError>
+    pub fn dup(&self, alloc: Global) -> Result<Kind, AllocError>
         ensures { IfOk result (λ k. k ≡ self.now) }
     {
         match self {
@@ -67,6 +70,10 @@ impl Kind {
             Kind::Fork => Ok(Kind::Fork),
             Kind::ForkPush => Ok(Kind::ForkPush),
             Kind::While => Ok(Kind::While),
+            Kind::Case(spans) => {
+                let spans = spans.dup(alloc)?;
+                Ok(Kind::Case(spans))
+            }
             Kind::Fetch => Ok(Kind::Fetch),
             Kind::Variable => Ok(Kind::Variable),
             Kind::Constant(value) => Ok(Kind::Constant(*value)),

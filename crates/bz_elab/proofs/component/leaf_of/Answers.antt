@@ -3,24 +3,24 @@ use Rattle.std.proofs.lemmas.Result.{err_from_is_err_and}
 use Rattle.bz_elab.specs.declared.error.Fault.TheVariants as fault
 use Rattle.bz_elab.specs.Refusals.{IsChannel}
 use Rattle.bz_elab.proofs.Slots.{all_arranged}
-use Rattle.bz_elab.proofs.Roles.{role_kind, role_fault, leaf_fault, not_both}
+use Rattle.bz_elab.proofs.Roles.{role_kind, role_fault_or, leaf_fault, not_both}
 use Rattle.bz_elab.proofs.component.leaf_of.Goals as goal
 
 pub returns-in_err-kind-clause-err : goal.returns-in_err-kind-clause-err
 returns-in_err-kind-clause-err c =
     let p = err_from_is_err_and c.from_residual.result c.from_residual.ensures.1 in
-    let why = rw (c.as_slice.ensures.value, c.as_slice-2.ensures.value) at c.in_err-kind.ensures in
-    rw (p.1, p.2) (role_fault c.args.channels.now c.args.component.now c.in_err-kind.field-0.0 (sym why))
+    let why = rw (c.as_slice.ensures.value, c.as_slice-2.ensures.value) at c.in_err-kind.ensures.err in
+    rw (p.1, p.2) (role_fault_or c.args.channels.now c.args.component.now c.in_err-kind.field-0.0 why)
 
 pub returns-then-not-fits_ports-clause-err : goal.returns-then-not-fits_ports-clause-err
 returns-then-not-fits_ports-clause-err c =
-    let role = role_kind c.args.component.now c.in_ok-kind.kind (sym (rw (c.as_slice.ensures.value, c.as_slice-2.ensures.value) at c.in_ok-kind.ensures)) in
+    let role = role_kind c.args.component.now c.in_ok-kind.kind (rw (c.as_slice.ensures.value, c.as_slice-2.ensures.value) at c.in_ok-kind.ensures.ok) in
     let tells = rw c.as_slice-entries.ensures.value at c.fits_ports.ensures in
     leaf_fault c.args.channels.now c.args.component.now _ fault.PortCount role (λ fits. not_both _ (tells.1 fits) c.if-not-fits_ports.true)
 
 pub returns-then-not-are_channels-clause-err : goal.returns-then-not-are_channels-clause-err
 returns-then-not-are_channels-clause-err c =
-    let role = role_kind c.args.component.now c.in_ok-kind.kind (sym (rw (c.as_slice.ensures.value, c.as_slice-2.ensures.value) at c.in_ok-kind.ensures)) in
+    let role = role_kind c.args.component.now c.in_ok-kind.kind (rw (c.as_slice.ensures.value, c.as_slice-2.ensures.value) at c.in_ok-kind.ensures.ok) in
     let named = rw c.as_slice-entries.ensures.value at c.in_ok-named.ensures in
     let tells = rw (c.as_slice-3.ensures.value, named) at c.are_channels.ensures in
     leaf_fault c.args.channels.now c.args.component.now _ fault.BadChannel role (λ within. not_both _ (tells.1 within) c.if-not-are_channels.true)
@@ -41,7 +41,7 @@ carried-requires c =
 
 pub returns-then-not-kinds_are-clause-err : goal.returns-then-not-kinds_are-clause-err
 returns-then-not-kinds_are-clause-err c =
-    let role = role_kind c.args.component.now c.in_ok-kind.kind (sym (rw (c.as_slice.ensures.value, c.as_slice-2.ensures.value) at c.in_ok-kind.ensures)) in
+    let role = role_kind c.args.component.now c.in_ok-kind.kind (rw (c.as_slice.ensures.value, c.as_slice-2.ensures.value) at c.in_ok-kind.ensures.ok) in
     let chans = rw c.as_slice-entries.ensures.value at c.in_ok-chans.ensures in
     let carried = rw (c.as_slice-4.ensures.value, chans) at c.in_ok-carried.ensures in
     let sizes = rw c.as_slice-entries.ensures.value at c.sizes_of-sizes.ensures in
@@ -50,7 +50,7 @@ returns-then-not-kinds_are-clause-err c =
 
 pub returns-then-not-widths_fit-clause-err : goal.returns-then-not-widths_fit-clause-err
 returns-then-not-widths_fit-clause-err c =
-    let role = role_kind c.args.component.now c.in_ok-kind.kind (sym (rw (c.as_slice.ensures.value, c.as_slice-2.ensures.value) at c.in_ok-kind.ensures)) in
+    let role = role_kind c.args.component.now c.in_ok-kind.kind (rw (c.as_slice.ensures.value, c.as_slice-2.ensures.value) at c.in_ok-kind.ensures.ok) in
     let chans = rw c.as_slice-entries.ensures.value at c.in_ok-chans.ensures in
     let carried = rw (c.as_slice-4.ensures.value, chans) at c.in_ok-carried.ensures in
     let tells = rw (c.as_slice-6.ensures.value, carried) at c.widths_fit.ensures in
@@ -58,7 +58,7 @@ returns-then-not-widths_fit-clause-err c =
 
 pub returns-clause-ok : goal.returns-clause-ok
 returns-clause-ok c =
-    let role = role_kind c.args.component.now c.in_ok-kind.kind (sym (rw (c.as_slice.ensures.value, c.as_slice-2.ensures.value) at c.in_ok-kind.ensures)) in
+    let role = role_kind c.args.component.now c.in_ok-kind.kind (rw (c.as_slice.ensures.value, c.as_slice-2.ensures.value) at c.in_ok-kind.ensures.ok) in
     let fits = rw c.as_slice-entries.ensures.value at c.fits_ports.ensures in
     let named = rw c.as_slice-entries.ensures.value at c.in_ok-named.ensures in
     let within = rw (c.as_slice-3.ensures.value, named) at c.are_channels.ensures in

@@ -1,4 +1,4 @@
-use Rattle.bz_kinds.proofs.PlanLaws.{turn-step, whole-step, script-step}
+use Rattle.bz_kinds.proofs.PlanLaws.{turn-step, whole-step, select-step, script-step}
 use Rattle.bz_kinds.proofs.comp.advance.Goals as goal
 
 pub returns-in-InTurn : goal.returns-in-InTurn
@@ -9,3 +9,6 @@ returns-in-Together c = whole-step _ _ c.in-Together.is _ _ _ _ _ _ _ (c.step-in
 
 pub returns-in-OneByOne : goal.returns-in-OneByOne
 returns-in-OneByOne c = script-step _ _ c.in-OneByOne.is _ _ _ _ _ _ _ c.step-in-OneByOne.ensures
+
+pub returns-in-Select : goal.returns-in-Select
+returns-in-Select c = select-step _ _ c.in-Select.is _ _ _ _ _ _ _ c.step-in-Select.ensures

@@ -23,6 +23,13 @@ carried-value-requires c =
     let (at, small, (bits, sends)) = c.comp.invariant in
     due-narrow _ _ _ _ _ _ bits at sends c.args.port c.in-Some.due found
 
+pub advance-requires-clause-place : goal.advance-requires-clause-place
+advance-requires-clause-place c =
+    let found : plan_due c.comp.inside.plan c.args.port (get_or c.comp.inside.ports c.args.port 0) ≡ Some c.in-Some.due = cc in
+    let long : length c.store.new.slots ≡ c.comp.inside.slots.len = c.store.auto.slots ∙ ap length c.deref_mut.ensures.value ∙ sym c.comp.inside.slots.ok.0 in
+    let kept = with_items_is c.comp.inside.slots c.store.new.slots long ∙ c.store.ensures ∙ ap (λ (s : List ℕ). stored c.in-Some.due.into c.incoming-incoming.result s) c.deref_mut.ensures.value in
+    still-at _ _ _ _ c.args.port c.in-Some.due c.args.phase c.incoming-incoming.result _ _ c.comp.invariant.0 found c.incoming-incoming.ensures (c.deref-2.ensures.value ∙ kept)
+
 -- the ports follow the move, where the values are those kept
 goes : (c : goal.After-advance) → Goes c.comp.inside.plan c.comp.inside.size c.comp.inside.left c.comp.inside.ports c.args.port c.advance.new.left c.advance.new.ports (with_items c.comp.inside.slots c.store.new.slots).items
 goes c = subst (λ (s : List ℕ). Goes c.comp.inside.plan c.comp.inside.size c.comp.inside.left c.comp.inside.ports c.args.port c.advance.new.left c.advance.new.ports s) c.deref-2.ensures.value c.advance.ensures
