@@ -4,7 +4,9 @@ ghost use Rattle.std.specs.Prelude.{◌≡◌, ◌∷◌, ◌++◌, [], map, IfO
 ghost use Rattle.std.specs.Option.{option_map};
 ghost use Rattle.bz_sexpr.specs.Views.{datum_view};
 ghost use Rattle.bz_breeze.specs.Records.{part_record};
-ghost use Rattle.bz_breeze.specs.Faults.{HasFault, Tells, fault_of, fault_in};
+ghost use Rattle.bz_breeze.specs.Faults.{Fault, HasFault, Tells, fault_of, fault_in};
+ghost use Rattle.bz_breeze.specs.Shapes.{AreParts};
+ghost use Rattle.bz_breeze.specs.Places.{IsFault, IsLeast};
 ghost use Rattle.bz_breeze.specs.Views.{lists_view};
 ghost use Rattle.bz_breeze.specs.Parts.{ports_form, channels_form, components_form, headed_form, form, finished, part_of, named_part, after_head, part_items, parts, HasPortChannels};
 
@@ -219,8 +221,19 @@ fn part_items(datum: &Datum) -> Option<&[Datum]>
     after_head(inside(datum)?)
 }
 
-/// The parts that the data name, or the first fault in the text.
+/// The parts that the data name, or the least fault of `specs/Places.antt`: no other stands at a lesser byte of the text.
 pub fn parts(alloc: Global, netlist: &[Datum]) -> Result<Parts, BreezeError>
+    ensures ok { IfOk result (λ ps. parts (map datum_view netlist.now) ≡ Ok (map part_record ps)) }
+    ensures named { IfOk result (λ ps. AreParts (map datum_view netlist.now) (map part_record ps)) }
+    ensures faultless { IfOk result (λ ps. (fault : Fault) → IsFault (map datum_view netlist.now) fault → ⊥) }
+    ensures err { IfErr result (Tells (parts (map datum_view netlist.now))) }
+    ensures least { IfErr result (λ e. IfSome (fault_of e) (IsLeast (map datum_view netlist.now))) }
+{
+    read_parts(alloc, netlist)
+}
+
+/// The parts that the data name, or the first fault that is met.
+fn read_parts(alloc: Global, netlist: &[Datum]) -> Result<Parts, BreezeError>
     ensures ok { IfOk result (λ ps. parts (map datum_view netlist.now) ≡ Ok (map part_record ps)) }
     ensures err { IfErr result (Tells (parts (map datum_view netlist.now))) }
 {
