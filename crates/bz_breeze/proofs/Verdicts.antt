@@ -7,7 +7,7 @@ use Rattle.std.proofs.lemmas.List.{append-nil, map-append}
 use Rattle.std.proofs.lemmas.List.Elements.{filter_map-append, filter-append}
 use Rattle.bz_sexpr.specs.Data.{Datum, leaf, items, num, truth, text, symbol, span_of}
 use Rattle.bz_sexpr.specs.declared.datum.Span.{Span}
-use Rattle.bz_sexpr.specs.Order.{IsInOrder, AreWithin}
+use Rattle.bz_sexpr.specs.Order.{IsInOrder, AreWithin, AreInOrder}
 use Rattle.bz_sexpr.specs.Views.{list_of, data_of}
 use Rattle.bz_breeze.specs.Records.{PartRecord}
 use Rattle.bz_breeze.specs.Turns.{in_turn, if_read, FaultAt}
@@ -346,11 +346,14 @@ no_parts = record { parts_are = tt; names_are = refl }
 
 -- ---- what is told of a netlist
 
--- At a fault: there it is, and none stands at a lesser byte.
-pub told_is_least : (netlist : List Datum) (e : Fault) → parts netlist ≡ Err e → IsLeast netlist e
-told_is_least netlist e h = record {
-  holds = fault_in list_steps netlist [] [] e no_parts h;
-  least = λ end order other f. least_in list_steps netlist [] [] e 0 end no_parts order h other f;
+-- At a fault: there it is, and in a text none stands at a lesser byte.
+told_is_there : (netlist : List Datum) (e : Fault) → parts netlist ≡ Err e → IsFault netlist e
+told_is_there netlist e h = fault_in list_steps netlist [] [] e no_parts h
+
+told_is_least : (netlist : List Datum) (end : ℕ) → AreInOrder netlist end → (e : Fault) → parts netlist ≡ Err e → IsLeast netlist e
+told_is_least netlist end order e h = record {
+  holds = told_is_there netlist e h;
+  least = λ other f. least_in list_steps netlist [] [] e 0 end no_parts order h other f;
 }
 
 -- At records: these are named, and nothing is wrong.
@@ -367,6 +370,10 @@ pub faultless_answer : {X E : Type 0} (netlist : List Datum) (r : Result X E) (f
 faultless_answer netlist (Ok x) f read = (read_is_named netlist (f x) read).1
 faultless_answer netlist (Err e) f read = tt
 
-pub least_answer : {X : Type 0} (netlist : List Datum) (r : Result X BreezeError) → IfErr r (Tells (parts netlist)) → IfErr r (λ e. IfSome (fault_of e) (IsLeast netlist))
-least_answer netlist (Ok x) told = tt
-least_answer netlist (Err e) told = IfSome_then (fault_of e) told (λ fault h. told_is_least netlist fault h)
+pub fault_answer : {X : Type 0} (netlist : List Datum) (r : Result X BreezeError) → IfErr r (Tells (parts netlist)) → IfErr r (λ e. IfSome (fault_of e) (IsFault netlist))
+fault_answer netlist (Ok x) told = tt
+fault_answer netlist (Err e) told = IfSome_then (fault_of e) told (told_is_there netlist)
+
+pub least_answer : {X : Type 0} (netlist : List Datum) (r : Result X BreezeError) → IfErr r (Tells (parts netlist)) → (end : ℕ) → AreInOrder netlist end → IfErr r (λ e. IfSome (fault_of e) (IsLeast netlist))
+least_answer netlist (Ok x) told end order = tt
+least_answer netlist (Err e) told end order = IfSome_then (fault_of e) told (told_is_least netlist end order)

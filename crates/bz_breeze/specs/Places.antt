@@ -7,7 +7,6 @@ use Rattle.bz_model.specs.declared.channel.ChanKind.{ChanKind}
 use Rattle.bz_model.specs.declared.channel.TheConstants.{MAX_WIDTH}
 use Rattle.bz_sexpr.specs.Data.{Datum, leaf, text, span_of}
 use Rattle.bz_sexpr.specs.declared.datum.Span.{Span}
-use Rattle.bz_sexpr.specs.Order.{AreInOrder}
 use Rattle.bz_breeze.specs.Records.{ComponentRecord}
 use Rattle.bz_breeze.specs.Turns.{inside, place_of, FaultAt}
 use Rattle.bz_breeze.specs.Forms.{is_among}
@@ -101,7 +100,7 @@ pub data ListFault : List Datum → Datum → Fault → Type 0 where
 abbrev pub IsFault : List Datum → Fault → Type 0
 IsFault netlist fault = (before : List Datum) × (d : Datum) × Stands netlist before d × ListFault before d fault
 
--- A fault that stands at the least byte.
+-- A fault, where no other stands at a lesser byte.
 pub record IsLeast (netlist : List Datum) (fault : Fault) : Type 0 where
   pub holds : IsFault netlist fault
-  pub least : (end : ℕ) → AreInOrder netlist end → (other : Fault) → IsFault netlist other → fault.at ≤ other.at
+  pub least : (other : Fault) → IsFault netlist other → fault.at ≤ other.at
