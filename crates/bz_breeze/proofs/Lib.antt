@@ -1,2 +1,9 @@
 pub mod Reading
 pub mod Names
+pub mod Least
+pub mod Members
+pub mod Shapes
+pub mod Entries
+pub mod Readers
+pub mod Places
+pub mod Verdicts

@@ -1,10 +1,13 @@
 //! Reading the parts of a netlist.
 
-ghost use Rattle.std.specs.Prelude.{◌≡◌, ◌∷◌, ◌++◌, [], map, IfOk, IfErr, IfSome, Ok, Some};
+ghost use Rattle.std.specs.Prelude.{◌≡◌, ℕ, ◌∷◌, ◌++◌, [], map, IfOk, IfErr, IfSome, Ok, Some};
 ghost use Rattle.std.specs.Option.{option_map};
+ghost use Rattle.bz_sexpr.specs.Order.{AreInOrder};
 ghost use Rattle.bz_sexpr.specs.Views.{datum_view};
 ghost use Rattle.bz_breeze.specs.Records.{part_record};
-ghost use Rattle.bz_breeze.specs.Faults.{HasFault, Tells, fault_of, fault_in};
+ghost use Rattle.bz_breeze.specs.Faults.{Fault, HasFault, Tells, fault_of, fault_in};
+ghost use Rattle.bz_breeze.specs.Shapes.{AreParts};
+ghost use Rattle.bz_breeze.specs.Places.{IsFault, IsLeast};
 ghost use Rattle.bz_breeze.specs.Views.{lists_view};
 ghost use Rattle.bz_breeze.specs.Parts.{ports_form, channels_form, components_form, headed_form, form, finished, part_of, named_part, after_head, part_items, parts, HasPortChannels};
 
@@ -219,8 +222,21 @@ fn part_items(datum: &Datum) -> Option<&[Datum]>
     after_head(inside(datum)?)
 }
 
-/// The parts that the data name, or the first fault in the text.
+/// The parts that the data name, or the fault of `specs/Places.antt` that stands first: of data in the order of a text, as
+/// `bz_sexpr::read` answers them, the one at the least byte.
 pub fn parts(alloc: Global, netlist: &[Datum]) -> Result<Parts, BreezeError>
+    ensures ok { IfOk result (λ ps. parts (map datum_view netlist.now) ≡ Ok (map part_record ps)) }
+    ensures named { IfOk result (λ ps. AreParts (map datum_view netlist.now) (map part_record ps)) }
+    ensures faultless { IfOk result (λ ps. (fault : Fault) → IsFault (map datum_view netlist.now) fault → ⊥) }
+    ensures err { IfErr result (Tells (parts (map datum_view netlist.now))) }
+    ensures fault { IfErr result (λ e. IfSome (fault_of e) (IsFault (map datum_view netlist.now))) }
+    ensures least { (end : ℕ) → AreInOrder (map datum_view netlist.now) end → IfErr result (λ e. IfSome (fault_of e) (IsLeast (map datum_view netlist.now))) }
+{
+    read_parts(alloc, netlist)
+}
+
+/// The parts that the data name, or the first fault that is met.
+fn read_parts(alloc: Global, netlist: &[Datum]) -> Result<Parts, BreezeError>
     ensures ok { IfOk result (λ ps. parts (map datum_view netlist.now) ≡ Ok (map part_record ps)) }
     ensures err { IfErr result (Tells (parts (map datum_view netlist.now))) }
 {

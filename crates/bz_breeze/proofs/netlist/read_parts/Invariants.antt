@@ -3,7 +3,7 @@ use Rattle.bz_sexpr.specs.Views.{datum_view}
 use Rattle.bz_breeze.specs.Records.{part_record}
 use Rattle.bz_breeze.specs.Turns.{in_turn}
 use Rattle.bz_breeze.specs.Parts.{part, parts, HasPortChannels}
-use Rattle.bz_breeze.proofs.netlist.parts.Given as goal
+use Rattle.bz_breeze.proofs.netlist.read_parts.Given as goal
 
 abbrev pub invariant-loop-datum : goal.invariant-loop-datum
 invariant-loop-datum l = record {
