@@ -4,6 +4,8 @@
 mod ports;
 mod row;
 mod summed;
+#[cfg(test)]
+mod tests;
 
 pub use ports::PortStates;
 pub use row::BitRow;
