@@ -7,7 +7,8 @@ use Rattle.bz_breeze.specs.declared.part.Part.{Part}
 use Rattle.bz_breeze.specs.Records.{part_record}
 use Rattle.bz_breeze.specs.Parts.{parts}
 use Rattle.bz_breeze.specs.Faults.{Tells}
-use Rattle.bz_elab.specs.Refusals.{Elaborated, Applies}
+use Rattle.bz_elab.specs.Refusals.{Elaborated}
+use Rattle.bz_elab.specs.Order.{Refuses}
 use Rattle.bz_model.specs.Nets.{Wiring}
 use Rattle.bz_net.specs.Simulation.{Simulation, IsOpened}
 use Rattle.bz_cli.specs.declared.fault.Fault.{Fault}
@@ -32,7 +33,7 @@ RefusesNet text name (fault.Text e) = IfSome (outcome_of (Err e)) (ComesTo text)
 RefusesNet text name (fault.Part e) = (forms : List Datum) × ComesTo text (data_are forms) × Tells (parts forms) e
 RefusesNet text name (fault.Net e part) =
     (forms : List Datum) × ComesTo text (data_are forms)
-    × ((listed : List Part) × (parts forms ≡ Ok (map part_record listed)) × Applies listed name e)
+    × ((listed : List Part) × (parts forms ≡ Ok (map part_record listed)) × Refuses listed name e)
 RefusesNet text name fault.Read = ⊤
 RefusesNet text name fault.Memory = ⊤
 RefusesNet text name fault = ⊥

@@ -28,7 +28,7 @@ actuals_length chans [] (k ∷ ks) h = absurd h
 actuals_length chans (e ∷ es) [] h = absurd h
 actuals_length chans (e ∷ es) (k ∷ ks) h = ap suc (actuals_length chans es ks h.3)
 
-length-more : {X : Type 0} (f : Stop → List X) (ss ts : List Stop) → length (flat_map f (ss ++ ts)) ≡ length (flat_map f ss) + length (flat_map f ts)
+pub length-more : {X : Type 0} (f : Stop → List X) (ss ts : List Stop) → length (flat_map f (ss ++ ts)) ≡ length (flat_map f ss) + length (flat_map f ts)
 length-more f ss ts = ap length (flat_map-append f ss ts) ∙ length-append (flat_map f ss) (flat_map f ts)
 
 pub counts_nothing : (d : Draft) → Counts d d []

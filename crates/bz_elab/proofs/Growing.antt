@@ -28,12 +28,12 @@ owns_length [] = refl
 owns_length (s ∷ ss) = let a = own_length s in let b = owns_length ss in
     length-append (own_places s) (flat_map own_places ss) ∙ (ap (λ n. n + length (flat_map own_places ss)) a ∙ (ap (λ n. length (own_chans s) + n) b ∙ sym (length-append (own_chans s) (flat_map own_chans ss))))
 
-slice_get-left : {X : Type 0} (xs ys : List X) (i : ℕ) (x : X) → slice_get xs i ≡ Some x → slice_get (xs ++ ys) i ≡ Some x
+pub slice_get-left : {X : Type 0} (xs ys : List X) (i : ℕ) (x : X) → slice_get xs i ≡ Some x → slice_get (xs ++ ys) i ≡ Some x
 slice_get-left [] ys i x e = cc
 slice_get-left (z ∷ zs) ys zero x e = e
 slice_get-left (z ∷ zs) ys (suc i) x e = slice_get-left zs ys i x e
 
-slice_get-right : {X : Type 0} (xs ys : List X) (j : ℕ) → slice_get (xs ++ ys) (length xs + j) ≡ slice_get ys j
+pub slice_get-right : {X : Type 0} (xs ys : List X) (j : ℕ) → slice_get (xs ++ ys) (length xs + j) ≡ slice_get ys j
 slice_get-right [] ys j = let e : 0 + j ≡ j = omega arith in rw e refl
 slice_get-right (z ∷ zs) ys j = let e : suc (length zs) + j ≡ suc (length zs + j) = omega arith in rw e (slice_get-right zs ys j)
 

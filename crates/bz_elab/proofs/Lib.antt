@@ -4,10 +4,16 @@ pub mod Verdicts
 pub mod Slots
 pub mod Roles
 pub mod Counting
+pub mod Totaling
+pub mod Firsts
+pub mod Leasts
+pub mod Numbering
 pub mod Growing
+pub mod Reaching
 pub mod Soundness
 pub mod Failing
 pub mod Distinct
 pub mod Meeting
 pub mod Wiring
 pub mod Refusing
+pub mod Checking

@@ -1,5 +1,5 @@
--- The refusals that apply to a part, and that none does to an elaborated one.
-use Rattle.std.proofs.Common.{◌≡◌, ℕ, zero, suc, ◌<◌, ◌≤◌, Bool, true, false, not, None, Some, List, [], ◌∷◌, ◌++◌, length, map, ◌⊎◌, inl, inr, refl, sym, ◌∙◌, ap, subst, arith, length-append, option_and_then}
+-- No refusal applies to an elaborated part.
+use Rattle.std.proofs.Common.{◌≡◌, ℕ, zero, suc, ◌<◌, ◌≤◌, Bool, true, false, not, None, Some, List, [], ◌∷◌, ◌++◌, length, map, inl, inr, refl, sym, ◌∙◌, ap, subst, arith, length-append, option_and_then}
 use Rattle.bz_model.specs.Names.{External, external}
 use Rattle.bz_model.specs.Nets.{Site, chan_at, passive_at}
 use Rattle.bz_model.specs.Hosts.{port_is_passive}
@@ -14,30 +14,10 @@ use Rattle.bz_elab.specs.Flats.{sites_of}
 use Rattle.bz_elab.specs.Paths.{Path, named, inner, copied, role, stops, net, most_instances}
 use Rattle.bz_elab.specs.Refusals.{FaultAt, IsRecursive, IsTooMany, AppliesTo, Applies}
 use Rattle.bz_elab.specs.Wires.{HasTwo, IsLoose, IsMisused}
-use Rattle.bz_elab.specs.Seats.{WellEnded, WiringFault}
+use Rattle.bz_elab.specs.Seats.{WellEnded}
 use Rattle.bz_elab.specs.Growth.{IsNet, IsSoundBelow, Within}
 use Rattle.bz_elab.proofs.Roles.{sound_has_none}
 use Rattle.bz_elab.proofs.Wiring.{net_is}
-
--- A refusal that applies.
-
-pub applies : (parts : List Part) (name : List ℕ) (top : Part) (e : ElabError) → named parts name ≡ Some top → (e ≡ Memory) ⊎ AppliesTo parts top e → (e ≡ Memory) ⊎ Applies parts name e
-applies parts name top e is (inl h) = inl h
-applies parts name top NoPart is (inr h) = absurd h
-applies parts name top e is (inr h) = inr (top, is, h)
-
-wiring_applies : (parts : List Part) (top : Part) (e : ElabError) → WiringFault (net parts top).sites (net parts top).ports e → (e ≡ Memory) ⊎ AppliesTo parts top e
-wiring_applies parts top (TwoEnds k) h = inr h.is_in
-wiring_applies parts top (LooseEnd k) h = inr h.1.is_in
-wiring_applies parts top (PortSense k) h = inr h.2.is_in
-wiring_applies parts top Memory h = inl refl
-wiring_applies parts top e h = absurd h
-
-pub wire_applies : (parts : List Part) (top : Part) (d : Draft) (e : ElabError) → IsNet parts top d → WiringFault (sites_of d.comps.items) (map external top.ports.items) e
-    → (e ≡ Memory) ⊎ AppliesTo parts top e
-wire_applies parts top d e n h =
-    let is = net_is parts top d n in
-    wiring_applies parts top e (rw (← is) h)
 
 -- No part that is reached reaches itself: else there would be a path of any length.
 
@@ -47,7 +27,7 @@ copied-append parts top (i ∷ xs) ys =
     ap (option_and_then (λ p. inner parts p i)) (copied-append parts top xs ys) ∙
     elim (copied parts top ys) as (λ o. option_and_then (λ p. inner parts p i) (option_and_then (λ p. copied parts p xs) o) ≡ option_and_then (λ p. option_and_then (λ q. inner parts q i) (copied parts p xs)) o) [ None ↦ refl | Some p ↦ refl ]
 
-longer : (parts : List Part) (top part : Part) (path again : Path) (n : ℕ) → copied parts top path ≡ Some part → copied parts part again ≡ Some part → 0 < length again
+pub longer : (parts : List Part) (top part : Part) (path again : Path) (n : ℕ) → copied parts top path ≡ Some part → copied parts part again ≡ Some part → 0 < length again
     → (long : Path) × (copied parts top long ≡ Some part) × (n ≤ length long)
 longer parts top part path again zero at loop pos = (path, at, omega arith)
 longer parts top part path again (suc n) at loop pos =

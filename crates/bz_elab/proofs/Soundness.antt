@@ -87,7 +87,7 @@ last_of (x ∷ xs) = elim (last_of xs) [
   | inr (ys, k, e) ↦ inr (x ∷ ys, k, ap (λ zs. x ∷ zs) e)
 ]
 
-inner_within : (parts : List Part) (part : Part) (k : ℕ) (p : Part) → inner parts part k ≡ Some p → k ≤ length part.components.items
+pub inner_within : (parts : List Part) (part : Part) (k : ℕ) (p : Part) → inner parts part k ≡ Some p → k ≤ length part.components.items
 inner_within parts part zero p e = omega arith
 inner_within parts part (suc i) p e = elim (slice_get part.components.items i) as (λ o. slice_get part.components.items i ≡ o → suc i ≤ length part.components.items) [
   | None ↦ λ f. let no = rw f at e in cc

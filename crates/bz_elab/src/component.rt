@@ -11,6 +11,7 @@ ghost use Rattle.bz_elab.specs.Entries.{flattened, singles, lists, single_of, li
 ghost use Rattle.bz_elab.specs.Paths.{leaf_role, of_kind, instance};
 ghost use Rattle.bz_elab.specs.Refusals.{HasFault, IsChannel, kinds_of, widths_of, formals_of, HasPortChannels};
 ghost use Rattle.bz_elab.specs.Growth.{IsFlat, IsSoundInstance};
+ghost use Rattle.bz_elab.specs.Order.{NoneBefore};
 
 use crate::error::Fault;
 use crate::flat::FlatComp;
@@ -23,6 +24,7 @@ use std::alloc::{AllocError, Global};
 pub fn leaf_of(alloc: Global, channels: &[Chan], component: &Component) -> Result<FlatComp, Fault>
     ensures ok { IfOk result (IsFlat channels.now component.now) }
     ensures err { IfErr result (λ f. (f ≡ fault.Memory) ⊎ HasFault channels.now component.now (leaf_role component.now) f) }
+    ensures first { IfErr result (NoneBefore channels.now component.now (leaf_role component.now)) }
 {
     let entries = component.entries.as_slice();
     let kind = kind_of(
@@ -59,6 +61,7 @@ pub fn instance_of(
     requires { HasPortChannels inner.now }
     ensures ok { IfOk result (λ v. (v.items ≡ flattened component.now.entries.items) × IsSoundInstance channels.now component.now inner.now) }
     ensures err { IfErr result (λ f. (f ≡ fault.Memory) ⊎ HasFault channels.now component.now (instance inner.now) f) }
+    ensures first { IfErr result (NoneBefore channels.now component.now (instance inner.now)) }
 {
     let named = flattened(alloc, component.entries.as_slice())?;
     if named.len() != inner.ports.len() {

@@ -4,8 +4,10 @@ ghost use Rattle.std.specs.Prelude.{◌≡◌, ◌⊎◌, IfOk, IfErr};
 ghost use Rattle.std.specs.List.{All};
 ghost use Rattle.bz_elab.specs.declared.error.ElabError.{ElabError};
 ghost use Rattle.bz_elab.specs.declared.error.ElabError.TheVariants.{Memory};
+ghost use Rattle.bz_elab.specs.Order.{Refuses};
 ghost use Rattle.bz_elab.specs.Refusals.{HasPortChannels, Applies, Elaborated};
 
+use crate::check::check;
 use crate::ends::wire;
 use crate::error::ElabError;
 use crate::flat::{Flat, Pieces};
@@ -20,12 +22,13 @@ pub fn elaborate(alloc: Global, parts: &[Part], top: &[u8]) -> Result<Flat, Elab
     requires { All HasPortChannels parts.now }
     ensures ok { IfOk result (λ flat. Elaborated parts.now top.now flat.wiring) }
     ensures fit { IfOk result (λ flat. (e : ElabError) → Applies parts.now top.now e → ⊥) }
-    ensures err { IfErr result (λ e. (e ≡ Memory) ⊎ Applies parts.now top.now e) }
+    ensures err { IfErr result (λ e. (e ≡ Memory) ⊎ Refuses parts.now top.now e) }
 {
     let Some(number) = find(parts, top) else {
         return Err(ElabError::NoPart);
     };
     let part = &parts[number];
+    check(alloc, parts, number, part)?;
     let draft = net_of(alloc, parts, number, part)?;
     let ends = wire(
         alloc,

@@ -5,6 +5,7 @@ ghost use Rattle.bz_kinds.specs.declared.error.KindError.{KindError};
 ghost use Rattle.bz_elab.specs.declared.error.ElabError.TheVariants.{Memory};
 ghost use Rattle.bz_elab.specs.declared.error.Fault.TheVariants as fault;
 ghost use Rattle.bz_elab.specs.Faults.{fault_of, error_at};
+ghost use Rattle.bz_elab.specs.Order.{order};
 
 use bz_kinds::KindError;
 use std::alloc::{AllocError, AllocFailed};
@@ -93,6 +94,21 @@ pub enum Fault {
 }
 
 impl Fault {
+    /// The number of its refusal in the order of refusals, 0 for want of memory.
+    pub fn order(self) -> u32
+        ensures { result ≡ order self }
+    {
+        match self {
+            Fault::Memory => 0,
+            Fault::UnknownComponent => 4,
+            Fault::BadParameter => 5,
+            Fault::PortCount => 6,
+            Fault::BadChannel => 7,
+            Fault::KindMismatch => 9,
+            Fault::WidthMismatch => 10,
+        }
+    }
+
     /// The refusal of a component that stands here.
     pub fn at(self, spot: Spot) -> ElabError
         ensures { result ≡ error_at self spot.part spot.position }

@@ -1,11 +1,15 @@
 //! One flat net from the parts of a netlist.
 #![tactic(auto)]
 
+mod check;
 mod component;
 mod elaboration;
 mod ends;
 mod error;
+mod faults;
 mod flat;
+mod reach;
+mod totals;
 mod walk;
 
 pub use elaboration::elaborate;

@@ -5,6 +5,8 @@ ghost use Rattle.std.specs.List.{All};
 ghost use Rattle.bz_elab.specs.declared.error.ElabError.TheVariants.{Memory, TooBig};
 ghost use Rattle.bz_elab.specs.Paths.{instance, leaf_role, copy, leaf, named, most_instances};
 ghost use Rattle.bz_elab.specs.Refusals.{AppliesTo, HasPortChannels, most_ends};
+ghost use Rattle.bz_elab.specs.Numbers.{number_named};
+ghost use Rattle.bz_elab.specs.Order.{rank};
 ghost use Rattle.bz_elab.specs.Wires.{most_comps, most_chans};
 ghost use Rattle.bz_elab.specs.Growth.{AreActuals, Entered, LeafAdded, CopyAdded, Refused, Flattened, Counted, Fails, IsNet, IsSoundBelow, Within};
 
@@ -16,16 +18,16 @@ use bz_model::Chan;
 use std::alloc::{AllocError, Global};
 
 /// The greatest number of components of a net.
-const MOST_COMPONENTS: usize = 1_000_000;
+pub const MOST_COMPONENTS: usize = 1_000_000;
 
 /// The greatest number of channels of a net.
-const MOST_CHANNELS: usize = 2_000_000;
+pub const MOST_CHANNELS: usize = 2_000_000;
 
 /// The greatest number of component ends of a net.
-const MOST_ENDS: usize = 4_000_000;
+pub const MOST_ENDS: usize = 4_000_000;
 
 /// The greatest number of instances on a path.
-const MOST_INSTANCES: u32 = 64;
+pub const MOST_INSTANCES: u32 = 64;
 
 /// The net so far, and how many ends its components have.
 #[derive(Drop)]
@@ -39,6 +41,7 @@ pub struct Draft {
 pub fn find(parts: &[Part], name: &[u8]) -> Option<usize>
     ensures part { option_and_then (slice_get parts.now) result ≡ named parts.now name.now }
     ensures within { IfSome result (λ n. n < length parts.now) }
+    ensures number { result ≡ number_named parts.now name.now }
 {
     for (number, part) in parts.iter().enumerate() {
         if part.name.as_slice() == name {
@@ -184,6 +187,7 @@ fn flatten(
     ensures counted { OnOk result (Counted parts.now part.now depth draft.old draft.new) }
     ensures sound { OnOk result (IsSoundBelow parts.now part.now depth) }
     ensures err { IfErr result (Fails parts.now part.now depth draft.old) }
+    ensures early { IfErr result (λ e. rank e ≤ 10) }
 {
     for (place, component) in part.components.iter().enumerate() {
         let spot = Spot {
@@ -236,6 +240,7 @@ pub fn net_of(alloc: Global, parts: &[Part], number: usize, part: &Part) -> Resu
     ensures ok { IfOk result (IsNet parts.now part.now) }
     ensures sound { OnOk result (IsSoundBelow parts.now part.now most_instances) }
     ensures err { IfErr result (λ e. (e ≡ Memory) ⊎ AppliesTo parts.now part.now e) }
+    ensures early { IfErr result (λ e. rank e ≤ 10) }
 {
     let mut draft = Draft {
         chans: Vec::new(alloc),

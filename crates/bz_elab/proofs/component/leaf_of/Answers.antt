@@ -4,6 +4,7 @@ use Rattle.bz_elab.specs.declared.error.Fault.TheVariants as fault
 use Rattle.bz_elab.specs.Refusals.{IsChannel}
 use Rattle.bz_elab.proofs.Slots.{all_arranged}
 use Rattle.bz_elab.proofs.Roles.{role_kind, role_fault_or, leaf_fault, not_both}
+use Rattle.bz_elab.proofs.Firsts.{role_first_or, by_kind, count_first, channel_first, kinds_first, widths_first}
 use Rattle.bz_elab.proofs.component.leaf_of.Goals as goal
 
 pub returns-in_err-kind-clause-err : goal.returns-in_err-kind-clause-err
@@ -78,3 +79,44 @@ returns-clause-ok c =
         widths = widths.0 c.if-not-widths_fit.false;
       };
     }
+
+-- the fault is the first one
+
+pub returns-in_err-kind-clause-first : goal.returns-in_err-kind-clause-first
+returns-in_err-kind-clause-first c =
+    let p = err_from_is_err_and c.from_residual.result c.from_residual.ensures.1 in
+    let why = rw (c.as_slice.ensures.value, c.as_slice-2.ensures.value) at c.in_err-kind.ensures.err in
+    rw (p.1, p.2) (role_first_or c.args.channels.now c.args.component.now c.in_err-kind.field-0.0 why)
+
+pub returns-then-not-fits_ports-clause-first : goal.returns-then-not-fits_ports-clause-first
+returns-then-not-fits_ports-clause-first c =
+    let role = role_kind c.args.component.now c.in_ok-kind.kind (rw (c.as_slice.ensures.value, c.as_slice-2.ensures.value) at c.in_ok-kind.ensures.ok) in
+    by_kind c.args.channels.now c.args.component.now _ fault.PortCount role (count_first c.args.channels.now c.args.component.now _)
+
+pub returns-then-not-are_channels-clause-first : goal.returns-then-not-are_channels-clause-first
+returns-then-not-are_channels-clause-first c =
+    let role = role_kind c.args.component.now c.in_ok-kind.kind (rw (c.as_slice.ensures.value, c.as_slice-2.ensures.value) at c.in_ok-kind.ensures.ok) in
+    let fits = rw c.as_slice-entries.ensures.value at c.fits_ports.ensures in
+    by_kind c.args.channels.now c.args.component.now _ fault.BadChannel role (channel_first c.args.channels.now c.args.component.now _ (fits.0 c.if-not-fits_ports.false))
+
+pub returns-then-not-kinds_are-clause-first : goal.returns-then-not-kinds_are-clause-first
+returns-then-not-kinds_are-clause-first c =
+    let role = role_kind c.args.component.now c.in_ok-kind.kind (rw (c.as_slice.ensures.value, c.as_slice-2.ensures.value) at c.in_ok-kind.ensures.ok) in
+    let fits = rw c.as_slice-entries.ensures.value at c.fits_ports.ensures in
+    let named = rw c.as_slice-entries.ensures.value at c.in_ok-named.ensures in
+    let within = rw (c.as_slice-3.ensures.value, named) at c.are_channels.ensures in
+    by_kind c.args.channels.now c.args.component.now _ fault.KindMismatch role
+    (kinds_first c.args.channels.now c.args.component.now _ (fits.0 c.if-not-fits_ports.false) (within.0 c.if-not-are_channels.false))
+
+pub returns-then-not-widths_fit-clause-first : goal.returns-then-not-widths_fit-clause-first
+returns-then-not-widths_fit-clause-first c =
+    let role = role_kind c.args.component.now c.in_ok-kind.kind (rw (c.as_slice.ensures.value, c.as_slice-2.ensures.value) at c.in_ok-kind.ensures.ok) in
+    let fits = rw c.as_slice-entries.ensures.value at c.fits_ports.ensures in
+    let named = rw c.as_slice-entries.ensures.value at c.in_ok-named.ensures in
+    let within = rw (c.as_slice-3.ensures.value, named) at c.are_channels.ensures in
+    let chans = rw c.as_slice-entries.ensures.value at c.in_ok-chans.ensures in
+    let carried = rw (c.as_slice-4.ensures.value, chans) at c.in_ok-carried.ensures in
+    let sizes = rw c.as_slice-entries.ensures.value at c.sizes_of-sizes.ensures in
+    let kinds = rw (c.as_slice-5.ensures.value, carried, sizes) at c.kinds_are.ensures in
+    by_kind c.args.channels.now c.args.component.now _ fault.WidthMismatch role
+    (widths_first c.args.channels.now c.args.component.now _ (fits.0 c.if-not-fits_ports.false) (within.0 c.if-not-are_channels.false) (kinds.0 c.if-not-kinds_are.false))

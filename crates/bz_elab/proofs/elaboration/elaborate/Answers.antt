@@ -1,13 +1,34 @@
-use Rattle.std.proofs.Common.{arith, ◌≡◌, sym, ◌∙◌, refl, length, subst}
+use Rattle.std.proofs.Common.{arith, inr, ◌≡◌, sym, ◌∙◌, refl, length, subst}
 use Rattle.std.proofs.lemmas.Option.{slice_get_read}
 use Rattle.std.proofs.lemmas.Result.{err_from_is_err_and}
 use Rattle.bz_breeze.specs.declared.part.Part.{Part}
 use Rattle.bz_model.specs.Nets.{Wiring}
 use Rattle.bz_elab.specs.Refusals.{HasPortChannels}
 use Rattle.bz_elab.specs.Wires.{WellWired, EndsOf}
-use Rattle.bz_elab.proofs.Refusing.{none_applies, applies, wire_applies}
+use Rattle.bz_elab.proofs.Numbering.{named_first}
+use Rattle.bz_elab.proofs.Checking.{refuses_no_part, refuses_named, wire_refuses, walk_refuses}
+use Rattle.bz_elab.proofs.Refusing.{none_applies}
 use Rattle.bz_elab.proofs.Wiring.{net_is, comps_fit, well_wired, ends_of, ports_within, same_ports, not_too_deep}
 use Rattle.bz_elab.proofs.elaboration.elaborate.Goals as goal
+
+pub returns-in_default-clause-err : goal.returns-in_default-clause-err
+returns-in_default-clause-err c = inr (refuses_no_part c.args.parts.now c.args.top.now (sym c.in_default.ensures.part))
+
+pub check-requires-clause-part_is : goal.check-requires-clause-part_is
+check-requires-clause-part_is c =
+    slice_get_read c.args.parts.now (length c.args.parts.now) c.in-Some.number c.index-parts-number.result refl c.in-Some.ensures.within c.index-parts-number.is
+
+pub check-requires-clause-first : goal.check-requires-clause-first
+check-requires-clause-first c k e =
+    let read = slice_get_read c.args.parts.now (length c.args.parts.now) c.in-Some.number c.index-parts-number.result refl c.in-Some.ensures.within c.index-parts-number.is in
+    named_first c.args.parts.now c.args.top.now c.in-Some.number k c.index-parts-number.result (sym c.in-Some.ensures.number) read e
+
+pub returns-in_err-check-clause-err : goal.returns-in_err-check-clause-err
+returns-in_err-check-clause-err c =
+    let part = c.index-parts-number.result in
+    let read = slice_get_read c.args.parts.now (length c.args.parts.now) c.in-Some.number part refl c.in-Some.ensures.within c.index-parts-number.is in
+    let p = err_from_is_err_and c.from_residual.result c.from_residual.ensures.1 in
+    rw (p.1, p.2) (refuses_named c.args.parts.now c.args.top.now part _ (sym c.in-Some.ensures.part ∙ read) c.in_err-check.ensures.err)
 
 pub net_of-requires-clause-part_is : goal.net_of-requires-clause-part_is
 net_of-requires-clause-part_is c =
@@ -17,8 +38,9 @@ pub returns-in_err-draft-clause-err : goal.returns-in_err-draft-clause-err
 returns-in_err-draft-clause-err c =
     let part = c.index-parts-number.result in
     let read = slice_get_read c.args.parts.now (length c.args.parts.now) c.in-Some.number part refl c.in-Some.ensures.within c.index-parts-number.is in
-    let p = err_from_is_err_and c.from_residual.result c.from_residual.ensures.1 in
-    rw (p.1, p.2) (applies c.args.parts.now c.args.top.now part _ (sym c.in-Some.ensures.part ∙ read) c.in_err-draft.ensures.err)
+    let p = err_from_is_err_and c.from_residual-in_err-draft.result c.from_residual-in_err-draft.ensures.1 in
+    rw (p.1, p.2) (refuses_named c.args.parts.now c.args.top.now part _ (sym c.in-Some.ensures.part ∙ read)
+    (walk_refuses c.args.parts.now part _ c.in_ok-check.ensures.ok c.in_err-draft.ensures.early c.in_err-draft.ensures.err))
 
 pub wire-requires-clause-fit : goal.wire-requires-clause-fit
 wire-requires-clause-fit c =
@@ -41,8 +63,8 @@ returns-in_err-ends-clause-err c =
     let read = slice_get_read c.args.parts.now (length c.args.parts.now) c.in-Some.number part refl c.in-Some.ensures.within c.index-parts-number.is in
     let p = err_from_is_err_and c.from_residual-in_err-ends.result c.from_residual-in_err-ends.ensures.1 in
     let why = rw (c.as_slice.ensures.value, c.as_slice-2.ensures.value) at c.in_err-ends.ensures.err in
-    rw (p.1, p.2) (applies c.args.parts.now c.args.top.now part _ (sym c.in-Some.ensures.part ∙ read)
-    (wire_applies c.args.parts.now part draft _ c.in_ok-draft.ensures.ok why))
+    rw (p.1, p.2) (refuses_named c.args.parts.now c.args.top.now part _ (sym c.in-Some.ensures.part ∙ read)
+    (wire_refuses c.args.parts.now part draft _ c.in_ok-draft.ensures.ok c.in_ok-check.ensures.ok why))
 
 pub of-requires-clause-wired : goal.of-requires-clause-wired
 of-requires-clause-wired c =

@@ -1,15 +1,16 @@
-use Rattle.std.proofs.Common.{arith, ◌≡◌, ◌<◌, ◌++◌, [], List, length, take, refl, sym, ◌∙◌, ap, suc, subst, add-one}
+use Rattle.std.proofs.Common.{arith, ◌≡◌, ◌<◌, ◌++◌, [], ◌∷◌, List, length, take, refl, sym, ◌∙◌, ap, suc, subst, add-one}
 use Rattle.std.proofs.lemmas.List.{take_all}
 use Rattle.std.proofs.lemmas.Option.{slice_get_read}
 use Rattle.std.proofs.lemmas.Result.{err_from_is_err_and}
 use Rattle.std.specs.List.{flat_map}
 use Rattle.bz_breeze.specs.declared.part.Component.{Component}
-use Rattle.bz_elab.specs.Paths.{Role, chans_of_copy, each_from, visit, walk, own_places}
+use Rattle.bz_elab.specs.Paths.{Role, instance, leaf_role, chans_of_copy, copy, leaf, each_from, visit, walk, own_places}
 use Rattle.bz_elab.specs.Growth.{Counts, IsSound}
 use Rattle.bz_elab.proofs.Counting.{counts_step, counts_leaf_step, counts_copy_step, leaf_ends}
 use Rattle.bz_elab.proofs.Growing.{flatten_step, leaf_step, copy_step, copies_grow, length_grown, component_at, actuals_count}
 use Rattle.bz_elab.proofs.Soundness.{part_at, SoundUpTo, sound_leaf, sound_copy, sound_all}
 use Rattle.bz_elab.proofs.Failing.{leaf_fails, copy_fails, deeper_fails, deep_ends, sound_by_none, sound_by_some}
+use Rattle.bz_elab.proofs.Leasts.{refused_early}
 use Rattle.bz_elab.proofs.walk.+flatten.Goals as goal
 use Rattle.bz_elab.proofs.walk.+flatten.Goals.{in-None+in_ok-add_leaf-in-None, in-Some+else-depth-eq0+in_ok-inner_chans-in-Some+in_ok-flatten-in-Some}
 
@@ -120,3 +121,20 @@ returns-clause-counted t c path =
     let items = c.deref-component-items.result.now in
     let whole : take c.loop-place.place items ≡ c.args.part.now.components.items = take_all c.loop-place.place items (omega arith) ∙ c.deref-component-items.ensures.value in
     subst (λ (xs : List Component). Counts c.args.draft.now c.loop-place.draft (each_from 1 (visit c.args.parts.now path (walk c.args.parts.now c.args.depth)) xs)) whole (c.loop-place.invariant.counts path)
+
+-- no refusal of the walk comes after the others of its part
+
+pub returns-in_err-add_leaf-in-None-clause-early : goal.returns-in_err-add_leaf-in-None-clause-early
+returns-in_err-add_leaf-in-None-clause-early t c =
+    let p = err_from_is_err_and c.from_residual.result c.from_residual.ensures.1 in
+    rw (p.1, p.2) (refused_early c.as_slice-in-None.result.now c.component-item.result (leaf_role c.component-item.result) c.loop-place.draft (leaf [] c.component-item.result) _ _ _ c.in_err-add_leaf-in-None.ensures.err)
+
+pub returns-in_err-inner_chans-in-Some-clause-early : goal.returns-in_err-inner_chans-in-Some-clause-early
+returns-in_err-inner_chans-in-Some-clause-early t c =
+    let p = err_from_is_err_and c.from_residual-in_err-inner_chans-in-Some.result c.from_residual-in_err-inner_chans-in-Some.ensures.1 in
+    rw (p.1, p.2) (refused_early c.as_slice-in-Some.result.now c.component-item.result (instance c.index-parts-inner.result) c.loop-place.draft (copy (0 ∷ []) c.index-parts-inner.result) _ _ _ c.in_err-inner_chans-in-Some.ensures.err)
+
+pub returns-in_err-flatten-in-Some-clause-early : goal.returns-in_err-flatten-in-Some-clause-early
+returns-in_err-flatten-in-Some-clause-early t c =
+    let p = err_from_is_err_and c.from_residual-in_err-flatten-in-Some.result c.from_residual-in_err-flatten-in-Some.ensures.1 in
+    rw (p.1, p.2) c.in_err-flatten-in-Some.ensures.early

@@ -1,4 +1,4 @@
-use Rattle.std.proofs.Common.{ap, length, refl, inl, inr}
+use Rattle.std.proofs.Common.{arith, ap, length, refl, inl, inr}
 use Rattle.std.proofs.lemmas.Result.{err_from_is_err_and}
 use Rattle.bz_elab.proofs.Growing.{whole_net, top_length}
 use Rattle.bz_elab.proofs.Failing.{top_big, top_fails}
@@ -28,3 +28,16 @@ returns-clause-ok c =
     let entered = rw c.new-3.ensures.items at c.in_ok-chans.ensures.ok in
     let deeper = rw c.as_slice.ensures.value at c.in_ok-flatten.ensures.ok in
     whole_net c.args.parts.now c.args.part.now _ _ _ _ c.new.ensures.items c.new-2.ensures.items refl entered deeper c.in_ok-flatten.ensures.counted
+
+pub returns-in_err-chans-clause-early : goal.returns-in_err-chans-clause-early
+returns-in_err-chans-clause-early c =
+    let p = err_from_is_err_and c.from_residual.result c.from_residual.ensures.1 in
+    rw (p.1, p.2) (elim c.in_err-chans.ensures.err [
+      | inl memory ↦ rw memory (omega arith)
+      | inr (big, many) ↦ rw big (omega arith)
+    ])
+
+pub returns-in_err-flatten-clause-early : goal.returns-in_err-flatten-clause-early
+returns-in_err-flatten-clause-early c =
+    let p = err_from_is_err_and c.from_residual-in_err-flatten.result c.from_residual-in_err-flatten.ensures.1 in
+    rw (p.1, p.2) c.in_err-flatten.ensures.early

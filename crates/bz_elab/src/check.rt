@@ -1,0 +1,109 @@
+//! The refusals that are found without making the net.
+
+ghost use Rattle.std.specs.Prelude.{◌≡◌, ◌≤◌, ◌⊎◌, true, false, List, Some, slice_get, IfOk, IfErr, OnOk};
+ghost use Rattle.std.specs.List.{All};
+ghost use Rattle.bz_elab.specs.declared.error.ElabError.TheVariants.{Memory};
+ghost use Rattle.bz_breeze.specs.declared.part.Part.{Part};
+ghost use Rattle.bz_elab.specs.Paths.{stops, most_instances};
+ghost use Rattle.bz_elab.specs.Refusals.{HasPortChannels, IsTooMany};
+ghost use Rattle.bz_elab.specs.Order.{RefusesPart, PassesPart};
+ghost use Rattle.bz_elab.specs.Numbers.{IsFirstPlace, IsReached, Marks};
+ghost use Rattle.bz_elab.specs.Totals.{IsTotal, IsSmall, IsWhole};
+
+use crate::error::ElabError;
+use crate::faults::least_fault;
+use crate::reach::{first_recursive, reached};
+use crate::totals::{Total, capped, total_of};
+use crate::walk::{MOST_CHANNELS, MOST_COMPONENTS, MOST_ENDS, MOST_INSTANCES};
+use bz_breeze::Part;
+use std::alloc::{AllocError, Global};
+
+/// Finds the first refusal of a part and all that it reaches, by what can be told without making the net.
+pub fn check(alloc: Global, parts: &[Part], number: usize, part: &Part) -> Result<(), ElabError>
+    requires whole { All HasPortChannels parts.now }
+    requires part_is { slice_get parts.now number ≡ Some part.now }
+    requires first { IsFirstPlace parts.now number part.now }
+    ensures ok { OnOk result (PassesPart parts.now part.now) }
+    ensures err { IfErr result (λ e. (e ≡ Memory) ⊎ RefusesPart parts.now part.now e) }
+{
+    let marks = reached(alloc, parts, number)?;
+    match whole_total(alloc, parts, number, part)? {
+        Some(total) => check_parts(alloc, parts, number, part, marks.as_slice(), total),
+        None => match first_recursive(alloc, parts, marks.as_slice())? {
+            Some(recursive) => Err(ElabError::Recursive(recursive)),
+            None => Err(ElabError::TooDeep),
+        },
+    }
+}
+
+// Finds the first refusal of the marked parts, which go no deeper than they may, and of the size of the net.
+fn check_parts(
+    alloc: Global,
+    parts: &[Part],
+    number: usize,
+    part: &Part,
+    marks: &[bool],
+    total: Total,
+) -> Result<(), ElabError>
+    requires whole { All HasPortChannels parts.now }
+    requires part_is { slice_get parts.now number ≡ Some part.now }
+    requires first { IsFirstPlace parts.now number part.now }
+    requires marks { Marks parts.now (IsReached parts.now number) marks.now }
+    requires total { IsTotal parts.now part.now total }
+    requires within { total.height ≤ most_instances }
+    ensures ok { OnOk result (PassesPart parts.now part.now) }
+    ensures err { IfErr result (λ e. (e ≡ Memory) ⊎ RefusesPart parts.now part.now e) }
+{
+    let is_big = is_too_big(part, total);
+    match least_fault(alloc, parts, marks)? {
+        Some(found) => {
+            if found.fault.order() < 8 {
+                return Err(found.error());
+            }
+            if is_big {
+                return Err(ElabError::TooBig);
+            }
+            Err(found.error())
+        }
+        None => {
+            if is_big {
+                return Err(ElabError::TooBig);
+            }
+            Ok(())
+        }
+    }
+}
+
+// What lies below the copy of a part, `None` where a path is too long.
+fn whole_total(
+    alloc: Global,
+    parts: &[Part],
+    number: usize,
+    part: &Part,
+) -> Result<Option<Total>, AllocError>
+    requires whole { All HasPortChannels parts.now }
+    requires part_is { slice_get parts.now number ≡ Some part.now }
+    ensures { IfOk result (IsWhole parts.now part.now) }
+{
+    let mut totals = vec![in alloc; None; parts.len()]?;
+    Ok(total_of(parts, number, part, MOST_INSTANCES, totals.as_mut_slice()))
+}
+
+// Whether the net has more than it may have.
+fn is_too_big(part: &Part, total: Total) -> bool
+    requires { IsSmall total }
+    ensures big { result ≡ true → (parts : List Part) → IsTotal parts part.now total → total.height ≤ most_instances → IsTooMany 0 0 0 (stops parts part.now) }
+    ensures fits { result ≡ false → (parts : List Part) → IsTotal parts part.now total → total.height ≤ most_instances → IsTooMany 0 0 0 (stops parts part.now) → ⊥ }
+{
+    let chans = capped(MOST_CHANNELS, total.chans, part.channels.len());
+    if total.comps > MOST_COMPONENTS {
+        return true;
+    }
+    if chans > MOST_CHANNELS {
+        return true;
+    }
+    if total.ends > MOST_ENDS {
+        return true;
+    }
+    false
+}
