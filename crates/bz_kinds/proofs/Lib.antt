@@ -5,6 +5,7 @@ pub mod TogetherLaws
 pub mod Counts
 pub mod TogetherSteps
 pub mod TogetherDue
+pub mod OnceLaws
 pub mod InTurnLaws
 pub mod InTurnDue
 pub mod CellsLaws

@@ -13,7 +13,7 @@ use Rattle.bz_model.proofs.Fitting.{sends-head, sends-tidy}
 use Rattle.bz_kinds.specs.declared.row.Due.{Due}
 use Rattle.bz_kinds.specs.declared.row.Row.{Row}
 use Rattle.bz_kinds.specs.declared.row.Plan.{Plan}
-use Rattle.bz_kinds.specs.declared.row.Plan.TheVariants.{InTurn, Together, Cells, Select, OneByOne}
+use Rattle.bz_kinds.specs.declared.row.Plan.TheVariants.{InTurn, Together, Once, Cells, Select, OneByOne}
 use Rattle.bz_kinds.specs.Row.{due_of, row_due, is_open, lead_due, leg_due, leg_of}
 use Rattle.bz_kinds.specs.declared.row.Leg.{Leg}
 use Rattle.bz_kinds.specs.Comp.{todo_of, IsAt, plan_due, Goes}
@@ -24,6 +24,8 @@ use Rattle.bz_kinds.specs.Together as whole
 use Rattle.bz_kinds.specs.Cells as cell
 use Rattle.bz_kinds.proofs.InTurnDue as in_turn
 use Rattle.bz_kinds.proofs.TogetherDue as together
+use Rattle.bz_kinds.proofs.OnceLaws as once
+use Rattle.bz_kinds.specs.Once as single
 use Rattle.bz_kinds.proofs.CellsLaws as cells
 use Rattle.bz_kinds.proofs.ScriptLaws as one_by_one
 use Rattle.bz_kinds.proofs.SelectLaws as select
@@ -42,6 +44,7 @@ use Rattle.bz_kinds.specs.Cells.{taken_into, answer, cell_due}
 pub heads-due : (plan : Plan) (n left : ℕ) (w : List ℕ) (s : Store) → IsAt plan n left w s → (h : Head) → IsHead (todo_of plan n left w) h → plan_due plan h.port (get_or w h.port 0) ≡ Some (due_of h)
 heads-due (InTurn row) n left w s ok h at = in_turn.heads-due row n left w ok h at
 heads-due (Together row) n left w s ok h at = together.heads-due row n left w ok h at
+heads-due (Once row) n left w s ok h at = once.heads-due row n left w ok h at
 heads-due Cells n left w s ok h at = cells.heads-due n w ok h at
 heads-due (Select spans) n left w s ok h at = select.heads-due spans n left w ok.0 h at
 heads-due (OneByOne script) n left w s ok h at = one_by_one.heads-due script left w ok h at
@@ -49,6 +52,7 @@ heads-due (OneByOne script) n left w s ok h at = one_by_one.heads-due script lef
 pub due-heads : (plan : Plan) (n left : ℕ) (w : List ℕ) (s : Store) → IsAt plan n left w s → (p : ℕ) (d : Due) → plan_due plan p (get_or w p 0) ≡ Some d → (h : Head) × IsHead (todo_of plan n left w) h × (h.port ≡ p)
 due-heads (InTurn row) n left w s ok p d e = in_turn.due-heads row n left w ok p d e
 due-heads (Together row) n left w s ok p d e = together.due-heads row n left w ok p d e
+due-heads (Once row) n left w s ok p d e = once.due-heads row n left w ok p d e
 due-heads Cells n left w s ok p d e = cells.due-heads n w ok p d e
 due-heads (Select spans) n left w s ok p d e = select.due-heads spans n left w ok.0 p d e
 due-heads (OneByOne script) n left w s ok p d e = one_by_one.due-heads script left w ok p d e
@@ -56,6 +60,7 @@ due-heads (OneByOne script) n left w s ok p d e = one_by_one.due-heads script le
 pub one-head : (plan : Plan) (n left : ℕ) (w : List ℕ) (s : Store) → IsAt plan n left w s → HasOneHead (todo_of plan n left w)
 one-head (InTurn row) n left w s ok = in_turn.one-head row n left w ok
 one-head (Together row) n left w s ok = together.one-head row n left w ok
+one-head (Once row) n left w s ok = once.one-head row n left w ok
 one-head Cells n left w s ok = cells.one-head n w ok
 one-head (Select spans) n left w s ok = select.one-head spans n left w ok.0
 one-head (OneByOne script) n left w s ok = one_by_one.one-head script left w ok
@@ -106,6 +111,7 @@ script-alternates script (suc (suc p)) (suc (suc (suc a))) d e = let q : record 
 pub alternates : (plan : Plan) (p a : ℕ) (d : Due) → plan_due plan p a ≡ Some d → opens d.mv ≡ not (is_open a)
 alternates (InTurn row) p a d e = row-alternates row p a d e
 alternates (Together row) p a d e = row-alternates row p a d e
+alternates (Once row) p a d e = row-alternates row p a d e
 alternates Cells p a d e = cell-alternates p a d e
 alternates (Select spans) p a d e = row-alternates select_row p a d e
 alternates (OneByOne script) p a d e = script-alternates script p a d e
@@ -163,6 +169,9 @@ turn-step plan row e n left w p left' w' s st = rw e (record { place = st.place;
 pub whole-step : (plan : Plan) (row : Row) → plan ≡ Together row → (n left : ℕ) (w : List ℕ) (p left' : ℕ) (w' : List ℕ) (s : Store) → whole.Steps row n left w p left' w' → Goes plan n left w p left' w' s
 whole-step plan row e n left w p left' w' s st = rw e (record { place = st.place; toggles = st.toggles; leaves = λ h at f. st.leaves h at f s })
 
+pub once-step : (plan : Plan) (row : Row) → plan ≡ Once row → (n left : ℕ) (w : List ℕ) (p left' : ℕ) (w' : List ℕ) (s : Store) → single.Steps row n left w p left' w' → Goes plan n left w p left' w' s
+once-step plan row e n left w p left' w' s st = rw e (record { place = st.place; toggles = st.toggles; leaves = λ h at f. st.leaves h at f s })
+
 pub cell-step : (plan : Plan) → plan ≡ Cells → (n left : ℕ) (w : List ℕ) (p : ℕ) (w' : List ℕ) (s : Store) → cell.Steps n w p w' → Goes plan n left w p left w' s
 cell-step plan e n left w p w' s st = rw e (record { place = st.place; toggles = st.toggles; leaves = λ h at f. st.leaves h at f s })
 
@@ -208,6 +217,7 @@ still-picked spans n (suc i) w p d phase came s at picked e f = ap (λ v. set_of
 pub still-at : (plan : Plan) (n left : ℕ) (w : List ℕ) (p : ℕ) (d : Due) (phase : Phase) (came : Option ℕ) (s s' : Store) → IsAt plan n left w s → plan_due plan p (get_or w p 0) ≡ Some d → came ≡ incoming phase d.mv → s' ≡ stored d.into came s → IsAt plan n left w s'
 still-at (InTurn row) n left w p d phase came s s' ok e f st = ok
 still-at (Together row) n left w p d phase came s s' ok e f st = ok
+still-at (Once row) n left w p d phase came s s' ok e f st = ok
 still-at Cells n left w p d phase came s s' ok e f st = ok
 still-at (Select spans) n left w p d phase came s s' ok e f st = rw st (ok.0, still-picked spans n left w p d phase came s ok.0 ok.1 e f)
 still-at (OneByOne script) n left w p d phase came s s' ok e f st = ok

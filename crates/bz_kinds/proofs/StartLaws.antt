@@ -13,7 +13,7 @@ use Rattle.bz_kinds.specs.declared.row.Legs.TheVariants.{Spread}
 use Rattle.bz_model.specs.declared.expr.Expr.TheVariants.{Nothing}
 use Rattle.bz_model.specs.declared.spans.Span.{Span}
 use Rattle.bz_kinds.specs.declared.row.Plan.{Plan}
-use Rattle.bz_kinds.specs.declared.row.Plan.TheVariants.{InTurn, Together, Cells, Select, OneByOne}
+use Rattle.bz_kinds.specs.declared.row.Plan.TheVariants.{InTurn, Together, Once, Cells, Select, OneByOne}
 use Rattle.bz_kinds.specs.Row.{is_open}
 use Rattle.bz_kinds.specs.Together.{busy_count}
 use Rattle.bz_kinds.specs.Cells as cells
@@ -96,6 +96,14 @@ module _ (row : Row) (n : ℕ) where
     closed = all-closed first (member n) first-long first-closed;
   }
 
+  pub once-begins : BeginsAt (Once row) n (set (replicate (member n) 0) 1 1)
+  unfolding first
+  once-begins = record {
+    place = λ s. inl (record { place = whole-begins.place s; lead = inl (first-lead, refl) });
+    has_todo = refl;
+    closed = all-closed first (member n) first-long first-closed;
+  }
+
   pub select-begins : (spans : List Span) → BeginsAt (Select spans) n (set (replicate (member n) 0) 1 1)
   unfolding first
   select-begins spans = record {
@@ -131,6 +139,9 @@ pick-whole plan row n m w e k f = rw (e, f, k) (whole-begins row n)
 pub pick-select : (plan : Plan) (spans : List Span) (n m : ℕ) (w : List ℕ) → plan ≡ Select spans → m ≡ member n → w ≡ set (replicate m 0) 1 1 → BeginsAt plan n w
 pick-select plan spans n m w e k f = rw (e, f, k) (select-begins (record { into = 0; legs = Spread; answer = Nothing }) n spans)
 
+pub pick-once : (plan : Plan) (row : Row) (n m : ℕ) (w : List ℕ) → plan ≡ Once row → m ≡ member n → w ≡ set (replicate m 0) 1 1 → BeginsAt plan n w
+pick-once plan row n m w e k f = rw (e, f, k) (once-begins row n)
+
 pub pick-cells : (plan : Plan) (n m : ℕ) (w : List ℕ) → plan ≡ Cells → m ≡ member n → IsAllDue m w → BeginsAt plan n w
 pick-cells plan n m w e k a = rw e (cells-begin n w (a.long ∙ k) a.none (λ p le lt. a.due p le (omega arith)))
 
@@ -146,6 +157,7 @@ pick-script plan script n m w e k f = rw (e, f, k) (script-begins script n)
 tidy-start : (s : Store) (plan : Plan) (n : ℕ) → tidy s (plan_process plan n) ≡ plan_process plan n
 tidy-start s (InTurn row) n = refl
 tidy-start s (Together row) n = refl
+tidy-start s (Once row) n = refl
 tidy-start s Cells n =
     ap together (tidy-all s (suc n) (λ j. forever (cells.round j)) (λ i lt. refl)) ∙ together-busy (all (suc n) (λ j. forever (cells.round j))) refl
 tidy-start s (Select spans) n = refl

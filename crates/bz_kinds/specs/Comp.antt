@@ -5,10 +5,11 @@ use Rattle.bz_model.specs.Heads.{Head, IsHead, tidy}
 use Rattle.bz_model.specs.Processes.{member}
 use Rattle.bz_kinds.specs.declared.row.Due.{Due}
 use Rattle.bz_kinds.specs.declared.row.Plan.{Plan}
-use Rattle.bz_kinds.specs.declared.row.Plan.TheVariants.{InTurn, Together, Cells, Select, OneByOne}
+use Rattle.bz_kinds.specs.declared.row.Plan.TheVariants.{InTurn, Together, Once, Cells, Select, OneByOne}
 use Rattle.bz_kinds.specs.Row.{row_due, Toggles}
 use Rattle.bz_kinds.specs.InTurn as in_turn
 use Rattle.bz_kinds.specs.Together as together
+use Rattle.bz_kinds.specs.Once as once
 use Rattle.bz_kinds.specs.Cells as cells
 use Rattle.bz_kinds.specs.Select as select
 use Rattle.bz_kinds.specs.Script as stages
@@ -17,6 +18,7 @@ use Rattle.bz_kinds.specs.Script as stages
 abbrev pub todo_of : Plan → ℕ → ℕ → List ℕ → Term
 todo_of (InTurn row) n left w = in_turn.todo row n left w
 todo_of (Together row) n left w = together.todo row n w
+todo_of (Once row) n left w = once.todo row n left w
 todo_of Cells n left w = cells.todo n w
 todo_of (Select spans) n left w = select.todo spans n left w
 todo_of (OneByOne script) n left w = stages.todo script left
@@ -25,6 +27,7 @@ todo_of (OneByOne script) n left w = stages.todo script left
 abbrev pub IsAt : Plan → ℕ → ℕ → List ℕ → Store → Type 0
 IsAt (InTurn row) n left w s = in_turn.IsPlace n left w
 IsAt (Together row) n left w s = together.IsPlace n left w
+IsAt (Once row) n left w s = once.IsPlace n left w
 IsAt Cells n left w s = cells.IsPlace n w
 IsAt (Select spans) n left w s = select.IsPlace n left w × select.Picked spans n left s
 IsAt (OneByOne script) n left w s = w ≡ stages.numbers script left
@@ -33,6 +36,7 @@ IsAt (OneByOne script) n left w s = w ≡ stages.numbers script left
 abbrev pub plan_due : Plan → ℕ → ℕ → Option Due
 plan_due (InTurn row) p a = row_due row p a
 plan_due (Together row) p a = row_due row p a
+plan_due (Once row) p a = row_due row p a
 plan_due Cells p a = cells.cell_due p a
 plan_due (Select spans) p a = row_due select.select_row p a
 plan_due (OneByOne script) p a = stages.script_due script p a

@@ -1,7 +1,7 @@
 -- The words by which texts name the kinds: those of netlists, without the `$Brz` in front.
 use Rattle.std.specs.Prelude.{ℕ, List, codes}
 use Rattle.bz_model.specs.declared.kind.Kind.{Kind}
-use Rattle.bz_model.specs.declared.kind.Kind.TheVariants.{Loop, Sequence, SequenceOptimised, Concur, Fork, ForkPush, While, Case, Fetch, Variable, Constant, UnaryFunc, BinaryFunc, BinaryFuncConstR, Slice, Combine, CombineEqual, Adapt, Split, Halt, HaltPush, Continue, ContinuePush}
+use Rattle.bz_model.specs.declared.kind.Kind.TheVariants.{Loop, Sequence, SequenceOptimised, Concur, Fork, WireFork, ForkPush, While, Case, Fetch, Variable, Constant, UnaryFunc, BinaryFunc, BinaryFuncConstR, Slice, Combine, CombineEqual, Adapt, Split, Halt, HaltPush, Continue, ContinuePush}
 
 abbrev pub kind_word : Kind → List ℕ
 kind_word Loop = codes "Loop"
@@ -9,6 +9,7 @@ kind_word Sequence = codes "Sequence"
 kind_word SequenceOptimised = codes "SequenceOptimised"
 kind_word Concur = codes "Concur"
 kind_word Fork = codes "Fork"
+kind_word WireFork = codes "WireFork"
 kind_word ForkPush = codes "ForkPush"
 kind_word While = codes "While"
 kind_word (Case spans) = codes "Case"

@@ -6,6 +6,7 @@ pub mod Naming
 pub mod Table
 pub mod Row
 pub mod Together
+pub mod Once
 pub mod InTurn
 pub mod Cells
 pub mod Script

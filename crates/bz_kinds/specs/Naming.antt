@@ -9,7 +9,7 @@ use Rattle.bz_model.specs.declared.operation.UnaryOp.TheVariants.{Negate, Invert
 use Rattle.bz_model.specs.declared.operation.BinaryOp.{BinaryOp}
 use Rattle.bz_model.specs.declared.operation.BinaryOp.TheVariants.{Add, Subtract, ReverseSubtract, Equals, NotEquals, LessThan, GreaterThan, LessOrEquals, GreaterOrEquals, And, Or, Xor}
 use Rattle.bz_model.specs.declared.kind.Kind.{Kind}
-use Rattle.bz_model.specs.declared.kind.Kind.TheVariants.{Loop, Sequence, SequenceOptimised, Concur, Fork, ForkPush, While, Case, Fetch, Variable, Constant, UnaryFunc, BinaryFunc, BinaryFuncConstR, Slice, Combine, CombineEqual, Adapt, Split, Halt, HaltPush, Continue, ContinuePush}
+use Rattle.bz_model.specs.declared.kind.Kind.TheVariants.{Loop, Sequence, SequenceOptimised, Concur, Fork, WireFork, ForkPush, While, Case, Fetch, Variable, Constant, UnaryFunc, BinaryFunc, BinaryFuncConstR, Slice, Combine, CombineEqual, Adapt, Split, Halt, HaltPush, Continue, ContinuePush}
 use Rattle.bz_model.specs.declared.kind.Param.{Param}
 use Rattle.bz_model.specs.declared.kind.Param.TheVariants.{Num, Flag, Word}
 use Rattle.bz_kinds.specs.Texts.{specification}
@@ -25,6 +25,7 @@ name_of name.Sequence = codes "$BrzSequence"
 name_of name.SequenceOptimised = codes "$BrzSequenceOptimised"
 name_of name.Concur = codes "$BrzConcur"
 name_of name.Fork = codes "$BrzFork"
+name_of name.WireFork = codes "$BrzWireFork"
 name_of name.ForkPush = codes "$BrzForkPush"
 name_of name.While = codes "$BrzWhile"
 name_of name.Case = codes "$BrzCase"
@@ -46,7 +47,7 @@ name_of name.ContinuePush = codes "$BrzContinuePush"
 
 abbrev pub all_names : List Name
 all_names =
-    name.Loop ∷ name.Sequence ∷ name.SequenceOptimised ∷ name.Concur ∷ name.Fork ∷ name.ForkPush ∷ name.While ∷ name.Case ∷ name.Fetch ∷ name.Variable ∷ name.Constant ∷ name.UnaryFunc ∷ name.BinaryFunc ∷ name.BinaryFuncConstR ∷ name.Slice ∷ name.Combine ∷ name.CombineEqual ∷ name.Adapt ∷ name.Split ∷ name.Halt ∷ name.HaltPush ∷ name.Continue ∷ name.ContinuePush ∷ []
+    name.Loop ∷ name.Sequence ∷ name.SequenceOptimised ∷ name.Concur ∷ name.Fork ∷ name.WireFork ∷ name.ForkPush ∷ name.While ∷ name.Case ∷ name.Fetch ∷ name.Variable ∷ name.Constant ∷ name.UnaryFunc ∷ name.BinaryFunc ∷ name.BinaryFuncConstR ∷ name.Slice ∷ name.Combine ∷ name.CombineEqual ∷ name.Adapt ∷ name.Split ∷ name.Halt ∷ name.HaltPush ∷ name.Continue ∷ name.ContinuePush ∷ []
 
 abbrev pub named : List ℕ → Option Name
 named text = find (λ n. bytes_eq text (name_of n)) all_names
@@ -159,6 +160,7 @@ kind_by name.Sequence params = Some Sequence
 kind_by name.SequenceOptimised params = Some SequenceOptimised
 kind_by name.Concur params = Some Concur
 kind_by name.Fork params = Some Fork
+kind_by name.WireFork params = Some WireFork
 kind_by name.ForkPush params = Some ForkPush
 kind_by name.While params = Some While
 kind_by name.Case params = case_by params

@@ -6,12 +6,13 @@ use Rattle.bz_model.specs.Terms.{Store, Term, forever, par, all}
 use Rattle.bz_model.specs.Rows.{row_of, ports_of, fits_sizes}
 use Rattle.bz_model.specs.Processes.{member, process, slots}
 use Rattle.bz_kinds.specs.declared.row.Plan.{Plan}
-use Rattle.bz_kinds.specs.declared.row.Plan.TheVariants.{InTurn, Together, Cells, Select, OneByOne}
+use Rattle.bz_kinds.specs.declared.row.Plan.TheVariants.{InTurn, Together, Once, Cells, Select, OneByOne}
 use Rattle.bz_kinds.specs.declared.shape.Shape.{Shape}
 use Rattle.bz_kinds.specs.Row.{is_open}
 use Rattle.bz_kinds.specs.Comp.{IsAt, todo_of, places}
 use Rattle.bz_kinds.specs.InTurn as in_turn
 use Rattle.bz_kinds.specs.Together as together
+use Rattle.bz_kinds.specs.Once as once
 use Rattle.bz_kinds.specs.Cells as cells
 use Rattle.bz_kinds.specs.Select as select
 use Rattle.bz_kinds.specs.Script as stages
@@ -20,6 +21,7 @@ use Rattle.bz_kinds.specs.Script as stages
 abbrev pub plan_process : Plan → ℕ → Term
 plan_process (InTurn row) n = forever (in_turn.round row n)
 plan_process (Together row) n = forever (together.round row n)
+plan_process (Once row) n = once.start row n
 plan_process Cells n = par (all (suc n) (λ j. forever (cells.round j)))
 plan_process (Select spans) n = forever (select.round spans n)
 plan_process (OneByOne script) n = stages.todo script 0

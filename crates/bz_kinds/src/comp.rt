@@ -17,7 +17,7 @@ use crate::move_iter::MoveIter;
 use crate::ports::{CLOSED_DUE, Ports};
 use crate::row::{Due, Plan};
 use crate::shape::shape_of;
-use crate::{cells, enclosed, in_turn, script, select, together};
+use crate::{cells, enclosed, in_turn, once, script, select, together};
 use bz_model::{Chan, Kind, Move, Phase, Value};
 use std::alloc::{AllocError, Global};
 use std::marker::Model;
@@ -150,6 +150,7 @@ fn first_ports(alloc: Global, plan: &Plan, legs: u32) -> Result<Ports, AllocErro
     match plan {
         Plan::InTurn(_) => first_only(alloc, legs as usize + 2),
         Plan::Together(_) => first_only(alloc, legs as usize + 2),
+        Plan::Once(_) => first_only(alloc, legs as usize + 2),
         Plan::Cells => from_first(alloc, legs as usize + 2),
         Plan::Select(_) => first_only(alloc, legs as usize + 2),
         Plan::OneByOne(script) => first_only(alloc, script::places(*script)),
@@ -207,7 +208,9 @@ pub(crate) fn due_at(plan: &Plan, port: u32, number: u8) -> Option<Due>
     ensures { result ≡ plan_due plan.now port number }
 {
     match plan {
-        Plan::InTurn(row) | Plan::Together(row) => enclosed::due(row, port, number),
+        Plan::InTurn(row) | Plan::Together(row) | Plan::Once(row) => enclosed::due(
+            row, port, number,
+        ),
         Plan::Cells => cells::due(port, number),
         Plan::Select(_) => enclosed::due(&select::ROW, port, number),
         Plan::OneByOne(script) => script::due(*script, port, number),
@@ -224,6 +227,7 @@ fn advance(plan: &Plan, size: u32, left: &mut u32, ports: &mut Ports, port: u32,
     match plan {
         Plan::InTurn(_) => in_turn::step(ports, left, size, port),
         Plan::Together(_) => together::step(ports, left, size, port),
+        Plan::Once(_) => once::step(ports, left, size, port),
         Plan::Cells => cells::step(ports, size, port),
         Plan::Select(spans) => select::step(spans, ports, left, size, port, slots),
         Plan::OneByOne(script) => script::step(*script, ports, left, port, slots),

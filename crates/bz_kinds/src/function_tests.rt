@@ -264,6 +264,25 @@ fn while_calls_as_long_as_its_guard_brings_1(rt: HostRuntime) -> Result<(), Fail
 }
 
 #[test]
+fn wire_fork_calls_once(rt: HostRuntime) -> Result<(), Fail> {
+    let mut comp = begun(&rt, rt.alloc(), &Kind::WireFork, 2, &[SYNC, SYNC, SYNC])?;
+    assert_eq!(rt; next(&comp, 2), None);
+    make(&rt, &mut comp, 1, Phase::Asked(None));
+    for port in [3, 2] {
+        assert_eq!(rt; next(&comp, 1), None);
+        assert_eq!(rt;
+            make(&rt, &mut comp, port, Phase::Idle),
+            made(Move::Ask, None)
+        );
+        make(&rt, &mut comp, port, Phase::Replied(None));
+    }
+    for port in 1..4 {
+        assert_eq!(rt; next(&comp, port), None);
+    }
+    Ok(())
+}
+
+#[test]
 fn names_with_parameters(rt: HostRuntime) -> Result<(), Fail> {
     let alloc = rt.alloc();
     let constant = [Param::Num(8), Param::Num(300)];

@@ -8,6 +8,7 @@ mod error;
 mod in_turn;
 mod move_iter;
 mod naming;
+mod once;
 mod ports;
 mod row;
 mod script;

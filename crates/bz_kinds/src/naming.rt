@@ -19,6 +19,7 @@ pub enum Name {
     SequenceOptimised,
     Concur,
     Fork,
+    WireFork,
     ForkPush,
     While,
     Case,
@@ -72,6 +73,9 @@ fn named(name: &[u8]) -> Option<Name>
     }
     if is(name, "$BrzFork") {
         return Some(Name::Fork);
+    }
+    if is(name, "$BrzWireFork") {
+        return Some(Name::WireFork);
     }
     if is(name, "$BrzForkPush") {
         return Some(Name::ForkPush);
@@ -146,6 +150,7 @@ fn kind_by(alloc: Global, name: Name, params: &[Param]) -> Result<Option<Kind>, 
         Name::SequenceOptimised => Ok(Some(Kind::SequenceOptimised)),
         Name::Concur => Ok(Some(Kind::Concur)),
         Name::Fork => Ok(Some(Kind::Fork)),
+        Name::WireFork => Ok(Some(Kind::WireFork)),
         Name::ForkPush => Ok(Some(Kind::ForkPush)),
         Name::While => Ok(Some(Kind::While)),
         Name::Case => case(alloc, params),

@@ -43,6 +43,7 @@ pub enum Script {
 pub enum Plan {
     InTurn(Row),
     Together(Row),
+    Once(Row),
     Cells,
     Select(Spans),
     OneByOne(Script),
@@ -64,6 +65,7 @@ impl Plan {
         match self {
             Plan::InTurn(row) => Ok(Plan::InTurn(*row)),
             Plan::Together(row) => Ok(Plan::Together(*row)),
+            Plan::Once(row) => Ok(Plan::Once(*row)),
             Plan::Cells => Ok(Plan::Cells),
             Plan::Select(spans) => {
                 let spans = spans.dup(alloc)?;

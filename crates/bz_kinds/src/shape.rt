@@ -76,6 +76,7 @@ pub fn shape_of(
         Kind::SequenceOptimised => array(Plan::InTurn(CALLS), sizes),
         Kind::Concur => array(Plan::Together(CALLS), sizes),
         Kind::Fork => array(Plan::Together(CALLS), sizes),
+        Kind::WireFork => array(Plan::Once(CALLS), sizes),
         Kind::ForkPush => array(Plan::Together(PUSHES), sizes),
         Kind::While => fixed(Plan::OneByOne(Script::While), 0),
         Kind::Case(spans) => {

@@ -190,6 +190,7 @@ pub fn port_table(kind: &Kind) -> &'static [PortRow]
         Kind::Loop => &LOOP,
         Kind::Sequence | Kind::SequenceOptimised | Kind::Concur => &SEQUENCE,
         Kind::Fork => &FORK,
+        Kind::WireFork => &FORK,
         Kind::ForkPush => &FORK_PUSH,
         Kind::While => &WHILE,
         Kind::Case(_) => &CASE,

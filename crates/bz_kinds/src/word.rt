@@ -15,6 +15,7 @@ pub fn kind_word(kind: &Kind) -> &'static [u8]
         Kind::SequenceOptimised => b"SequenceOptimised",
         Kind::Concur => b"Concur",
         Kind::Fork => b"Fork",
+        Kind::WireFork => b"WireFork",
         Kind::ForkPush => b"ForkPush",
         Kind::While => b"While",
         Kind::Case(_) => b"Case",

@@ -10,7 +10,7 @@ use Rattle.bz_model.specs.declared.channel.Chan.{Chan}
 use Rattle.bz_model.specs.declared.channel.ChanKind.{ChanKind}
 use Rattle.bz_model.specs.declared.channel.ChanKind.TheVariants.{Sync, Push, Pull}
 use Rattle.bz_model.specs.declared.kind.Kind.{Kind}
-use Rattle.bz_model.specs.declared.kind.Kind.TheVariants.{Loop, Sequence, SequenceOptimised, Concur, Fork, ForkPush, While, Case, Fetch, Variable, Constant, UnaryFunc, BinaryFunc, BinaryFuncConstR, Slice, Combine, CombineEqual, Adapt, Split, Halt, HaltPush, Continue, ContinuePush}
+use Rattle.bz_model.specs.declared.kind.Kind.TheVariants.{Loop, Sequence, SequenceOptimised, Concur, Fork, WireFork, ForkPush, While, Case, Fetch, Variable, Constant, UnaryFunc, BinaryFunc, BinaryFuncConstR, Slice, Combine, CombineEqual, Adapt, Split, Halt, HaltPush, Continue, ContinuePush}
 use Rattle.bz_model.specs.declared.expr.Expr.{Expr}
 use Rattle.bz_model.specs.declared.expr.Expr.TheVariants.{Slot, Unary, Binary, Bits}
 use Rattle.bz_model.specs.declared.expr.Operand.{Operand}
@@ -186,6 +186,7 @@ starts-fit Sequence sizes chans meets = sequences sizes chans meets
 starts-fit SequenceOptimised sizes chans meets = sequences sizes chans (record { sizes_fit = meets.sizes_fit; kinds_are = meets.kinds_are; widths_fit = meets.widths_fit })
 starts-fit Concur sizes chans meets = concurs sizes chans meets
 starts-fit Fork sizes chans meets = (0, (apart chans 0 1 0, (sends-all chans 0 (size sizes) (λ i. call (member i)) (λ i lt. calls chans 0 (member i)), nothing chans 0 1)))
+starts-fit WireFork sizes chans meets = (0, (apart chans 0 1 0, sends-all chans 0 (size sizes) (λ i. call (member i)) (λ i lt. calls chans 0 (member i))))
 starts-fit ForkPush sizes chans meets = fork_pushes sizes chans meets
 starts-fit While sizes chans meets = whiles sizes chans meets
 starts-fit (Case spans) sizes chans meets =

@@ -7,7 +7,7 @@ use Rattle.bz_model.specs.declared.expr.Operand.{Operand}
 use Rattle.bz_model.specs.declared.expr.Source.TheVariants.{Kept}
 use Rattle.bz_model.specs.declared.operation.UnaryOp.TheVariants.{Extend}
 use Rattle.bz_model.specs.declared.kind.Kind.{Kind}
-use Rattle.bz_model.specs.declared.kind.Kind.TheVariants.{Loop, Sequence, SequenceOptimised, Concur, Fork, ForkPush, While, Case, Fetch, Variable, Constant, UnaryFunc, BinaryFunc, BinaryFuncConstR, Slice, Combine, CombineEqual, Adapt, Split, Halt, HaltPush, Continue, ContinuePush}
+use Rattle.bz_model.specs.declared.kind.Kind.TheVariants.{Loop, Sequence, SequenceOptimised, Concur, Fork, WireFork, ForkPush, While, Case, Fetch, Variable, Constant, UnaryFunc, BinaryFunc, BinaryFuncConstR, Slice, Combine, CombineEqual, Adapt, Split, Halt, HaltPush, Continue, ContinuePush}
 use Rattle.bz_model.specs.Terms.{Term, ask, take, reply, got, seq, par, forever, while, when, done, picks, all, in_turn, no_terms, term}
 use Rattle.bz_model.specs.Rows.{width}
 use Rattle.bz_model.specs.Heads.{Component, tidy}
@@ -50,6 +50,7 @@ process Sequence sizes chans = forever (enclosed 1 1 (in_turn 0 (size sizes) (λ
 process SequenceOptimised sizes chans = forever (enclosed 1 1 (in_turn 0 (size sizes) (λ i. call (member i))) Nothing)
 process Concur sizes chans = forever (enclosed 1 1 (par (all (size sizes) (λ i. call (member i)))) Nothing)
 process Fork sizes chans = forever (enclosed 1 1 (par (all (size sizes) (λ i. call (member i)))) Nothing)
+process WireFork sizes chans = seq (take 1 1) (par (all (size sizes) (λ i. call (member i))))
 process ForkPush sizes chans = forever (enclosed 1 0 (par (all (size sizes) (λ i. push (member i) (Slot 0)))) Nothing)
 process While sizes chans = forever (enclosed 1 1 (while 2 0 (call 3)) Nothing)
 process (Case spans) sizes chans =

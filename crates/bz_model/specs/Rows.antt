@@ -7,7 +7,7 @@ use Rattle.bz_model.specs.declared.channel.ChanKind.TheVariants.{Sync, Push, Pul
 use Rattle.bz_model.specs.declared.kind.Kind.{Kind}
 use Rattle.bz_model.specs.declared.channel.TheConstants.{MAX_WIDTH}
 use Rattle.bz_model.specs.Specifications.{set_count}
-use Rattle.bz_model.specs.declared.kind.Kind.TheVariants.{Loop, Sequence, SequenceOptimised, Concur, Fork, ForkPush, While, Case, Fetch, Variable, Constant, UnaryFunc, BinaryFunc, BinaryFuncConstR, Slice, Combine, CombineEqual, Adapt, Split, Halt, HaltPush, Continue, ContinuePush}
+use Rattle.bz_model.specs.declared.kind.Kind.TheVariants.{Loop, Sequence, SequenceOptimised, Concur, Fork, WireFork, ForkPush, While, Case, Fetch, Variable, Constant, UnaryFunc, BinaryFunc, BinaryFuncConstR, Slice, Combine, CombineEqual, Adapt, Split, Halt, HaltPush, Continue, ContinuePush}
 
 -- a port: its name, what its channel carries, whether it is the passive end, and whether it is an array of ports
 pub record PortRow : Type 0 where
@@ -35,6 +35,7 @@ row_of Sequence = passive_port (codes "activate") Sync ∷ active_array (codes "
 row_of SequenceOptimised = passive_port (codes "activate") Sync ∷ active_array (codes "out") Sync ∷ []
 row_of Concur = passive_port (codes "activate") Sync ∷ active_array (codes "out") Sync ∷ []
 row_of Fork = passive_port (codes "inp") Sync ∷ active_array (codes "out") Sync ∷ []
+row_of WireFork = passive_port (codes "inp") Sync ∷ active_array (codes "out") Sync ∷ []
 row_of ForkPush = passive_port (codes "inp") Push ∷ active_array (codes "out") Push ∷ []
 row_of While = passive_port (codes "activate") Sync ∷ active_port (codes "guard") Pull ∷ active_port (codes "activateOut") Sync ∷ []
 row_of (Case spans) = passive_port (codes "inp") Push ∷ active_array (codes "out") Sync ∷ []

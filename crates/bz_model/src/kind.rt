@@ -20,6 +20,7 @@ pub enum Kind {
     SequenceOptimised,
     Concur,
     Fork,
+    WireFork,
     ForkPush,
     While,
     /// The sets of values, one for each member.
@@ -68,6 +69,7 @@ impl Kind {
             Kind::SequenceOptimised => Ok(Kind::SequenceOptimised),
             Kind::Concur => Ok(Kind::Concur),
             Kind::Fork => Ok(Kind::Fork),
+            Kind::WireFork => Ok(Kind::WireFork),
             Kind::ForkPush => Ok(Kind::ForkPush),
             Kind::While => Ok(Kind::While),
             Kind::Case(spans) => {

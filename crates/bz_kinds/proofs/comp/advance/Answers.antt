@@ -1,4 +1,4 @@
-use Rattle.bz_kinds.proofs.PlanLaws.{turn-step, whole-step, select-step, script-step}
+use Rattle.bz_kinds.proofs.PlanLaws.{turn-step, whole-step, once-step, select-step, script-step}
 use Rattle.bz_kinds.proofs.comp.advance.Goals as goal
 
 pub returns-in-InTurn : goal.returns-in-InTurn
@@ -12,3 +12,6 @@ returns-in-OneByOne c = script-step _ _ c.in-OneByOne.is _ _ _ _ _ _ _ c.step-in
 
 pub returns-in-Select : goal.returns-in-Select
 returns-in-Select c = select-step _ _ c.in-Select.is _ _ _ _ _ _ _ c.step-in-Select.ensures
+
+pub returns-in-Once : goal.returns-in-Once
+returns-in-Once c = once-step _ _ c.in-Once.is _ _ _ _ _ _ _ (c.step-in-Once.ensures c.in-Once.field-0)

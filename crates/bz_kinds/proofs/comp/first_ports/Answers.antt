@@ -1,6 +1,6 @@
 use Rattle.std.proofs.Common.{◌≡◌, ◌+◌, arith}
 use Rattle.bz_model.specs.Processes.{member}
-use Rattle.bz_kinds.proofs.StartLaws.{if-ok, pick-turn, pick-whole, pick-cells, pick-select, pick-script}
+use Rattle.bz_kinds.proofs.StartLaws.{if-ok, pick-turn, pick-whole, pick-once, pick-cells, pick-select, pick-script}
 use Rattle.bz_kinds.proofs.comp.first_ports.Goals as goal
 
 pub returns-in-InTurn : goal.returns-in-InTurn
@@ -17,3 +17,6 @@ returns-in-OneByOne c = if-ok _ _ _ (λ w e. pick-script _ _ _ _ w c.in-OneByOne
 
 pub returns-in-Select : goal.returns-in-Select
 returns-in-Select c = let two : c.args.legs + 2 ≡ member c.args.legs = omega arith in if-ok _ _ _ (λ w e. pick-select _ _ _ _ w c.in-Select.is two e) c.first_only-in-Select.ensures
+
+pub returns-in-Once : goal.returns-in-Once
+returns-in-Once c = let two : c.args.legs + 2 ≡ member c.args.legs = omega arith in if-ok _ _ _ (λ w e. pick-once _ _ _ _ w c.in-Once.is two e) c.first_only-in-Once.ensures
