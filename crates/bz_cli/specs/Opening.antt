@@ -6,7 +6,8 @@ use Rattle.bz_sexpr.specs.Views.{outcome_of}
 use Rattle.bz_breeze.specs.declared.part.Part.{Part}
 use Rattle.bz_breeze.specs.Records.{part_record}
 use Rattle.bz_breeze.specs.Parts.{parts}
-use Rattle.bz_breeze.specs.Faults.{Tells}
+use Rattle.bz_breeze.specs.Faults.{Tells, fault_of}
+use Rattle.bz_breeze.specs.Places.{IsLeast}
 use Rattle.bz_elab.specs.Refusals.{Elaborated}
 use Rattle.bz_elab.specs.Order.{Refuses}
 use Rattle.bz_model.specs.Nets.{Wiring}
@@ -26,11 +27,11 @@ pub record Denotes (text name : List ℕ) (w : Wiring) : Type 0 where
 abbrev pub Opens : List ℕ → List ℕ → ℕ → Simulation → Type 0
 Opens text name limit net = (w : Wiring) × Denotes text name w × IsOpened w limit net
 
--- Why a text denotes no net of this name: it spells no data; its data name no parts; the part has no net. Of a reader that
--- failed, and of memory that was refused, nothing is said.
+-- Why a text denotes no net of this name: it spells no data; its data name no parts, and of their faults none stands at a
+-- lesser byte; the part has no net. Of a reader that failed, and of memory that was refused, nothing is said.
 abbrev pub RefusesNet : List ℕ → List ℕ → Fault → Type 0
 RefusesNet text name (fault.Text e) = IfSome (outcome_of (Err e)) (ComesTo text)
-RefusesNet text name (fault.Part e) = (forms : List Datum) × ComesTo text (data_are forms) × Tells (parts forms) e
+RefusesNet text name (fault.Part e) = (forms : List Datum) × ComesTo text (data_are forms) × Tells (parts forms) e × IfSome (fault_of e) (IsLeast forms)
 RefusesNet text name (fault.Net e part) =
     (forms : List Datum) × ComesTo text (data_are forms)
     × ((listed : List Part) × (parts forms ≡ Ok (map part_record listed)) × Refuses listed name e)
