@@ -11,6 +11,7 @@ pub mod InTurnDue
 pub mod CellsLaws
 pub mod ScriptLaws
 pub mod SelectLaws
+pub mod IndexedLaws
 pub mod Pieces
 pub mod Numbers
 pub mod PlanLaws

@@ -1,5 +1,5 @@
 -- Of every plan: the heads are the moves that are due, and a port has one.
-use Rattle.std.proofs.Common.{IfSome, None, refl, ◌≡◌, ℕ, zero, suc, List, get_or, Option, Some, ap, sym, ◌∙◌, subst, IsTrue, map, arith}
+use Rattle.std.proofs.Common.{IfSome, None, refl, ◌≡◌, ℕ, zero, suc, List, get_or, Option, Some, ap, sym, ◌∙◌, subst, IsTrue, map, arith, ◌≢◌, []}
 use Rattle.std.specs.Prelude.{not}
 use Rattle.bz_model.specs.Heads.{Head, IsHead, IsHeadOn, Component, Moves, Turns, HasOneHead, carried, tidy, opens}
 use Rattle.bz_model.specs.declared.channel.Move.{Move}
@@ -13,7 +13,7 @@ use Rattle.bz_model.proofs.Fitting.{sends-head, sends-tidy}
 use Rattle.bz_kinds.specs.declared.row.Due.{Due}
 use Rattle.bz_kinds.specs.declared.row.Row.{Row}
 use Rattle.bz_kinds.specs.declared.row.Plan.{Plan}
-use Rattle.bz_kinds.specs.declared.row.Plan.TheVariants.{InTurn, Together, Once, Cells, Select, OneByOne}
+use Rattle.bz_kinds.specs.declared.row.Plan.TheVariants.{InTurn, Together, Once, Cells, Select, Indexed, OneByOne}
 use Rattle.bz_kinds.specs.Row.{due_of, row_due, is_open, lead_due, leg_due, leg_of}
 use Rattle.bz_kinds.specs.declared.row.Leg.{Leg}
 use Rattle.bz_kinds.specs.Comp.{todo_of, IsAt, plan_due, Goes}
@@ -30,6 +30,8 @@ use Rattle.bz_kinds.proofs.CellsLaws as cells
 use Rattle.bz_kinds.proofs.ScriptLaws as one_by_one
 use Rattle.bz_kinds.proofs.SelectLaws as select
 use Rattle.bz_kinds.specs.Select as selection
+use Rattle.bz_kinds.specs.Indexed as indexing
+use Rattle.bz_kinds.proofs.IndexedLaws as indexed
 use Rattle.bz_kinds.specs.Select.{select_row}
 use Rattle.bz_model.specs.Specifications.{set_of}
 use Rattle.bz_model.specs.declared.spans.Span.{Span}
@@ -41,20 +43,22 @@ use Rattle.bz_model.specs.declared.channel.Chan.{Chan}
 use Rattle.bz_model.specs.declared.expr.Expr.{Expr}
 use Rattle.bz_kinds.specs.Cells.{taken_into, answer, cell_due}
 
-pub heads-due : (plan : Plan) (n left : ℕ) (w : List ℕ) (s : Store) → IsAt plan n left w s → (h : Head) → IsHead (todo_of plan n left w) h → plan_due plan h.port (get_or w h.port 0) ≡ Some (due_of h)
+pub heads-due : (plan : Plan) (n left : ℕ) (w : List ℕ) (s : Store) → IsAt plan n left w s → (h : Head) → IsHead (todo_of plan n left w) h → plan_due plan left h.port (get_or w h.port 0) ≡ Some (due_of h)
 heads-due (InTurn row) n left w s ok h at = in_turn.heads-due row n left w ok h at
 heads-due (Together row) n left w s ok h at = together.heads-due row n left w ok h at
 heads-due (Once row) n left w s ok h at = once.heads-due row n left w ok h at
 heads-due Cells n left w s ok h at = cells.heads-due n w ok h at
 heads-due (Select spans) n left w s ok h at = select.heads-due spans n left w ok.0 h at
+heads-due (Indexed spans) n left w s ok h at = indexed.heads-due spans n left w ok.0 h at
 heads-due (OneByOne script) n left w s ok h at = one_by_one.heads-due script left w ok h at
 
-pub due-heads : (plan : Plan) (n left : ℕ) (w : List ℕ) (s : Store) → IsAt plan n left w s → (p : ℕ) (d : Due) → plan_due plan p (get_or w p 0) ≡ Some d → (h : Head) × IsHead (todo_of plan n left w) h × (h.port ≡ p)
+pub due-heads : (plan : Plan) (n left : ℕ) (w : List ℕ) (s : Store) → IsAt plan n left w s → (p : ℕ) (d : Due) → plan_due plan left p (get_or w p 0) ≡ Some d → (h : Head) × IsHead (todo_of plan n left w) h × (h.port ≡ p)
 due-heads (InTurn row) n left w s ok p d e = in_turn.due-heads row n left w ok p d e
 due-heads (Together row) n left w s ok p d e = together.due-heads row n left w ok p d e
 due-heads (Once row) n left w s ok p d e = once.due-heads row n left w ok p d e
 due-heads Cells n left w s ok p d e = cells.due-heads n w ok p d e
 due-heads (Select spans) n left w s ok p d e = select.due-heads spans n left w ok.0 p d e
+due-heads (Indexed spans) n left w s ok p d e = indexed.due-heads spans n left w ok.0 p d e
 due-heads (OneByOne script) n left w s ok p d e = one_by_one.due-heads script left w ok p d e
 
 pub one-head : (plan : Plan) (n left : ℕ) (w : List ℕ) (s : Store) → IsAt plan n left w s → HasOneHead (todo_of plan n left w)
@@ -63,14 +67,15 @@ one-head (Together row) n left w s ok = together.one-head row n left w ok
 one-head (Once row) n left w s ok = once.one-head row n left w ok
 one-head Cells n left w s ok = cells.one-head n w ok
 one-head (Select spans) n left w s ok = select.one-head spans n left w ok.0
+one-head (Indexed spans) n left w s ok = indexed.one-head spans n left w ok.0
 one-head (OneByOne script) n left w s ok = one_by_one.one-head script left w ok
 
 -- a head at p is the move that is due there
-pub head-is-due : (plan : Plan) (n left : ℕ) (w : List ℕ) (s : Store) → IsAt plan n left w s → (p : ℕ) (h : Head) → IsHead (todo_of plan n left w) h → h.port ≡ p → plan_due plan p (get_or w p 0) ≡ Some (due_of h)
-head-is-due plan n left w s ok p h at e = subst (λ q. plan_due plan q (get_or w q 0) ≡ Some (due_of h)) e (heads-due plan n left w s ok h at)
+pub head-is-due : (plan : Plan) (n left : ℕ) (w : List ℕ) (s : Store) → IsAt plan n left w s → (p : ℕ) (h : Head) → IsHead (todo_of plan n left w) h → h.port ≡ p → plan_due plan left p (get_or w p 0) ≡ Some (due_of h)
+head-is-due plan n left w s ok p h at e = subst (λ q. plan_due plan left q (get_or w q 0) ≡ Some (due_of h)) e (heads-due plan n left w s ok h at)
 
 -- what is due at p is a head, with the same move
-pub due-is-head : (plan : Plan) (n left : ℕ) (w : List ℕ) (s : Store) → IsAt plan n left w s → (p : ℕ) (d : Due) → plan_due plan p (get_or w p 0) ≡ Some d → (h : Head) × (IsHead (todo_of plan n left w) h × (h.port ≡ p)) × (d ≡ due_of h)
+pub due-is-head : (plan : Plan) (n left : ℕ) (w : List ℕ) (s : Store) → IsAt plan n left w s → (p : ℕ) (d : Due) → plan_due plan left p (get_or w p 0) ≡ Some d → (h : Head) × (IsHead (todo_of plan n left w) h × (h.port ≡ p)) × (d ≡ due_of h)
 due-is-head plan n left w s ok p d e =
     let (h, at, q) = due-heads plan n left w s ok p d e in
     let f = head-is-due plan n left w s ok p h at q in
@@ -108,40 +113,47 @@ script-alternates script zero (suc (suc (suc a))) d e = let q : record { mv = Go
 script-alternates script (suc zero) (suc (suc (suc a))) d e = let q : record { mv = Reply; gives = Nothing; into = 0 } ≡ d = cc in sym (ap (λ (d : Due). opens d.mv) q)
 script-alternates script (suc (suc p)) (suc (suc (suc a))) d e = let q : record { mv = Got; gives = Nothing; into = stages.got_into script (suc (suc p)) } ≡ d = cc in sym (ap (λ (d : Due). opens d.mv) q)
 
-pub alternates : (plan : Plan) (p a : ℕ) (d : Due) → plan_due plan p a ≡ Some d → opens d.mv ≡ not (is_open a)
-alternates (InTurn row) p a d e = row-alternates row p a d e
-alternates (Together row) p a d e = row-alternates row p a d e
-alternates (Once row) p a d e = row-alternates row p a d e
-alternates Cells p a d e = cell-alternates p a d e
-alternates (Select spans) p a d e = row-alternates select_row p a d e
-alternates (OneByOne script) p a d e = script-alternates script p a d e
+index-alternates : (left p a : ℕ) (d : Due) → indexing.index_due left p a ≡ Some d → opens d.mv ≡ not (is_open a)
+index-alternates left zero a d e = absurd (cc)
+index-alternates left (suc zero) a d e = lead-alternates 1 (indexing.answer left) a d e
+index-alternates left (suc (suc zero)) a d e = leg-alternates (record { gives = Nothing; into = 1 }) a d e
+index-alternates left (suc (suc (suc i))) a d e = leg-alternates (record { gives = Nothing; into = 0 }) a d e
+
+pub alternates : (plan : Plan) (left p a : ℕ) (d : Due) → plan_due plan left p a ≡ Some d → opens d.mv ≡ not (is_open a)
+alternates (InTurn row) left p a d e = row-alternates row p a d e
+alternates (Together row) left p a d e = row-alternates row p a d e
+alternates (Once row) left p a d e = row-alternates row p a d e
+alternates Cells left p a d e = cell-alternates p a d e
+alternates (Select spans) left p a d e = row-alternates select_row p a d e
+alternates (Indexed spans) left p a d e = index-alternates left p a d e
+alternates (OneByOne script) left p a d e = script-alternates script p a d e
 
 -- the same of a component that is seen as c
 module _ (plan : Plan) (n left : ℕ) (w : List ℕ) (s : Store) (chans : List Chan) (c : Component) (view : record { proc = record { todo = todo_of plan n left w; store = s }; chans = chans; open_ports = map is_open w } ≡ c) (ok : IsAt plan n left w s) where
-  pub head-on-due : (p : ℕ) (h : Head) → IsHeadOn c.proc p h → plan_due plan p (get_or w p 0) ≡ Some (due_of h)
+  pub head-on-due : (p : ℕ) (h : Head) → IsHeadOn c.proc p h → plan_due plan left p (get_or w p 0) ≡ Some (due_of h)
   head-on-due p h (at, e) = head-is-due plan n left w s ok p h (subst (λ (c : Component). IsHead c.proc.todo h) (sym view) at) e
 
-  pub due-on-head : (p : ℕ) (d : Due) → plan_due plan p (get_or w p 0) ≡ Some d → (h : Head) × IsHeadOn c.proc p h × (d ≡ due_of h)
+  pub due-on-head : (p : ℕ) (d : Due) → plan_due plan left p (get_or w p 0) ≡ Some d → (h : Head) × IsHeadOn c.proc p h × (d ≡ due_of h)
   due-on-head p d e = subst (λ (c : Component). (h : Head) × IsHeadOn c.proc p h × (d ≡ due_of h)) view (due-is-head plan n left w s ok p d e)
 
   pub one-head-on : HasOneHead c.proc.todo
   one-head-on = subst (λ (c : Component). HasOneHead c.proc.todo) view (one-head plan n left w s ok)
 
   -- the move that is due at p is that of the head there
-  pub next-some : (p : ℕ) (next : Option Move) → next ≡ option_map (λ (d : Due). d.mv) (plan_due plan p (get_or w p 0)) → IfSome next (λ m. (h : Head) × IsHeadOn c.proc p h × (h.move ≡ m))
-  next-some p next is = rw is (cases (plan_due plan p (get_or w p 0)) refl)
+  pub next-some : (p : ℕ) (next : Option Move) → next ≡ option_map (λ (d : Due). d.mv) (plan_due plan left p (get_or w p 0)) → IfSome next (λ m. (h : Head) × IsHeadOn c.proc p h × (h.move ≡ m))
+  next-some p next is = rw is (cases (plan_due plan left p (get_or w p 0)) refl)
     where
-      cases : (o : Option Due) → plan_due plan p (get_or w p 0) ≡ o → IfSome (option_map (λ (d : Due). d.mv) o) (λ m. (h : Head) × IsHeadOn c.proc p h × (h.move ≡ m))
+      cases : (o : Option Due) → plan_due plan left p (get_or w p 0) ≡ o → IfSome (option_map (λ (d : Due). d.mv) o) (λ m. (h : Head) × IsHeadOn c.proc p h × (h.move ≡ m))
       cases None e = tt
       cases (Some d) e =
           let (h, on, same) = due-on-head p d e in
           (h, on, sym (ap (λ (d : Due). d.mv) same))
 
-  pub next-only : (p : ℕ) (next : Option Move) → next ≡ option_map (λ (d : Due). d.mv) (plan_due plan p (get_or w p 0)) → (h : Head) → IsHeadOn c.proc p h → next ≡ Some h.move
+  pub next-only : (p : ℕ) (next : Option Move) → next ≡ option_map (λ (d : Due). d.mv) (plan_due plan left p (get_or w p 0)) → (h : Head) → IsHeadOn c.proc p h → next ≡ Some h.move
   next-only p next is h on = is ∙ ap (option_map (λ (d : Due). d.mv)) (head-on-due p h on)
 
   -- a move that the ports follow is a move of the process
-  pub moves : (p : ℕ) (phase : Phase) (d : Due) (value came : Option ℕ) (left' : ℕ) (w' s' : List ℕ) → plan_due plan p (get_or w p 0) ≡ Some d → IsTrue (may_move phase d.mv) → came ≡ incoming phase d.mv → value ≡ carried d.mv d.gives s came → s' ≡ stored d.into came s → Goes plan n left w p left' w' s' → Moves c.proc p phase d.mv value (record { todo = todo_of plan n left' w'; store = s' })
+  pub moves : (p : ℕ) (phase : Phase) (d : Due) (value came : Option ℕ) (left' : ℕ) (w' s' : List ℕ) → plan_due plan left p (get_or w p 0) ≡ Some d → IsTrue (may_move phase d.mv) → came ≡ incoming phase d.mv → value ≡ carried d.mv d.gives s came → s' ≡ stored d.into came s → Goes plan n left w p left' w' s' → Moves c.proc p phase d.mv value (record { todo = todo_of plan n left' w'; store = s' })
   moves p phase d value came left' w' s' e may in_is v st go =
       let (h, on, same) = due-is-head plan n left w s ok p d e in
       let v' : value ≡ carried h.move h.gives s (incoming phase h.move) = v ∙ ap (λ came. carried d.mv d.gives s came) in_is ∙ ap (λ (d : Due). carried d.mv d.gives s (incoming phase d.mv)) same in
@@ -152,9 +164,9 @@ module _ (plan : Plan) (n left : ℕ) (w : List ℕ) (s : Store) (chans : List C
       (record { head = h; on = on; move_is = m; allowed = may; value_is = v'; leaves = λ i. record { todo = t i; store = st' i } })
 
   -- and the ports that are open are as contracts see them
-  pub turns : (p : ℕ) (d : Due) (left' : ℕ) (w' s' : List ℕ) → plan_due plan p (get_or w p 0) ≡ Some d → Goes plan n left w p left' w' s' → Turns c p d.mv (record { proc = record { todo = todo_of plan n left' w'; store = s' }; chans = chans; open_ports = map is_open w' })
+  pub turns : (p : ℕ) (d : Due) (left' : ℕ) (w' s' : List ℕ) → plan_due plan left p (get_or w p 0) ≡ Some d → Goes plan n left w p left' w' s' → Turns c p d.mv (record { proc = record { todo = todo_of plan n left' w'; store = s' }; chans = chans; open_ports = map is_open w' })
   turns p d left' w' s' e go =
-      let flag : opens d.mv ≡ not (is_open (get_or w p 0)) = alternates plan p (get_or w p 0) d e in
+      let flag : opens d.mv ≡ not (is_open (get_or w p 0)) = alternates plan left p (get_or w p 0) d e in
       subst (λ (c : Component). Turns c p d.mv (record { proc = record { todo = todo_of plan n left' w'; store = s' }; chans = chans; open_ports = map is_open w' })) view
       (record {
         before = flag ∙ ap not (sym (get_or-map is_open w p 0));
@@ -177,6 +189,12 @@ cell-step plan e n left w p w' s st = rw e (record { place = st.place; toggles =
 
 pub script-step : (plan : Plan) (script : Script) → plan ≡ OneByOne script → (n left : ℕ) (w : List ℕ) (p left' : ℕ) (w' : List ℕ) (s : Store) → stages.Steps script left w p left' w' s → Goes plan n left w p left' w' s
 script-step plan script e n left w p left' w' s st = rw e (record { place = st.place; toggles = st.toggles; leaves = st.leaves })
+
+pub bounded-of : (plan : Plan) (spans : List Span) → plan ≡ Indexed spans → (n left : ℕ) (w : List ℕ) (s : Store) → IsAt plan n left w s → indexing.IsBounded spans n
+bounded-of plan spans e n left w s ok = (subst (λ plan. IsAt plan n left w s) e ok).2
+
+pub index-step : (plan : Plan) (spans : List Span) → plan ≡ Indexed spans → (n left : ℕ) (w : List ℕ) (p left' : ℕ) (w' : List ℕ) (s : Store) → indexing.IsBounded spans n → indexing.Steps spans n left w p left' w' s → Goes plan n left w p left' w' s
+index-step plan spans e n left w p left' w' s bounded st = rw e (record { place = (st.place, st.picked, bounded); toggles = st.toggles; leaves = st.leaves })
 
 pub select-step : (plan : Plan) (spans : List Span) → plan ≡ Select spans → (n left : ℕ) (w : List ℕ) (p left' : ℕ) (w' : List ℕ) (s : Store) → selection.Steps spans n left w p left' w' s → Goes plan n left w p left' w' s
 select-step plan spans e n left w p left' w' s st = rw e (record { place = (st.place, st.picked); toggles = st.toggles; leaves = st.leaves })
@@ -213,24 +231,58 @@ still-picked : (spans : List Span) (n left : ℕ) (w : List ℕ) (p : ℕ) (d : 
 still-picked spans n zero w p d phase came s at picked e f = tt
 still-picked spans n (suc i) w p d phase came s at picked e f = ap (λ v. set_of spans n v) (slot-kept p w d phase came s e f at.turn.0) ∙ picked
 
+other-kept : (came : Option ℕ) (s : Store) → get_or (stored 0 came s) 1 0 ≡ get_or s 1 0
+other-kept None s = refl
+other-kept (Some v) s = get_or-set_other s 0 1 v 0 (omega arith)
+
+-- a case that goes on leaves slot 1: what comes in goes into slot 0
+index-kept : (a : ℕ) (d : Due) (phase : Phase) (came : Option ℕ) (s : Store) → leg_due (record { gives = Nothing; into = 0 }) a ≡ Some d → came ≡ incoming phase d.mv → get_or (stored d.into came s) 1 0 ≡ get_or s 1 0
+index-kept zero d phase came s e f = absurd (cc)
+index-kept (suc zero) d phase came s e f =
+    let q : record { mv = Ask; gives = Nothing; into = 0 } ≡ d = cc in
+    ap (λ (d : Due). get_or (stored d.into came s) 1 0) (sym q) ∙ other-kept came s
+index-kept (suc (suc zero)) d phase came s e f = absurd (cc)
+index-kept (suc (suc (suc a))) d phase came s e f =
+    let q : record { mv = Got; gives = Nothing; into = 0 } ≡ d = cc in
+    ap (λ (d : Due). get_or (stored d.into came s) 1 0) (sym q) ∙ other-kept came s
+
+reply-kept : (k a : ℕ) (d : Due) (phase : Phase) (came : Option ℕ) (s : Store) → a ≢ 1 → lead_due 1 (indexing.answer (suc k)) a ≡ Some d → get_or (stored d.into came s) 1 0 ≡ get_or s 1 0
+reply-kept k zero d phase came s ne e = absurd (cc)
+reply-kept k (suc zero) d phase came s ne e = absurd (ne refl)
+reply-kept k (suc (suc zero)) d phase came s ne e = absurd (cc)
+reply-kept k (suc (suc (suc a))) d phase came s ne e =
+    let q : record { mv = Reply; gives = indexing.answer (suc k); into = 0 } ≡ d = cc in
+    ap (λ (d : Due). get_or (stored d.into came s) 1 0) (sym q) ∙ other-kept came s
+
+kept-by : (n k : ℕ) (w : List ℕ) (p : ℕ) (d : Due) (phase : Phase) (came : Option ℕ) (s : Store) → indexing.IsPlace n (suc k) w → indexing.index_due (suc k) p (get_or w p 0) ≡ Some d → came ≡ incoming phase d.mv → get_or (stored d.into came s) 1 0 ≡ get_or s 1 0
+kept-by n k w zero d phase came s at e f = absurd (cc)
+kept-by n k w (suc zero) d phase came s at e f = reply-kept k (get_or w 1 0) d phase came s (λ one. let x = indexed.idle-of [] n (suc k) w at one in let z = x.none in absurd (omega arith)) e
+kept-by n k w (suc (suc zero)) d phase came s at e f = absurd (indexed.no-index n k w d at e)
+kept-by n k w (suc (suc (suc i))) d phase came s at e f = index-kept (get_or w (suc (suc (suc i))) 0) d phase came s e f
+
+still-indexed : (spans : List Span) (n left : ℕ) (w : List ℕ) (p : ℕ) (d : Due) (phase : Phase) (came : Option ℕ) (s : Store) → indexing.IsPlace n left w → indexing.Picked spans n left s → indexing.index_due left p (get_or w p 0) ≡ Some d → came ≡ incoming phase d.mv → indexing.Picked spans n left (stored d.into came s)
+still-indexed spans n zero w p d phase came s at picked e f = tt
+still-indexed spans n (suc k) w p d phase came s at picked e f = ap (λ v. set_of spans n v) (kept-by n k w p d phase came s at e f) ∙ picked
+
 -- a plan stands where it is while what comes in with the due move is stored
-pub still-at : (plan : Plan) (n left : ℕ) (w : List ℕ) (p : ℕ) (d : Due) (phase : Phase) (came : Option ℕ) (s s' : Store) → IsAt plan n left w s → plan_due plan p (get_or w p 0) ≡ Some d → came ≡ incoming phase d.mv → s' ≡ stored d.into came s → IsAt plan n left w s'
+pub still-at : (plan : Plan) (n left : ℕ) (w : List ℕ) (p : ℕ) (d : Due) (phase : Phase) (came : Option ℕ) (s s' : Store) → IsAt plan n left w s → plan_due plan left p (get_or w p 0) ≡ Some d → came ≡ incoming phase d.mv → s' ≡ stored d.into came s → IsAt plan n left w s'
 still-at (InTurn row) n left w p d phase came s s' ok e f st = ok
 still-at (Together row) n left w p d phase came s s' ok e f st = ok
 still-at (Once row) n left w p d phase came s s' ok e f st = ok
 still-at Cells n left w p d phase came s s' ok e f st = ok
 still-at (Select spans) n left w p d phase came s s' ok e f st = rw st (ok.0, still-picked spans n left w p d phase came s ok.0 ok.1 e f)
+still-at (Indexed spans) n left w p d phase came s s' ok e f st = rw st (ok.0, still-indexed spans n left w p d phase came s ok.0 ok.1 e f, ok.2)
 still-at (OneByOne script) n left w p d phase came s s' ok e f st = ok
 
 -- what a move sends is narrow, and what is left sends what fits
 module _ (plan : Plan) (n left : ℕ) (w : List ℕ) (s : Store) (chans : List Chan) (bits : ℕ) (ok : IsAt plan n left w s) (sends : Sends chans bits (todo_of plan n left w)) where
-  pub due-narrow : (p : ℕ) (d : Due) → plan_due plan p (get_or w p 0) ≡ Some d → IsNarrow d.gives
+  pub due-narrow : (p : ℕ) (d : Due) → plan_due plan left p (get_or w p 0) ≡ Some d → IsNarrow d.gives
   due-narrow p d e =
       let (h, on, same) = due-is-head plan n left w s ok p d e in
       let narrow : IsNarrow h.gives = (sends-head chans bits (todo_of plan n left w) h on.0 sends).0.0.0 in
       subst IsNarrow (sym (ap (λ (d : Due). d.gives) same)) narrow
 
-  pub still-sends : (p : ℕ) (d : Due) (left' : ℕ) (w' s' : List ℕ) → plan_due plan p (get_or w p 0) ≡ Some d → Goes plan n left w p left' w' s' → Sends chans bits (todo_of plan n left' w')
+  pub still-sends : (p : ℕ) (d : Due) (left' : ℕ) (w' s' : List ℕ) → plan_due plan left p (get_or w p 0) ≡ Some d → Goes plan n left w p left' w' s' → Sends chans bits (todo_of plan n left' w')
   still-sends p d left' w' s' e go =
       let (h, on, same) = due-is-head plan n left w s ok p d e in
       let rest = (sends-head chans bits (todo_of plan n left w) h on.0 sends).1 in

@@ -1,5 +1,5 @@
 -- The ports at the start.
-use Rattle.std.proofs.Common.{◌≡◌, ◌≢◌, inl, inr, ℕ, zero, suc, ◌<◌, ◌≤◌, ◌^◌, false, List, [], ◌∷◌, length, get_or, set, map, replicate, refl, ap, sym, ◌∙◌, subst, arith}
+use Rattle.std.proofs.Common.{◌≡◌, ◌≢◌, inl, inr, ℕ, zero, suc, ◌<◌, ◌≤◌, ◌^◌, true, false, List, [], ◌∷◌, length, get_or, set, map, replicate, refl, ap, sym, ◌∙◌, subst, arith, ◌+◌}
 use Rattle.std.proofs.lemmas.Bool.{cases_lt}
 use Rattle.std.proofs.lemmas.List.{get_or-set_other, get_or_past}
 use Rattle.std.proofs.Math.ListN.{length-set, length-replicate}
@@ -7,13 +7,14 @@ use Rattle.bz_model.specs.Terms.{Store, forever, par, all}
 use Rattle.bz_model.specs.Processes.{member, process, slots, start_of}
 use Rattle.bz_model.specs.declared.kind.Kind.{Kind}
 use Rattle.bz_kinds.specs.declared.shape.Shape.{Shape}
-use Rattle.bz_kinds.specs.Comp.{todo_of}
+use Rattle.bz_kinds.specs.Comp.{todo_of, IsFor}
+use Rattle.bz_kinds.specs.Indexed.{IsBounded}
 use Rattle.bz_kinds.specs.declared.row.Row.{Row}
 use Rattle.bz_kinds.specs.declared.row.Legs.TheVariants.{Spread}
 use Rattle.bz_model.specs.declared.expr.Expr.TheVariants.{Nothing}
 use Rattle.bz_model.specs.declared.spans.Span.{Span}
 use Rattle.bz_kinds.specs.declared.row.Plan.{Plan}
-use Rattle.bz_kinds.specs.declared.row.Plan.TheVariants.{InTurn, Together, Once, Cells, Select, OneByOne}
+use Rattle.bz_kinds.specs.declared.row.Plan.TheVariants.{InTurn, Together, Once, Cells, Select, Indexed, OneByOne}
 use Rattle.bz_kinds.specs.Row.{is_open}
 use Rattle.bz_kinds.specs.Together.{busy_count}
 use Rattle.bz_kinds.specs.Cells as cells
@@ -26,7 +27,13 @@ use Rattle.std.proofs.lemmas.List.{length-map}
 use Rattle.bz_model.specs.Heads.{Component, tidy, together}
 use Rattle.bz_model.specs.Widths.{Sends, Fitted}
 use Rattle.bz_model.proofs.Fitting.{sends-tidy}
-use Rattle.bz_model.proofs.Starts.{starts-fit}
+use Rattle.bz_model.proofs.Starts.{starts-fit, both-true}
+use Rattle.std.specs.Prelude.{nat_lt, nat_le, ◌==◌, ◌&&◌, if◌then◌else◌, slice_index, IsTrue}
+use Rattle.std.specs.List.{list_all}
+use Rattle.std.proofs.lemmas.Bool.{ltb-true}
+use Rattle.bz_model.specs.Specifications.{set_of, set_count, has_sets}
+use Rattle.bz_model.specs.declared.kind.Kind.TheVariants.{CaseFetch}
+use Rattle.bz_model.specs.Rows.{has_sizes, fits_sizes}
 use Rattle.std.proofs.lemmas.Nat.{pow_pos}
 use Rattle.bz_model.specs.Rows.{MeetsRow, row_of, ports_of}
 use Rattle.bz_model.specs.declared.channel.Chan.{Chan}
@@ -119,6 +126,35 @@ module _ (row : Row) (n : ℕ) where
     closed = all-closed first (member n) first-long first-closed;
   }
 
+pub index-begins : (spans : List Span) (n : ℕ) → IsBounded spans n → BeginsAt (Indexed spans) n (set (replicate (suc (member n)) 0) 1 1)
+index-begins spans n bounded = record {
+  place = λ s. (record { long = long; turn = inl (record { lead = lead; none = refl; quiet = quiet }) }, tt, bounded);
+  has_todo = refl;
+  closed = all-closed v (suc (member n)) (long ∙ omega arith) closed;
+}
+  where
+    v : List ℕ
+    v = set (replicate (suc (member n)) 0) 1 1
+
+    long : length v ≡ 3 + n
+    long = length-set (replicate (suc (member n)) 0) 1 1 ∙ length-replicate (suc (member n)) 0 ∙ omega arith
+
+    lead : get_or v 1 0 ≡ 1
+    lead = refl
+
+    quiet : (q : ℕ) → q ≢ 1 → get_or v q 0 ≡ 0
+    quiet q ne = get_or-set_other (replicate (suc (member n)) 0) 1 q 1 0 ne ∙ zeros (suc (member n)) q
+
+    closed : (q : ℕ) → is_open (get_or v q 0) ≡ false
+    closed zero = ap is_open (quiet 0 (omega arith))
+    closed (suc zero) = ap is_open lead
+    closed (suc (suc q)) = ap is_open (quiet (suc (suc q)) (omega arith))
+
+pub pick-index : (plan : Plan) (spans : List Span) (n m : ℕ) (w : List ℕ) → plan ≡ Indexed spans → IsFor plan n → m ≡ suc (member n) → w ≡ set (replicate m 0) 1 1 → BeginsAt plan n w
+pick-index plan spans n m w e for k f =
+    let bounded : IsBounded spans n = subst (λ plan. IsFor plan n) e for in
+    rw (e, f, k) (index-begins spans n bounded)
+
 pub cells-begin : (n : ℕ) (w : List ℕ) → length w ≡ member n → get_or w 0 0 ≡ 0 → ((p : ℕ) → 1 ≤ p → p < member n → get_or w p 0 ≡ 1) → BeginsAt Cells n w
 cells-begin n w l z ones = record {
   place = λ s. record { long = l ∙ omega arith; none = z; parts = λ j lt. inl (ones (suc j) (omega arith) (omega arith)) };
@@ -161,6 +197,7 @@ tidy-start s (Once row) n = refl
 tidy-start s Cells n =
     ap together (tidy-all s (suc n) (λ j. forever (cells.round j)) (λ i lt. refl)) ∙ together-busy (all (suc n) (λ j. forever (cells.round j))) refl
 tidy-start s (Select spans) n = refl
+tidy-start s (Indexed spans) n = refl
 tidy-start s (OneByOne Loop) n = refl
 tidy-start s (OneByOne While) n = refl
 tidy-start s (OneByOne (Halt slot)) n = refl
@@ -192,3 +229,20 @@ pub start-fits : (kind : Kind) (sizes : List ℕ) (chans : List Chan) (c : Compo
 start-fits kind sizes chans c meets is =
     let (bits, sends) = starts-fit kind sizes chans meets in
     rw is (record { bits = bits; keeps = zero-keeps (slots kind sizes) bits; sends = sends-tidy chans bits (replicate (slots kind sizes) 0) (process kind sizes chans) sends })
+
+-- sets that are among n are not past n
+set-bounded : (spans : List Span) (n v : ℕ) → IsTrue (list_all (λ span. nat_lt span.set n) spans) → set_of spans n v ≤ n
+set-bounded [] n v e = omega arith
+set-bounded (span ∷ spans) n v e =
+    let (here, rest) = both-true (nat_lt span.set n) (list_all (λ span. nat_lt span.set n) spans) e in
+    elim (nat_le span.from v && nat_le v span.to) as (λ b. (if b then span.set else set_of spans n v) ≤ n) [
+      | true ↦ (let f = ltb-true span.set n here in omega arith)
+      | false ↦ set-bounded spans n v rest
+    ]
+
+pub bounded-sizes : (kind : Kind) (spans : List Span) (sizes : List ℕ) → kind ≡ CaseFetch spans → IsTrue (has_sizes kind sizes) → IsBounded spans (slice_index sizes 0)
+bounded-sizes kind spans sizes e h v =
+    let n = slice_index sizes 0 in
+    let f : IsTrue (has_sizes (CaseFetch spans) sizes) = subst (λ (k : Kind). IsTrue (has_sizes k sizes)) e h in
+    let g = (both-true (fits_sizes (row_of (CaseFetch spans)) sizes) (has_sets spans n) f).1 in
+    set-bounded spans n v (both-true (n == set_count spans) (list_all (λ span. nat_lt span.set n) spans) g).1

@@ -1,7 +1,7 @@
 -- The words by which texts name the kinds: those of netlists, without the `$Brz` in front.
 use Rattle.std.specs.Prelude.{ℕ, List, codes}
 use Rattle.bz_model.specs.declared.kind.Kind.{Kind}
-use Rattle.bz_model.specs.declared.kind.Kind.TheVariants.{Loop, Sequence, SequenceOptimised, Concur, Fork, WireFork, ForkPush, While, Case, Fetch, Variable, Constant, UnaryFunc, BinaryFunc, BinaryFuncConstR, Slice, Combine, CombineEqual, Adapt, Split, Halt, HaltPush, Continue, ContinuePush}
+use Rattle.bz_model.specs.declared.kind.Kind.TheVariants.{Loop, Sequence, SequenceOptimised, Concur, Fork, WireFork, ForkPush, While, Case, CaseFetch, Fetch, Variable, Constant, UnaryFunc, BinaryFunc, BinaryFuncConstR, Slice, Combine, CombineEqual, Adapt, Split, Halt, HaltPush, Continue, ContinuePush}
 
 abbrev pub kind_word : Kind → List ℕ
 kind_word Loop = codes "Loop"
@@ -13,6 +13,7 @@ kind_word WireFork = codes "WireFork"
 kind_word ForkPush = codes "ForkPush"
 kind_word While = codes "While"
 kind_word (Case spans) = codes "Case"
+kind_word (CaseFetch spans) = codes "CaseFetch"
 kind_word Fetch = codes "Fetch"
 kind_word Variable = codes "Variable"
 kind_word (Constant value) = codes "Constant"

@@ -11,6 +11,7 @@ pub mod InTurn
 pub mod Cells
 pub mod Script
 pub mod Select
+pub mod Indexed
 pub mod Comp
 pub mod Start
 pub mod Moves

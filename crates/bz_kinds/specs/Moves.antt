@@ -24,9 +24,9 @@ may_make None phase = false
 may_make (Some due) phase = may_move phase due.mv
 
 -- the ports from p on, whose channels have these phases, at which the move due may be made
-abbrev pub ports_left : Plan → List ℕ → ℕ → List Phase → List ℕ
-ports_left plan w p [] = []
-ports_left plan w p (phase ∷ phases) =
-    if may_make (plan_due plan p (slice_index w p)) phase
-    then p ∷ ports_left plan w (suc p) phases
-    else ports_left plan w (suc p) phases
+abbrev pub ports_left : Plan → ℕ → List ℕ → ℕ → List Phase → List ℕ
+ports_left plan left w p [] = []
+ports_left plan left w p (phase ∷ phases) =
+    if may_make (plan_due plan left p (slice_index w p)) phase
+    then p ∷ ports_left plan left w (suc p) phases
+    else ports_left plan left w (suc p) phases

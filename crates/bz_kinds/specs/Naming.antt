@@ -9,7 +9,7 @@ use Rattle.bz_model.specs.declared.operation.UnaryOp.TheVariants.{Negate, Invert
 use Rattle.bz_model.specs.declared.operation.BinaryOp.{BinaryOp}
 use Rattle.bz_model.specs.declared.operation.BinaryOp.TheVariants.{Add, Subtract, ReverseSubtract, Equals, NotEquals, LessThan, GreaterThan, LessOrEquals, GreaterOrEquals, And, Or, Xor}
 use Rattle.bz_model.specs.declared.kind.Kind.{Kind}
-use Rattle.bz_model.specs.declared.kind.Kind.TheVariants.{Loop, Sequence, SequenceOptimised, Concur, Fork, WireFork, ForkPush, While, Case, Fetch, Variable, Constant, UnaryFunc, BinaryFunc, BinaryFuncConstR, Slice, Combine, CombineEqual, Adapt, Split, Halt, HaltPush, Continue, ContinuePush}
+use Rattle.bz_model.specs.declared.kind.Kind.TheVariants.{Loop, Sequence, SequenceOptimised, Concur, Fork, WireFork, ForkPush, While, Case, CaseFetch, Fetch, Variable, Constant, UnaryFunc, BinaryFunc, BinaryFuncConstR, Slice, Combine, CombineEqual, Adapt, Split, Halt, HaltPush, Continue, ContinuePush}
 use Rattle.bz_model.specs.declared.kind.Param.{Param}
 use Rattle.bz_model.specs.declared.kind.Param.TheVariants.{Num, Flag, Word}
 use Rattle.bz_kinds.specs.Texts.{specification}
@@ -29,6 +29,7 @@ name_of name.WireFork = codes "$BrzWireFork"
 name_of name.ForkPush = codes "$BrzForkPush"
 name_of name.While = codes "$BrzWhile"
 name_of name.Case = codes "$BrzCase"
+name_of name.CaseFetch = codes "$BrzCaseFetch"
 name_of name.Fetch = codes "$BrzFetch"
 name_of name.Variable = codes "$BrzVariable"
 name_of name.Constant = codes "$BrzConstant"
@@ -47,7 +48,7 @@ name_of name.ContinuePush = codes "$BrzContinuePush"
 
 abbrev pub all_names : List Name
 all_names =
-    name.Loop ∷ name.Sequence ∷ name.SequenceOptimised ∷ name.Concur ∷ name.Fork ∷ name.WireFork ∷ name.ForkPush ∷ name.While ∷ name.Case ∷ name.Fetch ∷ name.Variable ∷ name.Constant ∷ name.UnaryFunc ∷ name.BinaryFunc ∷ name.BinaryFuncConstR ∷ name.Slice ∷ name.Combine ∷ name.CombineEqual ∷ name.Adapt ∷ name.Split ∷ name.Halt ∷ name.HaltPush ∷ name.Continue ∷ name.ContinuePush ∷ []
+    name.Loop ∷ name.Sequence ∷ name.SequenceOptimised ∷ name.Concur ∷ name.Fork ∷ name.WireFork ∷ name.ForkPush ∷ name.While ∷ name.Case ∷ name.CaseFetch ∷ name.Fetch ∷ name.Variable ∷ name.Constant ∷ name.UnaryFunc ∷ name.BinaryFunc ∷ name.BinaryFuncConstR ∷ name.Slice ∷ name.Combine ∷ name.CombineEqual ∷ name.Adapt ∷ name.Split ∷ name.Halt ∷ name.HaltPush ∷ name.Continue ∷ name.ContinuePush ∷ []
 
 abbrev pub named : List ℕ → Option Name
 named text = find (λ n. bytes_eq text (name_of n)) all_names
@@ -128,6 +129,9 @@ cut value = value % 2 ^ MAX_WIDTH
 abbrev pub case_by : List Param → Option Kind
 case_by params = option_map (λ spans. Case spans) (option_and_then specification (text params 0))
 
+abbrev pub case_fetch_by : List Param → Option Kind
+case_fetch_by params = option_map (λ spans. CaseFetch spans) (option_and_then specification (text params 0))
+
 abbrev pub constant_by : List Param → Option Kind
 constant_by params = option_map (λ value. Constant (cut value)) (number params 1)
 
@@ -164,6 +168,7 @@ kind_by name.WireFork params = Some WireFork
 kind_by name.ForkPush params = Some ForkPush
 kind_by name.While params = Some While
 kind_by name.Case params = case_by params
+kind_by name.CaseFetch params = case_fetch_by params
 kind_by name.Fetch params = Some Fetch
 kind_by name.Variable params = variable_by params
 kind_by name.Constant params = constant_by params

@@ -1,20 +1,21 @@
 -- A kind as a plan, and how its component begins.
-use Rattle.std.specs.Prelude.{◌≡◌, ◌<◌, ◌≤◌, ◌^◌, ℕ, suc, false, IsTrue, List, length, map, replicate, slice_index}
+use Rattle.std.specs.Prelude.{◌≡◌, ◌<◌, ◌≤◌, ◌^◌, ℕ, suc, false, IsTrue, List, length, map, replicate, slice_index, ◌-◌}
 use Rattle.bz_model.specs.declared.kind.Kind.{Kind}
 use Rattle.bz_model.specs.declared.channel.Chan.{Chan}
 use Rattle.bz_model.specs.Terms.{Store, Term, forever, par, all}
 use Rattle.bz_model.specs.Rows.{row_of, ports_of, fits_sizes}
 use Rattle.bz_model.specs.Processes.{member, process, slots}
 use Rattle.bz_kinds.specs.declared.row.Plan.{Plan}
-use Rattle.bz_kinds.specs.declared.row.Plan.TheVariants.{InTurn, Together, Once, Cells, Select, OneByOne}
+use Rattle.bz_kinds.specs.declared.row.Plan.TheVariants.{InTurn, Together, Once, Cells, Select, Indexed, OneByOne}
 use Rattle.bz_kinds.specs.declared.shape.Shape.{Shape}
 use Rattle.bz_kinds.specs.Row.{is_open}
-use Rattle.bz_kinds.specs.Comp.{IsAt, todo_of, places}
+use Rattle.bz_kinds.specs.Comp.{IsAt, IsFor, todo_of, places}
 use Rattle.bz_kinds.specs.InTurn as in_turn
 use Rattle.bz_kinds.specs.Together as together
 use Rattle.bz_kinds.specs.Once as once
 use Rattle.bz_kinds.specs.Cells as cells
 use Rattle.bz_kinds.specs.Select as select
+use Rattle.bz_kinds.specs.Indexed as indexed
 use Rattle.bz_kinds.specs.Script as stages
 
 -- the process of a plan with n handshakes or readers
@@ -24,6 +25,7 @@ plan_process (Together row) n = forever (together.round row n)
 plan_process (Once row) n = once.start row n
 plan_process Cells n = par (all (suc n) (λ j. forever (cells.round j)))
 plan_process (Select spans) n = forever (select.round spans n)
+plan_process (Indexed spans) n = forever (indexed.round spans n)
 plan_process (OneByOne script) n = stages.todo script 0
 
 -- the shape has the process of the kind on these channels, its ports, and as many slots
@@ -31,7 +33,8 @@ pub record IsShapeOf (kind : Kind) (sizes : List ℕ) (chans : List Chan) (s : S
   pub has_process : process kind sizes chans ≡ plan_process s.plan s.legs
   pub has_slots : s.slots ≡ slots kind sizes
   pub has_ports : places s.plan s.legs ≡ suc (length (ports_of (row_of kind) sizes))
-  pub small : IsTrue (fits_sizes (row_of kind) sizes) → member s.legs < 2 ^ 32
+  pub is_for : IsFor s.plan s.legs
+  pub small : IsTrue (fits_sizes (row_of kind) sizes) → member s.legs < 2 ^ 32 - 1
 
 -- the ports of a plan at its start
 pub record BeginsAt (plan : Plan) (n : ℕ) (w : List ℕ) : Type 0 where

@@ -1,6 +1,6 @@
 //! A component: where its ports are, and the values that it keeps.
 
-ghost use Rattle.std.specs.Prelude.{◌≡◌, ◌≤◌, ◌^◌, ◌<◌, ◌↔◌, ℕ, Some, IsTrue, IfSome, IfOk, IfErr, length, slice_index, slice_set, replicate};
+ghost use Rattle.std.specs.Prelude.{◌≡◌, ◌≤◌, ◌-◌, ◌^◌, ◌<◌, ◌↔◌, ℕ, Some, IsTrue, IfSome, IfOk, IfErr, length, slice_index, slice_set, replicate};
 ghost use Rattle.bz_kinds.specs.declared.error.KindError.TheVariants.{Memory};
 ghost use Rattle.bz_model.specs.Heads.{Head, IsHeadOn, CanMove, Moves, Turns, HasOneHead, carried};
 ghost use Rattle.bz_model.specs.Terms.{stored, IsNarrow};
@@ -10,14 +10,14 @@ ghost use Rattle.bz_model.specs.Phases.{incoming};
 ghost use Rattle.bz_model.specs.Widths.{Fitted, FitsAt};
 ghost use Rattle.bz_kinds.specs.Moves.{AreEnabled};
 ghost use Rattle.bz_kinds.specs.Start.{BeginsAt, IsAllDue};
-ghost use Rattle.bz_kinds.specs.Comp.{IsAt, IsDue, Goes, plan_due};
+ghost use Rattle.bz_kinds.specs.Comp.{IsAt, IsDue, IsFor, Goes, plan_due};
 
 use crate::error::KindError;
 use crate::move_iter::MoveIter;
 use crate::ports::{CLOSED_DUE, Ports};
 use crate::row::{Due, Plan};
 use crate::shape::shape_of;
-use crate::{cells, enclosed, in_turn, once, script, select, together};
+use crate::{cells, enclosed, in_turn, indexed, once, script, select, together};
 use bz_model::{Chan, Kind, Move, Phase, Value};
 use std::alloc::{AllocError, Global};
 use std::marker::Model;
@@ -34,7 +34,7 @@ pub struct Comp {
 }
 
 impl Model for Comp {
-    ghost use Rattle.std.specs.Prelude.{◌<◌, ◌^◌, ℕ, map};
+    ghost use Rattle.std.specs.Prelude.{◌<◌, ◌^◌, ◌-◌, ℕ, map};
     ghost use Rattle.std.specs.Coded.{codes};
     ghost use Rattle.bz_model.specs.Heads.{Component};
     ghost use Rattle.bz_model.specs.Codes.{term_code};
@@ -50,7 +50,7 @@ impl Model for Comp {
 
     ghost view = { λ c. record { proc = record { todo = todo_of c.plan c.size c.left c.ports; store = c.slots.items }; chans = c.chans.items; open_ports = map is_open c.ports } };
 
-    ghost invariant = { λ c. IsAt c.plan c.size c.left c.ports c.slots.items × (member c.size < 2 ^ 32) × ((bits : ℕ) × Sends c.chans.items bits (todo_of c.plan c.size c.left c.ports)) };
+    ghost invariant = { λ c. IsAt c.plan c.size c.left c.ports c.slots.items × (member c.size < 2 ^ 32 - 1) × ((bits : ℕ) × Sends c.chans.items bits (todo_of c.plan c.size c.left c.ports)) };
 }
 
 /// A component of this kind at its start, with arrays of these lengths, on these channels in the order of its ports.
@@ -80,7 +80,7 @@ pub fn next(comp: &Comp, port: u32) -> Option<Move>
     ensures only { (h : Head) → IsHeadOn comp.now.proc port h → result ≡ Some h.move }
     ensures one { HasOneHead comp.now.proc.todo }
 {
-    due_at(&comp.plan, port, comp.ports.get(port)).map(|due| due.mv)
+    due_at(&comp.plan, comp.left, port, comp.ports.get(port)).map(|due| due.mv)
 }
 
 /// Whether a component can move at a port whose channel has this phase.
@@ -98,7 +98,7 @@ pub fn apply(comp: &mut Comp, port: u32, phase: Phase) -> (Move, Option<Value>)
     ensures chans { comp.new.chans ≡ comp.old.chans }
     ensures fits { Fitted comp.old → FitsAt comp.old.chans port (incoming phase result.0) → FitsAt comp.old.chans port result.1 × Fitted comp.new }
 {
-    let Some(due) = due_at(&comp.plan, port, comp.ports.get(port)) else {
+    let Some(due) = due_at(&comp.plan, comp.left, port, comp.ports.get(port)) else {
         unreachable!()
     };
     let incoming = phase.incoming(due.mv);
@@ -120,7 +120,7 @@ pub fn moves<'a>(comp: &'a Comp, phases: &'a [Phase]) -> MoveIter<'a>
     requires { length phases.now < 2 ^ 32 }
     ensures { AreEnabled comp.now.proc phases.now result }
 {
-    MoveIter::new(&comp.plan, &comp.ports, phases)
+    MoveIter::new(&comp.plan, comp.left, &comp.ports, phases)
 }
 
 /// The same component in the same state.
@@ -144,7 +144,8 @@ pub fn dup(alloc: Global, comp: &Comp) -> Result<Comp, KindError>
 
 // The ports of a plan at its start.
 fn first_ports(alloc: Global, plan: &Plan, legs: u32) -> Result<Ports, AllocError>
-    requires { member legs < 2 ^ 32 }
+    requires small { member legs < 2 ^ 32 - 1 }
+    requires is_for { IsFor plan.now legs }
     ensures { IfOk result (BeginsAt plan.now legs) }
 {
     match plan {
@@ -153,6 +154,7 @@ fn first_ports(alloc: Global, plan: &Plan, legs: u32) -> Result<Ports, AllocErro
         Plan::Once(_) => first_only(alloc, legs as usize + 2),
         Plan::Cells => from_first(alloc, legs as usize + 2),
         Plan::Select(_) => first_only(alloc, legs as usize + 2),
+        Plan::Indexed(_) => first_only(alloc, legs as usize + 3),
         Plan::OneByOne(script) => first_only(alloc, script::places(*script)),
     }
 }
@@ -204,8 +206,8 @@ fn put(slots: &mut [Value], slot: u32, value: Value)
 }
 
 /// The move due at a port, whose number is `number`.
-pub(crate) fn due_at(plan: &Plan, port: u32, number: u8) -> Option<Due>
-    ensures { result ≡ plan_due plan.now port number }
+pub(crate) fn due_at(plan: &Plan, left: u32, port: u32, number: u8) -> Option<Due>
+    ensures { result ≡ plan_due plan.now left port number }
 {
     match plan {
         Plan::InTurn(row) | Plan::Together(row) | Plan::Once(row) => enclosed::due(
@@ -213,6 +215,7 @@ pub(crate) fn due_at(plan: &Plan, port: u32, number: u8) -> Option<Due>
         ),
         Plan::Cells => cells::due(port, number),
         Plan::Select(_) => enclosed::due(&select::ROW, port, number),
+        Plan::Indexed(_) => indexed::due(left, port, number),
         Plan::OneByOne(script) => script::due(*script, port, number),
     }
 }
@@ -220,8 +223,8 @@ pub(crate) fn due_at(plan: &Plan, port: u32, number: u8) -> Option<Due>
 // Takes the ports to where they are after the due move at `port`. `slots` has what came in with it.
 fn advance(plan: &Plan, size: u32, left: &mut u32, ports: &mut Ports, port: u32, slots: &[Value])
     requires place { IsAt plan.now size left.old ports.old slots.now }
-    requires small { member size < 2 ^ 32 }
-    requires due { IsDue plan.now port ports.old }
+    requires small { member size < 2 ^ 32 - 1 }
+    requires due { IsDue plan.now left.old port ports.old }
     ensures { Goes plan.now size left.old ports.old port left.new ports.new slots.now }
 {
     match plan {
@@ -230,6 +233,7 @@ fn advance(plan: &Plan, size: u32, left: &mut u32, ports: &mut Ports, port: u32,
         Plan::Once(_) => once::step(ports, left, size, port),
         Plan::Cells => cells::step(ports, size, port),
         Plan::Select(spans) => select::step(spans, ports, left, size, port, slots),
+        Plan::Indexed(spans) => indexed::step(spans, ports, left, size, port, slots),
         Plan::OneByOne(script) => script::step(*script, ports, left, port, slots),
     }
 }

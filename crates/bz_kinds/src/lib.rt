@@ -6,6 +6,7 @@ mod comp;
 mod enclosed;
 mod error;
 mod in_turn;
+mod indexed;
 mod move_iter;
 mod naming;
 mod once;

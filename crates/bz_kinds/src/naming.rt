@@ -4,7 +4,7 @@ ghost use Rattle.std.specs.Prelude.{◌≡◌, ◌⊎◌, ◌%◌, ◌^◌, byte
 ghost use Rattle.bz_model.specs.declared.kind.Kind.TheVariants.{Adapt};
 ghost use Rattle.bz_kinds.specs.declared.error.KindError.TheVariants.{Memory};
 ghost use Rattle.std.specs.Option.{option_copied};
-ghost use Rattle.bz_kinds.specs.Naming.{named, kind_by, kind_with, text, number, flag, given_flag, case_by, variable_by, constant_by, unary_by, binary_by, const_by, slice_by, given, unary_named, binary_named};
+ghost use Rattle.bz_kinds.specs.Naming.{named, kind_by, kind_with, text, number, flag, given_flag, case_by, case_fetch_by, variable_by, constant_by, unary_by, binary_by, const_by, slice_by, given, unary_named, binary_named};
 
 use crate::error::KindError;
 use crate::specification::specification;
@@ -23,6 +23,7 @@ pub enum Name {
     ForkPush,
     While,
     Case,
+    CaseFetch,
     Fetch,
     Variable,
     Constant,
@@ -85,6 +86,9 @@ fn named(name: &[u8]) -> Option<Name>
     }
     if is(name, "$BrzCase") {
         return Some(Name::Case);
+    }
+    if is(name, "$BrzCaseFetch") {
+        return Some(Name::CaseFetch);
     }
     if is(name, "$BrzFetch") {
         return Some(Name::Fetch);
@@ -154,6 +158,7 @@ fn kind_by(alloc: Global, name: Name, params: &[Param]) -> Result<Option<Kind>, 
         Name::ForkPush => Ok(Some(Kind::ForkPush)),
         Name::While => Ok(Some(Kind::While)),
         Name::Case => case(alloc, params),
+        Name::CaseFetch => case_fetch(alloc, params),
         Name::Fetch => Ok(Some(Kind::Fetch)),
         Name::Variable => Ok(variable(params)),
         Name::Constant => Ok(constant(params)),
@@ -190,6 +195,18 @@ fn case(alloc: Global, params: &[Param]) -> Result<Option<Kind>, AllocError>
         return Ok(None);
     };
     Ok(Some(Kind::Case(spans)))
+}
+
+fn case_fetch(alloc: Global, params: &[Param]) -> Result<Option<Kind>, AllocError>
+    ensures { IfOk result (λ kind. kind ≡ case_fetch_by params.now) }
+{
+    let Some(text) = text(params, 0) else {
+        return Ok(None);
+    };
+    let Some(spans) = specification(alloc, text)? else {
+        return Ok(None);
+    };
+    Ok(Some(Kind::CaseFetch(spans)))
 }
 
 fn variable(params: &[Param]) -> Option<Kind>

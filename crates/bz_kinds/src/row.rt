@@ -46,6 +46,7 @@ pub enum Plan {
     Once(Row),
     Cells,
     Select(Spans),
+    Indexed(Spans),
     OneByOne(Script),
 }
 
@@ -70,6 +71,10 @@ impl Plan {
             Plan::Select(spans) => {
                 let spans = spans.dup(alloc)?;
                 Ok(Plan::Select(spans))
+            }
+            Plan::Indexed(spans) => {
+                let spans = spans.dup(alloc)?;
+                Ok(Plan::Indexed(spans))
             }
             Plan::OneByOne(script) => Ok(Plan::OneByOne(*script)),
         }

@@ -83,6 +83,10 @@ pub fn shape_of(
             let spans = spans.dup(alloc)?;
             array(Plan::Select(spans), sizes)
         }
+        Kind::CaseFetch(spans) => {
+            let spans = spans.dup(alloc)?;
+            array(Plan::Indexed(spans), sizes)
+        }
         Kind::Fetch => fixed(Plan::InTurn(FETCHES), 2),
         Kind::Variable => array(Plan::Cells, sizes),
         Kind::Constant(value) => fixed(constant(*value, width(chans, 0)), 0),

@@ -38,6 +38,13 @@ const GUARD: PortRow = PortRow {
     array: false,
 };
 
+const INDEX: PortRow = PortRow {
+    name: "index",
+    kind: ChanKind::Pull,
+    passive: false,
+    array: false,
+};
+
 const REPLIED: PortRow = PortRow {
     name: "out",
     kind: ChanKind::Pull,
@@ -174,6 +181,8 @@ static SPLIT: [PortRow; 3] = [PUSHED, PUSHES_LOW, PUSHES_HIGH];
 
 static CASE: [PortRow; 2] = [PUSHED, CALLS_EACH];
 
+static CASE_FETCH: [PortRow; 3] = [REPLIED, INDEX, PULLS_EACH];
+
 static FETCH: [PortRow; 3] = [ACTIVATE, PULLS, PUSHES];
 
 static VARIABLE: [PortRow; 2] = [WRITTEN, READ_EACH];
@@ -194,6 +203,7 @@ pub fn port_table(kind: &Kind) -> &'static [PortRow]
         Kind::ForkPush => &FORK_PUSH,
         Kind::While => &WHILE,
         Kind::Case(_) => &CASE,
+        Kind::CaseFetch(_) => &CASE_FETCH,
         Kind::Fetch => &FETCH,
         Kind::Variable => &VARIABLE,
         Kind::Constant(_) => &CONSTANT,
@@ -233,6 +243,7 @@ fn are_members(kind: &Kind, sizes: [u32; 2]) -> bool
 {
     match kind {
         Kind::Case(spans) => spans.has_sets(sizes[0]),
+        Kind::CaseFetch(spans) => spans.has_sets(sizes[0]),
         _ => true,
     }
 }
@@ -274,6 +285,11 @@ fn are_asked(kind: &Kind, chans: &[Chan]) -> bool
     match kind {
         Kind::ForkPush => have_one_width(chans),
         Kind::While => width(chans, 1) == 1,
+        Kind::CaseFetch(_) => match chans {
+            [] => true,
+            [_] => true,
+            [out, _, inputs @ ..] => have_width(inputs, out.width),
+        },
         Kind::Fetch => width(chans, 1) == width(chans, 2),
         Kind::Variable => have_one_width(chans),
         Kind::Slice(low) => is_within(*low, width(chans, 0), width(chans, 1)),

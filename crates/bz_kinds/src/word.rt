@@ -19,6 +19,7 @@ pub fn kind_word(kind: &Kind) -> &'static [u8]
         Kind::ForkPush => b"ForkPush",
         Kind::While => b"While",
         Kind::Case(_) => b"Case",
+        Kind::CaseFetch(_) => b"CaseFetch",
         Kind::Fetch => b"Fetch",
         Kind::Variable => b"Variable",
         Kind::Constant(_) => b"Constant",

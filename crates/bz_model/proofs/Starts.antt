@@ -10,17 +10,18 @@ use Rattle.bz_model.specs.declared.channel.Chan.{Chan}
 use Rattle.bz_model.specs.declared.channel.ChanKind.{ChanKind}
 use Rattle.bz_model.specs.declared.channel.ChanKind.TheVariants.{Sync, Push, Pull}
 use Rattle.bz_model.specs.declared.kind.Kind.{Kind}
-use Rattle.bz_model.specs.declared.kind.Kind.TheVariants.{Loop, Sequence, SequenceOptimised, Concur, Fork, WireFork, ForkPush, While, Case, Fetch, Variable, Constant, UnaryFunc, BinaryFunc, BinaryFuncConstR, Slice, Combine, CombineEqual, Adapt, Split, Halt, HaltPush, Continue, ContinuePush}
+use Rattle.bz_model.specs.declared.kind.Kind.TheVariants.{Loop, Sequence, SequenceOptimised, Concur, Fork, WireFork, ForkPush, While, Case, CaseFetch, Fetch, Variable, Constant, UnaryFunc, BinaryFunc, BinaryFuncConstR, Slice, Combine, CombineEqual, Adapt, Split, Halt, HaltPush, Continue, ContinuePush}
 use Rattle.bz_model.specs.declared.expr.Expr.{Expr}
 use Rattle.bz_model.specs.declared.expr.Expr.TheVariants.{Slot, Unary, Binary, Bits}
+use Rattle.bz_model.specs.declared.spans.Span.{Span}
 use Rattle.bz_model.specs.declared.expr.Operand.{Operand}
 use Rattle.bz_model.specs.declared.operation.UnaryOp.{UnaryOp}
 use Rattle.bz_model.specs.declared.operation.BinaryOp.{BinaryOp}
 use Rattle.bz_model.specs.Operations.{joined}
 use Rattle.bz_model.specs.declared.operation.UnaryOp.TheVariants.{Extend}
-use Rattle.bz_model.specs.Terms.{Store, extended, Term, all, in_turn, forever, when, done, picks}
+use Rattle.bz_model.specs.Terms.{Store, extended, Term, all, in_turn, reply, seq, forever, when, done, picks}
 use Rattle.bz_model.specs.Rows.{PortRow, active_array, passive_array, row_of, ports_of, first_size, width, widths, are_equal, is_wide, least_width, asks_widths, has_widths, MeetsRow}
-use Rattle.bz_model.specs.Processes.{process, size, member, operand, enclosed, call, pull, push}
+use Rattle.bz_model.specs.Processes.{process, size, member, after, operand, enclosed, call, pull, push}
 use Rattle.bz_model.specs.Widths.{FitsAt, GivesAt, TakesAt, Sends}
 use Rattle.bz_model.proofs.Fitting.{nothing, sends-all, sends-turns}
 use Rattle.bz_model.proofs.Bounds.{unary-fits, binary-fits}
@@ -129,6 +130,25 @@ module _ (sizes : List ℕ) (chans : List Chan) where
       let same : (i : ℕ) → i < size sizes → w ≡ width chans (member i) = λ i lt. sym (equal chans (suc i) (asked Variable meets) (omega arith)) in
       (w, (((λ e. omega arith), (tt, nothing chans w 1)), sends-all chans w (size sizes) (λ i. forever (enclosed (member i) 1 done (Slot 0))) (λ i lt. (apart chans w (member i) 0, (tt, sent chans w (member i) (same i lt))))))
 
+  -- the widths of an array after two ports
+  two_on : (chans : List Chan) (i : ℕ) → width chans (after i) ≡ width (drop 2 chans) (suc i)
+  two_on [] i = refl
+  two_on (c ∷ []) i = refl
+  two_on (c ∷ d ∷ cs) i = refl
+
+  within_all : (cs : List Chan) (w i : ℕ) → IsTrue (list_all (λ m. m == w) (widths cs)) → width cs (suc i) ≤ w
+  within_all [] w i e = omega arith
+  within_all (c ∷ cs) w zero e = let f = eq-true c.width w (both-true (c.width == w) (list_all (λ m. m == w) (widths cs)) e).0 in omega arith
+  within_all (c ∷ cs) w (suc i) e = within_all cs w i (both-true (c.width == w) (list_all (λ m. m == w) (widths cs)) e).1
+
+  case_fetches : (spans : List Span) → Fits (CaseFetch spans)
+  case_fetches spans meets =
+      let w = width chans 1 in
+      let n = size sizes in
+      let below : (i : ℕ) → width chans (after i) ≤ w = λ i. let e = two_on chans i in let f = within_all (drop 2 chans) w i (asked (CaseFetch spans) meets) in omega arith in
+      let branch : (i : ℕ) → Sends chans w (seq (pull (after i) 0) (reply 1 (Slot 0))) = λ i. (pulls chans w (after i) 0 (below i), sent chans w 1 refl) in
+      (w, (apart chans w 1 0, ((nothing chans w 2, apart chans w 2 0), (sends-turns chans w 0 n (λ i. when (picks spans n 1 i) (seq (pull (after i) 0) (reply 1 (Slot 0)))) branch, (tt, λ s lt. pow_pos w)))))
+
   constants : (v : ℕ) → Fits (Constant v)
   constants v meets = (0, (apart chans 0 1 0, (tt, (tt, λ s lt. mod-lt v (pow_pos (width chans 1))))))
 
@@ -192,6 +212,7 @@ starts-fit While sizes chans meets = whiles sizes chans meets
 starts-fit (Case spans) sizes chans meets =
     let w = width chans 1 in
     (w, ((λ e. omega arith), (sends-turns chans w 0 (size sizes) (λ i. when (picks spans (size sizes) 0 i) (call (member i))) (λ i. calls chans w (member i)), nothing chans w 1)))
+starts-fit (CaseFetch spans) sizes chans meets = case_fetches sizes chans spans meets
 starts-fit Fetch sizes chans meets = fetches sizes chans meets
 starts-fit Variable sizes chans meets = variables sizes chans meets
 starts-fit (Constant v) sizes chans meets = constants sizes chans v meets

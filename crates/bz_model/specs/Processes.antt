@@ -7,7 +7,7 @@ use Rattle.bz_model.specs.declared.expr.Operand.{Operand}
 use Rattle.bz_model.specs.declared.expr.Source.TheVariants.{Kept}
 use Rattle.bz_model.specs.declared.operation.UnaryOp.TheVariants.{Extend}
 use Rattle.bz_model.specs.declared.kind.Kind.{Kind}
-use Rattle.bz_model.specs.declared.kind.Kind.TheVariants.{Loop, Sequence, SequenceOptimised, Concur, Fork, WireFork, ForkPush, While, Case, Fetch, Variable, Constant, UnaryFunc, BinaryFunc, BinaryFuncConstR, Slice, Combine, CombineEqual, Adapt, Split, Halt, HaltPush, Continue, ContinuePush}
+use Rattle.bz_model.specs.declared.kind.Kind.TheVariants.{Loop, Sequence, SequenceOptimised, Concur, Fork, WireFork, ForkPush, While, Case, CaseFetch, Fetch, Variable, Constant, UnaryFunc, BinaryFunc, BinaryFuncConstR, Slice, Combine, CombineEqual, Adapt, Split, Halt, HaltPush, Continue, ContinuePush}
 use Rattle.bz_model.specs.Terms.{Term, ask, take, reply, got, seq, par, forever, while, when, done, picks, all, in_turn, no_terms, term}
 use Rattle.bz_model.specs.Rows.{width}
 use Rattle.bz_model.specs.Heads.{Component, tidy}
@@ -32,6 +32,10 @@ enclosed p x body e = seq (take p x) (seq body (reply p e))
 abbrev pub member : ℕ → ℕ
 member i = suc (suc i)
 
+-- the port of member i of an array that follows two ports
+abbrev pub after : ℕ → ℕ
+after i = suc (suc (suc i))
+
 -- the length of a kind's only array
 abbrev pub size : List ℕ → ℕ
 size sizes = slice_index sizes 0
@@ -55,6 +59,10 @@ process ForkPush sizes chans = forever (enclosed 1 0 (par (all (size sizes) (λ 
 process While sizes chans = forever (enclosed 1 1 (while 2 0 (call 3)) Nothing)
 process (Case spans) sizes chans =
     forever (enclosed 1 0 (in_turn 0 (size sizes) (λ i. when (picks spans (size sizes) 0 i) (call (member i)))) Nothing)
+process (CaseFetch spans) sizes chans =
+    forever (seq (take 1 1) (seq (pull 2 1) (seq
+    (in_turn 0 (size sizes) (λ i. when (picks spans (size sizes) 1 i) (seq (pull (after i) 0) (reply 1 (Slot 0)))))
+    (when (picks spans (size sizes) 1 (size sizes)) (reply 1 (Fixed 0))))))
 process Fetch sizes chans = forever (enclosed 1 1 (seq (pull 2 0) (seq (push 3 (Slot 0)) done)) Nothing)
 process Variable sizes chans =
     par (term (forever (enclosed 1 0 done Nothing)) (all (size sizes) (λ i. forever (enclosed (member i) 1 done (Slot 0)))))

@@ -6,8 +6,8 @@ use Rattle.bz_model.specs.declared.channel.ChanKind.{ChanKind}
 use Rattle.bz_model.specs.declared.channel.ChanKind.TheVariants.{Sync, Push, Pull}
 use Rattle.bz_model.specs.declared.kind.Kind.{Kind}
 use Rattle.bz_model.specs.declared.channel.TheConstants.{MAX_WIDTH}
-use Rattle.bz_model.specs.Specifications.{set_count}
-use Rattle.bz_model.specs.declared.kind.Kind.TheVariants.{Loop, Sequence, SequenceOptimised, Concur, Fork, WireFork, ForkPush, While, Case, Fetch, Variable, Constant, UnaryFunc, BinaryFunc, BinaryFuncConstR, Slice, Combine, CombineEqual, Adapt, Split, Halt, HaltPush, Continue, ContinuePush}
+use Rattle.bz_model.specs.Specifications.{has_sets}
+use Rattle.bz_model.specs.declared.kind.Kind.TheVariants.{Loop, Sequence, SequenceOptimised, Concur, Fork, WireFork, ForkPush, While, Case, CaseFetch, Fetch, Variable, Constant, UnaryFunc, BinaryFunc, BinaryFuncConstR, Slice, Combine, CombineEqual, Adapt, Split, Halt, HaltPush, Continue, ContinuePush}
 
 -- a port: its name, what its channel carries, whether it is the passive end, and whether it is an array of ports
 pub record PortRow : Type 0 where
@@ -39,6 +39,7 @@ row_of WireFork = passive_port (codes "inp") Sync ∷ active_array (codes "out")
 row_of ForkPush = passive_port (codes "inp") Push ∷ active_array (codes "out") Push ∷ []
 row_of While = passive_port (codes "activate") Sync ∷ active_port (codes "guard") Pull ∷ active_port (codes "activateOut") Sync ∷ []
 row_of (Case spans) = passive_port (codes "inp") Push ∷ active_array (codes "out") Sync ∷ []
+row_of (CaseFetch spans) = passive_port (codes "out") Pull ∷ active_port (codes "index") Pull ∷ active_array (codes "inp") Pull ∷ []
 row_of Fetch = passive_port (codes "activate") Sync ∷ active_port (codes "inp") Pull ∷ active_port (codes "out") Push ∷ []
 row_of Variable = passive_port (codes "write") Push ∷ passive_array (codes "read") Pull ∷ []
 row_of (Constant value) = passive_port (codes "out") Pull ∷ []
@@ -93,7 +94,8 @@ fits_sizes (r ∷ rs) sizes =
 
 -- there are as many members as sets
 abbrev pub asks_sizes : Kind → List ℕ → Bool
-asks_sizes (Case spans) sizes = slice_index sizes 0 == set_count spans
+asks_sizes (Case spans) sizes = has_sets spans (slice_index sizes 0)
+asks_sizes (CaseFetch spans) sizes = has_sets spans (slice_index sizes 0)
 asks_sizes kind sizes = true
 
 -- the lengths that the kind's arrays may have
@@ -125,6 +127,7 @@ widths chans = map (λ c. c.width) chans
 abbrev pub asks_widths : Kind → List Chan → Bool
 asks_widths ForkPush chans = are_equal (widths chans)
 asks_widths While chans = width chans 2 == 1
+asks_widths (CaseFetch spans) chans = are_equal (width chans 1 ∷ widths (drop 2 chans))
 asks_widths Fetch chans = width chans 2 == width chans 3
 asks_widths Variable chans = are_equal (widths chans)
 asks_widths (Slice low) chans = nat_le (low + width chans 1) (width chans 2)

@@ -25,6 +25,8 @@ pub enum Kind {
     While,
     /// The sets of values, one for each member.
     Case(Spans),
+    /// The sets of indices, one for each member.
+    CaseFetch(Spans),
     Fetch,
     Variable,
     /// A value, of which the bits that `out` carries are replied.
@@ -75,6 +77,10 @@ impl Kind {
             Kind::Case(spans) => {
                 let spans = spans.dup(alloc)?;
                 Ok(Kind::Case(spans))
+            }
+            Kind::CaseFetch(spans) => {
+                let spans = spans.dup(alloc)?;
+                Ok(Kind::CaseFetch(spans))
             }
             Kind::Fetch => Ok(Kind::Fetch),
             Kind::Variable => Ok(Kind::Variable),

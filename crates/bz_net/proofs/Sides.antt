@@ -2,7 +2,7 @@
 use Rattle.std.proofs.Common.{◌≡◌, ℕ, zero, suc, ◌<◌, Bool, true, false, List, [], ◌∷◌, ◌++◌, replicate, slice_index_or, refl, sym, subst, cond, arith}
 use Rattle.bz_model.specs.declared.channel.Chan.{Chan}
 use Rattle.bz_model.specs.declared.kind.Kind.{Kind}
-use Rattle.bz_model.specs.declared.kind.Kind.TheVariants.{Loop, Sequence, SequenceOptimised, Concur, Fork, WireFork, ForkPush, While, Case, Fetch, Variable, Constant, UnaryFunc, BinaryFunc, BinaryFuncConstR, Slice, Combine, CombineEqual, Adapt, Split, Halt, HaltPush, Continue, ContinuePush}
+use Rattle.bz_model.specs.declared.kind.Kind.TheVariants.{Loop, Sequence, SequenceOptimised, Concur, Fork, WireFork, ForkPush, While, Case, CaseFetch, Fetch, Variable, Constant, UnaryFunc, BinaryFunc, BinaryFuncConstR, Slice, Combine, CombineEqual, Adapt, Split, Halt, HaltPush, Continue, ContinuePush}
 use Rattle.bz_model.specs.Terms.{Store, Cond, is_met, Term, Terms, ask, take, reply, got, seq, par, choice, forever, while, when, done, no_terms, term, with_term, all, in_turn}
 use Rattle.bz_model.specs.Heads.{Head, IsHead, IsHeadAt, sequence, together, are_done, tidy, tidy_all}
 use Rattle.bz_net.specs.Sides.{answers, Sided, AllSided}
@@ -103,6 +103,8 @@ starts WireFork sizes chans = (refl, sided-all _ (size sizes) _ (λ i lt. let a 
 starts ForkPush sizes chans = (refl, (sided-all _ (size sizes) _ (λ i lt. let a = active-member (first_size sizes) i _ _ refl refl in (a, a)), refl))
 starts While sizes chans = (refl, ((refl, (refl, refl)), refl))
 starts (Case spans) sizes chans = (refl, (sided-in_turn _ 0 (size sizes) _ (λ i. let a = active-member (first_size sizes) i _ _ refl refl in (a, a)), refl))
+starts (CaseFetch spans) sizes chans =
+    (refl, ((refl, refl), (sided-in_turn _ 0 (size sizes) _ (λ i. let a = active-member (first_size sizes) i _ _ refl refl in ((a, a), refl)), refl)))
 starts Fetch sizes chans = (refl, (((refl, refl), ((refl, refl), tt)), refl))
 starts Variable sizes chans =
     ((refl, (tt, refl)), sided-all _ (size sizes) _ (λ i lt. let a = passive-member (first_size sizes) i _ _ refl (subst (λ n. i < n) (size-first sizes) lt) in (a, (tt, a))))

@@ -1,4 +1,4 @@
-use Rattle.bz_kinds.proofs.PlanLaws.{turn-step, whole-step, once-step, select-step, script-step}
+use Rattle.bz_kinds.proofs.PlanLaws.{turn-step, whole-step, once-step, select-step, index-step, bounded-of, script-step}
 use Rattle.bz_kinds.proofs.comp.advance.Goals as goal
 
 pub returns-in-InTurn : goal.returns-in-InTurn
@@ -15,3 +15,6 @@ returns-in-Select c = select-step _ _ c.in-Select.is _ _ _ _ _ _ _ c.step-in-Sel
 
 pub returns-in-Once : goal.returns-in-Once
 returns-in-Once c = once-step _ _ c.in-Once.is _ _ _ _ _ _ _ (c.step-in-Once.ensures c.in-Once.field-0)
+
+pub returns-in-Indexed : goal.returns-in-Indexed
+returns-in-Indexed c = index-step _ _ c.in-Indexed.is _ _ _ _ _ _ _ (bounded-of _ _ c.in-Indexed.is _ _ _ _ c.requires.place) c.step-in-Indexed.ensures

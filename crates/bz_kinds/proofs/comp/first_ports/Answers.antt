@@ -1,6 +1,6 @@
-use Rattle.std.proofs.Common.{◌≡◌, ◌+◌, arith}
+use Rattle.std.proofs.Common.{◌≡◌, suc, ◌+◌, arith}
 use Rattle.bz_model.specs.Processes.{member}
-use Rattle.bz_kinds.proofs.StartLaws.{if-ok, pick-turn, pick-whole, pick-once, pick-cells, pick-select, pick-script}
+use Rattle.bz_kinds.proofs.StartLaws.{if-ok, pick-turn, pick-whole, pick-once, pick-cells, pick-select, pick-index, pick-script}
 use Rattle.bz_kinds.proofs.comp.first_ports.Goals as goal
 
 pub returns-in-InTurn : goal.returns-in-InTurn
@@ -20,3 +20,6 @@ returns-in-Select c = let two : c.args.legs + 2 ≡ member c.args.legs = omega a
 
 pub returns-in-Once : goal.returns-in-Once
 returns-in-Once c = let two : c.args.legs + 2 ≡ member c.args.legs = omega arith in if-ok _ _ _ (λ w e. pick-once _ _ _ _ w c.in-Once.is two e) c.first_only-in-Once.ensures
+
+pub returns-in-Indexed : goal.returns-in-Indexed
+returns-in-Indexed c = let three : c.args.legs + 3 ≡ suc (member c.args.legs) = omega arith in if-ok _ _ _ (λ w e. pick-index _ _ _ _ w c.in-Indexed.is c.requires.is_for three e) c.first_only-in-Indexed.ensures
