@@ -12,18 +12,10 @@ use Rattle.bz_elab.specs.Entries.{arranged}
 use Rattle.bz_elab.specs.Flats.{site_of}
 use Rattle.bz_elab.specs.Paths.{Path, Place, Stop, copy, leaf, named, each_from, visit, walk, stops, own_places, places_from, all_places, joined, is_place, one_more, number_in, leaf_site, own_sites, leaf_role, kind_in, most_instances, chans_at}
 use Rattle.bz_elab.specs.Growth.{IsNumber, AreNumbers, IsLeaf, AreLeaves}
+use Rattle.bz_elab.specs.Walks.{Has, Differ}
 
 abbrev place : Path → ℕ → Place
 place path number = record { path = path; number = number }
-
--- x is one of xs
-abbrev pub Has : {X : Type 0} → List X → X → Type 0
-Has [] x = ⊥
-Has (y ∷ ys) x = (y ≡ x) ⊎ Has ys x
-
-abbrev pub Differ : {X : Type 0} → List X → Type 0
-Differ [] = Unit {0}
-Differ (x ∷ xs) = (Has xs x → ⊥) × Differ xs
 
 has_cases : {X : Type 0} (xs ys : List X) (x : X) → Has (xs ++ ys) x → Has xs x ⊎ Has ys x
 has_cases [] ys x h = inr h

@@ -13,6 +13,7 @@ pub mod Reaching
 pub mod Soundness
 pub mod Failing
 pub mod Distinct
+pub mod Leaves
 pub mod Meeting
 pub mod Wiring
 pub mod Refusing

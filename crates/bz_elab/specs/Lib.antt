@@ -6,6 +6,7 @@ pub mod Paths
 pub mod Faults
 pub mod Refusals
 pub mod Growth
+pub mod Walks
 pub mod Order
 pub mod Numbers
 pub mod Least

@@ -8,6 +8,7 @@ mod ends;
 mod error;
 mod faults;
 mod flat;
+mod laws;
 mod reach;
 mod totals;
 mod walk;
@@ -15,6 +16,7 @@ mod walk;
 pub use elaboration::elaborate;
 pub use error::ElabError;
 pub use flat::{Ends, Flat, FlatComp, Pieces, dup_comps};
+pub use laws::{leaves_are_met, places_differ};
 
 #[cfg(test)]
 mod tests;

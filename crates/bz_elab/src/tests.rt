@@ -185,6 +185,7 @@ fn components_refused(rt: HostRuntime) -> Result<(), Fail> {
         refused(&rt, alloc, &syncs, "$BrzFoo", &[1, 2], None)?
             == Some(ElabError::UnknownComponent(0, 1))
     );
+    assert!(rt; refused(&rt, alloc, &syncs, "top", &[], None)? == Some(ElabError::Recursive(0)));
     let count = Some(ElabError::PortCount(0, 1));
     assert!(rt; refused(&rt, alloc, &syncs, "$BrzLoop", &[1], None)? == count);
     assert!(rt; refused(&rt, alloc, &syncs, "$BrzLoop", &[1, 2, 3], None)? == count);
