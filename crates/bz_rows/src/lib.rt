@@ -2,7 +2,11 @@
 #![tactic(auto)]
 
 #[cfg(test)]
+mod deep;
+#[cfg(test)]
 mod faults;
+#[cfg(test)]
+mod functions;
 #[cfg(test)]
 mod hosts;
 #[cfg(test)]

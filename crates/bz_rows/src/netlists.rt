@@ -71,3 +71,49 @@ pub const DECORATED: &str = ";;; Breeze file
   (component \"$BrzFetch\" (8 \"false\") (6 8 3) (at 3 1 \"buffer.balsa\" 0)))
  (call-contexts))
 ";
+
+/// The sum of two values of 8 bits.
+pub const ADD: &str = "(breeze-part \"add\"
+ (ports (port \"out\" passive output) (port \"a\" active input) (port \"b\" active input))
+ (channels (pull 8) (pull 8) (pull 8))
+ (components (component \"$BrzBinaryFunc\"
+  (8 8 8 \"Add\" \"false\" \"false\" \"false\") (1 2 3))))
+";
+
+/// A choice by a value of 3 bits.
+pub const CASE: &str = "(breeze-part \"c\"
+ (ports (port \"inp\" passive input) (sync-port \"x\" active) (sync-port \"y\" active))
+ (channels (push 3) (sync) (sync))
+ (components (component \"$BrzCase\" (3 2 \"0..2,5;3\") (1 (2 3)))))
+";
+
+/// Two instances of a variable.
+pub const CELLS: &str =
+    "(breeze-part \"cell\" (ports (port \"w\" passive input) (port \"r\" passive output))
+ (channels (push 8) (pull 8))
+ (components (component \"$BrzVariable\" (8 1 \"v\" \"\") (1 (2)))))
+(breeze-part \"cells\"
+ (ports (port \"w1\" passive input) (port \"r1\" passive output)
+  (port \"w2\" passive input) (port \"r2\" passive output))
+ (channels (push 8) (pull 8) (push 8) (pull 8))
+ (components (component \"cell\" () (1 2)) (component \"cell\" () (3 4))))
+";
+
+/// Two one-place buffers side by side.
+pub const TWO: &str = "(breeze-part \"buffer\"
+ (ports (sync-port \"activate\" passive)
+  (port \"i\" active input) (port \"o\" active output))
+ (channels (sync) (pull 8) (push 8) (sync) (sync) (sync) (push 8) (pull 8))
+ (components
+  (component \"$BrzVariable\" (8 1 \"x\" \"\") (7 (8)))
+  (component \"$BrzLoop\" () (1 4))
+  (component \"$BrzSequence\" (2) (4 (5 6)))
+  (component \"$BrzFetch\" (8) (5 2 7))
+  (component \"$BrzFetch\" (8) (6 8 3))))
+(breeze-part \"two\"
+ (ports (sync-port \"activate\" passive) (port \"i1\" active input)
+  (port \"o1\" active output) (port \"i2\" active input) (port \"o2\" active output))
+ (channels (sync) (pull 8) (push 8) (pull 8) (push 8) (sync) (sync))
+ (components (component \"$BrzConcur\" (2) (1 (6 7)))
+  (component \"buffer\" () (6 2 3)) (component \"buffer\" () (7 4 5))))
+";
