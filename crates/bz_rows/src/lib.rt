@@ -18,4 +18,6 @@ mod nets;
 #[cfg(test)]
 mod playing;
 #[cfg(test)]
+mod streams;
+#[cfg(test)]
 mod traces;
