@@ -9,6 +9,10 @@ pub mod OnceLaws
 pub mod InTurnLaws
 pub mod InTurnDue
 pub mod CellsLaws
+pub mod SignalledLaws
+pub mod ChoiceDue
+pub mod MeetingDue
+pub mod DecisionDue
 pub mod ScriptLaws
 pub mod SelectLaws
 pub mod IndexedLaws

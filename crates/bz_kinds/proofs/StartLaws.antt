@@ -3,7 +3,7 @@ use Rattle.std.proofs.Common.{◌≡◌, ◌≢◌, inl, inr, ℕ, zero, suc, �
 use Rattle.std.proofs.lemmas.Bool.{cases_lt}
 use Rattle.std.proofs.lemmas.List.{get_or-set_other, get_or_past}
 use Rattle.std.proofs.Math.ListN.{length-set, length-replicate}
-use Rattle.bz_model.specs.Terms.{Store, forever, par, all}
+use Rattle.bz_model.specs.Terms.{Store, forever, par, all, term}
 use Rattle.bz_model.specs.Processes.{member, process, slots, start_of}
 use Rattle.bz_model.specs.declared.kind.Kind.{Kind}
 use Rattle.bz_kinds.specs.declared.shape.Shape.{Shape}
@@ -14,14 +14,20 @@ use Rattle.bz_kinds.specs.declared.row.Legs.TheVariants.{Spread}
 use Rattle.bz_model.specs.declared.expr.Expr.TheVariants.{Nothing}
 use Rattle.bz_model.specs.declared.spans.Span.{Span}
 use Rattle.bz_kinds.specs.declared.row.Plan.{Plan}
-use Rattle.bz_kinds.specs.declared.row.Plan.TheVariants.{InTurn, Together, Once, Cells, Select, Indexed, OneByOne}
+use Rattle.bz_kinds.specs.declared.row.Plan.TheVariants.{InTurn, Together, Once, Cells, Signalled, Select, Indexed, OneByOne, Choice, Meeting, Decision}
 use Rattle.bz_kinds.specs.Row.{is_open}
 use Rattle.bz_kinds.specs.Together.{busy_count}
 use Rattle.bz_kinds.specs.Cells as cells
 use Rattle.bz_kinds.specs.Script as stages
+use Rattle.bz_kinds.specs.declared.row.Mix.{Mix}
+use Rattle.bz_kinds.specs.declared.row.Meet.{Meet}
+use Rattle.bz_kinds.specs.Signalled as signalling
+use Rattle.bz_kinds.specs.Choice as choosing
+use Rattle.bz_kinds.specs.Meeting as gathering
+use Rattle.bz_kinds.specs.Decision as deciding
 use Rattle.bz_kinds.specs.declared.row.Script.{Script}
 use Rattle.bz_kinds.specs.declared.row.Script.TheVariants.{Loop, While, Halt}
-use Rattle.bz_kinds.specs.Start.{BeginsAt, IsAllDue, IsShapeOf, plan_process}
+use Rattle.bz_kinds.specs.Start.{BeginsAt, IsAllDue, IsDueBut, AreMembersDue, IsShapeOf, plan_process}
 use Rattle.std.specs.Prelude.{Result, Ok, Err, IfOk}
 use Rattle.std.proofs.lemmas.List.{length-map}
 use Rattle.bz_model.specs.Heads.{Component, tidy, together}
@@ -181,6 +187,79 @@ pick-once plan row n m w e k f = rw (e, f, k) (once-begins row n)
 pub pick-cells : (plan : Plan) (n m : ℕ) (w : List ℕ) → plan ≡ Cells → m ≡ member n → IsAllDue m w → BeginsAt plan n w
 pick-cells plan n m w e k a = rw e (cells-begin n w (a.long ∙ k) a.none (λ p le lt. a.due p le (omega arith)))
 
+pub decision-begins : (n : ℕ) → BeginsAt Decision n (set (replicate (member (n + n)) 0) 1 1)
+decision-begins n = record {
+  place = λ s. record { long = long; none = quiet 0 (omega arith); turn = inl (record { lead = refl; quiet = quiet }) };
+  has_todo = refl;
+  closed = all-closed v (member (n + n)) long closed;
+}
+  where
+    v : List ℕ
+    v = set (replicate (member (n + n)) 0) 1 1
+
+    long : length v ≡ member (n + n)
+    long = length-set (replicate (member (n + n)) 0) 1 1 ∙ length-replicate (member (n + n)) 0
+
+    quiet : (q : ℕ) → q ≢ 1 → get_or v q 0 ≡ 0
+    quiet q ne = get_or-set_other (replicate (member (n + n)) 0) 1 q 1 0 ne ∙ zeros (member (n + n)) q
+
+    closed : (q : ℕ) → is_open (get_or v q 0) ≡ false
+    closed zero = ap is_open (quiet 0 (omega arith))
+    closed (suc zero) = refl
+    closed (suc (suc q)) = ap is_open (quiet (suc (suc q)) (omega arith))
+
+pub pick-decision : (plan : Plan) (n m : ℕ) (w : List ℕ) → plan ≡ Decision → m ≡ member (n + n) → w ≡ set (replicate m 0) 1 1 → BeginsAt plan n w
+pick-decision plan n m w e k f = rw (e, f, k) (decision-begins n)
+
+-- the first n ports have a move due, and the others none
+members-closed : (n m : ℕ) (w : List ℕ) → AreMembersDue m n w → (q : ℕ) → is_open (get_or w q 0) ≡ false
+members-closed n m w a zero = ap is_open a.none
+members-closed n m w a (suc q) = elim (cases_lt q n) [
+    inl lt ↦ elim (cases_lt (suc q) m) [ inl in_it ↦ ap is_open (a.due q lt in_it) | inr past ↦ ap is_open (get_or_past w (suc q) 0 (let l = a.long in omega arith)) ]
+  | inr le ↦ ap is_open (a.quiet (suc q) (omega arith))
+  ]
+
+pub pick-choice : (plan : Plan) (mix : Mix) (n m : ℕ) (w : List ℕ) → plan ≡ Choice mix → m ≡ suc (n + choosing.actives mix n) → AreMembersDue m n w → BeginsAt plan n w
+pick-choice plan mix n m w e k a = rw e (record {
+  place = λ s. record { long = a.long ∙ k; none = a.none; turn = record { due = λ i lt. a.due i lt (omega arith); quiet = a.quiet } };
+  has_todo = refl;
+  closed = all-closed w (suc (n + choosing.actives mix n)) (a.long ∙ k) (members-closed n m w a);
+})
+
+all-counted : (n : ℕ) (w : List ℕ) → ((i : ℕ) → i < n → get_or w (suc i) 0 ≡ 1) → gathering.counted gathering.due_to_take n w ≡ n
+all-counted zero w e = refl
+all-counted (suc n) w e = let r = all-counted n w (λ i lt. e i (omega arith)) in let x = ap gathering.due_to_take (e n (omega arith)) in omega arith
+
+pub pick-meeting : (plan : Plan) (meet : Meet) (n m : ℕ) (w : List ℕ) → plan ≡ Meeting meet → IsFor plan n → m ≡ suc (n + gathering.actives meet) → AreMembersDue m n w → BeginsAt plan n w
+pick-meeting plan meet n m w e for k a =
+    let some : 0 < n = subst (λ plan. IsFor plan n) e for in
+    let due : (i : ℕ) → i < n → get_or w (suc i) 0 ≡ 1 = λ i lt. a.due i lt (omega arith) in
+    let quiet : get_or w (suc n) 0 ≡ 0 = a.quiet (suc n) (omega arith) in
+    rw e (record {
+      place = λ s. record { long = a.long ∙ k; none = a.none; some = some; stage = inl (record { numbers = λ i lt. inl (due i lt); count = all-counted n w due; fresh = λ z. due; quiet = quiet }) };
+      has_todo = rw (quiet, due 0 some) refl;
+      closed = all-closed w (suc (n + gathering.actives meet)) (a.long ∙ k) (members-closed n m w a);
+    })
+
+pub pick-signalled : (plan : Plan) (n m : ℕ) (w : List ℕ) → plan ≡ Signalled → m ≡ suc (member n) → IsDueBut m 2 w → BeginsAt plan n w
+pick-signalled plan n m w e k a = rw e (record {
+  place = λ s. record { long = a.long ∙ k ∙ omega arith; none = a.none; writer = inl (writes, a.but); readers = λ i lt. inl (reads i lt) };
+  has_todo = rw (writes, a.but) (ap (λ ts. par (term (forever signalling.write_round) ts)) (all-cong n (λ i. signalling.reader_left i (get_or w (suc (suc (suc i))) 0)) (λ i. forever (signalling.read_round i)) (λ i lt. rw (reads i lt) refl)));
+  closed = all-closed w (suc (member n)) (a.long ∙ k) closed;
+})
+  where
+    writes : get_or w 1 0 ≡ 1
+    writes = a.due 1 (omega arith) (omega arith) (omega arith)
+
+    reads : (i : ℕ) → i < n → get_or w (suc (suc (suc i))) 0 ≡ 1
+    reads i lt = a.due (suc (suc (suc i))) (omega arith) (omega arith) (omega arith)
+
+    closed : (q : ℕ) → is_open (get_or w q 0) ≡ false
+    closed zero = ap is_open a.none
+    closed (suc zero) = ap is_open writes
+    closed (suc (suc zero)) = ap is_open a.but
+    closed (suc (suc (suc q))) = elim (cases_lt q n) [ inl lt ↦ ap is_open (reads q lt) | inr le ↦ ap is_open (get_or_past w (suc (suc (suc q))) 0 (let l = a.long in omega arith)) ]
+
 script-begins : (script : Script) (n : ℕ) → BeginsAt (OneByOne script) n (set (replicate (length (stages.numbers script 0)) 0) 1 1)
 script-begins Loop n = record { place = λ s. refl; has_todo = refl; closed = refl }
 script-begins While n = record { place = λ s. refl; has_todo = refl; closed = refl }
@@ -198,6 +277,12 @@ tidy-start s Cells n =
     ap together (tidy-all s (suc n) (λ j. forever (cells.round j)) (λ i lt. refl)) ∙ together-busy (all (suc n) (λ j. forever (cells.round j))) refl
 tidy-start s (Select spans) n = refl
 tidy-start s (Indexed spans) n = refl
+tidy-start s Signalled n =
+    let reads = λ (i : ℕ). forever (signalling.read_round i) in
+    ap (λ ts. together (term (forever signalling.write_round) ts)) (tidy-all s n reads (λ i lt. refl)) ∙ together-busy (term (forever signalling.write_round) (all n reads)) refl
+tidy-start s (Choice mix) n = refl
+tidy-start s (Meeting meet) n = refl
+tidy-start s Decision n = refl
 tidy-start s (OneByOne Loop) n = refl
 tidy-start s (OneByOne While) n = refl
 tidy-start s (OneByOne (Halt slot)) n = refl

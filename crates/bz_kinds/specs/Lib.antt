@@ -12,6 +12,10 @@ pub mod Cells
 pub mod Script
 pub mod Select
 pub mod Indexed
+pub mod Signalled
+pub mod Choice
+pub mod Meeting
+pub mod Decision
 pub mod Comp
 pub mod Start
 pub mod Moves

@@ -9,7 +9,7 @@ use Rattle.bz_model.specs.declared.operation.UnaryOp.TheVariants.{Negate, Invert
 use Rattle.bz_model.specs.declared.operation.BinaryOp.{BinaryOp}
 use Rattle.bz_model.specs.declared.operation.BinaryOp.TheVariants.{Add, Subtract, ReverseSubtract, Equals, NotEquals, LessThan, GreaterThan, LessOrEquals, GreaterOrEquals, And, Or, Xor}
 use Rattle.bz_model.specs.declared.kind.Kind.{Kind}
-use Rattle.bz_model.specs.declared.kind.Kind.TheVariants.{Loop, Sequence, SequenceOptimised, Concur, Fork, WireFork, ForkPush, While, Case, CaseFetch, Fetch, Variable, Constant, UnaryFunc, BinaryFunc, BinaryFuncConstR, Slice, Combine, CombineEqual, Adapt, Split, Halt, HaltPush, Continue, ContinuePush}
+use Rattle.bz_model.specs.declared.kind.Kind.TheVariants.{Loop, Sequence, SequenceOptimised, Concur, Fork, WireFork, ForkPush, While, Case, CaseFetch, Fetch, Variable, Constant, UnaryFunc, BinaryFunc, BinaryFuncConstR, Slice, Combine, CombineEqual, Adapt, Split, Halt, HaltPush, Continue, ContinuePush, Call, CallMux, CallDemux, Passivator, PassivatorPush, Synch, SynchPull, DecisionWait, Arbiter, FalseVariable}
 use Rattle.bz_model.specs.declared.kind.Param.{Param}
 use Rattle.bz_model.specs.declared.kind.Param.TheVariants.{Num, Flag, Word}
 use Rattle.bz_kinds.specs.Texts.{specification}
@@ -45,10 +45,20 @@ name_of name.Halt = codes "$BrzHalt"
 name_of name.HaltPush = codes "$BrzHaltPush"
 name_of name.Continue = codes "$BrzContinue"
 name_of name.ContinuePush = codes "$BrzContinuePush"
+name_of name.Call = codes "$BrzCall"
+name_of name.CallMux = codes "$BrzCallMux"
+name_of name.CallDemux = codes "$BrzCallDemux"
+name_of name.Passivator = codes "$BrzPassivator"
+name_of name.PassivatorPush = codes "$BrzPassivatorPush"
+name_of name.Synch = codes "$BrzSynch"
+name_of name.SynchPull = codes "$BrzSynchPull"
+name_of name.DecisionWait = codes "$BrzDecisionWait"
+name_of name.Arbiter = codes "$BrzArbiter"
+name_of name.FalseVariable = codes "$BrzFalseVariable"
 
 abbrev pub all_names : List Name
 all_names =
-    name.Loop ∷ name.Sequence ∷ name.SequenceOptimised ∷ name.Concur ∷ name.Fork ∷ name.WireFork ∷ name.ForkPush ∷ name.While ∷ name.Case ∷ name.CaseFetch ∷ name.Fetch ∷ name.Variable ∷ name.Constant ∷ name.UnaryFunc ∷ name.BinaryFunc ∷ name.BinaryFuncConstR ∷ name.Slice ∷ name.Combine ∷ name.CombineEqual ∷ name.Adapt ∷ name.Split ∷ name.Halt ∷ name.HaltPush ∷ name.Continue ∷ name.ContinuePush ∷ []
+    name.Loop ∷ name.Sequence ∷ name.SequenceOptimised ∷ name.Concur ∷ name.Fork ∷ name.WireFork ∷ name.ForkPush ∷ name.While ∷ name.Case ∷ name.CaseFetch ∷ name.Fetch ∷ name.Variable ∷ name.Constant ∷ name.UnaryFunc ∷ name.BinaryFunc ∷ name.BinaryFuncConstR ∷ name.Slice ∷ name.Combine ∷ name.CombineEqual ∷ name.Adapt ∷ name.Split ∷ name.Halt ∷ name.HaltPush ∷ name.Continue ∷ name.ContinuePush ∷ name.Call ∷ name.CallMux ∷ name.CallDemux ∷ name.Passivator ∷ name.PassivatorPush ∷ name.Synch ∷ name.SynchPull ∷ name.DecisionWait ∷ name.Arbiter ∷ name.FalseVariable ∷ []
 
 abbrev pub named : List ℕ → Option Name
 named text = find (λ n. bytes_eq text (name_of n)) all_names
@@ -100,6 +110,15 @@ number params i = slice_get (filter_map number_of params) i
 abbrev pub text : List Param → ℕ → Option (List ℕ)
 text params i = slice_get (filter_map text_of params) i
 
+-- the last of the texts
+abbrev pub last : {A : Type 0} → List A → Option A
+last [] = None
+last (x ∷ []) = Some x
+last (x ∷ y ∷ xs) = last (y ∷ xs)
+
+abbrev pub last_text : List Param → Option (List ℕ)
+last_text params = last (filter_map text_of params)
+
 abbrev pub given_flag : List Param → ℕ → Option Bool
 given_flag params i = slice_get (filter_map flag_of params) i
 
@@ -121,6 +140,14 @@ variable_with (Some (b ∷ bs)) = None
 
 abbrev pub variable_by : List Param → Option Kind
 variable_by params = variable_with (text params 1)
+
+abbrev pub false_variable_with : Option (List ℕ) → Option Kind
+false_variable_with None = Some FalseVariable
+false_variable_with (Some []) = Some FalseVariable
+false_variable_with (Some (b ∷ bs)) = None
+
+abbrev pub false_variable_by : List Param → Option Kind
+false_variable_by params = false_variable_with (last_text params)
 
 -- no channel carries more bits than these
 abbrev pub cut : ℕ → ℕ
@@ -184,6 +211,16 @@ kind_by name.Halt params = Some Halt
 kind_by name.HaltPush params = Some HaltPush
 kind_by name.Continue params = Some Continue
 kind_by name.ContinuePush params = Some ContinuePush
+kind_by name.Call params = Some Call
+kind_by name.CallMux params = Some CallMux
+kind_by name.CallDemux params = Some CallDemux
+kind_by name.Passivator params = Some Passivator
+kind_by name.PassivatorPush params = Some PassivatorPush
+kind_by name.Synch params = Some Synch
+kind_by name.SynchPull params = Some SynchPull
+kind_by name.DecisionWait params = Some DecisionWait
+kind_by name.Arbiter params = Some Arbiter
+kind_by name.FalseVariable params = false_variable_by params
 
 abbrev pub made : Option Kind → Result Kind KindError
 made None = Err BadParameter

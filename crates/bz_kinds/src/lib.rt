@@ -2,11 +2,14 @@
 #![tactic(auto)]
 
 mod cells;
+mod choice;
 mod comp;
+mod decision;
 mod enclosed;
 mod error;
 mod in_turn;
 mod indexed;
+mod meeting;
 mod move_iter;
 mod naming;
 mod once;
@@ -15,6 +18,7 @@ mod row;
 mod script;
 mod select;
 mod shape;
+mod signalled;
 mod specification;
 mod table;
 mod together;

@@ -15,6 +15,7 @@ use std::marker::Model;
 #[derive(Drop)]
 pub struct MoveIter<'a> {
     plan: &'a Plan,
+    size: u32,
     left: u32,
     ports: &'a Ports,
     port: usize,
@@ -27,7 +28,7 @@ impl<'a> Model for MoveIter<'a> {
 
     ghost Value = { List ℕ };
 
-    ghost view = { λ m. ports_left m.plan.now m.left m.ports.now m.port m.phases.now };
+    ghost view = { λ m. ports_left m.plan.now m.size m.left m.ports.now m.port m.phases.now };
 
     ghost invariant = { λ m. m.port + length m.phases.now ≤ 2 ^ 32 };
 }
@@ -36,15 +37,17 @@ impl<'a> MoveIter<'a> {
     /// The ports from 1 on, whose channels have these phases.
     pub(crate) fn new(
         plan: &'a Plan,
+        size: u32,
         left: u32,
         ports: &'a Ports,
         phases: &'a [Phase],
     ) -> MoveIter<'a>
         requires { length phases.now < 2 ^ 32 }
-        ensures { result ≡ ports_left plan.now left ports.now 1 phases.now }
+        ensures { result ≡ ports_left plan.now size left ports.now 1 phases.now }
     {
         MoveIter {
             plan,
+            size,
             left,
             ports,
             port: 1,
@@ -65,7 +68,7 @@ impl<'a> Iterator for MoveIter<'a> {
             let port = self.port as u32;
             self.port += 1;
             self.phases = rest;
-            if may_make(self.plan, self.left, self.ports, port, *phase) {
+            if may_make(self.plan, self.size, self.left, self.ports, port, *phase) {
                 return Some(port);
             }
         }
@@ -74,8 +77,15 @@ impl<'a> Iterator for MoveIter<'a> {
 }
 
 // Whether a move is due at a port that the phase of its channel allows.
-fn may_make(plan: &Plan, left: u32, ports: &Ports, port: u32, phase: Phase) -> bool
-    ensures { result ≡ may_make (plan_due plan.now left port (slice_index ports.now port)) phase }
+fn may_make(
+    plan: &Plan,
+    size: u32,
+    left: u32,
+    ports: &Ports,
+    port: u32,
+    phase: Phase,
+) -> bool
+    ensures { result ≡ may_make (plan_due plan.now size left port (slice_index ports.now port)) phase }
 {
-    due_at(plan, left, port, ports.get(port)).is_some_and(|due| phase.allows(due.mv))
+    due_at(plan, size, left, port, ports.get(port)).is_some_and(|due| phase.allows(due.mv))
 }

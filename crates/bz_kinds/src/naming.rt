@@ -4,7 +4,7 @@ ghost use Rattle.std.specs.Prelude.{◌≡◌, ◌⊎◌, ◌%◌, ◌^◌, byte
 ghost use Rattle.bz_model.specs.declared.kind.Kind.TheVariants.{Adapt};
 ghost use Rattle.bz_kinds.specs.declared.error.KindError.TheVariants.{Memory};
 ghost use Rattle.std.specs.Option.{option_copied};
-ghost use Rattle.bz_kinds.specs.Naming.{named, kind_by, kind_with, text, number, flag, given_flag, case_by, case_fetch_by, variable_by, constant_by, unary_by, binary_by, const_by, slice_by, given, unary_named, binary_named};
+ghost use Rattle.bz_kinds.specs.Naming.{named, kind_by, kind_with, text, number, flag, given_flag, case_by, case_fetch_by, variable_by, false_variable_by, last_text, constant_by, unary_by, binary_by, const_by, slice_by, given, unary_named, binary_named};
 
 use crate::error::KindError;
 use crate::specification::specification;
@@ -39,6 +39,16 @@ pub enum Name {
     HaltPush,
     Continue,
     ContinuePush,
+    Call,
+    CallMux,
+    CallDemux,
+    Passivator,
+    PassivatorPush,
+    Synch,
+    SynchPull,
+    DecisionWait,
+    Arbiter,
+    FalseVariable,
 }
 
 /// The kind of this name with these parameters.
@@ -135,6 +145,36 @@ fn named(name: &[u8]) -> Option<Name>
     if is(name, "$BrzContinuePush") {
         return Some(Name::ContinuePush);
     }
+    if is(name, "$BrzCall") {
+        return Some(Name::Call);
+    }
+    if is(name, "$BrzCallMux") {
+        return Some(Name::CallMux);
+    }
+    if is(name, "$BrzCallDemux") {
+        return Some(Name::CallDemux);
+    }
+    if is(name, "$BrzPassivator") {
+        return Some(Name::Passivator);
+    }
+    if is(name, "$BrzPassivatorPush") {
+        return Some(Name::PassivatorPush);
+    }
+    if is(name, "$BrzSynch") {
+        return Some(Name::Synch);
+    }
+    if is(name, "$BrzSynchPull") {
+        return Some(Name::SynchPull);
+    }
+    if is(name, "$BrzDecisionWait") {
+        return Some(Name::DecisionWait);
+    }
+    if is(name, "$BrzArbiter") {
+        return Some(Name::Arbiter);
+    }
+    if is(name, "$BrzFalseVariable") {
+        return Some(Name::FalseVariable);
+    }
     None
 }
 
@@ -174,6 +214,16 @@ fn kind_by(alloc: Global, name: Name, params: &[Param]) -> Result<Option<Kind>, 
         Name::HaltPush => Ok(Some(Kind::HaltPush)),
         Name::Continue => Ok(Some(Kind::Continue)),
         Name::ContinuePush => Ok(Some(Kind::ContinuePush)),
+        Name::Call => Ok(Some(Kind::Call)),
+        Name::CallMux => Ok(Some(Kind::CallMux)),
+        Name::CallDemux => Ok(Some(Kind::CallDemux)),
+        Name::Passivator => Ok(Some(Kind::Passivator)),
+        Name::PassivatorPush => Ok(Some(Kind::PassivatorPush)),
+        Name::Synch => Ok(Some(Kind::Synch)),
+        Name::SynchPull => Ok(Some(Kind::SynchPull)),
+        Name::DecisionWait => Ok(Some(Kind::DecisionWait)),
+        Name::Arbiter => Ok(Some(Kind::Arbiter)),
+        Name::FalseVariable => Ok(false_variable(params)),
     }
 }
 
@@ -221,6 +271,21 @@ fn variable(params: &[Param]) -> Option<Kind>
             }
         }
         None => Some(Kind::Variable),
+    }
+}
+
+fn false_variable(params: &[Param]) -> Option<Kind>
+    ensures { result ≡ false_variable_by params.now }
+{
+    match last_text(params) {
+        Some(text) => {
+            if text.is_empty() {
+                Some(Kind::FalseVariable)
+            } else {
+                None
+            }
+        }
+        None => Some(Kind::FalseVariable),
     }
 }
 
@@ -384,6 +449,18 @@ fn text(params: &[Param], place: usize) -> Option<&[u8]>
                 return Some(text.as_slice());
             }
             before += 1;
+        }
+    }
+    None
+}
+
+// The last of the parameters that are texts.
+fn last_text(params: &[Param]) -> Option<&[u8]>
+    ensures { option_copied result ≡ last_text params.now }
+{
+    for param in params.iter().rev() {
+        if let Param::Word(text) = param {
+            return Some(text.as_slice());
         }
     }
     None

@@ -1,5 +1,5 @@
 -- Of each kind: what its process sends fits, on channels that meet its row.
-use Rattle.std.proofs.Common.{◌≡◌, ℕ, zero, suc, ◌+◌, ◌*◌, ◌%◌, ◌/◌, ◌<◌, ◌≤◌, ◌^◌, Bool, true, false, IsTrue, ◌&&◌, ◌++◌, List, [], ◌∷◌, length, map, drop, replicate, get_or, refl, ap, sym, ◌∙◌, subst, arith}
+use Rattle.std.proofs.Common.{◌≡◌, ℕ, zero, suc, ◌+◌, ◌*◌, ◌%◌, ◌/◌, ◌<◌, ◌≤◌, ◌^◌, Bool, true, false, IsTrue, ◌&&◌, ◌++◌, List, [], ◌∷◌, length, map, drop, replicate, get_or, refl, ap, sym, ◌∙◌, subst, cond, arith}
 use Rattle.std.specs.Prelude.{slice_index_or, nat_le, ◌==◌, ◌-◌, codes}
 use Rattle.std.specs.List.{list_all}
 use Rattle.std.proofs.lemmas.Bool.{leb-true}
@@ -10,18 +10,18 @@ use Rattle.bz_model.specs.declared.channel.Chan.{Chan}
 use Rattle.bz_model.specs.declared.channel.ChanKind.{ChanKind}
 use Rattle.bz_model.specs.declared.channel.ChanKind.TheVariants.{Sync, Push, Pull}
 use Rattle.bz_model.specs.declared.kind.Kind.{Kind}
-use Rattle.bz_model.specs.declared.kind.Kind.TheVariants.{Loop, Sequence, SequenceOptimised, Concur, Fork, WireFork, ForkPush, While, Case, CaseFetch, Fetch, Variable, Constant, UnaryFunc, BinaryFunc, BinaryFuncConstR, Slice, Combine, CombineEqual, Adapt, Split, Halt, HaltPush, Continue, ContinuePush}
+use Rattle.bz_model.specs.declared.kind.Kind.TheVariants.{Loop, Sequence, SequenceOptimised, Concur, Fork, WireFork, ForkPush, While, Case, CaseFetch, Fetch, Variable, Constant, UnaryFunc, BinaryFunc, BinaryFuncConstR, Slice, Combine, CombineEqual, Adapt, Split, Halt, HaltPush, Continue, ContinuePush, Call, CallMux, CallDemux, Passivator, PassivatorPush, Synch, SynchPull, DecisionWait, Arbiter, FalseVariable}
 use Rattle.bz_model.specs.declared.expr.Expr.{Expr}
-use Rattle.bz_model.specs.declared.expr.Expr.TheVariants.{Slot, Unary, Binary, Bits}
+use Rattle.bz_model.specs.declared.expr.Expr.TheVariants.{Nothing, Slot, Unary, Binary, Bits}
 use Rattle.bz_model.specs.declared.spans.Span.{Span}
 use Rattle.bz_model.specs.declared.expr.Operand.{Operand}
 use Rattle.bz_model.specs.declared.operation.UnaryOp.{UnaryOp}
 use Rattle.bz_model.specs.declared.operation.BinaryOp.{BinaryOp}
 use Rattle.bz_model.specs.Operations.{joined}
 use Rattle.bz_model.specs.declared.operation.UnaryOp.TheVariants.{Extend}
-use Rattle.bz_model.specs.Terms.{Store, extended, Term, all, in_turn, reply, seq, forever, when, done, picks}
-use Rattle.bz_model.specs.Rows.{PortRow, active_array, passive_array, row_of, ports_of, first_size, width, widths, are_equal, is_wide, least_width, asks_widths, has_widths, MeetsRow}
-use Rattle.bz_model.specs.Processes.{process, size, member, after, operand, enclosed, call, pull, push}
+use Rattle.bz_model.specs.Terms.{Store, extended, Term, all, in_turn, take, reply, seq, forever, when, done, picks}
+use Rattle.bz_model.specs.Rows.{PortRow, active_port, passive_port, active_array, passive_array, row_of, ports_of, first_size, width, widths, are_equal, is_wide, least_width, asks_widths, has_widths, MeetsRow}
+use Rattle.bz_model.specs.Processes.{process, size, member, after, first, behind, into_last, from_last, operand, enclosed, call, pull, push}
 use Rattle.bz_model.specs.Widths.{FitsAt, GivesAt, TakesAt, Sends}
 use Rattle.bz_model.proofs.Fitting.{nothing, sends-all, sends-turns}
 use Rattle.bz_model.proofs.Bounds.{unary-fits, binary-fits}
@@ -63,6 +63,10 @@ equal (c ∷ cs) (suc i) e lt = all-are cs c.width i e (omega arith)
 length-array : (n : ℕ) (r : PortRow) → length (replicate n r ++ []) ≡ n
 length-array zero r = refl
 length-array (suc n) r = ap suc (length-array n r)
+
+length-then : (n : ℕ) (r l : PortRow) → length (replicate n r ++ l ∷ []) ≡ suc n
+length-then zero r l = refl
+length-then (suc n) r l = ap suc (length-then n r l)
 
 size-first : (sizes : List ℕ) → size sizes ≡ first_size sizes
 size-first [] = refl
@@ -199,6 +203,58 @@ module _ (sizes : List ℕ) (chans : List Chan) where
       let high : GivesAt chans 64 3 (Bits 0 (width chans 2) (width chans 3)) = (tt, λ s lt. mod-lt (get_or s 0 0 / 2 ^ width chans 2) (pow_pos (width chans 3))) in
       (64, ((λ e. widest chans 1 k), ((pushes chans 64 2 (Bits 0 0 (width chans 2)) low, (pushes chans 64 3 (Bits 0 (width chans 2) (width chans 3)) high, tt)), nothing chans 64 1)))
 
+  -- an array that stands first, and a port behind it, all of one width
+  alike : (kind : Kind) (r l : PortRow) → MeetsRow kind sizes chans → IsTrue (are_equal (widths chans)) → ports_of (row_of kind) sizes ≡ replicate (first_size sizes) r ++ l ∷ [] → (i : ℕ) → i < suc (size sizes) → width chans (suc i) ≡ width chans 1
+  alike kind r l meets same row i lt =
+      let n : length chans ≡ suc (size sizes) = count kind sizes chans meets ∙ ap length row ∙ length-then (first_size sizes) r l ∙ ap suc (sym (size-first sizes)) in
+      equal chans i same (omega arith)
+
+  call_muxes : Fits CallMux
+  call_muxes meets =
+      let w = width chans 1 in
+      let n = size sizes in
+      let same = alike CallMux (passive_array (codes "inp") Push) (active_port (codes "out") Push) meets (asked CallMux meets) refl in
+      (w, sends-all chans w n (λ i. enclosed (first i) 0 (push (behind n) (Slot 0)) Nothing) (λ i lt.
+      let e = same i (omega arith) in ((λ z. omega arith), (pushes chans w (behind n) (Slot 0) (sent chans w (behind n) (sym (same n (omega arith)))), nothing chans w (first i)))))
+
+  call_demuxes : Fits CallDemux
+  call_demuxes meets =
+      let w = width chans 1 in
+      let n = size sizes in
+      let same = alike CallDemux (passive_array (codes "inp") Pull) (active_port (codes "out") Pull) meets (asked CallDemux meets) refl in
+      let e = same n (omega arith) in
+      (w, sends-all chans w n (λ i. enclosed (first i) 1 (pull (behind n) 0) (Slot 0)) (λ i lt. (apart chans w (first i) 0, (pulls chans w (behind n) 0 (omega arith), sent chans w (first i) (sym (same i (omega arith)))))))
+
+  passivator_pushes : Fits PassivatorPush
+  passivator_pushes meets =
+      let w = width chans 1 in
+      let n = size sizes in
+      let same = alike PassivatorPush (passive_array (codes "out") Pull) (passive_port (codes "inp") Push) meets (asked PassivatorPush meets) refl in
+      let within : (i : ℕ) → i < suc n → width chans (first i) ≤ w = λ i lt. let e = same i lt in omega arith in
+      let gives : (b : Bool) (i : ℕ) → i < suc n → GivesAt chans w (first i) (cond b Nothing (Slot 0)) = λ b i lt. elim b as (λ k. GivesAt chans w (first i) (cond k Nothing (Slot 0))) [ true ↦ nothing chans w (first i) | false ↦ sent chans w (first i) (sym (same i lt)) ] in
+      (w, (sends-all chans w (suc n) (λ i. take (first i) (into_last n i)) (λ i lt z. within i lt), sends-all chans w (suc n) (λ i. reply (first i) (from_last n i)) (λ i lt. gives (i == n) i lt)))
+
+  synch_pulls : Fits SynchPull
+  synch_pulls meets =
+      let w = width chans 1 in
+      let n = size sizes in
+      let same = alike SynchPull (passive_array (codes "out") Pull) (active_port (codes "inp") Pull) meets (asked SynchPull meets) refl in
+      let e = same n (omega arith) in
+      (w, (sends-all chans w n (λ i. take (first i) 1) (λ i lt. apart chans w (first i) 0), (pulls chans w (behind n) 0 (omega arith), sends-all chans w n (λ i. reply (first i) (Slot 0)) (λ i lt. sent chans w (first i) (sym (same i (omega arith)))))))
+
+  decisions : Fits DecisionWait
+  decisions meets =
+      let n = size sizes in
+      (0, (apart chans 0 1 0, sends-all chans 0 n _ (λ i lt. (apart chans 0 (member i) 0, (calls chans 0 (member (n + i)), (nothing chans 0 (member i), (nothing chans 0 1, tt)))))))
+
+  false_variables : Fits FalseVariable
+  false_variables meets =
+      let w = width chans 1 in
+      let n = size sizes in
+      let m : length chans ≡ suc (suc n) = count FalseVariable sizes chans meets ∙ ap (λ k. suc (suc k)) (length-array (first_size sizes) (passive_array (codes "read") Pull) ∙ sym (size-first sizes)) in
+      let same : (i : ℕ) → i < n → w ≡ width chans (after i) = λ i lt. sym (two_on chans i ∙ all-are (drop 2 chans) w i (asked FalseVariable meets) (let k : length (drop 2 chans) ≡ n = length-drop 2 chans ∙ (let d : length chans - 2 ≡ n = omega arith in d) in omega arith)) in
+      (w, (((λ e. omega arith), (calls chans w 2, nothing chans w 1)), sends-all chans w n (λ i. forever (enclosed (after i) 1 done (Slot 0))) (λ i lt. (apart chans w (after i) 0, (tt, sent chans w (after i) (same i lt))))))
+
 -- on channels that meet the kind's row, all that the process sends fits
 pub starts-fit : (kind : Kind) (sizes : List ℕ) (chans : List Chan) → MeetsRow kind sizes chans → (w : ℕ) × Sends chans w (process kind sizes chans)
 starts-fit Loop sizes chans meets = loops sizes chans meets
@@ -234,3 +290,16 @@ starts-fit Halt sizes chans meets = (0, (apart chans 0 1 0, tt))
 starts-fit HaltPush sizes chans meets = (width chans 1, ((λ e. omega arith), tt))
 starts-fit Continue sizes chans meets = (0, (apart chans 0 1 0, (tt, nothing chans 0 1)))
 starts-fit ContinuePush sizes chans meets = (width chans 1, ((λ e. omega arith), (tt, nothing chans (width chans 1) 1)))
+starts-fit Call sizes chans meets = (0, sends-all chans 0 (size sizes) (λ i. enclosed (first i) 1 (call (behind (size sizes))) Nothing) (λ i lt. (apart chans 0 (first i) 0, (calls chans 0 (behind (size sizes)), nothing chans 0 (first i)))))
+starts-fit CallMux sizes chans meets = call_muxes sizes chans meets
+starts-fit CallDemux sizes chans meets = call_demuxes sizes chans meets
+starts-fit Passivator sizes chans meets =
+    (0, (sends-all chans 0 (size sizes) (λ i. take (first i) 1) (λ i lt. apart chans 0 (first i) 0), sends-all chans 0 (size sizes) (λ i. reply (first i) Nothing) (λ i lt. nothing chans 0 (first i))))
+starts-fit PassivatorPush sizes chans meets = passivator_pushes sizes chans meets
+starts-fit Synch sizes chans meets =
+    (0, (sends-all chans 0 (size sizes) (λ i. take (first i) 1) (λ i lt. apart chans 0 (first i) 0), (calls chans 0 (behind (size sizes)), sends-all chans 0 (size sizes) (λ i. reply (first i) Nothing) (λ i lt. nothing chans 0 (first i)))))
+starts-fit SynchPull sizes chans meets = synch_pulls sizes chans meets
+starts-fit DecisionWait sizes chans meets = decisions sizes chans meets
+starts-fit Arbiter sizes chans meets =
+    (0, ((apart chans 0 1 0, (calls chans 0 3, nothing chans 0 1)), ((apart chans 0 2 0, (calls chans 0 4, nothing chans 0 2)), tt)))
+starts-fit FalseVariable sizes chans meets = false_variables sizes chans meets

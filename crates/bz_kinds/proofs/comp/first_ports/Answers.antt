@@ -1,6 +1,6 @@
 use Rattle.std.proofs.Common.{◌≡◌, suc, ◌+◌, arith}
 use Rattle.bz_model.specs.Processes.{member}
-use Rattle.bz_kinds.proofs.StartLaws.{if-ok, pick-turn, pick-whole, pick-once, pick-cells, pick-select, pick-index, pick-script}
+use Rattle.bz_kinds.proofs.StartLaws.{if-ok, pick-turn, pick-whole, pick-once, pick-cells, pick-select, pick-index, pick-script, pick-signalled, pick-choice, pick-meeting, pick-decision}
 use Rattle.bz_kinds.proofs.comp.first_ports.Goals as goal
 
 pub returns-in-InTurn : goal.returns-in-InTurn
@@ -23,3 +23,15 @@ returns-in-Once c = let two : c.args.legs + 2 ≡ member c.args.legs = omega ari
 
 pub returns-in-Indexed : goal.returns-in-Indexed
 returns-in-Indexed c = let three : c.args.legs + 3 ≡ suc (member c.args.legs) = omega arith in if-ok _ _ _ (λ w e. pick-index _ _ _ _ w c.in-Indexed.is c.requires.is_for three e) c.first_only-in-Indexed.ensures
+
+pub returns-in-Signalled : goal.returns-in-Signalled
+returns-in-Signalled c = let three : c.args.legs + 3 ≡ suc (member c.args.legs) = omega arith in if-ok _ _ _ (λ w e. pick-signalled _ _ _ w c.in-Signalled.is three e) c.all_but.ensures
+
+pub returns-in-Choice : goal.returns-in-Choice
+returns-in-Choice c = if-ok _ _ _ (λ w e. pick-choice _ _ _ _ w c.in-Choice.is (omega arith) e) c.first_members.ensures
+
+pub returns-in-Meeting : goal.returns-in-Meeting
+returns-in-Meeting c = if-ok _ _ _ (λ w e. pick-meeting _ _ _ _ w c.in-Meeting.is c.requires.is_for (omega arith) e) c.first_members-in-Meeting.ensures
+
+pub returns-in-Decision : goal.returns-in-Decision
+returns-in-Decision c = let two : 2 * c.args.legs + 2 ≡ member (c.args.legs + c.args.legs) = omega arith in if-ok _ _ _ (λ w e. pick-decision _ _ _ w c.in-Decision.is two e) c.first_only-in-Decision.ensures

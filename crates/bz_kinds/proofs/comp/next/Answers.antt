@@ -5,7 +5,7 @@ use Rattle.bz_kinds.specs.Comp.{plan_due}
 use Rattle.bz_kinds.proofs.PlanLaws.{next-some, next-only, one-head-on}
 use Rattle.bz_kinds.proofs.comp.next.Goals as goal
 
-is_due : (c : goal.After-map) → c.map.result ≡ option_map (λ (d : Due). d.mv) (plan_due c.comp.inside.plan c.comp.inside.left c.args.port (get_or c.comp.inside.ports c.args.port 0))
+is_due : (c : goal.After-map) → c.map.result ≡ option_map (λ (d : Due). d.mv) (plan_due c.comp.inside.plan c.comp.inside.size c.comp.inside.left c.args.port (get_or c.comp.inside.ports c.args.port 0))
 is_due c = grind (arith)
 
 pub returns-clause-some : goal.returns-clause-some
