@@ -154,17 +154,17 @@ either-alternates : (b : Bool) (leg : Leg) (into : ℕ) (answer : Expr) (a : ℕ
 either-alternates true leg into answer a d e = leg-alternates leg a d e
 either-alternates false leg into answer a d e = lead-alternates into answer a d e
 
-behind-alternates : (leg : Option Leg) (a : ℕ) (d : Due) → gathering.behind_due leg a ≡ Some d → opens d.mv ≡ not (is_open a)
-behind-alternates None a d e = absurd (cc)
-behind-alternates (Some leg) a d e = leg-alternates leg a d e
+behind-alternates : (meet : Meet) (n : ℕ) (leg : Option Leg) (a : ℕ) (d : Due) → gathering.behind_due meet n leg a ≡ Some d → opens d.mv ≡ not (is_open a)
+behind-alternates meet n None a d e = absurd (cc)
+behind-alternates meet n (Some leg) a d e = leg-alternates leg a d e
 
 meeting-alternates : (meet : Meet) (n p a : ℕ) (d : Due) → gathering.meeting_due meet n p a ≡ Some d → opens d.mv ≡ not (is_open a)
 meeting-alternates meet n zero a d e = absurd (cc)
 meeting-alternates meet n (suc i) a d e = cases (nat_lt i n) e
   where
-    cases : (b : Bool) → (if b then lead_due (gathering.into meet n i) (gathering.answer meet n i) a else gathering.behind_due meet.leg a) ≡ Some d → opens d.mv ≡ not (is_open a)
+    cases : (b : Bool) → (if b then lead_due (gathering.into meet n i) (gathering.answer meet n i) a else gathering.behind_due meet n meet.leg a) ≡ Some d → opens d.mv ≡ not (is_open a)
     cases true e = lead-alternates (gathering.into meet n i) (gathering.answer meet n i) a d e
-    cases false e = behind-alternates meet.leg a d e
+    cases false e = behind-alternates meet n meet.leg a d e
 
 decision-alternates : (n p a : ℕ) (d : Due) → deciding.decision_due n p a ≡ Some d → opens d.mv ≡ not (is_open a)
 decision-alternates n zero a d e = absurd (cc)

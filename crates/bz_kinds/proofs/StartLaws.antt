@@ -3,15 +3,15 @@ use Rattle.std.proofs.Common.{◌≡◌, ◌≢◌, inl, inr, ℕ, zero, suc, �
 use Rattle.std.proofs.lemmas.Bool.{cases_lt}
 use Rattle.std.proofs.lemmas.List.{get_or-set_other, get_or_past}
 use Rattle.std.proofs.Math.ListN.{length-set, length-replicate}
-use Rattle.bz_model.specs.Terms.{Store, forever, par, all, term}
-use Rattle.bz_model.specs.Processes.{member, process, slots, start_of}
+use Rattle.bz_model.specs.Terms.{Store, seq, forever, par, all, term}
+use Rattle.bz_model.specs.Processes.{member, takes, replies, into_last, from_last, process, slots, start_of}
 use Rattle.bz_model.specs.declared.kind.Kind.{Kind}
 use Rattle.bz_kinds.specs.declared.shape.Shape.{Shape}
 use Rattle.bz_kinds.specs.Comp.{todo_of, IsFor}
 use Rattle.bz_kinds.specs.Indexed.{IsBounded}
 use Rattle.bz_kinds.specs.declared.row.Row.{Row}
 use Rattle.bz_kinds.specs.declared.row.Legs.TheVariants.{Spread}
-use Rattle.bz_model.specs.declared.expr.Expr.TheVariants.{Nothing}
+use Rattle.bz_model.specs.declared.expr.Expr.TheVariants.{Nothing, Slot}
 use Rattle.bz_model.specs.declared.spans.Span.{Span}
 use Rattle.bz_kinds.specs.declared.row.Plan.{Plan}
 use Rattle.bz_kinds.specs.declared.row.Plan.TheVariants.{InTurn, Together, Once, Cells, Signalled, Select, Indexed, OneByOne, Choice, Meeting, Decision}
@@ -28,7 +28,7 @@ use Rattle.bz_kinds.specs.Decision as deciding
 use Rattle.bz_kinds.specs.declared.row.Script.{Script}
 use Rattle.bz_kinds.specs.declared.row.Script.TheVariants.{Loop, While, Halt}
 use Rattle.bz_kinds.specs.Start.{BeginsAt, IsAllDue, IsDueBut, AreMembersDue, IsShapeOf, plan_process}
-use Rattle.std.specs.Prelude.{Result, Ok, Err, IfOk}
+use Rattle.std.specs.Prelude.{None, Result, Ok, Err, IfOk}
 use Rattle.std.proofs.lemmas.List.{length-map}
 use Rattle.bz_model.specs.Heads.{Component, tidy, together}
 use Rattle.bz_model.specs.Widths.{Sends, Fitted}
@@ -236,15 +236,22 @@ pick-meeting plan meet n m w e for k a =
     let due : (i : ℕ) → i < n → get_or w (suc i) 0 ≡ 1 = λ i lt. a.due i lt (omega arith) in
     let quiet : get_or w (suc n) 0 ≡ 0 = a.quiet (suc n) (omega arith) in
     rw e (record {
-      place = λ s. record { long = a.long ∙ k; none = a.none; some = some; stage = inl (record { numbers = λ i lt. inl (due i lt); count = all-counted n w due; fresh = λ z. due; quiet = quiet }) };
+      place = λ s. record { long = a.long ∙ k; none = a.none; some = some; stage = inl (record { numbers = λ i lt. inl (due i lt); count = (let c = all-counted n w due in omega arith); fresh = λ z. due; quiet = quiet }) };
       has_todo = rw (quiet, due 0 some) refl;
       closed = all-closed w (suc (n + gathering.actives meet)) (a.long ∙ k) (members-closed n m w a);
     })
 
+same-next : (i n : ℕ) → (i == n) ≡ (suc i == suc n)
+same-next i n = grind (arith)
+
+-- a PassivatorPush's input is the last that meets
+pub meets-last : (n : ℕ) → forever (seq (takes (suc n) (into_last n)) (replies (suc n) (from_last n))) ≡ forever (gathering.round (record { leg = None; answer = Slot 0; gives = true }) (suc n))
+meets-last n = λ j. forever (seq (takes (suc n) (λ i. if same-next i n j then 0 else 1)) (replies (suc n) (λ i. if same-next i n j then Nothing else Slot 0)))
+
 pub pick-signalled : (plan : Plan) (n m : ℕ) (w : List ℕ) → plan ≡ Signalled → m ≡ suc (member n) → IsDueBut m 2 w → BeginsAt plan n w
 pick-signalled plan n m w e k a = rw e (record {
   place = λ s. record { long = a.long ∙ k ∙ omega arith; none = a.none; writer = inl (writes, a.but); readers = λ i lt. inl (reads i lt) };
-  has_todo = rw (writes, a.but) (ap (λ ts. par (term (forever signalling.write_round) ts)) (all-cong n (λ i. signalling.reader_left i (get_or w (suc (suc (suc i))) 0)) (λ i. forever (signalling.read_round i)) (λ i lt. rw (reads i lt) refl)));
+  has_todo = rw writes (ap (λ ts. par (term (forever signalling.write_round) ts)) (all-cong n (λ i. signalling.reader_left i (get_or w (suc (suc (suc i))) 0)) (λ i. forever (signalling.read_round i)) (λ i lt. rw (reads i lt) refl)));
   closed = all-closed w (suc (member n)) (a.long ∙ k) closed;
 })
   where

@@ -1,5 +1,5 @@
 -- Each move of a process is one of its port's side, at the start and after every move.
-use Rattle.std.proofs.Common.{◌≡◌, ℕ, zero, suc, ◌<◌, Bool, true, false, List, [], ◌∷◌, ◌++◌, replicate, slice_index_or, refl, sym, subst, cond, arith}
+use Rattle.std.proofs.Common.{◌≡◌, ℕ, zero, suc, ◌<◌, Bool, true, false, List, [], ◌∷◌, ◌++◌, replicate, codes, slice_index_or, refl, sym, ap, subst, cond, arith, ◌+◌}
 use Rattle.bz_model.specs.declared.channel.Chan.{Chan}
 use Rattle.bz_model.specs.declared.kind.Kind.{Kind}
 use Rattle.bz_model.specs.declared.kind.Kind.TheVariants.{Loop, Sequence, SequenceOptimised, Concur, Fork, WireFork, ForkPush, While, Case, CaseFetch, Fetch, Variable, Constant, UnaryFunc, BinaryFunc, BinaryFuncConstR, Slice, Combine, CombineEqual, Adapt, Split, Halt, HaltPush, Continue, ContinuePush, Call, CallMux, CallDemux, Passivator, PassivatorPush, Synch, SynchPull, DecisionWait, Arbiter, FalseVariable}
@@ -7,7 +7,8 @@ use Rattle.bz_model.specs.Terms.{Store, Cond, is_met, Term, Terms, ask, take, re
 use Rattle.bz_model.specs.Heads.{Head, IsHead, IsHeadAt, sequence, together, are_done, tidy, tidy_all}
 use Rattle.bz_net.specs.Sides.{answers, Sided, AllSided}
 use Rattle.bz_model.specs.Processes.{process, size}
-use Rattle.bz_model.specs.Rows.{PortRow, is_passive, first_size}
+use Rattle.bz_model.specs.declared.channel.ChanKind.TheVariants.{Sync}
+use Rattle.bz_model.specs.Rows.{PortRow, passive_array, active_array, active_port, is_passive, first_size, other_sizes}
 
 module _ (f : ℕ → Bool) where
   mutual
@@ -88,9 +89,38 @@ passive-member zero i r d e lt = absurd (omega arith)
 passive-member (suc n) zero r d e lt = e
 passive-member (suc n) (suc i) r d e lt = passive-member n i r d e (omega arith)
 
+-- of an array that stands first, and of what follows it
+array-member : (n i : ℕ) (r d : PortRow) (rs : List PortRow) → r.passive ≡ true → i < n → (slice_index_or (replicate n r ++ rs) i d).passive ≡ true
+array-member zero i r d rs e lt = absurd (omega arith)
+array-member (suc n) zero r d rs e lt = e
+array-member (suc n) (suc i) r d rs e lt = array-member n i r d rs e (omega arith)
+
+behind-array : (n : ℕ) (r l d : PortRow) → slice_index_or (replicate n r ++ l ∷ []) n d ≡ l
+behind-array zero r l d = refl
+behind-array (suc n) r l d = behind-array n r l d
+
+either-member : (n i : ℕ) (r l d : PortRow) → r.passive ≡ true → l.passive ≡ true → i < suc n → (slice_index_or (replicate n r ++ l ∷ []) i d).passive ≡ true
+either-member zero zero r l d e f lt = f
+either-member zero (suc i) r l d e f lt = absurd (omega arith)
+either-member (suc n) zero r l d e f lt = e
+either-member (suc n) (suc i) r l d e f lt = either-member n i r l d e f (omega arith)
+
+second-array : (n m i : ℕ) (r l d : PortRow) → l.passive ≡ false → d.passive ≡ false → (slice_index_or (replicate n r ++ (replicate m l ++ [])) (n + i) d).passive ≡ false
+second-array zero m i r l d e f = let z : 0 + i ≡ i = omega arith in rw z (active-member m i l d e f)
+second-array (suc n) m i r l d e f = let z : suc n + i ≡ suc (n + i) = omega arith in rw z (second-array n m i r l d e f)
+
 size-first : (sizes : List ℕ) → size sizes ≡ first_size sizes
 size-first [] = refl
 size-first (n ∷ ns) = refl
+
+first-member : (sizes : List ℕ) (i : ℕ) → i < size sizes → (r d : PortRow) (rs : List PortRow) → r.passive ≡ true → (slice_index_or (replicate (first_size sizes) r ++ rs) i d).passive ≡ true
+first-member sizes i lt r d rs e = array-member (first_size sizes) i r d rs e (subst (λ n. i < n) (size-first sizes) lt)
+
+behind-first : (sizes : List ℕ) (r l d : PortRow) → (slice_index_or (replicate (first_size sizes) r ++ l ∷ []) (size sizes) d).passive ≡ l.passive
+behind-first sizes r l d = rw (size-first sizes) (ap (λ (r : PortRow). r.passive) (behind-array (first_size sizes) r l d))
+
+second-first : (sizes : List ℕ) (i : ℕ) (r l d : PortRow) → l.passive ≡ false → d.passive ≡ false → (slice_index_or (replicate (first_size sizes) r ++ (replicate (first_size (other_sizes sizes)) l ++ [])) (size sizes + i) d).passive ≡ false
+second-first sizes i r l d e f = rw (size-first sizes) (second-array (first_size sizes) (first_size (other_sizes sizes)) i r l d e f)
 
 pub starts : (kind : Kind) (sizes : List ℕ) (chans : List Chan) → Sided (is_passive kind sizes) (process kind sizes chans)
 unfolding is_passive
@@ -121,3 +151,23 @@ starts Halt sizes chans = (refl, tt)
 starts HaltPush sizes chans = (refl, tt)
 starts Continue sizes chans = (refl, (tt, refl))
 starts ContinuePush sizes chans = (refl, (tt, refl))
+starts Call sizes chans = sided-all _ (size sizes) _ (λ i lt. let a = first-member sizes i lt _ _ _ refl in let b = behind-first sizes _ _ _ in (a, ((b, b), a)))
+starts CallMux sizes chans = sided-all _ (size sizes) _ (λ i lt. let a = first-member sizes i lt _ _ _ refl in let b = behind-first sizes _ _ _ in (a, ((b, b), a)))
+starts CallDemux sizes chans = sided-all _ (size sizes) _ (λ i lt. let a = first-member sizes i lt _ _ _ refl in let b = behind-first sizes _ _ _ in (a, ((b, b), a)))
+starts Passivator sizes chans =
+    (sided-all _ (size sizes) _ (λ i lt. first-member sizes i lt _ _ _ refl), sided-all _ (size sizes) _ (λ i lt. first-member sizes i lt _ _ _ refl))
+starts PassivatorPush sizes chans =
+    let n = size-first sizes in
+    let a : (i : ℕ) → i < suc (size sizes) → _ = λ i lt. either-member (first_size sizes) i _ _ _ refl refl (subst (λ n. i < suc n) n lt) in
+    (sided-all _ (suc (size sizes)) _ a, sided-all _ (suc (size sizes)) _ a)
+starts Synch sizes chans =
+    let b = behind-first sizes _ _ _ in
+    (sided-all _ (size sizes) _ (λ i lt. first-member sizes i lt _ _ _ refl), ((b, b), sided-all _ (size sizes) _ (λ i lt. first-member sizes i lt _ _ _ refl)))
+starts SynchPull sizes chans =
+    let b = behind-first sizes _ _ _ in
+    (sided-all _ (size sizes) _ (λ i lt. first-member sizes i lt _ _ _ refl), ((b, b), sided-all _ (size sizes) _ (λ i lt. first-member sizes i lt _ _ _ refl)))
+starts DecisionWait sizes chans =
+    (refl, sided-all _ (size sizes) _ (λ i lt. let a = first-member sizes i lt _ _ _ refl in let b = second-first sizes i (passive_array (codes "inp") Sync) (active_array (codes "out") Sync) (active_port [] Sync) refl refl in (a, ((b, b), (a, (refl, tt))))))
+starts Arbiter sizes chans = ((refl, ((refl, refl), refl)), ((refl, ((refl, refl), refl)), tt))
+starts FalseVariable sizes chans =
+    ((refl, ((refl, refl), refl)), sided-all _ (size sizes) _ (λ i lt. let a = passive-member (first_size sizes) i _ _ refl (subst (λ n. i < n) (size-first sizes) lt) in (a, (tt, a))))
