@@ -9,8 +9,18 @@ use std::test::Fail;
 #[test]
 fn passivator_replies_when_both_have_come(rt: HostRuntime) -> Result<(), Fail> {
     let words = [
-        "offer:a", "run:9", "offer:b", "run:9", "collect:a", "collect:b", "offer:b", "run:9", "offer:a", "run:9",
-        "collect:a", "collect:b",
+        "offer:a",
+        "run:9",
+        "offer:b",
+        "run:9",
+        "collect:a",
+        "collect:b",
+        "offer:b",
+        "run:9",
+        "offer:a",
+        "run:9",
+        "collect:a",
+        "collect:b",
     ];
     let outcome = play(rt.alloc(), PASSIVATOR.as_bytes(), "p", 100, &words)?;
     let want = "trace 1
@@ -43,7 +53,14 @@ h1 collect b done
 #[test]
 fn passivator_push_gives_all_the_value(rt: HostRuntime) -> Result<(), Fail> {
     let words = [
-        "offer:x", "offer:i:5", "run:9", "offer:y", "run:9", "collect:x", "collect:y", "collect:i",
+        "offer:x",
+        "offer:i:5",
+        "run:9",
+        "offer:y",
+        "run:9",
+        "collect:x",
+        "collect:y",
+        "collect:i",
     ];
     let outcome = play(rt.alloc(), PASSIVATOR_PUSH.as_bytes(), "p", 100, &words)?;
     let want = "trace 1
@@ -70,8 +87,23 @@ h1 collect i done
 #[test]
 fn passivator_push_takes_the_value_last(rt: HostRuntime) -> Result<(), Fail> {
     let words = [
-        "offer:y", "offer:x", "run:9", "offer:i:6", "run:1", "run:9", "collect:x", "offer:x", "run:9", "offer:i:7",
-        "collect:y", "collect:i", "offer:i:7", "run:9", "offer:y", "run:9", "collect:y",
+        "offer:y",
+        "offer:x",
+        "run:9",
+        "offer:i:6",
+        "run:1",
+        "run:9",
+        "collect:x",
+        "offer:x",
+        "run:9",
+        "offer:i:7",
+        "collect:y",
+        "collect:i",
+        "offer:i:7",
+        "run:9",
+        "offer:y",
+        "run:9",
+        "collect:y",
     ];
     let outcome = play(rt.alloc(), PASSIVATOR_PUSH.as_bytes(), "p", 100, &words)?;
     let want = "trace 1
@@ -112,8 +144,24 @@ h1 collect y value 7
 #[test]
 fn synch_calls_when_both_have_come(rt: HostRuntime) -> Result<(), Fail> {
     let words = [
-        "offer:b", "run:9", "offer:a", "run:9", "accept:o", "answer:o", "run:9", "collect:a", "collect:b", "offer:a",
-        "offer:b", "run:9", "accept:o", "run:9", "answer:o", "run:9", "collect:a", "collect:b",
+        "offer:b",
+        "run:9",
+        "offer:a",
+        "run:9",
+        "accept:o",
+        "answer:o",
+        "run:9",
+        "collect:a",
+        "collect:b",
+        "offer:a",
+        "offer:b",
+        "run:9",
+        "accept:o",
+        "run:9",
+        "answer:o",
+        "run:9",
+        "collect:a",
+        "collect:b",
     ];
     let outcome = play(rt.alloc(), SYNCH.as_bytes(), "p", 100, &words)?;
     let want = "trace 1
@@ -156,8 +204,23 @@ h1 collect b done
 #[test]
 fn synch_pull_gives_all_the_same_value(rt: HostRuntime) -> Result<(), Fail> {
     let words = [
-        "offer:y", "run:9", "offer:x", "run:9", "accept:i", "answer:i:9", "run:9", "collect:x", "collect:y", "offer:x",
-        "offer:y", "run:9", "accept:i", "answer:i:10", "run:9", "collect:y", "collect:x",
+        "offer:y",
+        "run:9",
+        "offer:x",
+        "run:9",
+        "accept:i",
+        "answer:i:9",
+        "run:9",
+        "collect:x",
+        "collect:y",
+        "offer:x",
+        "offer:y",
+        "run:9",
+        "accept:i",
+        "answer:i:10",
+        "run:9",
+        "collect:y",
+        "collect:x",
     ];
     let outcome = play(rt.alloc(), SYNCH_PULL.as_bytes(), "p", 100, &words)?;
     let want = "trace 1
@@ -199,8 +262,24 @@ h1 collect x value 10
 #[test]
 fn decision_wait_waits_to_be_activated(rt: HostRuntime) -> Result<(), Fail> {
     let words = [
-        "offer:a", "run:9", "offer:go", "run:9", "accept:x", "answer:x", "run:9", "collect:go", "collect:a", "offer:go",
-        "run:9", "offer:b", "run:9", "accept:y", "answer:y", "run:9", "collect:b", "collect:go",
+        "offer:a",
+        "run:9",
+        "offer:go",
+        "run:9",
+        "accept:x",
+        "answer:x",
+        "run:9",
+        "collect:go",
+        "collect:a",
+        "offer:go",
+        "run:9",
+        "offer:b",
+        "run:9",
+        "accept:y",
+        "answer:y",
+        "run:9",
+        "collect:b",
+        "collect:go",
     ];
     let outcome = play(rt.alloc(), DECISION_WAIT.as_bytes(), "p", 100, &words)?;
     let want = "trace 1
@@ -243,8 +322,19 @@ h1 collect go done
 #[test]
 fn decision_wait_decides_once(rt: HostRuntime) -> Result<(), Fail> {
     let words = [
-        "offer:b", "offer:a", "offer:go", "run:9", "accept:x", "answer:x", "run:9", "collect:go", "offer:go", "run:9",
-        "accept:y", "answer:y", "run:9",
+        "offer:b",
+        "offer:a",
+        "offer:go",
+        "run:9",
+        "accept:x",
+        "answer:x",
+        "run:9",
+        "collect:go",
+        "offer:go",
+        "run:9",
+        "accept:y",
+        "answer:y",
+        "run:9",
     ];
     let outcome = play(rt.alloc(), DECISION_WAIT.as_bytes(), "p", 100, &words)?;
     let want = "trace 1
@@ -282,8 +372,23 @@ w1 rest
 #[test]
 fn false_variable_is_read_while_it_signals(rt: HostRuntime) -> Result<(), Fail> {
     let words = [
-        "offer:w:5", "run:9", "offer:r", "run:9", "collect:r", "accept:s", "answer:s", "run:9", "collect:w", "offer:r",
-        "offer:w:6", "run:9", "accept:s", "answer:s", "run:9", "collect:w", "collect:r",
+        "offer:w:5",
+        "run:9",
+        "offer:r",
+        "run:9",
+        "collect:r",
+        "accept:s",
+        "answer:s",
+        "run:9",
+        "collect:w",
+        "offer:r",
+        "offer:w:6",
+        "run:9",
+        "accept:s",
+        "answer:s",
+        "run:9",
+        "collect:w",
+        "collect:r",
     ];
     let outcome = play(rt.alloc(), FALSE_VARIABLE.as_bytes(), "p", 100, &words)?;
     let want = "trace 1
@@ -325,7 +430,17 @@ h1 collect r value 6
 #[test]
 fn false_variable_is_read_before_it_is_written(rt: HostRuntime) -> Result<(), Fail> {
     let words = [
-        "offer:r", "run:1", "offer:w:9", "run:9", "collect:r", "offer:r", "accept:s", "run:9", "answer:s", "run:9", "collect:r",
+        "offer:r",
+        "run:1",
+        "offer:w:9",
+        "run:9",
+        "collect:r",
+        "offer:r",
+        "accept:s",
+        "run:9",
+        "answer:s",
+        "run:9",
+        "collect:r",
     ];
     let outcome = play(rt.alloc(), FALSE_VARIABLE.as_bytes(), "p", 100, &words)?;
     let want = "trace 1

@@ -7,8 +7,17 @@ use std::test::Fail;
 #[test]
 fn call_serves_both_callers_in_order(rt: HostRuntime) -> Result<(), Fail> {
     let words = [
-        "offer:a", "offer:b", "run:9", "accept:o", "answer:o", "run:9", "accept:o", "answer:o", "run:9",
-        "collect:a", "collect:b",
+        "offer:a",
+        "offer:b",
+        "run:9",
+        "accept:o",
+        "answer:o",
+        "run:9",
+        "accept:o",
+        "answer:o",
+        "run:9",
+        "collect:a",
+        "collect:b",
     ];
     let outcome = play(rt.alloc(), CALL.as_bytes(), "p", 100, &words)?;
     let want = "trace 1
@@ -40,8 +49,17 @@ h1 collect b done
 #[test]
 fn call_serves_the_second_caller_first(rt: HostRuntime) -> Result<(), Fail> {
     let words = [
-        "offer:b", "run:9", "accept:o", "answer:o", "offer:a", "run:9", "accept:o", "answer:o", "run:9",
-        "collect:b", "collect:a",
+        "offer:b",
+        "run:9",
+        "accept:o",
+        "answer:o",
+        "offer:a",
+        "run:9",
+        "accept:o",
+        "answer:o",
+        "run:9",
+        "collect:b",
+        "collect:a",
     ];
     let outcome = play(rt.alloc(), CALL.as_bytes(), "p", 100, &words)?;
     let want = "trace 1
@@ -73,8 +91,17 @@ h1 collect a done
 #[test]
 fn call_mux_sends_each_value_on(rt: HostRuntime) -> Result<(), Fail> {
     let words = [
-        "offer:a:5", "offer:b:6", "run:9", "accept:o", "answer:o", "run:9", "accept:o", "answer:o", "run:9",
-        "collect:a", "collect:b",
+        "offer:a:5",
+        "offer:b:6",
+        "run:9",
+        "accept:o",
+        "answer:o",
+        "run:9",
+        "accept:o",
+        "answer:o",
+        "run:9",
+        "collect:a",
+        "collect:b",
     ];
     let outcome = play(rt.alloc(), CALL_MUX.as_bytes(), "p", 100, &words)?;
     let want = "trace 1
@@ -106,8 +133,17 @@ h1 collect b done
 #[test]
 fn call_mux_sends_the_second_value_first(rt: HostRuntime) -> Result<(), Fail> {
     let words = [
-        "offer:b:6", "run:9", "accept:o", "offer:a:5", "answer:o", "run:9", "accept:o", "answer:o", "run:9",
-        "collect:b", "collect:a",
+        "offer:b:6",
+        "run:9",
+        "accept:o",
+        "offer:a:5",
+        "answer:o",
+        "run:9",
+        "accept:o",
+        "answer:o",
+        "run:9",
+        "collect:b",
+        "collect:a",
     ];
     let outcome = play(rt.alloc(), CALL_MUX.as_bytes(), "p", 100, &words)?;
     let want = "trace 1
@@ -139,8 +175,17 @@ h1 collect a done
 #[test]
 fn call_demux_answers_who_asked(rt: HostRuntime) -> Result<(), Fail> {
     let words = [
-        "offer:a", "offer:b", "run:9", "accept:o", "answer:o:7", "run:9", "accept:o", "answer:o:8", "run:9",
-        "collect:a", "collect:b",
+        "offer:a",
+        "offer:b",
+        "run:9",
+        "accept:o",
+        "answer:o:7",
+        "run:9",
+        "accept:o",
+        "answer:o:8",
+        "run:9",
+        "collect:a",
+        "collect:b",
     ];
     let outcome = play(rt.alloc(), CALL_DEMUX.as_bytes(), "p", 100, &words)?;
     let want = "trace 1
@@ -172,8 +217,17 @@ h1 collect b value 8
 #[test]
 fn call_demux_answers_the_second_first(rt: HostRuntime) -> Result<(), Fail> {
     let words = [
-        "offer:b", "run:9", "offer:a", "accept:o", "answer:o:7", "run:9", "accept:o", "answer:o:8", "run:9",
-        "collect:a", "collect:b",
+        "offer:b",
+        "run:9",
+        "offer:a",
+        "accept:o",
+        "answer:o:7",
+        "run:9",
+        "accept:o",
+        "answer:o:8",
+        "run:9",
+        "collect:a",
+        "collect:b",
     ];
     let outcome = play(rt.alloc(), CALL_DEMUX.as_bytes(), "p", 100, &words)?;
     let want = "trace 1
@@ -205,8 +259,17 @@ h1 collect b value 7
 #[test]
 fn arbiter_lets_one_through_at_a_time(rt: HostRuntime) -> Result<(), Fail> {
     let words = [
-        "offer:a", "offer:b", "run:9", "accept:x", "answer:x", "run:9", "accept:y", "answer:y", "run:9",
-        "collect:a", "collect:b",
+        "offer:a",
+        "offer:b",
+        "run:9",
+        "accept:x",
+        "answer:x",
+        "run:9",
+        "accept:y",
+        "answer:y",
+        "run:9",
+        "collect:a",
+        "collect:b",
     ];
     let outcome = play(rt.alloc(), ARBITER.as_bytes(), "arb", 100, &words)?;
     let want = "trace 1
@@ -238,8 +301,18 @@ h1 collect b done
 #[test]
 fn arbiter_lets_the_second_through_first(rt: HostRuntime) -> Result<(), Fail> {
     let words = [
-        "offer:b", "run:9", "offer:a", "run:9", "accept:y", "answer:y", "run:9", "accept:x", "answer:x", "run:9",
-        "collect:b", "collect:a",
+        "offer:b",
+        "run:9",
+        "offer:a",
+        "run:9",
+        "accept:y",
+        "answer:y",
+        "run:9",
+        "accept:x",
+        "answer:x",
+        "run:9",
+        "collect:b",
+        "collect:a",
     ];
     let outcome = play(rt.alloc(), ARBITER.as_bytes(), "arb", 100, &words)?;
     let want = "trace 1

@@ -215,9 +215,9 @@ pick-decision plan n m w e k f = rw (e, f, k) (decision-begins n)
 members-closed : (n m : ℕ) (w : List ℕ) → AreMembersDue m n w → (q : ℕ) → is_open (get_or w q 0) ≡ false
 members-closed n m w a zero = ap is_open a.none
 members-closed n m w a (suc q) = elim (cases_lt q n) [
-    inl lt ↦ elim (cases_lt (suc q) m) [ inl in_it ↦ ap is_open (a.due q lt in_it) | inr past ↦ ap is_open (get_or_past w (suc q) 0 (let l = a.long in omega arith)) ]
+  | inl lt ↦ elim (cases_lt (suc q) m) [ inl in_it ↦ ap is_open (a.due q lt in_it) | inr past ↦ ap is_open (get_or_past w (suc q) 0 (let l = a.long in omega arith)) ]
   | inr le ↦ ap is_open (a.quiet (suc q) (omega arith))
-  ]
+]
 
 pub pick-choice : (plan : Plan) (mix : Mix) (n m : ℕ) (w : List ℕ) → plan ≡ Choice mix → m ≡ suc (n + choosing.actives mix n) → AreMembersDue m n w → BeginsAt plan n w
 pick-choice plan mix n m w e k a = rw e (record {
