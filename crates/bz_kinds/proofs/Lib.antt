@@ -10,6 +10,7 @@ pub mod InTurnLaws
 pub mod InTurnDue
 pub mod CellsLaws
 pub mod SignalledLaws
+pub mod ChoiceLaws
 pub mod ChoiceDue
 pub mod MeetingDue
 pub mod DecisionDue
