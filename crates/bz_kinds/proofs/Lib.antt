@@ -11,6 +11,8 @@ pub mod InTurnDue
 pub mod CellsLaws
 pub mod SignalledLaws
 pub mod ChoiceDue
+pub mod MeetingLaws
+pub mod MeetingSteps
 pub mod MeetingDue
 pub mod DecisionDue
 pub mod ScriptLaws
