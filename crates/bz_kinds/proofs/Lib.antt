@@ -12,6 +12,8 @@ pub mod CellsLaws
 pub mod SignalledLaws
 pub mod ChoiceLaws
 pub mod ChoiceDue
+pub mod MeetingLaws
+pub mod MeetingSteps
 pub mod MeetingDue
 pub mod DecisionDue
 pub mod ScriptLaws

@@ -11,7 +11,7 @@ use Rattle.bz_kinds.specs.declared.row.Meet.{Meet}
 use Rattle.bz_kinds.specs.declared.row.Due.{Due}
 use Rattle.bz_kinds.specs.Row.{Toggles, lead_due, leg_due}
 
-abbrev count_by_leg : Option Leg → ℕ
+abbrev pub count_by_leg : Option Leg → ℕ
 count_by_leg None = 0
 count_by_leg (Some leg) = 1
 
