@@ -12,6 +12,7 @@ pub mod CellsLaws
 pub mod SignalledLaws
 pub mod ChoiceDue
 pub mod MeetingDue
+pub mod DecisionLaws
 pub mod DecisionDue
 pub mod ScriptLaws
 pub mod SelectLaws
