@@ -15,6 +15,7 @@ pub mod ChoiceDue
 pub mod MeetingLaws
 pub mod MeetingSteps
 pub mod MeetingDue
+pub mod DecisionLaws
 pub mod DecisionDue
 pub mod ScriptLaws
 pub mod SelectLaws
