@@ -4,7 +4,6 @@ use Rattle.std.specs.List.{flat_map}
 use Rattle.std.proofs.lemmas.Grind.{flat_map-append}
 use Rattle.std.proofs.lemmas.List.{append-nil, length-take, take-append-drop}
 use Rattle.bz_model.specs.declared.channel.Chan.{Chan}
-use Rattle.bz_model.specs.Rows.{row_of}
 use Rattle.bz_breeze.specs.declared.part.Part.{Part}
 use Rattle.bz_breeze.specs.declared.part.Component.{Component}
 use Rattle.bz_elab.specs.declared.error.ElabError.{ElabError}

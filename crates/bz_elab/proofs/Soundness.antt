@@ -1,7 +1,7 @@
 -- The components of a part and of all that it reaches, as far as the walk has come.
-use Rattle.std.proofs.Common.{◌≡◌, ℕ, zero, suc, ◌-◌, ◌<◌, ◌≤◌, Option, None, Some, List, [], ◌∷◌, ◌++◌, length, ◌⊎◌, inl, inr, refl, sym, ◌∙◌, ap, subst, arith, length-append, slice_get, option_and_then}
+use Rattle.std.proofs.Common.{◌≡◌, ℕ, zero, suc, ◌-◌, ◌<◌, ◌≤◌, Option, None, Some, List, [], ◌∷◌, ◌++◌, length, ◌⊎◌, inl, inr, refl, sym, ◌∙◌, ap, subst, arith, length-append, get_or, slice_get, option_and_then}
 use Rattle.std.proofs.lemmas.Bool.Decides.{eqb_tells}
-use Rattle.std.proofs.lemmas.Option.{slice_get_within}
+use Rattle.std.proofs.lemmas.Option.{slice_get_read, slice_get_within}
 use Rattle.bz_breeze.specs.declared.part.Part.{Part}
 use Rattle.bz_breeze.specs.declared.part.Component.{Component}
 use Rattle.bz_elab.specs.Paths.{Path, named, component, inner, copied, role}
@@ -30,6 +30,9 @@ pub part_at : (parts : List Part) (n : ℕ) → n < length parts → (p : Part) 
 part_at [] n lt = absurd (omega arith)
 part_at (p ∷ ps) zero lt = (p, refl)
 part_at (p ∷ ps) (suc n) lt = part_at ps n (omega arith)
+
+pub part_read : (parts list : List Part) (n : ℕ) (p : Part) → list ≡ parts → n < length parts → p ≡ get_or list n p → slice_get parts n ≡ Some p
+part_read parts list n p same lt is = slice_get_read parts (length parts) n p refl lt (rw same at is)
 
 pub same_some : {X : Type 0} {o : Option X} {x y : X} → o ≡ Some x → o ≡ Some y → y ≡ x
 same_some e f = cc

@@ -15,11 +15,11 @@ use crate::faults::least_fault;
 use crate::reach::{first_recursive, reached};
 use crate::totals::{Total, capped, total_of};
 use crate::walk::{MOST_CHANNELS, MOST_COMPONENTS, MOST_ENDS, MOST_INSTANCES};
-use bz_breeze::Part;
+use bz_breeze::{Part, Parts};
 use std::alloc::{AllocError, Global};
 
 /// Finds the first refusal of a part and all that it reaches, by what can be told without making the net.
-pub fn check(alloc: Global, parts: &[Part], number: usize, part: &Part) -> Result<(), ElabError>
+pub fn check(alloc: Global, parts: &Parts, number: usize, part: &Part) -> Result<(), ElabError>
     requires whole { All HasPortChannels parts.now }
     requires part_is { slice_get parts.now number ≡ Some part.now }
     requires first { IsFirstPlace parts.now number part.now }
@@ -39,7 +39,7 @@ pub fn check(alloc: Global, parts: &[Part], number: usize, part: &Part) -> Resul
 // Finds the first refusal of the marked parts, which go no deeper than they may, and of the size of the net.
 fn check_parts(
     alloc: Global,
-    parts: &[Part],
+    parts: &Parts,
     number: usize,
     part: &Part,
     marks: &[bool],
@@ -77,7 +77,7 @@ fn check_parts(
 // What lies below the copy of a part, `None` where a path is too long.
 fn whole_total(
     alloc: Global,
-    parts: &[Part],
+    parts: &Parts,
     number: usize,
     part: &Part,
 ) -> Result<Option<Total>, AllocError>
@@ -85,7 +85,7 @@ fn whole_total(
     requires part_is { slice_get parts.now number ≡ Some part.now }
     ensures { IfOk result (IsWhole parts.now part.now) }
 {
-    let mut totals = vec![in alloc; None; parts.len()]?;
+    let mut totals = vec![in alloc; None; parts.list().len()]?;
     Ok(total_of(parts, number, part, MOST_INSTANCES, totals.as_mut_slice()))
 }
 

@@ -8,7 +8,7 @@ ghost use Rattle.bz_elab.specs.Entries.{flattened};
 ghost use Rattle.bz_elab.specs.Totals.{Capped, Brings, IsSmall, IsTotal, IsDeeper, AreTotals};
 
 use crate::walk::{MOST_CHANNELS, MOST_COMPONENTS, MOST_ENDS, find};
-use bz_breeze::{Component, Part, Slot};
+use bz_breeze::{Component, Part, Parts, Slot};
 
 /// What lies below a copy of a part: the length of the longest path of instances, and how many components, channels and
 /// component ends, as far as a net may have so many.
@@ -30,7 +30,7 @@ const NOTHING: Total = Total {
 /// What lies below a copy of this part, `None` where a path goes on for more than `depth` instances. `totals` has what
 /// was found before.
 pub fn total_of(
-    parts: &[Part],
+    parts: &Parts,
     number: usize,
     part: &Part,
     depth: u32,
@@ -60,7 +60,7 @@ pub fn total_of(
                 if depth == 0 {
                     return None;
                 }
-                let inner_part = &parts[inner];
+                let inner_part = &parts.list()[inner];
                 match total_of(parts, inner, inner_part, depth - 1, totals) {
                     None => return None,
                     Some(below) => total = with_copy(total, inner_part, below),

@@ -13,7 +13,7 @@ ghost use Rattle.bz_elab.specs.Growth.{AreActuals, Entered, LeafAdded, CopyAdded
 use crate::component::{instance_of, leaf_of};
 use crate::error::{ElabError, Spot};
 use crate::flat::FlatComp;
-use bz_breeze::{Component, Part};
+use bz_breeze::{Component, Part, Parts};
 use bz_model::Chan;
 use std::alloc::{AllocError, Global};
 
@@ -38,17 +38,12 @@ pub struct Draft {
 }
 
 /// The number of the first part of that name, counted from 0.
-pub fn find(parts: &[Part], name: &[u8]) -> Option<usize>
+pub fn find(parts: &Parts, name: &[u8]) -> Option<usize>
     ensures part { option_and_then (slice_get parts.now) result ≡ named parts.now name.now }
     ensures within { IfSome result (λ n. n < length parts.now) }
     ensures number { result ≡ number_named parts.now name.now }
 {
-    for (number, part) in parts.iter().enumerate() {
-        if part.name.as_slice() == name {
-            return Some(number);
-        }
-    }
-    None
+    parts.number(name)
 }
 
 fn push_chan(draft: &mut Draft, chan: Chan) -> Result<u32, ElabError>
@@ -171,7 +166,7 @@ fn add_copy(
 // Adds the copies and leaves below a part's copy, whose channels are `chans`.
 fn flatten(
     alloc: Global,
-    parts: &[Part],
+    parts: &Parts,
     number: usize,
     part: &Part,
     chans: &[u32],
@@ -207,7 +202,7 @@ fn flatten(
                 if depth == 0 {
                     return Err(ElabError::TooDeep);
                 }
-                let inner_part = &parts[inner];
+                let inner_part = &parts.list()[inner];
                 let inner_chans = add_copy(
                     alloc,
                     spot,
@@ -233,7 +228,7 @@ fn flatten(
 }
 
 /// The net of a part, by its number.
-pub fn net_of(alloc: Global, parts: &[Part], number: usize, part: &Part) -> Result<Draft, ElabError>
+pub fn net_of(alloc: Global, parts: &Parts, number: usize, part: &Part) -> Result<Draft, ElabError>
     requires whole { All HasPortChannels parts.now }
     requires part_is { slice_get parts.now number ≡ Some part.now }
     ensures within { IfOk result Within }

@@ -1,6 +1,5 @@
-use Rattle.std.proofs.Common.{arith, ◌≡◌, ◌<◌, ◌++◌, [], ◌∷◌, List, length, take, refl, sym, ◌∙◌, ap, suc, subst, add-one}
+use Rattle.std.proofs.Common.{arith, ◌≡◌, ◌<◌, ◌++◌, [], ◌∷◌, List, length, take, sym, ◌∙◌, ap, suc, subst, add-one}
 use Rattle.std.proofs.lemmas.List.{take_all}
-use Rattle.std.proofs.lemmas.Option.{slice_get_read}
 use Rattle.std.proofs.lemmas.Result.{err_from_is_err_and}
 use Rattle.std.specs.List.{flat_map}
 use Rattle.bz_breeze.specs.declared.part.Component.{Component}
@@ -8,7 +7,7 @@ use Rattle.bz_elab.specs.Paths.{Role, instance, leaf_role, chans_of_copy, copy, 
 use Rattle.bz_elab.specs.Growth.{Counts, IsSound}
 use Rattle.bz_elab.proofs.Counting.{counts_step, counts_leaf_step, counts_copy_step, leaf_ends}
 use Rattle.bz_elab.proofs.Growing.{flatten_step, leaf_step, copy_step, copies_grow, length_grown, component_at, actuals_count}
-use Rattle.bz_elab.proofs.Soundness.{part_at, SoundUpTo, sound_leaf, sound_copy, sound_all}
+use Rattle.bz_elab.proofs.Soundness.{part_at, part_read, SoundUpTo, sound_leaf, sound_copy, sound_all}
 use Rattle.bz_elab.proofs.Failing.{leaf_fails, copy_fails, deeper_fails, deep_ends, sound_by_none, sound_by_some}
 use Rattle.bz_elab.proofs.Leasts.{refused_early}
 use Rattle.bz_elab.proofs.walk.+flatten.Goals as goal
@@ -33,24 +32,24 @@ returns-then-depth-eq0-clause-err t c top path at full =
 pub returns-in_err-inner_chans-in-Some-clause-err : goal.returns-in_err-inner_chans-in-Some-clause-err
 returns-in_err-inner_chans-in-Some-clause-err t c =
     let p = err_from_is_err_and c.from_residual-in_err-inner_chans-in-Some.result c.from_residual-in_err-inner_chans-in-Some.ensures.1 in
-    let inner = slice_get_read c.args.parts.now (length c.args.parts.now) c.in-Some.inner c.index-parts-inner.result refl c.in-Some.ensures.within c.index-parts-inner.is in
+    let inner = part_read c.args.parts.now _ c.in-Some.inner c.index-list-inner.result c.list.ensures.value c.in-Some.ensures.within c.index-list-inner.is in
     let some = sym (rw c.as_slice.ensures.value at c.in-Some.ensures.part) ∙ inner in
     let refused = rw c.as_slice-in-Some.ensures.value at c.in_err-inner_chans-in-Some.ensures.err in
-    rw (p.1, p.2) (copy_fails c.args.parts.now c.args.part.now c.index-parts-inner.result c.args.number c.args.depth c.loop-place.place c.deref-component-items.result.now c.component-item.result _ _ _
+    rw (p.1, p.2) (copy_fails c.args.parts.now c.args.part.now c.index-list-inner.result c.args.number c.args.depth c.loop-place.place c.deref-component-items.result.now c.component-item.result _ _ _
     c.requires.part_is c.deref-component-items.ensures.value (omega arith) c.component-item.is some (omega (arith, c.if-depth-eq0.false)) c.loop-place.invariant.counts refused)
 
 pub flatten-requires : goal.flatten-requires
 flatten-requires t c =
-    let inner = slice_get_read c.args.parts.now (length c.args.parts.now) c.in-Some.inner c.index-parts-inner.result refl c.in-Some.ensures.within c.index-parts-inner.is in
+    let inner = part_read c.args.parts.now _ c.in-Some.inner c.index-list-inner.result c.list.ensures.value c.in-Some.ensures.within c.index-list-inner.is in
     (omega (arith, c.decreases, c.if-depth-eq0.false), (c.requires.whole, (inner, (rw c.as_slice-in-Some-2.ensures.value c.in_ok-inner_chans-in-Some.ensures.ok.count, c.add_copy.ensures.within))))
 
 pub returns-in_err-flatten-in-Some-clause-err : goal.returns-in_err-flatten-in-Some-clause-err
 returns-in_err-flatten-in-Some-clause-err t c =
     let p = err_from_is_err_and c.from_residual-in_err-flatten-in-Some.result c.from_residual-in_err-flatten-in-Some.ensures.1 in
-    let inner = slice_get_read c.args.parts.now (length c.args.parts.now) c.in-Some.inner c.index-parts-inner.result refl c.in-Some.ensures.within c.index-parts-inner.is in
+    let inner = part_read c.args.parts.now _ c.in-Some.inner c.index-list-inner.result c.list.ensures.value c.in-Some.ensures.within c.index-list-inner.is in
     let some = sym (rw c.as_slice.ensures.value at c.in-Some.ensures.part) ∙ inner in
     let added = c.in_ok-inner_chans-in-Some.ensures.ok in
-    rw (p.1, p.2) (deeper_fails c.args.parts.now c.args.part.now c.index-parts-inner.result c.args.depth c.loop-place.place c.deref-component-items.result.now c.component-item.result _ _ _ _ _ _
+    rw (p.1, p.2) (deeper_fails c.args.parts.now c.args.part.now c.index-list-inner.result c.args.depth c.loop-place.place c.deref-component-items.result.now c.component-item.result _ _ _ _ _ _
     c.deref-component-items.ensures.value (omega arith) c.component-item.is some (omega (arith, c.if-depth-eq0.false)) c.loop-place.invariant.counts added.entered
     c.in_err-flatten-in-Some.ensures.err)
 
@@ -86,8 +85,8 @@ loop-place-preserved t c =
             sound = rw add-one (sound_leaf parts part c.args.depth i x inv.sound has none (sound_by_none parts part.channels.items x none role));
           })
       | in-Some+else-depth-eq0+in_ok-inner_chans-in-Some+in_ok-flatten-in-Some w ↦
-          let inner = w.index-parts-inner.result in
-          let read = slice_get_read parts (length parts) w.in-Some.inner inner refl w.in-Some.ensures.within w.index-parts-inner.is in
+          let inner = w.index-list-inner.result in
+          let read = part_read parts _ w.in-Some.inner inner w.list.ensures.value w.in-Some.ensures.within w.index-list-inner.is in
           let some = sym (rw c.as_slice.ensures.value at w.in-Some.ensures.part) ∙ read in
           let added = rw w.as_slice-in-Some.ensures.value at w.in_ok-inner_chans-in-Some.ensures.ok in
           let deeper = rw w.as_slice-in-Some-2.ensures.value at w.in_ok-flatten-in-Some.ensures.ok in
@@ -132,7 +131,7 @@ returns-in_err-add_leaf-in-None-clause-early t c =
 pub returns-in_err-inner_chans-in-Some-clause-early : goal.returns-in_err-inner_chans-in-Some-clause-early
 returns-in_err-inner_chans-in-Some-clause-early t c =
     let p = err_from_is_err_and c.from_residual-in_err-inner_chans-in-Some.result c.from_residual-in_err-inner_chans-in-Some.ensures.1 in
-    rw (p.1, p.2) (refused_early c.as_slice-in-Some.result.now c.component-item.result (instance c.index-parts-inner.result) c.loop-place.draft (copy (0 ∷ []) c.index-parts-inner.result) _ _ _ c.in_err-inner_chans-in-Some.ensures.err)
+    rw (p.1, p.2) (refused_early c.as_slice-in-Some.result.now c.component-item.result (instance c.index-list-inner.result) c.loop-place.draft (copy (0 ∷ []) c.index-list-inner.result) _ _ _ c.in_err-inner_chans-in-Some.ensures.err)
 
 pub returns-in_err-flatten-in-Some-clause-early : goal.returns-in_err-flatten-in-Some-clause-early
 returns-in_err-flatten-in-Some-clause-early t c =
