@@ -1,11 +1,11 @@
 //! How deep a part goes and how much its copy brings, found without making one.
 
-ghost use Rattle.std.specs.Prelude.{◌≡◌, ◌≤◌, ◌<◌, ◌+◌, ◌-◌, ◌^◌, ◌⊎◌, ℕ, Some, [], ◌∷◌, ◌++◌, List, length, slice_get, IfSome, IfNone};
+ghost use Rattle.std.specs.Prelude.{◌≡◌, ◌≤◌, ◌<◌, ◌+◌, ◌-◌, ◌^◌, ◌⊎◌, ℕ, true, Some, [], ◌∷◌, ◌++◌, List, length, slice_get, IfSome, IfNone};
 ghost use Rattle.std.specs.List.{All};
 ghost use Rattle.bz_elab.specs.Paths.{Stop, leaf, copy};
 ghost use Rattle.bz_elab.specs.Refusals.{HasPortChannels};
 ghost use Rattle.bz_elab.specs.Entries.{flattened};
-ghost use Rattle.bz_elab.specs.Totals.{Capped, Brings, IsSmall, IsTotal, IsDeeper, AreTotals};
+ghost use Rattle.bz_elab.specs.Totals.{Capped, Brings, IsSmall, IsTotal, IsDeeper, IsBareBelow, AreTotals};
 
 use crate::walk::{MOST_CHANNELS, MOST_COMPONENTS, MOST_ENDS, find};
 use bz_breeze::{Component, Part, Parts, Slot};
@@ -70,6 +70,20 @@ pub fn total_of(
     }
     totals[number] = Some(total);
     Some(total)
+}
+
+/// Whether there is no component and no channel below the copy of a part, and no path that goes on for more than `depth`
+/// instances, by the totals that were found.
+pub fn is_bare(totals: &[Option<Total>], number: usize, depth: u32) -> bool
+    ensures { result ≡ true → (parts : List Part) (part : Part) → AreTotals parts totals.now → slice_get parts number ≡ Some part → IsBareBelow parts part depth }
+{
+    let Some(Some(total)) = totals.get(number) else {
+        return false;
+    };
+    if total.height > depth || total.comps > 0 {
+        return false;
+    }
+    total.chans == 0
 }
 
 // With a component that is no instance.
