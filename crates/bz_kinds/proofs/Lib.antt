@@ -10,10 +10,12 @@ pub mod InTurnLaws
 pub mod InTurnDue
 pub mod CellsLaws
 pub mod SignalledLaws
+pub mod ChoiceLaws
 pub mod ChoiceDue
 pub mod MeetingLaws
 pub mod MeetingSteps
 pub mod MeetingDue
+pub mod DecisionLaws
 pub mod DecisionDue
 pub mod ScriptLaws
 pub mod SelectLaws

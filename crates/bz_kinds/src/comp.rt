@@ -18,7 +18,8 @@ use crate::ports::{CLOSED, CLOSED_DUE, Ports};
 use crate::row::{Due, Plan};
 use crate::shape::shape_of;
 use crate::{
-    cells, choice, decision, enclosed, in_turn, indexed, meeting, once, script, select, signalled, together,
+    cells, choice, decision, enclosed, in_turn, indexed, meeting, once, script, select, signalled,
+    together,
 };
 use bz_model::{Chan, Kind, Move, Phase, Value};
 use std::alloc::{AllocError, Global};

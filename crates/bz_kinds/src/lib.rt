@@ -34,4 +34,6 @@ pub use word::kind_word;
 #[cfg(test)]
 mod function_tests;
 #[cfg(test)]
+mod join_tests;
+#[cfg(test)]
 mod tests;

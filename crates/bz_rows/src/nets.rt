@@ -20,7 +20,7 @@ pub fn net_of(alloc: Global, netlist: &str, part: &str, limit: u32) -> Result<Ne
 {
     let data = bz_sexpr::read(alloc, netlist.as_bytes())?;
     let parts = bz_breeze::parts(alloc, data.as_slice())?;
-    let flat = bz_elab::elaborate(alloc, parts.list(), part.as_bytes())?;
+    let flat = bz_elab::elaborate(alloc, &parts, part.as_bytes())?;
     Ok(Net::open(alloc, flat, limit)?)
 }
 
