@@ -25,7 +25,7 @@ fn fired(port: u32, mv: Move) -> Entry {
 fn asked(alloc: Global) -> Result<Net, Fail> {
     let data = bz_sexpr::read(alloc, ARBITER.as_bytes())?;
     let parts = bz_breeze::parts(alloc, data.as_slice())?;
-    let flat = bz_elab::elaborate(alloc, parts.list(), b"arb")?;
+    let flat = bz_elab::elaborate(alloc, &parts, b"arb")?;
     let mut net = Net::open(alloc, flat, 100)?;
     net.offer(HOST, b"a", None)?;
     net.offer(HOST, b"b", None)?;
