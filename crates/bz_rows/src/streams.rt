@@ -1,7 +1,7 @@
 //! Readers and writers that fail.
 
-use crate::netlists::BUFFER;
 use bz_cli::{Fault, list_cmd, run_cmd};
+use bz_playing::netlists::BUFFER;
 use std::io;
 use std::io::{Read, Write};
 use std::test::Fail;
