@@ -24,6 +24,19 @@ fn a_copy_of_two_buffers_is_the_same(rt: HostRuntime) -> Result<(), Fail> {
     Ok(())
 }
 
+// A net goes by paths, and not by the order of the parts in the text.
+#[test]
+fn parts_in_the_other_order(rt: HostRuntime) -> Result<(), Fail> {
+    let head = "(breeze-part \"two\"";
+    let (buffer, two) = TWO.split_once(head).ok_or("no part")?;
+    let turned = format!(in rt.alloc(); "{head}{two}{buffer}")?;
+    let outcome = list(rt.alloc(), turned.as_bytes(), "two")?;
+    let same = list(rt.alloc(), TWO.as_bytes(), "two")?;
+    assert_eq!(rt; outcome.fault.as_str(), "");
+    assert_eq!(rt; outcome.text.as_slice(), same.text.as_slice());
+    Ok(())
+}
+
 // The entries of an instance name its ports' channels one after another, however they are put into lists. Its parameters and
 // the senses of its ports are not looked at.
 #[test]

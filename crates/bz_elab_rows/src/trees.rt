@@ -68,7 +68,7 @@ fn nets_that_are_too_big(rt: HostRuntime) -> Result<(), Fail> {
 fn many_copies(rt: HostRuntime) -> Result<(), Fail> {
     let text = tree(rt.alloc(), 20, 2, ONE_END)?;
     assert_eq!(rt;
-        told(rt.alloc(), text.as_str(), "t8")?.as_str(),
+        told(rt.alloc(), text.as_str(), "t6")?.as_str(),
         "E12 LooseEnd 1"
     );
     Ok(())
