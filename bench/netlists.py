@@ -3,13 +3,16 @@
 
     netlists.py loops N       N Loops, each driving a Continue, started side by side by Concurs
     netlists.py pipeline N    N one-place buffers in a row, from a Constant to a ContinuePush
-    netlists.py large N       a part of about N components, most of them Continues under Sequences
+    netlists.py large N       a part of N components or a few less, most of them Continues under Sequences
 
 Each has one part, `bench`, and one port, `go`.
 """
 import sys
 
 MOST_MEMBERS = 4096
+
+# how many outputs a Sequence of a large netlist has
+LARGE_MEMBERS = 8
 
 
 class Netlist:
@@ -84,10 +87,10 @@ def pipeline(count):
 def large(count):
     net = Netlist()
     waiting = [1]
-    while len(net.components) + len(waiting) < count:
+    while len(net.components) + len(waiting) + LARGE_MEMBERS <= count:
         activate = waiting.pop(0)
-        outs = [net.channel() for _ in range(8)]
-        net.component("Sequence", [activate, outs], "8")
+        outs = [net.channel() for _ in range(LARGE_MEMBERS)]
+        net.component("Sequence", [activate, outs], str(LARGE_MEMBERS))
         waiting += outs
     for activate in waiting:
         net.component("Continue", [activate])

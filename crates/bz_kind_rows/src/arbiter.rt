@@ -3,6 +3,7 @@
 use crate::netlists::ARBITER;
 use bz_model::{Entry, Move, NetError, Reply, Who};
 use bz_net::Net;
+use bz_playing::net_of;
 use std::alloc::Global;
 use std::test::Fail;
 
@@ -23,10 +24,7 @@ fn fired(port: u32, mv: Move) -> Entry {
 
 // Both callers have asked.
 fn asked(alloc: Global) -> Result<Net, Fail> {
-    let data = bz_sexpr::read(alloc, ARBITER.as_bytes())?;
-    let parts = bz_breeze::parts(alloc, data.as_slice())?;
-    let flat = bz_elab::elaborate(alloc, &parts, b"arb")?;
-    let mut net = Net::open(alloc, flat, 100)?;
+    let mut net = net_of(alloc, ARBITER, "arb", 100)?;
     net.offer(HOST, b"a", None)?;
     net.offer(HOST, b"b", None)?;
     Ok(net)

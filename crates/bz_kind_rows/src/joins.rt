@@ -3,7 +3,7 @@
 use crate::netlists::{
     DECISION_WAIT, FALSE_VARIABLE, PASSIVATOR, PASSIVATOR_PUSH, SYNCH, SYNCH_PULL,
 };
-use crate::playing::play;
+use bz_playing::play;
 use std::test::Fail;
 
 #[test]

@@ -10,5 +10,3 @@ mod joins;
 mod mixers;
 #[cfg(test)]
 mod netlists;
-#[cfg(test)]
-mod playing;

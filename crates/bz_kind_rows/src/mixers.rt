@@ -1,7 +1,7 @@
 //! One of several callers at a time: Call, CallMux, CallDemux, Arbiter.
 
 use crate::netlists::{ARBITER, CALL, CALL_DEMUX, CALL_MUX};
-use crate::playing::play;
+use bz_playing::play;
 use std::test::Fail;
 
 #[test]

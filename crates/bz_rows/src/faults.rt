@@ -1,7 +1,7 @@
 //! Fault lines and exit statuses, one for each cause; nothing but whole traces is ever written.
 
-use crate::netlists::{BUFFER, CELL, EMPTY};
-use crate::playing::play;
+use bz_playing::netlists::{BUFFER, CELL, EMPTY};
+use bz_playing::play;
 use std::alloc::Global;
 use std::process::Abort;
 use std::test::Fail;

@@ -1,7 +1,7 @@
 //! Functions, choices and instances, from bytes to trace.
 
-use crate::netlists::{ADD, CASE, CELLS, TWO};
-use crate::playing::{list, play};
+use bz_playing::netlists::{ADD, CASE, CELLS, TWO};
+use bz_playing::{list, play};
 use std::test::Fail;
 
 #[test]

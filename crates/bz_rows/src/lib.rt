@@ -2,8 +2,6 @@
 #![tactic(auto)]
 
 #[cfg(test)]
-mod deep;
-#[cfg(test)]
 mod faults;
 #[cfg(test)]
 mod functions;
@@ -11,12 +9,6 @@ mod functions;
 mod hosts;
 #[cfg(test)]
 mod lists;
-#[cfg(test)]
-mod netlists;
-#[cfg(test)]
-mod nets;
-#[cfg(test)]
-mod playing;
 #[cfg(test)]
 mod streams;
 #[cfg(test)]

@@ -1,7 +1,7 @@
 //! Nets listed, and netlists as compilers write them.
 
-use crate::netlists::{BUFFER, DECORATED, EMPTY};
-use crate::playing::{list, play};
+use bz_playing::netlists::{BUFFER, DECORATED, EMPTY};
+use bz_playing::{list, play};
 use std::test::Fail;
 
 #[test]

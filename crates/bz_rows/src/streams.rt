@@ -1,7 +1,7 @@
-//! Readers and writers that fail.
+//! Readers and writers that fail, and want of memory.
 
-use crate::netlists::BUFFER;
 use bz_cli::{Fault, list_cmd, run_cmd};
+use bz_playing::netlists::BUFFER;
 use std::io;
 use std::io::{Read, Write};
 use std::test::Fail;
@@ -56,6 +56,15 @@ fn writer_that_is_full(rt: HostRuntime) -> Result<(), Fail> {
         return Err(Fail::from("played"));
     };
     assert_eq!(rt; format!(in rt.alloc(); "{fault}")?.as_str(), "F2 Write");
+    assert_eq!(rt; fault.status(), 3);
+    Ok(())
+}
+
+// Memory can't be made to run out here.
+#[test]
+fn want_of_memory(rt: HostRuntime) -> Result<(), Fail> {
+    let fault = Fault::Memory;
+    assert_eq!(rt; format!(in rt.alloc(); "{fault}")?.as_str(), "F3 Memory");
     assert_eq!(rt; fault.status(), 3);
     Ok(())
 }

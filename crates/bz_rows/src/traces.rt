@@ -1,7 +1,7 @@
 //! Traces of whole plays.
 
-use crate::netlists::{BUFFER, CELL, EMPTY, KNOT};
-use crate::playing::play;
+use bz_playing::netlists::{BUFFER, CELL, EMPTY, KNOT};
+use bz_playing::play;
 use std::test::Fail;
 
 #[test]

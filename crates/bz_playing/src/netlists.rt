@@ -1,4 +1,4 @@
-//! The netlists of the examples.
+//! The netlists of the worked examples.
 
 /// A one-place buffer.
 pub const BUFFER: &str = "(breeze-part \"buffer\"

@@ -1,28 +1,15 @@
 //! A net, event by event.
 
-ghost use Rattle.std.specs.Prelude.{◌<◌, ◌≤◌};
-
-use crate::netlists::{BUFFER, CELL, KNOT};
 use bz_model::{Entry, HostCmd, Move, NetError, Phase, Reply, Verb, Who};
 use bz_net::{Answer, Event, Net, RestReply, RunEnd};
-use std::alloc::Global;
+use bz_playing::net_of;
+use bz_playing::netlists::{BUFFER, CELL, KNOT};
 use std::process::Abort;
 use std::test::Fail;
 
 const HOST: Who = Who::Host(1);
 
 const WORKER: Who = Who::Worker(1);
-
-/// The net of a part, at its opening.
-pub fn net_of(alloc: Global, netlist: &str, part: &str, limit: u32) -> Result<Net, Fail>
-    requires least { 0 < limit }
-    requires most { limit ≤ 16777216 }
-{
-    let data = bz_sexpr::read(alloc, netlist.as_bytes())?;
-    let parts = bz_breeze::parts(alloc, data.as_slice())?;
-    let flat = bz_elab::elaborate(alloc, &parts, part.as_bytes())?;
-    Ok(Net::open(alloc, flat, limit)?)
-}
 
 // The phase of a channel of the net.
 fn phase_of(rt: &impl Abort, net: &Net, chan: u32) -> Phase {

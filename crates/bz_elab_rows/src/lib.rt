@@ -1,0 +1,13 @@
+//! Worked examples of elaboration: nets of trees of parts, and which refusal comes where two apply. Nothing stands on this crate.
+#![tactic(auto)]
+
+#[cfg(test)]
+mod checking;
+#[cfg(test)]
+mod copies;
+#[cfg(test)]
+mod pairs;
+#[cfg(test)]
+mod refusals;
+#[cfg(test)]
+mod trees;

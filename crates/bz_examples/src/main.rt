@@ -1,0 +1,108 @@
+//! Goes through the examples of the repository, which are in `data`, and tells of each whether the program writes what is
+//! written beside it.
+#![tactic(auto)]
+
+use bz_playing::{list, play};
+use std::fs;
+use std::test::Fail;
+
+/// Netlists with the words that drive them and the traces they give, each of the part of its name.
+const PLAYED: [&str; 4] = ["buffer", "arbiter_tree", "pipeline", "countdown"];
+
+/// Netlists with the lists of the part of their name.
+const LISTED: [&str; 2] = ["tee", "two_place"];
+
+/// Netlists whose part `p` is refused.
+const REFUSED: [&str; 13] = [
+    "e01_no_part",
+    "e02_recursive",
+    "e03_too_deep",
+    "e04_unknown_component",
+    "e05_bad_parameter",
+    "e06_port_count",
+    "e07_bad_channel",
+    "e08_too_big",
+    "e09_kind_mismatch",
+    "e10_width_mismatch",
+    "e11_two_ends",
+    "e12_loose_end",
+    "e13_port_sense",
+];
+
+/// What stands before the fault line, in a comment of a netlist that is refused.
+const TOLD: &str = "; breezesim: ";
+
+/// The most words that an example has.
+const WORDS: usize = 100;
+
+fn file(rt: &HostRuntime, name: &str, ending: &str) -> Result<String, Fail> {
+    let path = format!(in rt.alloc(); "{name}.{ending}")?;
+    Ok(fs::read_to_string(rt, path.as_str())?)
+}
+
+fn tell(rt: &HostRuntime, name: &str, is_right: bool) -> Result<(), Fail> {
+    let how = if is_right {
+        "as written"
+    } else {
+        "NOT as written"
+    };
+    Ok(println!(rt; "{name}: {how}")?)
+}
+
+fn played(rt: &HostRuntime, name: &str) -> Result<(), Fail> {
+    let netlist = file(rt, name, "breeze")?;
+    let words = file(rt, name, "words")?;
+    let words: Vec<&str> = words.split_whitespace().take(WORDS).collect(rt.alloc())?;
+    let outcome = play(
+        rt.alloc(),
+        netlist.as_bytes(),
+        name,
+        1_000_000,
+        words.as_slice(),
+    )?;
+    let trace = file(rt, name, "trace")?;
+    tell(
+        rt,
+        name,
+        outcome.fault.is_empty() && outcome.text.as_slice() == trace.as_bytes(),
+    )
+}
+
+fn listed(rt: &HostRuntime, name: &str) -> Result<(), Fail> {
+    let netlist = file(rt, name, "breeze")?;
+    let outcome = list(rt.alloc(), netlist.as_bytes(), name)?;
+    let text = file(rt, name, "list")?;
+    tell(
+        rt,
+        name,
+        outcome.fault.is_empty() && outcome.text.as_slice() == text.as_bytes(),
+    )
+}
+
+fn refused(rt: &HostRuntime, name: &str) -> Result<(), Fail> {
+    let netlist = file(
+        rt,
+        format!(in rt.alloc(); "refused/{name}")?.as_str(),
+        "breeze",
+    )?;
+    let told = netlist.lines().find_map(|line| line.strip_prefix(TOLD));
+    let outcome = list(rt.alloc(), netlist.as_bytes(), "p")?;
+    tell(
+        rt,
+        name,
+        told == Some(outcome.fault.as_str()) && outcome.text.is_empty(),
+    )
+}
+
+fn main(rt: HostRuntime) -> Result<(), Fail> {
+    for name in PLAYED {
+        played(&rt, name)?;
+    }
+    for name in LISTED {
+        listed(&rt, name)?;
+    }
+    for name in REFUSED {
+        refused(&rt, name)?;
+    }
+    Ok(())
+}

@@ -1,0 +1,12 @@
+//! What the worked examples share: netlists, the commands run from bytes to bytes, plays written as tables, and nets opened from
+//! a netlist.
+#![tactic(auto)]
+
+pub mod netlists;
+mod nets;
+mod playing;
+mod script;
+
+pub use nets::{flat_of, net_of};
+pub use playing::{Outcome, list, play};
+pub use script::Script;
