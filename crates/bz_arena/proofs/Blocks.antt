@@ -4,11 +4,11 @@ use mathlib.Core.List.{List, [], ◌∷◌, ◌++◌}
 use Prim.Native.Nat.{ℕ, zero, suc, ◌+◌, ◌-◌, ◌*◌, ◌<◌, ◌^◌}
 use native.Mathlib.Omega.{arith}
 use lib.ListN.{length, get_or}
+use lib.Dec.{T}
 use seplogic.Ra.Ura.{Ura}
 use base.Fraction.{full_share}
 use base.Logic.{ent, sep, id⊢, never}
 use base.Fml.{froom}
-use lib.Dec.{T}
 use mir.Syntax.{Args, Ty, a_type, dcons, dnil, ty_array, ty_ptr, ty_struct, tcons, tnil}
 use mir.Val.{Val, of_list, vstruct, vcons, vnil, vptr, has_ty, WT}
 use types.Logic.{Logic}
@@ -64,7 +64,7 @@ module _ (E : El) {M : Type 1} {𝓤 : Ura M} {𝓛 : Logic 𝓤} {K : Type 0} {
 pub last_of : {X : Type 0} (xs : List X) (m : ℕ) → m + 1 ≡ length xs → (ys : List X) × (x : X) × (xs ≡ ys ++ x ∷ []) × (length ys ≡ m)
 last_of [] m e = absurd (omega (arith, e))
 last_of (x ∷ []) m e = ([], x, refl, omega (arith, e))
-last_of (x ∷ y ∷ zs) m e = let r = last_of (y ∷ zs) (m - 1) (omega (arith, e)) in (x ∷ r.0, r.1, ap (λ l. x ∷ l) r.2, omega (arith, r.3, e))
+last_of (x ∷ y ∷ zs) m e = let r = last_of (y ∷ zs) (m - 1) (omega (arith, e)) in (x ∷ r.0, r.1, λ i. x ∷ r.2 i, omega (arith, r.3, e))
 
 -- what an element within a list is has nothing to do with what stands for one without
 pub same_or : {X : Type 0} (xs : List X) (i : ℕ) (d e : X) → i < length xs → get_or xs i d ≡ get_or xs i e

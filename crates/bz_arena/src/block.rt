@@ -91,7 +91,7 @@ fn close<T, A: Allocator>(nodes: Nodes<T>, deed: Deed<T, A>) -> Empty<T, A>
 impl<T> Nodes<T> {
     ghost use Rattle.bz_arena.specs.Lends.{lends_item, lends_items};
 
-    /// No block: there is no place.
+    /// Nodes that have no block, and so no place.
     pub(crate) fn none() -> Nodes<T>
         ensures { (result.items ≡ []) × (result.places ≡ 0) }
     {
@@ -101,6 +101,7 @@ impl<T> Nodes<T> {
         }
     }
 
+    /// Lets nodes that have no block go.
     pub(crate) fn end(self)
         requires { (self.items ≡ []) × (self.places ≡ 0) }
     {

@@ -4,6 +4,7 @@ use mathlib.Core.List.{List, [], ◌∷◌, ◌++◌}
 use Prim.Native.Nat.{ℕ, ◌+◌, ◌-◌, ◌*◌}
 use native.Mathlib.Omega.{arith}
 use native.Mathlib.Nat.{zero-mul}
+use lib.ListN.{length}
 use base.Logic.{SProp, ent, emp, id⊢}
 use base.Fml.{ftrue, froom, flft}
 use mir.MapTy.{inst_fn}
@@ -22,8 +23,6 @@ use denote.Exit.{no}
 use denote.Param.{param}
 use denote.RattleType.{RattleType, Valss, owns}
 use denote.RawPtr.{Ptr, block_ptr}
-use lib.ListN.{length}
-use Rattle.bz_arena.specs.Nodes.{block_of}
 use denote.Signature.{types_at, plain}
 use denote.Steps.{nothing, heard}
 use denote.Struct.Struct.{within}
@@ -31,14 +30,15 @@ use denote.Triple.Walked.{Stays, stay_dropped, walk_of}
 use Rattle.core.proofs.alloc.Calls.{Al, token, Goes-blank}
 use Rattle.core.proofs.ptr.Rows.{El, R, el_x, elτ, sz}
 use Rattle.std.proofs.raw_atomic.Walks.{proved_at, leaves}
-use Rattle.std_alloc.proofs.OfVacant as vacant
 use Rattle.std_alloc.proofs.RawLayout.{as_raw}
 use Rattle.std_alloc.proofs.ResultValues.{and_tt}
+use Rattle.std_alloc.proofs.OfVacant as vacant
+use Rattle.bz_arena.specs.Nodes.{block_of}
 use Rattle.bz_arena.proofs.Blocks.{Nr, nodes_had, at_start, args, Dr, deed_val, deed_good, deed_had}
-use Rattle.bz_arena.specs.contracts.block.Empty as Em
 use Rattle.bz_arena.specs.contracts.block.close.{ended, clauses}
-use Rattle.bz_arena.specs.contracts.block.close.Key.{name as #self}
 use Rattle.bz_arena.proofs.block.close.Statement.{statement}
+use Rattle.bz_arena.specs.contracts.block.Empty as Em
+use Rattle.bz_arena.specs.contracts.block.close.Key.{name as #self}
 use Rattle.bz_arena.proofs.block.close.Code as code
 
 pub close_spec : {M : Type 1} → statement M

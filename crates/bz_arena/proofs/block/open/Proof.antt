@@ -34,13 +34,13 @@ use denote.Triple.Walked.{Stays, stay_dropped, walk_of}
 use Rattle.core.proofs.alloc.Calls.{Al, Goes-blank}
 use Rattle.core.proofs.ptr.Rows.{El, R, elτ, sz, empty}
 use Rattle.std.proofs.raw_atomic.Walks.{proved_at, leaves}
-use Rattle.std_alloc.proofs.OfVacant as vacant
 use Rattle.std_alloc.proofs.RawLayout.{as_written}
 use Rattle.std_alloc.proofs.ResultValues.{and_tt}
+use Rattle.std_alloc.proofs.OfVacant as vacant
 use Rattle.bz_arena.proofs.Blocks.{Nr, nodes, nodes_made, at_start, args, Dr, deed_val, deed_ty, deed_good, deed_made}
 use Rattle.bz_arena.specs.contracts.block.open.{ended, clauses}
-use Rattle.bz_arena.specs.contracts.block.open.Key.{name as #self}
 use Rattle.bz_arena.proofs.block.open.Statement.{statement}
+use Rattle.bz_arena.specs.contracts.block.open.Key.{name as #self}
 use Rattle.bz_arena.proofs.block.open.Code as code
 
 pub open_spec : {M : Type 1} → statement M

@@ -3,11 +3,11 @@ use mathlib.Core.List.{List, [], ◌++◌}
 use mathlib.Core.Path.{sym, subst}
 use Prim.Native.Nat.{ℕ, ◌-◌, ◌*◌, ◌^◌}
 use lib.ListN.{length}
+use seplogic.Ra.Ura.{Ura}
 use base.Fraction.{full_share}
 use base.Fml.{Lft, Incl, Incl-trans, flt}
-use contract.BorrowLft.{meet_⊑_left}
-use seplogic.Ra.Ura.{Ura}
 use types.Logic.{Logic}
+use contract.BorrowLft.{meet_⊑_left}
 use denote.Array.{Array, Array-row_laws}
 use denote.ArrayMemory.{Single}
 use denote.Param.Laws.{Laws}
@@ -22,8 +22,8 @@ use denote.Struct.Laws.{RawPtr-copy}
 use denote.Struct.Lending.{lent_at, lent_at_shr_laws, Lends, Lends-false, Lends-lies, Lends-said, Lends-first, Lends-both, of_Lends}
 use Rattle.std.specs.Mem.{type_size}
 use Rattle.bz_arena.specs.Nodes.{places_for, places_own}
-use Rattle.bz_arena.specs.contracts.block.Nodes as C
 use Rattle.bz_arena.proofs.block.Nodes.TheLaw.Statement.{statement}
+use Rattle.bz_arena.specs.contracts.block.Nodes as C
 
 module _ {M : Type 1} {𝓤 : Ura M} (𝓛 : Logic 𝓤) (R : RattleType) (L : Laws R) (l : Lft) (inc : Incl l R.lives) (n : ℕ) (xs : List R.Denot) where
   Lends-nodes : (p : Ptr) → Lends 𝓛 (in_block p (places_own R p n xs)) (lent_at (Array R (length xs)) p xs) l

@@ -4,58 +4,50 @@ use mathlib.Core.List.{List, [], ◌∷◌, ◌++◌}
 use Prim.Native.Nat.{ℕ, ◌+◌, ◌-◌, ◌*◌, ◌<◌, ◌≤◌, ◌^◌}
 use native.Mathlib.Omega.{arith}
 use lib.ListN.{length}
+use lib.ListN.{drop as drop_l}
+use lib.Seq.{take_at as take_front}
+use seplogic.Ra.Ura.{Ura}
 use base.Fraction.{full_share}
-use base.Logic.{SProp, ent, emp, id⊢}
-use base.Fml.{ftrue, froom, flft}
+use base.Logic.{SProp, ent, emp, id⊢, sep}
+use base.Fml.{ftrue, froom, flft, GName, Fml, fsep}
 use mir.MapTy.{inst_fn}
-use mir.Syntax.{a_type, ty_array, w64}
+use mir.Syntax.{a_type, ty_array, w64, named}
 use mir.Val.{Val, vint, vptr}
 use prog.Wp.{WpFn}
-use types.Kit.{‵, raw, ◌⊛◌, some, given, pick, learn, at_ret, ◌$◌, ◌∵◌, !, qed, by, move, keep, join, split, split3, fsplit, fsplit3, fjoin, feq_l, flt_l, rewrite, suffices, use0, use1}
-use types.Part.{whole, sub, look_in}
-use types.Run.{stop, fld, load, of_opd, first, blocks, exec, returns, enter}
+use types.Kit.{‵, raw, ◌⊛◌, some, given, pick, learn, at_ret, ◌$◌, ◌∵◌, !, qed, by, move, keep, join, split, split3, fsplit, fsplit3, fjoin, feq_l, flt_l, rewrite, suffices, use0, use1, later, await, group, fpack, done}
+use types.Part.{whole, sub, look_in, agg}
+use types.Run.{stop, fld, load, of_opd, first, blocks, exec, returns, enter, and_then, no_more}
 use types.ByLocal.{alloc_all, pass_all, free_all, look_at, get, through, sets, sets_last, env}
+use types.SemTy.{cells}
+use types.Logic.{Logic, sem}
 use contract.BorrowLft.{◌⊑◌}
 use contract.Monad.{fact, fact_i}
 use contract.Running.{tables}
 use denote.Array.{Array}
 use denote.Builtin.{usize}
 use denote.Exit.{yes, no}
-use denote.Memory.{cell_at, part_at}
-use denote.Param.{layouts}
-use denote.RattleType.{owns}
-use denote.RawPtr.{block_ptr}
-use denote.Signature.{types_at, plain, mut_ref_to}
 use denote.Follow.{follows}
 use denote.FollowSlice.{Elements, lends_Elements}
 use denote.Index.{whole_in, whole_out, row}
+use denote.Memory.{cell_at, part_at, mem, part_of}
+use denote.Param.{layouts}
+use denote.RattleType.{owns}
+use denote.RawPtr.{block_ptr, Ptr}
 use denote.Ref.{MutBor}
+use denote.Signature.{types_at, plain, mut_ref_to}
 use denote.Slice.{MutSlice, slice_val}
-use types.SemTy.{cells}
-use types.Logic.{Logic, sem}
-use seplogic.Ra.Ura.{Ura}
-use denote.Memory.{mem, part_of}
-use lib.ListN.{drop as drop_l}
-use lib.Seq.{take_at as take_front}
-use Rattle.std.specs.List.{refill}
-use Rattle.bz_arena.specs.Lends.{with_items}
-use base.Fml.{GName, Fml, fsep}
-use base.Logic.{sep}
-use mir.Syntax.{named}
-use types.Kit.{later, await, group, fpack, done}
-use types.Part.{agg}
-use types.Run.{and_then, no_more}
-use denote.RawPtr.{Ptr}
-use Rattle.core.proofs.ptr.Rows.{apart, whole as whole_row}
 use denote.Steps.{nothing, heard, opens}
 use denote.Triple.Walked.{Stays, stay_dropped, walk_of, Goes-spent_ref, Goes-dropped}
 use Rattle.core.proofs.alloc.Shapes.{after}
 use Rattle.core.proofs.ptr.Rows.{El, R, el_x, elτ, sz, times_below}
+use Rattle.core.proofs.ptr.Rows.{apart, whole as whole_row}
+use Rattle.std.specs.List.{refill}
 use Rattle.std.proofs.raw_atomic.Walks.{proved_at, leaves}
+use Rattle.bz_arena.specs.Lends.{with_items}
 use Rattle.bz_arena.proofs.Blocks.{Nr, nodes_had, nodes_made, at_start}
 use Rattle.bz_arena.specs.contracts.block.Nodes.as_mut_slice.{ended, clauses}
-use Rattle.bz_arena.specs.contracts.block.Nodes.as_mut_slice.Key.{name as #self}
 use Rattle.bz_arena.proofs.block.Nodes.as_mut_slice.Statement.{statement}
+use Rattle.bz_arena.specs.contracts.block.Nodes.as_mut_slice.Key.{name as #self}
 use Rattle.bz_arena.proofs.block.Nodes.as_mut_slice.Code as code
 
 module _ (E : El) {M : Type 1} {𝓤 : Ura M} (𝓛 : Logic 𝓤) (rb ro b o : ℕ) (d : (Nr E).Denot) where

@@ -4,54 +4,45 @@ use mathlib.Core.List.{List, [], ◌∷◌, ◌++◌}
 use Prim.Native.Nat.{ℕ, ◌+◌, ◌*◌, ◌<◌, ◌≤◌, ◌^◌}
 use native.Mathlib.Omega.{arith}
 use lib.ListN.{length}
-use base.Logic.{SProp, ent, emp, id⊢}
-use base.Fml.{ftrue, flft}
+use seplogic.Ra.Ura.{Ura}
+use base.Logic.{SProp, ent, emp, id⊢, sep}
+use base.Fml.{ftrue, flft, Fml, Lft, fhide}
 use mir.MapTy.{inst_fn}
 use mir.Syntax.{a_type, w64}
 use mir.Val.{Val, vint, vptr}
 use prog.Wp.{WpFn}
-use types.Kit.{‵, raw, ◌⊛◌, at_ret, ◌$◌, ◌∵◌, !, qed, by, move, keep, join, split, split3, fsplit, fjoin, feq_i, feq_l, flt_l, suffices, use0, use1}
-use types.Run.{look, stop, fld, load, of_opd, first, blocks, exec, returns, enter}
+use types.Kit.{‵, raw, ◌⊛◌, at_ret, ◌$◌, ◌∵◌, !, qed, by, move, keep, join, split, split3, fsplit, fjoin, feq_i, feq_l, flt_l, suffices, use0, use1, done, drop, flt_i}
+use types.Run.{look, stop, fld, load, of_opd, first, blocks, exec, returns, enter, and_then, no_more}
 use types.ByLocal.{alloc_all, pass_all, free_all, look_at, get, through, sets, sets_last, env}
+use types.Logic.{Logic, sem}
+use types.Part.{agg}
 use contract.BorrowLft.{◌⊑◌}
 use contract.Monad.{fact, fact_i}
 use contract.Running.{tables}
-use denote.Builtin.{usize}
+use denote.Builtin.{usize, RefOf}
 use denote.Exit.{yes}
-use denote.Param.{layouts}
-use denote.RattleType.{owns}
-use denote.Signature.{types_at, plain}
-use denote.Slice.{slice_val}
-use types.Logic.{Logic, sem}
-use seplogic.Ra.Ura.{Ura}
-use base.Fml.{Fml}
-use base.Logic.{sep}
-use types.Kit.{done}
-use types.Part.{agg}
-use types.Run.{and_then, no_more}
-use denote.Builtin.{RefOf}
 use denote.Memory.{hidden_shr}
 use denote.Opens.{shr_dup, unhide, hide}
-use denote.RattleType.{RattleType, RowLaws}
+use denote.Param.{layouts}
+use denote.RattleType.{owns, RattleType, RowLaws}
 use denote.RawPtr.{RawPtr, ptr_row_laws, block_of, count_of, InBlock}
 use denote.Ref.{Bor}
+use denote.Signature.{types_at, plain}
+use denote.Slice.{slice_val}
+use denote.Steps.{nothing, heard}
+use denote.Struct.Lending.{in_block_says, lent_out}
 use denote.Struct.Owning.{shape}
 use denote.Struct.Struct.{Struct, Struct-row_laws}
-use denote.Struct.Lending.{in_block_says, lent_out}
-use base.Fml.{Lft, fhide}
-use types.Kit.{drop, flt_i}
-use Rattle.std_alloc.proofs.Words.{pointer_in, pointer_out}
-use Rattle.bz_arena.proofs.Blocks.{nodes_type}
-use Rattle.bz_arena.specs.contracts.block.Nodes as N
-use denote.Steps.{nothing, heard}
 use denote.Triple.Walked.{Stays, stay_dropped, walk_of, Goes-dropped}
 use Rattle.core.proofs.alloc.Shapes.{after}
 use Rattle.core.proofs.ptr.Rows.{El, R, el_x, sz, times_below}
 use Rattle.std.proofs.raw_atomic.Walks.{proved_at, leaves}
-use Rattle.bz_arena.proofs.Blocks.{Nr}
+use Rattle.std_alloc.proofs.Words.{pointer_in, pointer_out}
+use Rattle.bz_arena.proofs.Blocks.{nodes_type, Nr}
 use Rattle.bz_arena.specs.contracts.block.Nodes.as_slice.{ended, clauses}
-use Rattle.bz_arena.specs.contracts.block.Nodes.as_slice.Key.{name as #self}
 use Rattle.bz_arena.proofs.block.Nodes.as_slice.Statement.{statement}
+use Rattle.bz_arena.specs.contracts.block.Nodes as N
+use Rattle.bz_arena.specs.contracts.block.Nodes.as_slice.Key.{name as #self}
 use Rattle.bz_arena.proofs.block.Nodes.as_slice.Code as code
 
 module _ (E : El) {M : Type 1} {𝓤 : Ura M} (𝓛 : Logic 𝓤) (κ : Lft) (rb ro : ℕ) (d : (Nr E).Denot) where

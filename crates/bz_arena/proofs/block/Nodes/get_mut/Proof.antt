@@ -3,56 +3,45 @@ use mathlib.Core.Path.{◌≡◌, refl, sym, subst}
 use mathlib.Core.List.{List, [], ◌∷◌, ◌++◌}
 use Prim.Native.Nat.{ℕ, ◌+◌, ◌-◌, ◌*◌, ◌<◌, ◌≤◌, ◌^◌}
 use native.Mathlib.Omega.{arith}
-use lib.ListN.{length}
+use lib.ListN.{length, get_or, set, length-set}
+use seplogic.Ra.Ura.{Ura}
 use base.Fraction.{full_share}
-use base.Logic.{SProp, ent, emp, id⊢}
-use base.Fml.{ftrue, froom, flft}
+use base.Logic.{SProp, ent, emp, id⊢, sep}
+use base.Fml.{ftrue, froom, flft, GName, Fml, fsep}
 use mir.MapTy.{inst_fn}
-use mir.Syntax.{a_type, ty_array, w64}
+use mir.Syntax.{a_type, ty_array, w64, named}
 use mir.Val.{Val, vint, vptr}
 use prog.Wp.{WpFn}
-use types.Kit.{‵, raw, ◌⊛◌, some, given, pick, learn, at_ret, ◌$◌, ◌∵◌, !, qed, by, move, keep, join, split, split3, fsplit, fsplit3, fjoin, fjoin3, feq_l, flt_l, rewrite, suffices, use0, use1, use2}
+use types.Kit.{‵, raw, ◌⊛◌, some, given, pick, learn, at_ret, ◌$◌, ◌∵◌, !, qed, by, move, keep, join, split, split3, fsplit, fsplit3, fjoin, fjoin3, feq_l, flt_l, rewrite, suffices, use0, use1, use2, later, await, group, fpack, done}
 use types.Part.{whole, sub, look_in}
-use types.Run.{stop, fld, load, of_opd, bin, size_lit, first, blocks, exec, returns, enter}
+use types.Run.{stop, fld, load, of_opd, bin, size_lit, first, blocks, exec, returns, enter, addr}
 use types.ByLocal.{alloc_all, pass_all, free_all, look_at, get, through, sets, sets_last, env}
+use types.Logic.{Logic, sem}
 use contract.BorrowLft.{◌⊑◌}
 use contract.Monad.{fact, fact_i}
 use contract.Running.{tables}
 use denote.Array.{Array}
 use denote.Builtin.{usize}
 use denote.Exit.{yes, no}
-use denote.Memory.{cell_at, part_at}
-use denote.Param.{layouts}
-use denote.RattleType.{owns}
-use denote.RawPtr.{block_ptr}
-use denote.Signature.{types_at, plain, mut_ref_to}
 use denote.Follow.{follows, Part, lends_Part}
 use denote.Index.{others, place, place_is, puts, takes, row}
+use denote.Memory.{cell_at, part_at, mem, part_of, shares}
+use denote.Param.{layouts}
+use denote.RattleType.{owns}
+use denote.RawPtr.{block_ptr, Ptr}
 use denote.Ref.{MutBor, MutRef}
-use types.Logic.{Logic, sem}
-use seplogic.Ra.Ura.{Ura}
-use denote.Memory.{mem, part_of}
-use lib.ListN.{get_or, set, length-set}
-use Rattle.bz_arena.specs.Lends.{with_item}
-use types.Run.{addr}
-use denote.Memory.{shares}
-use Rattle.core.proofs.ptr.Rows.{hd}
-use Rattle.bz_arena.proofs.Blocks.{same_or}
-use base.Fml.{GName, Fml, fsep}
-use base.Logic.{sep}
-use mir.Syntax.{named}
-use types.Kit.{later, await, group, fpack, done}
-use denote.RawPtr.{Ptr}
-use Rattle.core.proofs.ptr.Rows.{apart, whole as whole_row}
+use denote.Signature.{types_at, plain, mut_ref_to}
 use denote.Steps.{nothing, heard, opens}
 use denote.Triple.Walked.{Stays, stay_dropped, walk_of, Goes-spent_ref, Goes-dropped}
+use Rattle.core.proofs.ptr.Rows.{hd, El, R, el_x, elτ, sz, times_below, one_below}
 use Rattle.core.proofs.alloc.Shapes.{after}
-use Rattle.core.proofs.ptr.Rows.{El, R, el_x, elτ, sz, times_below, one_below}
+use Rattle.core.proofs.ptr.Rows.{apart, whole as whole_row}
 use Rattle.std.proofs.raw_atomic.Walks.{proved_at, leaves}
-use Rattle.bz_arena.proofs.Blocks.{Nr, nodes_had, nodes_made, at_start}
+use Rattle.bz_arena.specs.Lends.{with_item}
+use Rattle.bz_arena.proofs.Blocks.{same_or, Nr, nodes_had, nodes_made, at_start}
 use Rattle.bz_arena.specs.contracts.block.Nodes.get_mut.{ended, clauses}
-use Rattle.bz_arena.specs.contracts.block.Nodes.get_mut.Key.{name as #self}
 use Rattle.bz_arena.proofs.block.Nodes.get_mut.Statement.{statement}
+use Rattle.bz_arena.specs.contracts.block.Nodes.get_mut.Key.{name as #self}
 use Rattle.bz_arena.proofs.block.Nodes.get_mut.Code as code
 
 module _ (E : El) {M : Type 1} {𝓤 : Ura M} (𝓛 : Logic 𝓤) (rb ro b o : ℕ) (d : (Nr E).Denot) (i : ℕ) where

@@ -3,31 +3,31 @@ use mathlib.Core.Path.{◌≡◌, refl, sym, subst}
 use mathlib.Core.List.{[], ◌∷◌}
 use Prim.Native.Nat.{ℕ, ◌+◌, ◌*◌, ◌<◌, ◌^◌}
 use native.Mathlib.Nat.{zero-mul}
-use mir.MapTy.{inst_fn}
-use mir.Syntax.{a_type, ty_array}
-use mir.Val.{Val}
+use lib.Dec.{lit<}
 use base.Logic.{SProp, emp}
 use base.Fml.{ftrue, flft, froom}
 use base.Fraction.{full_share}
-use lib.Dec.{lit<}
-use contract.Monad.{fact, fact_i}
-use denote.Array.{Array}
-use denote.Memory.{part_at}
-use denote.RawPtr.{block_ptr}
-use denote.Steps.{nothing}
+use mir.MapTy.{inst_fn}
+use mir.Syntax.{a_type, ty_array}
+use mir.Val.{Val}
 use types.Kit.{‵, raw, ◌⊛◌, ◌$◌, ◌∵◌, !, qed, by, move, keep, split, use0}
 use types.Part.{agg}
 use types.Run.{stop, from, addr, no_more, and_then, returns, enter}
 use types.ByLocal.{alloc_all, pass_all, free_all, look_at, get, sets}
+use contract.Monad.{fact, fact_i}
 use contract.Running.{tables}
+use denote.Array.{Array}
+use denote.Memory.{part_at}
 use denote.Param.{layouts}
+use denote.RawPtr.{block_ptr}
+use denote.Steps.{nothing}
 use denote.Triple.Walked.{Stays, walk_of}
 use Rattle.core.proofs.ptr.Rows.{El, R, elτ, sz, empty}
 use Rattle.std.proofs.raw_atomic.Walks.{proved_at, leaves}
 use Rattle.bz_arena.proofs.Blocks.{nodes_made, nodes, at_start}
 use Rattle.bz_arena.specs.contracts.block.Nodes.none.{ended, clauses}
-use Rattle.bz_arena.specs.contracts.block.Nodes.none.Key.{name as #self}
 use Rattle.bz_arena.proofs.block.Nodes.none.Statement.{statement}
+use Rattle.bz_arena.specs.contracts.block.Nodes.none.Key.{name as #self}
 use Rattle.bz_arena.proofs.block.Nodes.none.Code as code
 
 pub none_spec : {M : Type 1} → statement M

@@ -33,8 +33,8 @@ use Rattle.core.proofs.ptr.Rows.{El, R, el_x, elτ, sz, Good, el_out, unsnoc, ti
 use Rattle.std.proofs.raw_atomic.Walks.{proved_at, leaves}
 use Rattle.bz_arena.proofs.Blocks.{Nr, nodes, nodes_had, nodes_made, at_start, last_of, room_back}
 use Rattle.bz_arena.specs.contracts.block.Nodes.pop.{ended, clauses}
-use Rattle.bz_arena.specs.contracts.block.Nodes.pop.Key.{name as #self}
 use Rattle.bz_arena.proofs.block.Nodes.pop.Statement.{statement}
+use Rattle.bz_arena.specs.contracts.block.Nodes.pop.Key.{name as #self}
 use Rattle.bz_arena.proofs.block.Nodes.pop.Code as code
 
 pub pop_spec : {M : Type 1} → statement M

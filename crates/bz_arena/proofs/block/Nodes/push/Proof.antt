@@ -29,13 +29,13 @@ use denote.Signature.{types_at, plain}
 use denote.Steps.{nothing, heard, opens, closes}
 use denote.Triple.Walked.{Stays, stay_ref, stay_dropped, walk_of, Goes-ref, Goes-dropped}
 use Rattle.core.proofs.alloc.Shapes.{after}
-use Rattle.core.proofs.mem.Param as param
 use Rattle.core.proofs.ptr.Rows.{El, R, elτ, sz, el_in, spare, snoc, times_below, one_below}
+use Rattle.core.proofs.mem.Param as param
 use Rattle.std.proofs.raw_atomic.Walks.{proved_at, leaves}
 use Rattle.bz_arena.proofs.Blocks.{Nr, nodes, nodes_had, nodes_made, at_start}
 use Rattle.bz_arena.specs.contracts.block.Nodes.push.{ended, clauses}
-use Rattle.bz_arena.specs.contracts.block.Nodes.push.Key.{name as #self}
 use Rattle.bz_arena.proofs.block.Nodes.push.Statement.{statement}
+use Rattle.bz_arena.specs.contracts.block.Nodes.push.Key.{name as #self}
 use Rattle.bz_arena.proofs.block.Nodes.push.Code as code
 
 pub push_spec : {M : Type 1} → statement M
