@@ -1,5 +1,5 @@
-//! Goes through the examples of the repository, which are in `data`, and tells of each whether the program writes what is
-//! written beside it.
+//! Goes through the examples of the repository, of which `data` has a copy, and tells of each whether the program writes what
+//! is written beside it.
 #![tactic(auto)]
 
 use bz_playing::{list, play};
