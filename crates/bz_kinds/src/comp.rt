@@ -16,6 +16,7 @@ use crate::error::KindError;
 use crate::move_iter::MoveIter;
 use crate::ports::{CLOSED, CLOSED_DUE, Ports};
 use crate::row::{Due, Plan};
+use crate::sense::move_at;
 use crate::shape::shape_of;
 use crate::{
     cells, choice, decision, enclosed, in_turn, indexed, meeting, once, script, select, signalled,
@@ -83,7 +84,7 @@ pub fn next(comp: &Comp, port: u32) -> Option<Move>
     ensures only { (h : Head) → IsHeadOn comp.now.proc port h → result ≡ Some h.move }
     ensures one { HasOneHead comp.now.proc.todo }
 {
-    due_at(&comp.plan, comp.size, comp.left, port, comp.ports.get(port)).map(|due| due.mv)
+    move_at(&comp.plan, comp.size, port, comp.ports.get(port))
 }
 
 /// Whether a component can move at a port whose channel has this phase.
