@@ -13,7 +13,6 @@ use Rattle.bz_elab.specs.declared.walk.Draft.{Draft}
 use Rattle.bz_elab.specs.Entries.{flattened}
 use Rattle.bz_elab.specs.Paths.{Path, Stop, copy, leaf, named, each_from, visit, walk, own_chans, ports_at}
 use Rattle.bz_elab.specs.Refusals.{own_comps, own_ends, IsTooMany}
-use Rattle.bz_elab.specs.Totals.{IsBare}
 use Rattle.bz_elab.specs.Growth.{Counts, AreActuals, Entered, IsFlat, EndsWalk, Counted}
 use Rattle.bz_elab.proofs.Slots.{length-arranged, take_item, drop_item}
 
@@ -33,6 +32,11 @@ length-more f ss ts = ap length (flat_map-append f ss ts) ∙ length-append (fla
 
 pub counts_nothing : (d : Draft) → Counts d d []
 counts_nothing d = record { comps_are = omega arith; chans_are = omega arith; ends_are = omega arith }
+
+-- there is no component and no channel at these stops
+pub record IsBare (stops : List Stop) : Type 0 where
+  pub comps : flat_map own_comps stops ≡ []
+  pub chans : flat_map own_chans stops ≡ []
 
 no_ends : (ss : List Stop) → flat_map own_comps ss ≡ [] → flat_map own_ends ss ≡ []
 no_ends [] e = refl

@@ -14,8 +14,7 @@ use Rattle.bz_elab.specs.Entries.{flattened, arranged}
 use Rattle.bz_elab.specs.Paths.{Path, Place, Stop, copy, leaf, named, component, copied, joined, of_kind, each_from, visit, walk, stops, own_chans, own_places, places_from, ports_at, most_instances, chans_at}
 use Rattle.bz_elab.specs.Growth.{IsNumber, AreNumbers, AreLeaves, IsNet, numbers_from, CopyNumbers, Grows, Flattened, below_copy, AreActuals, Entered, IsFlat, Counts, Counted}
 use Rattle.bz_elab.specs.Refusals.{own_comps}
-use Rattle.bz_elab.specs.Totals.{IsBare}
-use Rattle.bz_elab.proofs.Counting.{each_from-push, counts_then, counts_copy, actuals_length}
+use Rattle.bz_elab.proofs.Counting.{IsBare, each_from-push, counts_then, counts_copy, actuals_length}
 
 places_from-length : (path : Path) (c n : ℕ) → length (places_from path c n) ≡ n
 places_from-length path c zero = refl

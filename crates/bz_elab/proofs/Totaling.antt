@@ -13,8 +13,8 @@ use Rattle.bz_elab.specs.Paths.{Path, Stop, copy, leaf, named, component, inner,
 use Rattle.bz_elab.specs.Refusals.{own_comps, own_ends, most_ends}
 use Rattle.bz_elab.specs.Wires.{most_comps, most_chans}
 use Rattle.bz_elab.specs.Growth.{below_copy}
-use Rattle.bz_elab.specs.Totals.{Capped, Brings, IsSmall, IsTotal, IsDeeper, IsBareBelow, AreTotals, total_at}
-use Rattle.bz_elab.proofs.Counting.{each_from-push, length-more}
+use Rattle.bz_elab.specs.Totals.{Capped, Brings, IsSmall, IsTotal, IsDeeper, AreTotals, TellsBare, total_at}
+use Rattle.bz_elab.proofs.Counting.{IsBare, each_from-push, length-more}
 use Rattle.bz_elab.proofs.Slots.{take_item}
 use Rattle.bz_elab.proofs.Soundness.{part_at, copied-first, last_of, inner_within}
 use Rattle.bz_elab.proofs.Growing.{component_at}
@@ -188,13 +188,22 @@ no_items : {X : Type 0} (xs : List X) → length xs ≡ 0 → xs ≡ []
 no_items [] e = refl
 no_items (x ∷ xs) e = absurd (omega arith)
 
-pub bare_below : (parts : List Part) (part : Part) (t : Total) (depth : ℕ) → IsTotal parts part t → t.height ≤ depth → t.comps ≡ 0 → t.chans ≡ 0 → IsBareBelow parts part depth
+bare_below : (parts : List Part) (part : Part) (t : Total) (depth : ℕ) → IsTotal parts part t → t.height ≤ depth → t.comps ≡ 0 → t.chans ≡ 0 → (path : Path) → IsBare (below_copy parts path depth part)
 bare_below parts part t depth is le no_comps no_chans path =
     let b = is.brings path depth le in
     record {
       comps = no_items (flat_map own_comps (below_copy parts path depth part)) (omega (arith, b.comps, no_comps));
       chans = no_items (flat_map own_chans (below_copy parts path depth part)) (omega (arith, b.chans, no_chans));
     }
+
+-- what is told by the totals is so below each copy
+pub told_bare : (parts : List Part) (totals : List (Option Total)) (n : ℕ) (part : Part) (depth : ℕ) → AreTotals parts totals → slice_get parts n ≡ Some part → TellsBare depth (total_at totals n)
+    → (path : Path) → IsBare (below_copy parts path depth part)
+told_bare parts totals n part depth are at told path =
+    elim (total_at totals n) as (λ o. total_at totals n ≡ o → TellsBare depth o → IsBare (below_copy parts path depth part)) [
+      | None ↦ λ e h. absurd h
+      | Some t ↦ λ e h. bare_below parts part t depth (are.are n t part e at) h.0 h.1 h.2 path
+    ] refl told
 
 pub entries_more : (entries : List Slot) (i : ℕ) (e : Slot) → i < length entries → e ≡ get_or entries i e
     → length (flattened (take (i + 1) entries)) ≡ length (flattened (take i entries)) + length (named_in e)

@@ -1,11 +1,11 @@
 //! How deep a part goes and how much its copy brings, found without making one.
 
-ghost use Rattle.std.specs.Prelude.{◌≡◌, ◌≤◌, ◌<◌, ◌+◌, ◌-◌, ◌^◌, ◌⊎◌, ℕ, true, Some, [], ◌∷◌, ◌++◌, List, length, slice_get, IfSome, IfNone};
+ghost use Rattle.std.specs.Prelude.{◌≡◌, ◌≤◌, ◌<◌, ◌+◌, ◌-◌, ◌^◌, ◌⊎◌, ◌↔◌, ℕ, IsTrue, Some, [], ◌∷◌, ◌++◌, List, length, slice_get, IfSome, IfNone};
 ghost use Rattle.std.specs.List.{All};
 ghost use Rattle.bz_elab.specs.Paths.{Stop, leaf, copy};
 ghost use Rattle.bz_elab.specs.Refusals.{HasPortChannels};
 ghost use Rattle.bz_elab.specs.Entries.{flattened};
-ghost use Rattle.bz_elab.specs.Totals.{Capped, Brings, IsSmall, IsTotal, IsDeeper, IsBareBelow, AreTotals};
+ghost use Rattle.bz_elab.specs.Totals.{Capped, Brings, IsSmall, IsTotal, IsDeeper, AreTotals, TellsBare, total_at};
 
 use crate::walk::{MOST_CHANNELS, MOST_COMPONENTS, MOST_ENDS, find};
 use bz_breeze::{Component, Part, Parts, Slot};
@@ -72,18 +72,16 @@ pub fn total_of(
     Some(total)
 }
 
-/// Whether there is no component and no channel below the copy of a part, and no path that goes on for more than `depth`
-/// instances, by the totals that were found.
+/// Whether the total of a part tells that there is no component and no channel below its copy, and no path that goes on for
+/// more than `depth` instances.
 pub fn is_bare(totals: &[Option<Total>], number: usize, depth: u32) -> bool
-    ensures { result ≡ true → (parts : List Part) (part : Part) → AreTotals parts totals.now → slice_get parts number ≡ Some part → IsBareBelow parts part depth }
+    requires { number < length totals.now }
+    ensures { IsTrue result ↔ TellsBare depth (total_at totals.now number) }
 {
-    let Some(Some(total)) = totals.get(number) else {
-        return false;
-    };
-    if total.height > depth || total.comps > 0 {
-        return false;
+    match totals[number] {
+        None => false,
+        Some(total) => total.height <= depth && total.comps == 0 && total.chans == 0,
     }
-    total.chans == 0
 }
 
 // With a component that is no instance.

@@ -10,6 +10,7 @@ use Rattle.bz_elab.proofs.Growing.{grows_bare, flatten_step, leaf_step, copy_ste
 use Rattle.bz_elab.proofs.Soundness.{part_at, part_read}
 use Rattle.bz_elab.proofs.Failing.{leaf_fails, copy_fails, deeper_fails, deep_ends}
 use Rattle.bz_elab.proofs.Leasts.{refused_early}
+use Rattle.bz_elab.proofs.Totaling.{told_bare}
 use Rattle.bz_elab.proofs.walk.+flatten.Goals as goal
 use Rattle.bz_elab.proofs.walk.+flatten.Goals.{in-None+in_ok-add_leaf-in-None, in-Some+else-depth-eq0+in_ok-inner_chans-in-Some, then-not-is_bare+in_ok-flatten-in-Some, else-not-is_bare}
 
@@ -97,7 +98,7 @@ loop-place-preserved t c =
                 let deeper = rw v.as_slice-then-not-is_bare.ensures.value at v.in_ok-flatten-in-Some.ensures.ok in
                 rw v.draft-is (v.flatten.ensures.within, deeper, v.in_ok-flatten-in-Some.ensures.counted)
             | else-not-is_bare v ↦
-                let bare = w.is_bare.ensures v.if-not-is_bare.false parts inner c.requires.totals read in
+                let bare = told_bare parts c.args.totals.now w.in-Some.inner inner (c.args.depth - 1) c.requires.totals read (w.is_bare.ensures.0 v.if-not-is_bare.false) in
                 rw v.draft-is (
                   w.add_copy.ensures.within,
                   λ top path before at len n. grows_bare parts top before mid _ (bare path),
