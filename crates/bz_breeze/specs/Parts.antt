@@ -1,5 +1,5 @@
 -- The parts of a netlist: the records that the data name, or the first fault in the text.
-use Rattle.std.specs.Prelude.{ℕ, ◌-◌, ◌≤◌, nat_lt, length, map, find, List, [], ◌∷◌, ◌++◌, Option, Some, None, Result, Ok, Err, if◌then◌else◌, bytes_eq, codes}
+use Rattle.std.specs.Prelude.{ℕ, ◌-◌, ◌≤◌, nat_lt, length, map, find, position, List, [], ◌∷◌, ◌++◌, Option, Some, None, Result, Ok, Err, if◌then◌else◌, bytes_eq, codes}
 use Rattle.std.specs.Option.{option_and_then}
 use Rattle.bz_model.specs.Names.{External}
 use Rattle.bz_model.specs.declared.channel.Chan.{Chan}
@@ -100,6 +100,10 @@ parts = in_turn part []
 -- each port of a part has its channel
 abbrev pub HasPortChannels : Part → Type 0
 HasPortChannels p = length p.ports.items ≤ length p.channels.items
+
+-- the number of the part of a name, counted from 0
+abbrev pub number_named : List Part → List ℕ → Option ℕ
+number_named list name = position (λ p. bytes_eq name p.name.items) list
 
 -- the part of a name
 abbrev pub part_named : List Part → List ℕ → Option Part

@@ -2,7 +2,7 @@
 
 ghost use Rattle.std.specs.Prelude.{◌≡◌, map, All};
 ghost use Rattle.std.specs.Option.{option_copied};
-ghost use Rattle.bz_breeze.specs.Parts.{part_named, HasPortChannels};
+ghost use Rattle.bz_breeze.specs.Parts.{number_named, part_named, HasPortChannels};
 
 use crate::name_set::NameSet;
 use crate::part::Part;
@@ -45,11 +45,18 @@ impl Parts {
         self.list.as_slice()
     }
 
+    /// The number of the part of a name, counted from 0 in the order of the text, if there is one.
+    pub fn number(&self, name: &[u8]) -> Option<usize>
+        ensures { result ≡ number_named self.now name.now }
+    {
+        self.names.place(name)
+    }
+
     /// The part of a name, if there is one.
     pub fn find(&self, name: &[u8]) -> Option<&Part>
         ensures { option_copied result ≡ part_named self.now name.now }
     {
-        let place = self.names.place(name)?;
+        let place = self.number(name)?;
         self.list.get(place)
     }
 }

@@ -136,6 +136,8 @@ fn parts_by_name(rt: HostRuntime) -> Result<(), Fail> {
         assert_eq!(rt; part.name.as_slice(), name.as_bytes());
         assert!(rt; found.find(name.as_bytes()) == Some(part));
     }
+    assert_eq!(rt; found.number(b"two".as_slice()), Some(0));
+    assert_eq!(rt; found.number(b"one".as_slice()), Some(2));
     assert!(rt; found.find(b"x".as_slice()).is_none());
     assert!(rt; found.find(b"tw".as_slice()).is_none());
     Ok(())

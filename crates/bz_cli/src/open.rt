@@ -45,7 +45,7 @@ pub(crate) fn flat_of(alloc: Global, part: &[u8], text: &[u8]) -> Result<Flat, F
         Err(BreezeError::Memory) => return Err(Fault::Memory),
         Err(error) => return Err(Fault::Part(error)),
     };
-    match elaborate(alloc, parts.list(), part) {
+    match elaborate(alloc, &parts, part) {
         Ok(flat) => Ok(flat),
         Err(ElabError::Memory) => Err(Fault::Memory),
         Err(error) => Err(in_part(alloc, parts.list(), part, error)),

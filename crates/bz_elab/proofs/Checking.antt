@@ -10,14 +10,14 @@ use Rattle.bz_elab.specs.declared.error.Fault.TheVariants as fault
 use Rattle.bz_elab.specs.declared.faults.Found.{Found}
 use Rattle.bz_elab.specs.declared.totals.Total.{Total}
 use Rattle.bz_elab.specs.Faults.{error_at}
-use Rattle.bz_elab.specs.Paths.{Path, named, component, inner, copied, stops, net, own_chans, most_instances}
+use Rattle.bz_elab.specs.Paths.{Path, named, component, inner, copied, role, stops, net, own_chans, most_instances}
 use Rattle.bz_elab.specs.Refusals.{FaultAt, IsRecursive, IsTooDeep, IsTooMany, AppliesTo, Applies, own_comps, own_ends, most_ends}
 use Rattle.bz_elab.specs.Wires.{most_comps, most_chans}
 use Rattle.bz_model.specs.Names.{external}
 use Rattle.bz_elab.specs.declared.walk.Draft.{Draft}
 use Rattle.bz_elab.specs.Flats.{sites_of}
 use Rattle.bz_elab.specs.Seats.{WiringFault}
-use Rattle.bz_elab.specs.Growth.{below_copy, IsNet}
+use Rattle.bz_elab.specs.Growth.{below_copy, IsNet, IsSound, IsSoundBelow}
 use Rattle.bz_elab.proofs.Wiring.{net_is}
 use Rattle.bz_elab.specs.Numbers.{number_named, inner_number, number_at, IsBelow, IsReached, IsFirstPlace, is_marked, Marks, IsFirstRecursive}
 use Rattle.bz_elab.specs.Order.{rank, order, NoLater, Refuses, RefusesPart, PassesPart}
@@ -27,6 +27,7 @@ use Rattle.bz_elab.proofs.Numbering.{named_number, named_first, named_within}
 use Rattle.bz_elab.proofs.Soundness.{part_at}
 use Rattle.bz_elab.proofs.Leasts.{order_most, rank_is, no_later, no_later_order, real_fault}
 use Rattle.bz_elab.proofs.Refusing.{longer}
+use Rattle.bz_elab.proofs.Roles.{sound_has_none}
 use Rattle.bz_elab.proofs.Totaling.{capped_is}
 
 -- Copies, by the places of their parts.
@@ -287,6 +288,9 @@ refuses_fault parts marks n top t b at first all is le least early = record {
     go (LooseEnd k) h = inl (let r = rank_is b.fault b.spot.part b.spot.position in let o = order_most b.fault in omega (arith, r, o))
     go (PortSense k) h = inl (let r = rank_is b.fault b.spot.part b.spot.position in let o = order_most b.fault in omega (arith, r, o))
 
+no_sound_fault : (parts : List Part) (m i : ℕ) (f : Fault) (here : FaultHere parts m i f) → IsSound here.part.channels.items here.comp (role parts here.comp) → ⊥
+no_sound_fault parts m i f here sound = sound_has_none here.part.channels.items here.comp (role parts here.comp) f sound here.fault
+
 -- no fault before E8
 abbrev pub IsLate : Option Found → Type 0
 IsLate None = Unit {0}
@@ -296,7 +300,7 @@ none_early : (parts : List Part) (marks : List Bool) (n : ℕ) (top : Part) (o :
     → IsLeastFault parts (InMarked marks) o → IsLate o → order f < 8 → FaultAt parts top f k i → ⊥
 none_early parts marks n top None f k i at first all least late lt h =
     let (m, le, there, here) = fault_place parts marks n top f k i at first all h in
-    least m i f there here
+    no_sound_fault parts m i f here (least m i here.part here.comp there here.number here.here)
 none_early parts marks n top (Some b) f k i at first all least late lt h =
     let (m, le, there, here) = fault_place parts marks n top f k i at first all h in
     let real = real_fault parts b.spot.part b.spot.position b.fault least.1 in
@@ -325,7 +329,9 @@ pub passes : (parts : List Part) (marks : List Bool) (n : ℕ) (top : Part) (t :
 passes parts marks n top t at first all is le least few = go
   where
     none : (f : Fault) (k i : ℕ) → FaultAt parts top f k i → ⊥
-    none f k i h = let (m, below, there, here) = fault_place parts marks n top f k i at first all h in least m i f there here
+    none f k i h =
+        let (m, below, there, here) = fault_place parts marks n top f k i at first all h in
+        no_sound_fault parts m i f here (least m i here.part here.comp there here.number here.here)
 
     go : (q : ElabError) → AppliesTo parts top q → 10 < rank q
     go NoPart h = absurd h
@@ -342,6 +348,14 @@ passes parts marks n top t at first all is le least few = go
     go (TwoEnds k) h = omega arith
     go (LooseEnd k) h = omega arith
     go (PortSense k) h = omega arith
+
+-- where no component has a fault, the part is sound with all that it reaches
+pub sound_below : (parts : List Part) (marks : List Bool) (n : ℕ) (top : Part) (t : Total) → slice_get parts n ≡ Some top → Marks parts (IsReached parts n) marks → IsTotal parts top t → t.height ≤ most_instances
+    → IsLeastFault parts (InMarked marks) None → IsSoundBelow parts top most_instances
+sound_below parts marks n top t at all is le least = record {
+  short = λ below q e. let w = is.short below q e in omega (arith, w, le);
+  sound = λ below q e i c has. let (m, there, number) = reached_at parts n top q below at e in least m i q c (all.whole m (below, there)) number has;
+}
 
 -- E11 to E13, where none of the others applies.
 

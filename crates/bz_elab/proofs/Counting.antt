@@ -4,7 +4,6 @@ use Rattle.std.specs.List.{flat_map}
 use Rattle.std.proofs.lemmas.Grind.{flat_map-append}
 use Rattle.std.proofs.lemmas.List.{append-nil, length-take, take-append-drop}
 use Rattle.bz_model.specs.declared.channel.Chan.{Chan}
-use Rattle.bz_model.specs.Rows.{row_of}
 use Rattle.bz_breeze.specs.declared.part.Part.{Part}
 use Rattle.bz_breeze.specs.declared.part.Component.{Component}
 use Rattle.bz_elab.specs.declared.error.ElabError.{ElabError}
@@ -14,6 +13,7 @@ use Rattle.bz_elab.specs.declared.walk.Draft.{Draft}
 use Rattle.bz_elab.specs.Entries.{flattened}
 use Rattle.bz_elab.specs.Paths.{Path, Stop, copy, leaf, named, each_from, visit, walk, own_chans, ports_at}
 use Rattle.bz_elab.specs.Refusals.{own_comps, own_ends, IsTooMany}
+use Rattle.bz_elab.specs.Totals.{IsBare}
 use Rattle.bz_elab.specs.Growth.{Counts, AreActuals, Entered, IsFlat, EndsWalk, Counted}
 use Rattle.bz_elab.proofs.Slots.{length-arranged, take_item, drop_item}
 
@@ -33,6 +33,19 @@ length-more f ss ts = ap length (flat_map-append f ss ts) ∙ length-append (fla
 
 pub counts_nothing : (d : Draft) → Counts d d []
 counts_nothing d = record { comps_are = omega arith; chans_are = omega arith; ends_are = omega arith }
+
+no_ends : (ss : List Stop) → flat_map own_comps ss ≡ [] → flat_map own_ends ss ≡ []
+no_ends [] e = refl
+no_ends (copy path part ∷ ss) e = no_ends ss e
+no_ends (leaf path c ∷ ss) e = cc
+
+-- stops without components and channels
+pub counts_bare : (d : Draft) (ss : List Stop) → IsBare ss → Counts d d ss
+counts_bare d ss b = record {
+  comps_are = let e = ap length b.comps in omega (arith, e);
+  chans_are = let e = ap length b.chans in omega (arith, e);
+  ends_are = let e = ap length (no_ends ss b.comps) in omega (arith, e);
+}
 
 pub counts_then : (old mid new : Draft) (ss ts : List Stop) → Counts old mid ss → Counts mid new ts → Counts old new (ss ++ ts)
 counts_then old mid new ss ts a b = record {

@@ -4,7 +4,6 @@ use Rattle.bz_breeze.specs.declared.part.Part.{Part}
 use Rattle.bz_breeze.specs.declared.part.Component.{Component}
 use Rattle.std.specs.List.{flat_map}
 use Rattle.std.proofs.lemmas.List.{append-nil}
-use Rattle.bz_model.specs.declared.channel.Chan.{Chan}
 use Rattle.bz_elab.specs.declared.error.ElabError.{ElabError}
 use Rattle.bz_elab.specs.declared.error.ElabError.TheVariants.{TooBig, TooDeep, Memory}
 use Rattle.bz_elab.specs.declared.error.Fault.{Fault}
@@ -14,7 +13,7 @@ use Rattle.bz_elab.specs.Faults.{error_at}
 use Rattle.bz_elab.specs.Paths.{Path, Role, instance, Stop, copy, leaf, named, component, copied, role, role_by, leaf_role, each_from, visit, walk, stops, own_chans, most_instances}
 use Rattle.bz_elab.specs.Refusals.{HasFault, At, IsTooMany, AppliesTo}
 use Rattle.bz_elab.specs.Wires.{most_chans}
-use Rattle.bz_elab.specs.Growth.{IsSound, IsSoundInstance, EndsWalk, Fails, Refused, Counts, Entered, below_copy}
+use Rattle.bz_elab.specs.Growth.{EndsWalk, Fails, Refused, Counts, Entered, below_copy}
 use Rattle.bz_elab.proofs.Counting.{each_from-split, too_many, ends_up, counts_then, counts_copy}
 use Rattle.bz_elab.proofs.Growing.{copied_inner, component_at}
 
@@ -116,12 +115,6 @@ deeper_fails parts part q (suc m) i items x old mid new actuals chans e same lt 
     (λ many. in_whole parts part path (suc m) i items x old new first below [] same lt is (rw (some, visit, append-nil) refl)
     (counts_then old mid new (stops_before parts path (suc m) items i) first (counts path) (counts_copy mid new (suc i ∷ path) q actuals chans entered)) many)
     inside
-
-pub sound_by_none : (parts : List Part) (chans : List Chan) (x : Component) → named parts x.name.items ≡ None → IsSound chans x (leaf_role x) → IsSound chans x (role parts x)
-sound_by_none parts chans x none s = subst (λ (r : Role). IsSound chans x r) (sym (role_none parts x none)) s
-
-pub sound_by_some : (parts : List Part) (chans : List Chan) (x : Component) (q : Part) → named parts x.name.items ≡ Some q → IsSoundInstance chans x q → IsSound chans x (role parts x)
-sound_by_some parts chans x q some s = subst (λ (r : Role). IsSound chans x r) (sym (role_some parts x q some)) s
 
 -- The whole net.
 

@@ -13,6 +13,8 @@ use Rattle.bz_elab.specs.declared.walk.Draft.{Draft}
 use Rattle.bz_elab.specs.Entries.{flattened, arranged}
 use Rattle.bz_elab.specs.Paths.{Path, Place, Stop, copy, leaf, named, component, copied, joined, of_kind, each_from, visit, walk, stops, own_chans, own_places, places_from, ports_at, most_instances, chans_at}
 use Rattle.bz_elab.specs.Growth.{IsNumber, AreNumbers, AreLeaves, IsNet, numbers_from, CopyNumbers, Grows, Flattened, below_copy, AreActuals, Entered, IsFlat, Counts, Counted}
+use Rattle.bz_elab.specs.Refusals.{own_comps}
+use Rattle.bz_elab.specs.Totals.{IsBare}
 use Rattle.bz_elab.proofs.Counting.{each_from-push, counts_then, counts_copy, actuals_length}
 
 places_from-length : (path : Path) (c n : ℕ) → length (places_from path c n) ≡ n
@@ -67,6 +69,20 @@ grows_nothing parts top before net = record {
   chans_are = sym (append-nil net.chans.items);
   comps_are = sym (append-nil net.comps.items);
   leaves = tt;
+}
+
+no_leaves : (parts : List Part) (top : Part) (places : List Place) (ss : List Stop) → flat_map own_comps ss ≡ [] → AreLeaves parts top places ss []
+no_leaves parts top places [] e = tt
+no_leaves parts top places (copy path part ∷ ss) e = no_leaves parts top places ss e
+no_leaves parts top places (leaf path c ∷ ss) e = cc
+
+-- stops without components and channels
+pub grows_bare : (parts : List Part) (top : Part) (before : List Place) (net : Draft) (ss : List Stop) → IsBare ss → Grows parts top before net net ss
+grows_bare parts top before net ss b = record {
+  comps = [];
+  chans_are = rw b.chans (sym (append-nil net.chans.items));
+  comps_are = sym (append-nil net.comps.items);
+  leaves = no_leaves parts top _ ss b.comps;
 }
 
 pub grows_then : (parts : List Part) (top : Part) (before : List Place) (old mid new : Draft) (ss ts : List Stop)

@@ -81,16 +81,27 @@ real_fault parts n i f h e = none (role parts h.comp) (rw e at h.fault)
 
 -- Places.
 
-least_same : (parts : List Part) (P Q : ℕ → ℕ → Type 0) (b : Option Found) → ((n i : ℕ) (f : Fault) → FaultHere parts n i f → P n i → Q n i) → ((n i : ℕ) (f : Fault) → FaultHere parts n i f → Q n i → P n i)
+-- a component stands there
+record StandsAt (parts : List Part) (n i : ℕ) : Type 0 where
+  part : Part
+  comp : Component
+  number : slice_get parts n ≡ Some part
+  here : component part i ≡ Some comp
+
+stands_at : (parts : List Part) (n i : ℕ) (f : Fault) → FaultHere parts n i f → StandsAt parts n i
+stands_at parts n i f h = record { part = h.part; comp = h.comp; number = h.number; here = h.here }
+
+least_same : (parts : List Part) (P Q : ℕ → ℕ → Type 0) (b : Option Found) → ((n i : ℕ) → StandsAt parts n i → P n i → Q n i) → ((n i : ℕ) → StandsAt parts n i → Q n i → P n i)
     → IsLeastFault parts P b → IsLeastFault parts Q b
-least_same parts P Q None to from h = λ n i f q here. h n i f (from n i f here q) here
-least_same parts P Q (Some b) to from h = (to b.spot.part b.spot.position b.fault h.1 h.0, h.1, λ n i f q here. h.2 n i f (from n i f here q) here)
+least_same parts P Q None to from h = λ n i part c q at has. h n i part c (from n i (record { part = part; comp = c; number = at; here = has }) q) at has
+least_same parts P Q (Some b) to from h =
+    (to b.spot.part b.spot.position (stands_at parts _ _ _ h.1) h.0, h.1, λ n i f q here. h.2 n i f (from n i (stands_at parts n i f here) q) here)
 
 both : {X : Type 0} {o : Option X} {x y : X} → o ≡ Some x → o ≡ Some y → y ≡ x
 both e f = cc
 
-no_zero : (parts : List Part) (n : ℕ) (f : Fault) → FaultHere parts n 0 f → ⊥
-no_zero parts n f h = let e = h.here in cc
+no_zero : (parts : List Part) (n : ℕ) → StandsAt parts n 0 → ⊥
+no_zero parts n h = let e = h.here in cc
 
 -- a fault at a place is one of the component there
 fault_at : (parts : List Part) (n m i j : ℕ) (part : Part) (c : Component) (f : Fault) → FaultHere parts m j f → m ≡ n → j ≡ i → slice_get parts n ≡ Some part → component part i ≡ Some c
@@ -115,13 +126,21 @@ place_next marks n i m j (marked, inr (same, le)) = (marked, inr (same, omega (a
 -- a component without a fault
 pub upto_sound : (parts : List Part) (marks : List Bool) (n i : ℕ) (part : Part) (c : Component) (b : Option Found) → slice_get parts n ≡ Some part → component part (suc i) ≡ Some c
     → IsSound part.channels.items c (role parts c) → IsLeastFault parts (Upto marks n i) b → IsLeastFault parts (Upto marks n (suc i)) b
-upto_sound parts marks n i part c b at has sound h = least_same parts (Upto marks n i) (Upto marks n (suc i)) b
-    (λ m j f here seen. place_next marks n i m j seen)
-    (λ m j f here seen. elim (next_place marks n i m j seen) [
-      | inl old ↦ old
-      | inr (same, there) ↦ absurd (sound_has_none part.channels.items c (role parts c) f sound (fault_at parts n m (suc i) j part c f here same there at has))
-    ])
-    h
+upto_sound parts marks n i part c None at has sound h = λ m j q x seen there is. elim (next_place marks n i m j seen) [
+  | inl old ↦ h m j q x old there is
+  | inr (same, place) ↦
+      let p : q ≡ part = both at (subst (λ (k : ℕ). slice_get parts k ≡ Some q) same there) in
+      let e : x ≡ c = both has (subst (λ (r : Part). component r (suc i) ≡ Some x) p (subst (λ (k : ℕ). component q k ≡ Some x) place is)) in
+      subst (λ (r : Part). IsSound r.channels.items x (role parts x)) (sym p) (subst (λ (y : Component). IsSound part.channels.items y (role parts y)) (sym e) sound)
+]
+upto_sound parts marks n i part c (Some b) at has sound (stood, stands, least) = (
+  place_next marks n i b.spot.part b.spot.position stood,
+  stands,
+  λ m j f seen here. elim (next_place marks n i m j seen) [
+    | inl old ↦ least m j f old here
+    | inr (same, there) ↦ absurd (sound_has_none part.channels.items c (role parts c) f sound (fault_at parts n m (suc i) j part c f here same there at has))
+  ],
+)
 
 -- a component with one
 pub upto_fault : (parts : List Part) (marks : List Bool) (n i : ℕ) (part : Part) (c : Component) (b : Option Found) (new : Found) → slice_get parts n ≡ Some part → component part (suc i) ≡ Some c
@@ -155,7 +174,7 @@ upto_fault parts marks n i part c b new at has marked place position wrong first
       seen,
       stands,
       λ m j f there other. elim (next_place marks n i m j there) [
-        | inl old ↦ absurd (h m j f old other)
+        | inl old ↦ absurd (sound_has_none other.part.channels.items other.comp (role parts other.comp) f (h m j other.part other.comp old other.number other.here) other.fault)
         | inr (same, at_it) ↦ own m j f other same at_it
       ],
     )
@@ -204,8 +223,8 @@ upto_fault_at parts marks n i k part c b new e at has marked place position wron
 pub upto_part : (parts : List Part) (marks : List Bool) (n i : ℕ) (part : Part) (b : Option Found) → slice_get parts n ≡ Some part → length part.components.items ≤ i
     → IsLeastFault parts (Upto marks n i) b → IsLeastFault parts (Upto marks (n + 1) 0) b
 upto_part parts marks n i part b at all h = least_same parts (Upto marks n i) (Upto marks (n + 1) 0) b
-    (λ m j f here (marked, seen). (marked, inl (elim seen [ inl lt ↦ omega (arith, lt) | inr (same, le) ↦ omega (arith, same) ])))
-    (λ m j f here (marked, seen). (
+    (λ m j here (marked, seen). (marked, inl (elim seen [ inl lt ↦ omega (arith, lt) | inr (same, le) ↦ omega (arith, same) ])))
+    (λ m j here (marked, seen). (
       marked,
       elim (eqb_tells m n) [
         | inl same ↦
@@ -214,7 +233,7 @@ upto_part parts marks n i part b at all h = least_same parts (Upto marks n i) (U
             inr (same.1, omega (arith, w, all))
         | inr d ↦ elim seen [
           | inl lt ↦ inl (omega (arith, lt, d.1))
-          | inr (same, le) ↦ let z : j ≡ 0 = omega (arith, le) in absurd (no_zero parts m f (rw z at here))
+          | inr (same, le) ↦ let z : j ≡ 0 = omega (arith, le) in absurd (no_zero parts m (rw z at here))
         ]
       ],
     ))
@@ -223,14 +242,14 @@ upto_part parts marks n i part b at all h = least_same parts (Upto marks n i) (U
 -- a part that is not marked
 pub upto_skip : (parts : List Part) (marks : List Bool) (n : ℕ) (b : Option Found) → is_marked marks n ≡ false → IsLeastFault parts (Upto marks n 0) b → IsLeastFault parts (Upto marks (n + 1) 0) b
 upto_skip parts marks n b clear h = least_same parts (Upto marks n 0) (Upto marks (n + 1) 0) b
-    (λ m j f here (marked, seen). (marked, inl (elim seen [ inl lt ↦ omega (arith, lt) | inr (same, le) ↦ omega (arith, same) ])))
-    (λ m j f here (marked, seen). (
+    (λ m j here (marked, seen). (marked, inl (elim seen [ inl lt ↦ omega (arith, lt) | inr (same, le) ↦ omega (arith, same) ])))
+    (λ m j here (marked, seen). (
       marked,
       elim (eqb_tells m n) [
         | inl same ↦ let clash = rw (same.1, clear) at marked in cc
         | inr d ↦ elim seen [
           | inl lt ↦ inl (omega (arith, lt, d.1))
-          | inr (same, le) ↦ let z : j ≡ 0 = omega (arith, le) in absurd (no_zero parts m f (rw z at here))
+          | inr (same, le) ↦ let z : j ≡ 0 = omega (arith, le) in absurd (no_zero parts m (rw z at here))
         ]
       ],
     ))
@@ -239,13 +258,16 @@ upto_skip parts marks n b clear h = least_same parts (Upto marks n 0) (Upto mark
 -- all parts
 pub upto_all : (parts : List Part) (marks : List Bool) (n : ℕ) (b : Option Found) → length parts ≤ n → IsLeastFault parts (Upto marks n 0) b → IsLeastFault parts (InMarked marks) b
 upto_all parts marks n b all h = least_same parts (Upto marks n 0) (InMarked marks) b
-    (λ m j f here seen. seen.0)
-    (λ m j f here marked. (marked, inl (let w = slice_get_within parts m here.part here.number in omega (arith, w, all))))
+    (λ m j here seen. seen.0)
+    (λ m j here marked. (marked, inl (let w = slice_get_within parts m here.part here.number in omega (arith, w, all))))
     h
 
 pub upto_start : (parts : List Part) (marks : List Bool) → IsLeastFault parts (Upto marks 0 0) None
-upto_start parts marks n i f (marked, inl lt) here = omega (arith, lt)
-upto_start parts marks n i f (marked, inr (same, le)) here = let z : i ≡ 0 = omega (arith, le) in no_zero parts n f (rw z at here)
+upto_start parts marks n i part c (marked, inl lt) at has = absurd (omega (arith, lt))
+upto_start parts marks n i part c (marked, inr (same, le)) at has =
+    let z : i ≡ 0 = omega (arith, le) in
+    let stands : StandsAt parts n i = record { part = part; comp = c; number = at; here = has } in
+    absurd (no_zero parts n (rw z at stands))
 
 -- a refusal of a component comes before those of the ends
 pub order_most : (f : Fault) → order f ≤ 10

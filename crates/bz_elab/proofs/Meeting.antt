@@ -7,7 +7,7 @@ use Rattle.std.proofs.lemmas.List.{drop_all, drop_more, get_or-map, get_or-take,
 use Rattle.std.proofs.lemmas.List.Elements.{All-head, All-tail}
 use Rattle.bz_model.specs.declared.channel.Chan.{Chan}
 use Rattle.bz_model.specs.declared.channel.ChanKind.TheVariants.{Sync}
-use Rattle.bz_model.specs.Rows.{MeetsRow, row_of}
+use Rattle.bz_model.specs.Rows.{MeetsRow}
 use Rattle.bz_model.specs.Nets.{Site, chan_in}
 use Rattle.bz_breeze.specs.declared.part.Part.{Part}
 use Rattle.bz_breeze.specs.declared.part.Component.{Component}

@@ -1,5 +1,8 @@
 -- Parts by their places in the text.
-use Rattle.std.proofs.Common.{◌≡◌, ℕ, zero, suc, ◌+◌, ◌<◌, ◌≤◌, true, false, Option, None, Some, List, [], ◌∷◌, length, drop, refl, ◌∙◌, ap, arith, slice_get, option_and_then, bytes_eq}
+use Rattle.std.proofs.Common.{◌≡◌, ℕ, zero, suc, ◌+◌, ◌<◌, ◌≤◌, true, false, Option, None, Some, List, [], ◌∷◌, length, refl, sym, ◌∙◌, ap, arith, slice_get, option_and_then, bytes_eq, position, IfSome}
+use Rattle.std.proofs.lemmas.Iterator.Adapters.{position_from-zero}
+use Rattle.std.proofs.lemmas.Slice.Eq.{bytes_eq-Decides}
+use Rattle.std.specs.List.{position_from}
 use Rattle.std.specs.Option.{option_map}
 use Rattle.bz_breeze.specs.declared.part.Part.{Part}
 use Rattle.bz_elab.specs.Paths.{named}
@@ -9,21 +12,7 @@ map_suc : (i : ℕ) (o : Option ℕ) → option_map (λ n. i + n) (option_map su
 map_suc i None = refl
 map_suc i (Some n) = let e : i + suc n ≡ i + 1 + n = omega arith in ap (λ k. Some k) e
 
--- the place, by the parts from i on
-pub number_next : (parts : List Part) (i : ℕ) (name : List ℕ) (p : Part) → drop i parts ≡ p ∷ drop (i + 1) parts → bytes_eq p.name.items name ≡ false
-    → number_named parts name ≡ option_map (λ n. i + n) (number_named (drop i parts) name) → number_named parts name ≡ option_map (λ n. i + 1 + n) (number_named (drop (i + 1) parts) name)
-number_next parts i name p here other e =
-    let next : number_named (drop i parts) name ≡ option_map suc (number_named (drop (i + 1) parts) name) = rw (here, other) refl in
-    e ∙ (ap (option_map (λ n. i + n)) next ∙ map_suc i (number_named (drop (i + 1) parts) name))
-
-pub number_found : (parts : List Part) (i : ℕ) (name : List ℕ) (p : Part) → drop i parts ≡ p ∷ drop (i + 1) parts → bytes_eq p.name.items name ≡ true
-    → number_named parts name ≡ option_map (λ n. i + n) (number_named (drop i parts) name) → number_named parts name ≡ Some i
-number_found parts i name p here it e =
-    let now : number_named (drop i parts) name ≡ Some 0 = rw (here, it) refl in
-    let n : i + 0 ≡ i = omega arith in
-    e ∙ (ap (option_map (λ n. i + n)) now ∙ ap (λ k. Some k) n)
-
-pub map_zero : (o : Option ℕ) → o ≡ option_map (λ n. 0 + n) o
+map_zero : (o : Option ℕ) → o ≡ option_map (λ n. 0 + n) o
 map_zero None = refl
 map_zero (Some n) = let e : n ≡ 0 + n = omega arith in ap (λ k. Some k) e
 
@@ -82,3 +71,29 @@ named_first (q ∷ qs) name m (suc k) p e f g = elim (bytes_eq q.name.items name
       let le = named_first qs name j k p o (rw s at f) g in
       omega (arith, s, le)
 ] refl
+
+-- By the index of the names.
+
+bytes_turn : (a b : List ℕ) → bytes_eq a b ≡ bytes_eq b a
+bytes_turn a b = elim (bytes_eq a b) as (λ x. bytes_eq a b ≡ x → x ≡ bytes_eq b a) [
+  | true ↦ λ e. sym ((bytes_eq-Decides b a).1 (sym ((bytes_eq-Decides a b).0 e)))
+  | false ↦ λ e. elim (bytes_eq b a) as (λ y. bytes_eq b a ≡ y → false ≡ y) [
+    | true ↦ λ f. let it = (bytes_eq-Decides a b).1 (sym ((bytes_eq-Decides b a).0 f)) in cc
+    | false ↦ λ f. refl
+  ] refl
+] refl
+
+place_from : (parts : List Part) (name : List ℕ) (k : ℕ) → position_from (λ p. bytes_eq name p.name.items) k parts ≡ option_map (λ n. k + n) (number_named parts name)
+place_from [] name k = refl
+place_from (p ∷ ps) name k = elim (bytes_eq p.name.items name) as (λ b. bytes_eq p.name.items name ≡ b → position_from (λ p. bytes_eq name p.name.items) k (p ∷ ps) ≡ option_map (λ n. k + n) (number_named (p ∷ ps) name)) [
+  | true ↦ λ e. let n : k ≡ k + 0 = omega arith in rw (bytes_turn name p.name.items, e) (ap (λ i. Some i) n)
+  | false ↦ λ e. rw (bytes_turn name p.name.items, e) (place_from ps name (k + 1) ∙ sym (map_suc k (number_named ps name)))
+] refl
+
+-- the number that the parts tell is the one of the first part of that name
+pub number_is_first : (parts : List Part) (name : List ℕ) → position (λ p. bytes_eq name p.name.items) parts ≡ number_named parts name
+number_is_first parts name = position_from-zero (λ p. bytes_eq name p.name.items) parts ∙ (place_from parts name 0 ∙ sym (map_zero (number_named parts name)))
+
+pub found_within : (parts : List Part) (name : List ℕ) (o : Option ℕ) → o ≡ number_named parts name → IfSome o (λ n. n < length parts)
+found_within parts name None e = tt
+found_within parts name (Some n) e = named_within parts name n (sym e)

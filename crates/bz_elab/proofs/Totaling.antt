@@ -13,7 +13,7 @@ use Rattle.bz_elab.specs.Paths.{Path, Stop, copy, leaf, named, component, inner,
 use Rattle.bz_elab.specs.Refusals.{own_comps, own_ends, most_ends}
 use Rattle.bz_elab.specs.Wires.{most_comps, most_chans}
 use Rattle.bz_elab.specs.Growth.{below_copy}
-use Rattle.bz_elab.specs.Totals.{Capped, Brings, IsSmall, IsTotal, IsDeeper, AreTotals, total_at}
+use Rattle.bz_elab.specs.Totals.{Capped, Brings, IsSmall, IsTotal, IsDeeper, IsBareBelow, AreTotals, total_at}
 use Rattle.bz_elab.proofs.Counting.{each_from-push, length-more}
 use Rattle.bz_elab.proofs.Slots.{take_item}
 use Rattle.bz_elab.proofs.Soundness.{part_at, copied-first, last_of, inner_within}
@@ -183,6 +183,18 @@ deeper_here parts part p k at = (k ∷ [], p, at, omega arith)
 
 pub deeper_total : (parts : List Part) (part : Part) (t : Total) (depth : ℕ) → IsTotal parts part t → depth < t.height → IsDeeper parts part depth
 deeper_total parts part t depth is lt = let (below, q, e, len) = is.longest in (below, q, e, omega (arith, len, lt))
+
+no_items : {X : Type 0} (xs : List X) → length xs ≡ 0 → xs ≡ []
+no_items [] e = refl
+no_items (x ∷ xs) e = absurd (omega arith)
+
+pub bare_below : (parts : List Part) (part : Part) (t : Total) (depth : ℕ) → IsTotal parts part t → t.height ≤ depth → t.comps ≡ 0 → t.chans ≡ 0 → IsBareBelow parts part depth
+bare_below parts part t depth is le no_comps no_chans path =
+    let b = is.brings path depth le in
+    record {
+      comps = no_items (flat_map own_comps (below_copy parts path depth part)) (omega (arith, b.comps, no_comps));
+      chans = no_items (flat_map own_chans (below_copy parts path depth part)) (omega (arith, b.chans, no_chans));
+    }
 
 pub entries_more : (entries : List Slot) (i : ℕ) (e : Slot) → i < length entries → e ≡ get_or entries i e
     → length (flattened (take (i + 1) entries)) ≡ length (flattened (take i entries)) + length (named_in e)

@@ -32,9 +32,10 @@ Upto marks n i m j = (is_marked marks m ≡ true) × ((m < n) ⊎ ((m ≡ n) × 
 abbrev pub InMarked : List Bool → ℕ → ℕ → Type 0
 InMarked marks m j = is_marked marks m ≡ true
 
--- the first fault in the order, of the components at the places that were seen
+-- the first fault in the order, of the components at the places that were seen; none where each of them is sound
 abbrev pub IsLeastFault : List Part → (ℕ → ℕ → Type 0) → Option Found → Type 0
-IsLeastFault parts Seen None = (n i : ℕ) (f : Fault) → Seen n i → FaultHere parts n i f → ⊥
+IsLeastFault parts Seen None =
+    (n i : ℕ) (part : Part) (c : Component) → Seen n i → slice_get parts n ≡ Some part → component part i ≡ Some c → IsSound part.channels.items c (role parts c)
 IsLeastFault parts Seen (Some b) =
     Seen b.spot.part b.spot.position × FaultHere parts b.spot.part b.spot.position b.fault
     × ((n i : ℕ) (f : Fault) → Seen n i → FaultHere parts n i f → NoLater (error_at b.fault b.spot.part b.spot.position) (error_at f n i))

@@ -1,9 +1,9 @@
 -- How high a part is and how much its copy brings, found without making one.
-use Rattle.std.specs.Prelude.{◌≡◌, ◌⊎◌, ℕ, ◌+◌, ◌^◌, ◌<◌, ◌≤◌, Option, None, Some, List, length, slice_get, slice_index_or}
+use Rattle.std.specs.Prelude.{◌≡◌, ◌⊎◌, ℕ, ◌+◌, ◌^◌, ◌<◌, ◌≤◌, Option, None, Some, List, [], length, slice_get, slice_index_or}
 use Rattle.std.specs.List.{flat_map}
 use Rattle.bz_breeze.specs.declared.part.Part.{Part}
 use Rattle.bz_elab.specs.declared.totals.Total.{Total}
-use Rattle.bz_elab.specs.Paths.{Path, Stop, copied, own_chans, most_instances}
+use Rattle.bz_elab.specs.Paths.{Path, Stop, copied, own_chans}
 use Rattle.bz_elab.specs.Refusals.{own_comps, own_ends, most_ends}
 use Rattle.bz_elab.specs.Wires.{most_comps, most_chans}
 use Rattle.bz_elab.specs.Growth.{below_copy}
@@ -32,14 +32,18 @@ pub record IsTotal (parts : List Part) (part : Part) (t : Total) : Type 0 where
   pub brings : (path : Path) (depth : ℕ) → t.height ≤ depth → Brings t (below_copy parts path depth part)
   pub small : IsSmall t
 
+-- there is no component and no channel at these stops
+pub record IsBare (stops : List Stop) : Type 0 where
+  pub comps : flat_map own_comps stops ≡ []
+  pub chans : flat_map own_chans stops ≡ []
+
+-- so it is below each copy of a part, no path of which goes on for more than so many instances
+abbrev pub IsBareBelow : List Part → Part → ℕ → Type 0
+IsBareBelow parts part depth = (path : Path) → IsBare (below_copy parts path depth part)
+
 -- a path goes on for more than so many instances
 abbrev pub IsDeeper : List Part → Part → ℕ → Type 0
 IsDeeper parts part depth = (below : Path) × (q : Part) × (copied parts part below ≡ Some q) × (depth < length below)
-
--- the total of a part that goes no deeper than a net may, or that it goes deeper
-abbrev pub IsWhole : List Part → Part → Option Total → Type 0
-IsWhole parts part None = IsDeeper parts part most_instances
-IsWhole parts part (Some t) = IsTotal parts part t × (t.height ≤ most_instances)
 
 abbrev pub total_at : List (Option Total) → ℕ → Option Total
 total_at totals n = slice_index_or totals n None

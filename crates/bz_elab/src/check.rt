@@ -6,29 +6,42 @@ ghost use Rattle.bz_elab.specs.declared.error.ElabError.TheVariants.{Memory};
 ghost use Rattle.bz_breeze.specs.declared.part.Part.{Part};
 ghost use Rattle.bz_elab.specs.Paths.{stops, most_instances};
 ghost use Rattle.bz_elab.specs.Refusals.{HasPortChannels, IsTooMany};
+ghost use Rattle.bz_elab.specs.Growth.{IsSoundBelow};
 ghost use Rattle.bz_elab.specs.Order.{RefusesPart, PassesPart};
 ghost use Rattle.bz_elab.specs.Numbers.{IsFirstPlace, IsReached, Marks};
-ghost use Rattle.bz_elab.specs.Totals.{IsTotal, IsSmall, IsWhole};
+ghost use Rattle.bz_elab.specs.Totals.{IsTotal, IsSmall, AreTotals};
 
 use crate::error::ElabError;
 use crate::faults::least_fault;
 use crate::reach::{first_recursive, reached};
 use crate::totals::{Total, capped, total_of};
 use crate::walk::{MOST_CHANNELS, MOST_COMPONENTS, MOST_ENDS, MOST_INSTANCES};
-use bz_breeze::Part;
-use std::alloc::{AllocError, Global};
+use bz_breeze::{Part, Parts};
+use std::alloc::Global;
 
-/// Finds the first refusal of a part and all that it reaches, by what can be told without making the net.
-pub fn check(alloc: Global, parts: &[Part], number: usize, part: &Part) -> Result<(), ElabError>
+/// Finds the first refusal of a part and all that it reaches, by what can be told without making the net; answers the
+/// totals of the parts where there is none.
+pub fn check(
+    alloc: Global,
+    parts: &Parts,
+    number: usize,
+    part: &Part,
+) -> Result<Vec<Option<Total>>, ElabError>
     requires whole { All HasPortChannels parts.now }
     requires part_is { slice_get parts.now number ≡ Some part.now }
     requires first { IsFirstPlace parts.now number part.now }
+    ensures totals { IfOk result (λ v. AreTotals parts.now v.items) }
     ensures ok { OnOk result (PassesPart parts.now part.now) }
+    ensures sound { OnOk result (IsSoundBelow parts.now part.now most_instances) }
     ensures err { IfErr result (λ e. (e ≡ Memory) ⊎ RefusesPart parts.now part.now e) }
 {
     let marks = reached(alloc, parts, number)?;
-    match whole_total(alloc, parts, number, part)? {
-        Some(total) => check_parts(alloc, parts, number, part, marks.as_slice(), total),
+    let mut totals = vec![in alloc; None; parts.list().len()]?;
+    match total_of(parts, number, part, MOST_INSTANCES, totals.as_mut_slice()) {
+        Some(total) => {
+            check_parts(alloc, parts, number, part, marks.as_slice(), total)?;
+            Ok(totals)
+        }
         None => match first_recursive(alloc, parts, marks.as_slice())? {
             Some(recursive) => Err(ElabError::Recursive(recursive)),
             None => Err(ElabError::TooDeep),
@@ -39,7 +52,7 @@ pub fn check(alloc: Global, parts: &[Part], number: usize, part: &Part) -> Resul
 // Finds the first refusal of the marked parts, which go no deeper than they may, and of the size of the net.
 fn check_parts(
     alloc: Global,
-    parts: &[Part],
+    parts: &Parts,
     number: usize,
     part: &Part,
     marks: &[bool],
@@ -52,6 +65,7 @@ fn check_parts(
     requires total { IsTotal parts.now part.now total }
     requires within { total.height ≤ most_instances }
     ensures ok { OnOk result (PassesPart parts.now part.now) }
+    ensures sound { OnOk result (IsSoundBelow parts.now part.now most_instances) }
     ensures err { IfErr result (λ e. (e ≡ Memory) ⊎ RefusesPart parts.now part.now e) }
 {
     let is_big = is_too_big(part, total);
@@ -72,21 +86,6 @@ fn check_parts(
             Ok(())
         }
     }
-}
-
-// What lies below the copy of a part, `None` where a path is too long.
-fn whole_total(
-    alloc: Global,
-    parts: &[Part],
-    number: usize,
-    part: &Part,
-) -> Result<Option<Total>, AllocError>
-    requires whole { All HasPortChannels parts.now }
-    requires part_is { slice_get parts.now number ≡ Some part.now }
-    ensures { IfOk result (IsWhole parts.now part.now) }
-{
-    let mut totals = vec![in alloc; None; parts.len()]?;
-    Ok(total_of(parts, number, part, MOST_INSTANCES, totals.as_mut_slice()))
 }
 
 // Whether the net has more than it may have.

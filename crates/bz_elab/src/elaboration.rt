@@ -1,25 +1,23 @@
 //! The flat net of a part, by its name.
 
 ghost use Rattle.std.specs.Prelude.{◌≡◌, ◌⊎◌, IfOk, IfErr};
-ghost use Rattle.std.specs.List.{All};
 ghost use Rattle.bz_elab.specs.declared.error.ElabError.{ElabError};
 ghost use Rattle.bz_elab.specs.declared.error.ElabError.TheVariants.{Memory};
 ghost use Rattle.bz_elab.specs.Order.{Refuses};
-ghost use Rattle.bz_elab.specs.Refusals.{HasPortChannels, Applies, Elaborated};
+ghost use Rattle.bz_elab.specs.Refusals.{Applies, Elaborated};
 
 use crate::check::check;
 use crate::ends::wire;
 use crate::error::ElabError;
 use crate::flat::{Flat, Pieces};
 use crate::walk::{find, net_of};
-use bz_breeze::Part;
+use bz_breeze::Parts;
 use bz_model::dup_ports;
 use std::alloc::Global;
 
 /// The flat net of the first part of that name: its components and those of all instances, each instance a copy of its
 /// part of its own.
-pub fn elaborate(alloc: Global, parts: &[Part], top: &[u8]) -> Result<Flat, ElabError>
-    requires { All HasPortChannels parts.now }
+pub fn elaborate(alloc: Global, parts: &Parts, top: &[u8]) -> Result<Flat, ElabError>
     ensures ok { IfOk result (λ flat. Elaborated parts.now top.now flat.wiring) }
     ensures fit { IfOk result (λ flat. (e : ElabError) → Applies parts.now top.now e → ⊥) }
     ensures err { IfErr result (λ e. (e ≡ Memory) ⊎ Refuses parts.now top.now e) }
@@ -27,9 +25,9 @@ pub fn elaborate(alloc: Global, parts: &[Part], top: &[u8]) -> Result<Flat, Elab
     let Some(number) = find(parts, top) else {
         return Err(ElabError::NoPart);
     };
-    let part = &parts[number];
-    check(alloc, parts, number, part)?;
-    let draft = net_of(alloc, parts, number, part)?;
+    let part = &parts.list()[number];
+    let totals = check(alloc, parts, number, part)?;
+    let draft = net_of(alloc, parts, totals.as_slice(), number, part)?;
     let ends = wire(
         alloc,
         draft.comps.as_slice(),

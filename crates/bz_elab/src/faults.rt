@@ -13,7 +13,7 @@ ghost use Rattle.bz_elab.specs.Least.{IsChecked, IsLeastFault, InMarked, LeastOn
 use crate::component::{instance_of, leaf_of};
 use crate::error::{ElabError, Fault, Spot};
 use crate::walk::find;
-use bz_breeze::{Component, Part};
+use bz_breeze::{Component, Part, Parts};
 use bz_model::Chan;
 use std::alloc::Global;
 
@@ -34,18 +34,15 @@ impl Found {
 }
 
 /// The first fault in the order of refusals, at its least place, of the components of the marked parts.
-pub fn least_fault(
-    alloc: Global,
-    parts: &[Part],
-    marks: &[bool],
-) -> Result<Option<Found>, ElabError>
+pub fn least_fault(alloc: Global, parts: &Parts, marks: &[bool]) -> Result<Option<Found>, ElabError>
     requires whole { All HasPortChannels parts.now }
     requires marks { length marks.now ≡ length parts.now }
     ensures ok { IfOk result (IsLeastFault parts.now (InMarked marks.now)) }
     ensures err { IfErr result (λ e. e ≡ Memory) }
 {
+    let list = parts.list();
     let mut least = None;
-    for (number, part) in parts.iter().enumerate() {
+    for (number, part) in list.iter().enumerate() {
         if marks[number] {
             least = least_of_part(alloc, parts, number, part, least)?;
         }
@@ -56,7 +53,7 @@ pub fn least_fault(
 // The lesser of a fault that was found and the least one of a part.
 fn least_of_part(
     alloc: Global,
-    parts: &[Part],
+    parts: &Parts,
     number: usize,
     part: &Part,
     before: Option<Found>,
@@ -85,7 +82,7 @@ fn least_of_part(
 // The first fault of a component.
 fn fault_of(
     alloc: Global,
-    parts: &[Part],
+    parts: &Parts,
     channels: &[Chan],
     component: &Component,
 ) -> Result<Option<Fault>, ElabError>
@@ -98,7 +95,7 @@ fn fault_of(
             Ok(_) => return Ok(None),
             Err(fault) => fault,
         },
-        Some(inner) => match instance_of(alloc, channels, component, &parts[inner]) {
+        Some(inner) => match instance_of(alloc, channels, component, &parts.list()[inner]) {
             Ok(_) => return Ok(None),
             Err(fault) => fault,
         },

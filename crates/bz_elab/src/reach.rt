@@ -4,7 +4,7 @@ ghost use Rattle.std.specs.Prelude.{◌≡◌, ◌<◌, length, IfOk, OnOk};
 ghost use Rattle.bz_elab.specs.Numbers.{Marks, Marked, SpreadOn, IsBelow, IsReached, IsFirstRecursive};
 
 use crate::walk::find;
-use bz_breeze::Part;
+use bz_breeze::{Part, Parts};
 use std::alloc::{AllocError, Global};
 
 // The parts that were met, and these in the order in which they were, the first one before them.
@@ -15,7 +15,7 @@ struct Marking {
 }
 
 /// Marks the part at a place and all parts that it reaches.
-pub fn reached(alloc: Global, parts: &[Part], start: usize) -> Result<Vec<bool>, AllocError>
+pub fn reached(alloc: Global, parts: &Parts, start: usize) -> Result<Vec<bool>, AllocError>
     requires { start < length parts.now }
     ensures { IfOk result (λ v. Marks parts.now (IsReached parts.now start) v.items) }
 {
@@ -27,7 +27,7 @@ pub fn reached(alloc: Global, parts: &[Part], start: usize) -> Result<Vec<bool>,
 /// The first of the marked parts that reaches itself by its instances.
 pub fn first_recursive(
     alloc: Global,
-    parts: &[Part],
+    parts: &Parts,
     marks: &[bool],
 ) -> Result<Option<usize>, AllocError>
     requires { length marks.now ≡ length parts.now }
@@ -45,17 +45,18 @@ pub fn first_recursive(
 }
 
 // Marks the parts that a part reaches by one instance or more.
-fn below(alloc: Global, parts: &[Part], start: usize) -> Result<Vec<bool>, AllocError>
+fn below(alloc: Global, parts: &Parts, start: usize) -> Result<Vec<bool>, AllocError>
     requires { start < length parts.now }
     ensures { IfOk result (λ v. Marks parts.now (IsBelow parts.now start) v.items) }
 {
-    let marks = vec![in alloc; false; parts.len()]?;
+    let list = parts.list();
+    let marks = vec![in alloc; false; list.len()]?;
     let queue = vec![in alloc; start]?;
     let mut reached = Marking { marks, queue };
-    for place in 0..parts.len() + 1 {
+    for place in 0..list.len() + 1 {
         if place < reached.queue.len() {
             let number = reached.queue[place];
-            match parts.get(number) {
+            match list.get(number) {
                 Some(part) => mark_inner(parts, part, &mut reached)?,
                 None => {}
             }
@@ -65,7 +66,7 @@ fn below(alloc: Global, parts: &[Part], start: usize) -> Result<Vec<bool>, Alloc
 }
 
 // Marks the parts of which a part has instances.
-fn mark_inner(parts: &[Part], part: &Part, reached: &mut Marking) -> Result<(), AllocError>
+fn mark_inner(parts: &Parts, part: &Part, reached: &mut Marking) -> Result<(), AllocError>
     requires { length reached.old.marks.items ≡ length parts.now }
     ensures { OnOk result (SpreadOn parts.now part.now reached.old reached.new) }
 {

@@ -1,14 +1,14 @@
 //! How deep a part goes and how much its copy brings, found without making one.
 
-ghost use Rattle.std.specs.Prelude.{◌≡◌, ◌≤◌, ◌<◌, ◌+◌, ◌-◌, ◌^◌, ◌⊎◌, ℕ, Some, [], ◌∷◌, ◌++◌, List, length, slice_get, IfSome, IfNone};
+ghost use Rattle.std.specs.Prelude.{◌≡◌, ◌≤◌, ◌<◌, ◌+◌, ◌-◌, ◌^◌, ◌⊎◌, ℕ, true, Some, [], ◌∷◌, ◌++◌, List, length, slice_get, IfSome, IfNone};
 ghost use Rattle.std.specs.List.{All};
 ghost use Rattle.bz_elab.specs.Paths.{Stop, leaf, copy};
 ghost use Rattle.bz_elab.specs.Refusals.{HasPortChannels};
 ghost use Rattle.bz_elab.specs.Entries.{flattened};
-ghost use Rattle.bz_elab.specs.Totals.{Capped, Brings, IsSmall, IsTotal, IsDeeper, AreTotals};
+ghost use Rattle.bz_elab.specs.Totals.{Capped, Brings, IsSmall, IsTotal, IsDeeper, IsBareBelow, AreTotals};
 
 use crate::walk::{MOST_CHANNELS, MOST_COMPONENTS, MOST_ENDS, find};
-use bz_breeze::{Component, Part, Slot};
+use bz_breeze::{Component, Part, Parts, Slot};
 
 /// What lies below a copy of a part: the length of the longest path of instances, and how many components, channels and
 /// component ends, as far as a net may have so many.
@@ -30,7 +30,7 @@ const NOTHING: Total = Total {
 /// What lies below a copy of this part, `None` where a path goes on for more than `depth` instances. `totals` has what
 /// was found before.
 pub fn total_of(
-    parts: &[Part],
+    parts: &Parts,
     number: usize,
     part: &Part,
     depth: u32,
@@ -60,7 +60,7 @@ pub fn total_of(
                 if depth == 0 {
                     return None;
                 }
-                let inner_part = &parts[inner];
+                let inner_part = &parts.list()[inner];
                 match total_of(parts, inner, inner_part, depth - 1, totals) {
                     None => return None,
                     Some(below) => total = with_copy(total, inner_part, below),
@@ -70,6 +70,20 @@ pub fn total_of(
     }
     totals[number] = Some(total);
     Some(total)
+}
+
+/// Whether there is no component and no channel below the copy of a part, and no path that goes on for more than `depth`
+/// instances, by the totals that were found.
+pub fn is_bare(totals: &[Option<Total>], number: usize, depth: u32) -> bool
+    ensures { result ≡ true → (parts : List Part) (part : Part) → AreTotals parts totals.now → slice_get parts number ≡ Some part → IsBareBelow parts part depth }
+{
+    let Some(Some(total)) = totals.get(number) else {
+        return false;
+    };
+    if total.height > depth || total.comps > 0 {
+        return false;
+    }
+    total.chans == 0
 }
 
 // With a component that is no instance.

@@ -3,17 +3,19 @@
 ghost use Rattle.std.specs.Prelude.{◌≡◌, ◌<◌, ◌≤◌, ◌+◌, ◌-◌, ◌++◌, ◌∷◌, [], ◌⊎◌, ℕ, List, Some, length, slice_get, option_and_then, slice_index_or, IfOk, IfErr, IfSome, OnOk};
 ghost use Rattle.std.specs.List.{All};
 ghost use Rattle.bz_elab.specs.declared.error.ElabError.TheVariants.{Memory, TooBig};
-ghost use Rattle.bz_elab.specs.Paths.{instance, leaf_role, copy, leaf, named, most_instances};
+ghost use Rattle.bz_elab.specs.Paths.{instance, leaf_role, copy, leaf, named};
 ghost use Rattle.bz_elab.specs.Refusals.{AppliesTo, HasPortChannels, most_ends};
 ghost use Rattle.bz_elab.specs.Numbers.{number_named};
 ghost use Rattle.bz_elab.specs.Order.{rank};
+ghost use Rattle.bz_elab.specs.Totals.{AreTotals};
 ghost use Rattle.bz_elab.specs.Wires.{most_comps, most_chans};
-ghost use Rattle.bz_elab.specs.Growth.{AreActuals, Entered, LeafAdded, CopyAdded, Refused, Flattened, Counted, Fails, IsNet, IsSoundBelow, Within};
+ghost use Rattle.bz_elab.specs.Growth.{AreActuals, Entered, LeafAdded, CopyAdded, Refused, Flattened, Counted, Fails, IsNet, Within};
 
 use crate::component::{instance_of, leaf_of};
 use crate::error::{ElabError, Spot};
 use crate::flat::FlatComp;
-use bz_breeze::{Component, Part};
+use crate::totals::{Total, is_bare};
+use bz_breeze::{Component, Part, Parts};
 use bz_model::Chan;
 use std::alloc::{AllocError, Global};
 
@@ -38,17 +40,12 @@ pub struct Draft {
 }
 
 /// The number of the first part of that name, counted from 0.
-pub fn find(parts: &[Part], name: &[u8]) -> Option<usize>
+pub fn find(parts: &Parts, name: &[u8]) -> Option<usize>
     ensures part { option_and_then (slice_get parts.now) result ≡ named parts.now name.now }
     ensures within { IfSome result (λ n. n < length parts.now) }
     ensures number { result ≡ number_named parts.now name.now }
 {
-    for (number, part) in parts.iter().enumerate() {
-        if part.name.as_slice() == name {
-            return Some(number);
-        }
-    }
-    None
+    parts.number(name)
 }
 
 fn push_chan(draft: &mut Draft, chan: Chan) -> Result<u32, ElabError>
@@ -168,10 +165,12 @@ fn add_copy(
     }
 }
 
-// Adds the copies and leaves below a part's copy, whose channels are `chans`.
+// Adds the copies and leaves below a part's copy, whose channels are `chans`. A copy below which there is nothing is not
+// gone into.
 fn flatten(
     alloc: Global,
-    parts: &[Part],
+    parts: &Parts,
+    totals: &[Option<Total>],
     number: usize,
     part: &Part,
     chans: &[u32],
@@ -181,11 +180,11 @@ fn flatten(
     requires whole { All HasPortChannels parts.now }
     requires part_is { slice_get parts.now number ≡ Some part.now }
     requires chans { length chans.now ≡ length part.now.channels.items }
+    requires totals { AreTotals parts.now totals.now }
     requires draft { Within draft.old }
     ensures within { Within draft.new }
     ensures ok { OnOk result (Flattened parts.now part.now chans.now depth draft.old draft.new) }
     ensures counted { OnOk result (Counted parts.now part.now depth draft.old draft.new) }
-    ensures sound { OnOk result (IsSoundBelow parts.now part.now depth) }
     ensures err { IfErr result (Fails parts.now part.now depth draft.old) }
     ensures early { IfErr result (λ e. rank e ≤ 10) }
 {
@@ -207,7 +206,7 @@ fn flatten(
                 if depth == 0 {
                     return Err(ElabError::TooDeep);
                 }
-                let inner_part = &parts[inner];
+                let inner_part = &parts.list()[inner];
                 let inner_chans = add_copy(
                     alloc,
                     spot,
@@ -217,15 +216,18 @@ fn flatten(
                     chans,
                     draft,
                 )?;
-                flatten(
-                    alloc,
-                    parts,
-                    inner,
-                    inner_part,
-                    inner_chans.as_slice(),
-                    depth - 1,
-                    draft,
-                )?;
+                if !is_bare(totals, inner, depth - 1) {
+                    flatten(
+                        alloc,
+                        parts,
+                        totals,
+                        inner,
+                        inner_part,
+                        inner_chans.as_slice(),
+                        depth - 1,
+                        draft,
+                    )?;
+                }
             }
         }
     }
@@ -233,12 +235,18 @@ fn flatten(
 }
 
 /// The net of a part, by its number.
-pub fn net_of(alloc: Global, parts: &[Part], number: usize, part: &Part) -> Result<Draft, ElabError>
+pub fn net_of(
+    alloc: Global,
+    parts: &Parts,
+    totals: &[Option<Total>],
+    number: usize,
+    part: &Part,
+) -> Result<Draft, ElabError>
     requires whole { All HasPortChannels parts.now }
     requires part_is { slice_get parts.now number ≡ Some part.now }
+    requires totals { AreTotals parts.now totals.now }
     ensures within { IfOk result Within }
     ensures ok { IfOk result (IsNet parts.now part.now) }
-    ensures sound { OnOk result (IsSoundBelow parts.now part.now most_instances) }
     ensures err { IfErr result (λ e. (e ≡ Memory) ⊎ AppliesTo parts.now part.now e) }
     ensures early { IfErr result (λ e. rank e ≤ 10) }
 {
@@ -251,6 +259,7 @@ pub fn net_of(alloc: Global, parts: &[Part], number: usize, part: &Part) -> Resu
     flatten(
         alloc,
         parts,
+        totals,
         number,
         part,
         chans.as_slice(),

@@ -6,8 +6,13 @@ use bz_playing::{list, play};
 use std::fs;
 use std::test::Fail;
 
-/// Netlists with the words that drive them and the traces they give, each of the part of its name.
-const PLAYED: [&str; 1] = ["buffer"];
+/// Netlists with the words that drive a part and the traces that they give.
+const PLAYED: [(&str, &str); 4] = [
+    ("buffer", "buffer"),
+    ("arbiter_tree", "tree"),
+    ("pipeline", "pipeline"),
+    ("countdown", "countdown"),
+];
 
 /// Netlists with the lists of the part of their name.
 const LISTED: [&str; 2] = ["tee", "two_place"];
@@ -49,14 +54,14 @@ fn tell(rt: &HostRuntime, name: &str, is_right: bool) -> Result<(), Fail> {
     Ok(println!(rt; "{name}: {how}")?)
 }
 
-fn played(rt: &HostRuntime, name: &str) -> Result<(), Fail> {
+fn played(rt: &HostRuntime, name: &str, part: &str) -> Result<(), Fail> {
     let netlist = file(rt, name, "breeze")?;
     let words = file(rt, name, "words")?;
     let words: Vec<&str> = words.split_whitespace().take(WORDS).collect(rt.alloc())?;
     let outcome = play(
         rt.alloc(),
         netlist.as_bytes(),
-        name,
+        part,
         1_000_000,
         words.as_slice(),
     )?;
@@ -95,8 +100,8 @@ fn refused(rt: &HostRuntime, name: &str) -> Result<(), Fail> {
 }
 
 fn main(rt: HostRuntime) -> Result<(), Fail> {
-    for name in PLAYED {
-        played(&rt, name)?;
+    for (name, part) in PLAYED {
+        played(&rt, name, part)?;
     }
     for name in LISTED {
         listed(&rt, name)?;

@@ -9,15 +9,18 @@ ghost use Rattle.bz_model.specs.Processes.{member, start_of};
 ghost use Rattle.bz_model.specs.Phases.{incoming};
 ghost use Rattle.bz_model.specs.Widths.{Fitted, FitsAt};
 ghost use Rattle.bz_kinds.specs.Moves.{AreEnabled};
-ghost use Rattle.bz_kinds.specs.Start.{BeginsAt, IsAllDue};
+ghost use Rattle.bz_kinds.specs.Start.{BeginsAt, IsAllDue, IsDueBut, AreMembersDue};
 ghost use Rattle.bz_kinds.specs.Comp.{IsAt, IsDue, IsFor, Goes, plan_due};
 
 use crate::error::KindError;
 use crate::move_iter::MoveIter;
-use crate::ports::{CLOSED_DUE, Ports};
+use crate::ports::{CLOSED, CLOSED_DUE, Ports};
 use crate::row::{Due, Plan};
 use crate::shape::shape_of;
-use crate::{cells, enclosed, in_turn, indexed, once, script, select, together};
+use crate::{
+    cells, choice, decision, enclosed, in_turn, indexed, meeting, once, script, select, signalled,
+    together,
+};
 use bz_model::{Chan, Kind, Move, Phase, Value};
 use std::alloc::{AllocError, Global};
 use std::marker::Model;
@@ -50,7 +53,7 @@ impl Model for Comp {
 
     ghost view = { λ c. record { proc = record { todo = todo_of c.plan c.size c.left c.ports; store = c.slots.items }; chans = c.chans.items; open_ports = map is_open c.ports } };
 
-    ghost invariant = { λ c. IsAt c.plan c.size c.left c.ports c.slots.items × (member c.size < 2 ^ 32 - 1) × ((bits : ℕ) × Sends c.chans.items bits (todo_of c.plan c.size c.left c.ports)) };
+    ghost invariant = { λ c. IsAt c.plan c.size c.left c.ports c.slots.items × (c.size < 2 ^ 30) × ((bits : ℕ) × Sends c.chans.items bits (todo_of c.plan c.size c.left c.ports)) };
 }
 
 /// A component of this kind at its start, with arrays of these lengths, on these channels in the order of its ports.
@@ -80,7 +83,7 @@ pub fn next(comp: &Comp, port: u32) -> Option<Move>
     ensures only { (h : Head) → IsHeadOn comp.now.proc port h → result ≡ Some h.move }
     ensures one { HasOneHead comp.now.proc.todo }
 {
-    due_at(&comp.plan, comp.left, port, comp.ports.get(port)).map(|due| due.mv)
+    due_at(&comp.plan, comp.size, comp.left, port, comp.ports.get(port)).map(|due| due.mv)
 }
 
 /// Whether a component can move at a port whose channel has this phase.
@@ -98,7 +101,7 @@ pub fn apply(comp: &mut Comp, port: u32, phase: Phase) -> (Move, Option<Value>)
     ensures chans { comp.new.chans ≡ comp.old.chans }
     ensures fits { Fitted comp.old → FitsAt comp.old.chans port (incoming phase result.0) → FitsAt comp.old.chans port result.1 × Fitted comp.new }
 {
-    let Some(due) = due_at(&comp.plan, comp.left, port, comp.ports.get(port)) else {
+    let Some(due) = due_at(&comp.plan, comp.size, comp.left, port, comp.ports.get(port)) else {
         unreachable!()
     };
     let incoming = phase.incoming(due.mv);
@@ -120,7 +123,7 @@ pub fn moves<'a>(comp: &'a Comp, phases: &'a [Phase]) -> MoveIter<'a>
     requires { length phases.now < 2 ^ 32 }
     ensures { AreEnabled comp.now.proc phases.now result }
 {
-    MoveIter::new(&comp.plan, comp.left, &comp.ports, phases)
+    MoveIter::new(&comp.plan, comp.size, comp.left, &comp.ports, phases)
 }
 
 /// The same component in the same state.
@@ -144,7 +147,7 @@ pub fn dup(alloc: Global, comp: &Comp) -> Result<Comp, KindError>
 
 // The ports of a plan at its start.
 fn first_ports(alloc: Global, plan: &Plan, legs: u32) -> Result<Ports, AllocError>
-    requires small { member legs < 2 ^ 32 - 1 }
+    requires small { legs < 2 ^ 30 }
     requires is_for { IsFor plan.now legs }
     ensures { IfOk result (BeginsAt plan.now legs) }
 {
@@ -156,6 +159,16 @@ fn first_ports(alloc: Global, plan: &Plan, legs: u32) -> Result<Ports, AllocErro
         Plan::Select(_) => first_only(alloc, legs as usize + 2),
         Plan::Indexed(_) => first_only(alloc, legs as usize + 3),
         Plan::OneByOne(script) => first_only(alloc, script::places(*script)),
+        Plan::Signalled => all_but(alloc, legs as usize + 3, 2),
+        Plan::Choice(mix) => {
+            let count = legs as usize + choice::actives(mix, legs) as usize + 1;
+            first_members(alloc, count, legs)
+        }
+        Plan::Meeting(meet) => {
+            let count = legs as usize + meeting::actives(meet) as usize + 1;
+            first_members(alloc, count, legs)
+        }
+        Plan::Decision => first_only(alloc, 2 * legs as usize + 2),
     }
 }
 
@@ -174,6 +187,28 @@ fn from_first(alloc: Global, count: usize) -> Result<Ports, AllocError>
 {
     let mut ports = Ports::new(alloc, count)?;
     ports.set_from(1, CLOSED_DUE);
+    Ok(ports)
+}
+
+// All ports but one have a move due.
+fn all_but(alloc: Global, count: usize, port: u32) -> Result<Ports, AllocError>
+    requires { 0 < port }
+    ensures { IfOk result (IsDueBut count port) }
+{
+    let mut ports = Ports::new(alloc, count)?;
+    ports.set_from(1, CLOSED_DUE);
+    ports.set(port, CLOSED);
+    Ok(ports)
+}
+
+// The first ports have a move due, up to the last member of an array.
+fn first_members(alloc: Global, count: usize, members: u32) -> Result<Ports, AllocError>
+    requires { members < 2 ^ 30 }
+    ensures { IfOk result (AreMembersDue count members) }
+{
+    let mut ports = Ports::new(alloc, count)?;
+    ports.set_from(1, CLOSED_DUE);
+    ports.set_from(members + 1, CLOSED);
     Ok(ports)
 }
 
@@ -206,8 +241,8 @@ fn put(slots: &mut [Value], slot: u32, value: Value)
 }
 
 /// The move due at a port, whose number is `number`.
-pub(crate) fn due_at(plan: &Plan, left: u32, port: u32, number: u8) -> Option<Due>
-    ensures { result ≡ plan_due plan.now left port number }
+pub(crate) fn due_at(plan: &Plan, size: u32, left: u32, port: u32, number: u8) -> Option<Due>
+    ensures { result ≡ plan_due plan.now size left port number }
 {
     match plan {
         Plan::InTurn(row) | Plan::Together(row) | Plan::Once(row) => enclosed::due(
@@ -217,14 +252,18 @@ pub(crate) fn due_at(plan: &Plan, left: u32, port: u32, number: u8) -> Option<Du
         Plan::Select(_) => enclosed::due(&select::ROW, port, number),
         Plan::Indexed(_) => indexed::due(left, port, number),
         Plan::OneByOne(script) => script::due(*script, port, number),
+        Plan::Signalled => signalled::due(port, number),
+        Plan::Choice(mix) => choice::due(mix, size, port, number),
+        Plan::Meeting(meet) => meeting::due(meet, size, port, number),
+        Plan::Decision => decision::due(size, port, number),
     }
 }
 
 // Takes the ports to where they are after the due move at `port`. `slots` has what came in with it.
 fn advance(plan: &Plan, size: u32, left: &mut u32, ports: &mut Ports, port: u32, slots: &[Value])
     requires place { IsAt plan.now size left.old ports.old slots.now }
-    requires small { member size < 2 ^ 32 - 1 }
-    requires due { IsDue plan.now left.old port ports.old }
+    requires small { size < 2 ^ 30 }
+    requires due { IsDue plan.now size left.old port ports.old }
     ensures { Goes plan.now size left.old ports.old port left.new ports.new slots.now }
 {
     match plan {
@@ -235,5 +274,9 @@ fn advance(plan: &Plan, size: u32, left: &mut u32, ports: &mut Ports, port: u32,
         Plan::Select(spans) => select::step(spans, ports, left, size, port, slots),
         Plan::Indexed(spans) => indexed::step(spans, ports, left, size, port, slots),
         Plan::OneByOne(script) => script::step(*script, ports, left, port, slots),
+        Plan::Signalled => signalled::step(ports, size, port),
+        Plan::Choice(mix) => choice::step(mix, ports, left, size, port),
+        Plan::Meeting(meet) => meeting::step(meet, ports, left, size, port),
+        Plan::Decision => decision::step(ports, left, size, port),
     }
 }

@@ -11,7 +11,7 @@ use std::test::Fail;
 pub fn flat_of(alloc: Global, netlist: &str, part: &str) -> Result<Flat, Fail> {
     let data = bz_sexpr::read(alloc, netlist.as_bytes())?;
     let parts = bz_breeze::parts(alloc, data.as_slice())?;
-    Ok(bz_elab::elaborate(alloc, parts.list(), part.as_bytes())?)
+    Ok(bz_elab::elaborate(alloc, &parts, part.as_bytes())?)
 }
 
 /// The net of a part, at its opening, with a journal of at most `limit` entries.

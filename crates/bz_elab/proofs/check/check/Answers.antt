@@ -10,5 +10,4 @@ returns-in-Some-2-clause-err c =
 pub returns-clause-err : goal.returns-clause-err
 returns-clause-err c =
     let first = rw (c.as_slice-in-None.ensures.value, c.in-None-2.is) at c.in_ok-recursive-in-None.ensures in
-    let deep = rw c.in-None.is at c.in_ok-total.ensures in
-    inr (refuses_deep c.args.parts.now c.in_ok-marks.marks.items c.args.number c.args.part.now c.requires.part_is c.requires.first c.in_ok-marks.ensures first deep)
+    inr (refuses_deep c.args.parts.now c.in_ok-marks.marks.items c.args.number c.args.part.now c.requires.part_is c.requires.first c.in_ok-marks.ensures first c.in-None.ensures.none)

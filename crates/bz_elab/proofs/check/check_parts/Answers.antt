@@ -1,6 +1,6 @@
 use Rattle.std.proofs.Common.{arith, ◌≤◌, Some, None, inl, inr}
 use Rattle.bz_elab.specs.Order.{order}
-use Rattle.bz_elab.proofs.Checking.{refuses_fault, refuses_big, passes}
+use Rattle.bz_elab.proofs.Checking.{refuses_fault, refuses_big, passes, sound_below}
 use Rattle.bz_elab.proofs.check.check_parts.Goals as goal
 
 pub returns-then-order-lt8-clause-err : goal.returns-then-order-lt8-clause-err
@@ -27,6 +27,11 @@ returns-then-is_big-2-clause-err c =
     let least = rw c.in-None.is at c.in_ok-found.ensures.ok in
     inr (refuses_big c.args.parts.now c.args.marks.now c.args.number c.args.part.now c.args.total None c.requires.part_is c.requires.first c.requires.marks c.requires.total c.requires.within
     least tt (c.is_too_big-is_big.ensures.big c.if-is_big-2.true c.args.parts.now c.requires.total c.requires.within))
+
+pub returns-else-is_big-2-clause-sound : goal.returns-else-is_big-2-clause-sound
+returns-else-is_big-2-clause-sound c =
+    let least = rw c.in-None.is at c.in_ok-found.ensures.ok in
+    sound_below c.args.parts.now c.args.marks.now c.args.number c.args.part.now c.args.total c.requires.part_is c.requires.marks c.requires.total c.requires.within least
 
 pub returns-else-is_big-2-clause-ok : goal.returns-else-is_big-2-clause-ok
 returns-else-is_big-2-clause-ok c =

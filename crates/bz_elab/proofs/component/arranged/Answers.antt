@@ -1,4 +1,3 @@
-use Rattle.std.proofs.Common.{◌∙◌}
 use Rattle.bz_model.specs.Rows.{row_of}
 use Rattle.bz_elab.specs.Refusals.{IsChannel}
 use Rattle.bz_elab.proofs.Slots.{all_rows}

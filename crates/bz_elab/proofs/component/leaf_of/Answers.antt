@@ -1,4 +1,3 @@
-use Rattle.std.proofs.Common.{sym}
 use Rattle.std.proofs.lemmas.Result.{err_from_is_err_and}
 use Rattle.bz_elab.specs.declared.error.Fault.TheVariants as fault
 use Rattle.bz_elab.specs.Refusals.{IsChannel}

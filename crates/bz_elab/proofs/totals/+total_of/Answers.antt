@@ -1,9 +1,10 @@
 use Rattle.std.proofs.Common.{arith, length, List, refl, sym, ◌∙◌, ap, suc, subst}
-use Rattle.std.proofs.lemmas.Option.{slice_get_read, slice_get_within}
+use Rattle.std.proofs.lemmas.Option.{slice_get_within}
 use Rattle.bz_breeze.specs.declared.part.Component.{Component}
 use Rattle.bz_elab.specs.Totals.{IsDeeper}
 use Rattle.bz_elab.proofs.Growing.{component_at}
 use Rattle.bz_elab.proofs.Reaching.{same_read}
+use Rattle.bz_elab.proofs.Soundness.{part_read}
 use Rattle.bz_elab.proofs.Totaling.{TotalUpTo, total_start, total_leaf, total_copy, total_all, totals_set, deeper_inner, deeper_here, deeper_total, inner_of}
 use Rattle.bz_elab.proofs.totals.+total_of.Goals as goal
 use Rattle.bz_elab.proofs.totals.+total_of.Goals.{in-None, in-Some-find+else-depth-eq0+in-Some-total_of}
@@ -37,7 +38,7 @@ returns-then-depth-eq0-clause-none t c =
 
 pub total_of-requires : goal.total_of-requires
 total_of-requires t c =
-    let inner = slice_get_read c.args.parts.now (length c.args.parts.now) c.in-Some-find.inner c.index-parts-inner.result refl c.in-Some-find.ensures.within c.index-parts-inner.is in
+    let inner = part_read c.args.parts.now _ c.in-Some-find.inner c.index-list-inner.result c.list.ensures.value c.in-Some-find.ensures.within c.index-list-inner.is in
     (omega (arith, c.decreases, c.if-depth-eq0.false), (c.requires.whole, (inner, (omega (arith, c.requires.few), c.loop-component.invariant.totals))))
 
 pub returns-in-None-total_of-clause-none : goal.returns-in-None-total_of-clause-none
@@ -46,9 +47,9 @@ returns-in-None-total_of-clause-none t c =
     let part = c.args.part.now in
     let i = c.loop-component.component-index in
     let has = component_at part c.deref-component-items.result.now i c.component-item.result c.deref-component-items.ensures.value c.component-item.is (omega arith) in
-    let read = slice_get_read parts (length parts) c.in-Some-find.inner c.index-parts-inner.result refl c.in-Some-find.ensures.within c.index-parts-inner.is in
+    let read = part_read parts _ c.in-Some-find.inner c.index-list-inner.result c.list.ensures.value c.in-Some-find.ensures.within c.index-list-inner.is in
     let some = sym (rw c.as_slice.ensures.value at c.in-Some-find.ensures.part) ∙ read in
-    deeper_inner parts part c.index-parts-inner.result (suc i) c.args.depth (rw has some) (omega (arith, c.if-depth-eq0.false)) c.in-None-total_of.ensures.none
+    deeper_inner parts part c.index-list-inner.result (suc i) c.args.depth (rw has some) (omega (arith, c.if-depth-eq0.false)) c.in-None-total_of.ensures.none
 
 pub loop-component-preserved : goal.loop-component-preserved
 loop-component-preserved t c =
@@ -69,13 +70,13 @@ loop-component-preserved t c =
             len = inv.len;
           })
       | in-Some-find+else-depth-eq0+in-Some-total_of w ↦
-          let read = slice_get_read parts (length parts) w.in-Some-find.inner w.index-parts-inner.result refl w.in-Some-find.ensures.within w.index-parts-inner.is in
+          let read = part_read parts _ w.in-Some-find.inner w.index-list-inner.result w.list.ensures.value w.in-Some-find.ensures.within w.index-list-inner.is in
           let some = sym (rw c.as_slice.ensures.value at w.in-Some-find.ensures.part) ∙ read in
           let e = w.with_copy-total.ensures in
           let found = w.in-Some-total_of.ensures.found in
           let depth = w.in-Some-total_of.ensures.within in
           rw (w.totals-is, w.total-is) (record {
-            upto = total_copy parts part items i x w.index-parts-inner.result _ _ _ inv.upto (omega arith) c.component-item.is has some found e.height_from e.height_below e.height_is e.small e.brings;
+            upto = total_copy parts part items i x w.index-list-inner.result _ _ _ inv.upto (omega arith) c.component-item.is has some found e.height_from e.height_below e.height_is e.small e.brings;
             within = let h = e.height_is in omega (arith, inv.within, depth, h, w.if-depth-eq0.false);
             totals = w.in-Some-total_of.ensures.totals;
             len = w.in-Some-total_of.ensures.totals.len ∙ sym c.requires.totals.len;

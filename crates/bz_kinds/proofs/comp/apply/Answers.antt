@@ -1,4 +1,4 @@
-use Rattle.std.proofs.Common.{◌≡◌, ◌∙◌, ap, sym, subst, refl, List, ℕ, length, Some, get_or, IsTrue}
+use Rattle.std.proofs.Common.{◌≡◌, ◌∙◌, ap, sym, subst, List, ℕ, length, Some, get_or, IsTrue}
 use Rattle.std.specs.Vec.{with_items}
 use Rattle.std.proofs.lemmas.List.{with_items_is}
 use Rattle.bz_model.specs.Heads.{carried, Component}
@@ -19,13 +19,13 @@ unreachable-requires c =
 
 pub carried-value-requires : goal.carried-value-requires
 carried-value-requires c =
-    let found : plan_due c.comp.inside.plan c.comp.inside.left c.args.port (get_or c.comp.inside.ports c.args.port 0) ≡ Some c.in-Some.due = cc in
+    let found : plan_due c.comp.inside.plan c.comp.inside.size c.comp.inside.left c.args.port (get_or c.comp.inside.ports c.args.port 0) ≡ Some c.in-Some.due = cc in
     let (at, small, (bits, sends)) = c.comp.invariant in
     due-narrow _ _ _ _ _ _ bits at sends c.args.port c.in-Some.due found
 
 pub advance-requires-clause-place : goal.advance-requires-clause-place
 advance-requires-clause-place c =
-    let found : plan_due c.comp.inside.plan c.comp.inside.left c.args.port (get_or c.comp.inside.ports c.args.port 0) ≡ Some c.in-Some.due = cc in
+    let found : plan_due c.comp.inside.plan c.comp.inside.size c.comp.inside.left c.args.port (get_or c.comp.inside.ports c.args.port 0) ≡ Some c.in-Some.due = cc in
     let long : length c.store.new.slots ≡ c.comp.inside.slots.len = c.store.auto.slots ∙ ap length c.deref_mut.ensures.value ∙ sym c.comp.inside.slots.ok.0 in
     let kept = with_items_is c.comp.inside.slots c.store.new.slots long ∙ c.store.ensures ∙ ap (λ (s : List ℕ). stored c.in-Some.due.into c.incoming-incoming.result s) c.deref_mut.ensures.value in
     still-at _ _ _ _ c.args.port c.in-Some.due c.args.phase c.incoming-incoming.result _ _ c.comp.invariant.0 found c.incoming-incoming.ensures (c.deref-2.ensures.value ∙ kept)
@@ -36,7 +36,7 @@ goes c = subst (λ (s : List ℕ). Goes c.comp.inside.plan c.comp.inside.size c.
 
 pub returns-clause-moves : goal.returns-clause-moves
 returns-clause-moves c =
-    let found : plan_due c.comp.inside.plan c.comp.inside.left c.args.port (get_or c.comp.inside.ports c.args.port 0) ≡ Some c.in-Some.due = cc in
+    let found : plan_due c.comp.inside.plan c.comp.inside.size c.comp.inside.left c.args.port (get_or c.comp.inside.ports c.args.port 0) ≡ Some c.in-Some.due = cc in
     let long : length c.store.new.slots ≡ c.comp.inside.slots.len = c.store.auto.slots ∙ ap length c.deref_mut.ensures.value ∙ sym c.comp.inside.slots.ok.0 in
     let (h, on, ok) = c.requires in
     let due = head-on-due _ _ _ _ _ _ _ c.comp.view_is c.comp.invariant.0 c.args.port h on in
@@ -49,7 +49,7 @@ returns-clause-moves c =
 
 pub returns-clause-turns : goal.returns-clause-turns
 returns-clause-turns c =
-    let found : plan_due c.comp.inside.plan c.comp.inside.left c.args.port (get_or c.comp.inside.ports c.args.port 0) ≡ Some c.in-Some.due = cc in
+    let found : plan_due c.comp.inside.plan c.comp.inside.size c.comp.inside.left c.args.port (get_or c.comp.inside.ports c.args.port 0) ≡ Some c.in-Some.due = cc in
     turns _ _ _ _ _ _ _ c.comp.view_is c.comp.invariant.0 c.args.port c.in-Some.due _ _ _ found (goes c)
 
 pub returns-clause-fits : goal.returns-clause-fits
@@ -57,6 +57,6 @@ returns-clause-fits c fitted came = fits-move c.args.comp.now _ c.args.port c.ar
 
 pub invariant_of-comp : goal.invariant_of-comp
 invariant_of-comp c =
-    let found : plan_due c.comp.inside.plan c.comp.inside.left c.args.port (get_or c.comp.inside.ports c.args.port 0) ≡ Some c.in-Some.due = cc in
+    let found : plan_due c.comp.inside.plan c.comp.inside.size c.comp.inside.left c.args.port (get_or c.comp.inside.ports c.args.port 0) ≡ Some c.in-Some.due = cc in
     let (at, small, (bits, sends)) = c.comp.invariant in
     ((goes c).place, small, (bits, still-sends _ _ _ _ _ _ bits at sends c.args.port c.in-Some.due _ _ _ found (goes c)))
