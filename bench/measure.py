@@ -71,10 +71,11 @@ def main():
             moves(programs, "pipeline", size, netlist("pipeline", size))
         for size in (64, 4096, 100000):
             moves(programs, "loops", size, netlist("loops", size))
-        text = netlist("large", 1000000)
-        print(f"large: {os.path.getsize(text)} bytes")
-        show("large: listed", [seconds(p, ["list", "--part", "bench"], text) for p in programs])
-        show("large: opened", [seconds(p, run(["run:0"]), text) for p in programs])
+        for shape in ("large", "tree"):
+            text = netlist(shape, 1000000)
+            print(f"{shape}: {os.path.getsize(text)} bytes")
+            show(f"{shape}: listed", [seconds(p, ["list", "--part", "bench"], text) for p in programs])
+            show(f"{shape}: opened", [seconds(p, run(["run:0"]), text) for p in programs])
 
 
 if __name__ == "__main__":

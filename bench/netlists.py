@@ -4,8 +4,9 @@
     netlists.py loops N       N Loops, each driving a Continue, started side by side by Concurs
     netlists.py pipeline N    N one-place buffers in a row, from a Constant to a ContinuePush
     netlists.py large N       a part of N components or a few less, most of them Continues under Sequences
+    netlists.py tree N        some 20 small parts, most of them with two instances of the next, N components in all
 
-Each has one part, `bench`, and one port, `go`.
+Each is of the part `bench`, which has one port, `go`.
 """
 import sys
 
@@ -97,8 +98,36 @@ def large(count):
     return net
 
 
+class Tree:
+    """A part `bench` with a Continue at its port, and below it parts with two instances of the next, down to one component."""
+
+    def __init__(self, count):
+        self.parts = [part("bench", "(sync-port \"go\" passive)", ["(component \"$BrzContinue\" () (1))", instance(0)])]
+        left = count - 1
+        while left > 1:
+            inner = [instance(len(self.parts))] * 2 + [KNOT] * (left % 2)
+            self.parts.append(part(f"p{len(self.parts) - 1}", "", inner))
+            left //= 2
+        self.parts.append(part(f"p{len(self.parts) - 1}", "", [KNOT]))
+
+    def text(self):
+        return "".join(self.parts)
+
+
+# a component with both ends of the one channel
+KNOT = '(component "$BrzSequence" () (1 (1)))'
+
+
+def instance(place):
+    return f'(component "p{place}" () ())'
+
+
+def part(name, ports, components):
+    return f'(breeze-part "{name}" (ports {ports}) (channels (sync)) (components {" ".join(components)}))\n'
+
+
 def main():
-    shapes = {"loops": loops, "pipeline": pipeline, "large": large}
+    shapes = {"loops": loops, "pipeline": pipeline, "large": large, "tree": Tree}
     if len(sys.argv) != 3 or sys.argv[1] not in shapes:
         sys.exit(__doc__)
     sys.stdout.write(shapes[sys.argv[1]](int(sys.argv[2])).text())

@@ -1,3 +1,5 @@
+pub mod Blocks
+pub mod Crossing
 pub mod Ends
 pub mod Joined
 pub mod Pairs

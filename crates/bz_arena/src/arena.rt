@@ -35,7 +35,7 @@ impl<T, A: Allocator + Copy> Arena<T, A> {
     {
         Arena {
             full: FullChunks::new(alloc),
-            last: Chunk::new(alloc),
+            last: Chunk::new(),
             alloc,
         }
     }

@@ -1,38 +1,43 @@
-//! A block with room for 256 nodes, of which the first are there.
+//! A chunk: a block with places for 256 nodes, of which the first hold nodes.
 ghost use Rattle.std.specs.Prelude.{◌≡◌, ◌≢◌, ◌<◌, ◌≤◌, ◌%◌, ◌++◌, [], ◌∷◌, length, slice_index_or, IfOk, IfErr};
 ghost use Rattle.std.specs.Borrow.{sem};
 
-use crate::pair::pair_of;
+use crate::block::{Deed, Nodes, allocate, free};
+use crate::pair::{pair_of, update_both};
 use std::alloc::Allocator;
 use std::marker::Model;
 
 pub(crate) const CHUNK_LEN: usize = 256;
 
-/// A chunk with no node has no block yet. A contract sees the list of its nodes.
-#[derive(Drop)]
+/// A new chunk has no block yet. A contract sees the list of its nodes.
 pub struct Chunk<T, A: Allocator + Copy> {
-    nodes: Vec<T, A>,
+    nodes: Nodes<T>,
+    count: usize,
+    deed: Option<Deed<T, A>>,
 }
 
 impl<T, A: Allocator + Copy> Model for Chunk<T, A> {
-    ghost use Rattle.std.specs.Prelude.{List, ◌≤◌, ◌<◌, length, vec_capacity};
+    ghost use Rattle.std.specs.Prelude.{List, ◌≡◌, ◌≤◌, length};
+    ghost use Rattle.bz_arena.specs.Deeds.{IsDeedOf};
 
     ghost Value = { List T };
 
     ghost view = { λ c. c.nodes.items };
 
-    ghost invariant = { λ c. (length c.nodes.items ≤ 256) × (0 < length c.nodes.items → 256 ≤ vec_capacity c.nodes) };
+    ghost invariant = { λ c. (c.count ≡ length c.nodes.items) × (c.count ≤ c.nodes.places) × IsDeedOf c.deed c.nodes };
 }
 
 impl<T, A: Allocator + Copy> Chunk<T, A> {
     ghost use Rattle.bz_arena.specs.Lends.{lends_in_chunk, lends_nodes};
     ghost use Rattle.bz_arena.specs.Pairs.{UpdatesBoth};
 
-    pub(crate) fn new(alloc: A) -> Chunk<T, A>
+    pub(crate) fn new() -> Chunk<T, A>
         ensures { result ≡ [] }
     {
         Chunk {
-            nodes: Vec::new(alloc),
+            nodes: Nodes::none(),
+            count: 0,
+            deed: None,
         }
     }
 
@@ -41,37 +46,45 @@ impl<T, A: Allocator + Copy> Chunk<T, A> {
         ensures made { IfOk result (λ c. c ≡ node ∷ []) }
         ensures handed_back { IfErr result (λ back. back ≡ node) }
     {
-        let Ok(mut nodes) = Vec::with_capacity(alloc, CHUNK_LEN) else {
+        let Some((mut nodes, deed)) = allocate(alloc) else {
             return Err(node);
         };
-        match nodes.push(node) {
-            Ok(()) => Ok(Chunk { nodes }),
-            Err(_refused) => unreachable!(),
-        }
+        nodes.push(0, node);
+        Ok(Chunk {
+            nodes,
+            count: 1,
+            deed: Some(deed),
+        })
     }
 
     pub(crate) fn push(&mut self, node: T)
         requires { (0 < length self.old) × (length self.old < 256) }
         ensures { self.new ≡ self.old ++ node ∷ [] }
     {
-        match self.nodes.push(node) {
-            Ok(()) => {}
-            Err(_refused) => unreachable!(),
-        }
+        self.nodes.push(self.count, node);
+        self.count += 1;
+    }
+
+    fn pop(&mut self) -> T
+        requires { 0 < length self.old }
+        ensures { self.old ≡ self.new ++ result ∷ [] }
+    {
+        self.count -= 1;
+        self.nodes.pop(self.count)
     }
 
     pub(crate) fn len(&self) -> usize
         ensures value { result ≡ length self.now }
         ensures fits { result ≤ 256 }
     {
-        self.nodes.len()
+        self.count
     }
 
     pub(crate) fn get(&self, index: usize) -> &T
         requires { index < length self.now }
         ensures { result.now ≡ slice_index_or self.now index result.now }
     {
-        &self.nodes[index]
+        &self.nodes.as_slice(self.count)[index]
     }
 
     pub(crate) fn get_mut(&mut self, index: usize) -> &mut T
@@ -79,7 +92,7 @@ impl<T, A: Allocator + Copy> Chunk<T, A> {
         ensures* writes_back { sem 𝓛 (lends_in_chunk T.row A.row A.Allocator self.entry index result) }
         ensures value { result.now ≡ slice_index_or self.old index result.now }
     {
-        &mut self.nodes[index]
+        self.nodes.get_mut(index)
     }
 
     /// The nodes as a slice.
@@ -87,7 +100,7 @@ impl<T, A: Allocator + Copy> Chunk<T, A> {
         ensures* writes_back { sem 𝓛 (lends_nodes T.row A.row A.Allocator self.entry result) }
         ensures value { result.now ≡ self.old }
     {
-        self.nodes.as_mut_slice()
+        self.nodes.as_mut_slice(self.count)
     }
 
     /// Hands two nodes at once to `f`.
@@ -103,24 +116,43 @@ impl<T, A: Allocator + Copy> Chunk<T, A> {
         requires callable { F.IsAlwaysCallable f }
         ensures { UpdatesBoth F.FnOnce f self.old a b result self.new }
     {
-        let (x, y) = pair_of(self.nodes.as_mut_slice(), a, b);
-        f(x, y)
+        let nodes = self.nodes.as_mut_slice(self.count);
+        update_both(nodes, a, b, f)
     }
 
     pub(crate) fn end(self)
         requires { self ≡ [] }
     {
-        let Chunk { nodes } = self;
-        nodes.destroy_empty();
+        let Chunk {
+            nodes,
+            count: _,
+            deed,
+        } = self;
+        match deed {
+            Some(deed) => {
+                free(nodes, deed);
+            }
+            None => nodes.end(),
+        }
     }
 
     pub(crate) fn into_full(self) -> FullChunk<T, A>
         requires { (0 < length self) × (length self % 256 ≡ 0) }
         ensures { result.chunk ≡ self }
     {
-        let count = self.nodes.len();
+        let count = self.count;
         prove!(count == CHUNK_LEN);
         FullChunk { chunk: self }
+    }
+}
+
+// Each node is dropped, from the last to the first, and then the block is freed.
+impl<T: Drop, A: Allocator + Copy> Drop for Chunk<T, A> {
+    fn drop(mut self) {
+        while self.count > 0 {
+            drop(self.pop());
+        }
+        self.end();
     }
 }
 

@@ -2,6 +2,7 @@
 #![tactic(auto)]
 
 mod arena;
+mod block;
 mod chunk;
 mod full;
 mod id;

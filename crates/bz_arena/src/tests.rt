@@ -1,4 +1,5 @@
 use crate::{Arena, Id};
+use linked_list_allocator::LocalHeap;
 use std::alloc::{AllocError, Global};
 use std::cell::Cell;
 use std::test::Fail;
@@ -146,6 +147,40 @@ fn each_node_is_dropped_once(rt: HostRuntime) -> Result<(), Fail> {
         assert_eq!(rt; count.get(), 0);
     }
     assert_eq!(rt; count.get(), 1000);
+    Ok(())
+}
+
+// What the chunks took of a heap has gone back once the arena is dropped, and all of it once.
+#[test]
+fn blocks_go_back(rt: HostRuntime) -> Result<(), Fail> {
+    let heap = LocalHeap::new(rt.alloc(), 16384)?;
+    {
+        let mut arena = Arena::new(&heap);
+        for number in 0..600u32 {
+            assert!(rt; arena.push(number).is_ok());
+        }
+        assert!(rt; heap.used() >= 3072);
+    }
+    assert_eq!(rt; heap.used(), 0);
+    Ok(())
+}
+
+#[test]
+fn refused_by_a_full_heap(rt: HostRuntime) -> Result<(), Fail> {
+    let heap = LocalHeap::new(rt.alloc(), 2048)?;
+    {
+        let mut arena = Arena::new(&heap);
+        let mut refused = 0u32;
+        for number in 0..300u32 {
+            if let Err(back) = arena.push(number) {
+                assert_eq!(rt; back, number);
+                refused = refused.wrapping_add(1);
+            }
+        }
+        assert_eq!(rt; refused, 44);
+        assert_eq!(rt; arena.len(), 256);
+    }
+    assert_eq!(rt; heap.used(), 0);
     Ok(())
 }
 

@@ -17,7 +17,7 @@ use Rattle.bz_elab.specs.Walks.{Has, Differ}
 abbrev place : Path → ℕ → Place
 place path number = record { path = path; number = number }
 
-has_cases : {X : Type 0} (xs ys : List X) (x : X) → Has (xs ++ ys) x → Has xs x ⊎ Has ys x
+pub has_cases : {X : Type 0} (xs ys : List X) (x : X) → Has (xs ++ ys) x → Has xs x ⊎ Has ys x
 has_cases [] ys x h = inr h
 has_cases (z ∷ zs) ys x (inl e) = inl (inl e)
 has_cases (z ∷ zs) ys x (inr h) = elim (has_cases zs ys x h) [ inl a ↦ inl (inr a) | inr b ↦ inr b ]
@@ -44,11 +44,11 @@ places_differ path c zero = tt
 places_differ path c (suc n) = (λ h. let k = places_here path (suc c) n (record { path = path; number = c }) h in let m = k.1 in omega arith, places_differ path (suc c) n)
 
 -- a path goes on from another one
-abbrev Extends : Path → Path → Type 0
+abbrev pub Extends : Path → Path → Type 0
 Extends path q = (xs : Path) × (q ≡ xs ++ path)
 
 -- it goes on by component i or a later one
-abbrev ExtendsFrom : ℕ → Path → Path → Type 0
+abbrev pub ExtendsFrom : ℕ → Path → Path → Type 0
 ExtendsFrom i path q = (xs : Path) × (j : ℕ) × (i ≤ j) × (q ≡ xs ++ j ∷ path)
 
 nothing_below : (path : Path) (c : Component) (p : Place) → Has (flat_map own_places (leaf path c ∷ [])) p → ⊥

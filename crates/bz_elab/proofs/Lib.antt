@@ -14,6 +14,7 @@ pub mod Soundness
 pub mod Failing
 pub mod Distinct
 pub mod Leaves
+pub mod Rising
 pub mod Meeting
 pub mod Wiring
 pub mod Refusing

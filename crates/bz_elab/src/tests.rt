@@ -95,6 +95,29 @@ fn a_buffer(rt: HostRuntime) -> Result<(), Fail> {
     Ok(())
 }
 
+// Parts t0 to t60, each with two instances of the next: their copies are more than could be gone through.
+fn tree(alloc: Global) -> Result<String, Fail> {
+    let mut netlist = String::new(alloc);
+    for place in 0..60 {
+        let next = place + 1;
+        let part = format!(in alloc;
+            "(breeze-part \"t{place}\" (components (component \"t{next}\" () ()) (component \"t{next}\" () ())))"
+        )?;
+        netlist.push_str(part.as_str())?;
+    }
+    netlist.push_str("(breeze-part \"t60\")")?;
+    Ok(netlist)
+}
+
+#[test]
+fn a_tree_of_nothing(rt: HostRuntime) -> Result<(), Fail> {
+    let alloc = rt.alloc();
+    let netlist = tree(alloc)?;
+    let flat = net(alloc, netlist.as_str(), b"t0")??;
+    assert!(rt; flat.chan_count() == 0 && flat.comp_count() == 0);
+    Ok(())
+}
+
 #[test]
 fn one_channel_on_both_sides(rt: HostRuntime) -> Result<(), Fail> {
     let alloc = rt.alloc();

@@ -188,34 +188,20 @@ fn flatten(
     ensures err { IfErr result (Fails parts.now part.now depth draft.old) }
     ensures early { IfErr result (λ e. rank e ≤ 10) }
 {
+    let own = part.channels.as_slice();
     for (place, component) in part.components.iter().enumerate() {
         let spot = Spot {
             part: number,
             position: place + 1,
         };
         match find(parts, component.name.as_slice()) {
-            None => add_leaf(
-                alloc,
-                spot,
-                part.channels.as_slice(),
-                component,
-                chans,
-                draft,
-            )?,
+            None => add_leaf(alloc, spot, own, component, chans, draft)?,
             Some(inner) => {
                 if depth == 0 {
                     return Err(ElabError::TooDeep);
                 }
                 let inner_part = &parts.list()[inner];
-                let inner_chans = add_copy(
-                    alloc,
-                    spot,
-                    part.channels.as_slice(),
-                    component,
-                    inner_part,
-                    chans,
-                    draft,
-                )?;
+                let inner_chans = add_copy(alloc, spot, own, component, inner_part, chans, draft)?;
                 if !is_bare(totals, inner, depth - 1) {
                     flatten(
                         alloc,

@@ -17,7 +17,7 @@ pub returns-in_err-add_leaf-in-None-clause-err : goal.returns-in_err-add_leaf-in
 returns-in_err-add_leaf-in-None-clause-err t c =
     let p = err_from_is_err_and c.from_residual.result c.from_residual.ensures.1 in
     let none = sym (rw c.as_slice.ensures.value at c.in-None.ensures.part) in
-    let refused = rw c.as_slice-in-None.ensures.value at c.in_err-add_leaf-in-None.ensures.err in
+    let refused = rw c.as_slice-own.ensures.value at c.in_err-add_leaf-in-None.ensures.err in
     rw (p.1, p.2) (leaf_fails c.args.parts.now c.args.part.now c.args.number c.args.depth c.loop-place.place c.deref-component-items.result.now c.component-item.result _ _ _
     c.requires.part_is c.deref-component-items.ensures.value (omega arith) c.component-item.is none c.loop-place.invariant.counts refused)
 
@@ -34,7 +34,7 @@ returns-in_err-inner_chans-in-Some-clause-err t c =
     let p = err_from_is_err_and c.from_residual-in_err-inner_chans-in-Some.result c.from_residual-in_err-inner_chans-in-Some.ensures.1 in
     let inner = part_read c.args.parts.now _ c.in-Some.inner c.index-list-inner.result c.list.ensures.value c.in-Some.ensures.within c.index-list-inner.is in
     let some = sym (rw c.as_slice.ensures.value at c.in-Some.ensures.part) ∙ inner in
-    let refused = rw c.as_slice-in-Some.ensures.value at c.in_err-inner_chans-in-Some.ensures.err in
+    let refused = rw c.as_slice-own.ensures.value at c.in_err-inner_chans-in-Some.ensures.err in
     rw (p.1, p.2) (copy_fails c.args.parts.now c.args.part.now c.index-list-inner.result c.args.number c.args.depth c.loop-place.place c.deref-component-items.result.now c.component-item.result _ _ _
     c.requires.part_is c.deref-component-items.ensures.value (omega arith) c.component-item.is some (omega (arith, c.if-depth-eq0.false)) c.loop-place.invariant.counts refused)
 
@@ -67,7 +67,7 @@ loop-place-preserved t c =
     elim c.match-find.branch [
       | in-None+in_ok-add_leaf-in-None w ↦
           let none = sym (rw c.as_slice.ensures.value at w.in-None.ensures.part) in
-          let added = rw w.as_slice-in-None.ensures.value at w.in_ok-add_leaf-in-None.ensures.ok in
+          let added = rw c.as_slice-own.ensures.value at w.in_ok-add_leaf-in-None.ensures.ok in
           let new = w.add_leaf.new.draft in
           let ends = leaf_ends part.channels.items c.args.chans.now x added.named added.added added.flat added.actuals in
           rw w.draft-is (record {
@@ -86,7 +86,7 @@ loop-place-preserved t c =
           let inner = w.index-list-inner.result in
           let read = part_read parts _ w.in-Some.inner inner w.list.ensures.value w.in-Some.ensures.within w.index-list-inner.is in
           let some = sym (rw c.as_slice.ensures.value at w.in-Some.ensures.part) ∙ read in
-          let added = rw w.as_slice-in-Some.ensures.value at w.in_ok-inner_chans-in-Some.ensures.ok in
+          let added = rw c.as_slice-own.ensures.value at w.in_ok-inner_chans-in-Some.ensures.ok in
           let mid = w.add_copy.new.draft in
           let pos : 0 < c.args.depth = omega (arith, w.if-depth-eq0.false) in
           let count = actuals_count c.args.chans.now _ added.ports _ added.actuals added.sound.count in
@@ -130,12 +130,12 @@ returns-clause-counted t c path =
 pub returns-in_err-add_leaf-in-None-clause-early : goal.returns-in_err-add_leaf-in-None-clause-early
 returns-in_err-add_leaf-in-None-clause-early t c =
     let p = err_from_is_err_and c.from_residual.result c.from_residual.ensures.1 in
-    rw (p.1, p.2) (refused_early c.as_slice-in-None.result.now c.component-item.result (leaf_role c.component-item.result) c.loop-place.draft (leaf [] c.component-item.result) _ _ _ c.in_err-add_leaf-in-None.ensures.err)
+    rw (p.1, p.2) (refused_early c.as_slice-own.result.now c.component-item.result (leaf_role c.component-item.result) c.loop-place.draft (leaf [] c.component-item.result) _ _ _ c.in_err-add_leaf-in-None.ensures.err)
 
 pub returns-in_err-inner_chans-in-Some-clause-early : goal.returns-in_err-inner_chans-in-Some-clause-early
 returns-in_err-inner_chans-in-Some-clause-early t c =
     let p = err_from_is_err_and c.from_residual-in_err-inner_chans-in-Some.result c.from_residual-in_err-inner_chans-in-Some.ensures.1 in
-    rw (p.1, p.2) (refused_early c.as_slice-in-Some.result.now c.component-item.result (instance c.index-list-inner.result) c.loop-place.draft (copy (0 ∷ []) c.index-list-inner.result) _ _ _ c.in_err-inner_chans-in-Some.ensures.err)
+    rw (p.1, p.2) (refused_early c.as_slice-own.result.now c.component-item.result (instance c.index-list-inner.result) c.loop-place.draft (copy (0 ∷ []) c.index-list-inner.result) _ _ _ c.in_err-inner_chans-in-Some.ensures.err)
 
 pub returns-in_err-flatten-in-Some-clause-early : goal.returns-in_err-flatten-in-Some-clause-early
 returns-in_err-flatten-in-Some-clause-early t c =
