@@ -49,14 +49,14 @@ fn tell(rt: &HostRuntime, name: &str, is_right: bool) -> Result<(), Fail> {
     Ok(println!(rt; "{name}: {how}")?)
 }
 
-fn played(rt: &HostRuntime, name: &str, part: &str) -> Result<(), Fail> {
+fn played(rt: &HostRuntime, name: &str) -> Result<(), Fail> {
     let netlist = file(rt, name, "breeze")?;
     let words = file(rt, name, "words")?;
     let words: Vec<&str> = words.split_whitespace().take(WORDS).collect(rt.alloc())?;
     let outcome = play(
         rt.alloc(),
         netlist.as_bytes(),
-        part,
+        name,
         1_000_000,
         words.as_slice(),
     )?;
@@ -95,8 +95,8 @@ fn refused(rt: &HostRuntime, name: &str) -> Result<(), Fail> {
 }
 
 fn main(rt: HostRuntime) -> Result<(), Fail> {
-    for (name, part) in PLAYED {
-        played(&rt, name, part)?;
+    for name in PLAYED {
+        played(&rt, name)?;
     }
     for name in LISTED {
         listed(&rt, name)?;
