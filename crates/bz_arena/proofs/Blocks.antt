@@ -1,5 +1,5 @@
 -- Nodes by value are [the array of what the first places hold; the room after it], and a deed is [the allocator's token; the allocator]. Assumes `Logic`.
-use mathlib.Core.Path.{◌≡◌, refl, ap, subst, ◌∙◌}
+use mathlib.Core.Path.{◌≡◌, refl, subst, ◌∙◌}
 use mathlib.Core.List.{List, [], ◌∷◌, ◌++◌}
 use Prim.Native.Nat.{ℕ, zero, suc, ◌+◌, ◌-◌, ◌*◌, ◌<◌, ◌^◌}
 use native.Mathlib.Omega.{arith}
