@@ -1,4 +1,4 @@
--- Nodes by value are [the array of what the first places hold; the room after it], and a deed is [the allocator's token; the allocator]. Assumes `Logic`.
+-- Nodes by value are [the array of what the first places hold; the room after it], and a claim is [the allocator's token; the allocator]. Assumes `Logic`.
 use mathlib.Core.Path.{◌≡◌, refl, subst, ◌∙◌}
 use mathlib.Core.List.{List, [], ◌∷◌, ◌++◌}
 use Prim.Native.Nat.{ℕ, zero, suc, ◌+◌, ◌-◌, ◌*◌, ◌<◌, ◌^◌}
@@ -27,7 +27,7 @@ use Rattle.std_alloc.proofs.ResultValues.{and_tt}
 use Rattle.std_alloc.proofs.RawLayout.{as_raw, as_written}
 use Rattle.bz_arena.specs.Nodes.{places_own, block_of}
 use Rattle.bz_arena.specs.contracts.block.Nodes as N
-use Rattle.bz_arena.specs.contracts.block.Deed as D
+use Rattle.bz_arena.specs.contracts.block.Claim as D
 
 -- the one machine value of nodes that start at p
 abbrev pub at_start : Ptr → Val
@@ -86,33 +86,33 @@ module _ (E : El) (Z : Al) where
   abbrev pub args : Args
   args = bounded (a_type ∷ a_type ∷ []) (E.row, (Z.row, tt)) (dcons Z.d (dcons Z.drops dnil))
 
-  abbrev pub deed_type : Owning
-  deed_type = D.the_type (R E) (param 1 Z.row) Z.g
+  abbrev pub claim_type : Owning
+  claim_type = D.the_type (R E) (param 1 Z.row) Z.g
 
-  abbrev pub Dr : RattleType
-  Dr = D.the_row (R E) (param 1 Z.row) Z.g
+  abbrev pub Cr : RattleType
+  Cr = D.the_row (R E) (param 1 Z.row) Z.g
 
-  -- the machine value of a deed that starts at p, where hv is the allocator's
-  abbrev pub deed_val : Ptr → Val → Val
-  deed_val p hv = vstruct (vcons (ptr_val p) (vcons hv vnil))
+  -- the machine value of a claim that starts at p, where hv is the allocator's
+  abbrev pub claim_val : Ptr → Val → Val
+  claim_val p hv = vstruct (vcons (ptr_val p) (vcons hv vnil))
 
-  abbrev pub deed_ty : Ty
-  deed_ty = ty_struct deed_type.name (tcons ty_ptr (tcons (α Z) tnil))
+  abbrev pub claim_ty : Ty
+  claim_ty = ty_struct claim_type.name (tcons ty_ptr (tcons (α Z) tnil))
 
-  pub deed_good : (hv : Val) (b o : ℕ) → Fits Z hv → T (has_ty deed_ty (deed_val (block_ptr b o) hv)) × WT (deed_val (block_ptr b o) hv)
-  deed_good hv b o fits = (and_tt (has_ty (α Z) hv) fits.0, (tt, (fits.1, tt)))
+  pub claim_good : (hv : Val) (b o : ℕ) → Fits Z hv → T (has_ty claim_ty (claim_val (block_ptr b o) hv)) × WT (claim_val (block_ptr b o) hv)
+  claim_good hv b o fits = (and_tt (has_ty (α Z) hv) fits.0, (tt, (fits.1, tt)))
 
   module _ {M : Type 1} {𝓤 : Ura M} {𝓛 : Logic 𝓤} {K : Type 0} {Γ : List (Item 𝓤)} {G : Goal 𝓤 𝓛.H} where
-    pub deed_had : K → (d : Dr.Denot) (vs : List Val)
-        → ((hv : Val) → vs ≡ deed_val d.start hv ∷ [] → Fits Z hv → Seq K 𝓛 (‵ (token Z d.alloc (block_of (R E)) d.start) ∷ ‵ (Z.row.own_val d.alloc (hv ∷ [])) ∷ Γ) G)
-        → Seq K 𝓛 (‵ (Dr.own_val d vs) ∷ Γ) G
-    deed_had t d vs k =
+    pub claim_had : K → (d : Cr.Denot) (vs : List Val)
+        → ((hv : Val) → vs ≡ claim_val d.start hv ∷ [] → Fits Z hv → Seq K 𝓛 (‵ (token Z d.alloc (block_of (R E)) d.start) ∷ ‵ (Z.row.own_val d.alloc (hv ∷ [])) ∷ Γ) G)
+        → Seq K 𝓛 (‵ (Cr.own_val d vs) ∷ Γ) G
+    claim_had t d vs k =
         fsplit t $ fpick t (λ vss. fsplit t $ feq_l t (λ all. fsplit t $ feq_l t (λ first. fsplit t $ handle_tells Z t d.alloc vss.1.0 (λ hv second fits. move t (1 ∷ []) $ drop t $ move t (1 ∷ []) $
         k hv (all ∙ (λ i. vstruct (of_list (first i ++ (second i ++ []))) ∷ [])) fits))))
 
-    pub deed_made : K → {hv : Val} (a : Z.row.Denot) (b o : ℕ)
-        → Step K 𝓛 (‵ (Dr.own_val (record { start = block_ptr b o; alloc = a }) (deed_val (block_ptr b o) hv ∷ [])) ∷ Γ) G (‵ (token Z a (block_of (R E)) (block_ptr b o)) ∷ ‵ (Z.row.own_val a (hv ∷ [])) ∷ Γ) G
-    deed_made t {hv} a b o = step (λ s.
-        let v = deed_val (block_ptr b o) hv in
+    pub claim_made : K → {hv : Val} (a : Z.row.Denot) (b o : ℕ)
+        → Step K 𝓛 (‵ (Cr.own_val (record { start = block_ptr b o; alloc = a }) (claim_val (block_ptr b o) hv ∷ [])) ∷ Γ) G (‵ (token Z a (block_of (R E)) (block_ptr b o)) ∷ ‵ (Z.row.own_val a (hv ∷ [])) ∷ Γ) G
+    claim_made t {hv} a b o = step (λ s.
+        let v = claim_val (block_ptr b o) hv in
         nothing t $ move t (2 ∷ 0 ∷ []) $ fjoin t $ feq_i t (List Val) (vptr b o ∷ []) (vptr b o ∷ []) refl $ fjoin t $ feq_i t (List Val) (v ∷ []) (v ∷ []) refl $ fjoin t $
-        fpack t (Valss (RawPtr ∷ param 1 Z.row ∷ [])) (within (shape deed_type) (block_ptr b o, (a, tt)) (v ∷ [])) (vptr b o ∷ [], (hv ∷ [], tt)) $ fjoin t $ s)
+        fpack t (Valss (RawPtr ∷ param 1 Z.row ∷ [])) (within (shape claim_type) (block_ptr b o, (a, tt)) (v ∷ [])) (vptr b o ∷ [], (hv ∷ [], tt)) $ fjoin t $ s)

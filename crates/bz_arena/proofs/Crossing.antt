@@ -1,4 +1,4 @@
--- Nodes may cross threads where a node may, and a deed where its allocator may.
+-- Nodes may cross threads where a node may, and a claim where its allocator may.
 use mathlib.Core.List.{List}
 use Prim.Native.Nat.{ℕ}
 use lib.ListN.{length}
@@ -14,7 +14,7 @@ use Rattle.core.specs.declared.alloc.Allocator.{Ghosts}
 use Rattle.std_alloc.proofs.SendSync.{FreesAnywhere, quiet, seen}
 use Rattle.bz_arena.specs.Nodes.{nodes_own}
 use Rattle.bz_arena.specs.contracts.block.Nodes as Nodes
-use Rattle.bz_arena.specs.contracts.block.Deed as Deed
+use Rattle.bz_arena.specs.contracts.block.Claim as Claim
 
 module _ (R : RattleType) where
   keyless : IsSend R → (p : Ptr) (n : ℕ) (xs : List R.Denot) → Keyless (nodes_own R p n xs)
@@ -31,9 +31,9 @@ module _ (R : RattleType) where
   }
 
   module _ (A : RattleType) (g : Ghosts A.Denot) where
-    pub Deed-send : IsSend A → FreesAnywhere A.Denot g → IsSend (Deed.the_row R A g)
-    Deed-send s f = let O = Deed.the_type R A g in let all : AllSend (fields O) = (search sendable, (s, tt)) in
+    pub Claim-send : IsSend A → FreesAnywhere A.Denot g → IsSend (Claim.the_row R A g)
+    Claim-send s f = let O = Claim.the_type R A g in let all : AllSend (fields O) = (search sendable, (s, tt)) in
         owning_send O all (λ d. f.frees d.alloc _ d.start) (λ k. quiet (to O) (exits_of k (fields O)) ((struct_send (shape O) all).leaving k))
 
-    pub Deed-sync : IsSync A → IsSync (Deed.the_row R A g)
-    Deed-sync y = let O = Deed.the_type R A g in record { shared = λ d b o κ. ((struct_sync (shape O) (search sendable, (y, tt))).shared (to O d) b o κ, tt) }
+    pub Claim-sync : IsSync A → IsSync (Claim.the_row R A g)
+    Claim-sync y = let O = Claim.the_type R A g in record { shared = λ d b o κ. ((struct_sync (shape O) (search sendable, (y, tt))).shared (to O d) b o κ, tt) }

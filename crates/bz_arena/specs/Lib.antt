@@ -1,5 +1,5 @@
 pub mod Chunks
-pub mod Deeds
+pub mod Claims
 pub mod Lends
 pub mod Nodes
 pub mod Pairs

@@ -26,21 +26,21 @@ unsafe impl<T: Send> Send for Nodes<T> {}
 
 unsafe impl<T: Sync> Sync for Nodes<T> {}
 
-/// The right to give a block back to where it came from.
-pub struct Deed<T, A: Allocator> {
+/// The claim to a block: the right to give it back to where it came from.
+pub struct Claim<T, A: Allocator> {
     start: *mut T,
     alloc: A,
 }
 
-impl<T, A: Allocator> Model for Deed<T, A> {
-    ghost also_owns = { λ d. A.dealloc_token d.alloc (block_of T.row) d.start };
+impl<T, A: Allocator> Model for Claim<T, A> {
+    ghost also_owns = { λ c. A.dealloc_token c.alloc (block_of T.row) c.start };
 
     ghost also_shares = { λ _ _ _. ftrue };
 }
 
-unsafe impl<T, A: Allocator + Send> Send for Deed<T, A> {}
+unsafe impl<T, A: Allocator + Send> Send for Claim<T, A> {}
 
-unsafe impl<T, A: Allocator + Sync> Sync for Deed<T, A> {}
+unsafe impl<T, A: Allocator + Sync> Sync for Claim<T, A> {}
 
 /// A block that holds no node. In a signature the array itself would ask of each caller that it fits.
 pub struct Empty<T, A: Allocator> {
@@ -48,7 +48,7 @@ pub struct Empty<T, A: Allocator> {
 }
 
 /// A new block, where there is memory.
-pub(crate) fn allocate<T, A: Allocator + Copy>(alloc: A) -> Option<(Nodes<T>, Deed<T, A>)>
+pub(crate) fn allocate<T, A: Allocator + Copy>(alloc: A) -> Option<(Nodes<T>, Claim<T, A>)>
     ensures { IfSome result (λ r. (r.0.items ≡ []) × (r.0.places ≡ 256) × (r.1.start ≡ r.0.start)) }
 {
     if !may_hold::<T>(256) {
@@ -61,27 +61,27 @@ pub(crate) fn allocate<T, A: Allocator + Copy>(alloc: A) -> Option<(Nodes<T>, De
 }
 
 /// Gives a block back.
-pub(crate) fn free<T, A: Allocator + Copy>(nodes: Nodes<T>, deed: Deed<T, A>)
-    requires { (nodes.items ≡ []) × (nodes.places ≡ 256) × (deed.start ≡ nodes.start) }
+pub(crate) fn free<T, A: Allocator + Copy>(nodes: Nodes<T>, claim: Claim<T, A>)
+    requires { (nodes.items ≡ []) × (nodes.places ≡ 256) × (claim.start ≡ nodes.start) }
 {
-    let Empty { vacant } = close(nodes, deed);
+    let Empty { vacant } = close(nodes, claim);
     vacant.free();
 }
 
-fn open<T, A: Allocator>(vacant: Vacant<[T; 256], A>) -> (Nodes<T>, Deed<T, A>)
+fn open<T, A: Allocator>(vacant: Vacant<[T; 256], A>) -> (Nodes<T>, Claim<T, A>)
     ensures { (result.0.items ≡ []) × (result.0.places ≡ 256) × (result.1.start ≡ result.0.start) × (result.1.alloc ≡ vacant.alloc) }
 {
     let Vacant { ptr, alloc } = vacant;
     let start = ptr as *mut T;
-    (Nodes { start }, Deed { start, alloc })
+    (Nodes { start }, Claim { start, alloc })
 }
 
-fn close<T, A: Allocator>(nodes: Nodes<T>, deed: Deed<T, A>) -> Empty<T, A>
-    requires { (nodes.items ≡ []) × (nodes.places ≡ 256) × (deed.start ≡ nodes.start) }
-    ensures { result.vacant.alloc ≡ deed.alloc }
+fn close<T, A: Allocator>(nodes: Nodes<T>, claim: Claim<T, A>) -> Empty<T, A>
+    requires { (nodes.items ≡ []) × (nodes.places ≡ 256) × (claim.start ≡ nodes.start) }
+    ensures { result.vacant.alloc ≡ claim.alloc }
 {
     let Nodes { start } = nodes;
-    let Deed { start: _, alloc } = deed;
+    let Claim { start: _, alloc } = claim;
     let ptr = start as *mut [T; 256];
     Empty {
         vacant: Vacant { ptr, alloc },

@@ -2,7 +2,7 @@
 ghost use Rattle.std.specs.Prelude.{◌≡◌, ◌≢◌, ◌<◌, ◌≤◌, ◌%◌, ◌++◌, [], ◌∷◌, length, slice_index_or, IfOk, IfErr};
 ghost use Rattle.std.specs.Borrow.{sem};
 
-use crate::block::{Deed, Nodes, allocate, free};
+use crate::block::{Claim, Nodes, allocate, free};
 use crate::pair::{pair_of, update_both};
 use std::alloc::Allocator;
 use std::marker::Model;
@@ -13,18 +13,18 @@ pub(crate) const CHUNK_LEN: usize = 256;
 pub struct Chunk<T, A: Allocator + Copy> {
     nodes: Nodes<T>,
     count: usize,
-    deed: Option<Deed<T, A>>,
+    claim: Option<Claim<T, A>>,
 }
 
 impl<T, A: Allocator + Copy> Model for Chunk<T, A> {
     ghost use Rattle.std.specs.Prelude.{List, ◌≡◌, ◌≤◌, length};
-    ghost use Rattle.bz_arena.specs.Deeds.{IsDeedOf};
+    ghost use Rattle.bz_arena.specs.Claims.{IsClaimOf};
 
     ghost Value = { List T };
 
     ghost view = { λ c. c.nodes.items };
 
-    ghost invariant = { λ c. (c.count ≡ length c.nodes.items) × (c.count ≤ c.nodes.places) × IsDeedOf c.deed c.nodes };
+    ghost invariant = { λ c. (c.count ≡ length c.nodes.items) × (c.count ≤ c.nodes.places) × IsClaimOf c.claim c.nodes };
 }
 
 impl<T, A: Allocator + Copy> Chunk<T, A> {
@@ -37,7 +37,7 @@ impl<T, A: Allocator + Copy> Chunk<T, A> {
         Chunk {
             nodes: Nodes::none(),
             count: 0,
-            deed: None,
+            claim: None,
         }
     }
 
@@ -46,14 +46,14 @@ impl<T, A: Allocator + Copy> Chunk<T, A> {
         ensures made { IfOk result (λ c. c ≡ node ∷ []) }
         ensures handed_back { IfErr result (λ back. back ≡ node) }
     {
-        let Some((mut nodes, deed)) = allocate(alloc) else {
+        let Some((mut nodes, claim)) = allocate(alloc) else {
             return Err(node);
         };
         nodes.push(0, node);
         Ok(Chunk {
             nodes,
             count: 1,
-            deed: Some(deed),
+            claim: Some(claim),
         })
     }
 
@@ -126,11 +126,11 @@ impl<T, A: Allocator + Copy> Chunk<T, A> {
         let Chunk {
             nodes,
             count: _,
-            deed,
+            claim,
         } = self;
-        match deed {
-            Some(deed) => {
-                free(nodes, deed);
+        match claim {
+            Some(claim) => {
+                free(nodes, claim);
             }
             None => nodes.end(),
         }

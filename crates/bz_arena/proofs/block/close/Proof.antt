@@ -34,7 +34,7 @@ use Rattle.std_alloc.proofs.RawLayout.{as_raw}
 use Rattle.std_alloc.proofs.ResultValues.{and_tt}
 use Rattle.std_alloc.proofs.OfVacant as vacant
 use Rattle.bz_arena.specs.Nodes.{block_of}
-use Rattle.bz_arena.proofs.Blocks.{Nr, nodes_had, at_start, args, Dr, deed_val, deed_good, deed_had}
+use Rattle.bz_arena.proofs.Blocks.{Nr, nodes_had, at_start, args, Cr, claim_val, claim_good, claim_had}
 use Rattle.bz_arena.specs.contracts.block.close.{ended, clauses}
 use Rattle.bz_arena.proofs.block.close.Statement.{statement}
 use Rattle.bz_arena.specs.contracts.block.Empty as Em
@@ -46,18 +46,18 @@ close_spec 𝓤 𝓛 𝓜 𝓡 wired T' A L LA g d dd met met_drop =
     let H = 𝓛.H in let 𝓣 = tables 𝓤 H 𝓜 𝓡 𝓡.env in let E : El = record { row = T'; laws = L } in let Z : Al = record { row = A; laws = LA; g = g; d = d; drops = dd } in
     let En = ended T' A g d dd in let c = clauses T' A g d dd 𝓛 𝓜.mem 𝓡.returns in let inst = args E Z in let fn = inst_fn inst code.function in
     let Y : RattleType = Array (R E) 256 in let V : RattleType = vacant.Vacant Z Y in
-    let hs : Stays En.signature.params En.kept = (stay_dropped (plain (λ _. Nr E)) no, (stay_dropped (plain (λ _. Dr E Z)) no, tt)) in
-    proved_at 𝓛 En hs c 𝓜 𝓡 (Goes-blank 𝓛 2 (plain (λ _. Nr E)) no (λ κs x f. tt), (Goes-blank 𝓛 2 (plain (λ _. Dr E Z)) no (λ κs x f. tt), tt)) (#self inst) fn (code.unfolded 𝓤 H 𝓜 𝓡 wired (T', (A, tt)) d dd) (λ z are.
+    let hs : Stays En.signature.params En.kept = (stay_dropped (plain (λ _. Nr E)) no, (stay_dropped (plain (λ _. Cr E Z)) no, tt)) in
+    proved_at 𝓛 En hs c 𝓜 𝓡 (Goes-blank 𝓛 2 (plain (λ _. Nr E)) no (λ κs x f. tt), (Goes-blank 𝓛 2 (plain (λ _. Cr E Z)) no (λ κs x f. tt), tt)) (#self inst) fn (code.unfolded 𝓤 H 𝓜 𝓡 wired (T', (A, tt)) d dd) (λ z are.
     let κs = z.0.0 in let qs = z.0.1 in let n = z.0.3.0 in let m = z.0.3.1.0 in let a = m.alloc in let Post : Val → SProp 𝓤 = (walk_of 𝓛 En hs c).post z in let Run : List Val → SProp 𝓤 = λ ws. WpFn 𝓤 H 𝓣.C 𝓣.Λ fn ws Post in
     let Asked : Type 0 = (n.items ≡ []) × (n.places ≡ 256) × (m.start ≡ n.start) in let toks = ‵ (flft κs.0 qs.0) ⊛ ‵ (flft κs.1.0 qs.1.0) ⊛ ‵ ftrue in
     qed 𝓛 ((toks ⊛ ‵ (owns (types_at En.signature.params κs) z.0.3 z.0.4)) ∷ raw (fact 𝓤 (κs.0 ⊑ T'.lives)) ∷ raw (fact 𝓤 (κs.1.0 ⊑ A.lives)) ∷ raw (fact 𝓤 Asked) ∷ []) ∵
-    move ! (3 ∷ []) $ heard ! Asked (λ asked. keep ! (0 ∷ []) $ split ! $ move ! (1 ∷ []) $ fsplit ! $ nodes_had E ! n z.0.4.0 (λ b o e is small. move ! (2 ∷ []) $ fsplit ! $ deed_had E Z ! m z.0.4.1.0 (λ hv is' fits.
+    move ! (3 ∷ []) $ heard ! Asked (λ asked. keep ! (0 ∷ []) $ split ! $ move ! (1 ∷ []) $ fsplit ! $ nodes_had E ! n z.0.4.0 (λ b o e is small. move ! (2 ∷ []) $ fsplit ! $ claim_had E Z ! m z.0.4.1.0 (λ hv is' fits.
     -- [the token; the allocator; nothing; the array; the room; the tokens of lifetimes]
-    keep ! (0 ∷ 1 ∷ 4 ∷ 5 ∷ []) $ let v = at_start (block_ptr b o) in let w = deed_val E Z (block_ptr b o) hv in let at : m.start ≡ block_ptr b o = asked.2 ∙ e in
-    let second : z.0.4.1.0 ≡ w ∷ [] = is' ∙ ap (λ (p : Ptr). deed_val E Z p hv ∷ []) at in
+    keep ! (0 ∷ 1 ∷ 4 ∷ 5 ∷ []) $ let v = at_start (block_ptr b o) in let w = claim_val E Z (block_ptr b o) hv in let at : m.start ≡ block_ptr b o = asked.2 ∙ e in
+    let second : z.0.4.1.0 ≡ w ∷ [] = is' ∙ ap (λ (p : Ptr). claim_val E Z p hv ∷ []) at in
     suffices ! (Run (v ∷ w ∷ [])) (subst (λ (us : List Val). ent 𝓤 (Run (v ∷ w ∷ [])) (Run us)) (sym (λ i. is i ++ (second i ++ []))) (id⊢ 𝓤 (Run (v ∷ w ∷ [])))) $
     let u = vacant.vacant_val hv b o in let good = vacant.vacant_typed Z Y hv b o fits in let x : Val = vstruct (vcons u vnil) in
-    enter ! 𝓣.C 𝓣.Λ fn (v ∷ w ∷ []) Post $ alloc_all ! (λ l. pass_all ! refl ((tt, (tt, tt)), (deed_good E Z hv b o fits, tt)) $
+    enter ! 𝓣.C 𝓣.Λ fn (v ∷ w ∷ []) Post $ alloc_all ! (λ l. pass_all ! refl ((tt, (tt, tt)), (claim_good E Z hv b o fits, tt)) $
     sets ! (of_opd ! (get_in ! (fld ! refl (stop !)) (sub ! 0 refl (whole !)))) refl (tt, tt) $ sets ! (of_opd ! (get_in ! (fld ! refl (stop !)) (sub ! 1 refl (whole !)))) refl fits $
     sets ! (of_opd ! (get ! refl)) refl (tt, tt) $ sets ! (of_opd ! (get ! refl)) refl fits $
     sets ! (agg ! (and_then ! (get ! refl) (and_then ! (get ! refl) (no_more !)))) refl good $

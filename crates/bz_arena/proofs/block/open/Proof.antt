@@ -37,7 +37,7 @@ use Rattle.std.proofs.raw_atomic.Walks.{proved_at, leaves}
 use Rattle.std_alloc.proofs.RawLayout.{as_written}
 use Rattle.std_alloc.proofs.ResultValues.{and_tt}
 use Rattle.std_alloc.proofs.OfVacant as vacant
-use Rattle.bz_arena.proofs.Blocks.{Nr, nodes, nodes_made, at_start, args, Dr, deed_val, deed_ty, deed_good, deed_made}
+use Rattle.bz_arena.proofs.Blocks.{Nr, nodes, nodes_made, at_start, args, Cr, claim_val, claim_ty, claim_good, claim_made}
 use Rattle.bz_arena.specs.contracts.block.open.{ended, clauses}
 use Rattle.bz_arena.proofs.block.open.Statement.{statement}
 use Rattle.bz_arena.specs.contracts.block.open.Key.{name as #self}
@@ -58,16 +58,16 @@ open_spec 𝓤 𝓛 𝓜 𝓡 wired T' A L LA g d dd met met_drop =
     keep ! (0 ∷ 1 ∷ 2 ∷ 4 ∷ []) $ let w = vacant.vacant_val hv b o in
     suffices ! (Run (w ∷ [])) (subst (λ (us : List Val). ent 𝓤 (Run (w ∷ [])) (Run us)) (sym (λ i. is i ++ [])) (id⊢ 𝓤 (Run (w ∷ [])))) $
     enter ! 𝓣.C 𝓣.Λ fn (w ∷ []) Post $ alloc_all ! (λ l. pass_all ! refl (vacant.vacant_typed Z Y hv b o fits, tt) $
-    let n = at_start (block_ptr b o) in let m = deed_val E Z (block_ptr b o) hv in let pair : Val = vstruct (vcons n (vcons m vnil)) in let good = deed_good E Z hv b o fits in
+    let n = at_start (block_ptr b o) in let m = claim_val E Z (block_ptr b o) hv in let pair : Val = vstruct (vcons n (vcons m vnil)) in let good = claim_good E Z hv b o fits in
     sets ! (of_opd ! (get_in ! (fld ! refl (stop !)) (sub ! 0 refl (whole !)))) refl (tt, tt) $ sets ! (of_opd ! (get_in ! (fld ! refl (stop !)) (sub ! 1 refl (whole !)))) refl fits $
     sets ! (of_opd ! (get ! refl)) refl (tt, tt) $ sets ! (agg ! (and_then ! (get ! refl) (no_more !))) refl (tt, (tt, tt)) $ sets ! (of_opd ! (get ! refl)) refl fits $
     sets ! (agg ! (and_then ! (get ! refl) (and_then ! (get ! refl) (no_more !)))) refl good $
-    sets ! (agg ! (and_then ! (get ! refl) (and_then ! (get ! refl) (no_more !)))) refl (and_tt (has_ty (deed_ty E Z) m) good.0, ((tt, tt), (good.1, tt))) $
+    sets ! (agg ! (and_then ! (get ! refl) (and_then ! (get ! refl) (no_more !)))) refl (and_tt (has_ty (claim_ty E Z) m) good.0, ((tt, tt), (good.1, tt))) $
     returns ! (look_at ! 0 refl) $ free_all ! refl $ as_written ! (ty_array (elτ E) 256) b o $
     rewrite ! 0 (λ (k : ℕ). ‵ (froom (ty_array (elτ E) 256) b k)) {x = o + 0 * sz E} (omega (arith, zero-mul (sz E))) refl $
-    use0 𝓛 (‵ (part_at (Array (R E) 0) full_share [] b o)) (empty E 𝓛 [] b o refl) $ nodes_made E ! b o 256 [] small $ move ! (1 ∷ 2 ∷ []) $ deed_made E Z ! a b o $
-    let new : (Nr E).Denot = nodes E b o 256 [] in let deed : (Dr E Z).Denot = record { start = block_ptr b o; alloc = a } in
+    use0 𝓛 (‵ (part_at (Array (R E) 0) full_share [] b o)) (empty E 𝓛 [] b o refl) $ nodes_made E ! b o 256 [] small $ move ! (1 ∷ 2 ∷ []) $ claim_made E Z ! a b o $
+    let new : (Nr E).Denot = nodes E b o 256 [] in let claim : (Cr E Z).Denot = record { start = block_ptr b o; alloc = a } in
     nothing ! $ move ! (2 ∷ 1 ∷ 0 ∷ []) $ fjoin3 ! $ feq_i ! (List Val) (pair ∷ []) (pair ∷ []) refl $ fjoin ! $
-    fpack ! (Valss (Nr E ∷ Dr E Z ∷ [])) (within (declared.shape (tuple_type (Nr E ∷ Dr E Z ∷ []))) (new, (deed, tt)) (pair ∷ [])) (n ∷ [], (m ∷ [], tt)) $
-    let Said : Type 0 = (new.items ≡ []) × (new.places ≡ 256) × (deed.start ≡ new.start) × (deed.alloc ≡ a) in
-    use0 𝓛 (raw (fact 𝓤 Said)) (fact_i 𝓤 Said (emp 𝓤) (refl, refl, refl, refl)) $ nothing ! $ nothing ! $ fjoin ! $ move ! (3 ∷ 0 ∷ 2 ∷ 1 ∷ []) $ by ! (leaves 𝓛 En hs c z pair (new, deed) ((tt, (tt, tt)), tt) (tt, tt))))))
+    fpack ! (Valss (Nr E ∷ Cr E Z ∷ [])) (within (declared.shape (tuple_type (Nr E ∷ Cr E Z ∷ []))) (new, (claim, tt)) (pair ∷ [])) (n ∷ [], (m ∷ [], tt)) $
+    let Said : Type 0 = (new.items ≡ []) × (new.places ≡ 256) × (claim.start ≡ new.start) × (claim.alloc ≡ a) in
+    use0 𝓛 (raw (fact 𝓤 Said)) (fact_i 𝓤 Said (emp 𝓤) (refl, refl, refl, refl)) $ nothing ! $ nothing ! $ fjoin ! $ move ! (3 ∷ 0 ∷ 2 ∷ 1 ∷ []) $ by ! (leaves 𝓛 En hs c z pair (new, claim) ((tt, (tt, tt)), tt) (tt, tt))))))
