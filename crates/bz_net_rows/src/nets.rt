@@ -4,6 +4,7 @@ use bz_model::{Entry, HostCmd, Move, NetError, Phase, Reply, Verb, Who};
 use bz_net::{Answer, Event, Net, RestReply, RunEnd};
 use bz_playing::net_of;
 use bz_playing::netlists::{BUFFER, CELL, KNOT};
+use std::alloc::Global;
 use std::process::Abort;
 use std::test::Fail;
 
@@ -177,13 +178,19 @@ fn any_event_by_one_call(rt: HostRuntime) -> Result<(), Fail> {
     Ok(())
 }
 
-#[test]
-fn copies_go_apart(rt: HostRuntime) -> Result<(), Fail> {
-    let mut net = net_of(rt.alloc(), BUFFER, "buffer", 3)?;
+// A net of two events, and room for one more.
+fn begun(rt: &impl Abort, alloc: Global) -> Result<Net, Fail> {
+    let mut net = net_of(alloc, BUFFER, "buffer", 3)?;
     assert!(rt; net.reserve(3).is_ok());
     assert_eq!(rt; net.offer(HOST, b"activate", None), Ok(Reply::Done));
     assert_eq!(rt; net.fire(WORKER, 2), Ok(fired(2, 1, 1, Move::Take, None)));
-    let mut copy = net.dup(rt.alloc())?;
+    Ok(net)
+}
+
+#[test]
+fn a_copy_is_equal(rt: HostRuntime) -> Result<(), Fail> {
+    let net = begun(&rt, rt.alloc())?;
+    let copy = net.dup(rt.alloc())?;
     assert_eq!(rt; copy.journal(), net.journal());
     for chan in 1..9 {
         assert_eq!(rt; phase_of(&rt, &copy, chan), phase_of(&rt, &net, chan));
@@ -194,7 +201,14 @@ fn copies_go_apart(rt: HostRuntime) -> Result<(), Fail> {
     }
     assert_eq!(rt; copy.next_ready(1), net.next_ready(1));
     assert_eq!(rt; copy.names().name(2), net.names().name(2));
-    // what one copy does, the other has still to do
+    Ok(())
+}
+
+// What one copy does, the other has still to do.
+#[test]
+fn copies_go_apart(rt: HostRuntime) -> Result<(), Fail> {
+    let mut net = begun(&rt, rt.alloc())?;
+    let mut copy = net.dup(rt.alloc())?;
     assert_eq!(rt; copy.fire(WORKER, 2), Ok(fired(2, 2, 4, Move::Ask, None)));
     assert_eq!(rt; net.journal().len(), 2);
     assert_eq!(rt; copy.journal().len(), 3);
