@@ -45,6 +45,8 @@ pub(crate) fn flat_of(alloc: Global, part: &[u8], text: &[u8]) -> Result<Flat, F
         Err(BreezeError::Memory) => return Err(Fault::Memory),
         Err(error) => return Err(Fault::Part(error)),
     };
+    // the records have all that is wanted of the data, which take most of the memory
+    drop(data);
     match elaborate(alloc, &parts, part) {
         Ok(flat) => Ok(flat),
         Err(ElabError::Memory) => Err(Fault::Memory),
