@@ -71,6 +71,8 @@ def main():
             moves(programs, "pipeline", size, netlist("pipeline", size))
         for size in (64, 4096, 100000):
             moves(programs, "loops", size, netlist("loops", size))
+        for size in (16, 4096):
+            moves(programs, "array", size, netlist("array", size))
         for shape in ("large", "tree"):
             text = netlist(shape, 1000000)
             print(f"{shape}: {os.path.getsize(text)} bytes")

@@ -3,6 +3,7 @@
 
     netlists.py loops N       N Loops, each driving a Continue, started side by side by Concurs
     netlists.py pipeline N    N one-place buffers in a row, from a Constant to a ContinuePush
+    netlists.py array N       a Loop that drives a Concur with N outputs, at most 4096, each to a Continue
     netlists.py large N       a part of N components or a few less, most of them Continues under Sequences
     netlists.py tree N        some 20 small parts, most of them with two instances of the next, N components in all
 
@@ -85,6 +86,15 @@ def pipeline(count):
     return net
 
 
+def array(count):
+    net = Netlist()
+    again = net.channel()
+    net.component("Loop", [1, again])
+    for out in start(net, again, count):
+        net.component("Continue", [out])
+    return net
+
+
 def large(count):
     net = Netlist()
     waiting = [1]
@@ -127,7 +137,7 @@ def part(name, ports, components):
 
 
 def main():
-    shapes = {"loops": loops, "pipeline": pipeline, "large": large, "tree": Tree}
+    shapes = {"loops": loops, "pipeline": pipeline, "array": array, "large": large, "tree": Tree}
     if len(sys.argv) != 3 or sys.argv[1] not in shapes:
         sys.exit(__doc__)
     sys.stdout.write(shapes[sys.argv[1]](int(sys.argv[2])).text())

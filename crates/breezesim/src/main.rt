@@ -1,13 +1,15 @@
 //! The program `breezesim`.
 #![tactic(auto)]
 
-use bz_cli::{Fault, list_cmd, run_cmd};
+use bz_cli::{Fault, check_cmd, list_cmd, run_cmd};
+use bz_session::read_name;
 use clap::error::ErrorKind;
 use clap::{Arg, ArgAction, ArgMatches, Command, Error, value_parser};
 use std::alloc::{AllocError, Global};
 use std::io;
 use std::io::BufWriter;
 use std::process::ExitCode;
+use std::rt::Env;
 
 /// The longest journal that may be asked for, in entries.
 const MAX_JOURNAL: u32 = 16_777_216;
@@ -18,17 +20,38 @@ const JOURNAL: u32 = 1_000_000;
 /// How many bytes of output are gathered before they go out.
 const BUFFER_SIZE: usize = 65_536;
 
+/// The status of a trace that is not that of a run.
+const NO_RUN: u8 = 1;
+
 /// The status of a bad command line.
 const BAD_COMMAND_LINE: u8 = 2;
 
-fn part_arg<'a>(alloc: Global) -> Arg<'a> {
+/// Why the words of the command line can't be had.
+#[derive(Clone, Copy, Debug, PartialEq, Eq)]
+enum ArgsFault {
+    /// One of them is not UTF-8.
+    NotText,
+    Memory,
+}
+
+fn part_arg<'a>(alloc: Global) -> Result<Arg<'a>, AllocError> {
     Arg::new(alloc, "part")
         .long("part")
         .value_name("P")
         .help("The part whose net is opened")
-        .required(true)
         .allow_hyphen_values(true)
         .action(ArgAction::Set)
+        .required_unless_present("part-form")
+}
+
+fn part_form_arg<'a>(alloc: Global) -> Result<Arg<'a>, AllocError> {
+    Arg::new(alloc, "part-form")
+        .long("part-form")
+        .value_name("F")
+        .help("The same part, its name in name form: %ff is the byte 255")
+        .allow_hyphen_values(true)
+        .action(ArgAction::Set)
+        .conflicts_with("part")
 }
 
 fn journal_arg<'a>(alloc: Global) -> Arg<'a> {
@@ -51,22 +74,53 @@ fn words_arg<'a>(alloc: Global) -> Arg<'a> {
 fn command_line<'a>(alloc: Global) -> Result<Command<'a>, AllocError> {
     let run = Command::new(alloc, "run")
         .about("Plays the words on a part of the netlist on standard input, and writes the trace")
-        .arg(part_arg(alloc))?
+        .arg(part_arg(alloc)?)?
+        .arg(part_form_arg(alloc)?)?
         .arg(journal_arg(alloc))?
         .arg(words_arg(alloc))?;
     let list = Command::new(alloc, "list")
         .about("Lists the ports and components of a part's net, of the netlist on standard input")
-        .arg(part_arg(alloc))?;
+        .arg(part_arg(alloc)?)?
+        .arg(part_form_arg(alloc)?)?;
+    let check = Command::new(alloc, "check")
+        .about(
+            "Tells whether the trace behind the netlist on standard input is that of a run of a part's net",
+        )
+        .arg(part_arg(alloc)?)?
+        .arg(part_form_arg(alloc)?)?;
     Command::new(alloc, "breezesim")
-        .about("A simulator of Breeze handshake circuits in which every answer is proved")
+        .about(
+            "A simulator of Breeze handshake circuits, proved in what it plays, lists and refuses",
+        )
         .subcommand_required(true)
         .subcommand(list)?
+        .subcommand(check)?
         .subcommand(run)
+}
+
+// The name of the part that is asked for, or the status with which the program ends.
+fn part_name<'a>(rt: &HostRuntime, matches: &ArgMatches<'a>) -> Result<Vec<u8>, ExitCode> {
+    let alloc = rt.alloc();
+    let name = match matches.get_str("part-form") {
+        Some(form) => read_name(alloc, form.as_bytes()),
+        None => {
+            let name = matches.get_str("part").unwrap_or("");
+            Vec::from_slice(alloc, name.as_bytes()).map(Some)
+        }
+    };
+    match name {
+        Ok(Some(name)) => Ok(name),
+        Ok(None) => Err(reject(rt, "what stands behind --part-form is no name form")),
+        Err(_) => Err(refuse(rt, &Fault::Memory)),
+    }
 }
 
 fn run<'a>(rt: &HostRuntime, matches: &ArgMatches<'a>) -> ExitCode {
     let alloc = rt.alloc();
-    let part = matches.get_str("part").unwrap_or("");
+    let part = match part_name(rt, matches) {
+        Ok(part) => part,
+        Err(status) => return status,
+    };
     let journal = matches.get_one::<u32>("journal").unwrap_or(JOURNAL);
     let words = matches.get_strs("words").unwrap_or(&[]);
     if journal == 0 || journal > MAX_JOURNAL {
@@ -77,7 +131,7 @@ fn run<'a>(rt: &HostRuntime, matches: &ArgMatches<'a>) -> ExitCode {
     };
     let result = run_cmd(
         alloc,
-        part.as_bytes(),
+        part.as_slice(),
         journal,
         words,
         &mut rt.reader(),
@@ -87,14 +141,32 @@ fn run<'a>(rt: &HostRuntime, matches: &ArgMatches<'a>) -> ExitCode {
 }
 
 fn list<'a>(rt: &HostRuntime, matches: &ArgMatches<'a>) -> ExitCode {
-    let part = matches.get_str("part").unwrap_or("");
-    let Ok(mut output) = BufWriter::with_capacity(rt.alloc(), BUFFER_SIZE, io::writer(rt)) else {
+    let alloc = rt.alloc();
+    let part = match part_name(rt, matches) {
+        Ok(part) => part,
+        Err(status) => return status,
+    };
+    let Ok(mut output) = BufWriter::with_capacity(alloc, BUFFER_SIZE, io::writer(rt)) else {
         return refuse(rt, &Fault::Memory);
     };
-    ends(
-        rt,
-        list_cmd(rt.alloc(), part.as_bytes(), &mut rt.reader(), &mut output),
-    )
+    let result = list_cmd(alloc, part.as_slice(), &mut rt.reader(), &mut output);
+    ends(rt, result)
+}
+
+fn check<'a>(rt: &HostRuntime, matches: &ArgMatches<'a>) -> ExitCode {
+    let alloc = rt.alloc();
+    let part = match part_name(rt, matches) {
+        Ok(part) => part,
+        Err(status) => return status,
+    };
+    let Ok(mut output) = BufWriter::with_capacity(alloc, BUFFER_SIZE, io::writer(rt)) else {
+        return refuse(rt, &Fault::Memory);
+    };
+    match check_cmd(alloc, part.as_slice(), &mut rt.reader(), &mut output) {
+        Ok(true) => ExitCode::SUCCESS,
+        Ok(false) => ExitCode::from(NO_RUN),
+        Err(fault) => refuse(rt, &fault),
+    }
 }
 
 // The exit status of a command.
@@ -111,6 +183,12 @@ fn refuse(rt: &HostRuntime, fault: &Fault) -> ExitCode {
     ExitCode::from(fault.status())
 }
 
+// Ends with a bad command line.
+fn reject(rt: &HostRuntime, line: &str) -> ExitCode {
+    let _ = eprintln!(rt; "breezesim: {line}");
+    ExitCode::from(BAD_COMMAND_LINE)
+}
+
 // Ends with a bad command line, or with the help that was asked for.
 fn explain(rt: &HostRuntime, error: &Error) -> ExitCode {
     if let ErrorKind::OutOfMemory = error.kind() {
@@ -124,9 +202,14 @@ fn explain(rt: &HostRuntime, error: &Error) -> ExitCode {
     }
 }
 
-fn words_of(rt: &HostRuntime) -> Result<Vec<String>, Fault> {
-    let args = std::env::args(rt).map_err(|_| Fault::Memory)?;
-    args.collect(rt.alloc()).map_err(|_| Fault::Memory)
+fn words_of<R: Env + Alloc<A = Global>>(rt: &R) -> Result<Vec<String>, ArgsFault> {
+    match std::env::args(rt) {
+        Ok(args) => args.collect(rt.alloc()).map_err(|_| ArgsFault::Memory),
+        Err(error) => match error.kind() {
+            io::ErrorKind::InvalidData => Err(ArgsFault::NotText),
+            _ => Err(ArgsFault::Memory),
+        },
+    }
 }
 
 #[cfg(test)]
@@ -135,7 +218,8 @@ mod tests;
 fn main(rt: HostRuntime) -> ExitCode {
     let words = match words_of(&rt) {
         Ok(words) => words,
-        Err(fault) => return refuse(&rt, &fault),
+        Err(ArgsFault::NotText) => return reject(&rt, "a word of the command line is not UTF-8"),
+        Err(ArgsFault::Memory) => return refuse(&rt, &Fault::Memory),
     };
     let Ok(command) = command_line(rt.alloc()) else {
         return refuse(&rt, &Fault::Memory);
@@ -143,6 +227,7 @@ fn main(rt: HostRuntime) -> ExitCode {
     match command.try_get_matches_from(words.as_slice()) {
         Err(error) => explain(&rt, &error),
         Ok(matches) => match matches.subcommand() {
+            Some(("check", matches)) => check(&rt, matches),
             Some(("list", matches)) => list(&rt, matches),
             Some(("run", matches)) => run(&rt, matches),
             _ => ExitCode::from(BAD_COMMAND_LINE),

@@ -1,17 +1,28 @@
 //! What the command line takes.
 
-use crate::{MAX_JOURNAL, command_line};
+use crate::{ArgsFault, MAX_JOURNAL, command_line, words_of};
 use clap::error::ErrorKind;
+use std::alloc::Global;
+use std::env::FillError;
+use std::rt::Env;
 use std::test::Fail;
 
 #[test]
 fn bad_command_lines(rt: HostRuntime) -> Result<(), Fail> {
-    let cases: [(&[&str], ErrorKind); 9] = [
+    let cases: [(&[&str], ErrorKind); 11] = [
         (&["breezesim"], ErrorKind::MissingSubcommand),
         (&["breezesim", "play"], ErrorKind::InvalidSubcommand),
         (&["breezesim", "run"], ErrorKind::MissingRequiredArgument),
         (&["breezesim", "list"], ErrorKind::MissingRequiredArgument),
         (&["breezesim", "run", "--part"], ErrorKind::InvalidValue),
+        (
+            &["breezesim", "list", "--part-form"],
+            ErrorKind::InvalidValue,
+        ),
+        (
+            &["breezesim", "list", "--part", "p", "--part-form", "p"],
+            ErrorKind::ArgumentConflict,
+        ),
         (
             &["breezesim", "run", "--part", "p", "--journal", "0"],
             ErrorKind::ValueValidation,
@@ -57,5 +68,85 @@ fn options_of_run(rt: HostRuntime) -> Result<(), Fail> {
     };
     assert_eq!(rt; matches.get_str("part"), Some("-p q"));
     assert_eq!(rt; matches.get_one::<u32>("journal"), Some(MAX_JOURNAL));
+    Ok(())
+}
+
+#[test]
+fn part_in_name_form(rt: HostRuntime) -> Result<(), Fail> {
+    for name in ["list", "run"] {
+        let command = command_line(rt.alloc())?;
+        let words = ["breezesim", name, "--part-form", "-%ff"];
+        let Ok(matches) = command.try_get_matches_from(&words) else {
+            return Err(Fail::from("refused"));
+        };
+        let Some((_, matches)) = matches.subcommand() else {
+            return Err(Fail::from("no subcommand"));
+        };
+        assert_eq!(rt; matches.get_str("part-form"), Some("-%ff"));
+        assert_eq!(rt; matches.get_str("part"), None);
+    }
+    Ok(())
+}
+
+/// A system with these arguments.
+#[derive(Drop)]
+struct System<'a> {
+    args: &'a [&'a [u8]],
+    alloc: Global,
+}
+
+impl Env for System<'_> {
+    fn arg(&self, i: usize, buf: &mut [u8]) -> Result<usize, FillError> {
+        let Some(arg) = self.args.get(i) else {
+            return Err(FillError::NotPresent);
+        };
+        if arg.len() > buf.len() {
+            return Err(FillError::TooLong);
+        }
+        buf[..arg.len()].copy_from_slice(arg);
+        Ok(arg.len())
+    }
+
+    fn var(&self, _name: &str, _buf: &mut [u8]) -> Result<usize, FillError> {
+        Err(FillError::NotPresent)
+    }
+
+    fn var_at(&self, _i: usize, _buf: &mut [u8]) -> Result<usize, FillError> {
+        Err(FillError::NotPresent)
+    }
+}
+
+impl Alloc for System<'_> {
+    type A = Global;
+
+    fn alloc(&self) -> Global {
+        self.alloc
+    }
+}
+
+#[test]
+fn words_that_are_no_text(rt: HostRuntime) -> Result<(), Fail> {
+    let alloc = rt.alloc();
+    let bad: [&[&[u8]]; 3] = [
+        &[b"breezesim", b"run", b"--part", b"\xff"],
+        &[b"breezesim", b"\xc3("],
+        &[b"\x80"],
+    ];
+    for args in bad {
+        let system = System { args, alloc };
+        match words_of(&system) {
+            Ok(_) => assert!(rt; false),
+            Err(fault) => assert_eq!(rt; fault, ArgsFault::NotText),
+        }
+    }
+    let system = System {
+        args: &[b"breezesim", b"", b"\xc3\xa9"],
+        alloc,
+    };
+    let Ok(words) = words_of(&system) else {
+        return Err(Fail::from("refused"));
+    };
+    assert_eq!(rt; words.len(), 3);
+    assert_eq!(rt; words[2].as_str(), "\u{e9}");
     Ok(())
 }

@@ -2,6 +2,7 @@ use crate::{Arena, Id};
 use linked_list_allocator::LocalHeap;
 use std::alloc::{AllocError, Global};
 use std::cell::Cell;
+use std::process::Abort;
 use std::test::Fail;
 use std::thread;
 
@@ -86,6 +87,44 @@ fn exchanges_with_the_last_chunk(rt: HostRuntime) -> Result<(), Fail> {
     assert_eq!(rt; *arena.get(Id::at(6)), 598);
     assert_eq!(rt; *arena.get(Id::at(598)), 6);
     Ok(())
+}
+
+// What is written to two nodes goes to them, and all others are as they were.
+fn writes_two(rt: &impl Abort, alloc: Global, a: usize, b: usize) -> Result<(), Fail> {
+    let mut arena = filled(alloc)?;
+    assert_eq!(rt; arena.len(), 600);
+    assert!(rt; a < 600 && b < 600);
+    assert!(rt; a != b);
+    let (first, second) = arena.pair_mut(Id::at(a), Id::at(b));
+    assert_eq!(rt; *first as usize, a);
+    assert_eq!(rt; *second as usize, b);
+    *first = 1000;
+    *second = 2000;
+    for place in 0..600 {
+        let id = Id::at(place);
+        assert!(rt; arena.holds(id));
+        let node = *arena.get(id) as usize;
+        let wanted = if place == a {
+            1000
+        } else if place == b {
+            2000
+        } else {
+            place
+        };
+        assert_eq!(rt; node, wanted, "{a} {b}");
+    }
+    Ok(())
+}
+
+// Two full chunks with a last one behind, in both orders.
+#[test]
+fn writes_two_nodes_of_full_chunks(rt: HostRuntime) -> Result<(), Fail> {
+    writes_two(&rt, rt.alloc(), 10, 300)?;
+    writes_two(&rt, rt.alloc(), 300, 10)?;
+    writes_two(&rt, rt.alloc(), 0, 511)?;
+    writes_two(&rt, rt.alloc(), 255, 256)?;
+    writes_two(&rt, rt.alloc(), 20, 21)?;
+    writes_two(&rt, rt.alloc(), 490, 257)
 }
 
 #[test]

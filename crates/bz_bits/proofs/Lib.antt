@@ -2,3 +2,4 @@ pub mod Rows
 pub mod States
 pub mod Scan
 pub mod Search
+pub mod Words

@@ -1,7 +1,8 @@
 -- A search that skips words, by a row that tells which words have a 1.
-use Rattle.std.proofs.Common.{◌≡◌, ◌≢◌, ℕ, ◌+◌, ◌*◌, ◌/◌, ◌^◌, ◌<◌, ◌≤◌, Bool, true, false, List, length, get_or, set, replicate, Option, Some, None, sym, ◌∙◌, subst, arith, inl, inr}
+use Rattle.std.proofs.Common.{◌≡◌, ◌≢◌, ℕ, ◌+◌, ◌*◌, ◌/◌, ◌^◌, ◌<◌, ◌≤◌, Bool, true, false, List, length, get_or, set, replicate, Option, Some, None, refl, sym, ap, ◌∙◌, subst, arith, inl, inr}
 use Rattle.std.proofs.lemmas.Bool.{cases_eq, cases_lt, true≢false}
-use Rattle.std.proofs.lemmas.List.{length-set, length-replicate, get_or-replicate, get_or-set_same, get_or-set_other, get_or_past}
+use Rattle.std.proofs.lemmas.List.{length-set, length-replicate, get_or-replicate, get_or-set_same, get_or-set_other, get_or_past, set-get_or}
+use Rattle.std.specs.Bool.{beq}
 use Rattle.bz_bits.specs.Row.{IsNext, IsNextInWord, HasOne, Sums}
 
 -- a search word by word: none of the words before `at` has a 1 from `from` on
@@ -73,6 +74,17 @@ module _ (xs ys : List Bool) (s : Sums xs ys) where
     -- a bit is written, and then what the row above tells of its word
     pub sums_set : Sums (set xs k b) (set ys (k / 64) v)
     sums_set = record { room = omega (arith, length-set xs k b, length-set ys (k / 64) v, s.room); small = omega (arith, length-set xs k b, s.small); told = told_after }
+
+pub same_bit : (a b : Bool) → beq a b ≡ true → a ≡ b
+same_bit true true e = refl
+same_bit true false e = absurd (cc)
+same_bit false true e = absurd (cc)
+same_bit false false e = refl
+
+-- a bit is written, and the row above tells of its word what it told
+pub sums_kept : (xs ys : List Bool) → Sums xs ys → (k : ℕ) (b v : Bool) → k < length xs → HasOne (set xs k b) (k / 64) v → get_or ys (k / 64) false ≡ v → Sums (set xs k b) ys
+sums_kept xs ys s k b v lt now told =
+    subst (λ (l : List Bool). Sums (set xs k b) l) (sym (ap (set ys (k / 64)) told) ∙ set-get_or ys (k / 64) false) (sums_set xs ys s k b v lt now)
 
 pub sums_none : (n m : ℕ) → n ≤ 64 * m → n < 2 ^ 64 → Sums (replicate n false) (replicate m false)
 sums_none n m room small = record {

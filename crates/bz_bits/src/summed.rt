@@ -54,11 +54,14 @@ impl<A: Allocator + Copy> SummedRow<A> {
         requires { place < length self.old }
         ensures { self.new ≡ slice_set self.old place bit }
     {
-        let word = place / 64;
-        let block = word / 64;
         self.row.set(place, bit);
-        self.words.set(word, self.row.has_one(place));
-        self.blocks.set(block, self.words.has_one(word));
+        let word = place / 64;
+        let has_one = self.row.has_one(place);
+        if self.words.get(word) == has_one {
+            return;
+        }
+        self.words.set(word, has_one);
+        self.blocks.set(word / 64, self.words.has_one(word));
     }
 
     /// The first place at or above `from` whose bit is 1.

@@ -1,9 +1,10 @@
+pub mod Finding
 pub mod Reading
-pub mod Names
 pub mod Least
 pub mod Members
 pub mod Shapes
 pub mod Entries
 pub mod Readers
+pub mod Bounds
 pub mod Places
 pub mod Verdicts

@@ -71,7 +71,7 @@ is_said (d ∷ before) (p ∷ s) (y ∷ ys) e q h st is =
 
 -- ---- ports
 
-kept_by : (b : Bool) (p x : External) → cond b (Err BadForm) (Ok p) ≡ Ok x → (b ≡ false) × (p ≡ x)
+pub kept_by : (b : Bool) (p x : External) → cond b (Err BadForm) (Ok p) ≡ Ok x → (b ≡ false) × (p ≡ x)
 kept_by true p x e = absurd cc
 kept_by false p x e = (refl, cc)
 

@@ -1,7 +1,9 @@
 -- The parts of a netlist: the records that the data name, or the first fault in the text.
 use Rattle.std.specs.Prelude.{ℕ, ◌-◌, ◌≤◌, nat_lt, length, map, find, position, List, [], ◌∷◌, ◌++◌, Option, Some, None, Result, Ok, Err, if◌then◌else◌, bytes_eq, codes}
 use Rattle.std.specs.Option.{option_and_then}
-use Rattle.bz_model.specs.Names.{External}
+use Rattle.std.specs.List.{AllByRecursion}
+use Rattle.bz_model.specs.Names.{External, NamesDiffer, external}
+use Rattle.bz_model.specs.declared.channel.TheConstants.{MAX_WIDTH}
 use Rattle.bz_model.specs.declared.channel.Chan.{Chan}
 use Rattle.bz_sexpr.specs.Data.{Datum, leaf, items, text, symbol, span_of}
 use Rattle.bz_sexpr.specs.declared.datum.Span.{Span}
@@ -100,6 +102,11 @@ parts = in_turn part []
 -- each port of a part has its channel
 abbrev pub HasPortChannels : Part → Type 0
 HasPortChannels p = length p.ports.items ≤ length p.channels.items
+
+-- no two ports of a part have one name, and no channel is wider than the greatest width
+pub record IsFit (p : Part) : Type 0 where
+  pub names_differ : NamesDiffer (map external p.ports.items)
+  pub narrow : AllByRecursion (λ c. c.width ≤ MAX_WIDTH) p.channels.items
 
 -- the number of the part of a name, counted from 0
 abbrev pub number_named : List Part → List ℕ → Option ℕ

@@ -12,9 +12,9 @@ ghost use Rattle.bz_breeze.specs.Faults.{HasFault};
 ghost use Rattle.bz_breeze.specs.Forms.{named_port, listed_port, port, ports, wide_channel, listed_channel, channel, channels, param, number, numbers, slot, slots, named_fields, fields_of, component_of, listed_component, component, components};
 
 use crate::error::{Code, Refusal};
-use crate::name_set::NameSet;
 use crate::part::{Component, Slot};
 use bz_model::{Chan, ChanKind, MAX_WIDTH, Param, Port};
+use bz_names::NameSet;
 use bz_sexpr::Datum;
 use std::alloc::{AllocError, Global};
 

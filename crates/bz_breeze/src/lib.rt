@@ -3,12 +3,9 @@
 
 mod error;
 mod forms;
-mod name_set;
 mod netlist;
 mod part;
 mod part_list;
-#[cfg(test)]
-mod tests;
 
 pub use bz_model::Port;
 pub use error::{BreezeError, Place};

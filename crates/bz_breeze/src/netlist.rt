@@ -13,10 +13,10 @@ ghost use Rattle.bz_breeze.specs.Parts.{ports_form, channels_form, components_fo
 
 use crate::error::{BreezeError, Code, Place, Refusal};
 use crate::forms::{channels, components, inside, ports};
-use crate::name_set::NameSet;
 use crate::part::{Component, Part};
 use crate::part_list::Parts;
 use bz_model::{Chan, Port};
+use bz_names::NameSet;
 use bz_sexpr::{Datum, Span};
 use std::alloc::Global;
 

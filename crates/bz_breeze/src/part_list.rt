@@ -2,10 +2,10 @@
 
 ghost use Rattle.std.specs.Prelude.{◌≡◌, map, All};
 ghost use Rattle.std.specs.Option.{option_copied};
-ghost use Rattle.bz_breeze.specs.Parts.{number_named, part_named, HasPortChannels};
+ghost use Rattle.bz_breeze.specs.Parts.{number_named, part_named, HasPortChannels, IsFit};
 
-use crate::name_set::NameSet;
 use crate::part::Part;
+use bz_names::NameSet;
 use std::marker::Model;
 
 /// The parts of a netlist, in the order of the text. No two have one name.
@@ -18,13 +18,13 @@ pub struct Parts {
 impl Model for Parts {
     ghost use Rattle.std.specs.Prelude.{◌≡◌, List, map, All};
     ghost use Rattle.bz_breeze.specs.declared.part.Part.{Part};
-    ghost use Rattle.bz_breeze.specs.Parts.{HasPortChannels};
+    ghost use Rattle.bz_breeze.specs.Parts.{HasPortChannels, IsFit};
 
     ghost Value = { List Part };
 
     ghost view = { λ p. p.list.items };
 
-    ghost invariant = { λ p. (p.names ≡ map (λ q. q.name.items) p.list.items) × All HasPortChannels p.list.items };
+    ghost invariant = { λ p. (p.names ≡ map (λ q. q.name.items) p.list.items) × All HasPortChannels p.list.items × All IsFit p.list.items };
 }
 
 impl Parts {
@@ -32,6 +32,7 @@ impl Parts {
     pub(crate) fn new(list: Vec<Part>, names: NameSet) -> Parts
         requires names { names ≡ map (λ p. p.name.items) list.items }
         requires fits { All HasPortChannels list.items }
+        requires fit { All IsFit list.items }
         ensures { result ≡ list.items }
     {
         Parts { list, names }
@@ -41,6 +42,7 @@ impl Parts {
     pub fn list(&self) -> &[Part]
         ensures value { result.now ≡ self.now }
         ensures fits { All HasPortChannels result.now }
+        ensures fit { All IsFit result.now }
     {
         self.list.as_slice()
     }

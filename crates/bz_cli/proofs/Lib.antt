@@ -1,8 +1,7 @@
 pub mod Taken
-pub mod NameForms
-pub mod Commands
-pub mod Sessions
 pub mod Played
 pub mod Spelt
 pub mod Outcomes
 pub mod Lines
+pub mod Splitting
+pub mod Checks

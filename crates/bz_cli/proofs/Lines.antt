@@ -2,8 +2,8 @@
 use Rattle.std.proofs.Common.{◌≡◌, ℕ, zero, suc, ◌+◌, ◌<◌, List, [], ◌∷◌, ◌++◌, Option, map, length, take, drop, get_or, take-append-drop, drop-cons, append_assoc, append-nil, refl, sym, ap, ◌∙◌, subst, arith}
 use Rattle.std.proofs.lemmas.List.{take_more, length-map, map-append, map_push, length-take-le}
 use Rattle.std.specs.Io.KnownBytes.{Appends}
-use Rattle.bz_trace.specs.Writing.{AppendsFront}
-use Rattle.bz_trace.proofs.Sent.{appends_then, stops_after, stops_before}
+use Rattle.bz_lines.specs.Writing.{AppendsFront}
+use Rattle.bz_lines.proofs.Sent.{appends_then, stops_after, stops_before}
 use Rattle.bz_cli.specs.Listing.{lines}
 
 lines_append : {X : Type 0} → (f : ℕ → X → List ℕ) (k : ℕ) (xs ys : List X) → lines f k (xs ++ ys) ≡ lines f k xs ++ lines f (k + length xs) ys

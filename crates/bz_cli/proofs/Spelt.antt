@@ -4,10 +4,10 @@ use Rattle.std.proofs.Math.Seq.{drop-cons}
 use Rattle.std.proofs.lemmas.List.{length-map, length-take-le, map-append, take-append-drop}
 use Rattle.std.specs.Io.KnownBytes.{Appends, Keeps}
 use Rattle.bz_model.specs.declared.event.Cmd.{Cmd}
-use Rattle.bz_trace.specs.Writing.{AppendsFront}
-use Rattle.bz_cli.specs.Words.{Command, IsWord, command_of, texts}
+use Rattle.bz_lines.specs.Writing.{AppendsFront}
+use Rattle.bz_session.specs.Words.{Command, IsWord, command_of, texts}
 use Rattle.bz_cli.specs.Running.{AppendsSome, AreCommands, IsBadAt}
-use Rattle.bz_cli.proofs.Sessions.{texts_more}
+use Rattle.bz_session.proofs.Sessions.{texts_more}
 
 pub AreCommands-push : (words : List (List ℕ)) (cs : List Command) (word : List ℕ) (c : Command) → AreCommands words cs → IsWord word c → AreCommands (words ++ word ∷ []) (cs ++ c ∷ [])
 AreCommands-push [] [] word c are is = (is, tt)

@@ -1,5 +1,5 @@
 -- What the command `run` reads, plays and writes.
-use Rattle.std.specs.Prelude.{◌≡◌, ℕ, ◌+◌, ◌≤◌, ◌⊎◌, ⊤, List, [], ◌∷◌, ◌++◌, length, map, Option, Some, None, Result, Ok, Err}
+use Rattle.std.specs.Prelude.{◌≡◌, ℕ, ◌+◌, ◌≤◌, ◌⊎◌, ⊤, List, [], ◌∷◌, ◌++◌, length, map, Option, Some, None, Result, Ok, Err, IsErrAnd}
 use Rattle.std.specs.Io.KnownBytes.{Appends, Keeps}
 use Rattle.bz_model.specs.declared.event.Cmd.{Cmd}
 use Rattle.bz_model.specs.declared.event.Entry.{Entry}
@@ -7,11 +7,12 @@ use Rattle.bz_model.specs.declared.event.NetError.{NetError}
 use Rattle.bz_model.specs.declared.event.NetError.TheVariants as net
 use Rattle.bz_model.specs.Nets.{Wiring}
 use Rattle.bz_model.specs.Plays.{PlaysAll, Stops}
-use Rattle.bz_model.specs.Traces.{trace_text}
+use Rattle.bz_model.specs.Traces.{IsTrace}
 use Rattle.bz_cli.specs.declared.fault.Fault.{Fault}
-use Rattle.bz_cli.specs.declared.fault.Fault.TheVariants.{Word, Event, Write, Memory}
+use Rattle.bz_cli.specs.declared.fault.Fault.TheVariants.{Word, Event, Read, Write, Memory}
 use Rattle.bz_cli.specs.declared.playing.Stop.{Stop}
-use Rattle.bz_cli.specs.Words.{Command, IsWord, command_of}
+use Rattle.bz_cli.specs.Limits.{input_limit}
+use Rattle.bz_session.specs.Words.{Command, IsWord, command_of}
 use Rattle.bz_cli.specs.Opening.{Denotes, RefusesNet}
 
 -- each word spells a command
@@ -54,32 +55,48 @@ IsPlayed w limit cmds (Some stop) entries = Stops w limit cmds stop.word stop.er
 abbrev pub AppendsSome : Option (List ℕ) → Option (List ℕ) → List ℕ → Type 0
 AppendsSome old new text = (front rest : List ℕ) × (text ≡ front ++ rest) × Appends old new front
 
--- The text denotes a net, and the trace of what the commands play on it went out as `Out` says.
-pub record Played (text part : List ℕ) (limit : ℕ) (cmds : List Cmd) (stop : Option Stop) (Out : List ℕ → Type 0) : Type 0 where
-  pub wiring : Wiring
-  pub net : Denotes text part wiring
+-- The trace of what the commands play on a net went out as `Out` says.
+pub record Played (w : Wiring) (limit : ℕ) (cmds : List Cmd) (stop : Option Stop) (Out : List ℕ → Type 0) : Type 0 where
   pub entries : List Entry
-  pub plays : IsPlayed wiring limit cmds stop entries
+  pub plays : IsPlayed w limit cmds stop entries
   pub within : length entries ≤ limit
-  pub out : Out (trace_text wiring.ports entries)
+  pub trace : List ℕ
+  pub is_trace : IsTrace w entries trace
+  pub out : Out trace
 
--- What went out of commands played on a part of a text, and what was answered. Where memory was refused, either nothing
--- went out, or the trace of what was played up to there. Where the writer failed, a front of the trace went out.
+-- What went out of commands played on a net that is open, and what was answered: the trace of all, or up to the event that
+-- was refused or wanted memory. Where the writer failed, a front of it went out.
+abbrev pub PlaysNet : {E : Type 0} → Wiring → ℕ → List Cmd → Option (List ℕ) → Option (List ℕ) → Result E Fault → Type 0
+PlaysNet w limit cmds old new (Ok u) = Played w limit cmds None (Appends old new)
+PlaysNet w limit cmds old new (Err (Event net.Memory word)) = ⊥
+PlaysNet w limit cmds old new (Err (Event e word)) = Played w limit cmds (Some (record { word = word; error = e })) (Appends old new)
+PlaysNet w limit cmds old new (Err Memory) = (word : ℕ) × Played w limit cmds (Some (record { word = word; error = net.Memory })) (Appends old new)
+PlaysNet w limit cmds old new (Err Write) = (stop : Option Stop) × Played w limit cmds stop (AppendsSome old new)
+PlaysNet w limit cmds old new (Err fault) = ⊥
+
+-- What went out of commands played on a part of a text, and what was answered: no net was opened and nothing went out, or the
+-- commands were played on the net that the text denotes.
 abbrev pub PlaysText : {E : Type 0} → List ℕ → List ℕ → ℕ → List Cmd → Option (List ℕ) → Option (List ℕ) → Result E Fault → Type 0
-PlaysText text part limit cmds old new (Ok u) = Played text part limit cmds None (Appends old new)
-PlaysText text part limit cmds old new (Err (Event e word)) = Played text part limit cmds (Some (record { word = word; error = e })) (Appends old new)
-PlaysText text part limit cmds old new (Err Memory) =
-    Keeps old new ⊎ ((word : ℕ) × Played text part limit cmds (Some (record { word = word; error = net.Memory })) (Appends old new))
-PlaysText text part limit cmds old new (Err Write) = (stop : Option Stop) × Played text part limit cmds stop (AppendsSome old new)
-PlaysText text part limit cmds old new (Err fault) = RefusesNet text part fault × Keeps old new
+PlaysText text part limit cmds old new answer =
+    IsErrAnd answer (λ fault. RefusesNet text part fault × Keeps old new)
+    ⊎ ((w : Wiring) × Denotes text part w × PlaysNet w limit cmds old new answer)
 
 -- The words are refused, and nothing went out.
 abbrev pub StopsAtWords : {E : Type 0} → List (List ℕ) → Option (List ℕ) → Option (List ℕ) → Result E Fault → Type 0
-StopsAtWords words old new (Ok u) = ⊥
-StopsAtWords words old new (Err fault) = RefusesWords words fault × Keeps old new
+StopsAtWords words old new answer = IsErrAnd answer (λ fault. RefusesWords words fault × Keeps old new)
 
--- The command `run`: the words are refused, or they spell commands, which are played.
+abbrev pub IsOfInput : Fault → Type 0
+IsOfInput Read = ⊤
+IsOfInput Memory = ⊤
+IsOfInput fault = ⊥
+
+-- The reader failed or gave more than the limit, or there was no memory for what it gave; and nothing went out.
+abbrev pub StopsAtInput : {E : Type 0} → Option (List ℕ) → Option (List ℕ) → Result E Fault → Type 0
+StopsAtInput old new answer = IsErrAnd answer (λ fault. IsOfInput fault × Keeps old new)
+
+-- The command `run`: the words are refused; or they spell commands, and the input is not taken, or they are played on it.
 abbrev pub Runs : {E : Type 0} → List ℕ → List (List ℕ) → List ℕ → ℕ → Option (List ℕ) → Option (List ℕ) → Result E Fault → Type 0
 Runs text words part limit old new answer =
     StopsAtWords words old new answer
-    ⊎ ((cmds : List Cmd) × AreCommands words (map command_of cmds) × PlaysText text part limit cmds old new answer)
+    ⊎ ((cmds : List Cmd) × AreCommands words (map command_of cmds)
+    × (StopsAtInput old new answer ⊎ ((length text ≤ input_limit) × PlaysText text part limit cmds old new answer)))

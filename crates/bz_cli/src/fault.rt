@@ -1,10 +1,16 @@
 //! Why a command failed: the fault line, and the exit status of the program.
 
+ghost use Rattle.std.specs.Prelude.{◌≡◌};
+ghost use Rattle.bz_cli.specs.declared.fault.Fault.TheVariants.{Memory, Write};
+ghost use Rattle.bz_cli.specs.Statuses.{of_input, of_part, of_text, status_of};
+
+use crate::input::InputFault;
 use bz_breeze::{BreezeError, Place};
 use bz_elab::ElabError;
 use bz_model::NetError;
 use bz_sexpr::SexprError;
-use bz_trace::NameForm;
+use bz_trace::{NameForm, WriteFault};
+use std::alloc::{AllocError, AllocFailed};
 use std::fmt;
 
 /// Why a command failed. A want of memory is `Memory`, whichever layer met it.
@@ -30,12 +36,71 @@ pub enum Fault {
 impl Fault {
     /// The exit status of a program that ends with this fault: 1 where the netlist is refused, 2 where a word is bad, 3 for
     /// anything else.
-    pub fn status(&self) -> u8 {
+    pub fn status(&self) -> u8
+        ensures { result ≡ status_of self.now }
+    {
         match self {
             Fault::Text(_) | Fault::Part(_) | Fault::Net { .. } => 1,
             Fault::Word(_) => 2,
             Fault::Event { .. } | Fault::Read | Fault::Write | Fault::Memory => 3,
         }
+    }
+}
+
+impl From<InputFault> for Fault {
+    ghost from_gives = { λ e fault. fault ≡ of_input e };
+
+    fn from(e: InputFault) -> Fault {
+        match e {
+            InputFault::Read => Fault::Read,
+            InputFault::Memory => Fault::Memory,
+        }
+    }
+}
+
+impl From<SexprError> for Fault {
+    ghost from_gives = { λ e fault. fault ≡ of_text e };
+
+    fn from(e: SexprError) -> Fault {
+        match e {
+            SexprError::Memory => Fault::Memory,
+            e => Fault::Text(e),
+        }
+    }
+}
+
+impl From<BreezeError> for Fault {
+    ghost from_gives = { λ e fault. fault ≡ of_part e };
+
+    fn from(e: BreezeError) -> Fault {
+        match e {
+            BreezeError::Memory => Fault::Memory,
+            e => Fault::Part(e),
+        }
+    }
+}
+
+impl From<WriteFault> for Fault {
+    ghost from_gives = { λ _ fault. fault ≡ Write };
+
+    fn from(_e: WriteFault) -> Fault {
+        Fault::Write
+    }
+}
+
+impl From<AllocError> for Fault {
+    ghost from_gives = { λ _ fault. fault ≡ Memory };
+
+    fn from(_e: AllocError) -> Fault {
+        Fault::Memory
+    }
+}
+
+impl<T: Drop> From<AllocFailed<T>> for Fault {
+    ghost from_gives = { λ _ fault. fault ≡ Memory };
+
+    fn from(_e: AllocFailed<T>) -> Fault {
+        Fault::Memory
     }
 }
 

@@ -1,7 +1,9 @@
 //! The program's input, up to its limit.
 
-ghost use Rattle.std.specs.Prelude.{◌≡◌, ℕ, ◌+◌, ◌≤◌, List, length, vec_len, IfOk, IfSome, OnOk};
-ghost use Rattle.std.specs.Io.KnownBytes.{Consumes, IsAtEnd};
+ghost use Rattle.std.specs.Prelude.{◌≡◌, ◌≤◌, vec_len, IfOk, IfSome, OnOk};
+ghost use Rattle.std.specs.Io.KnownBytes.{IsAtEnd};
+ghost use Rattle.bz_cli.specs.Limits.{input_limit};
+ghost use Rattle.bz_cli.specs.Reading.{ReadsWithin};
 ghost use Rattle.bz_cli.specs.declared.input.InputFault.TheVariants.{Memory};
 
 use std::alloc::{AllocError, Global};
@@ -34,11 +36,10 @@ pub fn read_input<R: Read>(alloc: Global, input: &mut R) -> Result<Vec<u8>, Inpu
     // At Ok it is all that the reader had, where that is known, and none of it is left.
     ensures whole { IfOk result (λ v. IfSome (R.remaining input.old) (λ xs. v.items ≡ xs)) }
     ensures at_end { OnOk result (IsAtEnd (R.remaining input.new)) }
-    ensures limit { IfOk result (λ v. vec_len v ≤ INPUT_LIMIT) }
+    ensures limit { IfOk result (λ v. vec_len v ≤ input_limit) }
 
     // At most the limit and one byte more are read, whatever comes of it.
-    ensures bounded { (bs : List ℕ) × (length bs ≤ INPUT_LIMIT + 1)
-        × Consumes (R.remaining input.old) (R.remaining input.new) bs }
+    ensures bounded { ReadsWithin (R.remaining input.old) (R.remaining input.new) }
 {
     let mut text = Vec::new(alloc);
     let mut chunk = [0u8; 8192];

@@ -1,6 +1,7 @@
 //! The commands of `breezesim`, over any reader and writer.
 #![tactic(auto)]
 
+mod checking;
 mod fault;
 mod input;
 mod list;
@@ -8,13 +9,10 @@ mod listing;
 mod open;
 mod playing;
 mod run;
-#[cfg(test)]
-mod tests;
-mod words;
 
+pub use checking::check_cmd;
 pub use fault::Fault;
 pub use input::{INPUT_LIMIT, InputFault, read_input};
 pub use list::list_cmd;
 pub use playing::{Stop, play};
 pub use run::run_cmd;
-pub use words::{MAX_SESSIONS, SessionError, parse_words};

@@ -3,11 +3,12 @@
 ghost use Rattle.std.specs.Prelude.{◌≡◌, OnOk, OnErr, IfSome};
 ghost use Rattle.std.specs.Io.KnownBytes.{Appends};
 ghost use Rattle.bz_cli.specs.Listing.{list_text};
-ghost use Rattle.bz_cli.specs.Listed.{ListsText};
+ghost use Rattle.bz_cli.specs.Listed.{Lists, ListsText};
+ghost use Rattle.bz_cli.specs.Reading.{ReadsWithin};
 ghost use Rattle.bz_cli.specs.Running.{AppendsSome};
 
 use crate::fault::Fault;
-use crate::input::{InputFault, read_input};
+use crate::input::read_input;
 use crate::listing::write_list;
 use crate::open::flat_of;
 use bz_elab::Flat;
@@ -22,13 +23,12 @@ pub fn list_cmd<R: Read, W: Write>(
     input: &mut R,
     output: &mut W,
 ) -> Result<(), Fault>
-    ensures { IfSome (R.remaining input.old) (λ text. ListsText text part.now (W.contents output.old) (W.contents output.new) result) }
+    ensures lists { IfSome (R.remaining input.old) (λ text. Lists text part.now (W.contents output.old) (W.contents output.new) result) }
+
+    // Whatever comes of it, it reads at most one byte past the limit.
+    ensures bounded { ReadsWithin (R.remaining input.old) (R.remaining input.new) }
 {
-    let text = match read_input(alloc, input) {
-        Ok(text) => text,
-        Err(InputFault::Read) => return Err(Fault::Read),
-        Err(InputFault::Memory) => return Err(Fault::Memory),
-    };
+    let text = read_input(alloc, input)?;
     list_net(alloc, part, text.as_slice(), output)
 }
 
@@ -36,14 +36,9 @@ pub fn list_cmd<R: Read, W: Write>(
 fn list_net<W: Write>(alloc: Global, part: &[u8], text: &[u8], output: &mut W) -> Result<(), Fault>
     ensures { ListsText text.now part.now (W.contents output.old) (W.contents output.new) result }
 {
-    let flat = match flat_of(alloc, part, text) {
-        Ok(flat) => flat,
-        Err(fault) => return Err(fault),
-    };
-    match write_out(part, flat, output) {
-        Ok(()) => Ok(()),
-        Err(WriteFault) => Err(Fault::Write),
-    }
+    let flat = flat_of(alloc, part, text)?;
+    write_out(part, flat, output)?;
+    Ok(())
 }
 
 // Writes the text of a net, down to the last byte.
@@ -51,10 +46,7 @@ fn write_out<W: Write>(part: &[u8], flat: Flat, output: &mut W) -> Result<(), Wr
     ensures ok { OnOk result (Appends (W.contents output.old) (W.contents output.new) (list_text part.now flat.wiring)) }
     ensures err { OnErr result (AppendsSome (W.contents output.old) (W.contents output.new) (list_text part.now flat.wiring)) }
 {
-    match write_list(output, part, flat) {
-        Ok(()) => {}
-        Err(fault) => return Err(fault),
-    }
+    write_list(output, part, flat)?;
     match output.flush() {
         Ok(()) => Ok(()),
         Err(_) => Err(WriteFault),

@@ -4,7 +4,7 @@ ghost use Rattle.std.specs.Prelude.{◌≡◌, ◌≤◌, ◌<◌, ◌⊎◌, �
 ghost use Rattle.std.specs.declared.alloc.Global.{Global};
 ghost use Rattle.std.specs.declared.vec.Vec.{Vec};
 ghost use Rattle.bz_cli.specs.declared.fault.Fault.{Fault};
-ghost use Rattle.bz_cli.specs.Opening.{Denotes, Opens, RefusesNet};
+ghost use Rattle.bz_cli.specs.Opening.{Denotes, Opens, RefusesNet, name_told, part_in};
 
 use crate::fault::Fault;
 use bz_breeze::{BreezeError, Part};
@@ -20,10 +20,7 @@ pub(crate) fn open_net(alloc: Global, part: &[u8], limit: u32, text: &[u8]) -> R
     ensures ok { IfOk result (Opens text.now part.now limit) }
     ensures err { IfErr result (RefusesNet text.now part.now) }
 {
-    let flat = match flat_of(alloc, part, text) {
-        Ok(flat) => flat,
-        Err(fault) => return Err(fault),
-    };
+    let flat = flat_of(alloc, part, text)?;
     match Net::open(alloc, flat, limit) {
         Ok(net) => Ok(net),
         Err(_) => Err(Fault::Memory),
@@ -35,16 +32,8 @@ pub(crate) fn flat_of(alloc: Global, part: &[u8], text: &[u8]) -> Result<Flat, F
     ensures ok { IfOk result (λ flat. Denotes text.now part.now flat.wiring) }
     ensures err { IfErr result (RefusesNet text.now part.now) }
 {
-    let data = match bz_sexpr::read(alloc, text) {
-        Ok(data) => data,
-        Err(SexprError::Memory) => return Err(Fault::Memory),
-        Err(error) => return Err(Fault::Text(error)),
-    };
-    let parts = match bz_breeze::parts(alloc, data.as_slice()) {
-        Ok(parts) => parts,
-        Err(BreezeError::Memory) => return Err(Fault::Memory),
-        Err(error) => return Err(Fault::Part(error)),
-    };
+    let data = bz_sexpr::read(alloc, text)?;
+    let parts = bz_breeze::parts(alloc, data.as_slice())?;
     // the records have all that is wanted of the data, which take most of the memory
     drop(data);
     match elaborate(alloc, &parts, part) {
@@ -56,23 +45,31 @@ pub(crate) fn flat_of(alloc: Global, part: &[u8], text: &[u8]) -> Result<Flat, F
 
 // The refusal of a net, with the name of the part that it is in, or else the name asked for.
 fn in_part(alloc: Global, parts: &[Part], asked: &[u8], error: ElabError) -> Fault
-    ensures { (result ≡ Fault.Memory) ⊎ ((name : Vec ℕ Global) × (result ≡ Fault.Net error name)) }
+    ensures { (result ≡ Fault.Memory)
+        ⊎ ((name : Vec ℕ Global) × (result ≡ Fault.Net error name) × (name.items ≡ name_told parts.now asked.now error)) }
 {
-    let name = match part_of(error) {
-        Some(part) => match parts.get(part) {
-            Some(part) => part.name.as_slice(),
-            None => asked,
-        },
-        None => asked,
-    };
-    match Vec::from_slice(alloc, name) {
+    match Vec::from_slice(alloc, name_told(parts, asked, error)) {
         Ok(part) => Fault::Net { error, part },
         Err(_) => Fault::Memory,
     }
 }
 
+fn name_told<'a>(parts: &'a [Part], asked: &'a [u8], error: ElabError) -> &'a [u8]
+    ensures { result.now ≡ name_told parts.now asked.now error }
+{
+    let Some(number) = part_of(error) else {
+        return asked;
+    };
+    match parts.get(number) {
+        Some(part) => part.name.as_slice(),
+        None => asked,
+    }
+}
+
 // The number of the part that a refusal is in, where it is in one.
-fn part_of(error: ElabError) -> Option<usize> {
+fn part_of(error: ElabError) -> Option<usize>
+    ensures { result ≡ part_in error }
+{
     match error {
         ElabError::Recursive(part)
         | ElabError::UnknownComponent(part, _)

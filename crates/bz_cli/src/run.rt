@@ -1,17 +1,20 @@
 //! The command `run`: words played on a part of a netlist, and the trace of it.
 
-ghost use Rattle.std.specs.Prelude.{◌≡◌, ◌<◌, ◌≤◌, length, map, IfOk, IfErr, IfSome, OnOk, OnErr};
-ghost use Rattle.bz_model.specs.Traces.{trace_text};
+ghost use Rattle.std.specs.Prelude.{◌≡◌, ◌<◌, ◌≤◌, [], map, IfOk, IfErr, IfSome, OnOk, OnErr};
 ghost use Rattle.std.specs.Io.KnownBytes.{Appends};
-ghost use Rattle.bz_cli.specs.Words.{command_of, texts};
-ghost use Rattle.bz_cli.specs.Running.{AppendsSome, AreCommands, PlaysText, RefusesWords, Runs, fault_of};
+ghost use Rattle.bz_model.specs.Nets.{opening};
+ghost use Rattle.bz_model.specs.Traces.{trace_text};
+ghost use Rattle.bz_cli.specs.Reading.{ReadsWithin};
+ghost use Rattle.bz_session.specs.Words.{command_of, texts};
+ghost use Rattle.bz_cli.specs.Running.{AppendsSome, AreCommands, PlaysNet, PlaysText, RefusesWords, Runs, fault_of};
 
 use crate::fault::Fault;
-use crate::input::{InputFault, read_input};
+use crate::input::read_input;
 use crate::open::open_net;
 use crate::playing::{Stop, play};
-use crate::words::command;
 use bz_model::{Cmd, Entry, Names, NetError};
+use bz_net::Net;
+use bz_session::command;
 use bz_trace::{WriteFault, write_trace};
 use std::alloc::Global;
 use std::io::{Read, Write};
@@ -29,17 +32,13 @@ pub fn run_cmd<R: Read, W: Write>(
 ) -> Result<(), Fault>
     requires least { 0 < journal }
     requires most { journal ≤ 16777216 }
-    ensures { IfSome (R.remaining input.old) (λ text. Runs text (texts words.now) part.now journal (W.contents output.old) (W.contents output.new) result) }
+    ensures runs { IfSome (R.remaining input.old) (λ text. Runs text (texts words.now) part.now journal (W.contents output.old) (W.contents output.new) result) }
+
+    // Whatever comes of it, it reads at most one byte past the limit.
+    ensures bounded { ReadsWithin (R.remaining input.old) (R.remaining input.new) }
 {
-    let cmds = match run_words(alloc, words) {
-        Ok(cmds) => cmds,
-        Err(fault) => return Err(fault),
-    };
-    let text = match read_input(alloc, input) {
-        Ok(text) => text,
-        Err(InputFault::Read) => return Err(Fault::Read),
-        Err(InputFault::Memory) => return Err(Fault::Memory),
-    };
+    let cmds = run_words(alloc, words)?;
+    let text = read_input(alloc, input)?;
     play_text(
         alloc,
         part,
@@ -63,15 +62,18 @@ fn play_text<W: Write>(
     requires most { journal ≤ 16777216 }
     ensures { PlaysText text.now part.now journal cmds.now (W.contents output.old) (W.contents output.new) result }
 {
-    let mut net = match open_net(alloc, part, journal, text) {
-        Ok(net) => net,
-        Err(fault) => return Err(fault),
-    };
+    let net = open_net(alloc, part, journal, text)?;
+    play_net(net, cmds, output)
+}
+
+// Plays the commands on a net that was just opened, and writes the trace.
+fn play_net<W: Write>(mut net: Net, cmds: &[Cmd], output: &mut W) -> Result<(), Fault>
+    requires state { net.state ≡ opening net.wiring }
+    requires journal { net.journal ≡ [] }
+    ensures { PlaysNet net.wiring net.limit cmds.now (W.contents output.old) (W.contents output.new) result }
+{
     let played = play(&mut net, cmds);
-    match write_out(net.names(), net.journal(), output) {
-        Ok(()) => {}
-        Err(WriteFault) => return Err(Fault::Write),
-    }
+    write_out(net.names(), net.journal(), net.clashes(), output)?;
     match played {
         Ok(()) => Ok(()),
         Err(stop) => Err(fault_of(stop)),
@@ -85,32 +87,26 @@ fn run_words(alloc: Global, words: &[&str]) -> Result<Vec<Cmd>, Fault>
 {
     let mut cmds = Vec::new(alloc);
     for (place, word) in words.iter().enumerate() {
-        let cmd = match command(alloc, word) {
-            Ok(Some(cmd)) => cmd,
-            Ok(None) => return Err(Fault::Word(place + 1)),
-            Err(_) => return Err(Fault::Memory),
+        let Some(cmd) = command(alloc, word)? else {
+            return Err(Fault::Word(place + 1));
         };
-        match cmds.push(cmd) {
-            Ok(()) => {}
-            Err(_) => return Err(Fault::Memory),
-        }
+        cmds.push(cmd)?;
     }
     Ok(cmds)
 }
 
 // Writes the trace of the entries, down to the last byte.
-fn write_out<W: Write>(names: &Names, entries: &[Entry], output: &mut W) -> Result<(), WriteFault>
-    ensures ok { OnOk result (Appends (W.contents output.old) (W.contents output.new) (trace_text names.now.ports entries.now)) }
-    ensures err { OnErr result (AppendsSome (W.contents output.old) (W.contents output.new) (trace_text names.now.ports entries.now)) }
+fn write_out<W: Write>(
+    names: &Names,
+    entries: &[Entry],
+    clashes: &[u32],
+    output: &mut W,
+) -> Result<(), WriteFault>
+    ensures ok { OnOk result (Appends (W.contents output.old) (W.contents output.new) (trace_text names.now.ports entries.now clashes.now)) }
+    ensures err { OnErr result (AppendsSome (W.contents output.old) (W.contents output.new) (trace_text names.now.ports entries.now clashes.now)) }
 {
-    match write_trace(names, entries, output) {
-        Ok(()) => {}
-        Err(fault) => return Err(fault),
-    }
-    match output.flush() {
-        Ok(()) => Ok(()),
-        Err(_) => Err(WriteFault),
-    }
+    write_trace(names, entries, clashes, output)?;
+    output.flush().map_err(|_| WriteFault)
 }
 
 // Why a play stopped, as the command's fault.

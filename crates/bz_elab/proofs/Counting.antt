@@ -1,8 +1,8 @@
 -- How much the net has grown, and when it has too much.
-use Rattle.std.proofs.Common.{◌≡◌, ℕ, zero, suc, ◌+◌, ◌-◌, ◌<◌, None, Some, List, [], ◌∷◌, ◌++◌, length, drop, take, inl, inr, refl, sym, ◌∙◌, ap, subst, arith, get_or, append_assoc, length-append}
+use Rattle.std.proofs.Common.{◌≡◌, ℕ, zero, suc, ◌+◌, ◌-◌, ◌<◌, None, Some, List, [], ◌∷◌, ◌++◌, length, drop, take, inl, inr, refl, sym, ◌∙◌, ap, subst, arith, get_or, map, append_assoc, length-append}
 use Rattle.std.specs.List.{flat_map}
 use Rattle.std.proofs.lemmas.Grind.{flat_map-append}
-use Rattle.std.proofs.lemmas.List.{append-nil, length-take, take-append-drop}
+use Rattle.std.proofs.lemmas.List.{append-nil, length-map, length-take, take-append-drop}
 use Rattle.bz_model.specs.declared.channel.Chan.{Chan}
 use Rattle.bz_breeze.specs.declared.part.Part.{Part}
 use Rattle.bz_breeze.specs.declared.part.Component.{Component}
@@ -10,10 +10,11 @@ use Rattle.bz_elab.specs.declared.error.ElabError.{ElabError}
 use Rattle.bz_elab.specs.declared.error.ElabError.TheVariants.{TooBig, Memory}
 use Rattle.bz_elab.specs.declared.flat.FlatComp.{FlatComp}
 use Rattle.bz_elab.specs.declared.walk.Draft.{Draft}
+use Rattle.bz_elab.specs.declared.walk.Level.{Level}
 use Rattle.bz_elab.specs.Entries.{flattened}
 use Rattle.bz_elab.specs.Paths.{Path, Stop, copy, leaf, named, each_from, visit, walk, own_chans, ports_at}
 use Rattle.bz_elab.specs.Refusals.{own_comps, own_ends, IsTooMany}
-use Rattle.bz_elab.specs.Growth.{Counts, AreActuals, Entered, IsFlat, EndsWalk, Counted}
+use Rattle.bz_elab.specs.Growth.{IsBare, Counts, net_number, Entered, IsFlat, EndsWalk, Counted}
 use Rattle.bz_elab.proofs.Slots.{length-arranged, take_item, drop_item}
 
 pub each_from-push : {A B : Type 0} (i : ℕ) (f : ℕ → A → List B) (xs : List A) (x : A) → each_from i f (xs ++ x ∷ []) ≡ each_from i f xs ++ f (i + length xs) x
@@ -21,22 +22,11 @@ each_from-push i f [] x = let e : i + 0 ≡ i = omega arith in rw e (append-nil 
 each_from-push i f (y ∷ ys) x = let e : suc i + length ys ≡ i + suc (length ys) = omega arith in
     ap (λ zs. f i y ++ zs) (each_from-push (suc i) f ys x) ∙ rw e (sym (append_assoc (f i y) (each_from (suc i) f ys) (f (i + suc (length ys)) x)))
 
-pub actuals_length : (chans es ks : List ℕ) → AreActuals chans es ks → length ks ≡ length es
-actuals_length chans [] [] h = refl
-actuals_length chans [] (k ∷ ks) h = absurd h
-actuals_length chans (e ∷ es) [] h = absurd h
-actuals_length chans (e ∷ es) (k ∷ ks) h = ap suc (actuals_length chans es ks h.3)
-
 pub length-more : {X : Type 0} (f : Stop → List X) (ss ts : List Stop) → length (flat_map f (ss ++ ts)) ≡ length (flat_map f ss) + length (flat_map f ts)
 length-more f ss ts = ap length (flat_map-append f ss ts) ∙ length-append (flat_map f ss) (flat_map f ts)
 
 pub counts_nothing : (d : Draft) → Counts d d []
 counts_nothing d = record { comps_are = omega arith; chans_are = omega arith; ends_are = omega arith }
-
--- there is no component and no channel at these stops
-pub record IsBare (stops : List Stop) : Type 0 where
-  pub comps : flat_map own_comps stops ≡ []
-  pub chans : flat_map own_chans stops ≡ []
 
 no_ends : (ss : List Stop) → flat_map own_comps ss ≡ [] → flat_map own_ends ss ≡ []
 no_ends [] e = refl
@@ -59,9 +49,9 @@ counts_then old mid new ss ts a b = record {
 }
 
 -- the ends of a leaf are its entries
-pub leaf_ends : (own : List Chan) (outer : List ℕ) (c : Component) (g f : FlatComp) → IsFlat own c g → AreActuals outer g.chans.items f.chans.items → length f.chans.items ≡ length (flattened c.entries.items)
-leaf_ends own outer c g f flat are =
-    actuals_length outer g.chans.items f.chans.items are ∙ (ap length flat.chans_are ∙ length-arranged g.kind own c.entries.items flat.sound.fits.singles_are flat.sound.fits.lists_are)
+pub leaf_ends : (own : List Chan) (outer : List Level) (c : Component) (g f : FlatComp) → IsFlat own c g → f.chans.items ≡ map (net_number outer) g.chans.items → length f.chans.items ≡ length (flattened c.entries.items)
+leaf_ends own outer c g f flat on =
+    ap length on ∙ (length-map g.chans.items (net_number outer) ∙ (ap length flat.chans_are ∙ length-arranged g.kind own c.entries.items flat.sound.fits.singles_are flat.sound.fits.lists_are))
 
 pub counts_leaf : (path : Path) (c : Component) (f : FlatComp) (old new : Draft) → length f.chans.items ≡ length (flattened c.entries.items)
     → new.chans.items ≡ old.chans.items → new.comps.items ≡ old.comps.items ++ f ∷ [] → new.ends ≡ old.ends + length f.chans.items → Counts old new (leaf path c ∷ [])
@@ -71,8 +61,8 @@ counts_leaf path c f old new count same push ends = record {
   ends_are = let e = ap length (append-nil (flattened c.entries.items)) in omega (arith, ends, count, e);
 }
 
-pub counts_copy : (old new : Draft) (path : Path) (part : Part) (actuals chans : List ℕ) → Entered old new part (ports_at path part) actuals chans → Counts old new (copy path part ∷ [])
-counts_copy old new path part actuals chans e = record {
+pub counts_copy : (old new : Draft) (path : Path) (part : Part) → Entered old new part (ports_at path part) → Counts old new (copy path part ∷ [])
+counts_copy old new path part e = record {
   comps_are = let k = ap length e.comps_are in omega (arith, k);
   chans_are = let own = drop (ports_at path part) part.channels.items in
       ap length e.chans_are ∙ (length-append old.chans.items own ∙ ap (λ xs. length old.chans.items + length xs) (sym (append-nil own)));
@@ -108,14 +98,14 @@ pub counts_leaf_step : (parts : List Part) (path : Path) (depth i : ℕ) (x : Co
     → Counts old new (visit parts path (walk parts depth) i x)
 counts_leaf_step parts path depth i x f old new none count same push ends = rw (none, visit) (counts_leaf path x f old new count same push ends)
 
-pub counts_copy_step : (parts : List Part) (path : Path) (depth i : ℕ) (x : Component) (in_part : Part) (old mid new : Draft) (actuals chans : List ℕ) → named parts x.name.items ≡ Some in_part
-    → 0 < depth → Entered old mid in_part (length in_part.ports.items) actuals chans → Counted parts in_part (depth - 1) mid new
+pub counts_copy_step : (parts : List Part) (path : Path) (depth i : ℕ) (x : Component) (in_part : Part) (old mid new : Draft) → named parts x.name.items ≡ Some in_part
+    → 0 < depth → Entered old mid in_part (length in_part.ports.items) → Counted parts in_part (depth - 1) mid new
     → Counts old new (visit parts path (walk parts depth) i x)
-counts_copy_step parts path zero i x in_part old mid new actuals chans some pos entered deeper = absurd (omega arith)
-counts_copy_step parts path (suc m) i x in_part old mid new actuals chans some pos entered deeper =
+counts_copy_step parts path zero i x in_part old mid new some pos entered deeper = absurd (omega arith)
+counts_copy_step parts path (suc m) i x in_part old mid new some pos entered deeper =
     let e : suc m - 1 ≡ m = omega arith in
     let below = rw e at (deeper (i ∷ path)) in
-    rw (some, visit) (counts_then old mid new (copy (i ∷ path) in_part ∷ []) _ (counts_copy old mid (i ∷ path) in_part actuals chans entered) below)
+    rw (some, visit) (counts_then old mid new (copy (i ∷ path) in_part ∷ []) _ (counts_copy old mid (i ∷ path) in_part entered) below)
 
 -- Too many below a stop are too many in the whole.
 pub too_many : (old mid : Draft) (ss ts us : List Stop) → Counts old mid ss → IsTooMany (length mid.comps.items) (length mid.chans.items) mid.ends ts

@@ -99,12 +99,12 @@ copy_fails parts part q n (suc m) i items x old mid e number same lt is some pos
     (λ path. (copy (suc i ∷ path) q, rw (some, visit) refl, λ many. many)) counts refused
 
 -- the walk ended below an instance
-pub deeper_fails : (parts : List Part) (part q : Part) (depth i : ℕ) (items : List Component) (x : Component) (old mid new : Draft) (actuals chans : List ℕ) (e : ElabError)
+pub deeper_fails : (parts : List Part) (part q : Part) (depth i : ℕ) (items : List Component) (x : Component) (old mid new : Draft) (e : ElabError)
     → items ≡ part.components.items → i < length items → x ≡ get_or items i x → named parts x.name.items ≡ Some q → 0 < depth
-    → ((path : Path) → Counts old mid (stops_before parts path depth items i)) → Entered mid new q (length q.ports.items) actuals chans
+    → ((path : Path) → Counts old mid (stops_before parts path depth items i)) → Entered mid new q (length q.ports.items)
     → Fails parts q (depth - 1) new e → Fails parts part depth old e
-deeper_fails parts part q zero i items x old mid new actuals chans e same lt is some pos counts entered fails = absurd (omega arith)
-deeper_fails parts part q (suc m) i items x old mid new actuals chans e same lt is some pos counts entered fails = λ top path at full.
+deeper_fails parts part q zero i items x old mid new e same lt is some pos counts entered fails = absurd (omega arith)
+deeper_fails parts part q (suc m) i items x old mid new e same lt is some pos counts entered fails = λ top path at full.
     let z : suc m - 1 ≡ m = omega arith in
     let has = component_at part items i x same is lt in
     let first : List Stop = copy (suc i ∷ path) q ∷ [] in
@@ -113,7 +113,7 @@ deeper_fails parts part q (suc m) i items x old mid new actuals chans e same lt 
     (rw z at fails) top (suc i ∷ path) (copied_inner parts top part q path (suc i) x at has some) (omega arith) in
     ends_up parts top new old below (below_copy parts path (suc m) part) e
     (λ many. in_whole parts part path (suc m) i items x old new first below [] same lt is (rw (some, visit, append-nil) refl)
-    (counts_then old mid new (stops_before parts path (suc m) items i) first (counts path) (counts_copy mid new (suc i ∷ path) q actuals chans entered)) many)
+    (counts_then old mid new (stops_before parts path (suc m) items i) first (counts path) (counts_copy mid new (suc i ∷ path) q entered)) many)
     inside
 
 -- The whole net.
@@ -133,13 +133,13 @@ ends_or parts top old ss TooBig up h = inr (up h)
 ends_or parts top old ss e up h = inr h
 
 -- the walk below the top ended early
-pub top_fails : (parts : List Part) (top : Part) (empty mid : Draft) (chans : List ℕ) (e : ElabError) → empty.comps.items ≡ [] → empty.chans.items ≡ [] → empty.ends ≡ 0
-    → Entered empty mid top 0 [] chans → Fails parts top most_instances mid e → (e ≡ Memory) ⊎ AppliesTo parts top e
+pub top_fails : (parts : List Part) (top : Part) (empty mid : Draft) (e : ElabError) → empty.comps.items ≡ [] → empty.chans.items ≡ [] → empty.ends ≡ 0
+    → Entered empty mid top 0 → Fails parts top most_instances mid e → (e ≡ Memory) ⊎ AppliesTo parts top e
 unfolding stops
-top_fails parts top empty mid chans e no_comps no_chans no_ends entered fails =
+top_fails parts top empty mid e no_comps no_chans no_ends entered fails =
     let first : List Stop = copy [] top ∷ [] in
     let below = below_copy parts [] most_instances top in
-    let counts : Counts empty mid ([] ++ first) = counts_copy empty mid [] top [] chans entered in
+    let counts : Counts empty mid ([] ++ first) = counts_copy empty mid [] top entered in
     let zero_comps : length empty.comps.items ≡ 0 = ap length no_comps in
     let zero_chans : length empty.chans.items ≡ 0 = ap length no_chans in
     ends_or parts top mid below e

@@ -1,20 +1,23 @@
 -- The net as far as the walk has come.
-use Rattle.std.proofs.Common.{◌≡◌, ℕ, zero, suc, ◌+◌, ◌-◌, ◌<◌, ◌≤◌, true, false, None, Some, List, [], ◌∷◌, ◌++◌, length, map, drop, take, inl, inr, refl, sym, ◌∙◌, ap, subst, arith, get_or, append_assoc, length-append, length-drop, slice_get, nat_le}
-use Rattle.std.specs.List.{flat_map}
+use Rattle.std.proofs.Common.{◌≡◌, ℕ, zero, suc, ◌+◌, ◌-◌, ◌<◌, ◌≤◌, true, false, Option, None, Some, List, [], ◌∷◌, ◌++◌, length, map, drop, take, inl, inr, refl, sym, ◌∙◌, ap, subst, arith, get_or, append_assoc, length-append, length-drop, slice_get, nat_le}
+use Rattle.std.specs.List.{flat_map, All}
 use Rattle.std.proofs.lemmas.Grind.{flat_map-append}
 use Rattle.std.proofs.lemmas.List.{append-nil, take_more, get_or-drop, length-take}
 use Rattle.std.proofs.lemmas.Bool.Decides.{leb_tells}
+use Rattle.std.proofs.lemmas.List.Elements.{All-head, All-tail}
 use Rattle.std.proofs.lemmas.Option.{slice_get_read}
 use Rattle.bz_model.specs.declared.channel.Chan.{Chan}
 use Rattle.bz_breeze.specs.declared.part.Part.{Part}
 use Rattle.bz_breeze.specs.declared.part.Component.{Component}
 use Rattle.bz_elab.specs.declared.flat.FlatComp.{FlatComp}
 use Rattle.bz_elab.specs.declared.walk.Draft.{Draft}
+use Rattle.bz_elab.specs.declared.walk.Level.{Level}
 use Rattle.bz_elab.specs.Entries.{flattened, arranged}
-use Rattle.bz_elab.specs.Paths.{Path, Place, Stop, copy, leaf, named, component, copied, joined, of_kind, each_from, visit, walk, stops, own_chans, own_places, places_from, ports_at, most_instances, chans_at}
-use Rattle.bz_elab.specs.Growth.{IsNumber, AreNumbers, AreLeaves, IsNet, numbers_from, CopyNumbers, Grows, Flattened, below_copy, AreActuals, Entered, IsFlat, Counts, Counted}
-use Rattle.bz_elab.specs.Refusals.{own_comps}
-use Rattle.bz_elab.proofs.Counting.{IsBare, each_from-push, counts_then, counts_copy, actuals_length}
+use Rattle.bz_elab.specs.Paths.{Path, Place, Stop, copy, leaf, named, component, copied, joined, of_kind, each_from, visit, walk, stops, own_chans, own_places, places_from, ports_at, most_instances, chans_at, chans_of_copy}
+use Rattle.bz_elab.specs.Growth.{IsBare, IsNumber, AreNumbers, AreLeaves, IsNet, net_number, FitsNet, CopyNumbers, Grows, Flattened, below_copy, Entered, IsFlat, IsSoundInstance, Counts, Counted}
+use Rattle.bz_elab.specs.Refusals.{own_comps, IsChannel}
+use Rattle.bz_elab.proofs.Counting.{each_from-push, counts_then, counts_copy}
+use Rattle.bz_elab.proofs.Slots.{all_arranged}
 
 places_from-length : (path : Path) (c n : ℕ) → length (places_from path c n) ≡ n
 places_from-length path c zero = refl
@@ -96,18 +99,28 @@ grows_then parts top before old mid new ss ts a b =
       leaves = rw places (leaves_then parts top _ ss ts a.comps b.comps (leaves_grow parts top _ (flat_map own_places ts) ss a.comps a.leaves) b.leaves);
     }
 
-actual_numbers : (parts : List Part) (top : Part) (before : List Place) (path : Path) (chans es ks : List ℕ) → CopyNumbers parts top before path chans → AreActuals chans es ks → AreNumbers before (map (joined parts top path) es) ks
-actual_numbers parts top before path chans [] [] n h = tt
-actual_numbers parts top before path chans [] (k ∷ ks) n h = absurd h
-actual_numbers parts top before path chans (e ∷ es) [] n h = absurd h
-actual_numbers parts top before path chans (e ∷ es) (k ∷ ks) n h =
-    (subst (IsNumber before (joined parts top path e)) (sym h.2) (n e h.0 h.1), actual_numbers parts top before path chans es ks n h.3)
+-- a channel of a part is one of its copy
+pub in_copy : (parts : List Part) (top part : Part) (path : Path) (k : ℕ) → copied parts top path ≡ Some part → k ≤ length part.channels.items → k ≤ length (chans_at parts top path)
+in_copy parts top part path k at le = subst (λ (o : Option Part). k ≤ length (chans_of_copy o)) (sym at) le
+
+of_copy : (parts : List Part) (top part : Part) (path : Path) (k : ℕ) → copied parts top path ≡ Some part → k ≤ length (chans_at parts top path) → k ≤ length part.channels.items
+of_copy parts top part path k at le = subst (λ (o : Option Part). k ≤ length (chans_of_copy o)) at le
+
+actual_numbers : (parts : List Part) (top : Part) (before : List Place) (path : Path) (levels : List Level) (es : List ℕ) → CopyNumbers parts top before path levels → All (IsChannel (chans_at parts top path)) es
+    → AreNumbers before (map (joined parts top path) es) (map (net_number levels) es)
+actual_numbers parts top before path levels [] n h = tt
+actual_numbers parts top before path levels (e ∷ es) n h =
+    let w = All-head (IsChannel (chans_at parts top path)) e es h in
+    (n e w.0 w.1, actual_numbers parts top before path levels es n (All-tail (IsChannel (chans_at parts top path)) e es h))
 
 -- one leaf more: f is g, on the net's channels in place of its part's
-pub grows_leaf : (parts : List Part) (top : Part) (before : List Place) (path : Path) (own : List Chan) (outer : List ℕ) (c : Component) (g f : FlatComp) (old new : Draft)
-    → chans_at parts top path ≡ own → CopyNumbers parts top before path outer → IsFlat own c g → AreActuals outer g.chans.items f.chans.items → f.kind ≡ g.kind → f.sizes ≡ g.sizes
+pub grows_leaf : (parts : List Part) (top : Part) (before : List Place) (path : Path) (own : List Chan) (outer : List Level) (c : Component) (g f : FlatComp) (old new : Draft)
+    → chans_at parts top path ≡ own → CopyNumbers parts top before path outer → IsFlat own c g → f.chans.items ≡ map (net_number outer) g.chans.items → f.kind ≡ g.kind → f.sizes ≡ g.sizes
     → new.chans.items ≡ old.chans.items → new.comps.items ≡ old.comps.items ++ f ∷ [] → Grows parts top before old new (leaf path c ∷ [])
-grows_leaf parts top before path own outer c g f old new here n flat h kind sizes same push =
+grows_leaf parts top before path own outer c g f old new here n flat on kind sizes same push =
+    let inside = subst (λ (es : List ℕ). All (IsChannel own) es) (sym flat.chans_are) (all_arranged (IsChannel own) g.kind own c.entries.items flat.sound.within) in
+    let within = subst (λ (xs : List Chan). All (IsChannel xs) g.chans.items) (sym here) inside in
+    let numbers = subst (λ (ks : List ℕ). AreNumbers before (map (joined parts top path) g.chans.items) ks) (sym on) (actual_numbers parts top before path outer g.chans.items n within) in
     let order : g.chans.items ≡ arranged f.kind (chans_at parts top path) c.entries.items =
     flat.chans_are ∙ ap (λ k. arranged k own c.entries.items) (sym kind) ∙ ap (λ chans. arranged f.kind chans c.entries.items) (sym here) in
     record {
@@ -118,30 +131,20 @@ grows_leaf parts top before path own outer c g f old new here n flat h kind size
         record {
           role_is = flat.role_is ∙ ap of_kind (sym kind);
           sizes_are = sizes ∙ flat.sizes_are;
-          chans = subst (λ es. AreNumbers before (map (joined parts top path) es) f.chans.items) order (actual_numbers parts top before path outer g.chans.items f.chans.items n h);
+          chans = subst (λ es. AreNumbers before (map (joined parts top path) es) f.chans.items) order numbers;
         },
         tt,
       );
     }
 
-pub grows_copy : (parts : List Part) (top : Part) (before : List Place) (i : ℕ) (up : Path) (part : Part) (old new : Draft) (actuals chans : List ℕ)
-    → Entered old new part (length part.ports.items) actuals chans → Grows parts top before old new (copy (i ∷ up) part ∷ [])
-grows_copy parts top before i up part old new actuals chans e = record {
+pub grows_copy : (parts : List Part) (top : Part) (before : List Place) (i : ℕ) (up : Path) (part : Part) (old new : Draft)
+    → Entered old new part (length part.ports.items) → Grows parts top before old new (copy (i ∷ up) part ∷ [])
+grows_copy parts top before i up part old new e = record {
   comps = [];
   chans_are = e.chans_are ∙ ap (λ x. old.chans.items ++ x) (sym (append-nil (drop (length part.ports.items) part.channels.items)));
   comps_are = e.comps_are ∙ sym (append-nil old.comps.items);
   leaves = tt;
 }
-
-pub actuals_push : (chans es ks : List ℕ) (e k : ℕ) → AreActuals chans es ks → 0 < e → e ≤ length chans → k ≡ get_or chans (e - 1) 0 → AreActuals chans (es ++ e ∷ []) (ks ++ k ∷ [])
-actuals_push chans [] [] e k h a b is = (a, b, is, tt)
-actuals_push chans [] (j ∷ ks) e k h a b is = absurd h
-actuals_push chans (d ∷ es) [] e k h a b is = absurd h
-actuals_push chans (d ∷ es) (j ∷ ks) e k h a b is = (h.0, h.1, h.2, actuals_push chans es ks e k h.3 a b is)
-
-pub numbers_push : (k n : ℕ) → numbers_from k (suc n) ≡ numbers_from k n ++ (k + n) ∷ []
-numbers_push k zero = let e : k + 0 ≡ k = omega arith in rw e refl
-numbers_push k (suc n) = let e : suc k + n ≡ k + suc n = omega arith in ap (λ x. k ∷ x) (rw (← e) (numbers_push (suc k) n))
 
 pub drop_push : {X : Type 0} (xs : List X) (p i : ℕ) (d : X) → p ≤ i → i < length xs → take (i + 1 - p) (drop p xs) ≡ take (i - p) (drop p xs) ++ get_or xs i d ∷ []
 drop_push xs p i d h lt =
@@ -157,22 +160,6 @@ take_whole [] (suc n) h = refl
 take_whole (x ∷ xs) zero h = absurd (omega arith)
 take_whole (x ∷ xs) (suc n) h = ap (λ ys. x ∷ ys) (take_whole xs n (omega arith))
 
-actual_at : (chans es ks : List ℕ) (j : ℕ) → AreActuals chans es ks → j < length ks → (0 < get_or es j 0) × (get_or es j 0 ≤ length chans) × (get_or ks j 0 ≡ get_or chans (get_or es j 0 - 1) 0)
-actual_at chans [] [] j h lt = absurd (omega arith)
-actual_at chans [] (k ∷ ks) j h lt = absurd h
-actual_at chans (e ∷ es) [] j h lt = absurd h
-actual_at chans (e ∷ es) (k ∷ ks) zero h lt = (h.0, h.1, h.2)
-actual_at chans (e ∷ es) (k ∷ ks) (suc j) h lt = actual_at chans es ks j h.3 (omega arith)
-
-numbers_at : (k n j : ℕ) → j < n → get_or (numbers_from k n) j 0 ≡ k + j
-numbers_at k zero j h = absurd (omega arith)
-numbers_at k (suc n) zero h = omega arith
-numbers_at k (suc n) (suc j) h = let e : suc k + j ≡ k + suc j = omega arith in rw (← e) (numbers_at (suc k) n j (omega arith))
-
-pub numbers_length : (k n : ℕ) → length (numbers_from k n) ≡ n
-numbers_length k zero = refl
-numbers_length k (suc n) = ap suc (numbers_length (suc k) n)
-
 abbrev place : Path → ℕ → Place
 place path number = record { path = path; number = number }
 
@@ -180,15 +167,6 @@ places_at : (path : Path) (c n j : ℕ) → j < n → slice_get (places_from pat
 places_at path c zero j h = absurd (omega arith)
 places_at path c (suc n) zero h = let e : c + 0 ≡ c = omega arith in rw e refl
 places_at path c (suc n) (suc j) h = let e : suc c + j ≡ c + suc j = omega arith in rw (← e) (places_at path (suc c) n j (omega arith))
-
-get_or-left : (xs ys : List ℕ) (j : ℕ) → j < length xs → get_or (xs ++ ys) j 0 ≡ get_or xs j 0
-get_or-left [] ys j h = absurd (omega arith)
-get_or-left (x ∷ xs) ys zero h = refl
-get_or-left (x ∷ xs) ys (suc j) h = get_or-left xs ys j (omega arith)
-
-get_or-right : (xs ys : List ℕ) (j : ℕ) → get_or (xs ++ ys) (length xs + j) 0 ≡ get_or ys j 0
-get_or-right [] ys j = let e : 0 + j ≡ j = omega arith in rw e refl
-get_or-right (z ∷ zs) ys j = let e : suc (length zs) + j ≡ suc (length zs + j) = omega arith in rw e (get_or-right zs ys j)
 
 -- the copy at i ∷ up is of `part`, an instance's
 pub copied_inner : (parts : List Part) (top part in_part : Part) (up : Path) (i : ℕ) (c : Component) → copied parts top up ≡ Some part → component part i ≡ Some c → named parts c.name.items ≡ Some in_part
@@ -214,37 +192,47 @@ joined_own parts top part in_part up i c k at has is lt =
     let e = le_false k (length in_part.ports.items) lt in
     rw (copied_inner parts top part in_part up i c at has is, e) refl
 
-pub copy_numbers : (parts : List Part) (top part in_part : Part) (before : List Place) (up : Path) (i : ℕ) (c : Component) (old new : Draft) (outer actuals chans : List ℕ)
+pub copy_numbers : (parts : List Part) (top part in_part : Part) (before : List Place) (up : Path) (i : ℕ) (c : Component) (old : Draft) (outer : List Level) (level : Level)
     → copied parts top up ≡ Some part → component part i ≡ Some c → named parts c.name.items ≡ Some in_part
-    → CopyNumbers parts top before up outer → AreActuals outer (flattened c.entries.items) actuals → Entered old new in_part (length in_part.ports.items) actuals chans → length actuals ≡ length in_part.ports.items
-    → length before ≡ length old.chans.items → CopyNumbers parts top (before ++ flat_map own_places (copy (i ∷ up) in_part ∷ [])) (i ∷ up) chans
-copy_numbers parts top part in_part before up i c old new outer actuals chans at has is n are entered count len k from to =
+    → CopyNumbers parts top before up outer → IsSoundInstance part.channels.items c in_part → level.ports.now ≡ flattened c.entries.items → level.before ≡ length old.chans.items
+    → length before ≡ length old.chans.items → CopyNumbers parts top (before ++ flat_map own_places (copy (i ∷ up) in_part ∷ [])) (i ∷ up) (level ∷ outer)
+copy_numbers parts top part in_part before up i c old outer level at has is n sound ports_are before_is len k from to =
     let ports = length in_part.ports.items in
     let own = length in_part.channels.items - ports in
     let places = places_from (i ∷ up) (suc ports) own in
-    let all : length chans ≡ ports + own = ap length entered.numbers ∙ length-append actuals (numbers_from (suc (length old.chans.items)) own) ∙ (let z = numbers_length (suc (length old.chans.items)) own in omega arith) in
-    elim (leb_tells k ports) [
+    let entries = flattened c.entries.items in
+    let many : length level.ports.now ≡ ports = ap length ports_are ∙ sound.count in
+    let le = of_copy parts top in_part (i ∷ up) k (copied_inner parts top part in_part up i c at has is) to in
+    elim (leb_tells k (length level.ports.now)) [
       | inl h ↦
-          let a = actual_at outer (flattened c.entries.items) actuals (k - 1) are (omega (arith, h.1)) in
-          let b : get_or chans (k - 1) 0 ≡ get_or actuals (k - 1) 0 = ap (λ xs. get_or xs (k - 1) 0) entered.numbers ∙ get_or-left actuals _ (k - 1) (omega (arith, h.1)) in
-          rw (joined_port parts top part in_part up i c k at has is h.1, b, a.2)
-          (number_grows before (flat_map own_places (copy (i ∷ up) in_part ∷ [])) _ _ (n (get_or (flattened c.entries.items) (k - 1) 0) a.0 a.1))
+          let e = get_or entries (k - 1) 0 in
+          let w : IsChannel part.channels.items e = sound.within (k - 1) 0 (omega (arith, h.1, many, sound.count, from)) in
+          rw (joined_port parts top part in_part up i c k at has is (omega (arith, h.1, many)), h.0, ports_are)
+          (number_grows before (flat_map own_places (copy (i ∷ up) in_part ∷ [])) _ _ (n e w.0 (in_copy parts top part up e at w.1)))
       | inr h ↦
           let j = k - 1 - ports in
-          let s : j < own = omega (arith, h.1, all, to) in
-          let p : length actuals + j ≡ k - 1 = omega (arith, h.1) in
-          let b : get_or chans (k - 1) 0 ≡ suc (length old.chans.items) + j =
-          ap (λ xs. get_or xs (k - 1) 0) entered.numbers ∙ ap (λ x. get_or (actuals ++ numbers_from (suc (length old.chans.items)) own) x 0) (sym p)
-          ∙ get_or-right actuals (numbers_from (suc (length old.chans.items)) own) j ∙ numbers_at (suc (length old.chans.items)) own j s in
-          let q : suc (length old.chans.items) + j - 1 ≡ length before + j = omega arith in
-          let r : suc ports + j ≡ k = omega (arith, h.1) in
+          let s : j < own = omega (arith, h.1, many, le) in
+          let q : level.before + (k - length level.ports.now) - 1 ≡ length before + j = omega (arith, h.1, many, before_is, len) in
+          let r : suc ports + j ≡ k = omega (arith, h.1, many) in
           let stands : slice_get (before ++ (places ++ [])) (length before + j) ≡ Some (place (i ∷ up) k) =
           slice_get-right before (places ++ []) j ∙ rw append-nil (places_at (i ∷ up) (suc ports) own j s ∙ ap (λ x. Some (place (i ∷ up) x)) r) in
-          rw (joined_own parts top part in_part up i c k at has is h.1, b, q) (omega arith, stands)
+          rw (joined_own parts top part in_part up i c k at has is (omega (arith, h.1, many)), h.0, q) (omega (arith, h.1), stands)
     ]
 
-pub copies_grow : (parts : List Part) (top : Part) (before more : List Place) (path : Path) (chans : List ℕ) → CopyNumbers parts top before path chans → CopyNumbers parts top (before ++ more) path chans
-copies_grow parts top before more path chans n c from to = number_grows before more _ _ (n c from to)
+-- what is on the way to a copy stays among the channels of the net
+pub fits_inside : (levels : List Level) (level : Level) (n m k : ℕ) (own : ℕ) → FitsNet levels n m → All (λ e. (0 < e) × (e ≤ n)) level.ports.now → level.before ≡ m → m + (own - length level.ports.now) ≡ k
+    → FitsNet (level ∷ levels) own k
+fits_inside levels level n m k own fits within before_is all c from to = elim (leb_tells c (length level.ports.now)) [
+  | inl h ↦
+      let e = get_or level.ports.now (c - 1) 0 in
+      let w : (0 < e) × (e ≤ n) = within (c - 1) 0 (omega (arith, h.1, from)) in
+      let le = fits e w.0 w.1 in
+      rw h.0 (omega (arith, le, all))
+  | inr h ↦ rw h.0 (omega (arith, h.1, before_is, all, to))
+]
+
+pub copies_grow : (parts : List Part) (top : Part) (before more : List Place) (path : Path) (levels : List Level) → CopyNumbers parts top before path levels → CopyNumbers parts top (before ++ more) path levels
+copies_grow parts top before more path levels n c from to = number_grows before more _ _ (n c from to)
 
 pub length_grown : (parts : List Part) (top : Part) (before : List Place) (old new : Draft) (ss : List Stop) → Grows parts top before old new ss → length before ≡ length old.chans.items
     → length (before ++ flat_map own_places ss) ≡ length new.chans.items
@@ -265,24 +253,24 @@ flatten_step parts top path before depth idx items x old mid new is lt a b =
     ap (each_from 1 V) e ∙ each_from-push 1 V (take idx items) x ∙ ap (λ j. each_from 1 V (take idx items) ++ V j x) n in
     subst (λ ss. Grows parts top before old new ss) (sym f) (grows_then parts top before old mid new _ _ a b)
 
-pub leaf_step : (parts : List Part) (top : Part) (path : Path) (before : List Place) (depth i : ℕ) (own : List Chan) (outer : List ℕ) (x : Component) (g f : FlatComp) (old new : Draft)
-    → named parts x.name.items ≡ None → chans_at parts top path ≡ own → CopyNumbers parts top before path outer → IsFlat own x g → AreActuals outer g.chans.items f.chans.items → f.kind ≡ g.kind → f.sizes ≡ g.sizes
+pub leaf_step : (parts : List Part) (top : Part) (path : Path) (before : List Place) (depth i : ℕ) (own : List Chan) (outer : List Level) (x : Component) (g f : FlatComp) (old new : Draft)
+    → named parts x.name.items ≡ None → chans_at parts top path ≡ own → CopyNumbers parts top before path outer → IsFlat own x g → f.chans.items ≡ map (net_number outer) g.chans.items → f.kind ≡ g.kind → f.sizes ≡ g.sizes
     → new.chans.items ≡ old.chans.items → new.comps.items ≡ old.comps.items ++ f ∷ [] → Grows parts top before old new (visit parts path (walk parts depth) i x)
-leaf_step parts top path before depth i own outer x g f old new none here n flat are kind sizes same push =
-    rw (none, visit) (grows_leaf parts top before path own outer x g f old new here n flat are kind sizes same push)
+leaf_step parts top path before depth i own outer x g f old new none here n flat on kind sizes same push =
+    rw (none, visit) (grows_leaf parts top before path own outer x g f old new here n flat on kind sizes same push)
 
-pub copy_step : (parts : List Part) (top part in_part : Part) (path : Path) (before : List Place) (depth i : ℕ) (x : Component) (outer actuals chans : List ℕ) (old mid new : Draft)
+pub copy_step : (parts : List Part) (top part in_part : Part) (path : Path) (before : List Place) (depth i : ℕ) (x : Component) (outer : List Level) (level : Level) (old mid new : Draft)
     → named parts x.name.items ≡ Some in_part → copied parts top path ≡ Some part → component part i ≡ Some x
-    → CopyNumbers parts top before path outer → AreActuals outer (flattened x.entries.items) actuals → length before ≡ length old.chans.items
-    → Entered old mid in_part (length in_part.ports.items) actuals chans → length actuals ≡ length in_part.ports.items → 0 < depth → Flattened parts in_part chans (depth - 1) mid new
+    → CopyNumbers parts top before path outer → IsSoundInstance part.channels.items x in_part → level.ports.now ≡ flattened x.entries.items → level.before ≡ length old.chans.items
+    → length before ≡ length old.chans.items → Entered old mid in_part (length in_part.ports.items) → 0 < depth → Flattened parts in_part (level ∷ outer) (depth - 1) mid new
     → Grows parts top before old new (visit parts path (walk parts depth) i x)
-copy_step parts top part in_part path before zero i x outer actuals chans old mid new is at has n are len entered count pos deeper = absurd (omega arith)
-copy_step parts top part in_part path before (suc m) i x outer actuals chans old mid new is at has n are len entered count pos deeper =
-    let here = grows_copy parts top before i path in_part old mid actuals chans entered in
+copy_step parts top part in_part path before zero i x outer level old mid new is at has n sound ports_are before_is len entered pos deeper = absurd (omega arith)
+copy_step parts top part in_part path before (suc m) i x outer level old mid new is at has n sound ports_are before_is len entered pos deeper =
+    let here = grows_copy parts top before i path in_part old mid entered in
     let e : suc m - 1 ≡ m = omega arith in
     let below = rw e at (deeper top (i ∷ path) (before ++ flat_map own_places (copy (i ∷ path) in_part ∷ [])) (copied_inner parts top part in_part path i x at has is)
     (length_grown parts top before old mid (copy (i ∷ path) in_part ∷ []) here len)
-    (copy_numbers parts top part in_part before path i x old mid outer actuals chans at has is n are entered count len)) in
+    (copy_numbers parts top part in_part before path i x old outer level at has is n sound ports_are before_is len)) in
     rw (is, visit) (grows_then parts top before old mid new (copy (i ∷ path) in_part ∷ []) _ here below)
 
 -- component idx + 1 is that of the list
@@ -293,24 +281,22 @@ pub pushed : {X : Type 0} (old mid new a b : List X) (x y : X) → new ≡ mid +
 pushed old mid new a b x y e f g h = e ∙ (ap (λ zs. zs ++ x ∷ []) f ∙ (append_assoc old a (x ∷ []) ∙ (ap (λ z. old ++ (a ++ z ∷ [])) g ∙ ap (λ zs. old ++ zs) (sym h))))
 
 -- the whole net
-pub top_numbers : (parts : List Part) (top : Part) (empty new : Draft) (chans : List ℕ) → empty.chans.items ≡ [] → Entered empty new top 0 [] chans
-    → CopyNumbers parts top (flat_map own_places (copy [] top ∷ [])) [] chans
-top_numbers parts top empty new chans none entered c from to =
+pub top_numbers : (parts : List Part) (top : Part) → CopyNumbers parts top (flat_map own_places (copy [] top ∷ [])) [] []
+top_numbers parts top c from to =
     let n = length top.channels.items in
     let z : n - 0 ≡ n = omega arith in
-    let k : suc (length empty.chans.items) ≡ 1 = ap (λ xs. suc (length xs)) none in
-    let is : chans ≡ numbers_from 1 n = entered.numbers ∙ (ap (λ x. numbers_from x (n - 0)) k ∙ ap (numbers_from 1) z) in
-    let all : length chans ≡ n = ap length is ∙ numbers_length 1 n in
     let j : 1 + (c - 1) ≡ c = omega arith in
-    let b : get_or chans (c - 1) 0 ≡ c = ap (λ xs. get_or xs (c - 1) 0) is ∙ (numbers_at 1 n (c - 1) (omega arith) ∙ j) in
     let stands : slice_get (places_from [] 1 (n - 0) ++ []) (c - 1) ≡ Some (place [] c) =
-    rw (append-nil, z) (places_at [] 1 n (c - 1) (omega arith) ∙ ap (λ x. Some (place [] x)) j) in
-    rw b (from, stands)
+    rw (append-nil, z) (places_at [] 1 n (c - 1) (omega (arith, from, to)) ∙ ap (λ x. Some (place [] x)) j) in
+    (from, stands)
 
-pub whole_net : (parts : List Part) (top : Part) (empty mid new : Draft) (chans : List ℕ) → empty.chans.items ≡ [] → empty.comps.items ≡ [] → empty.ends ≡ 0 → Entered empty mid top 0 [] chans
-    → Flattened parts top chans most_instances mid new → Counted parts top most_instances mid new → IsNet parts top new
+pub top_fits : (top : Part) (n : ℕ) → n ≡ length top.channels.items → FitsNet [] (length top.channels.items) n
+top_fits top n is c from to = omega (arith, is, to)
+
+pub whole_net : (parts : List Part) (top : Part) (empty mid new : Draft) → empty.chans.items ≡ [] → empty.comps.items ≡ [] → empty.ends ≡ 0 → Entered empty mid top 0
+    → Flattened parts top [] most_instances mid new → Counted parts top most_instances mid new → IsNet parts top new
 unfolding stops
-whole_net parts top empty mid new chans no_chans no_comps no_ends entered deeper counted =
+whole_net parts top empty mid new no_chans no_comps no_ends entered deeper counted =
     let first = copy [] top in
     let rest = below_copy parts [] most_instances top in
     let here : Grows parts top [] empty mid (first ∷ []) = record {
@@ -319,9 +305,9 @@ whole_net parts top empty mid new chans no_chans no_comps no_ends entered deeper
       comps_are = entered.comps_are ∙ sym (append-nil empty.comps.items);
       leaves = tt;
     } in
-    let below = deeper top [] (flat_map own_places (first ∷ [])) refl (length_grown parts top [] empty mid (first ∷ []) here (sym (ap length no_chans))) (top_numbers parts top empty mid chans no_chans entered) in
+    let below = deeper top [] (flat_map own_places (first ∷ [])) refl (length_grown parts top [] empty mid (first ∷ []) here (sym (ap length no_chans))) (top_numbers parts top) in
     let all = grows_then parts top [] empty mid new (first ∷ []) rest here below in
-    let counts : Counts empty new (first ∷ rest) = counts_then empty mid new (first ∷ []) rest (counts_copy empty mid [] top [] chans entered) (counted []) in
+    let counts : Counts empty new (first ∷ rest) = counts_then empty mid new (first ∷ []) rest (counts_copy empty mid [] top entered) (counted []) in
     record {
       chans_are = all.chans_are ∙ ap (λ x. x ++ flat_map own_chans (first ∷ rest)) no_chans;
       comps_len = let n = counts.comps_are in let m = ap length no_comps in omega (arith, n, m);
@@ -329,11 +315,11 @@ whole_net parts top empty mid new chans no_chans no_comps no_ends entered deeper
       leaves = let e : new.comps.items ≡ all.comps = all.comps_are ∙ ap (λ x. x ++ all.comps) no_comps in rw e all.leaves;
     }
 
--- an instance's ports are as many as its part's
-pub actuals_count : (chans es ks : List ℕ) (n : ℕ) → AreActuals chans es ks → length es ≡ n → length ks ≡ n
-actuals_count chans es ks n are count = actuals_length chans es ks are ∙ count
-
 -- the top's channels are all its part's
-pub top_length : (empty mid : Draft) (top : Part) (chans : List ℕ) → Entered empty mid top 0 [] chans → length chans ≡ length top.channels.items
-top_length empty mid top chans e =
-    ap length e.numbers ∙ (numbers_length (suc (length empty.chans.items)) (length top.channels.items - 0) ∙ omega arith)
+pub top_length : (empty mid : Draft) (top : Part) → empty.chans.items ≡ [] → Entered empty mid top 0 → length mid.chans.items ≡ length top.channels.items
+top_length empty mid top none e =
+    let n = ap length e.chans_are in
+    let m = length-append empty.chans.items (drop 0 top.channels.items) in
+    let z = ap length none in
+    let d = length-drop 0 top.channels.items in
+    omega (arith, n, m, z, d)

@@ -19,3 +19,6 @@ pub mod Meeting
 pub mod Wiring
 pub mod Refusing
 pub mod Checking
+pub mod Items
+pub mod Looking
+pub mod Ranking

@@ -1,11 +1,11 @@
 -- The table of ends, as far as a pass over the components has come.
-use Rattle.std.proofs.Common.{◌≡◌, ◌≢◌, ℕ, suc, min, ◌+◌, ◌-◌, ◌<◌, ◌≤◌, ◌^◌, Bool, true, false, not, Option, None, Some, List, length, ◌⊎◌, inl, inr, refl, sym, ◌∙◌, ap, subst, arith, get_or, add-one, is_some, if◌then◌else◌}
+use Rattle.std.proofs.Common.{◌≡◌, ◌≢◌, ℕ, zero, suc, min, ◌+◌, ◌-◌, ◌<◌, ◌≤◌, ◌^◌, Bool, true, false, not, Option, None, Some, List, length, ◌⊎◌, inl, inr, refl, sym, ◌∙◌, ap, subst, arith, get_or, replicate, add-one, is_some, if◌then◌else◌}
 use Rattle.std.proofs.lemmas.Bool.Decides.{eqb_tells, leb_tells}
 use Rattle.bz_elab.specs.declared.flat.Ends.{Ends}
 use Rattle.bz_model.specs.Names.{External}
 use Rattle.bz_model.specs.Hosts.{port_is_passive}
 use Rattle.bz_model.specs.Nets.{Site, IsPort, site_at, chan_at, passive_at}
-use Rattle.bz_elab.specs.Wires.{IsEnd, HasTwo, end_at}
+use Rattle.bz_elab.specs.Wires.{IsEnd, HasTwo, at_side, no_ends, end_at, end_port_at}
 use Rattle.bz_elab.specs.Seats.{Seated, Seats, Passed, IsHere, CompsFit, WellEnded}
 use Rattle.bz_model.specs.Rows.{is_passive}
 
@@ -28,17 +28,23 @@ other_one false false h = absurd (h refl)
 other_one true false h = refl
 other_one false true h = refl
 
-others : (old new : List Ends) (k : ℕ) (side : Bool) (c : ℕ) → Seats old new k side c false → (j : ℕ) (s : Bool) → 0 < j → (j ≡ k → s ≡ side → ⊥) → end_at new j s ≡ end_at old j s
-others old new k side c seats j s h not_it = elim (eqb_tells j k) [
+others : (old new : List Ends) (k : ℕ) (side : Bool) (c p : ℕ) → Seats old new k side c p false → (j : ℕ) (s : Bool) → 0 < j → (j ≡ k → s ≡ side → ⊥) → end_at new j s ≡ end_at old j s
+others old new k side c p seats j s h not_it = elim (eqb_tells j k) [
   | inl e ↦ let t : s ≡ not side = other_one s side (not_it e.1) in rw (e.1, t) (seats.other_side refl)
   | inr e ↦ seats.other_chans refl j s h e.1
+]
+
+other_ports : (old new : List Ends) (k : ℕ) (side : Bool) (c p : ℕ) → Seats old new k side c p false → (j : ℕ) (s : Bool) → 0 < j → (j ≡ k → s ≡ side → ⊥) → end_port_at new j s ≡ end_port_at old j s
+other_ports old new k side c p seats j s h not_it = elim (eqb_tells j k) [
+  | inl e ↦ let t : s ≡ not side = other_one s side (not_it e.1) in rw (e.1, t) (seats.other_port refl)
+  | inr e ↦ seats.other_ports refl j s h e.1
 ]
 
 pub seated_same : (sites : List Site) (P Q : ℕ → ℕ → Type 0) (ends : List Ends) (clash : ℕ)
     → ((c p : ℕ) → IsPort sites c p → P c p → Q c p) → ((c p : ℕ) → IsPort sites c p → Q c p → P c p)
     → Seated sites P ends clash → Seated sites Q ends clash
 seated_same sites P Q ends clash to from s = record {
-  stands = λ k c side h e. let (p, seen, is_end) = s.stands k c side h e in (p, to c p is_end.is_port seen, is_end);
+  stands = λ k c side h e. let (p, port, seen, is_end) = s.stands k c side h e in (p, port, to c p is_end.is_port seen, is_end);
   seen = λ k c p side h q is_end. s.seen k c p side h (from c p is_end.is_port q) is_end;
   single = λ k c p d q side h below qc ec qd ed. s.single k c p d q side h below (from c p ec.is_port qc) ec (from d q ed.is_port qd) ed;
   clashes = s.clashes;
@@ -71,14 +77,14 @@ not_passed c p (inr h) = omega arith
 
 -- an end that stands where another one stood already
 pub seated_taken : (sites : List Site) (P : ℕ → ℕ → Type 0) (old new : List Ends) (clash k : ℕ) (side : Bool) (c p : ℕ)
-    → Seated sites P old clash → Seats old new k side c true → 0 < k → IsEnd sites k side c p → (P c p → ⊥)
+    → Seated sites P old clash → Seats old new k side c p true → 0 < k → IsEnd sites k side c p → (P c p → ⊥)
     → Seated sites (OrThis P c p) new (min clash k)
 seated_taken sites P old new clash k side c p s seats from this fresh =
     let (d, at) = found (end_at old k side) (seats.stood refl) in
-    let (q, seen, is_end) = s.stands k d side from at in
+    let (q, port, seen, is_end) = s.stands k d side from at in
     let two : HasTwo sites k = (side, c, p, d, q, this, is_end, λ (e, f). fresh (subst (λ (x : ℕ). P x p) (sym e) (subst (λ (y : ℕ). P d y) (sym f) seen))) in
     record {
-      stands = λ j b t h e. let (r, w, is) = s.stands j b t h (rw (seats.same refl) at e) in (r, inl w, is);
+      stands = λ j b t h e. let (r, port', w, is) = s.stands j b t h (rw (seats.same refl) at e) in (r, rw (seats.same refl) port', inl w, is);
       seen = λ j b r t h w is. rw (seats.same refl) (elim w [
         | inl v ↦ s.seen j b r t h v is
         | inr v ↦ let kj : k ≡ j = cc (this.on, is.on, v.0, v.1) in let st : side ≡ t = cc (this.sense, is.sense, v.0) in rw (← kj, ← st) (seats.stood refl)
@@ -92,17 +98,18 @@ seated_taken sites P old new clash k side c p s seats from this fresh =
 
 -- an end that stands alone of its sense so far
 pub seated_free : (sites : List Site) (P : ℕ → ℕ → Type 0) (old new : List Ends) (clash k : ℕ) (side : Bool) (c p : ℕ)
-    → Seated sites P old clash → Seats old new k side c false → 0 < k → IsEnd sites k side c p
+    → Seated sites P old clash → Seats old new k side c p false → 0 < k → IsEnd sites k side c p
     → Seated sites (OrThis P c p) new clash
 seated_free sites P old new clash k side c p s seats from this =
     let at_this : (j b r : ℕ) (t : Bool) → IsEnd sites j t b r → (b ≡ c) × (r ≡ p) → (j ≡ k) × (t ≡ side) =
     λ j b r t is (f, g). (cc (this.on, is.on, f, g), cc (this.sense, is.sense, f)) in
-    let kept : (j : ℕ) (t : Bool) → 0 < j → (j ≡ k → t ≡ side → ⊥) → end_at new j t ≡ end_at old j t = others old new k side c seats in
+    let kept : (j : ℕ) (t : Bool) → 0 < j → (j ≡ k → t ≡ side → ⊥) → end_at new j t ≡ end_at old j t = others old new k side c p seats in
+    let kept_port : (j : ℕ) (t : Bool) → 0 < j → (j ≡ k → t ≡ side → ⊥) → end_port_at new j t ≡ end_port_at old j t = other_ports old new k side c p seats in
     let none_seen : (b r : ℕ) → P b r → IsEnd sites k side b r → ⊥ = λ b r w is. s.seen k b r side from w is (seats.free refl) in
     record {
       stands = λ j b t h e. elim (same_seat j k t side) [
-        | inl u ↦ let bc : b ≡ c = some_is (seats.put refl) (rw (u.0, u.1) at e) in (p, inr (bc, refl), rw (u.0, u.1, bc) this)
-        | inr u ↦ let (r, w, is) = s.stands j b t h (sym (kept j t h u) ∙ e) in (r, inl w, is)
+        | inl u ↦ let bc : b ≡ c = some_is (seats.put refl) (rw (u.0, u.1) at e) in (p, rw (u.0, u.1) (seats.put_port refl), inr (bc, refl), rw (u.0, u.1, bc) this)
+        | inr u ↦ let (r, port, w, is) = s.stands j b t h (sym (kept j t h u) ∙ e) in (r, kept_port j t h u ∙ port, inl w, is)
       ];
       seen = λ j b r t h w is. elim w [
         | inl v ↦ elim (same_seat j k t side) [
@@ -125,7 +132,7 @@ seated_free sites P old new clash k side c p s seats from this =
     }
 
 pub seated_port : (sites : List Site) (old new : List Ends) (clash k : ℕ) (c p : ℕ) (side taken : Bool)
-    → Seated sites (Passed c p) old clash → Seats old new k side c taken → 0 < k → IsEnd sites k side c (suc p)
+    → Seated sites (Passed c p) old clash → Seats old new k side c (suc p) taken → 0 < k → IsEnd sites k side c (suc p)
     → Seated sites (Passed c (suc p)) new (if taken then min clash k else clash)
 seated_port sites old new clash k c p side true s seats from this =
     seated_same sites (OrThis (Passed c p) c (suc p)) (Passed c (suc p)) new (min clash k) (passed_more c p) (passed_less c p)
@@ -155,10 +162,10 @@ passed_suc sites c n site ends clash here all = seated_same sites (Passed c n) (
     ])
 
 pub seated_next : (sites : List Site) (old new : List Ends) (clash least k : ℕ) (c p : ℕ) (side taken : Bool)
-    → Seated sites (Passed c p) old clash → Seats old new k side c taken → 0 < k → IsEnd sites k side c (suc p)
+    → Seated sites (Passed c p) old clash → Seats old new k side c (p + 1) taken → 0 < k → IsEnd sites k side c (suc p)
     → ((taken ≡ true) × (least ≡ min clash k)) ⊎ ((taken ≡ false) × (least ≡ clash)) → Seated sites (Passed c (p + 1)) new least
-seated_next sites old new clash least k c p side true s seats from this (inl h) = rw (h.1, add-one) (seated_port sites old new clash k c p side true s seats from this)
-seated_next sites old new clash least k c p side false s seats from this (inr h) = rw (h.1, add-one) (seated_port sites old new clash k c p side false s seats from this)
+seated_next sites old new clash least k c p side true s seats from this (inl h) = rw (h.1, add-one) (seated_port sites old new clash k c p side true s (rw add-one at seats) from this)
+seated_next sites old new clash least k c p side false s seats from this (inr h) = rw (h.1, add-one) (seated_port sites old new clash k c p side false s (rw add-one at seats) from this)
 seated_next sites old new clash least k c p side true s seats from this (inr h) = cc
 seated_next sites old new clash least k c p side false s seats from this (inl h) = cc
 
@@ -199,11 +206,38 @@ table_ends sites ports n ends fit few s even free =
       host_end = λ c p is in_ports. same_unless _ _ (λ e. seen c p is (ap (end_at ends (chan_at sites c p)) e ∙ free _ (from c p is).0 in_ports));
       other_end = λ c p is beyond.
           let (d, at) = found _ (both ends (chan_at sites c p) (passive_at sites c p) (even _ beyond (from c p is).1) (seen c p is)) in
-          let (q, w, end) = s.stands _ d _ (from c p is).0 at in (d, q, end);
+          let (q, port, w, end) = s.stands _ d _ (from c p is).0 at in (d, q, end);
       finds = λ c p is.
           let (d, at) = found _ (seen c p is) in
-          let (q, w, end) = s.stands _ d _ (from c p is).0 at in
+          let (q, port, w, end) = s.stands _ d _ (from c p is).0 at in
           let same = s.single _ c p d q _ (from c p is).0 (below c p is) (passed c p is) (this c p is) w end in
-          at ∙ ap Some (sym same.0);
-      holds = λ k c side h e. let (p, w, end) = s.stands k c side h e in (p, end);
+          (at ∙ ap Some (sym same.0), port ∙ sym same.1);
+      holds = λ k c side h e. let (p, port, w, end) = s.stands k c side h e in subst (λ (q : ℕ). IsEnd sites k side c q) (sym port) end;
+    }
+
+none_in : (n i : ℕ) → get_or (replicate n no_ends) i no_ends ≡ no_ends
+none_in zero i = refl
+none_in (suc n) zero = refl
+none_in (suc n) (suc i) = none_in n i
+
+none_at : (side : Bool) → at_side no_ends side ≡ None
+none_at true = refl
+none_at false = refl
+
+none_some : (o : Option ℕ) (c : ℕ) → o ≡ None → o ≡ Some c → ⊥
+none_some o c e f = cc
+
+-- before any component is looked at the table is empty
+pub seated_none : (sites : List Site) (n : ℕ) → Seated sites (Passed 1 0) (replicate n no_ends) (2 ^ 32 - 1)
+seated_none sites n =
+    let empty : (k : ℕ) (side : Bool) → end_at (replicate n no_ends) k side ≡ None = λ k side. ap (λ (e : Ends). at_side e side) (none_in n (k - 1)) ∙ none_at side in
+    let never : (d q : ℕ) → IsPort sites d q → Passed 1 0 d q → ⊥ = λ d q is w. elim w [
+      | inl h ↦ (let from = is.comp_from in omega (arith, from, h))
+      | inr h ↦ (let from = is.port_from in omega (arith, from, h.1))
+    ] in
+    record {
+      stands = λ k c side h e. absurd (none_some (end_at (replicate n no_ends) k side) c (empty k side) e);
+      seen = λ k c p side h w is. absurd (never c p is.is_port w);
+      single = λ k c p d q side h below w is v js. absurd (never c p is.is_port w);
+      clashes = λ below. absurd (omega (arith, below));
     }

@@ -5,13 +5,13 @@ use Rattle.std.proofs.lemmas.List.{take_more, drop_more, drop-drop}
 use Rattle.std.proofs.lemmas.List.Elements.{filter_map-append, All-nil, All-cons, All-head, All-tail, All-append}
 use Rattle.std.proofs.lemmas.List.Sums.{sum_by-cons}
 use Rattle.bz_model.specs.Rows.{PortRow, row_of}
-use Rattle.bz_kinds.specs.declared.table.PortRow as code
-use Rattle.bz_kinds.specs.Table.{seen}
+use Rattle.bz_kind_table.specs.declared.table.PortRow as code
+use Rattle.bz_kind_table.specs.Table.{seen}
 use Rattle.bz_breeze.specs.declared.part.Slot.{Slot}
 use Rattle.bz_breeze.specs.declared.part.Slot.TheVariants.{One, Many}
 use Rattle.bz_model.specs.declared.channel.Chan.{Chan}
 use Rattle.bz_model.specs.declared.kind.Kind.{Kind}
-use Rattle.bz_elab.specs.Entries.{flattened, singles, lists, list_of, first_list, in_row, pulls, guard_second, has_guard, in_order, arranged}
+use Rattle.bz_elab.specs.Entries.{flattened, singles, lists, list_of, first_list, in_row, pulls, guard_second, guard_in_front, has_guard, leads_with_guard, in_order, arranged}
 use Rattle.std.proofs.Math.ListN.{get_or-map as read-map}
 
 pub drop_item : {X : Type 0} (xs : List X) (i : ℕ) (x : X) → i < length xs → x ≡ get_or xs i x → drop i xs ≡ x ∷ drop (i + 1) xs
@@ -190,11 +190,39 @@ guard_other chans (a ∷ b ∷ []) l = refl
 guard_other chans (a ∷ b ∷ c ∷ []) l = absurd (l refl)
 guard_other chans (a ∷ b ∷ c ∷ d ∷ ks) l = refl
 
+all_front : (P : ℕ → Type 0) (chans : List Chan) (ks : List ℕ) → All P ks → All P (guard_in_front chans ks)
+all_front P chans [] h = h
+all_front P chans (a ∷ []) h = h
+all_front P chans (a ∷ b ∷ ks) h =
+    let x = All-head P a (b ∷ ks) h in
+    let t = All-tail P a (b ∷ ks) h in
+    let y = All-head P b ks t in
+    let u = All-tail P b ks t in
+    elim (pulls chans a) as (λ v. All P (if v then a ∷ b ∷ ks else (if pulls chans b then b ∷ a ∷ ks else a ∷ b ∷ ks))) [
+      | true ↦ h
+      | false ↦ elim (pulls chans b) as (λ v. All P (if v then b ∷ a ∷ ks else a ∷ b ∷ ks)) [ true ↦ All-cons P b (a ∷ ks) y (All-cons P a ks x u) | false ↦ h ]
+    ]
+
+length_front : (chans : List Chan) (ks : List ℕ) → length (guard_in_front chans ks) ≡ length ks
+length_front chans [] = refl
+length_front chans (a ∷ []) = refl
+length_front chans (a ∷ b ∷ ks) =
+    elim (pulls chans a) as (λ v. length (if v then a ∷ b ∷ ks else (if pulls chans b then b ∷ a ∷ ks else a ∷ b ∷ ks)) ≡ length (a ∷ b ∷ ks)) [
+      | true ↦ refl
+      | false ↦ elim (pulls chans b) as (λ v. length (if v then b ∷ a ∷ ks else a ∷ b ∷ ks) ≡ length (a ∷ b ∷ ks)) [ true ↦ refl | false ↦ refl ]
+    ]
+
 all_order : (P : ℕ → Type 0) (kind : Kind) (chans : List Chan) (ks : List ℕ) → All P ks → All P (in_order kind chans ks)
-all_order P kind chans ks h = elim (has_guard kind) as (λ v. All P (if v then guard_second chans ks else ks)) [ true ↦ all_guard P chans ks h | false ↦ h ]
+all_order P kind chans ks h = elim (has_guard kind) as (λ v. All P (if v then guard_second chans ks else (if leads_with_guard kind then guard_in_front chans ks else ks))) [
+  | true ↦ all_guard P chans ks h
+  | false ↦ elim (leads_with_guard kind) as (λ v. All P (if v then guard_in_front chans ks else ks)) [ true ↦ all_front P chans ks h | false ↦ h ]
+]
 
 length_order : (kind : Kind) (chans : List Chan) (ks : List ℕ) → length (in_order kind chans ks) ≡ length ks
-length_order kind chans ks = elim (has_guard kind) as (λ v. length (if v then guard_second chans ks else ks) ≡ length ks) [ true ↦ length_guard chans ks | false ↦ refl ]
+length_order kind chans ks = elim (has_guard kind) as (λ v. length (if v then guard_second chans ks else (if leads_with_guard kind then guard_in_front chans ks else ks)) ≡ length ks) [
+  | true ↦ length_guard chans ks
+  | false ↦ elim (leads_with_guard kind) as (λ v. length (if v then guard_in_front chans ks else ks) ≡ length ks) [ true ↦ length_front chans ks | false ↦ refl ]
+]
 
 pub all_arranged : (P : ℕ → Type 0) (kind : Kind) (chans : List Chan) (es : List Slot) → All P (flattened es) → All P (arranged kind chans es)
 all_arranged P kind chans es h = all_order P kind chans (in_row (row_of kind) (singles es) (lists es)) (all_rows P (row_of kind) es h)

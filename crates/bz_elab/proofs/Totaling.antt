@@ -12,9 +12,9 @@ use Rattle.bz_elab.specs.Entries.{flattened, named_in}
 use Rattle.bz_elab.specs.Paths.{Path, Stop, copy, leaf, named, component, inner, copied, each_from, visit, walk, own_chans}
 use Rattle.bz_elab.specs.Refusals.{own_comps, own_ends, most_ends}
 use Rattle.bz_elab.specs.Wires.{most_comps, most_chans}
-use Rattle.bz_elab.specs.Growth.{below_copy}
+use Rattle.bz_elab.specs.Growth.{IsBare, IsShort, below_copy}
 use Rattle.bz_elab.specs.Totals.{Capped, Brings, IsSmall, IsTotal, IsDeeper, AreTotals, TellsBare, total_at}
-use Rattle.bz_elab.proofs.Counting.{IsBare, each_from-push, length-more}
+use Rattle.bz_elab.proofs.Counting.{each_from-push, length-more}
 use Rattle.bz_elab.proofs.Slots.{take_item}
 use Rattle.bz_elab.proofs.Soundness.{part_at, copied-first, last_of, inner_within}
 use Rattle.bz_elab.proofs.Growing.{component_at}
@@ -196,13 +196,17 @@ bare_below parts part t depth is le no_comps no_chans path =
       chans = no_items (flat_map own_chans (below_copy parts path depth part)) (omega (arith, b.chans, no_chans));
     }
 
--- what is told by the totals is so below each copy
-pub told_bare : (parts : List Part) (totals : List (Option Total)) (n : ℕ) (part : Part) (depth : ℕ) → AreTotals parts totals → slice_get parts n ≡ Some part → TellsBare depth (total_at totals n)
-    → (path : Path) → IsBare (below_copy parts path depth part)
-told_bare parts totals n part depth are at told path =
-    elim (total_at totals n) as (λ o. total_at totals n ≡ o → TellsBare depth o → IsBare (below_copy parts path depth part)) [
+-- what is told by the totals is so below each copy, if paths do not end before
+pub empty_told : (parts : List Part) (totals : List (Option Total)) (n : ℕ) (part : Part) (most : ℕ) → AreTotals parts totals → slice_get parts n ≡ Some part → TellsBare most (total_at totals n)
+    → (path : Path) (depth : ℕ) → IsShort parts part depth → IsBare (below_copy parts path depth part)
+empty_told parts totals n part most are at told path depth short =
+    elim (total_at totals n) as (λ o. total_at totals n ≡ o → TellsBare most o → IsBare (below_copy parts path depth part)) [
       | None ↦ λ e h. absurd h
-      | Some t ↦ λ e h. bare_below parts part t depth (are.are n t part e at) h.0 h.1 h.2 path
+      | Some t ↦ λ e h.
+          let is = are.are n t part e at in
+          let (below, q, there, len) = is.longest in
+          let w = short below q there in
+          bare_below parts part t depth is (omega (arith, w, len)) h.1 h.2 path
     ] refl told
 
 pub entries_more : (entries : List Slot) (i : ℕ) (e : Slot) → i < length entries → e ≡ get_or entries i e

@@ -10,7 +10,7 @@ use Rattle.bz_model.specs.Names.{External, external}
 use Rattle.bz_model.specs.Hosts.{port_is_passive}
 use Rattle.bz_model.specs.Nets.{Site}
 use Rattle.bz_elab.specs.Flats.{sites_of}
-use Rattle.bz_elab.specs.Wires.{IsEnd, HasEnd, HasTwo, end_at, IsLoose, IsMisused}
+use Rattle.bz_elab.specs.Wires.{IsEnd, HasEnd, HasTwo, end_at, no_ends, IsLoose, IsMisused}
 use Rattle.bz_elab.specs.Seats.{Seated, Passed, CompsFit, IsLeast}
 use Rattle.bz_elab.proofs.Seating.{found, both}
 use Rattle.bz_elab.proofs.Sites.{get_or-map}
@@ -48,7 +48,7 @@ no_end sites n ends clash k side fit s none (c, p, e) =
 
 pub some_end : (sites : List Site) (ends : List Ends) (clash k : ℕ) (side : Bool) → Table sites ends clash → 0 < k → end_at ends k side ≢ None → HasEnd sites k side
 some_end sites ends clash k side s from some =
-    let (c, at) = found (end_at ends k side) some in let (p, w, e) = s.stands k c side from at in (c, p, e)
+    let (c, at) = found (end_at ends k side) some in let (p, port, w, e) = s.stands k c side from at in (c, p, e)
 
 pub not_loose : (sites : List Site) (ports : List External) (n : ℕ) (ends : List Ends) (clash k : ℕ) → CompsFit n sites → Table sites ends clash
     → is_some (end_at ends k false) ≡ is_some (end_at ends k true) → IsLoose sites ports k → ⊥
@@ -117,8 +117,7 @@ pub odd_at : (ends : List Ends) (k : ℕ) (pair : Ends) (a b : Bool) → pair �
     → is_some (end_at ends (k + 1) false) ≡ is_some (end_at ends (k + 1) true) → ⊥
 odd_at ends k pair a b is below ea eb odd even =
     let z : k + 1 - 1 ≡ k = omega arith in
-    let d : Ends = record { active = None; passive = None } in
-    let at : get_or ends (k + 1 - 1) d ≡ pair = rw z (get_or_default ends k d pair below ∙ sym is) in
+    let at : get_or ends (k + 1 - 1) no_ends ≡ pair = rw z (get_or_default ends k no_ends pair below ∙ sym is) in
     let f : is_some pair.active ≡ is_some pair.passive = rw at at even in
     let same : a ≡ b = ea ∙ f ∙ sym eb in
     not_odd a b same odd
@@ -131,8 +130,7 @@ pub host_at : (ends : List Ends) (k : ℕ) (pair : Ends) (ports : List Port) (po
 host_at ends k pair ports port some host here in_ports is below es et which none =
     let sense = port_at ports k port in_ports here in
     let z : k + 1 - 1 ≡ k = omega arith in
-    let d : Ends = record { active = None; passive = None } in
-    let at : get_or ends (k + 1 - 1) d ≡ pair = rw z (get_or_default ends k d pair below ∙ sym is) in
+    let at : get_or ends (k + 1 - 1) no_ends ≡ pair = rw z (get_or_default ends k no_ends pair below ∙ sym is) in
     elim which [
       | inl h ↦ let e : pair.active ≡ None = rw (sense, h.0, at) at none in cc
       | inr h ↦ let e : pair.passive ≡ None = rw (sense, h.0, at) at none in cc

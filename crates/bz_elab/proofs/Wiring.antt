@@ -1,13 +1,16 @@
 -- The wiring of a part whose walk has ended.
-use Rattle.std.proofs.Common.{◌≡◌, ℕ, zero, suc, ◌-◌, ◌<◌, ◌≤◌, ◌^◌, Bool, Some, List, [], length, map, inl, inr, refl, ap, arith, get_or, length-append}
-use Rattle.std.specs.List.{flat_map}
+use Rattle.std.proofs.Common.{◌≡◌, ℕ, zero, suc, ◌-◌, ◌<◌, ◌≤◌, ◌^◌, Bool, Some, List, [], length, map, inl, inr, refl, sym, ap, subst, arith, get_or, length-append, ◌∷◌}
+use Rattle.std.specs.List.{AllByRecursion, flat_map}
 use Rattle.std.proofs.lemmas.Bool.Decides.{leb_tells}
-use Rattle.std.proofs.lemmas.List.{length-map, get_or_past}
+use Rattle.std.proofs.lemmas.List.{length-map, get_or_append_left, get_or_past}
 use Rattle.bz_model.specs.declared.channel.Chan.{Chan}
+use Rattle.bz_model.specs.declared.channel.ChanKind.TheVariants.{Sync}
+use Rattle.bz_model.specs.declared.channel.TheConstants.{MAX_WIDTH}
 use Rattle.bz_model.specs.declared.names.Port.{Port}
 use Rattle.bz_model.specs.Names.{External, external}
-use Rattle.bz_model.specs.Nets.{Site, IsPort, no_site, site_at, chan_at}
+use Rattle.bz_model.specs.Nets.{Site, IsPort, no_site, site_at, chan_at, chan_in}
 use Rattle.bz_breeze.specs.declared.part.Part.{Part}
+use Rattle.bz_breeze.specs.Parts.{IsFit}
 use Rattle.bz_elab.specs.declared.flat.Ends.{Ends}
 use Rattle.bz_elab.specs.declared.flat.FlatComp.{FlatComp}
 use Rattle.bz_elab.specs.declared.walk.Draft.{Draft}
@@ -59,9 +62,23 @@ ports_are_few parts top d n s w c = elim (leb_tells (length d.comps.items) (c - 
   | inr h ↦ let p = placed parts top d (c - 1) n s h.1 in let a = p.few in let b = w.ends_few in omega arith
 ]
 
-pub well_wired : (parts : List Part) (top : Part) (d : Draft) (ends : List Ends) → IsNet parts top d → IsSoundBelow parts top most_instances → Within d → HasPortChannels top
+narrow_at : (xs : List Chan) (i : ℕ) (d : Chan) → AllByRecursion (λ c. c.width ≤ MAX_WIDTH) xs → i < length xs → (get_or xs i d).width ≤ MAX_WIDTH
+narrow_at [] i d narrow lt = absurd (omega arith)
+narrow_at (c ∷ cs) zero d narrow lt = narrow.0
+narrow_at (c ∷ cs) (suc i) d narrow lt = narrow_at cs i d narrow.1 (omega arith)
+
+-- a port's channel is one of the top's own
+port_narrow : (parts : List Part) (top : Part) (k : ℕ) → IsFit top → HasPortChannels top → 0 < k → k ≤ length top.ports.items → (chan_in (flat_map own_chans (stops parts top)) k).width ≤ MAX_WIDTH
+unfolding stops
+port_narrow parts top k good whole from to =
+    let rest = below_copy parts [] most_instances top in
+    let none : Chan = record { kind = Sync; width = 0 } in
+    subst (λ (c : Chan). c.width ≤ MAX_WIDTH) (sym (get_or_append_left top.channels.items (flat_map own_chans rest) none (k - 1) (omega (arith, from, to, whole))))
+    (narrow_at top.channels.items (k - 1) none good.narrow (omega (arith, from, to, whole)))
+
+pub well_wired : (parts : List Part) (top : Part) (d : Draft) (ends : List Ends) → IsNet parts top d → IsSoundBelow parts top most_instances → Within d → HasPortChannels top → IsFit top
     → WellEnded (sites_of d.comps.items) (map external top.ports.items) ends → WellWired (wiring_of d.chans.items d.comps.items top.ports.items)
-well_wired parts top d ends n s w whole e =
+well_wired parts top d ends n s w whole good e =
     let fit = comps_fit parts top d n s w in
     let at : (c p : ℕ) → IsPort (sites_of d.comps.items) c p → (0 < chan_at (sites_of d.comps.items) c p) × (chan_at (sites_of d.comps.items) c p ≤ length d.chans.items) =
     λ c p is. (fit.each c is.comp_from is.comp_to).1 (p - 1) (let a = is.port_from in let b = is.port_to in omega arith) in
@@ -74,6 +91,8 @@ well_wired parts top d ends n s w whole e =
       other_end = e.other_end;
       rows = λ c from to. (placed parts top d (c - 1) n s (omega (arith, many, from, to))).meets;
       ports_to = let a = length-map top.ports.items external in let b = own_first parts top in let k = ap length n.chans_are in omega (arith, a, b, k, whole);
+      names_differ = good.names_differ;
+      ports_narrow = λ k from to. rw n.chans_are (port_narrow parts top k good whole from (omega (arith, length-map top.ports.items external, to)));
       chans_few = w.chans_few;
       comps_few = let k = w.comps_few in omega (arith, many);
       ports_few = ports_are_few parts top d n s w;
@@ -89,12 +108,12 @@ ends_of chans comps ports ends len e = record {
 }
   where
     from : (k c : ℕ) (side : Bool) → end_at ends k side ≡ Some c → 0 < c
-    from zero c side h = (e.holds 1 c side (omega arith) h).1.is_port.comp_from
-    from (suc k) c side h = (e.holds (suc k) c side (omega arith) h).1.is_port.comp_from
+    from zero c side h = (e.holds 1 c side (omega arith) h).is_port.comp_from
+    from (suc k) c side h = (e.holds (suc k) c side (omega arith) h).is_port.comp_from
 
     to : (k c : ℕ) (side : Bool) → end_at ends k side ≡ Some c → c ≤ length (sites_of comps)
-    to zero c side h = (e.holds 1 c side (omega arith) h).1.is_port.comp_to
-    to (suc k) c side h = (e.holds (suc k) c side (omega arith) h).1.is_port.comp_to
+    to zero c side h = (e.holds 1 c side (omega arith) h).is_port.comp_to
+    to (suc k) c side h = (e.holds (suc k) c side (omega arith) h).is_port.comp_to
 
 pub ports_within : (parts : List Part) (top : Part) (d : Draft) → IsNet parts top d → HasPortChannels top → length top.ports.items ≤ length d.chans.items
 ports_within parts top d n whole = let a = own_first parts top in let k = ap length n.chans_are in omega (arith, a, k, whole)

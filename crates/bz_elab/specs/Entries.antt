@@ -5,7 +5,7 @@ use Rattle.bz_model.specs.declared.channel.Chan.{Chan}
 use Rattle.bz_model.specs.declared.channel.ChanKind.{ChanKind}
 use Rattle.bz_model.specs.declared.channel.ChanKind.TheVariants.{Pull}
 use Rattle.bz_model.specs.declared.kind.Kind.{Kind}
-use Rattle.bz_model.specs.declared.kind.Kind.TheVariants.{While}
+use Rattle.bz_model.specs.declared.kind.Kind.TheVariants.{While, Bar}
 use Rattle.bz_model.specs.Nets.{chan_in}
 use Rattle.bz_model.specs.Rows.{PortRow, row_of, has_sizes, max_members}
 use Rattle.bz_breeze.specs.declared.part.Slot.{Slot}
@@ -66,13 +66,28 @@ guard_second chans (a ∷ b ∷ c ∷ []) =
     else a ∷ b ∷ c ∷ []))
 guard_second chans ks = ks
 
--- single entries fill the single ports in order, but for those of a While, whose guard is on a pull channel
+-- the first of two entries on a pull channel stands in front, if there is one
+abbrev pub guard_in_front : List Chan → List ℕ → List ℕ
+guard_in_front chans (a ∷ b ∷ ks) =
+    if pulls chans a then a ∷ b ∷ ks
+    else (if pulls chans b then b ∷ a ∷ ks
+    else a ∷ b ∷ ks)
+guard_in_front chans ks = ks
+
+-- single entries fill the single ports in order, but for those of a While and of a Bar, whose guard is on a pull channel
 abbrev pub has_guard : Kind → Bool
 has_guard While = true
 has_guard kind = false
 
+abbrev pub leads_with_guard : Kind → Bool
+leads_with_guard Bar = true
+leads_with_guard kind = false
+
 abbrev pub in_order : Kind → List Chan → List ℕ → List ℕ
-in_order kind chans ks = if has_guard kind then guard_second chans ks else ks
+in_order kind chans ks =
+    if has_guard kind then guard_second chans ks
+    else (if leads_with_guard kind then guard_in_front chans ks
+    else ks)
 
 -- the channels of a component's ports, in the order of the ports of its kind, by their numbers in a part with these
 -- channels

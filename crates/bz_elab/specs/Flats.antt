@@ -7,7 +7,7 @@ use Rattle.bz_model.specs.Nets.{Site, Wiring}
 use Rattle.bz_elab.specs.declared.flat.FlatComp.{FlatComp}
 use Rattle.bz_elab.specs.declared.flat.Ends.{Ends}
 
--- the wiring, and the components at the two ends of each channel
+-- the wiring, and the components with their ports at the two ends of each channel
 pub record Plan : Type 0 where
   pub wiring : Wiring
   pub ends : List Ends

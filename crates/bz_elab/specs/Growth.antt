@@ -1,5 +1,5 @@
 -- The net as far as the walk has come.
-use Rattle.std.specs.Prelude.{◌≡◌, ℕ, zero, suc, ◌+◌, ◌-◌, ◌<◌, ◌≤◌, ⊤, ◌⊎◌, IsTrue, Some, List, [], ◌∷◌, ◌++◌, length, map, drop, slice_get, slice_index_or}
+use Rattle.std.specs.Prelude.{◌≡◌, ℕ, zero, suc, ◌+◌, ◌-◌, ◌<◌, ◌≤◌, ⊤, ◌⊎◌, IsTrue, Some, List, [], ◌∷◌, ◌++◌, length, map, drop, slice_get, slice_index_or, nat_le, if◌then◌else◌}
 use Rattle.std.specs.List.{flat_map, All}
 use Rattle.bz_model.specs.declared.channel.Chan.{Chan}
 use Rattle.bz_model.specs.declared.kind.Kind.{Kind}
@@ -11,6 +11,7 @@ use Rattle.bz_elab.specs.declared.error.ElabError.TheVariants.{TooBig, Memory}
 use Rattle.bz_elab.specs.declared.error.Fault.{Fault}
 use Rattle.bz_elab.specs.declared.flat.FlatComp.{FlatComp}
 use Rattle.bz_elab.specs.declared.walk.Draft.{Draft}
+use Rattle.bz_elab.specs.declared.walk.Level.{Level}
 use Rattle.bz_elab.specs.Faults.{error_at}
 use Rattle.bz_elab.specs.Entries.{flattened, sizes_of, arranged, FitsPorts}
 use Rattle.bz_elab.specs.Paths.{Path, Place, Role, instance, of_kind, Stop, copy, leaf, component, copied, joined, role, leaf_role, each_from, visit, walk, own_chans, own_places, stops, all_places, most_instances, chans_at}
@@ -47,6 +48,15 @@ pub record IsFlat (chans : List Chan) (c : Component) (f : FlatComp) : Type 0 wh
 abbrev pub IsSoundPart : List Part → Part → Type 0
 IsSoundPart parts part = (i : ℕ) (c : Component) → component part i ≡ Some c → IsSound part.channels.items c (role parts c)
 
+-- no path goes on for more than so many instances
+abbrev pub IsShort : List Part → Part → ℕ → Type 0
+IsShort parts part depth = (below : Path) (q : Part) → copied parts part below ≡ Some q → length below ≤ depth
+
+-- there is no component and no channel at these stops
+pub record IsBare (stops : List Stop) : Type 0 where
+  pub comps : flat_map own_comps stops ≡ []
+  pub chans : flat_map own_chans stops ≡ []
+
 -- a part and all that it reaches is sound, and no path goes on for more than so many instances
 pub record IsSoundBelow (parts : List Part) (part : Part) (depth : ℕ) : Type 0 where
   pub short : (below : Path) (q : Part) → copied parts part below ≡ Some q → length below ≤ depth
@@ -63,22 +73,22 @@ AreNumbers places [] (k ∷ ks) = ⊥
 AreNumbers places (p ∷ ps) [] = ⊥
 AreNumbers places (p ∷ ps) (k ∷ ks) = IsNumber places p k × AreNumbers places ps ks
 
--- n numbers from k on
-abbrev pub numbers_from : ℕ → ℕ → List ℕ
-numbers_from k zero = []
-numbers_from k (suc n) = k ∷ numbers_from (suc k) n
+-- the number in the net of a channel of a copy, by this copy and those above it but for the top's: a port is a channel of
+-- the copy above
+abbrev pub net_number : List Level → ℕ → ℕ
+net_number [] c = c
+net_number (l ∷ ls) c =
+    if nat_le c (length l.ports.now) then net_number ls (slice_index_or l.ports.now (c - 1) 0)
+    else l.before + (c - length l.ports.now)
 
--- the channels of the copy at a path are these
-abbrev pub CopyNumbers : List Part → Part → List Place → Path → List ℕ → Type 0
-CopyNumbers parts top places path chans =
-    (c : ℕ) → 0 < c → c ≤ length chans → IsNumber places (joined parts top path c) (slice_index_or chans (c - 1) 0)
+-- the n channels of a copy are among the first m of the net
+abbrev pub FitsNet : List Level → ℕ → ℕ → Type 0
+FitsNet levels n m = (c : ℕ) → 0 < c → c ≤ n → net_number levels c ≤ m
 
--- channels of a copy, by their numbers in the part and in the net
-abbrev pub AreActuals : List ℕ → List ℕ → List ℕ → Type 0
-AreActuals chans [] [] = Unit {0}
-AreActuals chans [] (k ∷ ks) = ⊥
-AreActuals chans (e ∷ es) [] = ⊥
-AreActuals chans (e ∷ es) (k ∷ ks) = (0 < e) × (e ≤ length chans) × (k ≡ slice_index_or chans (e - 1) 0) × AreActuals chans es ks
+-- the channels of the copy at a path are where these copies tell
+abbrev pub CopyNumbers : List Part → Part → List Place → Path → List Level → Type 0
+CopyNumbers parts top places path levels =
+    (c : ℕ) → 0 < c → c ≤ length (chans_at parts top path) → IsNumber places (joined parts top path c) (net_number levels c)
 
 -- a component of the net is that of a leaf, on the channels that its entries come to
 pub record IsLeaf (parts : List Part) (top : Part) (places : List Place) (path : Path) (c : Component) (f : FlatComp) : Type 0 where
@@ -110,40 +120,19 @@ pub record Counts (old new : Draft) (stops : List Stop) : Type 0 where
 abbrev pub below_copy : List Part → Path → ℕ → Part → List Stop
 below_copy parts path depth part = each_from 1 (visit parts path (walk parts depth)) part.components.items
 
-abbrev pub Flattened : List Part → Part → List ℕ → ℕ → Draft → Draft → Type 0
-Flattened parts part chans depth old new =
+abbrev pub Flattened : List Part → Part → List Level → ℕ → Draft → Draft → Type 0
+Flattened parts part levels depth old new =
     (top : Part) (path : Path) (before : List Place) → copied parts top path ≡ Some part → length before ≡ length old.chans.items
-    → CopyNumbers parts top before path chans → Grows parts top before old new (below_copy parts path depth part)
+    → CopyNumbers parts top before path levels → Grows parts top before old new (below_copy parts path depth part)
 
 abbrev pub Counted : List Part → Part → ℕ → Draft → Draft → Type 0
 Counted parts part depth old new = (path : Path) → Counts old new (below_copy parts path depth part)
 
--- a copy was entered: the channels of its part but for its ports were added, and `chans` are all of them
-pub record Entered (old new : Draft) (part : Part) (ports : ℕ) (actuals chans : List ℕ) : Type 0 where
+-- a copy was entered: the channels of its part but for its ports were added
+pub record Entered (old new : Draft) (part : Part) (ports : ℕ) : Type 0 where
   pub chans_are : new.chans.items ≡ old.chans.items ++ drop ports part.channels.items
   pub comps_are : new.comps.items ≡ old.comps.items
   pub ends_are : new.ends ≡ old.ends
-  pub numbers : chans ≡ actuals ++ numbers_from (suc (length old.chans.items)) (length part.channels.items - ports)
-
--- a component that is no instance was added, on the net's channels in place of its part's
-pub record LeafAdded (own : List Chan) (chans : List ℕ) (c : Component) (old new : Draft) : Type 0 where
-  pub named : FlatComp
-  pub added : FlatComp
-  pub flat : IsFlat own c named
-  pub actuals : AreActuals chans named.chans.items added.chans.items
-  pub kind_is : added.kind ≡ named.kind
-  pub sizes_are : added.sizes ≡ named.sizes
-  pub chans_are : new.chans.items ≡ old.chans.items
-  pub comps_are : new.comps.items ≡ old.comps.items ++ added ∷ []
-  pub ends_are : new.ends ≡ old.ends + length added.chans.items
-
--- the copy of an instance's part was entered, and `inner` are all its channels
-pub record CopyAdded (own : List Chan) (chans : List ℕ) (c : Component) (part : Part) (old new : Draft) (inner : List ℕ) : Type 0 where
-  pub ports : List ℕ
-  pub actuals : AreActuals chans (flattened c.entries.items) ports
-  pub sound : IsSoundInstance own c part
-  pub entered : Entered old new part (length part.ports.items) ports inner
-  pub count : length inner ≡ length part.channels.items
 
 -- a component at this place was not added: for want of memory, for a fault, or since the net would be too big
 abbrev pub Refused : List Chan → Component → Role → Draft → Stop → ℕ → ℕ → ElabError → Type 0

@@ -5,6 +5,10 @@ use Rattle.bz_breeze.specs.declared.part.Part.{Part}
 use Rattle.bz_breeze.specs.declared.part.Component.{Component}
 use Rattle.bz_elab.specs.declared.error.Fault.{Fault}
 use Rattle.bz_elab.specs.declared.faults.Found.{Found}
+use Rattle.bz_elab.specs.declared.faults.Seen.{Seen}
+use Rattle.bz_elab.specs.declared.faults.Seen.TheVariants.{Wrong, Nothing, Adds}
+use Rattle.bz_elab.specs.declared.reading.Item.TheVariants.{Leaf, Copy}
+use Rattle.bz_elab.specs.Readings.{IsEmpty, AddsNothing, IsItem}
 use Rattle.bz_elab.specs.Faults.{error_at}
 use Rattle.bz_elab.specs.Paths.{component, role}
 use Rattle.bz_elab.specs.Refusals.{HasFault}
@@ -12,10 +16,18 @@ use Rattle.bz_elab.specs.Growth.{IsSound}
 use Rattle.bz_elab.specs.Order.{NoLater, NoneBefore, order}
 use Rattle.bz_elab.specs.Numbers.{is_marked}
 
--- the first fault of a component, if it has one
-abbrev pub IsChecked : List Part → List Chan → Component → Option Fault → Type 0
-IsChecked parts chans c None = IsSound chans c (role parts c)
-IsChecked parts chans c (Some f) = HasFault chans c (role parts c) f × NoneBefore chans c (role parts c) f
+-- what a component is: its first fault, or sound, adding nothing or what an item tells
+abbrev pub IsSeen : List Part → List Chan → Component → Seen → Type 0
+IsSeen parts chans c (Wrong f) = HasFault chans c (role parts c) f × NoneBefore chans c (role parts c) f
+IsSeen parts chans c Nothing = IsSound chans c (role parts c) × AddsNothing parts c
+IsSeen parts chans c (Adds item) = IsSound chans c (role parts c) × IsItem parts chans c item
+
+-- an instance of part n, whose entries name these channels
+abbrev pub IsSeenCopy : List Part → ℕ → List ℕ → Seen → Type 0
+IsSeenCopy parts n chans (Wrong f) = ⊥
+IsSeenCopy parts n chans Nothing = (part : Part) × (slice_get parts n ≡ Some part) × IsEmpty parts part
+IsSeenCopy parts n chans (Adds (Leaf f)) = ⊥
+IsSeenCopy parts n chans (Adds (Copy i)) = (i.part ≡ n) × (i.chans.items ≡ chans)
 
 -- component i of part n of the text has this fault
 pub record FaultHere (parts : List Part) (n i : ℕ) (f : Fault) : Type 0 where

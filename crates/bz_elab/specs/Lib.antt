@@ -11,3 +11,4 @@ pub mod Order
 pub mod Numbers
 pub mod Least
 pub mod Totals
+pub mod Readings

@@ -2,6 +2,7 @@
 use Rattle.std.specs.Prelude.{◌≡◌, ◌⊎◌, ℕ, suc, ◌+◌, ◌<◌, ◌≤◌, Bool, true, false, Option, None, Some, List, [], ◌∷◌, ◌++◌, length, slice_get, slice_index_or, bytes_eq, option_and_then, if◌then◌else◌}
 use Rattle.std.specs.Option.{option_map}
 use Rattle.bz_breeze.specs.declared.part.Part.{Part}
+use Rattle.bz_breeze.specs.declared.part.Component.{Component}
 use Rattle.bz_elab.specs.declared.reach.Marking.{Marking}
 use Rattle.bz_elab.specs.Paths.{Path, component}
 
@@ -76,3 +77,21 @@ abbrev pub IsFirstRecursive : List Part → List Bool → Option ℕ → Type 0
 IsFirstRecursive parts marks None = (n : ℕ) → is_marked marks n ≡ true → IsBelow parts n n → ⊥
 IsFirstRecursive parts marks (Some n) =
     (is_marked marks n ≡ true) × IsBelow parts n n × ((m : ℕ) → is_marked marks m ≡ true → IsBelow parts m m → n ≤ m)
+
+-- Ranks of parts.
+
+abbrev pub rank_at : List ℕ → ℕ → ℕ
+rank_at ranks n = slice_index_or ranks n 0
+
+-- no component of these is an instance of a part that is ranked higher than the one found
+abbrev pub IsHighest : List Part → List ℕ → List Component → Option ℕ → Type 0
+IsHighest parts ranks cs None = (k : ℕ) (c : Component) (m : ℕ) → slice_get cs k ≡ Some c → number_named parts c.name.items ≡ Some m → ⊥
+IsHighest parts ranks cs (Some h) = (k : ℕ) (c : Component) (m : ℕ) → slice_get cs k ≡ Some c → number_named parts c.name.items ≡ Some m → rank_at ranks m ≤ h
+
+-- all that part n has instances of is ranked lower
+abbrev pub Falls : List Part → List ℕ → ℕ → Type 0
+Falls parts ranks n = (k m : ℕ) → inner_number parts n k ≡ Some m → rank_at ranks m < rank_at ranks n
+
+-- what a part has an instance of is ranked no higher
+abbrev pub NeverRise : List Part → List ℕ → Type 0
+NeverRise parts ranks = (n k m : ℕ) → inner_number parts n k ≡ Some m → rank_at ranks m ≤ rank_at ranks n

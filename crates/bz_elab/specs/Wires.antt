@@ -1,6 +1,7 @@
 -- The ends of channels: which port of which component holds which end.
 use Rattle.std.specs.Prelude.{◌≡◌, ℕ, ◌-◌, ◌<◌, ◌≤◌, ◌^◌, Bool, true, false, not, Option, None, Some, List, length, map, slice_index_or}
-use Rattle.bz_model.specs.Names.{External}
+use Rattle.bz_model.specs.Names.{External, NamesDiffer}
+use Rattle.bz_model.specs.declared.channel.TheConstants.{MAX_WIDTH}
 use Rattle.bz_model.specs.Rows.{MeetsRow}
 use Rattle.bz_model.specs.Nets.{Site, Wiring, IsPort, site_at, chan_at, passive_at, chan_in}
 use Rattle.bz_model.specs.Hosts.{port_is_passive}
@@ -24,7 +25,7 @@ abbrev pub most_chans : ℕ
 most_chans = 2000000
 
 -- Each channel with a component end has one end of each sense, the host's at an external port among them, and each
--- component's channels meet the row of its kind.
+-- component's channels meet the row of its kind. No two ports have one name, and none is wider than the greatest width.
 pub record WellWired (w : Wiring) : Type 0 where
   pub chan_from : (c p : ℕ) → IsPort w.sites c p → 0 < chan_at w.sites c p
   pub chan_to : (c p : ℕ) → IsPort w.sites c p → chan_at w.sites c p ≤ length w.chans
@@ -37,6 +38,8 @@ pub record WellWired (w : Wiring) : Type 0 where
   pub rows : (c : ℕ) → 0 < c → c ≤ length w.sites
       → MeetsRow (site_at w.sites c).kind (site_at w.sites c).sizes (map (chan_in w.chans) (site_at w.sites c).chans)
   pub ports_to : length w.ports ≤ length w.chans
+  pub names_differ : NamesDiffer w.ports
+  pub ports_narrow : (k : ℕ) → 0 < k → k ≤ length w.ports → (chan_in w.chans k).width ≤ MAX_WIDTH
   pub chans_few : length w.chans ≤ most_chans
   pub comps_few : length w.sites ≤ most_comps
   pub ports_few : (c : ℕ) → length (site_at w.sites c).chans < 2 ^ 32
@@ -46,20 +49,38 @@ abbrev pub at_side : Ends → Bool → Option ℕ
 at_side pair true = pair.passive
 at_side pair false = pair.active
 
+-- its port there
+abbrev pub port_of_side : Ends → Bool → ℕ
+port_of_side pair true = pair.passive_port
+port_of_side pair false = pair.active_port
+
+abbrev pub no_ends : Ends
+no_ends = record { active = None; passive = None; active_port = 0; passive_port = 0 }
+
+abbrev pub ends_in : List Ends → ℕ → Ends
+ends_in ends k = slice_index_or ends (k - 1) no_ends
+
 abbrev pub end_at : List Ends → ℕ → Bool → Option ℕ
-end_at ends k side = at_side (slice_index_or ends (k - 1) (record { active = None; passive = None })) side
+end_at ends k side = at_side (ends_in ends k) side
+
+abbrev pub end_port_at : List Ends → ℕ → Bool → ℕ
+end_port_at ends k side = port_of_side (ends_in ends k) side
 
 -- what stands at an end is a component
 pub record StandsIn (sites : List Site) (ends : List Ends) : Type 0 where
   pub from : (k c : ℕ) (side : Bool) → end_at ends k side ≡ Some c → 0 < c
   pub to : (k c : ℕ) (side : Bool) → end_at ends k side ≡ Some c → c ≤ length sites
 
+-- port p of component c stands at this end of channel k
+abbrev pub IsFoundAt : List Ends → ℕ → ℕ → ℕ → Bool → Type 0
+IsFoundAt ends c p k side = (end_at ends k side ≡ Some c) × (end_port_at ends k side ≡ p)
+
 -- the ends are those of the wiring
 pub record EndsOf (w : Wiring) (ends : List Ends) : Type 0 where
   pub ends_len : length ends ≡ length w.chans
-  pub finds : (c p : ℕ) → IsPort w.sites c p → end_at ends (chan_at w.sites c p) (passive_at w.sites c p) ≡ Some c
+  pub finds : (c p : ℕ) → IsPort w.sites c p → IsFoundAt ends c p (chan_at w.sites c p) (passive_at w.sites c p)
   pub stands : StandsIn w.sites ends
-  pub holds : (k c : ℕ) (side : Bool) → 0 < k → end_at ends k side ≡ Some c → (p : ℕ) × IsEnd w.sites k side c p
+  pub holds : (k c : ℕ) (side : Bool) → 0 < k → end_at ends k side ≡ Some c → IsEnd w.sites k side c (end_port_at ends k side)
 
 -- What is wrong with the ends of a net.
 

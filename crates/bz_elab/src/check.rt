@@ -9,28 +9,30 @@ ghost use Rattle.bz_elab.specs.Refusals.{HasPortChannels, IsTooMany};
 ghost use Rattle.bz_elab.specs.Growth.{IsSoundBelow};
 ghost use Rattle.bz_elab.specs.Order.{RefusesPart, PassesPart};
 ghost use Rattle.bz_elab.specs.Numbers.{IsFirstPlace, IsReached, Marks};
+ghost use Rattle.bz_elab.specs.Readings.{IsReadBelow};
 ghost use Rattle.bz_elab.specs.Totals.{IsTotal, IsSmall, AreTotals};
 
 use crate::error::ElabError;
-use crate::faults::least_fault;
+use crate::faults::read_parts;
 use crate::reach::{first_recursive, reached};
+use crate::reading::Reading;
 use crate::totals::{Total, capped, total_of};
 use crate::walk::{MOST_CHANNELS, MOST_COMPONENTS, MOST_ENDS, MOST_INSTANCES};
 use bz_breeze::{Part, Parts};
 use std::alloc::Global;
 
-/// Finds the first refusal of a part and all that it reaches, by what can be told without making the net; answers the
-/// totals of the parts where there is none.
+/// Finds the first refusal of a part and all that it reaches, by what can be told without making the net; answers what was
+/// read of them where there is none.
 pub fn check(
     alloc: Global,
     parts: &Parts,
     number: usize,
     part: &Part,
-) -> Result<Vec<Option<Total>>, ElabError>
+) -> Result<Vec<Reading>, ElabError>
     requires whole { All HasPortChannels parts.now }
     requires part_is { slice_get parts.now number ≡ Some part.now }
     requires first { IsFirstPlace parts.now number part.now }
-    ensures totals { IfOk result (λ v. AreTotals parts.now v.items) }
+    ensures read { IfOk result (λ v. IsReadBelow parts.now number v.items) }
     ensures ok { OnOk result (PassesPart parts.now part.now) }
     ensures sound { OnOk result (IsSoundBelow parts.now part.now most_instances) }
     ensures err { IfErr result (λ e. (e ≡ Memory) ⊎ RefusesPart parts.now part.now e) }
@@ -38,10 +40,15 @@ pub fn check(
     let marks = reached(alloc, parts, number)?;
     let mut totals = vec![in alloc; None; parts.list().len()]?;
     match total_of(parts, number, part, MOST_INSTANCES, totals.as_mut_slice()) {
-        Some(total) => {
-            check_parts(alloc, parts, number, part, marks.as_slice(), total)?;
-            Ok(totals)
-        }
+        Some(total) => check_parts(
+            alloc,
+            parts,
+            totals.as_slice(),
+            number,
+            part,
+            marks.as_slice(),
+            total,
+        ),
         None => match first_recursive(alloc, parts, marks.as_slice())? {
             Some(recursive) => Err(ElabError::Recursive(recursive)),
             None => Err(ElabError::TooDeep),
@@ -49,27 +56,32 @@ pub fn check(
     }
 }
 
-// Finds the first refusal of the marked parts, which go no deeper than they may, and of the size of the net.
+// Finds the first refusal of the marked parts, which go no deeper than they may, and of the size of the net; answers what was
+// read of them where there is none.
 fn check_parts(
     alloc: Global,
     parts: &Parts,
+    totals: &[Option<Total>],
     number: usize,
     part: &Part,
     marks: &[bool],
     total: Total,
-) -> Result<(), ElabError>
+) -> Result<Vec<Reading>, ElabError>
     requires whole { All HasPortChannels parts.now }
+    requires totals { AreTotals parts.now totals.now }
     requires part_is { slice_get parts.now number ≡ Some part.now }
     requires first { IsFirstPlace parts.now number part.now }
     requires marks { Marks parts.now (IsReached parts.now number) marks.now }
     requires total { IsTotal parts.now part.now total }
     requires within { total.height ≤ most_instances }
+    ensures read { IfOk result (λ v. IsReadBelow parts.now number v.items) }
     ensures ok { OnOk result (PassesPart parts.now part.now) }
     ensures sound { OnOk result (IsSoundBelow parts.now part.now most_instances) }
     ensures err { IfErr result (λ e. (e ≡ Memory) ⊎ RefusesPart parts.now part.now e) }
 {
     let is_big = is_too_big(part, total);
-    match least_fault(alloc, parts, marks)? {
+    let (least, readings) = read_parts(alloc, parts, totals, marks)?;
+    match least {
         Some(found) => {
             if found.fault.order() < 8 {
                 return Err(found.error());
@@ -83,7 +95,7 @@ fn check_parts(
             if is_big {
                 return Err(ElabError::TooBig);
             }
-            Ok(())
+            Ok(readings)
         }
     }
 }

@@ -5,9 +5,9 @@ ghost use Rattle.std.specs.List.{All};
 ghost use Rattle.std.specs.Option.{option_copied};
 ghost use Rattle.bz_model.specs.Rows.{row_of};
 ghost use Rattle.bz_model.specs.Nets.{chan_in};
-ghost use Rattle.bz_kinds.specs.Table.{seen};
+ghost use Rattle.bz_kind_table.specs.Table.{seen};
 ghost use Rattle.bz_elab.specs.declared.error.Fault.TheVariants as fault;
-ghost use Rattle.bz_elab.specs.Entries.{flattened, singles, lists, single_of, list_of, sizes_of, in_row, in_order, arranged, guard_second, pulls, FitsPorts};
+ghost use Rattle.bz_elab.specs.Entries.{flattened, singles, lists, single_of, list_of, sizes_of, in_row, in_order, arranged, guard_second, guard_in_front, pulls, FitsPorts};
 ghost use Rattle.bz_elab.specs.Paths.{leaf_role, of_kind, instance};
 ghost use Rattle.bz_elab.specs.Refusals.{HasFault, IsChannel, kinds_of, widths_of, formals_of, HasPortChannels};
 ghost use Rattle.bz_elab.specs.Growth.{IsFlat, IsSoundInstance};
@@ -16,7 +16,7 @@ ghost use Rattle.bz_elab.specs.Order.{NoneBefore};
 use crate::error::Fault;
 use crate::flat::FlatComp;
 use bz_breeze::{Component, Part, Slot};
-use bz_kinds::{PortRow, kind_of, kinds_are, port_table, sizes_fit, widths_fit};
+use bz_kind_table::{PortRow, kind_of, kinds_are, port_table, sizes_fit, widths_fit};
 use bz_model::{Chan, ChanKind, Kind, MAX_MEMBERS};
 use std::alloc::{AllocError, Global};
 
@@ -246,13 +246,14 @@ fn in_row(alloc: Global, rows: &[PortRow], entries: &[Slot]) -> Result<Vec<u32>,
     Ok(chans)
 }
 
-// Puts the entries of a While in the order of its ports.
+// Puts the entries of a While or a Bar in the order of its ports.
 fn put_in_order(kind: &Kind, channels: &[Chan], chans: &mut [u32])
     requires { All (IsChannel channels.now) chans.old }
     ensures { chans.new ≡ in_order kind.now channels.now chans.old }
 {
     match kind {
         Kind::While => put_guard_second(channels, chans),
+        Kind::Bar => put_guard_in_front(channels, chans),
         _ => {}
     }
 }
@@ -272,6 +273,22 @@ fn put_guard_second(channels: &[Chan], chans: &mut [u32])
         if pulls(channels, third) {
             chans[1] = third;
             chans[2] = second;
+        }
+    }
+}
+
+fn put_guard_in_front(channels: &[Chan], chans: &mut [u32])
+    requires { All (IsChannel channels.now) chans.old }
+    ensures { chans.new ≡ guard_in_front channels.now chans.old }
+{
+    if chans.len() < 2 {
+        return;
+    }
+    let (first, second) = (chans[0], chans[1]);
+    if !pulls(channels, first) {
+        if pulls(channels, second) {
+            chans[0] = second;
+            chans[1] = first;
         }
     }
 }

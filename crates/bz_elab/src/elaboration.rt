@@ -26,8 +26,8 @@ pub fn elaborate(alloc: Global, parts: &Parts, top: &[u8]) -> Result<Flat, ElabE
         return Err(ElabError::NoPart);
     };
     let part = &parts.list()[number];
-    let totals = check(alloc, parts, number, part)?;
-    let draft = net_of(alloc, parts, totals.as_slice(), number, part)?;
+    let read = check(alloc, parts, number, part)?;
+    let draft = net_of(alloc, parts, read.as_slice(), number, part)?;
     let ends = wire(
         alloc,
         draft.comps.as_slice(),

@@ -9,7 +9,7 @@ ghost use Rattle.bz_elab.specs.Seats.{ChansFit, CompsFit, WellEnded, WiringFault
 
 use crate::error::ElabError;
 use crate::flat::{Ends, FlatComp};
-use bz_kinds::is_passive;
+use bz_kind_table::is_passive;
 use bz_model::Port;
 use std::alloc::Global;
 
@@ -59,6 +59,8 @@ fn table(alloc: Global, comps: &[FlatComp], chans: u32) -> Result<(Vec<Ends>, u3
     let none = Ends {
         active: None,
         passive: None,
+        active_port: 0,
+        passive_port: 0,
     };
     let mut ends = vec![in alloc; none; chans as usize]?;
     let mut least = u32::MAX;
@@ -78,11 +80,13 @@ fn seat_comp(ends: &mut [Ends], clash: u32, comp: &FlatComp, number: u32) -> u32
 {
     let mut least = clash;
     for (i, chan) in comp.chans.iter().enumerate() {
+        let port = i as u32 + 1;
         if seat(
             ends,
             *chan,
-            is_passive(&comp.kind, comp.sizes, i as u32 + 1),
+            is_passive(&comp.kind, comp.sizes, port),
             number,
+            port,
         ) {
             least = least.min(*chan);
         }
@@ -90,11 +94,11 @@ fn seat_comp(ends: &mut [Ends], clash: u32, comp: &FlatComp, number: u32) -> u32
     least
 }
 
-// Notes an end; true where one of its sense stood there already.
-fn seat(ends: &mut [Ends], chan: u32, passive: bool, comp: u32) -> bool
+// Notes an end and its port; true where one of its sense stood there already.
+fn seat(ends: &mut [Ends], chan: u32, passive: bool, comp: u32, port: u32) -> bool
     requires from { 0 < chan }
     requires to { chan ≤ length ends.old }
-    ensures { Seats ends.old ends.new chan passive comp result }
+    ensures { Seats ends.old ends.new chan passive comp port result }
 {
     let k = chan as usize - 1;
     let pair = ends[k];
@@ -103,8 +107,9 @@ fn seat(ends: &mut [Ends], chan: u32, passive: bool, comp: u32) -> bool
             return true;
         }
         ends[k] = Ends {
-            active: pair.active,
             passive: Some(comp),
+            passive_port: port,
+            ..pair
         };
     } else {
         if pair.active.is_some() {
@@ -112,7 +117,8 @@ fn seat(ends: &mut [Ends], chan: u32, passive: bool, comp: u32) -> bool
         }
         ends[k] = Ends {
             active: Some(comp),
-            passive: pair.passive,
+            active_port: port,
+            ..pair
         };
     }
     false

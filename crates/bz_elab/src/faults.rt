@@ -1,6 +1,6 @@
-//! The least fault of the components of parts.
+//! The components of parts, each read once, and their least fault.
 
-ghost use Rattle.std.specs.Prelude.{◌≡◌, ◌<◌, ◌⊎◌, ℕ, Some, length, slice_get, IfOk, IfErr};
+ghost use Rattle.std.specs.Prelude.{◌≡◌, ◌<◌, ◌⊎◌, ℕ, true, None, Some, [], length, slice_get, IfOk, IfErr};
 ghost use Rattle.std.specs.List.{All};
 ghost use Rattle.bz_elab.specs.declared.error.ElabError.TheVariants.{Memory};
 ghost use Rattle.bz_elab.specs.declared.error.Fault.TheVariants as fault;
@@ -8,11 +8,16 @@ ghost use Rattle.bz_elab.specs.Faults.{error_at};
 ghost use Rattle.bz_elab.specs.Paths.{component};
 ghost use Rattle.bz_elab.specs.Refusals.{HasPortChannels, HasFault};
 ghost use Rattle.bz_elab.specs.Order.{order};
-ghost use Rattle.bz_elab.specs.Least.{IsChecked, IsLeastFault, InMarked, LeastOn, lesser};
+ghost use Rattle.bz_elab.specs.Least.{IsSeen, IsSeenCopy, IsLeastFault, InMarked, LeastOn, lesser};
+ghost use Rattle.bz_elab.specs.Numbers.{is_marked};
+ghost use Rattle.bz_elab.specs.Readings.{AreRead, AreReadings};
+ghost use Rattle.bz_elab.specs.Totals.{AreTotals};
 
 use crate::component::{instance_of, leaf_of};
 use crate::error::{ElabError, Fault, Spot};
-use crate::walk::find;
+use crate::reading::{Instance, Item, Reading};
+use crate::totals::{Total, is_bare};
+use crate::walk::{MOST_INSTANCES, find};
 use bz_breeze::{Component, Part, Parts};
 use bz_model::Chan;
 use std::alloc::Global;
@@ -24,6 +29,14 @@ pub struct Found {
     pub spot: Spot,
 }
 
+/// What was seen of a component: its first fault, that it adds nothing to the net, or what it adds.
+#[derive(Drop)]
+pub enum Seen {
+    Wrong(Fault),
+    Nothing,
+    Adds(Item),
+}
+
 impl Found {
     /// The refusal of the part.
     pub fn error(self) -> ElabError
@@ -33,41 +46,58 @@ impl Found {
     }
 }
 
-/// The first fault in the order of refusals, at its least place, of the components of the marked parts.
-pub fn least_fault(alloc: Global, parts: &Parts, marks: &[bool]) -> Result<Option<Found>, ElabError>
+/// What was read of the marked parts, and the first fault in the order of refusals, at its least place, of their components.
+pub fn read_parts(
+    alloc: Global,
+    parts: &Parts,
+    totals: &[Option<Total>],
+    marks: &[bool],
+) -> Result<(Option<Found>, Vec<Reading>), ElabError>
     requires whole { All HasPortChannels parts.now }
+    requires totals { AreTotals parts.now totals.now }
     requires marks { length marks.now ≡ length parts.now }
-    ensures ok { IfOk result (IsLeastFault parts.now (InMarked marks.now)) }
+    ensures ok { IfOk result (λ r. IsLeastFault parts.now (InMarked marks.now) r.0) }
+    ensures read { IfOk result (λ r. r.0 ≡ None → AreReadings parts.now (λ n. is_marked marks.now n ≡ true) r.1.items) }
     ensures err { IfErr result (λ e. e ≡ Memory) }
 {
     let list = parts.list();
     let mut least = None;
+    let mut readings = Vec::with_capacity(alloc, list.len())?;
     for (number, part) in list.iter().enumerate() {
+        let mut items = Vec::new(alloc);
         if marks[number] {
-            least = least_of_part(alloc, parts, number, part, least)?;
+            least = read_part(alloc, parts, totals, number, part, least, &mut items)?;
         }
+        readings.push(Reading { items })?;
     }
-    Ok(least)
+    Ok((least, readings))
 }
 
-// The lesser of a fault that was found and the least one of a part.
-fn least_of_part(
+// Reads the components of a part; answers the lesser of a fault that was found and the least one of the part.
+fn read_part(
     alloc: Global,
     parts: &Parts,
+    totals: &[Option<Total>],
     number: usize,
     part: &Part,
     before: Option<Found>,
+    items: &mut Vec<Item>,
 ) -> Result<Option<Found>, ElabError>
     requires whole { All HasPortChannels parts.now }
+    requires totals { AreTotals parts.now totals.now }
     requires part_is { slice_get parts.now number ≡ Some part.now }
+    requires items { items.old.items ≡ [] }
     ensures ok { IfOk result (LeastOn parts.now number before) }
+    ensures kept { IfOk result (λ least. least ≡ None → before ≡ None) }
+    ensures read { IfOk result (λ least. least ≡ None → AreRead parts.now part.now.channels.items part.now.components.items items.new.items) }
     ensures err { IfErr result (λ e. e ≡ Memory) }
 {
     let mut least = before;
     for (place, component) in part.components.iter().enumerate() {
-        match fault_of(alloc, parts, part.channels.as_slice(), component)? {
-            None => {}
-            Some(fault) => {
+        match look(alloc, parts, totals, part.channels.as_slice(), component)? {
+            Seen::Nothing => {}
+            Seen::Adds(item) => items.push(item)?,
+            Seen::Wrong(fault) => {
                 let spot = Spot {
                     part: number,
                     position: place + 1,
@@ -79,31 +109,47 @@ fn least_of_part(
     Ok(least)
 }
 
-// The first fault of a component.
-fn fault_of(
+// Looks at a component.
+fn look(
     alloc: Global,
     parts: &Parts,
+    totals: &[Option<Total>],
     channels: &[Chan],
     component: &Component,
-) -> Result<Option<Fault>, ElabError>
-    requires { All HasPortChannels parts.now }
-    ensures ok { IfOk result (IsChecked parts.now channels.now component.now) }
+) -> Result<Seen, ElabError>
+    requires whole { All HasPortChannels parts.now }
+    requires totals { AreTotals parts.now totals.now }
+    ensures ok { IfOk result (IsSeen parts.now channels.now component.now) }
     ensures err { IfErr result (λ e. e ≡ Memory) }
 {
     let fault = match find(parts, component.name.as_slice()) {
         None => match leaf_of(alloc, channels, component) {
-            Ok(_) => return Ok(None),
+            Ok(leaf) => return Ok(Seen::Adds(Item::Leaf(leaf))),
             Err(fault) => fault,
         },
         Some(inner) => match instance_of(alloc, channels, component, &parts.list()[inner]) {
-            Ok(_) => return Ok(None),
+            Ok(chans) => return Ok(seen_copy(parts, totals, inner, chans)),
             Err(fault) => fault,
         },
     };
     if fault.order() == 0 {
         return Err(ElabError::Memory);
     }
-    Ok(Some(fault))
+    Ok(Seen::Wrong(fault))
+}
+
+// What an instance of a part adds, its entries naming these channels.
+fn seen_copy(parts: &Parts, totals: &[Option<Total>], inner: usize, chans: Vec<u32>) -> Seen
+    requires totals { AreTotals parts.now totals.now }
+    requires inner { inner < length parts.now }
+    ensures { IsSeenCopy parts.now inner chans.items result }
+{
+    let part = &parts.list()[inner];
+    if part.channels.len() <= part.ports.len() && is_bare(totals, inner, MOST_INSTANCES) {
+        Seen::Nothing
+    } else {
+        Seen::Adds(Item::Copy(Instance { part: inner, chans }))
+    }
 }
 
 // The one that comes first in the order, the earlier one of two alike.

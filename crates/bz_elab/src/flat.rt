@@ -2,7 +2,7 @@
 
 ghost use Rattle.std.specs.Prelude.{◌≡◌, ◌<◌, ◌^◌, length, map, IfOk, IfErr};
 ghost use Rattle.std.specs.Option.{option_copied, option_map};
-ghost use Rattle.bz_model.specs.Names.{external, port_number, channel, numbered};
+ghost use Rattle.bz_model.specs.Names.{NamesDiffer, external, port_number, channel, numbered};
 ghost use Rattle.bz_elab.specs.Flats.{site_of, wiring_of};
 ghost use Rattle.bz_elab.specs.Wires.{WellWired, EndsOf};
 
@@ -20,11 +20,14 @@ pub struct FlatComp {
     pub chans: Vec<u32>,
 }
 
-/// The components at the two ends of a channel, counted from 1, `None` where no component stands.
+/// The components at the two ends of a channel, counted from 1, `None` where no component stands, and their ports there,
+/// counted from 1, 0 where there is none.
 #[derive(Clone, Copy, Debug, PartialEq, Eq)]
 pub struct Ends {
     pub active: Option<u32>,
     pub passive: Option<u32>,
+    pub active_port: u32,
+    pub passive_port: u32,
 }
 
 /// What a flat net is made of. Channel, component and port number k is the one at place k - 1, and port k is channel k.
@@ -81,7 +84,9 @@ impl Flat {
 
     /// The external ports, in order.
     pub fn ports(&self) -> &[Port]
-        ensures { map external result.now ≡ self.now.wiring.ports }
+        ensures value { map external result.now ≡ self.now.wiring.ports }
+        ensures differ { NamesDiffer self.now.wiring.ports }
+        ensures wired { WellWired self.now.wiring }
     {
         self.ports.as_slice()
     }
@@ -112,7 +117,7 @@ impl Flat {
         numbered(&self.comps, comp)
     }
 
-    /// The components at the ends of a channel, if there is such a channel.
+    /// The components at the ends of a channel and their ports there, if there is such a channel.
     pub fn ends(&self, chan: u32) -> Option<Ends>
         ensures { result ≡ numbered self.now.ends chan }
     {
@@ -158,7 +163,7 @@ pub fn dup_comps(alloc: Global, comps: &[FlatComp]) -> Result<Vec<FlatComp>, All
 {
     let mut same = Vec::new(alloc);
     for comp in comps {
-        let kind = comp.kind.dup(alloc)?;
+        let kind = comp.kind.dup()?;
         let chans = Vec::from_slice(alloc, &comp.chans)?;
         same.push(FlatComp {
             kind,

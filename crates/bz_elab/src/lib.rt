@@ -9,7 +9,9 @@ mod error;
 mod faults;
 mod flat;
 mod laws;
+mod rank;
 mod reach;
+mod reading;
 mod totals;
 mod walk;
 

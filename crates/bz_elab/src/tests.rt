@@ -1,3 +1,4 @@
+use crate::rank::{number_at, ranks};
 use crate::{ElabError, Ends, Flat, elaborate};
 use bz_breeze::parts;
 use bz_model::{Chan, ChanKind, Kind};
@@ -71,11 +72,15 @@ fn a_buffer(rt: HostRuntime) -> Result<(), Fail> {
     let pair = Ends {
         active: Some(2),
         passive: Some(3),
+        active_port: 2,
+        passive_port: 1,
     };
     assert!(rt; flat.ends(4) == Some(pair) && flat.ends(9) == None);
     let at_host = Ends {
         active: Some(5),
         passive: None,
+        active_port: 3,
+        passive_port: 0,
     };
     assert!(rt; flat.ends(3) == Some(at_host));
     let fetch = match flat.comp(4) {
@@ -127,6 +132,8 @@ fn one_channel_on_both_sides(rt: HostRuntime) -> Result<(), Fail> {
     let both = Ends {
         active: Some(1),
         passive: Some(1),
+        active_port: 2,
+        passive_port: 1,
     };
     assert!(rt; flat.ends(1) == Some(both));
     Ok(())
@@ -178,5 +185,31 @@ fn nets_refused(rt: HostRuntime) -> Result<(), Fail> {
     let passive = r#"(ports (sync-port "a" passive) (sync-port "b" passive))
         (channels (sync) (sync)) (components (component "$BrzLoop" () (2 1)))"#;
     assert!(rt; refusal(alloc, passive)? == Some(ElabError::PortSense(1)));
+    Ok(())
+}
+
+// p has a and d; a and b have one another; b has c, and d has c and itself.
+const LOOPS: &str = r#"
+(breeze-part "p" (components (component "a" () ()) (component "d" () ())))
+(breeze-part "a" (components (component "b" () ())))
+(breeze-part "b" (components (component "c" () ()) (component "a" () ())))
+(breeze-part "c")
+(breeze-part "d" (components (component "d" () ()) (component "c" () ())))
+"#;
+
+// No clause says that ranks are those that make a search short.
+#[test]
+fn ranks_fall_but_round_a_loop(rt: HostRuntime) -> Result<(), Fail> {
+    let alloc = rt.alloc();
+    let data = read(alloc, LOOPS.as_bytes())?;
+    let parts = parts(alloc, data.as_slice())?;
+    let found = ranks(alloc, &parts)?;
+    let top = number_at(&found, 0);
+    let first = number_at(&found, 1);
+    let second = number_at(&found, 2);
+    let bottom = number_at(&found, 3);
+    let alone = number_at(&found, 4);
+    assert!(rt; 0 < bottom && bottom < first && first < top && bottom < alone && alone < top);
+    assert!(rt; first == second && number_at(&found, 5) == 0);
     Ok(())
 }

@@ -1,21 +1,20 @@
 //! The walk of a part's copies, by which its net is made.
 
-ghost use Rattle.std.specs.Prelude.{◌≡◌, ◌<◌, ◌≤◌, ◌+◌, ◌-◌, ◌++◌, ◌∷◌, [], ◌⊎◌, ℕ, List, Some, length, slice_get, option_and_then, slice_index_or, IfOk, IfErr, IfSome, OnOk};
+ghost use Rattle.std.specs.Prelude.{◌≡◌, ◌<◌, ◌≤◌, ◌+◌, ◌-◌, ◌^◌, ◌++◌, ◌∷◌, [], ◌⊎◌, ℕ, List, Some, length, map, slice_get, option_and_then, slice_index_or, IfOk, IfErr, IfSome, OnOk};
 ghost use Rattle.std.specs.List.{All};
 ghost use Rattle.bz_elab.specs.declared.error.ElabError.TheVariants.{Memory, TooBig};
-ghost use Rattle.bz_elab.specs.Paths.{instance, leaf_role, copy, leaf, named};
+ghost use Rattle.bz_elab.specs.Paths.{named, most_instances};
 ghost use Rattle.bz_elab.specs.Refusals.{AppliesTo, HasPortChannels, most_ends};
 ghost use Rattle.bz_elab.specs.Numbers.{number_named};
 ghost use Rattle.bz_elab.specs.Order.{rank};
-ghost use Rattle.bz_elab.specs.Totals.{AreTotals};
+ghost use Rattle.bz_elab.specs.Readings.{LeafOn, CopyOn, IsFull, IsReadBelow};
 ghost use Rattle.bz_elab.specs.Wires.{most_comps, most_chans};
-ghost use Rattle.bz_elab.specs.Growth.{AreActuals, Entered, LeafAdded, CopyAdded, Refused, Flattened, Counted, Fails, IsNet, Within};
+ghost use Rattle.bz_elab.specs.Growth.{net_number, FitsNet, Entered, Flattened, Counted, Fails, IsNet, IsShort, Within};
 
-use crate::component::{instance_of, leaf_of};
-use crate::error::{ElabError, Spot};
+use crate::error::ElabError;
 use crate::flat::FlatComp;
-use crate::totals::{Total, is_bare};
-use bz_breeze::{Component, Part, Parts};
+use crate::reading::{Item, Reading};
+use bz_breeze::{Part, Parts};
 use bz_model::Chan;
 use std::alloc::{AllocError, Global};
 
@@ -37,6 +36,14 @@ pub struct Draft {
     pub chans: Vec<Chan>,
     pub comps: Vec<FlatComp>,
     pub ends: usize,
+}
+
+/// A copy of a part within another copy: how many channels the net had before its own, and the channels of the copy above
+/// that its ports are.
+#[derive(Clone, Copy)]
+pub struct Level<'r> {
+    pub before: u32,
+    pub ports: &'r [u32],
 }
 
 /// The number of the first part of that name, counted from 0.
@@ -80,157 +87,163 @@ fn push_comp(draft: &mut Draft, comp: FlatComp) -> Result<(), ElabError>
     Ok(())
 }
 
-// The channels of the net that channels of a copy are, by the numbers of all its channels.
-fn actuals(alloc: Global, numbers: &[u32], chans: &[u32]) -> Result<Vec<u32>, AllocError>
-    requires { All (λ k. (0 < k) × (k ≤ length chans.now)) numbers.now }
-    ensures { IfOk result (λ v. AreActuals chans.now numbers.now v.items) }
+// The number in the net of a channel of a copy. A port is a channel of the copy above, whatever that is there.
+fn net_number(levels: &[Level<'_>], number: u32) -> u32
+    requires { net_number levels.now number < 2 ^ 32 }
+    ensures { result ≡ net_number levels.now number }
 {
-    let mut actuals = Vec::new(alloc);
-    for number in numbers {
-        actuals.push(chans[*number as usize - 1])?;
+    let mut number = number;
+    for level in levels {
+        let ports = level.ports.len();
+        if number as usize > ports {
+            return level.before + (number - ports as u32);
+        }
+        number = entry_at(level.ports, number);
     }
-    Ok(actuals)
+    number
 }
 
-// Adds a part's channels but for its ports, whose channels are given; answers all its channels by number.
-fn enter(
-    draft: &mut Draft,
-    part: &Part,
-    ports: usize,
-    actuals: Vec<u32>,
-) -> Result<Vec<u32>, ElabError>
-    requires draft { Within draft.old }
-    requires ports { ports ≤ length part.now.channels.items }
-    ensures within { Within draft.new }
-    ensures ok { IfOk result (λ v. Entered draft.old draft.new part.now ports actuals.items v.items) }
-    ensures err { IfErr result (λ e. (e ≡ Memory) ⊎ ((e ≡ TooBig) × (most_chans < length draft.old.chans.items + (length part.now.channels.items - ports)))) }
+// The channel that an entry names, counted from 1, or 0 past the end.
+fn entry_at(entries: &[u32], number: u32) -> u32
+    ensures { result ≡ slice_index_or entries.now (number - 1) 0 }
 {
-    let mut chans = actuals;
-    for i in ports..part.channels.len() {
-        let number = push_chan(draft, part.channels[i])?;
-        chans.push(number)?;
+    match entries.get(number.saturating_sub(1) as usize) {
+        Some(chan) => *chan,
+        None => 0,
+    }
+}
+
+// The numbers in the net of channels of a copy.
+fn net_numbers(alloc: Global, levels: &[Level<'_>], numbers: &[u32]) -> Result<Vec<u32>, AllocError>
+    requires { All (λ k. net_number levels.now k < 2 ^ 32) numbers.now }
+    ensures { IfOk result (λ v. v.items ≡ map (net_number levels.now) numbers.now) }
+{
+    let mut chans = Vec::with_capacity(alloc, numbers.len())?;
+    for number in numbers {
+        chans.push(net_number(levels, *number))?;
     }
     Ok(chans)
 }
 
-// Adds a component that is no instance. `own` are the channels of its part, and `chans` their numbers in the net.
+// Adds a part's channels but for its ports.
+fn enter(draft: &mut Draft, part: &Part, ports: usize) -> Result<(), ElabError>
+    requires draft { Within draft.old }
+    requires ports { ports ≤ length part.now.channels.items }
+    ensures within { Within draft.new }
+    ensures ok { OnOk result (Entered draft.old draft.new part.now ports) }
+    ensures err { IfErr result (λ e. (e ≡ Memory) ⊎ ((e ≡ TooBig) × (most_chans < length draft.old.chans.items + (length part.now.channels.items - ports)))) }
+{
+    for i in ports..part.channels.len() {
+        push_chan(draft, part.channels[i])?;
+    }
+    Ok(())
+}
+
+// Adds a component that is no instance, by the numbers of its part's channels.
 fn add_leaf(
     alloc: Global,
-    spot: Spot,
-    own: &[Chan],
-    component: &Component,
-    chans: &[u32],
+    named: &FlatComp,
+    levels: &[Level<'_>],
     draft: &mut Draft,
 ) -> Result<(), ElabError>
-    requires chans { length chans.now ≡ length own.now }
+    requires chans { All (λ k. net_number levels.now k < 2 ^ 32) named.now.chans.items }
     requires draft { Within draft.old }
     ensures within { Within draft.new }
-    ensures ok { OnOk result (LeafAdded own.now chans.now component.now draft.old draft.new) }
-    ensures err { IfErr result (Refused own.now component.now (leaf_role component.now) draft.old (leaf [] component.now) spot.part spot.position) }
+    ensures ok { OnOk result (LeafOn levels.now named.now draft.old draft.new) }
+    ensures err { IfErr result (λ e. (e ≡ Memory) ⊎ ((e ≡ TooBig) × IsFull draft.old (length named.now.chans.items))) }
 {
-    match leaf_of(alloc, own, component) {
-        Ok(named) => {
-            let chans = actuals(alloc, named.chans.as_slice(), chans)?;
-            let sizes = named.sizes;
-            let kind = named.kind;
-            push_comp(draft, FlatComp { kind, sizes, chans })
-        }
-        Err(fault) => Err(fault.at(spot)),
-    }
+    let chans = net_numbers(alloc, levels, named.chans.as_slice())?;
+    let kind = named.kind.dup()?;
+    let sizes = named.sizes;
+    push_comp(draft, FlatComp { kind, sizes, chans })
 }
 
-// Adds the channels of an instance's copy; answers their numbers in the net, and those of its ports first.
-fn add_copy(
+// Adds the channels of an instance's copy, whose entries name these channels of the copy above; answers the copies from
+// this one up.
+fn add_copy<'r>(
     alloc: Global,
-    spot: Spot,
-    own: &[Chan],
-    component: &Component,
+    ports: &'r [u32],
     inner: &Part,
-    chans: &[u32],
+    levels: &[Level<'r>],
     draft: &mut Draft,
-) -> Result<Vec<u32>, ElabError>
+) -> Result<Vec<Level<'r>>, ElabError>
     requires inner { HasPortChannels inner.now }
-    requires chans { length chans.now ≡ length own.now }
     requires draft { Within draft.old }
     ensures within { Within draft.new }
-    ensures ok { IfOk result (λ v. CopyAdded own.now chans.now component.now inner.now draft.old draft.new v.items) }
-    ensures err { IfErr result (Refused own.now component.now (instance inner.now) draft.old (copy (0 ∷ []) inner.now) spot.part spot.position) }
+    ensures ok { IfOk result (λ v. CopyOn levels.now ports.now inner.now draft.old draft.new v.items) }
+    ensures err { IfErr result (λ e. (e ≡ Memory) ⊎ ((e ≡ TooBig) × (most_chans < length draft.old.chans.items + (length inner.now.channels.items - length inner.now.ports.items)))) }
 {
-    match instance_of(alloc, own, component, inner) {
-        Ok(named) => {
-            let ports = actuals(alloc, named.as_slice(), chans)?;
-            enter(draft, inner, inner.ports.len(), ports)
-        }
-        Err(fault) => Err(fault.at(spot)),
+    let before = draft.chans.len() as u32;
+    enter(draft, inner, inner.ports.len())?;
+    let mut inside = Vec::with_capacity(alloc, levels.len() + 1)?;
+    inside.push(Level { before, ports })?;
+    for level in levels {
+        inside.push(*level)?;
     }
+    Ok(inside)
 }
 
-// Adds the copies and leaves below a part's copy, whose channels are `chans`. A copy below which there is nothing is not
-// gone into.
-fn flatten(
+// Adds the copies and leaves below a part's copy, `levels` being that copy and those above it but for the top's.
+fn flatten<'r>(
     alloc: Global,
     parts: &Parts,
-    totals: &[Option<Total>],
+    readings: &'r [Reading],
     number: usize,
     part: &Part,
-    chans: &[u32],
+    levels: &[Level<'r>],
     depth: u32,
     draft: &mut Draft,
 ) -> Result<(), ElabError>
     requires whole { All HasPortChannels parts.now }
     requires part_is { slice_get parts.now number ≡ Some part.now }
-    requires chans { length chans.now ≡ length part.now.channels.items }
-    requires totals { AreTotals parts.now totals.now }
+    requires levels { FitsNet levels.now (length part.now.channels.items) (length draft.old.chans.items) }
+    requires read { IsReadBelow parts.now number readings.now }
+    requires short { IsShort parts.now part.now depth }
     requires draft { Within draft.old }
     ensures within { Within draft.new }
-    ensures ok { OnOk result (Flattened parts.now part.now chans.now depth draft.old draft.new) }
+    ensures ok { OnOk result (Flattened parts.now part.now levels.now depth draft.old draft.new) }
     ensures counted { OnOk result (Counted parts.now part.now depth draft.old draft.new) }
     ensures err { IfErr result (Fails parts.now part.now depth draft.old) }
     ensures early { IfErr result (λ e. rank e ≤ 10) }
 {
-    let own = part.channels.as_slice();
-    for (place, component) in part.components.iter().enumerate() {
-        let spot = Spot {
-            part: number,
-            position: place + 1,
-        };
-        match find(parts, component.name.as_slice()) {
-            None => add_leaf(alloc, spot, own, component, chans, draft)?,
-            Some(inner) => {
+    let reading = &readings[number];
+    for item in &reading.items {
+        match item {
+            Item::Leaf(named) => add_leaf(alloc, named, levels, draft)?,
+            Item::Copy(instance) => {
                 if depth == 0 {
                     return Err(ElabError::TooDeep);
                 }
-                let inner_part = &parts.list()[inner];
-                let inner_chans = add_copy(alloc, spot, own, component, inner_part, chans, draft)?;
-                if !is_bare(totals, inner, depth - 1) {
-                    flatten(
-                        alloc,
-                        parts,
-                        totals,
-                        inner,
-                        inner_part,
-                        inner_chans.as_slice(),
-                        depth - 1,
-                        draft,
-                    )?;
-                }
+                let inner = &parts.list()[instance.part];
+                let inside = add_copy(alloc, instance.chans.as_slice(), inner, levels, draft)?;
+                flatten(
+                    alloc,
+                    parts,
+                    readings,
+                    instance.part,
+                    inner,
+                    inside.as_slice(),
+                    depth - 1,
+                    draft,
+                )?;
             }
         }
     }
     Ok(())
 }
 
-/// The net of a part, by its number.
+/// The net of a part, by its number, from what was read of it and of all that it reaches.
 pub fn net_of(
     alloc: Global,
     parts: &Parts,
-    totals: &[Option<Total>],
+    readings: &[Reading],
     number: usize,
     part: &Part,
 ) -> Result<Draft, ElabError>
     requires whole { All HasPortChannels parts.now }
     requires part_is { slice_get parts.now number ≡ Some part.now }
-    requires totals { AreTotals parts.now totals.now }
+    requires read { IsReadBelow parts.now number readings.now }
+    requires short { IsShort parts.now part.now most_instances }
     ensures within { IfOk result Within }
     ensures ok { IfOk result (IsNet parts.now part.now) }
     ensures err { IfErr result (λ e. (e ≡ Memory) ⊎ AppliesTo parts.now part.now e) }
@@ -241,14 +254,14 @@ pub fn net_of(
         comps: Vec::new(alloc),
         ends: 0,
     };
-    let chans = enter(&mut draft, part, 0, Vec::new(alloc))?;
+    enter(&mut draft, part, 0)?;
     flatten(
         alloc,
         parts,
-        totals,
+        readings,
         number,
         part,
-        chans.as_slice(),
+        &[],
         MOST_INSTANCES,
         &mut draft,
     )?;

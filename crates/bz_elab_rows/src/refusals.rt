@@ -68,6 +68,15 @@ E6 PortCount p 1
 (breeze-part "i" (ports (port "x" passive input)) (channels (push 8)))
 (breeze-part "p" (channels (push 8)) (components (component "i" () (()))))
 
+E6 PortCount p 1
+(breeze-part "p" (channels (pull 1) (sync) (pull 1) (pull 1) (sync)) (components (component "$BrzBar" (2) (1 2 (3 4) (5)))))
+
+E6 PortCount p 1
+(breeze-part "p" (channels (pull 1) (sync)) (components (component "$BrzBar" (0) (1 2 () ()))))
+
+E6 PortCount p 1
+(breeze-part "p" (channels (pull 1) (pull 1) (sync)) (components (component "$BrzBar" (1) (1 (2) (3)))))
+
 E7 BadChannel p 1
 (breeze-part "p" (channels (sync)) (components (component "$BrzContinue" () (0))))
 
@@ -88,6 +97,15 @@ E9 KindMismatch p 1
 (breeze-part "p" (channels (sync) (sync) (sync)) (components (component "$BrzWhile" () (1 2 3))))
 
 E9 KindMismatch p 1
+(breeze-part "p" (channels (sync) (sync) (pull 1) (sync)) (components (component "$BrzBar" (1) (1 2 (3) (4)))))
+
+E9 KindMismatch p 1
+(breeze-part "p" (channels (pull 1) (pull 1) (pull 1) (sync)) (components (component "$BrzBar" (1) (1 2 (3) (4)))))
+
+E9 KindMismatch p 1
+(breeze-part "p" (channels (pull 1) (sync) (sync) (pull 1)) (components (component "$BrzBar" (1) (1 2 (3) (4)))))
+
+E9 KindMismatch p 1
 (breeze-part "i" (ports (port "x" passive input)) (channels (push 8)))
 (breeze-part "p" (channels (pull 8)) (components (component "i" () (1))))
 
@@ -96,6 +114,16 @@ E10 WidthMismatch p 1
 
 E10 WidthMismatch p 1
 (breeze-part "p" (channels (sync) (pull 2) (sync)) (components (component "$BrzWhile" () (1 2 3))))
+
+E10 WidthMismatch p 1
+(breeze-part "p" (channels (pull 2) (sync) (pull 1) (sync)) (components (component "$BrzBar" (1) (1 2 (3) (4)))))
+
+E10 WidthMismatch p 1
+(breeze-part "p" (channels (sync) (pull 2) (pull 1) (sync)) (components (component "$BrzBar" (1) (1 2 (3) (4)))))
+
+E10 WidthMismatch p 1
+(breeze-part "p" (channels (pull 1) (sync) (pull 1) (pull 2) (sync) (sync))
+ (components (component "$BrzBar" (2) (1 2 (3 4) (5 6)))))
 
 E10 WidthMismatch p 1
 (breeze-part "i" (ports (port "x" passive input)) (channels (push 8)))

@@ -7,7 +7,14 @@ use std::fs;
 use std::test::Fail;
 
 /// Netlists with the words that drive them and the traces they give, each of the part of its name.
-const PLAYED: [&str; 4] = ["buffer", "arbiter_tree", "pipeline", "countdown"];
+const PLAYED: [&str; 6] = [
+    "buffer",
+    "arbiter_tree",
+    "pipeline",
+    "countdown",
+    "steer",
+    "careless",
+];
 
 /// Netlists with the lists of the part of their name.
 const LISTED: [&str; 2] = ["tee", "two_place"];

@@ -23,7 +23,7 @@ fn passivator_replies_when_both_have_come(rt: HostRuntime) -> Result<(), Fail> {
         "collect:b",
     ];
     let outcome = play(rt.alloc(), PASSIVATOR.as_bytes(), "p", 100, &words)?;
-    let want = "trace 1
+    let want = "trace 2
 h1 offer a done
 w1 fire 1 take 1
 w1 rest
@@ -63,7 +63,7 @@ fn passivator_push_gives_all_the_value(rt: HostRuntime) -> Result<(), Fail> {
         "collect:i",
     ];
     let outcome = play(rt.alloc(), PASSIVATOR_PUSH.as_bytes(), "p", 100, &words)?;
-    let want = "trace 1
+    let want = "trace 2
 h1 offer x done
 h1 offer i 5 done
 w1 fire 1 take 1
@@ -106,7 +106,7 @@ fn passivator_push_takes_the_value_last(rt: HostRuntime) -> Result<(), Fail> {
         "collect:y",
     ];
     let outcome = play(rt.alloc(), PASSIVATOR_PUSH.as_bytes(), "p", 100, &words)?;
-    let want = "trace 1
+    let want = "trace 2
 h1 offer y done
 h1 offer x done
 w1 fire 1 take 1
@@ -164,7 +164,7 @@ fn synch_calls_when_both_have_come(rt: HostRuntime) -> Result<(), Fail> {
         "collect:b",
     ];
     let outcome = play(rt.alloc(), SYNCH.as_bytes(), "p", 100, &words)?;
-    let want = "trace 1
+    let want = "trace 2
 h1 offer b done
 w1 fire 1 take 2
 w1 rest
@@ -223,7 +223,7 @@ fn synch_pull_gives_all_the_same_value(rt: HostRuntime) -> Result<(), Fail> {
         "collect:x",
     ];
     let outcome = play(rt.alloc(), SYNCH_PULL.as_bytes(), "p", 100, &words)?;
-    let want = "trace 1
+    let want = "trace 2
 h1 offer y done
 w1 fire 1 take 2
 w1 rest
@@ -282,7 +282,7 @@ fn decision_wait_waits_to_be_activated(rt: HostRuntime) -> Result<(), Fail> {
         "collect:go",
     ];
     let outcome = play(rt.alloc(), DECISION_WAIT.as_bytes(), "p", 100, &words)?;
-    let want = "trace 1
+    let want = "trace 2
 h1 offer a done
 w1 rest
 h1 offer go done
@@ -337,7 +337,7 @@ fn decision_wait_decides_once(rt: HostRuntime) -> Result<(), Fail> {
         "run:9",
     ];
     let outcome = play(rt.alloc(), DECISION_WAIT.as_bytes(), "p", 100, &words)?;
-    let want = "trace 1
+    let want = "trace 2
 h1 offer b done
 h1 offer a done
 h1 offer go done
@@ -391,7 +391,7 @@ fn false_variable_is_read_while_it_signals(rt: HostRuntime) -> Result<(), Fail> 
         "collect:r",
     ];
     let outcome = play(rt.alloc(), FALSE_VARIABLE.as_bytes(), "p", 100, &words)?;
-    let want = "trace 1
+    let want = "trace 2
 h1 offer w 5 done
 w1 fire 1 take 1 5
 w1 fire 1 ask 2
@@ -443,7 +443,7 @@ fn false_variable_is_read_before_it_is_written(rt: HostRuntime) -> Result<(), Fa
         "collect:r",
     ];
     let outcome = play(rt.alloc(), FALSE_VARIABLE.as_bytes(), "p", 100, &words)?;
-    let want = "trace 1
+    let want = "trace 2
 h1 offer r done
 w1 fire 1 take 3
 h1 offer w 9 done

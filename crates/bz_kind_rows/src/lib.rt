@@ -5,6 +5,8 @@
 #[cfg(test)]
 mod arbiter;
 #[cfg(test)]
+mod bar;
+#[cfg(test)]
 mod joins;
 #[cfg(test)]
 mod mixers;

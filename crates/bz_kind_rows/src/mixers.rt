@@ -20,7 +20,7 @@ fn call_serves_both_callers_in_order(rt: HostRuntime) -> Result<(), Fail> {
         "collect:b",
     ];
     let outcome = play(rt.alloc(), CALL.as_bytes(), "p", 100, &words)?;
-    let want = "trace 1
+    let want = "trace 2
 h1 offer a done
 h1 offer b done
 w1 fire 1 take 1
@@ -40,6 +40,7 @@ w1 fire 1 reply 2
 w1 rest
 h1 collect a done
 h1 collect b done
+clash 1
 ";
     assert_eq!(rt; outcome.text.as_slice(), want.as_bytes());
     assert_eq!(rt; outcome.status, 0);
@@ -62,7 +63,7 @@ fn call_serves_the_second_caller_first(rt: HostRuntime) -> Result<(), Fail> {
         "collect:a",
     ];
     let outcome = play(rt.alloc(), CALL.as_bytes(), "p", 100, &words)?;
-    let want = "trace 1
+    let want = "trace 2
 h1 offer b done
 w1 fire 1 take 2
 w1 fire 1 ask 3
@@ -82,6 +83,7 @@ w1 fire 1 reply 1
 w1 rest
 h1 collect b done
 h1 collect a done
+clash 1
 ";
     assert_eq!(rt; outcome.text.as_slice(), want.as_bytes());
     assert_eq!(rt; outcome.status, 0);
@@ -104,7 +106,7 @@ fn call_mux_sends_each_value_on(rt: HostRuntime) -> Result<(), Fail> {
         "collect:b",
     ];
     let outcome = play(rt.alloc(), CALL_MUX.as_bytes(), "p", 100, &words)?;
-    let want = "trace 1
+    let want = "trace 2
 h1 offer a 5 done
 h1 offer b 6 done
 w1 fire 1 take 1 5
@@ -124,6 +126,7 @@ w1 fire 1 reply 2
 w1 rest
 h1 collect a done
 h1 collect b done
+clash 1
 ";
     assert_eq!(rt; outcome.text.as_slice(), want.as_bytes());
     assert_eq!(rt; outcome.status, 0);
@@ -146,7 +149,7 @@ fn call_mux_sends_the_second_value_first(rt: HostRuntime) -> Result<(), Fail> {
         "collect:a",
     ];
     let outcome = play(rt.alloc(), CALL_MUX.as_bytes(), "p", 100, &words)?;
-    let want = "trace 1
+    let want = "trace 2
 h1 offer b 6 done
 w1 fire 1 take 2 6
 w1 fire 1 ask 3 6
@@ -166,6 +169,7 @@ w1 fire 1 reply 1
 w1 rest
 h1 collect b done
 h1 collect a done
+clash 1
 ";
     assert_eq!(rt; outcome.text.as_slice(), want.as_bytes());
     assert_eq!(rt; outcome.status, 0);
@@ -188,7 +192,7 @@ fn call_demux_answers_who_asked(rt: HostRuntime) -> Result<(), Fail> {
         "collect:b",
     ];
     let outcome = play(rt.alloc(), CALL_DEMUX.as_bytes(), "p", 100, &words)?;
-    let want = "trace 1
+    let want = "trace 2
 h1 offer a done
 h1 offer b done
 w1 fire 1 take 1
@@ -208,6 +212,7 @@ w1 fire 1 reply 2 8
 w1 rest
 h1 collect a value 7
 h1 collect b value 8
+clash 1
 ";
     assert_eq!(rt; outcome.text.as_slice(), want.as_bytes());
     assert_eq!(rt; outcome.status, 0);
@@ -230,7 +235,7 @@ fn call_demux_answers_the_second_first(rt: HostRuntime) -> Result<(), Fail> {
         "collect:b",
     ];
     let outcome = play(rt.alloc(), CALL_DEMUX.as_bytes(), "p", 100, &words)?;
-    let want = "trace 1
+    let want = "trace 2
 h1 offer b done
 w1 fire 1 take 2
 w1 fire 1 ask 3
@@ -250,6 +255,7 @@ w1 fire 1 reply 1 8
 w1 rest
 h1 collect a value 8
 h1 collect b value 7
+clash 1
 ";
     assert_eq!(rt; outcome.text.as_slice(), want.as_bytes());
     assert_eq!(rt; outcome.status, 0);
@@ -272,7 +278,7 @@ fn arbiter_lets_one_through_at_a_time(rt: HostRuntime) -> Result<(), Fail> {
         "collect:b",
     ];
     let outcome = play(rt.alloc(), ARBITER.as_bytes(), "arb", 100, &words)?;
-    let want = "trace 1
+    let want = "trace 2
 h1 offer a done
 h1 offer b done
 w1 fire 1 take 1
@@ -315,7 +321,7 @@ fn arbiter_lets_the_second_through_first(rt: HostRuntime) -> Result<(), Fail> {
         "collect:a",
     ];
     let outcome = play(rt.alloc(), ARBITER.as_bytes(), "arb", 100, &words)?;
-    let want = "trace 1
+    let want = "trace 2
 h1 offer b done
 w1 fire 1 take 2
 w1 fire 1 ask 4

@@ -60,3 +60,17 @@ pub const FALSE_VARIABLE: &str = "(breeze-part \"p\"
  (ports (port \"w\" passive input) (sync-port \"s\" active) (port \"r\" passive output))
  (channels (push 8) (sync) (pull 8))
  (components (component \"$BrzFalseVariable\" (8 1 \"v\" \"\") (1 2 (3)))))";
+
+/// `g` asks `i` and `j`, and `a` calls `x` or `y`.
+pub const BAR: &str = "(breeze-part \"p\"
+ (ports (port \"g\" passive output) (sync-port \"a\" passive) (port \"i\" active input)
+  (port \"j\" active input) (sync-port \"x\" active) (sync-port \"y\" active))
+ (channels (pull 1) (sync) (pull 1) (pull 1) (sync) (sync))
+ (components (component \"$BrzBar\" (2) (1 2 (3 4) (5 6)))))";
+
+/// As long as `left` or `right` holds, calls `l` or `r`.
+pub const STEER: &str = "(breeze-part \"p\"
+ (ports (sync-port \"go\" passive) (port \"left\" active input) (port \"right\" active input)
+  (sync-port \"l\" active) (sync-port \"r\" active))
+ (channels (sync) (pull 1) (pull 1) (sync) (sync) (pull 1) (sync))
+ (components (component \"$BrzWhile\" () (1 6 7)) (component \"$BrzBar\" (2) (6 7 (2 3) (4 5)))))";

@@ -1,27 +1,27 @@
 //! A component: where its ports are, and the values that it keeps.
 
-ghost use Rattle.std.specs.Prelude.{◌≡◌, ◌≤◌, ◌-◌, ◌^◌, ◌<◌, ◌↔◌, ℕ, Some, IsTrue, IfSome, IfOk, IfErr, length, slice_index, slice_set, replicate};
-ghost use Rattle.bz_kinds.specs.declared.error.KindError.TheVariants.{Memory};
-ghost use Rattle.bz_model.specs.Heads.{Head, IsHeadOn, CanMove, Moves, Turns, HasOneHead, carried};
+ghost use Rattle.std.specs.Prelude.{◌≡◌, ◌≤◌, ◌-◌, ◌^◌, ◌<◌, ◌↔◌, not, ℕ, Some, IsTrue, IfSome, IfOk, IfErr, length, slice_index, slice_set, replicate};
+ghost use Rattle.bz_kind_table.specs.declared.error.KindError.TheVariants.{Memory};
+ghost use Rattle.bz_model.specs.Heads.{Head, IsHeadOn, CanMove, Moves, Turns, HasOneHead, carried, opens, open_at};
 ghost use Rattle.bz_model.specs.Terms.{stored, IsNarrow};
 ghost use Rattle.bz_model.specs.Rows.{MeetsRow};
 ghost use Rattle.bz_model.specs.Processes.{member, start_of};
-ghost use Rattle.bz_model.specs.Phases.{incoming};
-ghost use Rattle.bz_model.specs.Widths.{Fitted, FitsAt};
+ghost use Rattle.bz_model.specs.Widths.{Fitted, FitsAt, HoldsAt};
 ghost use Rattle.bz_kinds.specs.Moves.{AreEnabled};
+ghost use Rattle.bz_kinds.specs.Ready.{AreReady};
 ghost use Rattle.bz_kinds.specs.Start.{BeginsAt, IsAllDue, IsDueBut, AreMembersDue};
 ghost use Rattle.bz_kinds.specs.Comp.{IsAt, IsDue, IsFor, Goes, plan_due};
 
-use crate::error::KindError;
 use crate::move_iter::MoveIter;
 use crate::ports::{CLOSED, CLOSED_DUE, Ports};
 use crate::row::{Due, Plan};
-use crate::sense::move_at;
+use crate::sense::{move_at, sense_word};
 use crate::shape::shape_of;
 use crate::{
-    cells, choice, decision, enclosed, in_turn, indexed, meeting, once, script, select, signalled,
-    together,
+    bar, cells, choice, decision, enclosed, in_turn, indexed, meeting, once, script, select,
+    signalled, together,
 };
+use bz_kind_table::KindError;
 use bz_model::{Chan, Kind, Move, Phase, Value};
 use std::alloc::{AllocError, Global};
 use std::marker::Model;
@@ -33,12 +33,13 @@ pub struct Comp {
     size: u32,
     left: u32,
     ports: Ports,
+    passive: u64,
     slots: Vec<Value>,
     chans: Vec<Chan>,
 }
 
 impl Model for Comp {
-    ghost use Rattle.std.specs.Prelude.{◌<◌, ◌^◌, ◌-◌, ℕ, map};
+    ghost use Rattle.std.specs.Prelude.{◌≡◌, ◌<◌, ◌^◌, ◌-◌, ℕ, suc, length, map};
     ghost use Rattle.std.specs.Coded.{codes};
     ghost use Rattle.bz_model.specs.Heads.{Component};
     ghost use Rattle.bz_model.specs.Codes.{term_code};
@@ -49,12 +50,13 @@ impl Model for Comp {
 
     ghost coded = { Prim.hlevel (codes, term_code) };
 
-    ghost use Rattle.bz_kinds.specs.Comp.{todo_of, IsAt};
+    ghost use Rattle.bz_kinds.specs.Comp.{todo_of, IsAt, places};
     ghost use Rattle.bz_kinds.specs.Row.{is_open};
+    ghost use Rattle.bz_kinds.specs.Ready.{IsSensed};
 
     ghost view = { λ c. record { proc = record { todo = todo_of c.plan c.size c.left c.ports; store = c.slots.items }; chans = c.chans.items; open_ports = map is_open c.ports } };
 
-    ghost invariant = { λ c. IsAt c.plan c.size c.left c.ports c.slots.items × (c.size < 2 ^ 30) × ((bits : ℕ) × Sends c.chans.items bits (todo_of c.plan c.size c.left c.ports)) };
+    ghost invariant = { λ c. IsAt c.plan c.size c.left c.ports c.slots.items × ((c.size < 2 ^ 30) × IsSensed c.plan c.size 0 c.passive × (places c.plan c.size ≡ suc (length c.chans.items))) × ((bits : ℕ) × Sends c.chans.items bits (todo_of c.plan c.size c.left c.ports)) };
 }
 
 /// A component of this kind at its start, with arrays of these lengths, on these channels in the order of its ports.
@@ -64,15 +66,17 @@ pub fn start(alloc: Global, kind: &Kind, sizes: [u32; 2], chans: &[Chan]) -> Res
     ensures fitted { IfOk result (λ c. Fitted c) }
     ensures memory { IfErr result (λ e. e ≡ Memory) }
 {
-    let shape = shape_of(alloc, kind, sizes, chans)?;
+    let shape = shape_of(kind, sizes, chans)?;
     let ports = first_ports(alloc, &shape.plan, shape.legs)?;
     let slots = vec![in alloc; 0; shape.slots as usize]?;
     let chans = chans.to_vec(alloc)?;
+    let passive = sense_word(&shape.plan, shape.legs, 0);
     Ok(Comp {
         plan: shape.plan,
         size: shape.legs,
         left: 0,
         ports,
+        passive,
         slots,
         chans,
     })
@@ -99,8 +103,9 @@ pub fn apply(comp: &mut Comp, port: u32, phase: Phase) -> (Move, Option<Value>)
     requires { CanMove comp.old.proc port phase }
     ensures moves { Moves comp.old.proc port phase result.0 result.1 comp.new.proc }
     ensures turns { Turns comp.old port result.0 comp.new }
+    ensures one { HasOneHead comp.old.proc.todo }
     ensures chans { comp.new.chans ≡ comp.old.chans }
-    ensures fits { Fitted comp.old → FitsAt comp.old.chans port (incoming phase result.0) → FitsAt comp.old.chans port result.1 × Fitted comp.new }
+    ensures fits { Fitted comp.old → HoldsAt comp.old.chans port phase → FitsAt comp.old.chans port result.0 result.1 × Fitted comp.new }
 {
     let Some(due) = due_at(&comp.plan, comp.size, comp.left, port, comp.ports.get(port)) else {
         unreachable!()
@@ -127,12 +132,28 @@ pub fn moves<'a>(comp: &'a Comp, phases: &'a [Phase]) -> MoveIter<'a>
     MoveIter::new(&comp.plan, comp.size, comp.left, &comp.ports, phases)
 }
 
+/// The ports of word `at`, from port 64 * at on, at which a component can move, a bit for each. `here` tells of each of
+/// them whether what a take or a got there waits for is on its channel.
+pub fn ready_word(comp: &Comp, at: u32, here: u64) -> u64
+    requires { at < 2 ^ 26 }
+    ensures ready { AreReady comp.now.proc at here result }
+    ensures held { (p : ℕ) (h : Head) → IsHeadOn comp.now.proc p h → (0 < p) × (p ≤ length comp.now.chans) }
+    ensures turns { (p : ℕ) (h : Head) → IsHeadOn comp.now.proc p h → opens h.move ≡ not (open_at comp.now p) }
+{
+    let passive = if at == 0 {
+        comp.passive
+    } else {
+        sense_word(&comp.plan, comp.size, at)
+    };
+    comp.ports.word(at).ready(passive, here)
+}
+
 /// The same component in the same state.
 pub fn dup(alloc: Global, comp: &Comp) -> Result<Comp, KindError>
     ensures same { IfOk result (λ c. c ≡ comp.now) }
     ensures memory { IfErr result (λ e. e ≡ Memory) }
 {
-    let plan = comp.plan.dup(alloc)?;
+    let plan = comp.plan.dup()?;
     let ports = comp.ports.dup(alloc)?;
     let slots = comp.slots.to_vec(alloc)?;
     let chans = comp.chans.to_vec(alloc)?;
@@ -141,6 +162,7 @@ pub fn dup(alloc: Global, comp: &Comp) -> Result<Comp, KindError>
         size: comp.size,
         left: comp.left,
         ports,
+        passive: comp.passive,
         slots,
         chans,
     })
@@ -170,6 +192,7 @@ fn first_ports(alloc: Global, plan: &Plan, legs: u32) -> Result<Ports, AllocErro
             first_members(alloc, count, legs)
         }
         Plan::Decision => first_only(alloc, 2 * legs as usize + 2),
+        Plan::Bar => first_members(alloc, 2 * legs as usize + 3, 2),
     }
 }
 
@@ -257,6 +280,7 @@ pub(crate) fn due_at(plan: &Plan, size: u32, left: u32, port: u32, number: u8) -
         Plan::Choice(mix) => choice::due(mix, size, port, number),
         Plan::Meeting(meet) => meeting::due(meet, size, port, number),
         Plan::Decision => decision::due(size, port, number),
+        Plan::Bar => bar::due(size, port, number),
     }
 }
 
@@ -279,5 +303,6 @@ fn advance(plan: &Plan, size: u32, left: &mut u32, ports: &mut Ports, port: u32,
         Plan::Choice(mix) => choice::step(mix, ports, left, size, port),
         Plan::Meeting(meet) => meeting::step(meet, ports, left, size, port),
         Plan::Decision => decision::step(ports, left, size, port),
+        Plan::Bar => bar::step(ports, left, size, port, slots),
     }
 }

@@ -1,10 +1,11 @@
 //! The external ports and the channels of a net, by name and number.
 
-ghost use Rattle.std.specs.Prelude.{◌≡◌, ◌<◌, ◌^◌, ◌-◌, length, map, slice_get, IfOk};
+ghost use Rattle.std.specs.Prelude.{◌≡◌, ◌<◌, ◌^◌, ◌-◌, length, map, suc, position, bytes_eq, slice_get, IfOk, IfSome};
 ghost use Rattle.std.specs.Option.{option_copied, option_map};
 ghost use Rattle.bz_model.specs.Names.{external, port_number, port_name, port_sense, channel, numbered};
 
 use crate::channel::Chan;
+use bz_names::NameSet;
 use std::alloc::{AllocError, Global};
 use std::marker::Model;
 
@@ -20,17 +21,19 @@ pub struct Port {
 pub struct Names {
     ports: Vec<Port>,
     chans: Vec<Chan>,
+    // The names of the ports in order, by which they are found.
+    index: Option<NameSet>,
 }
 
 impl Model for Names {
-    ghost use Rattle.std.specs.Prelude.{map, length, ◌<◌, ◌^◌};
+    ghost use Rattle.std.specs.Prelude.{map, length, ◌≡◌, ◌<◌, ◌^◌, IfSome};
     ghost use Rattle.bz_model.specs.Names.{Outside, external};
 
     ghost Value = { Outside };
 
     ghost view = { λ n. record { ports = map external n.ports.items; chans = n.chans.items } };
 
-    ghost invariant = { λ n. length n.ports.items < 2 ^ 32 };
+    ghost invariant = { λ n. (length n.ports.items < 2 ^ 32) × IfSome n.index (λ names. names ≡ map (λ p. p.name.items) n.ports.items) };
 }
 
 impl Names {
@@ -39,14 +42,30 @@ impl Names {
         requires { length ports.items < 2 ^ 32 }
         ensures { result ≡ record { ports = map external ports.items; chans = chans.items } }
     {
-        Names { ports, chans }
+        let index = index_of(*ports.allocator(), &ports);
+        Names {
+            ports,
+            chans,
+            index,
+        }
+    }
+
+    /// The external ports, in the order of their numbers.
+    pub fn ports(&self) -> &[Port]
+        ensures ports { map external result.now ≡ self.now.ports }
+        ensures few { length result.now < 2 ^ 32 }
+    {
+        &self.ports
     }
 
     /// The number of the port of this name, if there is one.
     pub fn port(&self, name: &[u8]) -> Option<u32>
         ensures { result ≡ port_number self.now.ports name.now }
     {
-        number_of(&self.ports, name)
+        match &self.index {
+            Some(names) => number_among(names, name),
+            None => number_of(&self.ports, name),
+        }
     }
 
     /// The name of a port, if there is such a port.
@@ -82,8 +101,22 @@ impl Names {
     {
         let ports = dup_ports(alloc, &self.ports)?;
         let chans = Vec::from_slice(alloc, &self.chans)?;
-        Ok(Names { ports, chans })
+        Ok(Names::new(ports, chans))
     }
+}
+
+// The names of ports in order, `None` where two are alike or there is no memory for them: then ports are looked for one by one.
+fn index_of(alloc: Global, ports: &[Port]) -> Option<NameSet>
+    ensures { IfSome result (λ names. names ≡ map (λ p. p.name.items) ports.now) }
+{
+    let mut names = NameSet::new(alloc);
+    for port in ports {
+        match names.insert(alloc, port.name.as_slice()) {
+            Ok(true) => {}
+            _ => return None,
+        }
+    }
+    Some(names)
 }
 
 /// The same ports.
@@ -99,6 +132,17 @@ pub fn dup_ports(alloc: Global, ports: &[Port]) -> Result<Vec<Port>, AllocError>
         })?;
     }
     Ok(same)
+}
+
+// The number of a name among names, counted from 1.
+fn number_among(names: &NameSet, name: &[u8]) -> Option<u32>
+    requires { length names.now < 2 ^ 32 }
+    ensures { result ≡ option_map suc (position (bytes_eq name.now) names.now) }
+{
+    match names.place(name) {
+        Some(place) => Some(place as u32 + 1),
+        None => None,
+    }
 }
 
 /// The number of the first port of this name.

@@ -4,8 +4,16 @@ pub mod Sides
 pub mod Phases
 pub mod Ties
 pub mod Readiness
+pub mod Noting
+pub mod Clashing
 pub mod Fitting
+pub mod Lines
+pub mod Played
+pub mod Soles
 pub mod Soundness
 pub mod Opening
 pub mod Hosts
 pub mod Playing
+pub mod Telling
+pub mod Cores
+pub mod Kept

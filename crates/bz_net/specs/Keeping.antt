@@ -1,25 +1,23 @@
 -- What every net keeps: its wiring, the tie of phases and components, the marks of those that can move, and the run that
 -- its journal tells.
-use Rattle.std.specs.Prelude.{◌≡◌, ◌≢◌, ℕ, zero, suc, ◌+◌, ◌-◌, ◌<◌, ◌≤◌, ◌^◌, Bool, true, false, Option, None, Some, List, [], ◌∷◌, length, map, slice_set, slice_index_or}
-use Rattle.bz_model.specs.declared.channel.Move.{Move}
+use Rattle.std.specs.Prelude.{◌≡◌, ◌≢◌, ℕ, suc, ◌-◌, ◌<◌, ◌≤◌, ◌^◌, Bool, true, false, Option, None, Some, List, [], length, map, slice_set, slice_index_or, Contains, ◌↔◌}
 use Rattle.bz_model.specs.declared.channel.Phase.{Phase}
-use Rattle.bz_model.specs.declared.channel.Phase.TheVariants.{Idle, Asked, Taken, Replied, Broken}
-use Rattle.bz_elab.specs.declared.flat.FlatComp.{FlatComp}
+use Rattle.bz_model.specs.declared.channel.Phase.TheVariants.{Idle, Taken, Broken}
 use Rattle.bz_model.specs.declared.channel.Chan.{Chan}
 use Rattle.bz_model.specs.declared.event.Entry.{Entry}
 use Rattle.bz_model.specs.declared.event.Verb.{Verb}
 use Rattle.bz_model.specs.declared.event.Reply.{Reply}
 use Rattle.bz_elab.specs.declared.flat.Ends.{Ends}
-use Rattle.bz_model.specs.Heads.{Proc, Component, Moves, Turns, open_at}
-use Rattle.bz_model.specs.Widths.{FitsAt, FitsChan, Fitted}
+use Rattle.bz_model.specs.Heads.{Proc, Component, open_at}
 use Rattle.bz_net.specs.Sides.{Sided}
-use Rattle.bz_model.specs.Phases.{incoming, phase_after}
-use Rattle.bz_model.specs.Nets.{Site, Wiring, State, IsPort, no_proc, site_at, chan_at, chan_in, passive_at, opening, StepsAt}
+use Rattle.bz_model.specs.Nets.{Site, Wiring, State, IsPort, no_proc, site_at, chan_at, chan_in, passive_at, opening}
 use Rattle.bz_model.specs.Hosts.{reply_to, host_after}
 use Rattle.bz_model.specs.Runs.{CanStep, Run}
 use Rattle.bz_model.specs.Rows.{MeetsRow}
 use Rattle.bz_model.specs.Processes.{start_of}
-use Rattle.bz_elab.specs.Wires.{WellWired, EndsOf, at_side}
+use Rattle.bz_elab.specs.Wires.{WellWired, at_side, ends_in}
+use Rattle.bz_model.specs.Clashes.{ClashesIn}
+use Rattle.bz_net.specs.Noted.{Notes}
 
 abbrev pub proc_of : Component → Proc
 proc_of c = c.proc
@@ -52,12 +50,6 @@ pub record Tied (w : Wiring) (phases : List Phase) (comps : List Component) : Ty
   pub opened : (c p : ℕ) → IsPort w.sites c p → open_at (comp_at comps c) p ≡ is_open (phase_in phases (chan_at w.sites c p)) (passive_at w.sites c p)
   pub kept : (k : ℕ) → phase_in phases k ≢ Broken
 
--- what is on each channel fits its width, and so does all that the components keep and are to send
-pub record Fits (w : Wiring) (phases : List Phase) (comps : List Component) : Type 0 where
-  pub on_chans : (k : ℕ) → FitsChan (chan_in w.chans k) (phase_in phases k)
-  pub chans_of : (c : ℕ) → 0 < c → c ≤ length w.sites → (comp_at comps c).chans ≡ map (chan_in w.chans) (site_at w.sites c).chans
-  pub in_comps : (c : ℕ) → 0 < c → c ≤ length w.sites → Fitted (comp_at comps c)
-
 -- A row of flags tells of each number whether it is marked.
 abbrev pub flag_at : List Bool → ℕ → Bool
 flag_at row c = slice_index_or row c false
@@ -82,6 +74,12 @@ pub record Placed (sites : List Site) (phases : List Phase) (comps : List Compon
   pub chan_to : (c p : ℕ) → IsPort sites c p → chan_at sites c p ≤ length phases
   pub ports_few : (c : ℕ) → length (site_at sites c).chans < 2 ^ 32
 
+-- what reading the phases of a component's channels needs
+pub record ReadsChans (sites : List Site) (phases : List Phase) : Type 0 where
+  pub chan_from : (c p : ℕ) → IsPort sites c p → 0 < chan_at sites c p
+  pub chan_to : (c p : ℕ) → IsPort sites c p → chan_at sites c p ≤ length phases
+  pub ports_few : (c : ℕ) → length (site_at sites c).chans < 2 ^ 32
+
 -- each component can be started on its channels
 pub record StartsWell (chans : List Chan) (sites : List Site) : Type 0 where
   pub chan_from : (c p : ℕ) → IsPort sites c p → 0 < chan_at sites c p
@@ -92,7 +90,6 @@ pub record StartsWell (chans : List Chan) (sites : List Site) : Type 0 where
 pub record Started (chans : List Chan) (sites : List Site) (comps : List Component) (n : ℕ) : Type 0 where
   pub len : length comps ≡ n
   pub each : (c : ℕ) → 0 < c → c ≤ n → comp_at comps c ≡ start_of (site_at sites c).kind (site_at sites c).sizes (map (chan_in chans) (site_at sites c).chans)
-  pub fitted : (c : ℕ) → 0 < c → c ≤ n → Fitted (comp_at comps c)
 
 -- of the first n components, those that can move are marked, and no others yet
 pub record MarksAll (sites : List Site) (s : State) (row : List Bool) (n : ℕ) : Type 0 where
@@ -112,30 +109,16 @@ pub record RefreshedEnds (sites : List Site) (s : State) (old new : List Bool) (
   pub at_end : (c : ℕ) (side : Bool) → at_side pair side ≡ Some c → Exact sites s new c
   pub others : (d : ℕ) → at_side pair true ≢ Some d → at_side pair false ≢ Some d → flag_at new d ≡ flag_at old d
 
--- component c moved at port p, on channel k, and the components at its ends were looked at again
-pub record MovedAt (sites : List Site) (ends : List Ends) (phases : List Phase) (comps : List Component) (phases' : List Phase) (comps' : List Component) (old new : List Bool) (c p k : ℕ) (mv : Move) (value : Option ℕ) : Type 0 where
-  pub steps_at : StepsAt sites (state_of phases comps) c p
-  pub chan_is : k ≡ chan_at sites c p
-  pub rest : Component
-  pub moves : Moves (comp_at comps c).proc p (phase_in phases k) mv value rest.proc
-  pub turns : Turns (comp_at comps c) p mv rest
-  pub same_chans : rest.chans ≡ (comp_at comps c).chans
-  pub fits : Fitted (comp_at comps c) → FitsAt (comp_at comps c).chans p (incoming (phase_in phases k) mv) → FitsAt (comp_at comps c).chans p value × Fitted rest
-  pub phases_is : phases' ≡ slice_set phases (k - 1) (phase_after (phase_in phases k) mv value)
-  pub comps_is : comps' ≡ slice_set comps (c - 1) rest
-  pub refreshed : RefreshedEnds sites (state_of phases' comps') old new (slice_index_or ends (k - 1) (record { active = None; passive = None }))
-
 -- a host command was made at an external port, and the components at the ends of its channel were looked at again
 pub record CommandedAt (sites : List Site) (ends : List Ends) (comps : List Component) (phases phases' : List Phase) (old new : List Bool) (verb : Verb) (port : ℕ) (value : Option ℕ) (reply : Reply) : Type 0 where
   pub reply_is : reply ≡ reply_to verb (phase_in phases port)
   pub phases_is : phases' ≡ slice_set phases (port - 1) (host_after verb value (phase_in phases port))
-  pub refreshed : RefreshedEnds sites (state_of phases' comps) old new (slice_index_or ends (port - 1) (record { active = None; passive = None }))
+  pub refreshed : RefreshedEnds sites (state_of phases' comps) old new (ends_in ends port)
 
-pub record Sound (w : Wiring) (phases : List Phase) (comps : List Component) (ends : List Ends) (row : List Bool) (journal : List Entry) (limit : ℕ) : Type 0 where
+-- What a net keeps: the run that its journal tells, and the components at which requests met.
+pub record Keeps (w : Wiring) (s : State) (journal : List Entry) (limit : ℕ) (notes : Notes) : Type 0 where
   pub wired : WellWired w
-  pub ends_of : EndsOf w ends
-  pub tied : Tied w phases comps
-  pub fits : Fits w phases comps
-  pub ready : MarksReady w (state_of phases comps) row
-  pub run : Run w (opening w) journal (state_of phases comps)
+  pub run : Run w (opening w) journal s
   pub within : length journal ≤ limit
+  pub most : notes.most ≡ length w.sites
+  pub clashed : (c : ℕ) → Contains notes.numbers c ↔ ClashesIn w (opening w) journal c

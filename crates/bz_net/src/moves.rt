@@ -1,20 +1,21 @@
-//! Reads and moves of components, over the lists that a net keeps.
+//! Components at their start, and reads of components and of channels, over the lists that a net keeps.
 
-ghost use Rattle.std.specs.Prelude.{◌≡◌, ◌≤◌, ◌<◌, ◌^◌, ℕ, suc, length, map, All, [], MatchOption, MatchBool, IfSome, IfOk, IfErr};
+ghost use Rattle.std.specs.Prelude.{true, ◌≡◌, ◌≤◌, ◌<◌, ◌^◌, ℕ, suc, length, map, All, [], MatchOption, MatchBool, IfSome, IfOk, IfErr};
 ghost use Rattle.bz_model.specs.Nets.{IsPort, StepsAt, chan_at, chan_in, site_at};
 ghost use Rattle.bz_model.specs.Hosts.{reply_to, host_after, fits_side, received, refusal_at};
 ghost use Rattle.bz_model.specs.Rows.{MeetsRow};
 ghost use Rattle.bz_model.specs.Processes.{start_of};
-ghost use Rattle.bz_model.specs.Widths.{Fitted};
-ghost use Rattle.bz_model.specs.Runs.{CanStep, IsLowest};
 ghost use Rattle.bz_elab.specs.Flats.{site_of};
-ghost use Rattle.bz_elab.specs.Wires.{StandsIn};
-ghost use Rattle.bz_net.specs.Keeping.{state_of, Started, Placed, Refreshed, RefreshedEnds, MovedAt, CommandedAt, MarksAll, StartsWell};
+ghost use Rattle.bz_model.specs.Clashes.{is_mixer, IsAsked, Clashes};
+ghost use Rattle.bz_net.specs.Noted.{NotedEnd};
+ghost use Rattle.bz_net.specs.Ends.{IsPortIn};
+ghost use Rattle.bz_net.specs.Sides.{answers};
+ghost use Rattle.bz_net.specs.Keeping.{state_of, Started, Placed, ReadsChans, StartsWell};
 
+use crate::noted::Noted;
 use bz_elab::{Ends, FlatComp};
-use bz_kinds::Comp;
-use bz_model::{Chan, ChanKind, Move, Names, NetError, Phase, Reply, Value, Verb, fits};
-use bz_ready::ReadySet;
+use bz_kinds::{Comp, is_passive};
+use bz_model::{Chan, ChanKind, Kind, Move, Names, NetError, Phase, Reply, Value, Verb, fits};
 use std::alloc::{AllocError, Global};
 
 /// The channel at a component's port.
@@ -30,6 +31,29 @@ pub(crate) fn chan_of(sites: &[FlatComp], comp: u32, port: u32) -> Option<u32>
         return None;
     }
     Some(site.chans[port as usize - 1])
+}
+
+/// Whether a move is one of the passive end.
+pub(crate) fn answers(mv: Move) -> bool
+    ensures { result ≡ answers mv }
+{
+    matches!(mv, Move::Take | Move::Reply)
+}
+
+/// The port of a component at an end of a channel, by the table of ends.
+pub(crate) fn port_in(ends: &[Ends], chan: u32, passive: bool, comp: u32) -> Option<u32>
+    ensures { IsPortIn ends.now chan passive comp result }
+{
+    if chan == 0 || chan as usize > ends.len() {
+        return None;
+    }
+    let pair = ends[chan as usize - 1];
+    let (end, port) = if passive {
+        (pair.passive, pair.passive_port)
+    } else {
+        (pair.active, pair.active_port)
+    };
+    if end == Some(comp) { Some(port) } else { None }
 }
 
 /// Whether a component has a step at a port.
@@ -51,90 +75,67 @@ pub(crate) fn can_fire(
     }
 }
 
-/// The lowest port at which a component has a step.
-pub(crate) fn lowest_port(
-    sites: &[FlatComp],
-    comps: &[Comp],
-    phases: &[Phase],
-    comp: u32,
-) -> Option<u32>
-    requires placed { Placed (map site_of sites.now) phases.now comps.now }
-    requires from { 0 < comp }
-    requires to { comp ≤ length sites.now }
-    ensures { MatchOption result
-        (CanStep (map site_of sites.now) (state_of phases.now comps.now) comp → ⊥)
-        (IsLowest (map site_of sites.now) (state_of phases.now comps.now) comp) }
+/// Whether a kind is one at which requests may meet.
+fn is_mixer(kind: &Kind) -> bool
+    ensures { result ≡ is_mixer kind.now }
 {
-    let ports = sites[comp as usize - 1].chans.len() as u32;
-    for i in 0..ports {
-        if can_fire(sites, comps, phases, comp, i + 1) {
-            return Some(i + 1);
+    matches!(kind, Kind::Call | Kind::CallMux | Kind::CallDemux)
+}
+
+/// Whether a component's port is passive and its channel isn't idle.
+fn is_asked(sites: &[FlatComp], phases: &[Phase], comp: u32, port: u32) -> bool
+    requires reads { ReadsChans (map site_of sites.now) phases.now }
+    ensures { MatchBool result
+        (IsAsked (map site_of sites.now) phases.now comp port)
+        (IsAsked (map site_of sites.now) phases.now comp port → ⊥) }
+{
+    match chan_of(sites, comp, port) {
+        None => false,
+        Some(chan) => {
+            let site = &sites[comp as usize - 1];
+            is_passive(&site.kind, site.sizes, port)
+                && !matches!(phases[chan as usize - 1], Phase::Idle)
         }
     }
-    None
 }
 
-/// Looks again whether one component can move.
-fn refresh(sites: &[FlatComp], comps: &[Comp], phases: &[Phase], ready: &mut ReadySet, comp: u32)
-    requires placed { Placed (map site_of sites.now) phases.now comps.now }
+/// Whether two requests meet at a component.
+fn has_clash(sites: &[FlatComp], phases: &[Phase], comp: u32) -> bool
+    requires reads { ReadsChans (map site_of sites.now) phases.now }
     requires from { 0 < comp }
     requires to { comp ≤ length sites.now }
-    requires row { length ready.old.row ≡ suc (length sites.now) }
-    ensures { Refreshed (map site_of sites.now) (state_of phases.now comps.now) ready.old.row ready.new.row comp }
+    ensures { MatchBool result
+        (Clashes (map site_of sites.now) phases.now comp)
+        (Clashes (map site_of sites.now) phases.now comp → ⊥) }
 {
-    match lowest_port(sites, comps, phases, comp) {
-        Some(_) => ready.insert(comp),
-        None => ready.remove(comp),
+    if !is_mixer(&sites[comp as usize - 1].kind) {
+        return false;
     }
+    let ports = sites[comp as usize - 1].chans.len() as u32;
+    let mut found = 0;
+    for i in 0..ports {
+        if is_asked(sites, phases, comp, i + 1) {
+            if found > 0 {
+                return true;
+            }
+            found = i + 1;
+        }
+    }
+    false
 }
 
-/// Looks again whether the components at both ends of a channel can move.
-pub(crate) fn refresh_ends(
-    sites: &[FlatComp],
-    comps: &[Comp],
-    phases: &[Phase],
-    ready: &mut ReadySet,
-    ends: Ends,
-)
-    requires placed { Placed (map site_of sites.now) phases.now comps.now }
-    requires row { length ready.old.row ≡ suc (length sites.now) }
-    requires active { IfSome ends.active (λ c. (0 < c) × (c ≤ length sites.now)) }
-    requires passive { IfSome ends.passive (λ c. (0 < c) × (c ≤ length sites.now)) }
-    ensures { RefreshedEnds (map site_of sites.now) (state_of phases.now comps.now) ready.old.row ready.new.row ends }
+/// Notes the component at the passive end of a channel, where two requests meet there.
+pub(crate) fn note_clash(sites: &[FlatComp], phases: &[Phase], noted: &mut Noted, end: Option<u32>)
+    requires reads { ReadsChans (map site_of sites.now) phases.now }
+    requires end { IfSome end (λ c. (0 < c) × (c ≤ length sites.now)) }
+    requires most { noted.old.most ≡ length sites.now }
+    ensures { NotedEnd (map site_of sites.now) phases.now noted.old noted.new end }
 {
-    if let Some(comp) = ends.active {
-        refresh(sites, comps, phases, ready, comp);
+    if let Some(comp) = end {
+        if has_clash(sites, phases, comp) {
+            noted.note(comp);
+        }
     }
-    if let Some(comp) = ends.passive {
-        refresh(sites, comps, phases, ready, comp);
-    }
-}
-
-/// Moves a component at a port, and looks again whether the components at both ends of the channel can move. Answers the channel, the move and its value.
-pub(crate) fn move_comp(
-    sites: &[FlatComp],
-    ends: &[Ends],
-    comps: &mut [Comp],
-    phases: &mut [Phase],
-    ready: &mut ReadySet,
-    comp: u32,
-    port: u32,
-) -> (u32, Move, Option<Value>)
-    requires placed { Placed (map site_of sites.now) phases.old comps.old }
-    requires steps { StepsAt (map site_of sites.now) (state_of phases.old comps.old) comp port }
-    requires row { length ready.old.row ≡ suc (length sites.now) }
-    requires ends_len { length ends.now ≡ length phases.old }
-    requires stands { StandsIn (map site_of sites.now) ends.now }
-    ensures { MovedAt (map site_of sites.now) ends.now
-        phases.old comps.old phases.new comps.new
-        ready.old.row ready.new.row comp port result.0 result.1 result.2 }
-{
-    let chan = sites[comp as usize - 1].chans[port as usize - 1];
-    let phase = phases[chan as usize - 1];
-    let (mv, value) = bz_kinds::apply(&mut comps[comp as usize - 1], port, phase);
-    phases[chan as usize - 1] = phase.after(mv, value);
-    refresh_ends(sites, comps, phases, ready, ends[chan as usize - 1]);
-    (chan, mv, value)
 }
 
 /// Whether a host may give this command at a port that is declared passive or active.
@@ -149,7 +150,7 @@ fn may_give(verb: Verb, passive: bool) -> bool
 }
 
 /// The reply to a host command at a phase, and the phase after it.
-fn reply_to(verb: Verb, value: Option<Value>, phase: Phase) -> (Reply, Phase)
+pub(crate) fn reply_to(verb: Verb, value: Option<Value>, phase: Phase) -> (Reply, Phase)
     ensures reply { result.0 ≡ reply_to verb phase }
     ensures after { result.1 ≡ host_after verb value phase }
 {
@@ -205,34 +206,6 @@ pub(crate) fn refusal_of(
     }
 }
 
-/// Makes a host command at an external port, and looks again whether the components at the ends of its channel can move.
-pub(crate) fn command(
-    sites: &[FlatComp],
-    ends: &[Ends],
-    comps: &[Comp],
-    phases: &mut [Phase],
-    ready: &mut ReadySet,
-    verb: Verb,
-    port: u32,
-    value: Option<Value>,
-) -> Reply
-    requires placed { Placed (map site_of sites.now) phases.old comps.now }
-    requires from { 0 < port }
-    requires to { port ≤ length phases.old }
-    requires row { length ready.old.row ≡ suc (length sites.now) }
-    requires ends_len { length ends.now ≡ length phases.old }
-    requires stands { StandsIn (map site_of sites.now) ends.now }
-    ensures { CommandedAt (map site_of sites.now) ends.now
-        comps.now phases.old phases.new
-        ready.old.row ready.new.row verb port value result }
-{
-    let place = port as usize - 1;
-    let (reply, after) = reply_to(verb, value, phases[place]);
-    phases[place] = after;
-    refresh_ends(sites, comps, phases, ready, ends[place]);
-    reply
-}
-
 /// A component at its start for each flat component.
 pub(crate) fn start_all(
     alloc: Global,
@@ -273,7 +246,6 @@ fn start_one(alloc: Global, chans: &[Chan], site: &FlatComp) -> Result<Comp, Net
     requires chans { All (λ k. (0 < k) × (k ≤ length chans.now)) site.now.chans.items }
     requires meets { MeetsRow site.now.kind site.now.sizes (map (chan_in chans.now) site.now.chans.items) }
     ensures ok { IfOk result (λ comp. comp ≡ start_of site.now.kind site.now.sizes (map (chan_in chans.now) site.now.chans.items)) }
-    ensures fitted { IfOk result (λ comp. Fitted comp) }
     ensures err { IfErr result (λ e. e ≡ NetError.Memory) }
 {
     let mut own = Vec::new(alloc);
@@ -287,23 +259,4 @@ fn start_one(alloc: Global, chans: &[Chan], site: &FlatComp) -> Result<Comp, Net
         Ok(comp) => Ok(comp),
         Err(_) => Err(NetError::Memory),
     }
-}
-
-/// The components that can move.
-pub(crate) fn mark_all(
-    alloc: Global,
-    sites: &[FlatComp],
-    comps: &[Comp],
-    phases: &[Phase],
-) -> Result<ReadySet, AllocError>
-    requires placed { Placed (map site_of sites.now) phases.now comps.now }
-    requires few { length sites.now ≤ 1000000 }
-    ensures { IfOk result (λ ready. MarksAll (map site_of sites.now) (state_of phases.now comps.now) ready.row (length sites.now)) }
-{
-    let count = sites.len() as u32;
-    let mut ready = ReadySet::new(alloc, count)?;
-    for place in 0..count {
-        refresh(sites, comps, phases, &mut ready, place + 1);
-    }
-    Ok(ready)
 }

@@ -1,37 +1,36 @@
 //! A net: its events, and what can be read of it.
 
-ghost use Rattle.std.specs.Prelude.{◌≡◌, ◌≢◌, ◌<◌, ◌≤◌, ◌-◌, min, length, None, MatchBool, MatchOption, OnOk, OnErr, IfOk, IfErr};
+ghost use Rattle.std.specs.Prelude.{◌≡◌, ◌≢◌, ◌<◌, ◌≤◌, ◌-◌, min, length, None, Some, MatchBool, MatchOption, OnOk, OnErr, IfOk, IfErr};
 ghost use Rattle.bz_model.specs.Nets.{StepsAt, chan_in, opening, outside, phase_at};
-ghost use Rattle.bz_model.specs.Widths.{FitsChan};
-ghost use Rattle.bz_model.specs.Hosts.{refusal_at};
+ghost use Rattle.bz_model.specs.Names.{NamesDiffer, port_number};
+ghost use Rattle.bz_model.specs.Widths.{FitsChan, FiringFits};
+ghost use Rattle.bz_model.specs.Hosts.{refusal_at, command_refusal};
+ghost use Rattle.bz_net.specs.Answering.{is_answer, would_answer};
 ghost use Rattle.bz_model.specs.Runs.{CanStep, Rest, IsNext, Run};
+ghost use Rattle.bz_elab.specs.Wires.{WellWired};
 ghost use Rattle.bz_net.specs.Simulation.{Adds, IsOpened};
-ghost use Rattle.bz_net.specs.Ends.{TellsEnds};
-ghost use Rattle.bz_net.specs.Replies.{Admits, RefusesEntry, RefusesFire, IsFiring, IsLowestFiring, RefusesLowest, IsPicked, Replies, RefusesCommand};
+ghost use Rattle.bz_net.specs.Ends.{TellsEnds, TellsPort, IsSolePort, IsOn};
+ghost use Rattle.bz_net.specs.Sides.{answers};
+ghost use Rattle.bz_net.specs.Replies.{Admits, RefusesEntry, RefusesFire, IsFiring, IsSoleStep, IsLowestFiring, RefusesLowest, IsPicked, Replies, RefusesCommand};
 ghost use Rattle.bz_net.specs.Resting.{TellsRest};
 ghost use Rattle.bz_net.specs.Running.{Ran};
 ghost use Rattle.bz_net.specs.Serving.{Serves, Refuses};
+ghost use Rattle.bz_model.specs.Clashes.{AreClashed};
 
+use crate::core_net::Core;
 use crate::event::{Answer, Event, RestReply, RunEnd};
-use crate::moves::{
-    can_fire, command, dup_all, lowest_port, mark_all, move_comp, refusal_of, start_all,
-};
-use bz_elab::{Ends, Flat, FlatComp, dup_comps};
-use bz_kinds::Comp;
-use bz_model::{Entry, Names, NetError, Phase, Reply, Value, Verb, Who};
-use bz_ready::ReadySet;
+use crate::moves::reply_to;
+use crate::noted::Noted;
+use bz_elab::Flat;
+use bz_model::{Entry, HostCmd, Move, Names, NetError, Phase, Reply, Value, Verb, Who};
 use std::alloc::{AllocError, Global};
 use std::marker::Model;
 
-/// A net, its journal, and which components can move.
+/// A net, its journal, and the components at which requests met.
 #[derive(Drop)]
 pub struct Net {
-    names: Names,
-    sites: Vec<FlatComp>,
-    ends: Vec<Ends>,
-    phases: Vec<Phase>,
-    comps: Vec<Comp>,
-    ready: ReadySet,
+    core: Core,
+    noted: Noted,
     journal: Vec<Entry>,
     limit: usize,
 }
@@ -45,24 +44,19 @@ impl Model for Net {
 
     ghost coded = { Prim.hlevel (codes, term_code) };
 
-    ghost use Rattle.std.specs.Prelude.{map, ◌-◌, vec_len, vec_capacity};
-    ghost use Rattle.bz_elab.specs.Flats.{site_of};
-    ghost use Rattle.bz_net.specs.Keeping.{state_of};
+    ghost use Rattle.std.specs.Prelude.{◌-◌, vec_len, vec_capacity};
 
     ghost view = { λ n. record {
-      wiring = record { chans = n.names.chans; sites = map site_of n.sites.items; ports = n.names.ports };
-      state = state_of n.phases.items n.comps.items;
+      wiring = n.core.wiring;
+      state = n.core.state;
       journal = n.journal.items;
       limit = n.limit;
       room = vec_capacity n.journal - vec_len n.journal;
     } };
 
-    ghost use Rattle.bz_net.specs.Keeping.{Sound};
+    ghost use Rattle.bz_net.specs.Keeping.{Keeps};
 
-    ghost invariant = { λ n. Sound
-        (record { chans = n.names.chans; sites = map site_of n.sites.items; ports = n.names.ports })
-        n.phases.items n.comps.items
-        n.ends.items n.ready.row n.journal.items n.limit };
+    ghost invariant = { λ n. Keeps n.core.wiring n.core.state n.journal.items n.limit n.noted };
 }
 
 impl Net {
@@ -74,23 +68,14 @@ impl Net {
         ensures ok { IfOk result (IsOpened flat.wiring limit) }
         ensures err { IfErr result (λ e. e ≡ NetError.Memory) }
     {
-        let pieces = flat.into_pieces();
-        let comps = start_all(alloc, &pieces.chans, &pieces.comps)?;
-        let phases = match vec![in alloc; Phase::Idle; pieces.chans.len()] {
-            Ok(phases) => phases,
-            Err(_) => return Err(NetError::Memory),
-        };
-        let ready = match mark_all(alloc, &pieces.comps, &comps, &phases) {
-            Ok(ready) => ready,
+        let core = Core::open(alloc, flat)?;
+        let noted = match Noted::new(alloc, core.comp_count()) {
+            Ok(noted) => noted,
             Err(_) => return Err(NetError::Memory),
         };
         Ok(Net {
-            names: Names::new(pieces.ports, pieces.chans),
-            sites: pieces.comps,
-            ends: pieces.ends,
-            phases,
-            comps,
-            ready,
+            core,
+            noted,
             journal: Vec::new(alloc),
             limit: limit as usize,
         })
@@ -112,21 +97,13 @@ impl Net {
         ensures same { IfOk result (λ n. n ≡ record self.now { room = n.room }) }
         ensures room { IfOk result (λ n. self.now.room ≤ n.room) }
     {
-        let names = self.names.dup(alloc)?;
-        let sites = dup_comps(alloc, &self.sites)?;
-        let ends = Vec::from_slice(alloc, &self.ends)?;
-        let phases = Vec::from_slice(alloc, &self.phases)?;
-        let comps = dup_all(alloc, &self.comps)?;
-        let ready = mark_all(alloc, &self.sites, &self.comps, &self.phases)?;
+        let core = self.core.dup(alloc)?;
+        let noted = self.noted.dup(alloc)?;
         let mut journal = Vec::with_capacity(alloc, self.journal.capacity())?;
         journal.extend_from_slice(&self.journal)?;
         Ok(Net {
-            names,
-            sites,
-            ends,
-            phases,
-            comps,
-            ready,
+            core,
+            noted,
             journal,
             limit: self.limit,
         })
@@ -137,10 +114,7 @@ impl Net {
         ensures { MatchBool result (CanStep self.now.wiring.sites self.now.state comp)
             (CanStep self.now.wiring.sites self.now.state comp → ⊥) }
     {
-        if comp as usize > self.sites.len() {
-            return false;
-        }
-        self.ready.contains(comp)
+        self.core.is_ready(comp)
     }
 
     /// Makes sure that one more entry can be added.
@@ -159,25 +133,35 @@ impl Net {
     }
 
     /// Fires the one move that a component has at a port.
+    #[tactic(auto, using(crate::proofs::Kept::refuses_fire))]
     pub fn fire_move(&mut self, who: Who, comp: u32, port: u32) -> Result<Entry, NetError>
         ensures fired { IfOk result (IsFiring who comp port) }
+        ensures fits { IfOk result (FiringFits self.old.wiring.chans) }
+        ensures sole { IfOk result (IsSoleStep self.old self.new who comp port) }
         ensures adds { IfOk result (λ entry. Adds self.old entry self.new) }
         ensures cause { IfErr result (RefusesFire self.old comp port) }
         ensures err { OnErr result (self.new ≡ self.old) }
     {
-        if !can_fire(&self.sites, &self.comps, &self.phases, comp, port) {
+        if !self.core.can_fire(comp, port) {
             return Err(NetError::NotEnabled);
         }
+        self.fire_at(who, comp, port)
+    }
+
+    /// Fires the move of a component at a port where it can move.
+    fn fire_at(&mut self, who: Who, comp: u32, port: u32) -> Result<Entry, NetError>
+        requires { StepsAt self.old.wiring.sites self.old.state comp port }
+        ensures fired { IfOk result (IsFiring who comp port) }
+        ensures fits { IfOk result (FiringFits self.old.wiring.chans) }
+        ensures sole { IfOk result (IsSoleStep self.old self.new who comp port) }
+        ensures on { IfOk result (IsOn self.old.wiring) }
+        ensures adds { IfOk result (λ entry. Adds self.old entry self.new) }
+        ensures cause { IfErr result (RefusesEntry self.old) }
+        ensures err { OnErr result (self.new ≡ self.old) }
+    {
         self.admit()?;
-        let (chan, mv, value) = move_comp(
-            &self.sites,
-            &self.ends,
-            &mut self.comps,
-            &mut self.phases,
-            &mut self.ready,
-            comp,
-            port,
-        );
+        let (chan, mv, value) = self.core.fire(comp, port);
+        self.core.note_clash(chan, &mut self.noted);
         let entry = Entry::Fired {
             who,
             comp,
@@ -191,17 +175,19 @@ impl Net {
     }
 
     /// Fires a component at its lowest port that can move.
+    #[tactic(auto, using(crate::proofs::Kept::refuses_lowest))]
     pub fn fire(&mut self, who: Who, comp: u32) -> Result<Entry, NetError>
         ensures fired { IfOk result (IsLowestFiring self.old who comp) }
         ensures adds { IfOk result (λ entry. Adds self.old entry self.new) }
+        ensures on { IfOk result (IsOn self.old.wiring) }
         ensures cause { IfErr result (RefusesLowest self.old comp) }
         ensures err { OnErr result (self.new ≡ self.old) }
     {
-        if comp == 0 || comp as usize > self.sites.len() {
+        if comp == 0 || comp as usize > self.core.comp_count() {
             return Err(NetError::NotEnabled);
         }
-        match lowest_port(&self.sites, &self.comps, &self.phases, comp) {
-            Some(port) => self.fire_move(who, comp, port),
+        match self.core.lowest(comp) {
+            Some(port) => self.fire_at(who, comp, port),
             None => Err(NetError::NotEnabled),
         }
     }
@@ -211,7 +197,7 @@ impl Net {
         ensures { MatchOption result (Rest self.now.wiring.sites self.now.state)
             (IsNext (CanStep self.now.wiring.sites self.now.state) from) }
     {
-        self.ready.next_from(from)
+        self.core.next_ready(from)
     }
 
     /// Notes in the journal that no component can move.
@@ -283,15 +269,25 @@ impl Net {
         ensures entries { result.now ≡ self.now.journal }
         ensures run { Run self.now.wiring (opening self.now.wiring) self.now.journal self.now.state }
         ensures within { length self.now.journal ≤ self.now.limit }
+        ensures wired { WellWired self.now.wiring }
     {
         &self.journal
     }
 
+    /// The components at which requests met so far, rising: each a Call, a CallMux or a CallDemux.
+    pub fn clashes(&self) -> &[u32]
+        ensures { AreClashed self.now.wiring self.now.journal result.now }
+    {
+        self.noted.as_slice()
+    }
+
     /// The external ports and the channels of the net.
     pub fn names(&self) -> &Names
-        ensures { result.now ≡ outside self.now.wiring }
+        ensures value { result.now ≡ outside self.now.wiring }
+        ensures differ { NamesDiffer self.now.wiring.ports }
+        ensures wired { WellWired self.now.wiring }
     {
-        &self.names
+        self.core.names()
     }
 
     /// The phase of a channel.
@@ -302,7 +298,7 @@ impl Net {
         ensures kept { result ≢ Phase.Broken }
         ensures fits { FitsChan (chan_in self.now.wiring.chans chan) result }
     {
-        self.phases[chan as usize - 1]
+        self.core.phase(chan)
     }
 
     /// The components at the active and at the passive end of a channel, `None` where there is none.
@@ -311,8 +307,36 @@ impl Net {
         requires to { chan ≤ length self.now.wiring.chans }
         ensures { TellsEnds self.now.wiring.sites chan result }
     {
-        let pair = self.ends[chan as usize - 1];
-        [pair.active, pair.passive]
+        self.core.ends(chan)
+    }
+
+    /// The port at which a component makes this move on a channel: it holds the active end where it asks or gets, the
+    /// passive end where it takes or replies. `None` where the component holds no such end.
+    pub fn port_at(&self, comp: u32, chan: u32, mv: Move) -> Option<u32>
+        ensures end { TellsPort self.now.wiring.sites chan (answers mv) comp result }
+        ensures sole { IsSolePort self.now.wiring.sites self.now.state comp chan mv result }
+    {
+        self.core.port_at(comp, chan, mv)
+    }
+
+    /// The number of the port that a host command names, or the first reason to refuse the command.
+    pub fn port_of(&self, cmd: &HostCmd) -> Result<u32, NetError>
+        ensures port { IfOk result (λ port. port_number self.now.wiring.ports cmd.now.port.items ≡ Some port) }
+        ensures agreed { OnOk result (command_refusal self.now.wiring cmd.now.verb cmd.now.port.items cmd.now.value ≡ None) }
+        ensures cause { IfErr result (λ e. command_refusal self.now.wiring cmd.now.verb cmd.now.port.items cmd.now.value ≡ Some e) }
+    {
+        self.core.port_of(cmd.verb, &cmd.port, cmd.value)
+    }
+
+    /// Whether a command at a port would be replied to by none of `Busy`, `NotYet` and `NotTaken`.
+    pub fn would_answer(&self, verb: Verb, port: u32) -> bool
+        ensures { result ≡ would_answer self.now.state verb port }
+    {
+        let (reply, _) = reply_to(verb, None, self.core.phase(port));
+        match reply {
+            Reply::Busy(_) | Reply::NotYet | Reply::NotTaken(_) => false,
+            Reply::Done | Reply::Value(_) | Reply::Watched(_) => true,
+        }
     }
 
     /// Makes room for the next `count` entries, or for as many as the limit still allows.
@@ -359,13 +383,7 @@ impl Net {
         ensures cause { IfErr result (RefusesCommand self.old verb name.now value) }
         ensures err { OnErr result (self.new ≡ self.old) }
     {
-        let Some(port) = self.names.port(name) else {
-            return Err(NetError::UnknownPort);
-        };
-        match refusal_of(&self.names, verb, port, value) {
-            Some(e) => return Err(e),
-            None => {}
-        }
+        let port = self.core.port_of(verb, name, value)?;
         self.command_at(who, verb, port, value)
     }
 
@@ -385,16 +403,8 @@ impl Net {
         ensures err { OnErr result (self.new ≡ self.old) }
     {
         self.admit()?;
-        let reply = command(
-            &self.sites,
-            &self.ends,
-            &self.comps,
-            &mut self.phases,
-            &mut self.ready,
-            verb,
-            port,
-            value,
-        );
+        let reply = self.core.command(verb, port, value);
+        self.core.note_clash(port, &mut self.noted);
         self.journal
             .push(Entry::Host {
                 who,

@@ -58,7 +58,7 @@ fn place(alloc: Global, netlist: &str, code: &str) -> Result<Option<usize>, Fail
 
 #[test]
 fn places(rt: HostRuntime) -> Result<(), Fail> {
-    let wide = r#"(breeze-part "p" (channels (pull 65)))"#;
+    let wide = r#"(breeze-part "p" (channels (pull 129)))"#;
     assert_eq!(rt; place(rt.alloc(), wide, "B5")?, Some(27));
     let twice = r#"(breeze-part "p") (breeze-part "p")"#;
     assert_eq!(rt; place(rt.alloc(), twice, "B2")?, Some(31));

@@ -1,12 +1,13 @@
 //! What the worked examples share: netlists, the commands run from bytes to bytes, plays written as tables, and nets opened from
-//! a netlist.
+//! a netlist, with the calls that they make.
 #![tactic(auto)]
 
+pub mod calls;
 pub mod netlists;
 mod nets;
 mod playing;
 mod script;
 
 pub use nets::{flat_of, net_of};
-pub use playing::{Outcome, list, play};
+pub use playing::{Outcome, check, list, play};
 pub use script::Script;

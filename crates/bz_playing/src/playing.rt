@@ -1,8 +1,8 @@
-//! Words played on a netlist, and nets listed: what was written, the fault line, and the exit status.
+//! Words played on a netlist, nets listed, and traces checked: what was written, the fault line, and the exit status.
 
 ghost use Rattle.std.specs.Prelude.{◌<◌, ◌≤◌};
 
-use bz_cli::{Fault, list_cmd, run_cmd};
+use bz_cli::{Fault, check_cmd, list_cmd, run_cmd};
 use std::alloc::Global;
 use std::test::Fail;
 
@@ -44,6 +44,23 @@ pub fn list(alloc: Global, netlist: &[u8], part: &str) -> Result<Outcome, Fail> 
     let mut text = Vec::new(alloc);
     let result = list_cmd(alloc, part.as_bytes(), &mut input, &mut text);
     gathered(alloc, text, result)
+}
+
+/// Checks a trace behind a netlist.
+pub fn check(alloc: Global, netlist: &str, part: &str, trace: &[u8]) -> Result<Outcome, Fail> {
+    let mut bytes = Vec::from_slice(alloc, netlist.as_bytes())?;
+    bytes.push(b'\n')?;
+    bytes.extend_from_slice(trace)?;
+    let mut input = bytes.as_slice();
+    let mut text = Vec::new(alloc);
+    match check_cmd(alloc, part.as_bytes(), &mut input, &mut text) {
+        Ok(is_run) => Ok(Outcome {
+            text,
+            fault: String::new(alloc),
+            status: if is_run { 0 } else { 1 },
+        }),
+        Err(fault) => gathered(alloc, text, Err(fault)),
+    }
 }
 
 fn gathered(alloc: Global, text: Vec<u8>, answer: Result<(), Fault>) -> Result<Outcome, Fail> {

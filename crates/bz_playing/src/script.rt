@@ -18,7 +18,7 @@ impl<'a> Script<'a> {
     ///              | w1 rest
     pub fn read(alloc: Global, table: &'a str) -> Result<Script<'a>, AllocError> {
         let mut words = Vec::new(alloc);
-        let mut trace = "trace 1\n".to_string(alloc)?;
+        let mut trace = "trace 2\n".to_string(alloc)?;
         for line in table.lines() {
             let (word, told) = line.split_once("|").unwrap_or((line, ""));
             if !word.trim().is_empty() {

@@ -81,7 +81,7 @@ fn parts(rt: HostRuntime) -> Result<(), Fail> {
     refuses(
         &rt,
         rt.alloc(),
-        b"(breeze-part \"p\" (channels (pull 65)))",
+        b"(breeze-part \"p\" (channels (pull 129)))",
         "p",
         "B5 TooWide p 27",
     )
@@ -189,7 +189,7 @@ fn events(rt: HostRuntime) -> Result<(), Fail> {
         BUFFER,
         "buffer",
         &["watch:zz"],
-        "trace 1\n",
+        "trace 2\n",
         "N1 UnknownPort word 1",
     )?;
     stops(
@@ -198,7 +198,7 @@ fn events(rt: HostRuntime) -> Result<(), Fail> {
         BUFFER,
         "buffer",
         &["watch:o", "offer:i"],
-        "trace 1\nh1 watch o idle\n",
+        "trace 2\nh1 watch o idle\n",
         "N2 WrongSide word 2",
     )?;
     stops(
@@ -207,7 +207,7 @@ fn events(rt: HostRuntime) -> Result<(), Fail> {
         CELL,
         "cell",
         &["offer:w"],
-        "trace 1\n",
+        "trace 2\n",
         "N3 ValueMissing word 1",
     )?;
     stops(
@@ -216,7 +216,7 @@ fn events(rt: HostRuntime) -> Result<(), Fail> {
         BUFFER,
         "buffer",
         &["offer:activate:1"],
-        "trace 1\n",
+        "trace 2\n",
         "N4 ValueUnwanted word 1",
     )?;
     stops(
@@ -225,7 +225,7 @@ fn events(rt: HostRuntime) -> Result<(), Fail> {
         CELL,
         "cell",
         &["offer:w:256"],
-        "trace 1\n",
+        "trace 2\n",
         "N5 TooLarge word 1",
     )?;
     stops(
@@ -234,7 +234,7 @@ fn events(rt: HostRuntime) -> Result<(), Fail> {
         BUFFER,
         "buffer",
         &["accept:activate"],
-        "trace 1\n",
+        "trace 2\n",
         "N2 WrongSide word 1",
     )?;
     stops(
@@ -243,10 +243,10 @@ fn events(rt: HostRuntime) -> Result<(), Fail> {
         BUFFER,
         "buffer",
         &["answer:i"],
-        "trace 1\n",
+        "trace 2\n",
         "N3 ValueMissing word 1",
     )?;
-    let two = "trace 1\nh1 offer activate done\nw1 fire 2 take 1\n";
+    let two = "trace 2\nh1 offer activate done\nw1 fire 2 take 1\n";
     stops(
         &rt,
         rt.alloc(),
@@ -256,7 +256,7 @@ fn events(rt: HostRuntime) -> Result<(), Fail> {
         two,
         "N7 JournalFull word 2",
     )?;
-    let watched = "trace 1\nh1 watch i idle\nh1 watch i idle\n";
+    let watched = "trace 2\nh1 watch i idle\nh1 watch i idle\n";
     stops(
         &rt,
         rt.alloc(),

@@ -17,7 +17,7 @@ fn sum_of_two_inputs(rt: HostRuntime) -> Result<(), Fail> {
         "collect:out",
     ];
     let outcome = play(rt.alloc(), ADD.as_bytes(), "add", 100, &words)?;
-    let want = "trace 1
+    let want = "trace 2
 h1 offer out done
 w1 fire 1 take 1
 w1 fire 1 ask 2
@@ -43,15 +43,15 @@ fn value_picks_its_case(rt: HostRuntime) -> Result<(), Fail> {
     let cases = [
         (
             "offer:inp:5",
-            "trace 1\nh1 offer inp 5 done\nw1 fire 1 take 1 5\nw1 fire 1 ask 2\nw1 rest\n",
+            "trace 2\nh1 offer inp 5 done\nw1 fire 1 take 1 5\nw1 fire 1 ask 2\nw1 rest\n",
         ),
         (
             "offer:inp:3",
-            "trace 1\nh1 offer inp 3 done\nw1 fire 1 take 1 3\nw1 fire 1 ask 3\nw1 rest\n",
+            "trace 2\nh1 offer inp 3 done\nw1 fire 1 take 1 3\nw1 fire 1 ask 3\nw1 rest\n",
         ),
         (
             "offer:inp:4",
-            "trace 1\nh1 offer inp 4 done\nw1 fire 1 take 1 4\nw1 fire 1 reply 1\nw1 rest\n",
+            "trace 2\nh1 offer inp 4 done\nw1 fire 1 take 1 4\nw1 fire 1 reply 1\nw1 rest\n",
         ),
     ];
     for (offer, want) in cases {
@@ -77,7 +77,7 @@ fn instances_have_values_of_their_own(rt: HostRuntime) -> Result<(), Fail> {
         "collect:r2",
     ];
     let outcome = play(rt.alloc(), CELLS.as_bytes(), "cells", 100, &words)?;
-    let want = "trace 1
+    let want = "trace 2
 h1 offer w1 1 done
 h1 offer w2 2 done
 w1 fire 1 take 1 1

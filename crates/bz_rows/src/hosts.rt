@@ -222,9 +222,9 @@ fn first_refusal(rt: HostRuntime) -> Result<(), Fail> {
         let (word, told) = row.split_once(" | ").ok_or("no refusal")?;
         let (told, _) = told.split_once(",").unwrap_or((told, ""));
         let line = format!(in rt.alloc(); "{told} word 1")?;
-        is_refused(&rt, rt.alloc(), &[word], "trace 1\n", line.as_str())?;
+        is_refused(&rt, rt.alloc(), &[word], "trace 2\n", line.as_str())?;
         let line = format!(in rt.alloc(); "{told} word 2")?;
-        let full = "trace 1\nh1 watch r idle\n";
+        let full = "trace 2\nh1 watch r idle\n";
         is_refused(&rt, rt.alloc(), &["watch:r", word], full, line.as_str())?;
     }
     Ok(())
@@ -232,7 +232,7 @@ fn first_refusal(rt: HostRuntime) -> Result<(), Fail> {
 
 #[test]
 fn full_journal(rt: HostRuntime) -> Result<(), Fail> {
-    let full = "trace 1\nh1 watch r idle\n";
+    let full = "trace 2\nh1 watch r idle\n";
     for word in ["watch:r", "offer:w:255", "collect:s", "run:1"] {
         is_refused(
             &rt,

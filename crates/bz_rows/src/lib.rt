@@ -2,6 +2,8 @@
 #![tactic(auto)]
 
 #[cfg(test)]
+mod clashes;
+#[cfg(test)]
 mod faults;
 #[cfg(test)]
 mod functions;
@@ -13,3 +15,5 @@ mod lists;
 mod streams;
 #[cfg(test)]
 mod traces;
+#[cfg(test)]
+mod wide;

@@ -8,7 +8,7 @@ use std::test::Fail;
 fn buffer_asks_for_its_input(rt: HostRuntime) -> Result<(), Fail> {
     let words = ["offer:activate", "run:100", "watch:i"];
     let outcome = play(rt.alloc(), BUFFER.as_bytes(), "buffer", 1_000_000, &words)?;
-    let want = "trace 1
+    let want = "trace 2
 h1 offer activate done
 w1 fire 2 take 1
 w1 fire 2 ask 4
@@ -27,7 +27,7 @@ h1 watch i asked
 #[test]
 fn empty_part_rests(rt: HostRuntime) -> Result<(), Fail> {
     let outcome = play(rt.alloc(), EMPTY.as_bytes(), "p", 10, &["run:5"])?;
-    assert_eq!(rt; outcome.text.as_slice(), b"trace 1\nw1 rest\n".as_slice());
+    assert_eq!(rt; outcome.text.as_slice(), b"trace 2\nw1 rest\n".as_slice());
     assert_eq!(rt; outcome.status, 0);
     Ok(())
 }
@@ -35,7 +35,7 @@ fn empty_part_rests(rt: HostRuntime) -> Result<(), Fail> {
 #[test]
 fn no_words_are_an_empty_trace(rt: HostRuntime) -> Result<(), Fail> {
     let outcome = play(rt.alloc(), BUFFER.as_bytes(), "buffer", 10, &[])?;
-    assert_eq!(rt; outcome.text.as_slice(), b"trace 1\n".as_slice());
+    assert_eq!(rt; outcome.text.as_slice(), b"trace 2\n".as_slice());
     assert_eq!(rt; outcome.status, 0);
     Ok(())
 }
@@ -43,7 +43,7 @@ fn no_words_are_an_empty_trace(rt: HostRuntime) -> Result<(), Fail> {
 #[test]
 fn sequence_on_both_ends_of_a_channel_rests(rt: HostRuntime) -> Result<(), Fail> {
     let outcome = play(rt.alloc(), KNOT.as_bytes(), "knot", 10, &["run:5"])?;
-    assert_eq!(rt; outcome.text.as_slice(), b"trace 1\nw1 rest\n".as_slice());
+    assert_eq!(rt; outcome.text.as_slice(), b"trace 2\nw1 rest\n".as_slice());
     assert_eq!(rt; outcome.status, 0);
     Ok(())
 }
@@ -60,7 +60,7 @@ fn second_offer_is_told_busy(rt: HostRuntime) -> Result<(), Fail> {
         "collect:r",
     ];
     let outcome = play(rt.alloc(), CELL.as_bytes(), "cell", 100, &words)?;
-    let want = "trace 1
+    let want = "trace 2
 h1 offer w 1 done
 h1 offer w 2 busy asked 1
 w1 fire 1 take 1 1
@@ -91,7 +91,7 @@ fn value_goes_through_the_buffer(rt: HostRuntime) -> Result<(), Fail> {
         "run:100",
     ];
     let outcome = play(rt.alloc(), BUFFER.as_bytes(), "buffer", 1_000_000, &words)?;
-    let want = "trace 1
+    let want = "trace 2
 h1 offer activate done
 w1 fire 2 take 1
 w1 fire 2 ask 4
@@ -140,7 +140,7 @@ w1 rest
 fn two_offers_at_once(rt: HostRuntime) -> Result<(), Fail> {
     let words = ["offer:activate", "offer:activate"];
     let outcome = play(rt.alloc(), BUFFER.as_bytes(), "buffer", 10, &words)?;
-    let want = "trace 1
+    let want = "trace 2
 h1 offer activate done
 h1 offer activate busy asked
 ";
@@ -189,7 +189,7 @@ fn values_of_eight_bits(rt: HostRuntime) -> Result<(), Fail> {
 #[test]
 fn nothing_taken_to_answer(rt: HostRuntime) -> Result<(), Fail> {
     let outcome = play(rt.alloc(), BUFFER.as_bytes(), "buffer", 10, &["answer:o"])?;
-    let want = b"trace 1\nh1 answer o not-taken idle\n";
+    let want = b"trace 2\nh1 answer o not-taken idle\n";
     assert_eq!(rt; outcome.text.as_slice(), want.as_slice());
     assert_eq!(rt; outcome.status, 0);
     Ok(())
@@ -199,7 +199,7 @@ fn nothing_taken_to_answer(rt: HostRuntime) -> Result<(), Fail> {
 fn fuel_that_is_spent_notes_no_rest(rt: HostRuntime) -> Result<(), Fail> {
     let words = ["offer:activate", "run:2", "run:0"];
     let outcome = play(rt.alloc(), BUFFER.as_bytes(), "buffer", 100, &words)?;
-    let want = "trace 1
+    let want = "trace 2
 h1 offer activate done
 w1 fire 2 take 1
 w1 fire 2 ask 4

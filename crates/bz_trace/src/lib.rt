@@ -1,14 +1,13 @@
-//! The text of a trace: one line for each entry of a journal.
+//! Traces: written, read back, counted, and checked against a net.
 #![tactic(auto)]
 
-mod name_form;
-mod output;
-mod parts;
-#[cfg(test)]
-mod tests;
-mod trace;
+mod checking;
+mod following;
+mod laws;
 
-pub use name_form::NameForm;
-pub use output::WriteFault;
-pub use parts::{Part, put_parts};
-pub use trace::write_trace;
+pub use bz_lines::{
+    Counts, MAX_ENTRIES, NameForm, Part, TraceError, Version, WriteFault, counts, one_spelling,
+    put_clashes, put_entries, put_first_line, put_parts, read_trace, write_trace, write_trace_1,
+};
+pub use checking::{Verdict, check, check_and_count};
+pub use laws::plays_are_accepted;

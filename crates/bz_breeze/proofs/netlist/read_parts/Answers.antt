@@ -1,13 +1,14 @@
 use Rattle.std.proofs.Common.{◌≡◌, ◌∷◌, ◌++◌, [], Ok, None, Some, map, sym, ap, ◌∙◌, arith}
 use Rattle.std.proofs.lemmas.Result.{err_from_is_err_and}
-use Rattle.std.proofs.lemmas.List.{map-append}
+use Rattle.std.proofs.lemmas.List.{drop_all, map-append}
 use Rattle.std.proofs.lemmas.List.Elements.{All-push}
 use Rattle.std.specs.Option.{option_map}
 use Rattle.bz_sexpr.specs.Views.{datum_view}
 use Rattle.bz_breeze.specs.Records.{part_record}
-use Rattle.bz_breeze.specs.Turns.{if_read}
+use Rattle.bz_breeze.specs.Turns.{if_read, in_turn}
 use Rattle.bz_breeze.specs.Parts.{part, parts, part_items, named_part, listed_part, HasPortChannels}
 use Rattle.bz_breeze.proofs.Reading.{turn_fault, turn_more, tells_of, part_of_item}
+use Rattle.bz_breeze.proofs.Bounds.{all_fit}
 use Rattle.bz_breeze.proofs.netlist.read_parts.Goals as goal
 use Rattle.bz_breeze.proofs.netlist.read_parts.Goals.{in-Some+in_ok-part+in_ok-push, in_default}
 
@@ -53,3 +54,9 @@ loop-datum-preserved c =
             fits = rw w.list-is c.loop-datum.invariant.fits;
           }
     ]
+
+pub new-requires-clause-fit : goal.new-requires-clause-fit
+new-requires-clause-fit c =
+    let list = c.loop-datum.list.items in
+    let none = drop_all c.loop-datum.datum-index c.args.netlist.now (omega arith) in
+    all_fit (map datum_view c.args.netlist.now) list (c.loop-datum.invariant.read ∙ ap (λ ds. in_turn part (map part_record list) (map datum_view ds)) none)

@@ -1,7 +1,7 @@
 use Rattle.std.proofs.Common.{codes, arith}
 use Rattle.std.specs.List.{flat_map}
 use Rattle.std.proofs.lemmas.Result.{err_from_is_err_and}
-use Rattle.bz_trace.proofs.Sent.{stops_at, stops_before}
+use Rattle.bz_lines.proofs.Sent.{stops_at, stops_before}
 use Rattle.bz_cli.specs.Listing.{spaced}
 use Rattle.bz_cli.proofs.listing.put_line_of.Goals as goal
 

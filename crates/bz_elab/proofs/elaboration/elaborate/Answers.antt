@@ -2,6 +2,7 @@ use Rattle.std.proofs.Common.{arith, ap, inr, ◌≡◌, sym, ◌∙◌, length,
 use Rattle.std.proofs.lemmas.Result.{err_from_is_err_and}
 use Rattle.std.specs.List.{All}
 use Rattle.bz_breeze.specs.declared.part.Part.{Part}
+use Rattle.bz_breeze.specs.Parts.{IsFit}
 use Rattle.bz_model.specs.Nets.{Wiring}
 use Rattle.bz_elab.specs.Refusals.{HasPortChannels}
 use Rattle.bz_elab.specs.Wires.{WellWired, EndsOf}
@@ -30,12 +31,12 @@ check-requires-clause-first c k e =
     let read = part_read c.args.parts.now _ c.in-Some.number c.index-list-number.result c.list.ensures.value c.in-Some.ensures.within c.index-list-number.is in
     named_first c.args.parts.now c.args.top.now c.in-Some.number k c.index-list-number.result (sym c.in-Some.ensures.number) read e
 
-pub returns-in_err-totals-clause-err : goal.returns-in_err-totals-clause-err
-returns-in_err-totals-clause-err c =
+pub returns-in_err-read-clause-err : goal.returns-in_err-read-clause-err
+returns-in_err-read-clause-err c =
     let part = c.index-list-number.result in
     let read = part_read c.args.parts.now _ c.in-Some.number part c.list.ensures.value c.in-Some.ensures.within c.index-list-number.is in
     let p = err_from_is_err_and c.from_residual.result c.from_residual.ensures.1 in
-    rw (p.1, p.2) (refuses_named c.args.parts.now c.args.top.now part _ (sym c.in-Some.ensures.part ∙ read) c.in_err-totals.ensures.err)
+    rw (p.1, p.2) (refuses_named c.args.parts.now c.args.top.now part _ (sym c.in-Some.ensures.part ∙ read) c.in_err-read.ensures.err)
 
 pub net_of-requires-clause-part_is : goal.net_of-requires-clause-part_is
 net_of-requires-clause-part_is c =
@@ -47,13 +48,13 @@ returns-in_err-draft-clause-err c =
     let read = part_read c.args.parts.now _ c.in-Some.number part c.list.ensures.value c.in-Some.ensures.within c.index-list-number.is in
     let p = err_from_is_err_and c.from_residual-in_err-draft.result c.from_residual-in_err-draft.ensures.1 in
     rw (p.1, p.2) (refuses_named c.args.parts.now c.args.top.now part _ (sym c.in-Some.ensures.part ∙ read)
-    (walk_refuses c.args.parts.now part _ c.in_ok-totals.ensures.ok c.in_err-draft.ensures.early c.in_err-draft.ensures.err))
+    (walk_refuses c.args.parts.now part _ c.in_ok-read.ensures.ok c.in_err-draft.ensures.early c.in_err-draft.ensures.err))
 
 pub wire-requires-clause-fit : goal.wire-requires-clause-fit
 wire-requires-clause-fit c =
     let draft = c.in_ok-draft.draft in
     let n : c.len.result ≡ length draft.chans.items = omega arith in
-    rw (n, c.as_slice-2.ensures.value) (comps_fit c.args.parts.now c.index-list-number.result draft c.in_ok-draft.ensures.ok c.in_ok-totals.ensures.sound c.in_ok-draft.ensures.within)
+    rw (n, c.as_slice-2.ensures.value) (comps_fit c.args.parts.now c.index-list-number.result draft c.in_ok-draft.ensures.ok c.in_ok-read.ensures.sound c.in_ok-draft.ensures.within)
 
 pub wire-requires-clause-ports_to : goal.wire-requires-clause-ports_to
 wire-requires-clause-ports_to c =
@@ -71,17 +72,18 @@ returns-in_err-ends-clause-err c =
     let p = err_from_is_err_and c.from_residual-in_err-ends.result c.from_residual-in_err-ends.ensures.1 in
     let why = rw (c.as_slice-2.ensures.value, c.as_slice-3.ensures.value) at c.in_err-ends.ensures.err in
     rw (p.1, p.2) (refuses_named c.args.parts.now c.args.top.now part _ (sym c.in-Some.ensures.part ∙ read)
-    (wire_refuses c.args.parts.now part draft _ c.in_ok-draft.ensures.ok c.in_ok-totals.ensures.ok why))
+    (wire_refuses c.args.parts.now part draft _ c.in_ok-draft.ensures.ok c.in_ok-read.ensures.ok why))
 
 pub of-requires-clause-wired : goal.of-requires-clause-wired
 of-requires-clause-wired c =
     let part = c.index-list-number.result in
     let draft = c.in_ok-draft.draft in
     let whole = subst (λ (p : Part). HasPortChannels p) (sym c.index-list-number.is) (c.list.ensures.fits c.in-Some.number part (let w = c.in-Some.ensures.within in omega (arith, w, ap length c.list.ensures.value))) in
+    let fit = subst (λ (p : Part). IsFit p) (sym c.index-list-number.is) (c.list.ensures.fit c.in-Some.number part (let w = c.in-Some.ensures.within in omega (arith, w, ap length c.list.ensures.value))) in
     let ended = rw (c.as_slice-2.ensures.value, c.as_slice-3.ensures.value) at c.in_ok-ends.ensures.ok.1 in
     let ports = rw c.as_slice-4.ensures.value at c.in_ok-ports.ensures in
     subst (λ (w : Wiring). WellWired w) (sym (same_ports draft.chans.items draft.comps.items c.in_ok-ports.ports.items part.ports.items ports))
-    (well_wired c.args.parts.now part draft c.in_ok-ends.ends.items c.in_ok-draft.ensures.ok c.in_ok-totals.ensures.sound c.in_ok-draft.ensures.within whole ended)
+    (well_wired c.args.parts.now part draft c.in_ok-ends.ends.items c.in_ok-draft.ensures.ok c.in_ok-read.ensures.sound c.in_ok-draft.ensures.within whole fit ended)
 
 pub of-requires-clause-ends_of : goal.of-requires-clause-ends_of
 of-requires-clause-ends_of c =
@@ -103,7 +105,7 @@ returns-clause-ok c =
       top = part;
       is_named = sym c.in-Some.ensures.part ∙ read;
       wiring_is = c.of.ensures.wiring ∙ (same_ports draft.chans.items draft.comps.items c.in_ok-ports.ports.items part.ports.items ports ∙ net_is c.args.parts.now part draft c.in_ok-draft.ensures.ok);
-      within = not_too_deep c.args.parts.now part c.in_ok-totals.ensures.sound;
+      within = not_too_deep c.args.parts.now part c.in_ok-read.ensures.sound;
     }
 
 pub returns-clause-fit : goal.returns-clause-fit
@@ -112,5 +114,5 @@ returns-clause-fit c =
     let draft = c.in_ok-draft.draft in
     let read = part_read c.args.parts.now _ c.in-Some.number part c.list.ensures.value c.in-Some.ensures.within c.index-list-number.is in
     let ended = rw (c.as_slice-2.ensures.value, c.as_slice-3.ensures.value) at c.in_ok-ends.ensures.ok.1 in
-    none_applies c.args.parts.now c.args.top.now part draft c.in_ok-ends.ends.items (sym c.in-Some.ensures.part ∙ read) c.in_ok-draft.ensures.ok c.in_ok-totals.ensures.sound
+    none_applies c.args.parts.now c.args.top.now part draft c.in_ok-ends.ends.items (sym c.in-Some.ensures.part ∙ read) c.in_ok-draft.ensures.ok c.in_ok-read.ensures.sound
     c.in_ok-draft.ensures.within ended

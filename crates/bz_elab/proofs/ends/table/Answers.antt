@@ -1,8 +1,10 @@
-use Rattle.std.proofs.Common.{arith, ◌≡◌, ◌+◌, ◌++◌, length, add-one, take, drop, subst, refl}
-use Rattle.std.proofs.lemmas.List.{take_at}
+use Rattle.std.proofs.Common.{arith, ◌≡◌, ◌+◌, ◌++◌, length, add-one, take, drop, subst, refl, replicate, ap, ◌∙◌}
+use Rattle.std.proofs.lemmas.List.{take_at, length-replicate}
+use Rattle.std.proofs.lemmas.Grind.{common_steps}
+use Rattle.bz_elab.specs.Wires.{no_ends}
 use Rattle.bz_elab.specs.Flats.{sites_of}
 use Rattle.bz_elab.specs.Seats.{Seated, Passed}
-use Rattle.bz_elab.proofs.Seating.{passed_all}
+use Rattle.bz_elab.proofs.Seating.{passed_all, seated_none}
 use Rattle.bz_elab.proofs.Sites.{here_at, fits_at}
 use Rattle.bz_elab.proofs.ends.table.Goals as goal
 
@@ -28,3 +30,8 @@ pub returns-clause-ok : goal.returns-clause-ok
 returns-clause-ok c =
     let all : c.loop-i.i ≡ length c.args.comps.now = omega arith in
     (c.loop-i.invariant.len, subst (λ k. Seated (sites_of c.args.comps.now) (Passed (k + 1) 0) c.loop-i.ends.items c.loop-i.least) all c.loop-i.invariant.seated)
+
+pub loop-i-init : goal.loop-i-init
+loop-i-init c =
+    let is : c.in_ok-ends.ends.items ≡ replicate c.args.chans no_ends = grind (arith, common_steps) in
+    record { len = ap length is ∙ length-replicate c.args.chans no_ends; seated = rw is (seated_none (sites_of c.args.comps.now) c.args.chans) }

@@ -1,5 +1,5 @@
-use Rattle.std.proofs.Common.{◌≡◌, ◌++◌, ◌-◌, take, drop, length, suc}
-use Rattle.bz_elab.specs.Growth.{numbers_from, Within}
+use Rattle.std.proofs.Common.{◌≡◌, ◌++◌, ◌-◌, take, drop}
+use Rattle.bz_elab.specs.Growth.{Within}
 use Rattle.bz_elab.proofs.walk.enter.Given as goal
 
 abbrev pub invariant-loop-i : goal.invariant-loop-i
@@ -8,5 +8,4 @@ invariant-loop-i l = record {
   chans_are : l.draft.chans.items ≡ l.fn.draft.chans.items ++ take (l.i - l.ports) (drop l.ports l.part.channels.items);
   comps_are : l.draft.comps.items ≡ l.fn.draft.comps.items;
   ends_are : l.draft.ends ≡ l.fn.draft.ends;
-  numbers : l.chans.items ≡ l.fn.actuals.items ++ numbers_from (suc (length l.fn.draft.chans.items)) (l.i - l.ports);
 }

@@ -8,7 +8,7 @@ use Rattle.bz_model.proofs.Fitting.{fits-move}
 use Rattle.bz_kinds.specs.declared.row.Due.{Due}
 use Rattle.bz_kinds.specs.Row.{due_of}
 use Rattle.bz_kinds.specs.Comp.{plan_due, Goes}
-use Rattle.bz_kinds.proofs.PlanLaws.{head-on-due, moves, turns, due-narrow, still-at, still-sends}
+use Rattle.bz_kinds.proofs.PlanLaws.{head-on-due, moves, turns, due-narrow, still-at, still-sends, one-head-on}
 use Rattle.bz_kinds.proofs.comp.apply.Goals as goal
 
 pub unreachable-requires : goal.unreachable-requires
@@ -52,8 +52,11 @@ returns-clause-turns c =
     let found : plan_due c.comp.inside.plan c.comp.inside.size c.comp.inside.left c.args.port (get_or c.comp.inside.ports c.args.port 0) ≡ Some c.in-Some.due = cc in
     turns _ _ _ _ _ _ _ c.comp.view_is c.comp.invariant.0 c.args.port c.in-Some.due _ _ _ found (goes c)
 
+pub returns-clause-one : goal.returns-clause-one
+returns-clause-one c = one-head-on _ _ _ _ _ _ _ c.comp.view_is c.comp.invariant.0
+
 pub returns-clause-fits : goal.returns-clause-fits
-returns-clause-fits c fitted came = fits-move c.args.comp.now _ c.args.port c.args.phase c.in-Some.due.mv _ (ap (λ (v : Component). v.chans) c.comp.view_is) (returns-clause-moves c) came fitted
+returns-clause-fits c fitted holds = fits-move c.args.comp.now _ c.args.port c.args.phase c.in-Some.due.mv _ (ap (λ (v : Component). v.chans) c.comp.view_is) (returns-clause-moves c) holds fitted
 
 pub invariant_of-comp : goal.invariant_of-comp
 invariant_of-comp c =

@@ -1,0 +1,255 @@
+-- Words of ports: what a mask and one bit leave of them.
+use Rattle.std.proofs.Common.{◌≡◌, ◌≢◌, ℕ, zero, suc, ◌+◌, ◌-◌, ◌*◌, ◌/◌, ◌%◌, ◌^◌, ◌<◌, ◌≤◌, Bool, true, false, not, ◌&&◌, ◌==◌, List, [], ◌∷◌, length, get_or, set, replicate, refl, sym, ap, ◌∙◌, subst, inl, inr, arith, min, max}
+use Rattle.std.specs.Prelude.{nat_le, nat_lt, if◌then◌else◌, bit_and, bit_or}
+use Rattle.std.specs.Int.{bit_at, from_bool, div_ceil}
+use Rattle.std.proofs.lemmas.Grind.{div_ceil_times}
+use Rattle.std.proofs.lemmas.Nat.Bits.{bit_at-zero, bit_at-lt}
+use Rattle.std.proofs.lemmas.List.{ext_get_or, length-set, length-replicate, get_or-replicate, get_or-set_same, get_or-set_other, get_or_past}
+use Rattle.std.proofs.lemmas.List.FromFn.{length-map-range_with_len, get_or-map-range_with_len}
+use Rattle.std.proofs.lemmas.Bool.{cases_eq, cases_lt, le-leb, lt-leb, lt-ltb, le-ltb}
+use Rattle.bz_bits.specs.declared.word.PortWord.{PortWord}
+use Rattle.bz_bits.specs.Row.{bit_of}
+use Rattle.bz_bits.specs.PortWords.{no_ports, number_in, number_at, numbers, AreNumbers, between, goes}
+
+pub table : (d o p h : ℕ) → d < 2 → o < 2 → p < 2 → h < 2
+    → (min d (max h (1 - (p + o) % 2)) == 1) ≡ goes (d == 1) (o == 1) (p == 1) (h == 1)
+table zero zero zero zero a b c e = refl
+table zero zero zero (suc zero) a b c e = refl
+table zero zero (suc zero) zero a b c e = refl
+table zero zero (suc zero) (suc zero) a b c e = refl
+table zero (suc zero) zero zero a b c e = refl
+table zero (suc zero) zero (suc zero) a b c e = refl
+table zero (suc zero) (suc zero) zero a b c e = refl
+table zero (suc zero) (suc zero) (suc zero) a b c e = refl
+table (suc zero) zero zero zero a b c e = refl
+table (suc zero) zero zero (suc zero) a b c e = refl
+table (suc zero) zero (suc zero) zero a b c e = refl
+table (suc zero) zero (suc zero) (suc zero) a b c e = refl
+table (suc zero) (suc zero) zero zero a b c e = refl
+table (suc zero) (suc zero) zero (suc zero) a b c e = refl
+table (suc zero) (suc zero) (suc zero) zero a b c e = refl
+table (suc zero) (suc zero) (suc zero) (suc zero) a b c e = refl
+table (suc (suc d)) o p h a b c e = absurd (omega arith)
+table d (suc (suc o)) p h a b c e = absurd (omega arith)
+table d o (suc (suc p)) h a b c e = absurd (omega arith)
+table d o p (suc (suc h)) a b c e = absurd (omega arith)
+
+-- a bit of a word with a mask put on it, or taken off
+pub put_on : (x m : ℕ) → x < 2 → m < 2 → max x m ≡ (if m == 1 then 1 else x)
+put_on zero zero a b = refl
+put_on zero (suc zero) a b = refl
+put_on (suc zero) zero a b = refl
+put_on (suc zero) (suc zero) a b = refl
+put_on (suc (suc x)) m a b = absurd (omega arith)
+put_on x (suc (suc m)) a b = absurd (omega arith)
+
+pub taken_off : (x m : ℕ) → x < 2 → m < 2 → min x (1 - m) ≡ (if m == 1 then 0 else x)
+taken_off zero zero a b = refl
+taken_off zero (suc zero) a b = refl
+taken_off (suc zero) zero a b = refl
+taken_off (suc zero) (suc zero) a b = refl
+taken_off (suc (suc x)) m a b = absurd (omega arith)
+taken_off x (suc (suc m)) a b = absurd (omega arith)
+
+-- both bits of a place, with a mask
+pub both_filled : (b : Bool) (s x y : ℕ) → s < 4 → (if b then from_bool (s % 2 == 1) else x) + 2 * (if b then from_bool (s / 2 == 1) else y) ≡ (if b then s else x + 2 * y)
+both_filled true zero x y lt = refl
+both_filled true (suc zero) x y lt = refl
+both_filled true (suc (suc zero)) x y lt = refl
+both_filled true (suc (suc (suc zero))) x y lt = refl
+both_filled true (suc (suc (suc (suc s)))) x y lt = absurd (omega arith)
+both_filled false s x y lt = refl
+
+pub length-numbers : (ws : List PortWord) (n : ℕ) → length (numbers ws n) ≡ n
+unfolding numbers
+length-numbers ws n = length-map-range_with_len (number_at ws) 0 n
+
+pub get-numbers : (ws : List PortWord) (n p : ℕ) → p < n → get_or (numbers ws n) p 0 ≡ number_at ws p
+unfolding numbers
+get-numbers ws n p lt = get_or-map-range_with_len (number_at ws) 0 n p p 0 lt (omega arith)
+
+-- with no number past the end, a place may be any
+pub any-number : (ws : List PortWord) (n p : ℕ) → AreNumbers ws n → get_or (numbers ws n) p 0 ≡ number_at ws p
+any-number ws n p are =
+    elim (cases_lt p n) [
+      | inl lt ↦ get-numbers ws n p lt
+      | inr past ↦ get_or_past (numbers ws n) p 0 (omega (arith, length-numbers ws n)) ∙ sym (are.clear p past)
+    ]
+
+-- a word of them
+pub word_numbers : (ws : List PortWord) (n at i : ℕ) → AreNumbers ws n → i < 64 → number_in (get_or ws at no_ports) i ≡ get_or (numbers ws n) (64 * at + i) 0
+word_numbers ws n at i are lt =
+    let p = 64 * at + i in let a : p / 64 ≡ at = omega arith in let b : p % 64 ≡ i = omega arith in
+    sym (any-number ws n p are ∙ ap (λ (m : ℕ). number_in (get_or ws m no_ports) (p % 64)) a ∙ ap (number_in (get_or ws at no_ports)) b)
+
+number_none : (p : ℕ) → number_in no_ports p ≡ 0
+number_none p = let z = bit_at-zero p in omega (arith, z)
+
+pub number_none_at : (m p : ℕ) → number_at (no_ports ∷ replicate m no_ports) p ≡ 0
+number_none_at m p =
+    let ws = no_ports ∷ replicate m no_ports in
+    let none : get_or ws (p / 64) no_ports ≡ no_ports = each m (p / 64) in
+    ap (λ (w : PortWord). number_in w (p % 64)) none ∙ number_none (p % 64)
+  where
+    rest : (m i : ℕ) → get_or (replicate m no_ports) i no_ports ≡ no_ports
+    rest zero i = refl
+    rest (suc m) zero = refl
+    rest (suc m) (suc i) = rest m i
+
+    each : (m i : ℕ) → get_or (no_ports ∷ replicate m no_ports) i no_ports ≡ no_ports
+    each m zero = refl
+    each m (suc i) = rest m i
+
+pub are_none : (m n : ℕ) → n ≤ 64 * suc m → n < 2 ^ 64 → AreNumbers (no_ports ∷ replicate m no_ports) n
+are_none m n room small = record {
+  room = omega (arith, room, length-replicate m no_ports);
+  small = small;
+  clear = λ p past. number_none_at m p;
+}
+
+pub numbers_none : (m n : ℕ) → numbers (no_ports ∷ replicate m no_ports) n ≡ replicate n 0
+numbers_none m n =
+    let ws = no_ports ∷ replicate m no_ports in let zero_of : ℕ = 0 in
+    ext_get_or 0 (numbers ws n) (replicate n 0) (length-numbers ws n ∙ sym (length-replicate n zero_of)) (λ j within.
+    let below : j < n = omega (arith, length-numbers ws n) in
+    get-numbers ws n j below ∙ number_none_at m j ∙ sym (get_or-replicate n j 0 0 below))
+
+-- the words were filled between two places
+module _ (ws vs : List PortWord) (n from to s : ℕ) (are : AreNumbers ws n) (len : length vs ≡ length ws) (filled : (p : ℕ) → number_at vs p ≡ (if between from to p then s else number_at ws p)) where
+  within : to ≤ n → (p : ℕ) → n ≤ p → between from to p ≡ false
+  within le p past = grind (arith, le, past)
+
+  pub are_filled : to ≤ n → AreNumbers vs n
+  are_filled le = record {
+    room = omega (arith, are.room, len);
+    small = are.small;
+    clear = λ p past. filled p ∙ ap (λ (b : Bool). if b then s else number_at ws p) (within le p past) ∙ are.clear p past;
+  }
+
+  pub each_filled : to ≤ n → (p : ℕ) → get_or (numbers vs n) p 0 ≡ (if between from to p then s else get_or (numbers ws n) p 0)
+  each_filled le p = any-number vs n p (are_filled le) ∙ filled p ∙ ap (λ (x : ℕ). if between from to p then s else x) (sym (any-number ws n p are))
+
+-- one place was
+only : (k j : ℕ) → (j ≡ k → ⊥) → between k (k + 1) j ≡ false
+only k j ne = grind (arith, ne)
+
+pub one_filled : (ws vs : List PortWord) (n k s : ℕ) → AreNumbers ws n → length vs ≡ length ws → ((p : ℕ) → number_at vs p ≡ (if between k (k + 1) p then s else number_at ws p)) → k < n → numbers vs n ≡ set (numbers ws n) k s
+one_filled ws vs n k s are len filled lt =
+    let old = numbers ws n in let new = numbers vs n in
+    ext_get_or 0 new (set old k s) (length-numbers vs n ∙ sym (length-set old k s ∙ length-numbers ws n)) (λ j in'.
+    let each = each_filled ws vs n k (k + 1) s are len filled (omega arith) j in
+    elim (cases_eq j k) [
+      | inl e ↦ let b : between k (k + 1) j ≡ true = grind (arith, e) in
+          each ∙ ap (λ (b : Bool). if b then s else get_or old j 0) b ∙ sym (ap (λ (m : ℕ). get_or (set old k s) m 0) e ∙ get_or-set_same old k s 0 (omega (arith, length-numbers ws n)))
+      | inr f ↦ each ∙ ap (λ (b : Bool). if b then s else get_or old j 0) (only k j f) ∙ sym (get_or-set_other old k j s 0 f)
+    ])
+
+leb_same : (a b c d : ℕ) → (a ≤ b → c ≤ d) → (c ≤ d → a ≤ b) → nat_le a b ≡ nat_le c d
+leb_same a b c d to back =
+    elim (cases_lt b a) [
+      | inl lt ↦ lt-leb a b lt ∙ sym (lt-leb c d (elim (cases_lt d c) [ inl l ↦ l | inr ge ↦ absurd (let le = back ge in omega (arith, le, lt)) ]))
+      | inr ge ↦ le-leb a b ge ∙ sym (le-leb c d (to ge))
+    ]
+
+-- the places of a word that lie between two ports
+pub window : (from to start i s : ℕ) → s ≡ from - start → start < to → (nat_le s i && not (nat_le (to - start) i)) ≡ between from to (start + i)
+window from to start i s is lt =
+    ap (λ (b : Bool). b && not (nat_le (to - start) i)) (leb_same s i from (start + i) (λ le. omega (arith, is, le)) (λ le. omega (arith, is, le)))
+    ∙ ap (λ (b : Bool). nat_le from (start + i) && b) (elim (cases_lt i (to - start)) [
+      | inl below ↦ ap not (lt-leb (to - start) i below) ∙ sym (lt-ltb (start + i) to (omega (arith, below)))
+      | inr past ↦ ap not (le-leb (to - start) i past) ∙ sym (le-ltb (start + i) to (omega (arith, past, lt)))
+    ])
+
+pub set_tail : {X : Type 0} (x v : X) (xs : List X) (at : ℕ) → (at ≡ 0 → ⊥) → x ∷ set xs (at - 1) v ≡ set (x ∷ xs) at v
+set_tail x v xs zero ne = absurd (ne refl)
+set_tail x v xs (suc at) ne = let e : suc at - 1 ≡ at = omega arith in ap (λ (k : ℕ). x ∷ set xs k v) e
+
+pub set_beyond : {X : Type 0} (ys : List X) (k : ℕ) (v : X) → length ys ≤ k → set ys k v ≡ ys
+set_beyond [] k v le = refl
+set_beyond (y ∷ ys) zero v le = absurd (omega arith)
+set_beyond (y ∷ ys) (suc k) v le = ap (λ l. y ∷ l) (set_beyond ys k v (omega arith))
+
+pub set_past : {X : Type 0} (x v : X) (xs : List X) (at : ℕ) → length xs < at → x ∷ xs ≡ set (x ∷ xs) at v
+set_past x v xs at lt = sym (set_beyond (x ∷ xs) at v (omega arith))
+
+and_no : (b : Bool) (s x : ℕ) → (if b && false then s else x) ≡ x
+and_no true s x = refl
+and_no false s x = refl
+
+and_yes : (b : Bool) (s x : ℕ) → (if b then s else x) ≡ (if b && true then s else x)
+and_yes true s x = refl
+and_yes false s x = refl
+
+-- one more word is filled
+module _ (old ws : List PortWord) (from to at s : ℕ) (inv : (p : ℕ) → number_at ws p ≡ (if between from to p && nat_lt (p / 64) at then s else number_at old p)) where
+  pub fill_step : (mask : ℕ) (w : PortWord) → at < length ws → ((i : ℕ) → i < 64 → (bit_at mask i == 1) ≡ between from to (64 * at + i))
+      → ((i : ℕ) → i < 64 → number_in w i ≡ (if bit_at mask i == 1 then s else number_in (get_or ws at no_ports) i))
+      → (p : ℕ) → number_at (set ws at w) p ≡ (if between from to p && nat_lt (p / 64) (at + 1) then s else number_at old p)
+  fill_step mask w in' masks filled p =
+      let i = p % 64 in let il : i < 64 = omega arith in let b = between from to p in
+      elim (cases_eq (p / 64) at) [
+        | inl e ↦ let back : 64 * at + i ≡ p = omega (arith, e) in
+            ap (λ (m : ℕ). number_in (get_or (set ws at w) m no_ports) i) e
+            ∙ ap (λ (v : PortWord). number_in v i) (get_or-set_same ws at w no_ports in')
+            ∙ filled i il
+            ∙ ap (λ (c : Bool). if c then s else number_in (get_or ws at no_ports) i) (masks i il ∙ ap (between from to) back)
+            ∙ ap (λ (x : ℕ). if b then s else x) (ap (λ (m : ℕ). number_in (get_or ws m no_ports) i) (sym e) ∙ inv p
+            ∙ ap (λ (c : Bool). if b && c then s else number_at old p) (le-ltb (p / 64) at (omega (arith, e))) ∙ and_no b s (number_at old p))
+            ∙ and_yes b s (number_at old p)
+            ∙ ap (λ (c : Bool). if b && c then s else number_at old p) (sym (lt-ltb (p / 64) (at + 1) (omega (arith, e))))
+        | inr f ↦ ap (λ (v : PortWord). number_in v i) (get_or-set_other ws at (p / 64) w no_ports f) ∙ inv p
+            ∙ ap (λ (c : Bool). if b && c then s else number_at old p) (leb_same (suc (p / 64)) at (suc (p / 64)) (at + 1) (λ le. omega (arith, le)) (λ le. omega (arith, le, f)))
+      ]
+
+  pub fill_end : to ≤ 64 * at → (p : ℕ) → number_at ws p ≡ (if between from to p then s else number_at old p)
+  fill_end past p =
+      elim (cases_lt (p / 64) at) [
+        | inl lt ↦ inv p ∙ ap (λ (c : Bool). if between from to p && c then s else number_at old p) (lt-ltb (p / 64) at lt) ∙ sym (and_yes (between from to p) s (number_at old p))
+        | inr ge ↦ let none : between from to p ≡ false = ap (λ (c : Bool). nat_le from p && c) (le-ltb p to (omega (arith, ge, past))) ∙ no_and (nat_le from p) in
+            inv p ∙ ap (λ (c : Bool). if c && nat_lt (p / 64) at then s else number_at old p) none ∙ ap (λ (c : Bool). if c then s else number_at old p) (sym none)
+      ]
+    where
+      no_and : (b : Bool) → (b && false) ≡ false
+      no_and true = refl
+      no_and false = refl
+
+-- before any is
+pub fill_none : (ws : List PortWord) (from to s : ℕ) (p : ℕ) → number_at ws p ≡ (if between from to p && nat_lt (p / 64) (from / 64) then s else number_at ws p)
+fill_none ws from to s p =
+    elim (cases_lt p from) [
+      | inl lt ↦ ap (λ (c : Bool). if (c && nat_lt p to) && nat_lt (p / 64) (from / 64) then s else number_at ws p) (sym (lt-leb from p lt))
+      | inr ge ↦ sym (and_no (between from to p) s (number_at ws p)) ∙ ap (λ (c : Bool). if between from to p && c then s else number_at ws p) (sym (le-ltb (p / 64) (from / 64) (omega (arith, ge))))
+    ]
+
+pub ceil_past : (n at : ℕ) → div_ceil n 64 ≤ at → n ≤ 64 * at
+ceil_past n at le = let b = div_ceil_times n 64 (omega arith) in let q = div_ceil n 64 in let up : n ≤ q * 64 = b.0 in omega (arith, up, le)
+
+pub ceil_below : (n at : ℕ) → at < div_ceil n 64 → 64 * at < n
+ceil_below n at lt = let b = div_ceil_times n 64 (omega arith) in let q = div_ceil n 64 in let up : q * 64 < n + 64 = b.1 in omega (arith, up, lt)
+
+-- one bit of a row is written
+module _ (ws vs : List ℕ) (port v : ℕ) (b : ℕ) (is : vs ≡ set ws (port / 64) v) (lt : port < 64 * length ws) (bits : (i : ℕ) → i < 64 → bit_at v i ≡ (if between (port % 64) (port % 64 + 1) i then b else bit_at (get_or ws (port / 64) 0) i)) where
+  at_word : (k : ℕ) → k / 64 ≡ port / 64 → bit_of vs k ≡ (if between (port % 64) (port % 64 + 1) (k % 64) then b else bit_of ws k)
+  at_word k e =
+      let i = k % 64 in
+      ap (λ (l : List ℕ). bit_of l k) is ∙ ap (λ (m : ℕ). bit_at (get_or (set ws (port / 64) v) m 0) i) e
+      ∙ ap (λ (x : ℕ). bit_at x i) (get_or-set_same ws (port / 64) v 0 (omega arith)) ∙ bits i (omega arith)
+      ∙ ap (λ (m : ℕ). if between (port % 64) (port % 64 + 1) i then b else bit_at (get_or ws m 0) i) (sym e)
+
+  pub put_here : bit_of vs port ≡ b
+  put_here = let e : between (port % 64) (port % 64 + 1) (port % 64) ≡ true = one_in (port % 64) in at_word port refl ∙ ap (λ (c : Bool). if c then b else bit_of ws port) e
+    where
+      one_in : (m : ℕ) → between m (m + 1) m ≡ true
+      one_in m = ap (λ (c : Bool). c && nat_lt m (m + 1)) (le-leb m m (omega arith)) ∙ lt-ltb m (m + 1) (omega arith)
+
+  pub put_other : (k : ℕ) → (k ≡ port → ⊥) → bit_of vs k ≡ bit_of ws k
+  put_other k ne =
+      elim (cases_eq (k / 64) (port / 64)) [
+        | inl e ↦ at_word k e ∙ ap (λ (c : Bool). if c then b else bit_of ws k) (only (port % 64) (k % 64) (λ f. ne (omega (arith, e, f))))
+        | inr f ↦ ap (λ (l : List ℕ). bit_of l k) is ∙ ap (λ (x : ℕ). bit_at x (k % 64)) (get_or-set_other ws (port / 64) (k / 64) v 0 f)
+      ]
+
+pub mask_with : (v w m b n : ℕ) → ((i : ℕ) → i < 64 → bit_at v i ≡ (if bit_at m i == 1 then b else bit_at w i)) → ((i : ℕ) → i < 64 → (bit_at m i == 1) ≡ between n (n + 1) (64 * 0 + i)) → (u : ℕ) → w ≡ u → (i : ℕ) → i < 64 → bit_at v i ≡ (if between n (n + 1) i then b else bit_at u i)
+mask_with v w m b n bits masks u is i lt =
+    let e : 64 * 0 + i ≡ i = omega arith in
+    bits i lt ∙ ap (λ (c : Bool). if c then b else bit_at w i) (masks i lt ∙ ap (between n (n + 1)) e) ∙ ap (λ (x : ℕ). if between n (n + 1) i then b else bit_at x i) is

@@ -1,0 +1,40 @@
+-- Numbers from 0 to 3, each as one bit of two words.
+use Rattle.std.specs.Prelude.{◌≡◌, ◌==◌, ◌&&◌, ℕ, ◌+◌, ◌*◌, ◌/◌, ◌%◌, ◌^◌, ◌<◌, ◌≤◌, nat_le, nat_lt, Bool, true, false, List, map, length, slice_index_or, if◌then◌else◌}
+use Rattle.std.specs.List.{range_with_len}
+use Rattle.std.specs.Int.{bit_at}
+use Rattle.bz_bits.specs.declared.word.PortWord.{PortWord}
+
+abbrev pub no_ports : PortWord
+no_ports = record { due = 0; opened = 0 }
+
+-- the number at a place of a word
+abbrev pub number_in : PortWord → ℕ → ℕ
+number_in w i = bit_at w.due i + 2 * bit_at w.opened i
+
+-- the number at a place of a list of words
+abbrev pub number_at : List PortWord → ℕ → ℕ
+number_at words p = number_in (slice_index_or words (p / 64) no_ports) (p % 64)
+
+-- the first n numbers
+unfoldable pub numbers : List PortWord → ℕ → List ℕ
+numbers words n = map (number_at words) (range_with_len 0 n)
+
+-- the words hold n numbers, and 0 past them
+pub record AreNumbers (words : List PortWord) (n : ℕ) : Type 0 where
+  pub room : n ≤ 64 * length words
+  pub small : n < 2 ^ 64
+  pub clear : (p : ℕ) → n ≤ p → number_at words p ≡ 0
+
+-- whether p stands at `from` or after it, and before `to`
+abbrev pub between : ℕ → ℕ → ℕ → Bool
+between from to p = nat_le from p && nat_lt p to
+
+-- whether the move that is due at a port can be made: by whether one is due, the port is open, it is passive, and what
+-- it may wait for is here. A closed passive port waits for a request, an open active one for a reply.
+abbrev pub goes : Bool → Bool → Bool → Bool → Bool
+goes false opened passive here = false
+goes true opened passive true = true
+goes true true true false = true
+goes true true false false = false
+goes true false true false = false
+goes true false false false = true

@@ -1,0 +1,101 @@
+//! A bit for each port, of which the first 64 take no memory of their own.
+ghost use Rattle.std.specs.Prelude.{◌≡◌, ◌≢◌, ◌==◌, ◌+◌, ◌-◌, ◌*◌, ◌/◌, ◌%◌, ◌<◌, ◌≤◌, ◌∷◌, ℕ, Bool, length, slice_index_or, slice_set, if◌then◌else◌, IfOk};
+ghost use Rattle.std.specs.Int.{from_bool};
+ghost use Rattle.bz_bits.specs.Row.{bit_of};
+
+use crate::word::{places, with};
+use std::alloc::{AllocError, Allocator, Global};
+use std::marker::Model;
+
+/// A bit for each port, in words of 64. A contract sees the words.
+#[derive(Drop)]
+pub struct PortBits<A: Allocator + Copy = Global> {
+    first: u64,
+    more: Vec<u64, A>,
+}
+
+impl<A: Allocator + Copy> Model for PortBits<A> {
+    ghost use Rattle.std.specs.Prelude.{List, ℕ, ◌∷◌};
+
+    ghost Value = { List ℕ };
+
+    ghost view = { λ p. p.first ∷ p.more.items };
+}
+
+impl<A: Allocator + Copy> PortBits<A> {
+    /// Room for `count` ports, all bits 0.
+    pub fn new(alloc: A, count: usize) -> Result<Self, AllocError>
+        ensures room { IfOk result (λ p. count ≤ 64 * length p) }
+        ensures words { IfOk result (λ p. length p ≡ (count - 1) / 64 + 1) }
+        ensures none { IfOk result (λ p. (k : ℕ) → bit_of p k ≡ 0) }
+    {
+        let more = Vec::from_elem(alloc, 0u64, count.saturating_sub(1) / 64)?;
+        Ok(PortBits { first: 0, more })
+    }
+
+    /// The same bits.
+    pub fn dup(&self, alloc: A) -> Result<Self, AllocError>
+        ensures { IfOk result (λ p. p ≡ self.now) }
+    {
+        let more = Vec::from_slice(alloc, &self.more)?;
+        Ok(PortBits {
+            first: self.first,
+            more,
+        })
+    }
+
+    /// How many words there are.
+    pub fn word_count(&self) -> usize
+        ensures { result ≡ length self.now }
+    {
+        self.more.len() + 1
+    }
+
+    /// The bits of 64 ports, 0 where there is no such word.
+    pub fn word(&self, at: usize) -> u64
+        ensures { result ≡ slice_index_or self.now at 0 }
+    {
+        bits_at(&self.first, &self.more, at)
+    }
+
+    /// Gives a port its bit.
+    pub fn put(&mut self, port: usize, bit: bool)
+        requires { port < 64 * length self.old }
+        ensures long { length self.new ≡ length self.old }
+        ensures here { bit_of self.new port ≡ from_bool bit }
+        ensures others { (k : ℕ) → k ≢ port → bit_of self.new k ≡ bit_of self.old k }
+    {
+        let at = port / 64;
+        let place = port % 64;
+        let word = with(
+            bits_at(&self.first, &self.more, at),
+            places(0, place, place + 1),
+            bit,
+        );
+        put_bits(&mut self.first, &mut self.more, at, word);
+    }
+}
+
+// The word at a place, 0 where there is no such word.
+fn bits_at(first: &u64, more: &[u64], at: usize) -> u64
+    ensures { result ≡ slice_index_or (first.now ∷ more.now) at 0 }
+{
+    if at == 0 {
+        return *first;
+    }
+    match more.get(at - 1) {
+        Some(word) => *word,
+        None => 0,
+    }
+}
+
+#[tactic(auto, using(crate::proofs::Words::set_tail, crate::proofs::Words::set_past))]
+fn put_bits(first: &mut u64, more: &mut [u64], at: usize, word: u64)
+    ensures { first.new ∷ more.new ≡ slice_set (first.old ∷ more.old) at word }
+{
+    if at == 0 {
+        *first = word;
+    } else if at <= more.len() {
+        more[at - 1] = word;
+    }
+}

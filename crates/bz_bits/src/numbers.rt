@@ -1,0 +1,127 @@
+//! The numbers of a component's ports, two bits each, of which the first 64 take no memory of their own.
+ghost use Rattle.std.specs.Prelude.{◌≡◌, ◌≢◌, ◌+◌, ◌*◌, ◌/◌, ◌<◌, ◌≤◌, ◌∷◌, ℕ, length, replicate, slice_index, slice_index_or, slice_set, if◌then◌else◌, IfOk};
+ghost use Rattle.bz_bits.specs.PortWords.{between, no_ports, number_at, number_in};
+
+use crate::word::{NO_PORTS, PortWord, places};
+use std::alloc::{AllocError, Allocator, Global};
+use std::marker::Model;
+
+/// A number from 0 to 3 for each port. A contract sees it as that list.
+#[derive(Drop)]
+pub struct PortNumbers<A: Allocator + Copy = Global> {
+    first: PortWord,
+    more: Vec<PortWord, A>,
+    len: usize,
+}
+
+impl<A: Allocator + Copy> Model for PortNumbers<A> {
+    ghost use Rattle.std.specs.Prelude.{List, ℕ, ◌∷◌};
+    ghost use Rattle.bz_bits.specs.PortWords.{numbers, AreNumbers};
+
+    ghost Value = { List ℕ };
+
+    ghost view = { λ p. numbers (p.first ∷ p.more.items) p.len };
+
+    ghost invariant = { λ p. AreNumbers (p.first ∷ p.more.items) p.len };
+}
+
+impl<A: Allocator + Copy> PortNumbers<A> {
+    /// `count` ports, all with the number 0.
+    pub fn new(alloc: A, count: usize) -> Result<Self, AllocError>
+        ensures { IfOk result (λ p. p ≡ replicate count 0) }
+    {
+        let more = Vec::from_elem(alloc, NO_PORTS, count.saturating_sub(1) / 64)?;
+        Ok(PortNumbers {
+            first: NO_PORTS,
+            more,
+            len: count,
+        })
+    }
+
+    /// The same numbers.
+    pub fn dup(&self, alloc: A) -> Result<Self, AllocError>
+        ensures { IfOk result (λ p. p ≡ self.now) }
+    {
+        let more = Vec::from_slice(alloc, &self.more)?;
+        Ok(PortNumbers {
+            first: self.first,
+            more,
+            len: self.len,
+        })
+    }
+
+    pub fn len(&self) -> usize
+        ensures { result ≡ length self.now }
+    {
+        self.len
+    }
+
+    /// The number of a port, 0 where there is no such port.
+    pub fn get(&self, port: usize) -> u8
+        ensures { result ≡ slice_index self.now port }
+    {
+        word_at(&self.first, &self.more, port / 64).number(port % 64)
+    }
+
+    /// The numbers of 64 ports, 0 where there is no such port.
+    pub fn word(&self, at: usize) -> PortWord
+        ensures { (i : ℕ) → i < 64 → number_in result i ≡ slice_index self.now (64 * at + i) }
+    {
+        word_at(&self.first, &self.more, at)
+    }
+
+    /// Gives a port a number; nothing where there is no such port.
+    pub fn set(&mut self, port: usize, number: u8)
+        requires { number < 4 }
+        ensures { self.new ≡ slice_set self.old port number }
+    {
+        if port < self.len {
+            fill(&mut self.first, &mut self.more, port, port + 1, number);
+        }
+    }
+
+    /// Gives all ports from `from` on, but before `to`, the same number.
+    pub fn set_between(&mut self, from: usize, to: usize, number: u8)
+        requires number { number < 4 }
+        requires fits { to ≤ length self.old }
+        ensures long { length self.new ≡ length self.old }
+        ensures each { (p : ℕ) → slice_index self.new p ≡ (if between from to p then number else slice_index self.old p) }
+    {
+        fill(&mut self.first, &mut self.more, from, to, number);
+    }
+}
+
+// The word at a place, without ports where there is no such word.
+fn word_at(first: &PortWord, more: &[PortWord], at: usize) -> PortWord
+    ensures { result ≡ slice_index_or (first.now ∷ more.now) at no_ports }
+{
+    if at == 0 {
+        return *first;
+    }
+    match more.get(at - 1) {
+        Some(word) => *word,
+        None => NO_PORTS,
+    }
+}
+
+#[tactic(auto, using(crate::proofs::Words::set_tail, crate::proofs::Words::set_past))]
+fn put_word(first: &mut PortWord, more: &mut [PortWord], at: usize, word: PortWord)
+    ensures { first.new ∷ more.new ≡ slice_set (first.old ∷ more.old) at word }
+{
+    if at == 0 {
+        *first = word;
+    } else if at <= more.len() {
+        more[at - 1] = word;
+    }
+}
+
+fn fill(first: &mut PortWord, more: &mut [PortWord], from: usize, to: usize, number: u8)
+    requires number { number < 4 }
+    requires fits { to ≤ 64 * length (first.old ∷ more.old) }
+    ensures { (p : ℕ) → number_at (first.new ∷ more.new) p ≡ (if between from to p then number else number_at (first.old ∷ more.old) p) }
+{
+    for at in from / 64..to.div_ceil(64) {
+        let word = word_at(first, more, at).filled(places(at, from, to), number);
+        put_word(first, more, at, word);
+    }
+}

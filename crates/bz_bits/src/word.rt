@@ -1,0 +1,78 @@
+//! The numbers of 64 ports, from 0 to 3, in two words.
+ghost use Rattle.std.specs.Prelude.{◌≡◌, ◌==◌, ◌&&◌, ◌+◌, ◌*◌, ◌/◌, ◌%◌, ◌<◌, ◌≤◌, ℕ, nat_le, if◌then◌else◌};
+ghost use Rattle.std.specs.Int.{bit_at, from_bool};
+ghost use Rattle.bz_bits.specs.PortWords.{number_in, between, goes};
+
+use crate::row::above;
+
+/// Bit i of each stands for the port in place i: whether a move is due there, and whether the port is open.
+#[derive(Clone, Copy)]
+pub struct PortWord {
+    pub due: u64,
+    pub opened: u64,
+}
+
+/// No port open, and no move due.
+pub(crate) const NO_PORTS: PortWord = PortWord { due: 0, opened: 0 };
+
+impl PortWord {
+    /// The number of the port in a place.
+    pub(crate) fn number(self, place: usize) -> u8
+        requires { place < 64 }
+        ensures { result ≡ number_in self place }
+    {
+        ((self.due >> place) & 1) as u8 + 2 * ((self.opened >> place) & 1) as u8
+    }
+
+    /// The same but for the ports of `mask`, which all get this number.
+    pub(crate) fn filled(self, mask: u64, number: u8) -> PortWord
+        requires { number < 4 }
+        ensures { (i : ℕ) → i < 64 → number_in result i ≡ (if bit_at mask i == 1 then number else number_in self i) }
+    {
+        PortWord {
+            due: with(self.due, mask, number % 2 == 1),
+            opened: with(self.opened, mask, number / 2 == 1),
+        }
+    }
+
+    /// The ports at which a move is due that waits for nothing, or for what is here. `passive` and `here` have a bit for
+    /// each port.
+    pub fn ready(self, passive: u64, here: u64) -> u64
+        ensures { (i : ℕ) → i < 64 → (bit_at result i == 1) ≡ goes (bit_at self.due i == 1) (bit_at self.opened i == 1) (bit_at passive i == 1) (bit_at here i == 1) }
+    {
+        ready_ports(self.due, self.opened, passive, here)
+    }
+}
+
+fn ready_ports(due: u64, opened: u64, passive: u64, here: u64) -> u64
+    ensures { (i : ℕ) → i < 64 → (bit_at result i == 1) ≡ goes (bit_at due i == 1) (bit_at opened i == 1) (bit_at passive i == 1) (bit_at here i == 1) }
+{
+    due & (here | !(passive ^ opened))
+}
+
+/// Gives the places of `mask` one bit.
+pub(crate) fn with(word: u64, mask: u64, bit: bool) -> u64
+    ensures { (i : ℕ) → i < 64 → bit_at result i ≡ (if bit_at mask i == 1 then from_bool bit else bit_at word i) }
+{
+    if bit { word | mask } else { word & !mask }
+}
+
+/// Of the 64 places of word `at`, those from `from` to before `to`.
+pub fn places(at: usize, from: usize, to: usize) -> u64
+    requires { 64 * at < to }
+    ensures { (i : ℕ) → i < 64 → (bit_at result i == 1) ≡ between from to (64 * at + i) }
+{
+    let start = 64 * at;
+    from_place(from.saturating_sub(start)) & !from_place(to - start)
+}
+
+// The places of a word from one on.
+fn from_place(place: usize) -> u64
+    ensures { (i : ℕ) → i < 64 → (bit_at result i == 1) ≡ nat_le place i }
+{
+    if place < 64 {
+        above(u64::MAX, place)
+    } else {
+        0
+    }
+}

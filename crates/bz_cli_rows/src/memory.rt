@@ -1,0 +1,88 @@
+//! Memory that is refused after the net is open.
+
+use bz_cli::run_cmd;
+use std::alloc::{AllocError, Global};
+use std::io;
+use std::io::Write;
+use std::test::Fail;
+
+/// A loop round a Continue, which never rests.
+const SPIN: &str = "(breeze-part \"spin\" (ports (sync-port \"a\" passive)) (channels (sync) (sync))
+ (components (component \"$BrzLoop\" () (1 2)) (component \"$BrzContinue\" () (2))))";
+
+/// Its trace, up to where the loop begins.
+const BEGIN: &[u8] = b"trace 2\nh1 offer a done\nw1 fire 1 take 1\n";
+
+/// And one round of it.
+const ROUND: &[u8] = b"w1 fire 1 ask 2\nw1 fire 2 take 2\nw1 fire 2 reply 2\nw1 fire 1 got 2\n";
+
+/// A writer that takes no memory: it holds what it is given against the trace.
+#[derive(Drop)]
+struct Reader {
+    place: usize,
+    last: u8,
+    is_right: bool,
+}
+
+impl Write for Reader {
+    fn write(&mut self, buf: &[u8]) -> io::Result<usize> {
+        for byte in buf {
+            let wanted = match BEGIN.get(self.place) {
+                Some(byte) => Some(*byte),
+                None => {
+                    let behind = self.place.saturating_sub(BEGIN.len());
+                    ROUND.get(behind % ROUND.len()).copied()
+                }
+            };
+            self.is_right = self.is_right && wanted == Some(*byte);
+            self.last = *byte;
+            self.place = self.place.saturating_add(1);
+        }
+        Ok(buf.len())
+    }
+
+    fn flush(&mut self) -> io::Result<()> {
+        Ok(())
+    }
+}
+
+// Takes blocks of memory, untouched, until the heap refuses even a small one.
+fn take_all(alloc: Global) -> Result<Vec<Vec<u8>>, AllocError> {
+    let mut blocks = Vec::with_capacity(alloc, 262_144)?;
+    let mut size = 1usize << 46;
+    for _ in 0..262_144 {
+        match Vec::<u8>::with_capacity(alloc, size) {
+            Ok(block) => blocks.push(block)?,
+            Err(_) if size < 65_536 => break,
+            Err(_) => size /= 2,
+        }
+    }
+    Ok(blocks)
+}
+
+// The net is opened, and then the journal grows until memory is refused: what was played up to there is written.
+#[test]
+fn writes_what_was_played(rt: HostRuntime) -> Result<(), Fail> {
+    let alloc = rt.alloc();
+    let left = Vec::<u8>::with_capacity(alloc, 1 << 25)?;
+    let blocks = take_all(alloc)?;
+    drop(left);
+    let mut output = Reader {
+        place: 0,
+        last: 0,
+        is_right: true,
+    };
+    let words = ["offer:a", "run:16000000"];
+    let mut input = SPIN.as_bytes();
+    let result = run_cmd(alloc, b"spin", 16_777_216, &words, &mut input, &mut output);
+    drop(blocks);
+    let Err(fault) = result else {
+        return Err(Fail::from("all was played"));
+    };
+    assert_eq!(rt; format!(in alloc; "{fault}")?.as_str(), "F3 Memory");
+    assert_eq!(rt; fault.status(), 3);
+    assert!(rt; output.is_right);
+    assert!(rt; output.place > 10_000);
+    assert_eq!(rt; output.last, b'\n');
+    Ok(())
+}

@@ -1,0 +1,24 @@
+//! The parts as they were read: what each component is, told once for all copies of its part.
+
+use crate::flat::FlatComp;
+
+/// A component that adds something to the net, by the numbers that its part's channels have in that part.
+#[derive(Drop)]
+pub enum Item {
+    /// A component that is no instance.
+    Leaf(FlatComp),
+    Copy(Instance),
+}
+
+/// An instance: the number of its part, counted from 0, and the channels that its entries name.
+#[derive(Drop)]
+pub struct Instance {
+    pub part: usize,
+    pub chans: Vec<u32>,
+}
+
+/// The components of a part, in order, but for those that add nothing to the net.
+#[derive(Drop)]
+pub struct Reading {
+    pub items: Vec<Item>,
+}

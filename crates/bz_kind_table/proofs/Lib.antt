@@ -1,0 +1,3 @@
+mod Tables
+pub mod Pieces
+pub mod Numbers

@@ -1,0 +1,6 @@
+use Rattle.bz_kinds.specs.declared.row.Plan.TheVariants.{Signalled}
+use Rattle.bz_kinds.proofs.ReadyLaws.{sensed_as}
+use Rattle.bz_kinds.proofs.sense.sense_word.Goals as goal
+
+pub returns-in-Signalled : goal.returns-in-Signalled
+returns-in-Signalled c = sensed_as c.args.plan.now Signalled c.args.size c.args.at c.all_but_two.result c.in-Signalled.is (c.all_but_two.ensures c.args.size)

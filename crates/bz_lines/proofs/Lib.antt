@@ -1,0 +1,10 @@
+pub mod Sent
+pub mod Digits
+pub mod Strips
+pub mod Numbers
+pub mod LineLaws
+pub mod NameLaws
+pub mod Taken
+pub mod Lines
+pub mod Texts
+pub mod Cuts

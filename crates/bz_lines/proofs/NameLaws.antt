@@ -1,0 +1,162 @@
+-- Name forms: no two names have one, and none begins another.
+use Rattle.std.proofs.Common.{◌≡◌, ◌≢◌, ℕ, zero, suc, ◌+◌, ◌-◌, ◌*◌, ◌/◌, ◌%◌, ◌<◌, ◌≤◌, Bool, true, false, cond, ◌&&◌, List, [], ◌∷◌, ◌++◌, length, Option, Some, None, refl, sym, ap, ap₂, subst, ◌∙◌, arith, ◌==◌, append_assoc, ◌⊎◌, inl, inr, codes, bytes_eq, nat_lt}
+use Rattle.std.specs.Prelude.{unwrap_or, slice_get}
+use Rattle.std.proofs.Common.{map, drop, get_or, drop-cons}
+use Rattle.bz_model.specs.Names.{external}
+use Rattle.bz_model.specs.declared.names.Port.{Port}
+use Rattle.std.specs.List.{flat_map}
+use Rattle.std.specs.Option.{option_map}
+use Rattle.std.proofs.lemmas.Bool.Decides.{nat_tests}
+use Rattle.std.proofs.lemmas.Option.{some_pair_parts}
+use Rattle.std.proofs.lemmas.Slice.Eq.{bytes_eq-Decides}
+use Rattle.bz_model.specs.Names.{Outside, External, port_name, port_number, number_from, numbered}
+use Rattle.bz_model.specs.Traces.{is_plain, hex_digit, name_form, byte_form}
+use Rattle.bz_lines.specs.Reading.{strip, port_from, with_else}
+use Rattle.bz_lines.proofs.Strips.{none-some, strip_again, strip_takes, strip_append}
+use Rattle.bz_lines.proofs.Numbers.{chosen}
+
+not_so : (b : Bool) → (b ≡ true → ⊥) → b ≡ false
+not_so true h = absurd (h refl)
+not_so false h = refl
+
+names_differ : (a b : List ℕ) → a ≢ b → bytes_eq a b ≡ false
+names_differ a b differ = not_so (bytes_eq a b) (λ e. differ ((bytes_eq-Decides a b).0 e))
+
+hex_from : (n : ℕ) → 48 ≤ hex_digit n
+unfolding hex_digit
+hex_from n = grind (arith, nat_tests)
+
+hex_same : (m n : ℕ) → hex_digit m ≡ hex_digit n → m ≡ n
+unfolding hex_digit
+hex_same m n e = grind (arith, nat_tests)
+
+plain_range : (b : ℕ) → is_plain b ≡ true → (33 ≤ b) × (b ≢ 37)
+unfolding is_plain
+plain_range b e = (grind (arith, nat_tests), grind (arith, nat_tests))
+
+cons_same : {X : Type 0} {x y : X} {xs ys : List X} → (x ∷ xs) ≡ (y ∷ ys) → (x ≡ y) × (xs ≡ ys)
+cons_same e = (cc, cc)
+
+-- the form of a byte is itself, or three bytes
+pub data HasForm (b : ℕ) : List ℕ → Type 0 where
+  itself : 33 ≤ b → b ≢ 37 → HasForm b (b ∷ [])
+  by_number : HasForm b (37 ∷ hex_digit (b / 16) ∷ hex_digit (b % 16) ∷ [])
+
+form_by : (b : ℕ) (plain : Bool) → is_plain b ≡ plain → HasForm b (cond plain (b ∷ []) (37 ∷ hex_digit (b / 16) ∷ hex_digit (b % 16) ∷ []))
+form_by b true e = let r = plain_range b e in itself r.0 r.1
+form_by b false e = by_number
+
+has_form : (b : ℕ) → HasForm b (byte_form b)
+unfolding byte_form
+has_form b = form_by b (is_plain b) refl
+
+same_byte : (b c : ℕ) (f g x y : List ℕ) → HasForm b f → HasForm c g → f ++ x ≡ g ++ y → (b ≡ c) × (x ≡ y)
+same_byte b c _ _ x y (itself p q) (itself r s) e = cons_same e
+same_byte b c _ _ x y (itself p q) by_number e = absurd (q (cons_same e).0)
+same_byte b c _ _ x y by_number (itself r s) e = absurd (s (sym (cons_same e).0))
+same_byte b c _ _ x y by_number by_number e =
+    let one = cons_same (cons_same e).1 in
+    let two = cons_same one.1 in
+    let high = hex_same (b / 16) (c / 16) one.0 in
+    let low = hex_same (b % 16) (c % 16) two.0 in
+    (omega (arith, high, low), two.1)
+
+-- a form begins with no space
+no_space : (b : ℕ) (f x y : List ℕ) → HasForm b f → f ++ x ≡ 32 ∷ y → ⊥
+no_space b _ x y (itself p q) e = let h = (cons_same e).0 in omega arith
+no_space b _ x y by_number e = let h = (cons_same e).0 in omega arith
+
+-- nor is it the form of the empty name
+not_empty : (b : ℕ) (f x y : List ℕ) → HasForm b f → f ++ x ≡ 37 ∷ 32 ∷ y → ⊥
+not_empty b _ x y (itself p q) e = q (cons_same e).0
+not_empty b _ x y by_number e = let h = (cons_same (cons_same e).1).0 in let k = hex_from (b / 16) in omega arith
+
+pub same_bytes : (a b x y : List ℕ) → flat_map byte_form a ++ 32 ∷ x ≡ flat_map byte_form b ++ 32 ∷ y → (a ≡ b) × (x ≡ y)
+same_bytes [] [] x y e = (refl, (cons_same e).1)
+same_bytes [] (c ∷ b) x y e = absurd (no_space c (byte_form c) (flat_map byte_form b ++ 32 ∷ y) x (has_form c) (sym (append_assoc (byte_form c) (flat_map byte_form b) (32 ∷ y)) ∙ sym e))
+same_bytes (c ∷ a) [] x y e = absurd (no_space c (byte_form c) (flat_map byte_form a ++ 32 ∷ x) y (has_form c) (sym (append_assoc (byte_form c) (flat_map byte_form a) (32 ∷ x)) ∙ e))
+same_bytes (c ∷ a) (d ∷ b) x y e =
+    let one = same_byte c d (byte_form c) (byte_form d) (flat_map byte_form a ++ 32 ∷ x) (flat_map byte_form b ++ 32 ∷ y) (has_form c) (has_form d)
+    (sym (append_assoc (byte_form c) (flat_map byte_form a) (32 ∷ x)) ∙ e ∙ append_assoc (byte_form d) (flat_map byte_form b) (32 ∷ y)) in
+    let rest = same_bytes a b x y one.1 in
+    (ap₂ (λ p q. p ∷ q) one.0 rest.0, rest.1)
+
+-- A form and the space behind it tell the name.
+pub same_name : (a b x y : List ℕ) → name_form a ++ 32 ∷ x ≡ name_form b ++ 32 ∷ y → (a ≡ b) × (x ≡ y)
+same_name [] [] x y e = (refl, (cons_same (cons_same e).1).1)
+same_name [] (c ∷ b) x y e = absurd (not_empty c (byte_form c) (flat_map byte_form b ++ 32 ∷ y) x (has_form c) (sym (append_assoc (byte_form c) (flat_map byte_form b) (32 ∷ y)) ∙ sym e))
+same_name (c ∷ a) [] x y e = absurd (not_empty c (byte_form c) (flat_map byte_form a ++ 32 ∷ x) y (has_form c) (sym (append_assoc (byte_form c) (flat_map byte_form a) (32 ∷ x)) ∙ e))
+same_name (c ∷ a) (d ∷ b) x y e = same_bytes (c ∷ a) (d ∷ b) x y e
+
+-- the space stands behind the form
+spaced : (name t : List ℕ) → (name_form name ++ codes " ") ++ t ≡ name_form name ++ 32 ∷ t
+spaced name t = append_assoc (name_form name) (codes " ") t
+
+here_again : (name t : List ℕ) → strip (name_form name ++ codes " ") (name_form name ++ 32 ∷ t) ≡ Some t
+here_again name t = ap (strip (name_form name ++ codes " ")) (sym (spaced name t)) ∙ strip_again (name_form name ++ codes " ") t
+
+other_none : (a b t : List ℕ) (o : Option (List ℕ)) → a ≢ b → strip (name_form a ++ codes " ") (name_form b ++ 32 ∷ t) ≡ o → o ≡ None
+other_none a b t None differ e = refl
+other_none a b t (Some r) differ e = let whole : name_form a ++ 32 ∷ r ≡ name_form b ++ 32 ∷ t = sym (strip_takes (name_form a ++ codes " ") _ r e ∙ spaced a r) in
+    absurd (differ (same_name a b r t whole).0)
+
+some_same : (k j : ℕ) → Some k ≡ Some j → k ≡ j
+some_same k j e = cc
+
+-- the port with this number or a later one
+pub port_again : (k : ℕ) (ps : List External) (name t : List ℕ) (j : ℕ) → number_from k ps name ≡ Some j → port_from k ps (name_form name ++ 32 ∷ t) ≡ Some (j, t)
+unfolding port_from
+port_again k [] name t j e = absurd (none-some j e)
+port_again k (p ∷ ps) name t j e =
+    elim (chosen (bytes_eq p.name name) _ _ _ e) [
+      | inl h ↦
+          let is : p.name ≡ name = (bytes_eq-Decides p.name name).0 h.0 in
+          let num = some_same k j h.1 in
+          rw (is, here_again name t, num) refl
+      | inr h ↦
+          let differ : p.name ≢ name = λ q. let yes = (bytes_eq-Decides p.name name).1 q in cc in
+          let none = other_none p.name name t _ differ refl in
+          rw none (port_again (suc k) ps name t j h.1)
+    ]
+
+pub else_takes : {A : Type 0} (o : Option (List ℕ)) (a x : A) (other : Option (A × List ℕ)) (r : List ℕ) → with_else o a other ≡ Some (x, r)
+    → ((o ≡ Some r) × (a ≡ x)) ⊎ ((o ≡ None) × (other ≡ Some (x, r)))
+else_takes (Some t) a x other r e = let p = some_pair_parts a x t r e in inl (ap (λ s. Some s) p.1, p.0)
+else_takes None a x other r e = inr (refl, e)
+
+-- the name that stands there, and its first port
+pub port_takes : (k : ℕ) (ps : List External) (t r : List ℕ) (j : ℕ) → port_from k ps t ≡ Some (j, r) → (name : List ℕ) × (t ≡ name_form name ++ 32 ∷ r) × (number_from k ps name ≡ Some j)
+unfolding port_from
+port_takes k [] t r j e = absurd (none-some _ e)
+port_takes k (p ∷ ps) t r j e =
+    elim (else_takes (strip (name_form p.name ++ codes " ") t) k j (port_from (suc k) ps t) r e) [
+      | inl h ↦
+          let yes : bytes_eq p.name p.name ≡ true = (bytes_eq-Decides p.name p.name).1 refl in
+          (p.name, strip_takes (name_form p.name ++ codes " ") t r h.0 ∙ spaced p.name r, rw (yes, h.1) refl)
+      | inr h ↦
+          let (name, is, number) = port_takes (suc k) ps t r j h.1 in
+          let differ : p.name ≢ name = λ q. none-some r (sym h.0 ∙ ap (strip (name_form p.name ++ codes " ")) (is ∙ ap (λ n. name_form n ++ 32 ∷ r) (sym q)) ∙ here_again p.name r) in
+          let other : bytes_eq p.name name ≡ false = names_differ p.name name differ in
+          (name, is, rw other number)
+    ]
+
+-- the number of a name has that name
+number_named : (i k : ℕ) (ps : List External) (name : List ℕ) (j : ℕ) → number_from k ps name ≡ Some j → (i : ℕ) × (j ≡ k + i) × (option_map (λ p. p.name) (slice_get ps i) ≡ Some name)
+number_named i k [] name j e = absurd (none-some j e)
+number_named i k (p ∷ ps) name j e =
+    elim (chosen (bytes_eq p.name name) _ _ _ e) [
+      | inl h ↦ let num = some_same k j h.1 in (0, omega arith, ap (λ n. Some n) ((bytes_eq-Decides p.name name).0 h.0))
+      | inr h ↦ let (m, is, at) = number_named i (suc k) ps name j h.1 in (suc m, omega arith, at)
+    ]
+
+pub named : (ps : List External) (name : List ℕ) (j : ℕ) → port_number ps name ≡ Some j → port_name ps j ≡ Some name
+named ps name j e =
+    let (i, is, at) = number_named 0 1 ps name j e in
+    let same : j ≡ suc i = omega arith in
+    rw same at
+
+-- one port more
+pub port_step : (ps : List Port) (i : ℕ) (x : Port) (t : List ℕ) (o : Option (List ℕ)) → i < length ps → x ≡ get_or ps i x → strip (name_form x.name.items ++ codes " ") t ≡ o
+    → port_from (suc i) (map external (drop i ps)) t ≡ with_else o (suc i) (port_from (suc (suc i)) (map external (drop (suc i) ps)) t)
+unfolding port_from
+port_step ps i x t o h is e = rw (drop-cons ps i x h, ← is, e) refl

@@ -1,0 +1,5 @@
+pub mod Writing
+pub mod Parts
+pub mod Reading
+pub mod Texts
+pub mod Counting

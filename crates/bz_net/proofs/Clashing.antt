@@ -1,0 +1,156 @@
+-- Where requests met: what each entry adds.
+use Rattle.std.proofs.Common.{◌≡◌, ◌≢◌, ◌⊎◌, ◌↔◌, inl, inr, ℕ, zero, suc, ◌-◌, ◌<◌, ◌≤◌, Bool, true, false, Option, Some, None, List, [], ◌∷◌, ◌++◌, length, get_or, slice_index_or, set, replicate, Contains, refl, sym, ap, subst, ◌∙◌, arith}
+use Rattle.bz_model.specs.declared.channel.Phase.{Phase}
+use Rattle.bz_model.specs.declared.channel.Phase.TheVariants.{Idle}
+use Rattle.bz_model.specs.declared.event.Entry.{Entry}
+use Rattle.bz_model.specs.declared.event.Entry.TheVariants.{Fired, Host, Rested}
+use Rattle.bz_model.specs.Phases.{phase_after}
+use Rattle.bz_model.specs.Nets.{Site, Wiring, State, Step, IsPort, chan_at, passive_at, opening}
+use Rattle.bz_model.specs.Hosts.{host_after}
+use Rattle.bz_model.specs.Runs.{Follows, Run}
+use Rattle.bz_model.specs.Clashes.{phase_of, IsAsked, Clashes, ClashesIn}
+use Rattle.bz_elab.specs.Wires.{WellWired}
+use Rattle.bz_net.specs.Noted.{Notes, HoldsPassive, NotedAt}
+use Rattle.std.proofs.lemmas.Bool.{cases_eq}
+use Rattle.bz_model.specs.declared.channel.Move.{Move}
+use Rattle.bz_model.specs.declared.event.Who.{Who}
+use Rattle.bz_model.specs.declared.event.Verb.{Verb}
+use Rattle.bz_model.specs.declared.event.Reply.{Reply}
+use Rattle.bz_model.specs.Hosts.{HostStep}
+use Rattle.bz_model.specs.Runs.{Rest}
+use Rattle.bz_net.proofs.Ties.{at_other}
+
+-- the phases after an entry go by the phases before it and the entry alone
+abbrev pub after_entry : List Phase → Entry → List Phase
+after_entry phases (Fired who c p k mv value) = set phases (k - 1) (phase_after (phase_of phases k) mv value)
+after_entry phases (Host who verb port value reply) = set phases (port - 1) (host_after verb value (phase_of phases port))
+after_entry phases (Rested who) = phases
+
+pub follows_phases : (w : Wiring) (s : State) (e : Entry) (next : State) → Follows w s e next → next.phases ≡ after_entry s.phases e
+follows_phases w s (Fired who c p k mv value) next f = ap (λ (o : State). o.phases) f.next_is
+follows_phases w s (Host who verb port value reply) next f = ap (λ (o : State). o.phases) f.next_is
+follows_phases w s (Rested who) next f = ap (λ (o : State). o.phases) f.1
+
+-- requests meet by the phases alone
+same_asked : (sites : List Site) (phases phases' : List Phase) (c p : ℕ) → phase_of phases' (chan_at sites c p) ≡ phase_of phases (chan_at sites c p) → IsAsked sites phases c p → IsAsked sites phases' c p
+same_asked sites phases phases' c p e x = record { is_port = x.is_port; passive = x.passive; busy = λ f. x.busy (sym e ∙ f) }
+
+pub same_clashes : (sites : List Site) (phases phases' : List Phase) (c : ℕ) → ((p : ℕ) → IsPort sites c p → passive_at sites c p ≡ true → phase_of phases' (chan_at sites c p) ≡ phase_of phases (chan_at sites c p)) → Clashes sites phases c → Clashes sites phases' c
+same_clashes sites phases phases' c e x = record {
+  mixes = x.mixes;
+  one = x.one;
+  other = x.other;
+  apart = x.apart;
+  first = same_asked sites phases phases' c x.one (e x.one x.first.is_port x.first.passive) x.first;
+  second = same_asked sites phases phases' c x.other (e x.other x.second.is_port x.second.passive) x.second;
+}
+
+at_phases : (sites : List Site) (phases phases' : List Phase) (c : ℕ) → phases' ≡ phases → Clashes sites phases c → Clashes sites phases' c
+at_phases sites phases phases' c e x = same_clashes sites phases phases' c (λ p port passive. ap (λ f. phase_of f (chan_at sites c p)) e) x
+
+module _ (w : Wiring) (e : Entry) (c : ℕ) where
+  -- with one more entry: they met before, or meet now
+  split : (es : List Entry) (s t last next : State) → t.phases ≡ s.phases → Run w s es last → Follows w last e next → ClashesIn w t (es ++ e ∷ []) c → ClashesIn w s es c ⊎ Clashes w.sites next.phases c
+  split [] s t last next same run f (inl x) = inl (at_phases w.sites t.phases s.phases c (sym same) x)
+  split [] s t last next same run f (inr (n, g, x)) =
+      let here : last.phases ≡ s.phases = ap (λ (o : State). o.phases) run in
+      let a : next.phases ≡ n.phases = follows_phases w last e next f ∙ ap (λ ps. after_entry ps e) (here ∙ sym same) ∙ sym (follows_phases w t e n g) in
+      inr (at_phases w.sites n.phases next.phases c a x)
+  split (d ∷ es) s t last next same (m, g, run) f (inl x) = inl (inl (at_phases w.sites t.phases s.phases c (sym same) x))
+  split (d ∷ es) s t last next same (m, g, run) f (inr (n, h, x)) =
+      let a : n.phases ≡ m.phases = follows_phases w t d n h ∙ ap (λ ps. after_entry ps d) same ∙ sym (follows_phases w s d m g) in
+      elim (split es m n last next a run f x) [
+        | inl y ↦ inl (inr (m, g, y))
+        | inr y ↦ inr y
+      ]
+
+  -- where they met they have met
+  pub stays : (es : List Entry) (s : State) → ClashesIn w s es c → ClashesIn w s (es ++ e ∷ []) c
+  stays [] s x = inl x
+  stays (d ∷ es) s (inl x) = inl x
+  stays (d ∷ es) s (inr (n, g, x)) = inr (n, g, stays es n x)
+
+  pub meets_next : (es : List Entry) (s last next : State) → Run w s es last → Follows w last e next → Clashes w.sites next.phases c → ClashesIn w s (es ++ e ∷ []) c
+  meets_next [] s last next run f x = inr (next, subst (λ o. Follows w o e next) run f, x)
+  meets_next (d ∷ es) s last next (m, g, run) f x = inr (m, g, meets_next es m last next run f x)
+
+-- what meets in the last state has met
+pub meets_last : (w : Wiring) (c : ℕ) (es : List Entry) (s last : State) → Run w s es last → Clashes w.sites last.phases c → ClashesIn w s es c
+meets_last w c [] s last run x = at_phases w.sites last.phases s.phases c (sym (ap (λ (o : State). o.phases) run)) x
+meets_last w c (d ∷ es) s last (m, g, run) x = inr (m, g, meets_last w c es m last run x)
+
+-- the notes stay exact where one component is looked at and no other can be new; At tells which
+pub noted_after : (w : Wiring) (s last next : State) (es : List Entry) (e : Entry) → Run w s es last → Follows w last e next → (old new : List ℕ) (At : ℕ → Type 0) → ((c : ℕ) → Contains old c ↔ ClashesIn w s es c) → ((c : ℕ) → Contains new c ↔ (Contains old c ⊎ (At c × Clashes w.sites next.phases c))) → ((c : ℕ) → Clashes w.sites next.phases c → At c ⊎ Clashes w.sites last.phases c) → (c : ℕ) → Contains new c ↔ ClashesIn w s (es ++ e ∷ []) c
+noted_after w s last next es e run f old new At exact adds apart c = (there, back)
+  where
+    there : Contains new c → ClashesIn w s (es ++ e ∷ []) c
+    there has = elim ((adds c).0 has) [
+      | inl x ↦ stays w e c es s ((exact c).0 x)
+      | inr x ↦ meets_next w e c es s last next run f x.1
+    ]
+
+    back : ClashesIn w s (es ++ e ∷ []) c → Contains new c
+    back met = elim (split w e c es s s last next refl run f met) [
+      | inl x ↦ (adds c).1 (inl ((exact c).1 x))
+      | inr x ↦ elim (apart c x) [
+        | inl is ↦ (adds c).1 (inr (is, x))
+        | inr was ↦ (adds c).1 (inl ((exact c).1 (meets_last w c es s last run was)))
+      ]
+    ]
+
+-- a change of channel k is seen at its passive end alone
+pub end_alone : (w : Wiring) (phases : List Phase) (k : ℕ) (phase : Phase) → WellWired w → 0 < k → (c : ℕ) → Clashes w.sites (set phases (k - 1) phase) c → HoldsPassive w.sites k c ⊎ Clashes w.sites phases c
+end_alone w phases k phase wired from c x =
+    elim (cases_eq (chan_at w.sites c x.one) k) [
+      | inl on ↦ inl (x.one, record { is_port = x.first.is_port; on = on; sense = x.first.passive })
+      | inr off ↦ elim (cases_eq (chan_at w.sites c x.other) k) [
+        | inl on ↦ inl (x.other, record { is_port = x.second.is_port; on = on; sense = x.second.passive })
+        | inr off' ↦ inr (record {
+          mixes = x.mixes;
+          one = x.one;
+          other = x.other;
+          apart = x.apart;
+          first = same_asked w.sites (set phases (k - 1) phase) phases c x.one (before x.one x.first.is_port off) x.first;
+          second = same_asked w.sites (set phases (k - 1) phase) phases c x.other (before x.other x.second.is_port off') x.second;
+        })
+      ]
+    ]
+  where
+    before : (p : ℕ) → IsPort w.sites c p → chan_at w.sites c p ≢ k → phase_of phases (chan_at w.sites c p) ≡ phase_of (set phases (k - 1) phase) (chan_at w.sites c p)
+    before p port off = sym (at_other phases k (chan_at w.sites c p) phase Idle from (wired.chan_from c p port) off)
+
+-- at the opening all channels are idle
+all_idle : (n i : ℕ) → slice_index_or (replicate n Idle) i Idle ≡ Idle
+all_idle zero i = refl
+all_idle (suc n) zero = refl
+all_idle (suc n) (suc i) = all_idle n i
+
+pub none_opening : (w : Wiring) (c : ℕ) → ClashesIn w (opening w) [] c → ⊥
+none_opening w c x = x.first.busy (all_idle (length w.chans) (chan_at w.sites c x.one - 1))
+
+pub clashed_fired : (w : Wiring) (s next : State) (journal : List Entry) (who : Who) (c p k : ℕ) (mv : Move) (value : Option ℕ) → WellWired w → Run w (opening w) journal s → Step w.sites s c p k mv value next → (old new : Notes) → ((d : ℕ) → Contains old.numbers d ↔ ClashesIn w (opening w) journal d) → NotedAt w.sites next.phases old new k → (d : ℕ) → Contains new.numbers d ↔ ClashesIn w (opening w) (journal ++ Fired who c p k mv value ∷ []) d
+clashed_fired w s next journal who c p k mv value wired run step old new exact noted =
+    let from : 0 < k = subst (λ j. 0 < j) (sym step.chan_is) (wired.chan_from c p step.steps_at.is_port) in
+    let after = set s.phases (k - 1) (phase_after (phase_of s.phases k) mv value) in
+    noted_after w (opening w) s next journal (Fired who c p k mv value) run step old.numbers new.numbers (HoldsPassive w.sites k) exact noted.adds
+    (λ d x. end_alone w s.phases k (phase_after (phase_of s.phases k) mv value) wired from d (at_phases w.sites next.phases after d (sym (follows_phases w s (Fired who c p k mv value) next step)) x))
+
+pub clashed_commanded : (w : Wiring) (s next : State) (journal : List Entry) (who : Who) (verb : Verb) (port : ℕ) (value : Option ℕ) (reply : Reply) → WellWired w → Run w (opening w) journal s → HostStep w s verb port value reply next → (old new : Notes) → ((d : ℕ) → Contains old.numbers d ↔ ClashesIn w (opening w) journal d) → NotedAt w.sites next.phases old new port → (d : ℕ) → Contains new.numbers d ↔ ClashesIn w (opening w) (journal ++ Host who verb port value reply ∷ []) d
+clashed_commanded w s next journal who verb port value reply wired run step old new exact noted =
+    let after = set s.phases (port - 1) (host_after verb value (phase_of s.phases port)) in
+    noted_after w (opening w) s next journal (Host who verb port value reply) run step old.numbers new.numbers (HoldsPassive w.sites port) exact noted.adds
+    (λ d x. end_alone w s.phases port (host_after verb value (phase_of s.phases port)) wired step.port_from d (at_phases w.sites next.phases after d (sym (follows_phases w s (Host who verb port value reply) next step)) x))
+
+pub clashed_rested : (w : Wiring) (s : State) (journal : List Entry) (who : Who) → Run w (opening w) journal s → Rest w.sites s → (notes : Notes) → ((d : ℕ) → Contains notes.numbers d ↔ ClashesIn w (opening w) journal d) → (d : ℕ) → Contains notes.numbers d ↔ ClashesIn w (opening w) (journal ++ Rested who ∷ []) d
+clashed_rested w s journal who run rest notes exact =
+    noted_after w (opening w) s s journal (Rested who) run (rest, refl) notes.numbers notes.numbers (λ d. ⊥) exact (λ d. (λ has. inl has, λ x. old_alone d x)) (λ d x. inr x)
+  where
+    old_alone : (d : ℕ) → Contains notes.numbers d ⊎ (⊥ × Clashes w.sites s.phases d) → Contains notes.numbers d
+    old_alone d (inl has) = has
+    old_alone d (inr x) = absurd x.0
+
+pub clashed_opening : (w : Wiring) (numbers : List ℕ) → numbers ≡ [] → (d : ℕ) → Contains numbers d ↔ ClashesIn w (opening w) [] d
+clashed_opening w numbers e d = (λ has. absurd (nothing (subst (λ l. Contains l d) e has)), λ x. absurd (none_opening w d x))
+  where
+    nothing : Contains [] d → ⊥
+    nothing (k, lt, f) = omega arith

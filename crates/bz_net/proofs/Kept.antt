@@ -1,0 +1,85 @@
+-- What a net keeps is kept by each event.
+use Rattle.std.proofs.Common.{◌≡◌, ◌↔◌, ℕ, ◌<◌, ◌≤◌, Option, List, [], ◌∷◌, ◌++◌, length, Contains, refl, sym, ap, subst, ◌∙◌, arith, length-append}
+use Rattle.bz_model.specs.declared.channel.Move.{Move}
+use Rattle.bz_model.specs.declared.event.Entry.{Entry}
+use Rattle.bz_model.specs.declared.event.Entry.TheVariants.{Fired, Host, Rested}
+use Rattle.bz_model.specs.declared.event.Reply.{Reply}
+use Rattle.bz_model.specs.declared.event.Verb.{Verb}
+use Rattle.bz_model.specs.declared.event.Who.{Who}
+use Rattle.bz_model.specs.Nets.{Wiring, State, Step, StepsAt, opening}
+use Rattle.bz_model.specs.Hosts.{HostStep}
+use Rattle.bz_model.specs.declared.event.NetError.{NetError}
+use Rattle.bz_model.specs.declared.event.NetError.TheVariants.{UnknownPort, WrongSide, ValueMissing, ValueUnwanted, TooLarge, NotEnabled, JournalFull, Memory}
+use Rattle.bz_model.specs.Runs.{CanStep, Rest}
+use Rattle.bz_net.specs.Simulation.{Simulation}
+use Rattle.bz_net.specs.Replies.{RefusesEntry, RefusesFire, RefusesLowest}
+use Rattle.bz_elab.specs.Wires.{WellWired}
+use Rattle.bz_net.specs.Keeping.{Keeps}
+use Rattle.bz_net.specs.Noted.{Notes, NotedAt}
+use Rattle.bz_net.proofs.Clashing.{clashed_fired, clashed_commanded, clashed_rested, clashed_opening}
+use Rattle.bz_net.proofs.Soundness.{Run-push}
+
+pub keeps_opening : (w : Wiring) (s : State) (journal : List Entry) (limit : ℕ) (notes : Notes) → WellWired w → s ≡ opening w → journal ≡ [] → notes.numbers ≡ [] → notes.most ≡ length w.sites → Keeps w s journal limit notes
+keeps_opening w s journal limit notes wired opened none unnoted most = rw none (record {
+  wired = wired;
+  run = opened;
+  within = omega arith;
+  most = most;
+  clashed = clashed_opening w notes.numbers unnoted;
+})
+
+-- the same of equal nets
+pub keeps_same : (w w' : Wiring) (s s' : State) (journal journal' : List Entry) (limit : ℕ) (notes notes' : Notes) → w' ≡ w → s' ≡ s → journal' ≡ journal → notes' ≡ notes → Keeps w s journal limit notes → Keeps w' s' journal' limit notes'
+keeps_same w w' s s' journal journal' limit notes notes' e f g h keeps = rw (e, f, g, h) keeps
+
+pub keeps_fired : (w w' : Wiring) (s next : State) (journal : List Entry) (limit : ℕ) (old new : Notes) (who : Who) (c p k : ℕ) (mv : Move) (value : Option ℕ) → w' ≡ w → Keeps w s journal limit old → length journal < limit → Step w.sites s c p k mv value next → NotedAt w'.sites next.phases old new k → Keeps w' next (journal ++ Fired who c p k mv value ∷ []) limit new
+keeps_fired w w' s next journal limit old new who c p k mv value same keeps place step noted =
+    let here : NotedAt w.sites next.phases old new k = subst (λ (v : Wiring). NotedAt v.sites next.phases old new k) same noted in
+    rw same (record {
+      wired = keeps.wired;
+      run = Run-push w (opening w) journal s (Fired who c p k mv value) next keeps.run step;
+      within = simp length-append (omega arith);
+      most = here.most ∙ keeps.most;
+      clashed = clashed_fired w s next journal who c p k mv value keeps.wired keeps.run step old new keeps.clashed here;
+    })
+
+pub keeps_commanded : (w w' : Wiring) (s next : State) (journal : List Entry) (limit : ℕ) (old new : Notes) (who : Who) (verb : Verb) (port : ℕ) (value : Option ℕ) (reply : Reply) → w' ≡ w → Keeps w s journal limit old → length journal < limit → HostStep w s verb port value reply next → NotedAt w'.sites next.phases old new port → Keeps w' next (journal ++ Host who verb port value reply ∷ []) limit new
+keeps_commanded w w' s next journal limit old new who verb port value reply same keeps place step noted =
+    let here : NotedAt w.sites next.phases old new port = subst (λ (v : Wiring). NotedAt v.sites next.phases old new port) same noted in
+    rw same (record {
+      wired = keeps.wired;
+      run = Run-push w (opening w) journal s (Host who verb port value reply) next keeps.run step;
+      within = simp length-append (omega arith);
+      most = here.most ∙ keeps.most;
+      clashed = clashed_commanded w s next journal who verb port value reply keeps.wired keeps.run step old new keeps.clashed here;
+    })
+
+pub keeps_rested : (w : Wiring) (s : State) (journal : List Entry) (limit : ℕ) (notes : Notes) (who : Who) → Keeps w s journal limit notes → length journal < limit → Rest w.sites s → Keeps w s (journal ++ Rested who ∷ []) limit notes
+keeps_rested w s journal limit notes who keeps place rest = record {
+  wired = keeps.wired;
+  run = Run-push w (opening w) journal s (Rested who) s keeps.run (rest, refl);
+  within = simp length-append (omega arith);
+  most = keeps.most;
+  clashed = clashed_rested w s journal who keeps.run rest notes keeps.clashed;
+}
+
+-- a firing that is due is refused for its entry alone
+pub refuses_fire : (net : Simulation) (c p : ℕ) (e : NetError) → StepsAt net.wiring.sites net.state c p → RefusesEntry net e → RefusesFire net c p e
+refuses_fire net c p JournalFull steps r = (steps, r)
+refuses_fire net c p Memory steps r = (steps, r)
+refuses_fire net c p NotEnabled steps r = absurd r
+refuses_fire net c p UnknownPort steps r = absurd r
+refuses_fire net c p WrongSide steps r = absurd r
+refuses_fire net c p ValueMissing steps r = absurd r
+refuses_fire net c p ValueUnwanted steps r = absurd r
+refuses_fire net c p TooLarge steps r = absurd r
+
+pub refuses_lowest : (net : Simulation) (c : ℕ) (e : NetError) → CanStep net.wiring.sites net.state c → RefusesEntry net e → RefusesLowest net c e
+refuses_lowest net c JournalFull can r = (can, r)
+refuses_lowest net c Memory can r = (can, r)
+refuses_lowest net c NotEnabled can r = absurd r
+refuses_lowest net c UnknownPort can r = absurd r
+refuses_lowest net c WrongSide can r = absurd r
+refuses_lowest net c ValueMissing can r = absurd r
+refuses_lowest net c ValueUnwanted can r = absurd r
+refuses_lowest net c TooLarge can r = absurd r

@@ -1,0 +1,67 @@
+use Rattle.std.proofs.Common.{◌≡◌, ℕ, length, map, replicate, sym, ap, refl, ◌∙◌, subst, arith}
+use Rattle.std.proofs.lemmas.List.{length-map}
+use Rattle.std.proofs.lemmas.Grind.{common_steps}
+use Rattle.bz_model.specs.Nets.{Wiring, opening}
+use Rattle.bz_model.specs.declared.channel.Phase.TheVariants.{Idle}
+use Rattle.bz_elab.specs.Flats.{site_of, wiring_of}
+use Rattle.bz_net.specs.Keeping.{state_of, Started, MarksAll}
+use Rattle.bz_net.specs.Told.{AreBlank}
+use Rattle.bz_net.proofs.Cores.{core_first, sighted_first}
+use Rattle.bz_net.proofs.Opening.{marks_ready, state_opening}
+use Rattle.bz_net.proofs.core_net.Core.open.Goals as goal
+
+pub mark_all-requires-clause-sighted : goal.mark_all-requires-clause-sighted
+mark_all-requires-clause-sighted c =
+    let p = c.into_pieces-pieces.result in
+    let w : Wiring = wiring_of p.chans.items p.comps.items p.ports.items in
+    let phases = c.in-Ok.phases.items in
+    let comps = c.in_ok-comps.comps.items in
+    let heres = c.in-Ok-blank_all.heres.items in
+    let idle : phases ≡ replicate (length w.chans) Idle = grind (arith, common_steps) in
+    let count = sym (length-map p.comps.items site_of) in
+    let begun : Started w.chans w.sites comps (length p.comps.items) = rw (c.deref.ensures.value, c.deref-2.ensures.value) at c.in_ok-comps.ensures.ok in
+    let blank : AreBlank w.sites heres (length p.comps.items) = rw c.deref-3.ensures.value at c.in-Ok-blank_all.ensures in
+    let started = subst (Started w.chans w.sites comps) count begun in
+    let blanks = subst (AreBlank w.sites heres) count blank in
+    rw (c.deref-4.ensures.value, c.deref-5.ensures.value, c.deref-6.ensures.value, c.deref-7.ensures.value)
+    (sighted_first w phases comps heres c.into_pieces-pieces.ensures.wired idle started blanks)
+
+pub invariant_of-result : goal.invariant_of-result
+invariant_of-result c =
+    let p = c.into_pieces-pieces.result in
+    let w : Wiring = wiring_of p.chans.items p.comps.items p.ports.items in
+    let phases = c.in-Ok.phases.items in
+    let comps = c.in_ok-comps.comps.items in
+    let heres = c.in-Ok-blank_all.heres.items in
+    let idle : phases ≡ replicate (length w.chans) Idle = grind (arith, common_steps) in
+    let count = sym (length-map p.comps.items site_of) in
+    let begun : Started w.chans w.sites comps (length p.comps.items) = rw (c.deref.ensures.value, c.deref-2.ensures.value) at c.in_ok-comps.ensures.ok in
+    let blank : AreBlank w.sites heres (length p.comps.items) = rw c.deref-3.ensures.value at c.in-Ok-blank_all.ensures in
+    let started = subst (Started w.chans w.sites comps) count begun in
+    let blanks = subst (AreBlank w.sites heres) count blank in
+    let marks : MarksAll w.sites (state_of phases comps) c.in-Ok-mark_all.ready.row (length p.comps.items) = rw (c.deref-4.ensures.value, c.deref-5.ensures.value, c.deref-6.ensures.value) at c.in-Ok-mark_all.ensures in
+    rw c.new.ensures
+    (core_first w phases comps heres c.into_pieces-pieces.ensures.wired idle started blanks p.ends.items c.in-Ok-mark_all.ready.row c.into_pieces-pieces.ensures.ends_of
+    (marks_ready w (state_of phases comps) c.in-Ok-mark_all.ready.row (length p.comps.items) count marks))
+
+pub returns-clause-state : goal.returns-clause-state
+returns-clause-state c =
+    let p = c.into_pieces-pieces.result in
+    let w : Wiring = wiring_of p.chans.items p.comps.items p.ports.items in
+    let phases = c.in-Ok.phases.items in
+    let comps = c.in_ok-comps.comps.items in
+    let heres = c.in-Ok-blank_all.heres.items in
+    let idle : phases ≡ replicate (length w.chans) Idle = grind (arith, common_steps) in
+    let count = sym (length-map p.comps.items site_of) in
+    let begun : Started w.chans w.sites comps (length p.comps.items) = rw (c.deref.ensures.value, c.deref-2.ensures.value) at c.in_ok-comps.ensures.ok in
+    let blank : AreBlank w.sites heres (length p.comps.items) = rw c.deref-3.ensures.value at c.in-Ok-blank_all.ensures in
+    let started = subst (Started w.chans w.sites comps) count begun in
+    let blanks = subst (AreBlank w.sites heres) count blank in
+    let same : c.args.flat.wiring ≡ w = c.into_pieces-pieces.ensures.wiring in
+    ap (λ f. state_of f comps) idle ∙ state_opening w comps started ∙ ap opening (sym same)
+
+pub returns-clause-wired : goal.returns-clause-wired
+returns-clause-wired c = rw c.new.ensures c.into_pieces-pieces.ensures.wired
+
+pub returns-clause-wiring : goal.returns-clause-wiring
+returns-clause-wiring c = rw c.new.ensures (sym c.into_pieces-pieces.ensures.wiring)

@@ -1,0 +1,274 @@
+//! A net without a journal: its wiring, one state of it, and which components can move in it.
+
+ghost use Rattle.std.specs.Prelude.{◌≡◌, ◌≢◌, ◌≤◌, ◌<◌, None, Some, MatchBool, MatchOption, OnOk, IfOk, IfErr, length};
+ghost use Rattle.bz_model.specs.Hosts.{HostStep, command_refusal, refusal_at};
+ghost use Rattle.bz_model.specs.Names.{NamesDiffer, port_number};
+ghost use Rattle.bz_model.specs.Nets.{Step, StepsAt, opening, outside, phase_at};
+ghost use Rattle.bz_model.specs.Runs.{CanStep, IsLowest, IsNext, Rest};
+ghost use Rattle.bz_elab.specs.Wires.{WellWired};
+ghost use Rattle.bz_net.specs.Core.{IsSole};
+ghost use Rattle.bz_net.specs.Ends.{TellsEnds, TellsPort, IsSolePort};
+ghost use Rattle.bz_net.specs.Noted.{NotedAt};
+ghost use Rattle.bz_net.specs.Sides.{answers};
+
+use crate::here::{blank_all, command, dup_bits, lowest_port, mark_all, move_comp};
+use crate::moves::{answers, can_fire, dup_all, note_clash, port_in, refusal_of, start_all};
+use crate::noted::Noted;
+use bz_bits::PortBits;
+use bz_elab::{Ends, Flat, FlatComp, dup_comps};
+use bz_kinds::Comp;
+use bz_model::{Move, Names, NetError, Phase, Reply, Value, Verb};
+use bz_ready::ReadySet;
+use std::alloc::{AllocError, Global};
+use std::marker::Model;
+
+/// A net in a state, and which components can move.
+#[derive(Drop)]
+pub(crate) struct Core {
+    names: Names,
+    sites: Vec<FlatComp>,
+    ends: Vec<Ends>,
+    comps: Vec<Comp>,
+    heres: Vec<PortBits>,
+    phases: Vec<Phase>,
+    ready: ReadySet,
+}
+
+impl Model for Core {
+    ghost use Rattle.bz_net.specs.Core.{Standing};
+    ghost use Rattle.bz_model.specs.Codes.{term_code};
+    ghost use Rattle.std.specs.Coded.{codes};
+
+    ghost Value = { Standing };
+
+    ghost coded = { Prim.hlevel (codes, term_code) };
+
+    ghost use Rattle.std.specs.Prelude.{map};
+    ghost use Rattle.bz_elab.specs.Flats.{site_of};
+    ghost use Rattle.bz_net.specs.Keeping.{state_of};
+
+    ghost view = { λ n. record {
+      wiring = record { chans = n.names.chans; sites = map site_of n.sites.items; ports = n.names.ports };
+      state = state_of n.phases.items n.comps.items;
+    } };
+
+    ghost use Rattle.bz_net.specs.Core.{CoreSound};
+
+    ghost invariant = { λ n. CoreSound
+        (record { chans = n.names.chans; sites = map site_of n.sites.items; ports = n.names.ports })
+        n.phases.items n.comps.items n.heres.items
+        n.ends.items n.ready.row };
+}
+
+impl Core {
+    /// A flat net at its opening: all channels are idle, and each component is at its start. Where memory is refused, the
+    /// flat net is gone.
+    pub(crate) fn open(alloc: Global, flat: Flat) -> Result<Core, NetError>
+        ensures wiring { IfOk result (λ core. core.wiring ≡ flat.wiring) }
+        ensures state { IfOk result (λ core. core.state ≡ opening flat.wiring) }
+        ensures wired { IfOk result (λ core. WellWired core.wiring) }
+        ensures err { IfErr result (λ e. e ≡ NetError.Memory) }
+    {
+        let pieces = flat.into_pieces();
+        let comps = start_all(alloc, &pieces.chans, &pieces.comps)?;
+        let phases = match vec![in alloc; Phase::Idle; pieces.chans.len()] {
+            Ok(phases) => phases,
+            Err(_) => return Err(NetError::Memory),
+        };
+        let heres = match blank_all(alloc, &pieces.comps) {
+            Ok(heres) => heres,
+            Err(_) => return Err(NetError::Memory),
+        };
+        let ready = match mark_all(alloc, &pieces.comps, &comps, &phases, &heres) {
+            Ok(ready) => ready,
+            Err(_) => return Err(NetError::Memory),
+        };
+        Ok(Core {
+            names: Names::new(pieces.ports, pieces.chans),
+            sites: pieces.comps,
+            ends: pieces.ends,
+            comps,
+            heres,
+            phases,
+            ready,
+        })
+    }
+
+    /// The same net in the same state.
+    pub(crate) fn dup(&self, alloc: Global) -> Result<Core, AllocError>
+        ensures { IfOk result (λ core. core ≡ self.now) }
+    {
+        let names = self.names.dup(alloc)?;
+        let sites = dup_comps(alloc, &self.sites)?;
+        let ends = Vec::from_slice(alloc, &self.ends)?;
+        let comps = dup_all(alloc, &self.comps)?;
+        let heres = dup_bits(alloc, &self.heres)?;
+        let phases = Vec::from_slice(alloc, &self.phases)?;
+        let ready = mark_all(alloc, &self.sites, &self.comps, &self.phases, &self.heres)?;
+        Ok(Core {
+            names,
+            sites,
+            ends,
+            comps,
+            heres,
+            phases,
+            ready,
+        })
+    }
+
+    /// How many components there are.
+    pub(crate) fn comp_count(&self) -> usize
+        ensures { result ≡ length self.now.wiring.sites }
+    {
+        self.sites.len()
+    }
+
+    /// The external ports and the channels.
+    pub(crate) fn names(&self) -> &Names
+        ensures value { result.now ≡ outside self.now.wiring }
+        ensures differ { NamesDiffer self.now.wiring.ports }
+    {
+        &self.names
+    }
+
+    /// The number of the external port of this name, or the first reason to refuse a host command there.
+    pub(crate) fn port_of(
+        &self,
+        verb: Verb,
+        name: &[u8],
+        value: Option<Value>,
+    ) -> Result<u32, NetError>
+        ensures port { IfOk result (λ port. port_number self.now.wiring.ports name.now ≡ Some port) }
+        ensures let_in { IfOk result (λ port. refusal_at self.now.wiring verb port value ≡ None) }
+        ensures agreed { OnOk result (command_refusal self.now.wiring verb name.now value ≡ None) }
+        ensures cause { IfErr result (λ e. command_refusal self.now.wiring verb name.now value ≡ Some e) }
+    {
+        let Some(port) = self.names.port(name) else {
+            return Err(NetError::UnknownPort);
+        };
+        match refusal_of(&self.names, verb, port, value) {
+            Some(e) => Err(e),
+            None => Ok(port),
+        }
+    }
+
+    /// The phase of a channel, `Idle` where there is no such channel.
+    pub(crate) fn phase(&self, chan: u32) -> Phase
+        ensures phase { result ≡ phase_at self.now.state chan }
+        ensures kept { result ≢ Phase.Broken }
+    {
+        match self.phases.get((chan as usize).saturating_sub(1)) {
+            Some(phase) => *phase,
+            None => Phase::Idle,
+        }
+    }
+
+    /// The components at the active and at the passive end of a channel, `None` where there is none.
+    pub(crate) fn ends(&self, chan: u32) -> [Option<u32>; 2]
+        requires from { 0 < chan }
+        requires to { chan ≤ length self.now.wiring.chans }
+        ensures { TellsEnds self.now.wiring.sites chan result }
+    {
+        let pair = self.ends[chan as usize - 1];
+        [pair.active, pair.passive]
+    }
+
+    /// The port at which a component makes this move on a channel, if it holds that end.
+    pub(crate) fn port_at(&self, comp: u32, chan: u32, mv: Move) -> Option<u32>
+        ensures end { TellsPort self.now.wiring.sites chan (answers mv) comp result }
+        ensures sole { IsSolePort self.now.wiring.sites self.now.state comp chan mv result }
+    {
+        port_in(&self.ends, chan, answers(mv), comp)
+    }
+
+    /// Whether a component can move.
+    pub(crate) fn is_ready(&self, comp: u32) -> bool
+        ensures { MatchBool result (CanStep self.now.wiring.sites self.now.state comp)
+            (CanStep self.now.wiring.sites self.now.state comp → ⊥) }
+    {
+        if comp as usize > self.sites.len() {
+            return false;
+        }
+        self.ready.contains(comp)
+    }
+
+    /// Whether a component can move at a port.
+    pub(crate) fn can_fire(&self, comp: u32, port: u32) -> bool
+        ensures { MatchBool result (StepsAt self.now.wiring.sites self.now.state comp port)
+            (StepsAt self.now.wiring.sites self.now.state comp port → ⊥) }
+    {
+        can_fire(&self.sites, &self.comps, &self.phases, comp, port)
+    }
+
+    /// The component that is next to fire, from a number on.
+    pub(crate) fn next_ready(&self, from: u32) -> Option<u32>
+        ensures { MatchOption result (Rest self.now.wiring.sites self.now.state)
+            (IsNext (CanStep self.now.wiring.sites self.now.state) from) }
+    {
+        self.ready.next_from(from)
+    }
+
+    /// The lowest port at which a component can move.
+    pub(crate) fn lowest(&self, comp: u32) -> Option<u32>
+        requires from { 0 < comp }
+        requires to { comp ≤ length self.now.wiring.sites }
+        ensures { MatchOption result (CanStep self.now.wiring.sites self.now.state comp → ⊥)
+            (IsLowest self.now.wiring.sites self.now.state comp) }
+    {
+        lowest_port(&self.sites, &self.phases, &self.comps, &self.heres, comp)
+    }
+
+    /// Moves a component at a port: the channel, the move and its value.
+    pub(crate) fn fire(&mut self, comp: u32, port: u32) -> (u32, Move, Option<Value>)
+        requires { StepsAt self.old.wiring.sites self.old.state comp port }
+        ensures wiring { self.new.wiring ≡ self.old.wiring }
+        ensures step { Step self.old.wiring.sites self.old.state comp port result.0 result.1 result.2 self.new.state }
+        ensures sole { IsSole self.old self.new comp port result.0 result.1 result.2 }
+        ensures from { 0 < result.0 }
+        ensures to { result.0 ≤ length self.old.wiring.chans }
+    {
+        move_comp(
+            &self.sites,
+            &self.ends,
+            &mut self.comps,
+            &mut self.heres,
+            &mut self.phases,
+            &mut self.ready,
+            comp,
+            port,
+        )
+    }
+
+    /// Makes a host command that is not refused at an external port.
+    pub(crate) fn command(&mut self, verb: Verb, port: u32, value: Option<Value>) -> Reply
+        requires from { 0 < port }
+        requires to { port ≤ length self.old.wiring.ports }
+        requires agreed { refusal_at self.old.wiring verb port value ≡ None }
+        ensures wiring { self.new.wiring ≡ self.old.wiring }
+        ensures step { HostStep self.old.wiring self.old.state verb port value result self.new.state }
+        ensures within { port ≤ length self.old.wiring.chans }
+    {
+        command(
+            &self.sites,
+            &self.ends,
+            &self.comps,
+            &mut self.heres,
+            &mut self.phases,
+            &mut self.ready,
+            verb,
+            port,
+            value,
+        )
+    }
+
+    /// Notes the component at the passive end of a channel, where requests meet there.
+    pub(crate) fn note_clash(&self, chan: u32, noted: &mut Noted)
+        requires from { 0 < chan }
+        requires to { chan ≤ length self.now.wiring.chans }
+        requires most { noted.old.most ≡ length self.now.wiring.sites }
+        ensures { NotedAt self.now.wiring.sites self.now.state.phases noted.old noted.new chan }
+    {
+        let pair = self.ends[chan as usize - 1];
+        note_clash(&self.sites, &self.phases, noted, pair.passive);
+    }
+}

@@ -1,0 +1,263 @@
+//! What each component is told of its channels, the lowest port at which it can move by that, and its moves.
+
+ghost use Rattle.std.specs.Prelude.{◌≡◌, ◌≤◌, ◌<◌, ◌*◌, ◌^◌, ℕ, suc, length, map, MatchOption, IfSome, IfOk};
+ghost use Rattle.bz_model.specs.Nets.{StepsAt};
+ghost use Rattle.bz_elab.specs.Wires.{StandsIn, ends_in};
+ghost use Rattle.bz_elab.specs.Flats.{site_of};
+ghost use Rattle.bz_kinds.specs.Ready.{CanGo};
+ghost use Rattle.bz_model.specs.Runs.{CanStep, IsLowest};
+ghost use Rattle.bz_net.specs.Keeping.{state_of, Placed, Refreshed, RefreshedEnds, MarksAll, CommandedAt, phase_in};
+ghost use Rattle.bz_model.specs.Hosts.{host_after};
+ghost use Rattle.bz_net.specs.Told.{is_here, flag_of, NoneGoes, GoesFirst, IsTurning, Sighted, AreEnds, AllAreEnds, AreBlank, HasBit, PutEnd, Retold, Turned, StaysSighted, HostSighted};
+
+use crate::moves::reply_to;
+use bz_bits::PortBits;
+use bz_elab::{Ends, FlatComp};
+use bz_kinds::{Comp, ready_word};
+use bz_model::{Move, Phase, Reply, Value, Verb};
+use bz_ready::ReadySet;
+use std::alloc::{AllocError, Global};
+
+/// Whether what a passive port waits for, or an active one, is on a channel in this phase.
+pub(crate) fn is_here(phase: Phase, passive: bool) -> bool
+    ensures { result ≡ is_here phase passive }
+{
+    match phase {
+        Phase::Asked(_) => passive,
+        Phase::Replied(_) => !passive,
+        _ => false,
+    }
+}
+
+/// The lowest port at which a component can move by what it is told.
+pub(crate) fn lowest_of(comp: &Comp, here: &PortBits) -> Option<u32>
+    requires room { length comp.now.chans < 64 * length here.now }
+    requires few { length here.now ≤ 2 ^ 26 }
+    ensures lowest { MatchOption result (NoneGoes comp.now here.now) (GoesFirst comp.now here.now) }
+    ensures turning { IsTurning comp.now }
+{
+    let word = ready_word(comp, 0, here.word(0));
+    if word != 0 {
+        return Some(word.trailing_zeros());
+    }
+    lowest_far(comp, here)
+}
+
+// The same of the ports from 64 on, where there is none before.
+fn lowest_far(comp: &Comp, here: &PortBits) -> Option<u32>
+    requires room { length comp.now.chans < 64 * length here.now }
+    requires few { length here.now ≤ 2 ^ 26 }
+    requires near { (p : ℕ) → p < 64 → CanGo comp.now.proc p (flag_of here.now p) → ⊥ }
+    ensures { MatchOption result (NoneGoes comp.now here.now) (GoesFirst comp.now here.now) }
+{
+    for at in 1..here.word_count() as u32 {
+        let word = ready_word(comp, at, here.word(at as usize));
+        if word != 0 {
+            return Some(64 * at + word.trailing_zeros());
+        }
+    }
+    None
+}
+
+/// The lowest port at which a component has a step.
+pub(crate) fn lowest_port(
+    sites: &[FlatComp],
+    phases: &[Phase],
+    comps: &[Comp],
+    heres: &[PortBits],
+    comp: u32,
+) -> Option<u32>
+    requires sighted { Sighted (map site_of sites.now) phases.now comps.now heres.now }
+    requires from { 0 < comp }
+    requires to { comp ≤ length sites.now }
+    ensures { MatchOption result
+        (CanStep (map site_of sites.now) (state_of phases.now comps.now) comp → ⊥)
+        (IsLowest (map site_of sites.now) (state_of phases.now comps.now) comp) }
+{
+    lowest_of(&comps[comp as usize - 1], &heres[comp as usize - 1])
+}
+
+/// Tells the ports at both ends of a channel of its phase.
+pub(crate) fn retell(
+    sites: &[FlatComp],
+    heres: &mut [PortBits],
+    chan: u32,
+    ends: Ends,
+    phase: Phase,
+)
+    requires ends { AreEnds (map site_of sites.now) chan ends }
+    requires active { HasBit heres.old ends.active ends.active_port }
+    requires passive { HasBit heres.old ends.passive ends.passive_port }
+    ensures { Retold (map site_of sites.now) heres.old heres.new chan phase }
+{
+    tell_end(heres, ends.active, ends.active_port, is_here(phase, false));
+    tell_end(heres, ends.passive, ends.passive_port, is_here(phase, true));
+}
+
+fn tell_end(heres: &mut [PortBits], end: Option<u32>, port: u32, bit: bool)
+    requires { HasBit heres.old end port }
+    ensures { PutEnd heres.old heres.new end port bit }
+{
+    if let Some(comp) = end {
+        heres[comp as usize - 1].put(port as usize, bit);
+    }
+}
+
+/// Looks again whether one component can move.
+fn refresh(
+    sites: &[FlatComp],
+    comps: &[Comp],
+    phases: &[Phase],
+    heres: &[PortBits],
+    ready: &mut ReadySet,
+    comp: u32,
+)
+    requires sighted { Sighted (map site_of sites.now) phases.now comps.now heres.now }
+    requires from { 0 < comp }
+    requires to { comp ≤ length sites.now }
+    requires row { length ready.old.row ≡ suc (length sites.now) }
+    ensures { Refreshed (map site_of sites.now) (state_of phases.now comps.now) ready.old.row ready.new.row comp }
+{
+    match lowest_port(sites, phases, comps, heres, comp) {
+        Some(_) => ready.insert(comp),
+        None => ready.remove(comp),
+    }
+}
+
+/// Looks again whether the components at both ends of a channel can move.
+fn refresh_ends(
+    sites: &[FlatComp],
+    comps: &[Comp],
+    phases: &[Phase],
+    heres: &[PortBits],
+    ready: &mut ReadySet,
+    ends: Ends,
+)
+    requires sighted { Sighted (map site_of sites.now) phases.now comps.now heres.now }
+    requires row { length ready.old.row ≡ suc (length sites.now) }
+    requires active { IfSome ends.active (λ c. (0 < c) × (c ≤ length sites.now)) }
+    requires passive { IfSome ends.passive (λ c. (0 < c) × (c ≤ length sites.now)) }
+    ensures { RefreshedEnds (map site_of sites.now) (state_of phases.now comps.now) ready.old.row ready.new.row ends }
+{
+    if let Some(comp) = ends.active {
+        refresh(sites, comps, phases, heres, ready, comp);
+    }
+    if let Some(comp) = ends.passive {
+        refresh(sites, comps, phases, heres, ready, comp);
+    }
+}
+
+/// The components that can move.
+pub(crate) fn mark_all(
+    alloc: Global,
+    sites: &[FlatComp],
+    comps: &[Comp],
+    phases: &[Phase],
+    heres: &[PortBits],
+) -> Result<ReadySet, AllocError>
+    requires sighted { Sighted (map site_of sites.now) phases.now comps.now heres.now }
+    requires few { length sites.now ≤ 1000000 }
+    ensures { IfOk result (λ ready. MarksAll (map site_of sites.now) (state_of phases.now comps.now) ready.row (length sites.now)) }
+{
+    let count = sites.len() as u32;
+    let mut ready = ReadySet::new(alloc, count)?;
+    for place in 0..count {
+        refresh(sites, comps, phases, heres, &mut ready, place + 1);
+    }
+    Ok(ready)
+}
+
+/// Moves a component at a port, tells both ends of the channel, and looks again whether the components there can move.
+/// Answers the channel, the move and its value.
+pub(crate) fn move_comp(
+    sites: &[FlatComp],
+    ends: &[Ends],
+    comps: &mut [Comp],
+    heres: &mut [PortBits],
+    phases: &mut [Phase],
+    ready: &mut ReadySet,
+    comp: u32,
+    port: u32,
+) -> (u32, Move, Option<Value>)
+    requires placed { Placed (map site_of sites.now) phases.old comps.old }
+    requires sighted { Sighted (map site_of sites.now) phases.old comps.old heres.old }
+    requires stays { StaysSighted (map site_of sites.now) phases.old comps.old heres.old comp port }
+    requires steps { StepsAt (map site_of sites.now) (state_of phases.old comps.old) comp port }
+    requires row { length ready.old.row ≡ suc (length sites.now) }
+    requires ends_len { length ends.now ≡ length phases.old }
+    requires stands { StandsIn (map site_of sites.now) ends.now }
+    requires are_ends { AllAreEnds (map site_of sites.now) ends.now }
+    ensures told { Turned (map site_of sites.now)
+        phases.old comps.old heres.old phases.new comps.new heres.new comp port result.0 result.1 result.2 }
+    ensures refreshed { RefreshedEnds (map site_of sites.now) (state_of phases.new comps.new)
+        ready.old.row ready.new.row (ends_in ends.now result.0) }
+{
+    let chan = sites[comp as usize - 1].chans[port as usize - 1];
+    let phase = phases[chan as usize - 1];
+    let (mv, value) = bz_kinds::apply(&mut comps[comp as usize - 1], port, phase);
+    let next = phase.after(mv, value);
+    phases[chan as usize - 1] = next;
+    let pair = ends[chan as usize - 1];
+    retell(sites, heres, chan, pair, next);
+    refresh_ends(sites, comps, phases, heres, ready, pair);
+    (chan, mv, value)
+}
+
+/// Makes a host command at an external port, tells both ends of its channel, and looks again whether the components there
+/// can move.
+pub(crate) fn command(
+    sites: &[FlatComp],
+    ends: &[Ends],
+    comps: &[Comp],
+    heres: &mut [PortBits],
+    phases: &mut [Phase],
+    ready: &mut ReadySet,
+    verb: Verb,
+    port: u32,
+    value: Option<Value>,
+) -> Reply
+    requires sighted { Sighted (map site_of sites.now) phases.old comps.now heres.old }
+    requires stays { HostSighted (map site_of sites.now) phases.old comps.now heres.old port (host_after verb value (phase_in phases.old port)) }
+    requires from { 0 < port }
+    requires to { port ≤ length phases.old }
+    requires row { length ready.old.row ≡ suc (length sites.now) }
+    requires ends_len { length ends.now ≡ length phases.old }
+    requires stands { StandsIn (map site_of sites.now) ends.now }
+    requires are_ends { AllAreEnds (map site_of sites.now) ends.now }
+    ensures commanded { CommandedAt (map site_of sites.now) ends.now
+        comps.now phases.old phases.new
+        ready.old.row ready.new.row verb port value result }
+    ensures told { Retold (map site_of sites.now) heres.old heres.new port (host_after verb value (phase_in phases.old port)) }
+{
+    let place = port as usize - 1;
+    let (reply, after) = reply_to(verb, value, phases[place]);
+    phases[place] = after;
+    let pair = ends[place];
+    retell(sites, heres, port, pair, after);
+    refresh_ends(sites, comps, phases, heres, ready, pair);
+    reply
+}
+
+/// A bit for each port of each component, all 0.
+pub(crate) fn blank_all(alloc: Global, sites: &[FlatComp]) -> Result<Vec<PortBits>, AllocError>
+    ensures { IfOk result (λ heres. AreBlank (map site_of sites.now) heres.items (length sites.now)) }
+{
+    let mut heres = Vec::with_capacity(alloc, sites.len())?;
+    for site in sites {
+        let here = PortBits::new(alloc, site.chans.len() + 1)?;
+        heres.push(here)?;
+    }
+    Ok(heres)
+}
+
+/// The same bits.
+pub(crate) fn dup_bits(alloc: Global, heres: &[PortBits]) -> Result<Vec<PortBits>, AllocError>
+    ensures { IfOk result (λ same. same.items ≡ heres.now) }
+{
+    let mut same = Vec::with_capacity(alloc, heres.len())?;
+    for here in heres {
+        let copy = here.dup(alloc)?;
+        same.push(copy)?;
+    }
+    Ok(same)
+}

@@ -1,0 +1,89 @@
+//! Calls of a net by host 1 and worker 1. They promise nothing, so that a test of many calls is proved without all that each of
+//! them promises.
+
+use bz_model::{Entry, Move, NetError, Reply, Value, Who};
+use bz_net::{Answer, Event, Net, RestReply, RunEnd};
+use std::alloc::Global;
+
+const HOST: Who = Who::Host(1);
+
+const WORKER: Who = Who::Worker(1);
+
+pub fn offer(net: &mut Net, port: &[u8], value: Option<Value>) -> Result<Reply, NetError> {
+    net.offer(HOST, port, value)
+}
+
+pub fn collect(net: &mut Net, port: &[u8]) -> Result<Reply, NetError> {
+    net.collect(HOST, port)
+}
+
+pub fn accept(net: &mut Net, port: &[u8]) -> Result<Reply, NetError> {
+    net.accept(HOST, port)
+}
+
+pub fn answer(net: &mut Net, port: &[u8], value: Option<Value>) -> Result<Reply, NetError> {
+    net.answer(HOST, port, value)
+}
+
+pub fn watch(net: &mut Net, port: &[u8]) -> Result<Reply, NetError> {
+    net.watch(HOST, port)
+}
+
+pub fn fire_move(net: &mut Net, comp: u32, port: u32) -> Result<Entry, NetError> {
+    net.fire_move(WORKER, comp, port)
+}
+
+pub fn fire(net: &mut Net, comp: u32) -> Result<Entry, NetError> {
+    net.fire(WORKER, comp)
+}
+
+pub fn step(net: &mut Net, from: u32) -> Result<Entry, NetError> {
+    net.step(WORKER, from)
+}
+
+pub fn rest(net: &mut Net) -> Result<RestReply, NetError> {
+    net.rest(WORKER)
+}
+
+pub fn run(net: &mut Net, from: u32, fuel: u64) -> RunEnd {
+    net.run(WORKER, from, fuel)
+}
+
+/// An event that host 1 makes.
+pub fn serve_host(net: &mut Net, event: Event<'_>) -> Result<Answer, NetError> {
+    net.serve(HOST, event)
+}
+
+/// An event that worker 1 makes.
+pub fn serve_worker(net: &mut Net, event: Event<'_>) -> Result<Answer, NetError> {
+    net.serve(WORKER, event)
+}
+
+pub fn reserve(net: &mut Net, count: usize) -> Result<(), NetError> {
+    net.reserve(count)
+}
+
+pub fn dup(net: &Net, alloc: Global) -> Result<Net, NetError> {
+    net.dup(alloc)
+}
+
+pub fn is_ready(net: &Net, comp: u32) -> bool {
+    net.is_ready(comp)
+}
+
+pub fn next_ready(net: &Net, from: u32) -> Option<u32> {
+    net.next_ready(from)
+}
+
+pub fn port_at(net: &Net, comp: u32, chan: u32, mv: Move) -> Option<u32> {
+    net.port_at(comp, chan, mv)
+}
+
+/// How many entries the journal has.
+pub fn journal_len(net: &Net) -> usize {
+    net.journal().len()
+}
+
+pub fn has_same_journal(net: &Net, other: &Net) -> bool {
+    net.journal() == other.journal()
+}

@@ -1,0 +1,295 @@
+//! The pool: a net, its sessions and its workers, from start to end.
+
+ghost use Rattle.std.specs.Prelude.{◌≡◌, ◌+◌, ◌≤◌, ◌<◌, [], length, map, vec_len, IfOk};
+ghost use Rattle.std.specs.List.{All};
+ghost use Rattle.std.specs.Vec.{vec_capacity};
+ghost use Rattle.bz_locked.specs.Closing.{Gathers, Agrees};
+ghost use Rattle.bz_pool.specs.Pooled.{IsPooled, hosts, hands};
+
+use crate::crew::{SeatOf, join_sessions, join_workers, start_session, start_worker};
+use crate::raids::{all_raids, decks};
+use crate::work::{Gate, Job};
+use bz_locked::{CloseError, Closed, NetLedger, Session, SharedNet, Worker};
+use bz_model::HostCmd;
+use bz_net::Net;
+use bz_session::End;
+use std::alloc::{AllocError, Global};
+use std::marker::Brand;
+use std::sync::Wait;
+use std::sync::ledger::{Blank, Ledger};
+use std::thread;
+use std::thread::{PromisedHandle, Scope, Threads};
+use thiserror::Error;
+
+/// Why a pool gave no net back.
+#[derive(Clone, Copy, Debug, PartialEq, Eq, Error)]
+pub enum PoolError {
+    #[error("{0}")]
+    Close(CloseError),
+    #[error("F3 Memory")]
+    Memory,
+    #[error("P3 NoThread")]
+    NoThread,
+}
+
+// What the threads give back.
+#[derive(Drop)]
+struct Crew<L: NetLedger> {
+    sessions: Vec<Session>,
+    workers: Vec<Worker<L>>,
+    ends: Vec<End>,
+}
+
+// Each worker with its deque and its raids.
+fn jobs<L: NetLedger>(
+    alloc: Global,
+    shared: &SharedNet<L>,
+    workers: Vec<Worker<L>>,
+) -> Result<Vec<Job<L>>, AllocError>
+    requires { All (λ w. w.seat.table ≡ shared.now.table) workers.items }
+    ensures jobs { IfOk result (λ v. (vec_len v ≡ vec_len workers) × All (λ j. j.worker.seat.table ≡ shared.now.table) v.items) }
+    ensures who { IfOk result (λ v. map (λ j. j.worker.who) v.items ≡ map (λ w. w.who) workers.items) }
+{
+    let decks = decks(alloc, workers.len())?;
+    let mut raids = all_raids(alloc, &decks)?.into_iter();
+    let mut decks = decks.into_iter();
+    let mut jobs = Vec::new(alloc);
+    for worker in workers {
+        let (Some(deck), Some(raids)) = (decks.next(), raids.next()) else {
+            return Err(AllocError);
+        };
+        jobs.push(Job {
+            worker,
+            owner: deck.into_owner(),
+            raids,
+        })?;
+    }
+    Ok(jobs)
+}
+
+// Starts the sessions' threads, or hands back what could be started.
+fn start_sessions<'s, E, L: NetLedger + Send + Sync, R: Wait + Sync>(
+    scope: &Scope<'s, E>,
+    rt: &'s R,
+    alloc: Global,
+    shared: &'s SharedNet<L>,
+    sessions: Vec<Session>,
+    lists: Vec<Vec<HostCmd>>,
+) -> Result<Vec<PromisedHandle<(Session, End), SeatOf<L>>>, PoolError>
+    requires { All (λ s. s.seat.table ≡ shared.now.table) sessions.items }
+    ensures running { IfOk result (λ v. (vec_len v ≡ vec_len sessions) × All (λ h. h.promise.0.value ≡ shared.now) v.items) }
+    ensures who { IfOk result (λ v. map (λ h. h.promise.1) v.items ≡ map (λ s. s.who) sessions.items) }
+{
+    let mut lists = lists.into_iter();
+    let Ok(mut running) = Vec::with_capacity(alloc, sessions.len()) else {
+        return Err(PoolError::Memory);
+    };
+    for session in sessions {
+        let list = match lists.next() {
+            Some(list) => list,
+            None => Vec::new(alloc),
+        };
+        let Some(handle) = start_session(scope, rt, shared, session, list) else {
+            return Err(PoolError::NoThread);
+        };
+        running.push_reserved(handle);
+    }
+    Ok(running)
+}
+
+// The same of the workers' threads.
+fn start_workers<'s, E, L: NetLedger + Send + Sync, G: Gate + Sync, R: Wait + Sync>(
+    scope: &Scope<'s, E>,
+    rt: &'s R,
+    alloc: Global,
+    shared: &'s SharedNet<L>,
+    gate: &'s G,
+    jobs: Vec<Job<L>>,
+) -> Result<Vec<PromisedHandle<(Worker<L>, End), SeatOf<L>>>, PoolError>
+    requires { All (λ j. j.worker.seat.table ≡ shared.now.table) jobs.items }
+    ensures running { IfOk result (λ v. (vec_len v ≡ vec_len jobs) × All (λ h. h.promise.0.value ≡ shared.now) v.items) }
+    ensures who { IfOk result (λ v. map (λ h. h.promise.1) v.items ≡ map (λ j. j.worker.who) jobs.items) }
+{
+    let Ok(mut running) = Vec::with_capacity(alloc, jobs.len()) else {
+        return Err(PoolError::Memory);
+    };
+    for job in jobs {
+        let Some(handle) = start_worker(scope, rt, shared, gate, job) else {
+            return Err(PoolError::NoThread);
+        };
+        running.push_reserved(handle);
+    }
+    Ok(running)
+}
+
+// Starts both. Where one thread can't be started, those that run are stopped.
+fn start_all<'s, E, L: NetLedger + Send + Sync, G: Gate + Sync, R: Wait + Sync>(
+    scope: &Scope<'s, E>,
+    rt: &'s R,
+    alloc: Global,
+    shared: &'s SharedNet<L>,
+    gate: &'s G,
+    sessions: Vec<Session>,
+    lists: Vec<Vec<HostCmd>>,
+    jobs: Vec<Job<L>>,
+) -> Result<
+    (
+        Vec<PromisedHandle<(Session, End), SeatOf<L>>>,
+        Vec<PromisedHandle<(Worker<L>, End), SeatOf<L>>>,
+    ),
+    PoolError,
+>
+    requires sessions { All (λ s. s.seat.table ≡ shared.now.table) sessions.items }
+    requires jobs { All (λ j. j.worker.seat.table ≡ shared.now.table) jobs.items }
+    ensures sessions { IfOk result (λ r. (vec_len r.0 ≡ vec_len sessions) × All (λ h. h.promise.0.value ≡ shared.now) r.0.items) }
+    ensures workers { IfOk result (λ r. (vec_len r.1 ≡ vec_len jobs) × All (λ h. h.promise.0.value ≡ shared.now) r.1.items) }
+    ensures who { IfOk result (λ r. (map (λ h. h.promise.1) r.0.items ≡ map (λ s. s.who) sessions.items) × (map (λ h. h.promise.1) r.1.items ≡ map (λ j. j.worker.who) jobs.items)) }
+{
+    let hosts = match start_sessions(scope, rt, alloc, shared, sessions, lists) {
+        Ok(hosts) => hosts,
+        Err(error) => {
+            shared.stop(rt);
+            return Err(error);
+        }
+    };
+    match start_workers(scope, rt, alloc, shared, gate, jobs) {
+        Ok(hands) => Ok((hosts, hands)),
+        Err(error) => {
+            shared.stop(rt);
+            Err(error)
+        }
+    }
+}
+
+// Runs all sessions and workers to their end.
+fn run_threads<'s, E, L: NetLedger + Send + Sync, G: Gate + Sync, R: Threads + Wait + Sync>(
+    scope: &Scope<'s, E>,
+    rt: &'s R,
+    alloc: Global,
+    shared: &'s SharedNet<L>,
+    gate: &'s G,
+    sessions: Vec<Session>,
+    lists: Vec<Vec<HostCmd>>,
+    workers: Vec<Worker<L>>,
+) -> Result<Crew<L>, PoolError>
+    requires sessions { All (λ s. s.seat.table ≡ shared.now.table) sessions.items }
+    requires workers { All (λ w. w.seat.table ≡ shared.now.table) workers.items }
+    ensures sessions { IfOk result (λ c. (vec_len c.sessions ≡ vec_len sessions) × All (λ s. s.seat.table ≡ shared.now.table) c.sessions.items) }
+    ensures workers { IfOk result (λ c. (vec_len c.workers ≡ vec_len workers) × All (λ w. w.seat.table ≡ shared.now.table) c.workers.items) }
+    ensures ends { IfOk result (λ c. vec_len c.ends ≡ vec_len sessions + vec_len workers) }
+    ensures who { IfOk result (λ c. (map (λ s. s.who) c.sessions.items ≡ map (λ s. s.who) sessions.items) × (map (λ w. w.who) c.workers.items ≡ map (λ w. w.who) workers.items)) }
+{
+    let Ok(mut back) = Vec::with_capacity(alloc, sessions.len()) else {
+        return Err(PoolError::Memory);
+    };
+    let Ok(mut crew) = Vec::with_capacity(alloc, workers.len()) else {
+        return Err(PoolError::Memory);
+    };
+    let Ok(mut ends) = Vec::with_capacity(alloc, sessions.len() + workers.len()) else {
+        return Err(PoolError::Memory);
+    };
+    let Ok(jobs) = jobs(alloc, shared, workers) else {
+        return Err(PoolError::Memory);
+    };
+    let (hosts, hands) = start_all(scope, rt, alloc, shared, gate, sessions, lists, jobs)?;
+    join_sessions(rt, shared, hosts, &mut back, &mut ends);
+    join_workers(rt, shared, hands, &mut crew, &mut ends);
+    Ok(Crew {
+        sessions: back,
+        workers: crew,
+        ends,
+    })
+}
+
+// All threads, in one scope.
+fn in_scope<'x, L: NetLedger + Send + Sync, G: Gate + Sync, R: Threads + Wait + Sync>(
+    rt: &'x R,
+    alloc: Global,
+    shared: &'x SharedNet<L>,
+    gate: &'x G,
+    sessions: Vec<Session>,
+    lists: Vec<Vec<HostCmd>>,
+    workers: Vec<Worker<L>>,
+) -> Result<Crew<L>, PoolError>
+    requires sessions { All (λ s. s.seat.table ≡ shared.now.table) sessions.items }
+    requires workers { All (λ w. w.seat.table ≡ shared.now.table) workers.items }
+    ensures sessions { IfOk result (λ c. (vec_len c.sessions ≡ vec_len sessions) × All (λ s. s.seat.table ≡ shared.now.table) c.sessions.items) }
+    ensures workers { IfOk result (λ c. (vec_len c.workers ≡ vec_len workers) × All (λ w. w.seat.table ≡ shared.now.table) c.workers.items) }
+    ensures ends { IfOk result (λ c. vec_len c.ends ≡ vec_len sessions + vec_len workers) }
+    ensures who { IfOk result (λ c. (map (λ s. s.who) c.sessions.items ≡ map (λ s. s.who) sessions.items) × (map (λ w. w.who) c.workers.items ≡ map (λ w. w.who) workers.items)) }
+{
+    thread::scope(
+        thread::scope_env(),
+        rt,
+        |scope| -> Result<Crew<L>, PoolError>
+            requires { All (λ s. s.seat.table ≡ shared.now.table) sessions.items × All (λ w. w.seat.table ≡ shared.now.table) workers.items }
+            ensures { IfOk result (λ c. (vec_len c.sessions ≡ vec_len sessions) × All (λ s. s.seat.table ≡ shared.entry.now.table) c.sessions.items × (vec_len c.workers ≡ vec_len workers) × All (λ w. w.seat.table ≡ shared.entry.now.table) c.workers.items
+                × (map (λ s. s.who) c.sessions.items ≡ map (λ s. s.who) sessions.items) × (map (λ w. w.who) c.workers.items ≡ map (λ w. w.who) workers.items)
+                × (vec_len c.ends ≡ vec_len sessions + vec_len workers)) }
+        { run_threads(scope, rt, alloc, shared, gate, sessions, lists, workers) },
+    )
+}
+
+// The same for any ledger with a part for each worker.
+fn pool<L: NetLedger + Send + Sync, G: Gate + Sync, R: Threads + Wait + Sync>(
+    rt: &R,
+    alloc: Global,
+    blank: Blank,
+    net: Net,
+    workers: u8,
+    fuel: u64,
+    gate: &G,
+    lists: Vec<Vec<HostCmd>>,
+) -> Result<(Closed, Vec<End>), PoolError>
+    requires ledger { (blank.name ≡ L.name) × (blank.parts ≡ L.parts) × (L.parts ≡ workers) }
+    requires counts { (1 ≤ vec_len lists) × (vec_len lists ≤ 16) × (1 ≤ workers) × (workers ≤ 8) }
+    requires opening { (net.wiring ≡ L.wiring) × (fuel ≡ L.fuel) }
+    requires unused { net.journal ≡ [] }
+    ensures pooled { IfOk result (λ r. IsPooled net.wiring fuel (vec_len lists) workers r.0) }
+    ensures ends { IfOk result (λ r. vec_len r.1 ≡ vec_len lists + workers) }
+{
+    let made = SharedNet::<L>::new(alloc, blank, net, fuel, lists.len() as u8, workers);
+    let (net, sessions, crew) = match made {
+        Ok(made) => made,
+        Err(error) => return Err(PoolError::Close(error)),
+    };
+    let crew = in_scope(rt, alloc, &net, gate, sessions, lists, crew);
+    let Crew {
+        sessions,
+        workers,
+        ends,
+    } = crew?;
+    match net.close(sessions, workers) {
+        Ok(closed) => Ok((closed, ends)),
+        Err((_, error)) => Err(PoolError::Close(error)),
+    }
+}
+
+/// Plays a list of commands for each session, beside this many workers, with a thread for each of both. The ends are those of
+/// the sessions, then of the workers. Before memory or a thread that is wanting is answered, the threads that run are stopped
+/// and joined.
+pub fn run_pool<G: Gate + Sync, R: Threads + Wait + Sync>(
+    rt: &R,
+    alloc: Global,
+    net: Net,
+    workers: u8,
+    fuel: u64,
+    gate: &G,
+    lists: Vec<Vec<HostCmd>>,
+) -> Result<(Closed, Vec<End>), PoolError>
+    requires counts { (1 ≤ vec_len lists) × (vec_len lists ≤ 16) × (1 ≤ workers) × (workers ≤ 8) }
+    requires unused { net.journal ≡ [] }
+    ensures pooled { IfOk result (λ r. IsPooled net.wiring fuel (vec_len lists) workers r.0) }
+    ensures ends { IfOk result (λ r. vec_len r.1 ≡ vec_len lists + workers) }
+{
+    pool::<Brand, G, R>(
+        rt,
+        alloc,
+        Blank::new(workers as u64),
+        net,
+        workers,
+        fuel,
+        gate,
+        lists,
+    )
+}

@@ -1,0 +1,5 @@
+pub mod NameForms
+pub mod Commands
+pub mod Sessions
+pub mod HostSessions
+pub mod Turns

@@ -1,0 +1,10 @@
+-- The limits of words.
+use Rattle.std.specs.Prelude.{ℕ}
+
+-- the most sessions that words may open
+abbrev pub max_sessions : ℕ
+max_sessions = 16
+
+-- the most bits of a value
+abbrev pub max_width : ℕ
+max_width = 128

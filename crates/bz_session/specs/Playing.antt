@@ -1,0 +1,61 @@
+-- What a session has in its record once it has played its commands.
+use Rattle.std.specs.Prelude.{◌≡◌, ℕ, ◌-◌, ◌<◌, ◌≤◌, true, List, [], ◌∷◌, ◌++◌, Some, length, take, slice_get, ⊤}
+use Rattle.bz_model.specs.declared.event.Who.{Who}
+use Rattle.bz_model.specs.declared.event.Reply.{Reply}
+use Rattle.bz_model.specs.declared.event.HostCmd.{HostCmd}
+use Rattle.bz_model.specs.declared.event.Entry.{Entry}
+use Rattle.bz_model.specs.Nets.{Wiring}
+use Rattle.bz_net.specs.Answering.{is_answer}
+use Rattle.bz_locked.specs.Commands.{IsEntryOf, RefusesPoll}
+use Rattle.bz_locked.specs.Working.{WasAdded, WasTold, WasRefused}
+use Rattle.bz_locked.specs.declared.locked.Work.TheVariants as work
+use Rattle.bz_session.specs.declared.words.SessionError.TheVariants.{BadWord, Event, Memory}
+use Rattle.bz_session.specs.declared.playing.End.{End}
+use Rattle.bz_session.specs.declared.playing.End.TheVariants.{Done, Resting, Spent, Stopped, Refused}
+
+-- how many of the commands were answered before the end
+abbrev pub answered : End → ℕ → ℕ
+answered Done count = count
+answered (Resting word) count = word - 1
+answered (Spent word) count = word - 1
+answered (Stopped word) count = word - 1
+answered (Refused word e) count = word - 1
+
+-- the word named is one of the commands, counted from 1
+abbrev pub NamesWord : End → ℕ → Type 0
+NamesWord Done count = ⊤
+NamesWord (Resting word) count = (0 < word) × (word ≤ count)
+NamesWord (Spent word) count = (0 < word) × (word ≤ count)
+NamesWord (Stopped word) count = (0 < word) × (word ≤ count)
+NamesWord (Refused word e) count = (0 < word) × (word ≤ count)
+
+-- the entry of a command that was answered, which was added to the journal
+abbrev pub IsAnswerTo : Wiring → Who → HostCmd → Entry → Type 0
+IsAnswerTo w who cmd entry = (reply : Reply) × (is_answer reply ≡ true) × IsEntryOf w.ports who cmd reply entry × WasAdded w entry
+
+-- an entry for each command, in order
+abbrev pub AreAnswers : Wiring → Who → List HostCmd → List Entry → Type 0
+AreAnswers w who [] [] = ⊤
+AreAnswers w who [] (e ∷ es) = ⊥
+AreAnswers w who (cmd ∷ cmds) [] = ⊥
+AreAnswers w who (cmd ∷ cmds) (e ∷ es) = IsAnswerTo w who cmd e × AreAnswers w who cmds es
+
+-- the record has grown by an entry for each command before the end, in order
+pub record Played (w : Wiring) (who : Who) (words : List HostCmd) (end : End) (old new : List Entry) : Type 0 where
+  pub entries : List Entry
+  pub grown : new ≡ old ++ entries
+  pub answers : AreAnswers w who (take (answered end (length words)) words) entries
+
+-- what was found at the word that is named
+abbrev pub Found : (HostCmd → Type 0) → List HostCmd → ℕ → Type 0
+Found P words word = (cmd : HostCmd) × (slice_get words (word - 1) ≡ Some cmd) × P cmd
+
+-- Why the play ended: at the word named the session was told so, or its command was refused.
+abbrev pub EndIs : Wiring → List HostCmd → End → Type 0
+EndIs w words Done = ⊤
+EndIs w words (Resting word) = Found (λ cmd. WasTold w cmd work.Resting) words word
+EndIs w words (Spent word) = Found (λ cmd. WasTold w cmd work.Spent) words word
+EndIs w words (Stopped word) = Found (λ cmd. WasTold w cmd work.Stopped) words word
+EndIs w words (Refused word (Event e)) = Found (λ cmd. WasRefused w (λ net e. RefusesPoll net cmd e) e) words word
+EndIs w words (Refused word (BadWord at)) = ⊥
+EndIs w words (Refused word Memory) = ⊥

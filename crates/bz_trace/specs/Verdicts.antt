@@ -1,0 +1,115 @@
+-- What is said of a text: it is the trace of a run, or the first line that no run allows, or the first that is no line.
+use Rattle.std.specs.Prelude.{◌≡◌, ◌≢◌, ◌⊎◌, ⊤, ℕ, ◌+◌, ◌≤◌, Option, Some, None, List, [], ◌∷◌, ◌++◌, length, MatchOption}
+use Rattle.std.specs.List.{AllByRecursion, count_by}
+use Rattle.bz_model.specs.declared.event.Entry.{Entry}
+use Rattle.bz_model.specs.Nets.{Wiring, State, opening, outside}
+use Rattle.bz_model.specs.Runs.{Run}
+use Rattle.bz_model.specs.Clashes.{AreClashed}
+use Rattle.bz_model.specs.Entries.{HasWho, IsNumber32}
+use Rattle.bz_lines.specs.declared.tally.Counts.{Counts}
+use Rattle.bz_lines.specs.declared.text.TheConstants.{MAX_ENTRIES}
+use Rattle.bz_lines.specs.declared.text.Version.{Version}
+use Rattle.bz_lines.specs.declared.text.Version.TheVariants.{One, Two}
+use Rattle.bz_lines.specs.Counting.{is_fired, is_host, is_rest}
+use Rattle.bz_lines.specs.Texts.{lines, clash_lines, Trace, HasText, spelling, IsBad}
+use Rattle.bz_trace.specs.declared.checking.Verdict.{Verdict}
+use Rattle.bz_trace.specs.declared.checking.Verdict.TheVariants as verdict
+
+-- what a trace of this version tells of the components at which requests met: in version 1 nothing, in version 2 all
+abbrev pub AreDue : Wiring → Version → List Entry → List ℕ → Type 0
+AreDue w One entries comps = comps ≡ []
+AreDue w Two entries comps = AreClashed w entries comps
+
+-- the trace of some run from the opening, of at most so many entries
+pub record IsRunText (w : Wiring) (text : List ℕ) : Type 0 where
+  pub version : Version
+  pub entries : List Entry
+  pub by : AllByRecursion HasWho entries
+  pub few : length entries ≤ MAX_ENTRIES
+  pub last : State
+  pub run : Run w (opening w) entries last
+  pub clashes : List ℕ
+  pub due : AreDue w version entries clashes
+  pub text_is : text ≡ spelling w.ports (record { version = version; entries = entries; clashes = clashes })
+
+-- the lines of some run from the opening
+pub record AreRunLines (w : Wiring) (text : List ℕ) : Type 0 where
+  pub entries : List Entry
+  pub by : AllByRecursion HasWho entries
+  pub last : State
+  pub run : Run w (opening w) entries last
+  pub text_is : text ≡ lines w.ports entries
+
+-- Of these entries, line number `line` is the first that no run allows: the lines before it are those of a run, and with
+-- this line they are of none. The first entry stands on line 2.
+pub record StopsAtEntry (w : Wiring) (entries : List Entry) (line : ℕ) : Type 0 where
+  pub before : List Entry
+  pub here : Entry
+  pub after : List Entry
+  pub entries_are : entries ≡ before ++ here ∷ after
+  pub line_is : line ≡ length before + 2
+  pub runs : AreRunLines w (lines w.ports before)
+  pub fails : AreRunLines w (lines w.ports (before ++ here ∷ [])) → ⊥
+
+abbrev pub first_of : List ℕ → Option ℕ
+first_of [] = None
+first_of (x ∷ xs) = Some x
+
+-- up to a place, counted from 0, two lists are the same; there they differ, or only one of them goes on
+pub record DifferAt (xs ys : List ℕ) (place : ℕ) : Type 0 where
+  pub front : List ℕ
+  pub rest : List ℕ
+  pub other : List ℕ
+  pub xs_are : xs ≡ front ++ rest
+  pub ys_are : ys ≡ front ++ other
+  pub place_is : place ≡ length front
+  pub apart : first_of rest ≢ first_of other
+
+-- The entries are those of a run. Of the lines behind them `line` is the first that differs from the one that is due, or
+-- stands where none is; or it is the number after the last line, where more are due.
+pub record StopsAtClash (w : Wiring) (trace : Trace) (line : ℕ) : Type 0 where
+  pub entries : List Entry
+  pub by : AllByRecursion HasWho entries
+  pub last : State
+  pub run : Run w (opening w) entries last
+  pub alike : lines w.ports trace.entries ≡ lines w.ports entries
+  pub clashes : List ℕ
+  pub due : AreDue w trace.version entries clashes
+  pub place : ℕ
+  pub differ : DifferAt trace.clashes clashes place
+  pub line_is : line ≡ length trace.entries + place + 2
+
+-- the text is a trace, and `line` is its first line that no run allows
+pub record IsNoRun (w : Wiring) (text : List ℕ) (line : ℕ) : Type 0 where
+  pub trace : Trace
+  pub has_text : HasText (outside w) trace
+  pub text_is : text ≡ spelling w.ports trace
+  pub stops : StopsAtEntry w trace.entries line ⊎ StopsAtClash w trace line
+
+-- A want of memory says nothing.
+abbrev pub Judges : Wiring → List ℕ → Verdict → Type 0
+Judges w text verdict.Run = IsRunText w text
+Judges w text (verdict.Not line) = IsNoRun w text line
+Judges w text (verdict.Bad line) = IsBad (outside w) text line
+Judges w text verdict.Memory = ⊤
+
+-- how many entries there are of each kind
+pub record Tells (counts : Counts) (entries : List Entry) : Type 0 where
+  pub fired : counts.fired ≡ count_by is_fired entries
+  pub host : counts.host ≡ count_by is_host entries
+  pub rests : counts.rests ≡ count_by is_rest entries
+
+-- the text is that of a run, and so many of its entries are of each kind
+abbrev pub CountsRun : Wiring → List ℕ → Counts → Type 0
+CountsRun w text counts = (run : IsRunText w text) × Tells counts run.entries
+
+-- The same, where a net has played this journal.
+abbrev pub JudgesBy : Wiring → List ℕ → List Entry → Verdict → Type 0
+JudgesBy w text journal verdict.Run = (run : IsRunText w text) × (run.entries ≡ journal)
+JudgesBy w text journal (verdict.Not line) = IsNoRun w text line
+JudgesBy w text journal (verdict.Bad line) = IsBad (outside w) text line
+JudgesBy w text journal verdict.Memory = ⊤
+
+-- The first place at which these clash lines are other than those due.
+abbrev pub FirstDiffers : List ℕ → List ℕ → Option ℕ → Type 0
+FirstDiffers text due place = (clashes : List ℕ) → AllByRecursion IsNumber32 clashes → text ≡ clash_lines clashes → MatchOption place (clashes ≡ due) (DifferAt clashes due)

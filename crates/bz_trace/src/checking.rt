@@ -1,0 +1,132 @@
+//! The check of a whole text.
+
+ghost use Rattle.std.specs.Prelude.{◌≡◌, ◌≢◌, ◌⊎◌, ◌++◌};
+ghost use Rattle.bz_model.specs.Nets.{outside};
+ghost use Rattle.bz_elab.specs.Wires.{WellWired};
+ghost use Rattle.bz_net.specs.Simulation.{IsOpened};
+ghost use Rattle.bz_lines.specs.declared.text.TheConstants.{MAX_ENTRIES};
+ghost use Rattle.bz_lines.specs.Texts.{first_line};
+ghost use Rattle.bz_trace.specs.Verdicts.{AreDue, CountsRun, FirstDiffers, Judges, JudgesBy};
+
+use crate::following::play_on;
+use bz_elab::Flat;
+use bz_lines::{Counts, MAX_ENTRIES, Version, clash_at, counts, line_at, other_line, version_at};
+use bz_model::Names;
+use bz_net::Net;
+use std::alloc::Global;
+
+/// What is said of a text.
+#[derive(Clone, Copy, Debug, PartialEq, Eq)]
+pub enum Verdict {
+    /// It is the trace of a run.
+    Run,
+    /// It is a trace, and line number so is the first that no run allows.
+    Not(usize),
+    /// It is no trace, and line number so is the first bad one.
+    Bad(usize),
+    Memory,
+}
+
+/// Whether a text is the trace of a run of the net, from its opening.
+pub fn check(alloc: Global, flat: Flat, text: &[u8]) -> Verdict
+    // The verdict holds of the text, unless memory was wanting.
+    ensures right { Judges flat.wiring text.now result }
+
+    // Whatever verdict holds of the text is answered.
+    ensures only { (v : Verdict) → Judges flat.wiring text.now v → v ≢ Verdict.Memory
+        → (result ≡ v) ⊎ (result ≡ Verdict.Memory) }
+{
+    check_and_count(alloc, flat, text).0
+}
+
+/// The same, and how many entries of each kind the trace of a run has.
+pub fn check_and_count(alloc: Global, flat: Flat, text: &[u8]) -> (Verdict, Counts)
+    ensures right { Judges flat.wiring text.now result.0 }
+    ensures only { (v : Verdict) → Judges flat.wiring text.now v → v ≢ Verdict.Memory
+        → (result.0 ≡ v) ⊎ (result.0 ≡ Verdict.Memory) }
+    ensures counted { result.0 ≡ Verdict.Run → CountsRun flat.wiring text.now result.1 }
+{
+    check_text(alloc, flat, text)
+}
+
+fn check_text(alloc: Global, flat: Flat, text: &[u8]) -> (Verdict, Counts)
+    ensures right { Judges flat.wiring text.now result.0 }
+    ensures counted { result.0 ≡ Verdict.Run → CountsRun flat.wiring text.now result.1 }
+    ensures wired { result.0 ≢ Verdict.Memory → WellWired flat.wiring }
+{
+    let Ok(mut net) = Net::open(alloc, flat, MAX_ENTRIES as u32) else {
+        return (Verdict::Memory, Counts::NONE);
+    };
+    let Ok(names) = net.names().dup(alloc) else {
+        return (Verdict::Memory, Counts::NONE);
+    };
+    match version_at(text) {
+        Some((version, lines)) => {
+            let verdict = check_lines(&mut net, &names, version, lines);
+            (verdict, counts(net.journal()))
+        }
+        None => (Verdict::Bad(1), Counts::NONE),
+    }
+}
+
+// The lines behind the first one.
+fn check_lines(net: &mut Net, names: &Names, version: Version, text: &[u8]) -> Verdict
+    requires opened { IsOpened net.old.wiring MAX_ENTRIES net.old }
+    requires names { names.now ≡ outside net.old.wiring }
+    requires wired { WellWired net.old.wiring }
+    ensures { JudgesBy net.old.wiring (first_line version ++ text.now) net.new.journal result }
+{
+    let mut rest = text;
+    let mut count: usize = 0;
+    let mut stop: Option<usize> = None;
+    while let Some((line, after)) = line_at(names, rest) {
+        if count == MAX_ENTRIES {
+            return Verdict::Bad(MAX_ENTRIES + 2);
+        }
+        let Some(stopped) = play_on(net, names, line, count + 2, stop) else {
+            return Verdict::Memory;
+        };
+        stop = stopped;
+        count += 1;
+        rest = after;
+    }
+    if let Some(line) = other_line(version, rest, count + 2) {
+        return Verdict::Bad(line);
+    }
+    if let Some(line) = stop {
+        return Verdict::Not(line);
+    }
+    match other_clash(rest, due(net, version)) {
+        None => Verdict::Run,
+        Some(place) => Verdict::Not(count + place + 2),
+    }
+}
+
+// The components whose clash lines are due behind the entries that the net has played.
+fn due(net: &Net, version: Version) -> &[u32]
+    ensures { AreDue net.now.wiring version net.now.journal result.now }
+{
+    match version {
+        Version::One => &[],
+        Version::Two => net.clashes(),
+    }
+}
+
+// The place, counted from 0, of the first clash line that isn't the one that is due.
+fn other_clash(text: &[u8], due: &[u32]) -> Option<usize>
+    ensures { FirstDiffers text.now due.now result }
+{
+    let mut rest = text;
+    let mut place = 0;
+    for comp in due {
+        let Some((found, after)) = clash_at(rest) else {
+            return Some(place);
+        };
+        if found != *comp {
+            return Some(place);
+        }
+        rest = after;
+        place += 1;
+    }
+    if rest.is_empty() { None } else { Some(place) }
+}
