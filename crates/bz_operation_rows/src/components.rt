@@ -70,19 +70,16 @@ fn replies(
     inputs: &[(&str, &str)],
     want: &str,
 ) -> Result<(), Fail> {
-    let mut answers = Vec::new(alloc);
+    let mut script = "offer:out run:9".to_string(alloc)?;
     for (port, value) in inputs {
-        let accept = format!(in alloc; "accept:{port}")?;
-        let answer = format!(in alloc; "answer:{port}:{value}")?;
-        answers.push(accept)?;
-        answers.push(answer)?;
+        let answers = format!(in alloc; " accept:{port} answer:{port}:{value}")?;
+        script.push_str(answers.as_str())?;
     }
+    script.push_str(" run:9 collect:out")?;
     let mut words = Vec::new(alloc);
-    words.extend_from_slice(&["offer:out", "run:9"])?;
-    for answer in &answers {
-        words.push(answer.as_str())?;
+    for word in script.as_str().split(" ") {
+        words.push(word)?;
     }
-    words.extend_from_slice(&["run:9", "collect:out"])?;
     let outcome = play(alloc, netlist.as_bytes(), "p", 100, words.as_slice())?;
     let line = format!(in alloc; "\nh1 collect out value {want}\n")?;
     assert!(rt;
