@@ -56,6 +56,13 @@ def moves(programs, shape, size, netlist):
     show(f"{shape} {size}: {MOVES} moves", without(full, empty))
 
 
+def pools(programs, shape, size, netlist):
+    """The same moves by workers on threads, with what opening takes."""
+    for workers in (1, 2, 4, 8):
+        words = ["pool", "--part", "bench", "--journal", "16777216", "--workers", str(workers), "--fuel", str(MOVES), "offer:go"]
+        show(f"{shape} {size}: {MOVES} moves by {workers}", [seconds(p, words, netlist) for p in programs])
+
+
 def main():
     programs = sys.argv[1:]
     if not 1 <= len(programs) <= 2:
@@ -73,6 +80,7 @@ def main():
             moves(programs, "loops", size, netlist("loops", size))
         for size in (16, 4096):
             moves(programs, "array", size, netlist("array", size))
+        pools(programs, "pipeline", 10000, netlist("pipeline", 10000))
         for shape in ("large", "tree"):
             text = netlist(shape, 1000000)
             print(f"{shape}: {os.path.getsize(text)} bytes")

@@ -1,8 +1,8 @@
 //! The program `breezesim`.
 #![tactic(auto)]
 
-use bz_cli::{Fault, check_cmd, list_cmd, run_cmd};
-use bz_session::read_name;
+use bz_cli::{Fault, PoolOptions, check_cmd, list_cmd, pool_cmd, run_cmd};
+use bz_session::{End, read_name};
 use clap::error::ErrorKind;
 use clap::{Arg, ArgAction, ArgMatches, Command, Error, value_parser};
 use std::alloc::{AllocError, Global};
@@ -10,12 +10,23 @@ use std::io;
 use std::io::BufWriter;
 use std::process::ExitCode;
 use std::rt::Env;
+use std::sync::Wait;
+use std::thread::Threads;
 
 /// The longest journal that may be asked for, in entries.
 const MAX_JOURNAL: u32 = 16_777_216;
 
 /// The journal where none is asked for.
 const JOURNAL: u32 = 1_000_000;
+
+/// The most workers of a pool.
+const MAX_WORKERS: u8 = 8;
+
+/// The workers where no number is asked for.
+const WORKERS: u8 = 2;
+
+/// The firings of a pool where no number is asked for.
+const FUEL: u64 = 1_000_000;
 
 /// How many bytes of output are gathered before they go out.
 const BUFFER_SIZE: usize = 65_536;
@@ -63,6 +74,34 @@ fn journal_arg<'a>(alloc: Global) -> Arg<'a> {
         .default_value("1000000")
 }
 
+fn workers_arg<'a>(alloc: Global) -> Arg<'a> {
+    Arg::new(alloc, "workers")
+        .long("workers")
+        .value_name("N")
+        .help("How many workers fire, from 1 to 8")
+        .value_parser(value_parser!(u8).range(1..=i64::from(MAX_WORKERS)))
+        .default_value("2")
+}
+
+fn fuel_arg<'a>(alloc: Global) -> Arg<'a> {
+    Arg::new(alloc, "fuel")
+        .long("fuel")
+        .value_name("N")
+        .help("The most firings of all workers together")
+        .value_parser(value_parser!(u64))
+        .default_value("1000000")
+}
+
+fn sessions_arg<'a>(alloc: Global) -> Arg<'a> {
+    Arg::new(alloc, "words")
+        .value_name("WORDS")
+        .help(
+            "offer:P[:V], collect:P, accept:P, answer:P[:V], watch:P; a / begins the next session",
+        )
+        .num_args(0..)
+        .action(ArgAction::Append)
+}
+
 fn words_arg<'a>(alloc: Global) -> Arg<'a> {
     Arg::new(alloc, "words")
         .value_name("WORDS")
@@ -78,6 +117,16 @@ fn command_line<'a>(alloc: Global) -> Result<Command<'a>, AllocError> {
         .arg(part_form_arg(alloc)?)?
         .arg(journal_arg(alloc))?
         .arg(words_arg(alloc))?;
+    let pool = Command::new(alloc, "pool")
+        .about(
+            "Plays the words of sessions beside workers, each on a thread of its own, and writes the trace",
+        )
+        .arg(part_arg(alloc)?)?
+        .arg(part_form_arg(alloc)?)?
+        .arg(workers_arg(alloc))?
+        .arg(fuel_arg(alloc))?
+        .arg(journal_arg(alloc))?
+        .arg(sessions_arg(alloc))?;
     let list = Command::new(alloc, "list")
         .about("Lists the ports and components of a part's net, of the netlist on standard input")
         .arg(part_arg(alloc)?)?
@@ -95,6 +144,7 @@ fn command_line<'a>(alloc: Global) -> Result<Command<'a>, AllocError> {
         .subcommand_required(true)
         .subcommand(list)?
         .subcommand(check)?
+        .subcommand(pool)?
         .subcommand(run)
 }
 
@@ -138,6 +188,64 @@ fn run<'a>(rt: &HostRuntime, matches: &ArgMatches<'a>) -> ExitCode {
         &mut output,
     );
     ends(rt, result)
+}
+
+fn pool<'a, T: Threads + Wait + Sync>(
+    rt: &HostRuntime,
+    threads: &T,
+    matches: &ArgMatches<'a>,
+) -> ExitCode {
+    let alloc = rt.alloc();
+    let part = match part_name(rt, matches) {
+        Ok(part) => part,
+        Err(status) => return status,
+    };
+    let options = PoolOptions {
+        workers: matches.get_one::<u8>("workers").unwrap_or(WORKERS),
+        fuel: matches.get_one::<u64>("fuel").unwrap_or(FUEL),
+        journal: matches.get_one::<u32>("journal").unwrap_or(JOURNAL),
+    };
+    let words = matches.get_strs("words").unwrap_or(&[]);
+    if options.workers == 0 || options.workers > MAX_WORKERS {
+        return ExitCode::from(BAD_COMMAND_LINE);
+    }
+    if options.journal == 0 || options.journal > MAX_JOURNAL {
+        return ExitCode::from(BAD_COMMAND_LINE);
+    }
+    let Ok(mut output) = BufWriter::with_capacity(alloc, BUFFER_SIZE, io::writer(rt)) else {
+        return refuse(rt, &Fault::Memory);
+    };
+    let result = pool_cmd(
+        threads,
+        alloc,
+        part.as_slice(),
+        options,
+        words,
+        &mut rt.reader(),
+        &mut output,
+    );
+    match result {
+        Ok(ends) => {
+            for (place, end) in ends.iter().enumerate() {
+                note(rt, place + 1, *end);
+            }
+            ExitCode::SUCCESS
+        }
+        Err(fault) => refuse(rt, &fault),
+    }
+}
+
+// A note on a session that still waited when the net came to its end. The end of a worker names no word.
+fn note(rt: &HostRuntime, session: usize, end: End) {
+    let _ = match end {
+        End::Resting(word) if word > 0 => {
+            eprintln!(rt; "breezesim: session {session} resting at word {word}")
+        }
+        End::Spent(word) if word > 0 => {
+            eprintln!(rt; "breezesim: session {session} spent at word {word}")
+        }
+        _ => Ok(()),
+    };
 }
 
 fn list<'a>(rt: &HostRuntime, matches: &ArgMatches<'a>) -> ExitCode {
@@ -229,6 +337,7 @@ fn main(rt: HostRuntime) -> ExitCode {
         Ok(matches) => match matches.subcommand() {
             Some(("check", matches)) => check(&rt, matches),
             Some(("list", matches)) => list(&rt, matches),
+            Some(("pool", matches)) => pool(&rt, &rt, matches),
             Some(("run", matches)) => run(&rt, matches),
             _ => ExitCode::from(BAD_COMMAND_LINE),
         },

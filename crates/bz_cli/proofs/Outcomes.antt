@@ -17,6 +17,8 @@ use Rattle.bz_model.specs.Nets.{Wiring}
 use Rattle.bz_cli.specs.Running.{AppendsSome, AreCommands, IsPlayed, Played, PlaysNet, PlaysText, Runs, fault_for}
 use Rattle.bz_cli.specs.Limits.{input_limit}
 use Rattle.bz_cli.specs.Listed.{Lists, ListsText}
+use Rattle.bz_cli.specs.Listing.{list_text}
+use Rattle.bz_cli.specs.Opening.{Denotes}
 
 -- why the play stopped, if it did
 abbrev pub stop_of : {A : Type 0} → Result A Stop → Option Stop
@@ -68,3 +70,7 @@ pub lists_on : {A : Type 0} (known : Option (List ℕ)) (items part : List ℕ) 
 lists_on None items part old new answer whole fits lists = tt
 lists_on (Some xs) items part old new answer whole fits lists =
     inr (subst (λ text. (length text ≤ input_limit) × ListsText text part old new answer) whole (fits, lists))
+
+-- the writer failed
+pub list_cut_short : (A : Type 0) (text part : List ℕ) (w : Wiring) (old new : Option (List ℕ)) (fault : Fault) → fault ≡ Write → Denotes text part w → AppendsSome old new (list_text part w) → ListsText {E = A} text part old new (Err fault)
+list_cut_short A text part w old new fault is denotes out = rw is (inr (w, denotes, out))

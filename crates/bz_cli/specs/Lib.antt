@@ -4,6 +4,7 @@ pub mod Statuses
 pub mod Opening
 pub mod Playing
 pub mod Running
+pub mod Pooling
 pub mod Listing
 pub mod Listed
 pub mod Checking

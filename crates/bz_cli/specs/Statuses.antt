@@ -4,8 +4,13 @@ use Rattle.bz_sexpr.specs.declared.error.SexprError.{SexprError}
 use Rattle.bz_sexpr.specs.declared.error.SexprError.TheVariants as text
 use Rattle.bz_breeze.specs.declared.error.BreezeError.{BreezeError}
 use Rattle.bz_breeze.specs.declared.error.BreezeError.TheVariants as part
+use Rattle.bz_locked.specs.declared.closing.CloseError.TheVariants as close
+use Rattle.bz_session.specs.declared.words.SessionError.{SessionError}
+use Rattle.bz_session.specs.declared.words.SessionError.TheVariants as session
+use Rattle.bz_pool.specs.declared.pool.PoolError.{PoolError}
+use Rattle.bz_pool.specs.declared.pool.PoolError.TheVariants as pool
 use Rattle.bz_cli.specs.declared.fault.Fault.{Fault}
-use Rattle.bz_cli.specs.declared.fault.Fault.TheVariants.{Word, Text, Part, Net, Event, Read, Write, Memory}
+use Rattle.bz_cli.specs.declared.fault.Fault.TheVariants.{Word, Text, Part, Net, Event, Ended, Discord, NoThread, Read, Write, Memory}
 use Rattle.bz_cli.specs.declared.input.InputFault.{InputFault}
 use Rattle.bz_cli.specs.declared.input.InputFault.TheVariants as input
 
@@ -15,6 +20,9 @@ status_of (Part e) = 1
 status_of (Net e part) = 1
 status_of (Word at) = 2
 status_of (Event e word) = 3
+status_of (Ended e who) = 3
+status_of (Discord who at) = 3
+status_of NoThread = 3
 status_of Read = 3
 status_of Write = 3
 status_of Memory = 3
@@ -32,3 +40,14 @@ of_text e = Text e
 abbrev pub of_part : BreezeError → Fault
 of_part part.Memory = Memory
 of_part e = Part e
+
+abbrev pub of_words : SessionError → Fault
+of_words (session.BadWord at) = Word at
+of_words (session.Event e) = Event e 0
+of_words session.Memory = Memory
+
+abbrev pub of_pool : PoolError → Fault
+of_pool (pool.Close (close.Discord who at)) = Discord who at
+of_pool (pool.Close close.Memory) = Memory
+of_pool pool.Memory = Memory
+of_pool pool.NoThread = NoThread

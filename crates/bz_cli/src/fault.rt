@@ -2,12 +2,15 @@
 
 ghost use Rattle.std.specs.Prelude.{◌≡◌};
 ghost use Rattle.bz_cli.specs.declared.fault.Fault.TheVariants.{Memory, Write};
-ghost use Rattle.bz_cli.specs.Statuses.{of_input, of_part, of_text, status_of};
+ghost use Rattle.bz_cli.specs.Statuses.{of_input, of_part, of_pool, of_text, of_words, status_of};
 
 use crate::input::InputFault;
 use bz_breeze::{BreezeError, Place};
 use bz_elab::ElabError;
-use bz_model::NetError;
+use bz_locked::CloseError;
+use bz_model::{NetError, Who};
+use bz_pool::PoolError;
+use bz_session::SessionError;
 use bz_sexpr::SexprError;
 use bz_trace::{NameForm, WriteFault};
 use std::alloc::{AllocError, AllocFailed};
@@ -26,6 +29,13 @@ pub enum Fault {
     Net { error: ElabError, part: Vec<u8> },
     /// An event of this word, counted from 1, was refused.
     Event { error: NetError, word: usize },
+    /// An event of this session or worker of a pool was refused.
+    Ended { error: NetError, who: Who },
+    /// At the close of a pool this record, share or the front (host 0) disagrees with the journal, a record at the entry of this
+    /// number, from 1.
+    Discord { who: Who, at: u64 },
+    /// A thread of a pool could not be started.
+    NoThread,
     /// The reader failed, or gave more than the limit.
     Read,
     /// The writer failed, or took no byte.
@@ -42,7 +52,8 @@ impl Fault {
         match self {
             Fault::Text(_) | Fault::Part(_) | Fault::Net { .. } => 1,
             Fault::Word(_) => 2,
-            Fault::Event { .. } | Fault::Read | Fault::Write | Fault::Memory => 3,
+            Fault::Event { .. } | Fault::Ended { .. } | Fault::Discord { .. } => 3,
+            Fault::NoThread | Fault::Read | Fault::Write | Fault::Memory => 3,
         }
     }
 }
@@ -88,6 +99,31 @@ impl From<WriteFault> for Fault {
     }
 }
 
+impl From<SessionError> for Fault {
+    ghost from_gives = { λ e fault. fault ≡ of_words e };
+
+    fn from(e: SessionError) -> Fault {
+        match e {
+            SessionError::BadWord(word) => Fault::Word(word),
+            SessionError::Event(error) => Fault::Event { error, word: 0 },
+            SessionError::Memory => Fault::Memory,
+        }
+    }
+}
+
+impl From<PoolError> for Fault {
+    ghost from_gives = { λ e fault. fault ≡ of_pool e };
+
+    fn from(e: PoolError) -> Fault {
+        match e {
+            PoolError::Close(CloseError::Discord(who, at)) => Fault::Discord { who, at },
+            PoolError::Close(CloseError::Memory) => Fault::Memory,
+            PoolError::Memory => Fault::Memory,
+            PoolError::NoThread => Fault::NoThread,
+        }
+    }
+}
+
 impl From<AllocError> for Fault {
     ghost from_gives = { λ _ fault. fault ≡ Memory };
 
@@ -115,9 +151,25 @@ impl fmt::Display for Fault {
             },
             Fault::Net { error, part } => show_net_error(*error, NameForm(part.as_slice()), f),
             Fault::Event { error, word } => write!(f, "{error} word {word}"),
+            Fault::Ended { error, who } => write!(f, "{error} {}", Letter(*who)),
+            Fault::Discord { who, at } => write!(f, "C1 Discord {} {at}", Letter(*who)),
+            Fault::NoThread => f.write_str("P3 NoThread"),
             Fault::Read => f.write_str("F1 Read"),
             Fault::Write => f.write_str("F2 Write"),
             Fault::Memory => f.write_str("F3 Memory"),
+        }
+    }
+}
+
+// A session as `h1`, a worker as `w1`.
+#[derive(Clone, Copy)]
+struct Letter(Who);
+
+impl fmt::Display for Letter {
+    fn fmt<W: fmt::Write>(&self, f: &mut fmt::Formatter<W>) -> fmt::Result {
+        match self.0 {
+            Who::Host(number) => write!(f, "h{number}"),
+            Who::Worker(number) => write!(f, "w{number}"),
         }
     }
 }

@@ -95,8 +95,8 @@ fn run_words(alloc: Global, words: &[&str]) -> Result<Vec<Cmd>, Fault>
     Ok(cmds)
 }
 
-// Writes the trace of the entries, down to the last byte.
-fn write_out<W: Write>(
+/// Writes the trace of the entries, down to the last byte.
+pub(crate) fn write_out<W: Write>(
     names: &Names,
     entries: &[Entry],
     clashes: &[u32],

@@ -10,6 +10,8 @@ mod memory;
 #[cfg(test)]
 mod names;
 #[cfg(test)]
+mod pools;
+#[cfg(test)]
 mod streams;
 #[cfg(test)]
 mod words;

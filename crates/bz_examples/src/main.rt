@@ -2,7 +2,8 @@
 //! is written beside it.
 #![tactic(auto)]
 
-use bz_playing::{list, play};
+use bz_cli::PoolOptions;
+use bz_playing::{check, list, play, pool};
 use std::fs;
 use std::test::Fail;
 
@@ -15,6 +16,9 @@ const PLAYED: [&str; 6] = [
     "steer",
     "careless",
 ];
+
+/// Netlists with the words of sessions and what each session is answered, in every trace, of the part of their name.
+const SHARED: [&str; 1] = ["two"];
 
 /// Netlists with the lists of the part of their name.
 const LISTED: [&str; 2] = ["tee", "two_place"];
@@ -75,6 +79,28 @@ fn played(rt: &HostRuntime, name: &str) -> Result<(), Fail> {
     )
 }
 
+fn shared(rt: &HostRuntime, name: &str) -> Result<(), Fail> {
+    let alloc = rt.alloc();
+    let netlist = file(rt, name, "breeze")?;
+    let words = file(rt, name, "words")?;
+    let words: Vec<&str> = words.split_whitespace().take(WORDS).collect(alloc)?;
+    let options = PoolOptions {
+        workers: 2,
+        fuel: 1_000_000,
+        journal: 1_000_000,
+    };
+    let played = pool(rt, alloc, netlist.as_str(), name, options, words.as_slice())?;
+    let verdict = check(alloc, netlist.as_str(), name, played.text.as_slice())?;
+    let mut told = String::new(alloc);
+    for session in 1..=2u8 {
+        let head = format!(in alloc; "h{session} ")?;
+        let lines = played.lines_of(alloc, head.as_str())?;
+        told.push_str(lines.as_str())?;
+    }
+    let records = file(rt, name, "records")?;
+    tell(rt, name, verdict.status == 0 && told == records)
+}
+
 fn listed(rt: &HostRuntime, name: &str) -> Result<(), Fail> {
     let netlist = file(rt, name, "breeze")?;
     let outcome = list(rt.alloc(), netlist.as_bytes(), name)?;
@@ -104,6 +130,9 @@ fn refused(rt: &HostRuntime, name: &str) -> Result<(), Fail> {
 fn main(rt: HostRuntime) -> Result<(), Fail> {
     for name in PLAYED {
         played(&rt, name)?;
+    }
+    for name in SHARED {
+        shared(&rt, name)?;
     }
     for name in LISTED {
         listed(&rt, name)?;

@@ -6,8 +6,10 @@ pub mod calls;
 pub mod netlists;
 mod nets;
 mod playing;
+mod pools;
 mod script;
 
 pub use nets::{flat_of, net_of};
 pub use playing::{Outcome, check, list, play};
+pub use pools::{Pooled, pool};
 pub use script::Script;

@@ -1,0 +1,100 @@
+-- What the command `pool` reads, plays and writes.
+use Rattle.std.specs.Prelude.{◌≡◌, ℕ, ◌+◌, ◌-◌, ◌≤◌, ◌⊎◌, ⊤, if◌then◌else◌, nat_lt, Option, Some, None, Result, Ok, Err, IsErrAnd, List, length, map, slice_get, take, vec_len}
+use Rattle.std.specs.List.{All}
+use Rattle.std.specs.declared.alloc.Global.{Global}
+use Rattle.std.specs.declared.vec.Vec.{Vec}
+use Rattle.std.specs.Io.KnownBytes.{Appends, Keeps}
+use Rattle.bz_model.specs.declared.event.Entry.{Entry}
+use Rattle.bz_model.specs.declared.event.HostCmd.{HostCmd}
+use Rattle.bz_model.specs.declared.event.NetError.{NetError}
+use Rattle.bz_model.specs.declared.event.NetError.TheVariants as net
+use Rattle.bz_model.specs.declared.event.Who.{Who}
+use Rattle.bz_model.specs.declared.event.Who.TheVariants.{Host, Worker}
+use Rattle.bz_model.specs.Nets.{Wiring, State, opening}
+use Rattle.bz_model.specs.Runs.{Run}
+use Rattle.bz_model.specs.Traces.{IsTrace}
+use Rattle.bz_locked.specs.Journal.{fired_count}
+use Rattle.bz_session.specs.HostWords.{hosts_of, IsFirstUnfit}
+use Rattle.bz_session.specs.Words.{Spell}
+use Rattle.bz_session.specs.declared.playing.End.{End}
+use Rattle.bz_session.specs.declared.playing.End.TheVariants as end
+use Rattle.bz_session.specs.declared.words.SessionError.TheVariants as session
+use Rattle.bz_cli.specs.Limits.{input_limit}
+use Rattle.bz_cli.specs.Opening.{Denotes, RefusesNet}
+use Rattle.bz_cli.specs.Running.{AppendsSome, StopsAtInput}
+use Rattle.bz_cli.specs.declared.fault.Fault.{Fault}
+use Rattle.bz_cli.specs.declared.fault.Fault.TheVariants.{Word, Ended, Discord, NoThread, Write, Memory}
+
+abbrev pub RefusesSessions : List (List ℕ) → Fault → Type 0
+RefusesSessions words (Word at) = IsFirstUnfit words at
+RefusesSessions words Memory = ⊤
+RefusesSessions words fault = ⊥
+
+-- The trace of a run from the net's opening, of at most so many firings, went out as `Out` says.
+pub record Pooled (w : Wiring) (fuel : ℕ) (Out : List ℕ → Type 0) : Type 0 where
+  pub entries : List Entry
+  pub to : State
+  pub run : Run w (opening w) entries to
+  pub within : fired_count entries ≤ fuel
+  pub trace : List ℕ
+  pub is_trace : IsTrace w entries trace
+  pub out : Out trace
+
+-- The error of an end that is a refusal. Words are read before they are played, so that an event alone is refused.
+abbrev pub refusal_of : End → Option NetError
+refusal_of (end.Refused word (session.Event e)) = Some e
+refusal_of (end.Refused word (session.BadWord at)) = Some net.Memory
+refusal_of (end.Refused word session.Memory) = Some net.Memory
+refusal_of e = None
+
+abbrev pub IsAgreed : End → Type 0
+IsAgreed e = refusal_of e ≡ None
+
+-- whose end stands at a place, from 0: those of the sessions come first
+abbrev pub who_at : ℕ → ℕ → Who
+who_at place sessions = if nat_lt place sessions then Host (place + 1) else Worker (place - sessions + 1)
+
+abbrev pub fault_for : NetError → Who → Fault
+fault_for net.Memory who = Memory
+fault_for e who = Ended e who
+
+-- The fault of the first end that is a refusal.
+pub record IsFirstRefused (ends : List End) (sessions : ℕ) (fault : Fault) : Type 0 where
+  pub place : ℕ
+  pub end : End
+  pub here : slice_get ends place ≡ Some end
+  pub error : NetError
+  pub refused : refusal_of end ≡ Some error
+  pub earlier : All IsAgreed (take place ends)
+  pub told : fault ≡ fault_for error (who_at place sessions)
+
+-- What went out of a pool that was closed, and what was answered: the trace of all; where the writer failed, a front of it. An
+-- end that was refused is told behind the trace.
+abbrev pub WritesClosed : Wiring → ℕ → ℕ → Option (List ℕ) → Option (List ℕ) → Result (Vec End Global) Fault → Type 0
+WritesClosed w fuel seats old new (Ok ends) = Pooled w fuel (Appends old new) × All IsAgreed ends.items × (vec_len ends ≡ seats)
+WritesClosed w fuel seats old new (Err (Ended net.Memory who)) = ⊥
+WritesClosed w fuel seats old new (Err (Ended e who)) = Pooled w fuel (Appends old new)
+WritesClosed w fuel seats old new (Err Memory) = Pooled w fuel (Appends old new)
+WritesClosed w fuel seats old new (Err Write) = Pooled w fuel (AppendsSome old new)
+WritesClosed w fuel seats old new (Err fault) = ⊥
+
+-- Why a pool came to no close: memory or a thread was wanting, or what was handed in disagrees.
+abbrev pub IsOfPool : Fault → Type 0
+IsOfPool (Discord who at) = ⊤
+IsOfPool NoThread = ⊤
+IsOfPool Memory = ⊤
+IsOfPool fault = ⊥
+
+-- No net was opened, or the pool came to no close, and nothing went out; or it was closed, on the net that the text denotes.
+abbrev pub PoolsText : List ℕ → List ℕ → ℕ → ℕ → Option (List ℕ) → Option (List ℕ) → Result (Vec End Global) Fault → Type 0
+PoolsText text part fuel seats old new answer =
+    IsErrAnd answer (λ fault. RefusesNet text part fault × Keeps old new)
+    ⊎ ((w : Wiring) × Denotes text part w
+    × (IsErrAnd answer (λ fault. IsOfPool fault × Keeps old new) ⊎ WritesClosed w fuel seats old new answer))
+
+-- The command `pool`: the words are refused; or they spell sessions, and the input is not taken, or they are played on it.
+abbrev pub Pools : List ℕ → List (List ℕ) → List ℕ → ℕ → ℕ → Option (List ℕ) → Option (List ℕ) → Result (Vec End Global) Fault → Type 0
+Pools text words part workers fuel old new answer =
+    IsErrAnd answer (λ fault. RefusesSessions words fault × Keeps old new)
+    ⊎ ((sessions : List (Vec HostCmd Global)) × Spell words (map hosts_of sessions)
+    × (StopsAtInput old new answer ⊎ ((length text ≤ input_limit) × PoolsText text part fuel (length sessions + workers) old new answer)))

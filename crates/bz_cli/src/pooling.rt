@@ -1,0 +1,177 @@
+//! The command `pool`: sessions of host words played beside workers on a part of a netlist, and the trace of it.
+
+ghost use Rattle.std.specs.Prelude.{◌≡◌, ◌≤◌, ◌<◌, ◌+◌, length, map, vec_len, IfOk, IfErr, IfSome, IfNone};
+ghost use Rattle.std.specs.List.{All};
+ghost use Rattle.bz_locked.specs.Journal.{fired_count};
+ghost use Rattle.bz_model.specs.Nets.{opening};
+ghost use Rattle.bz_model.specs.Runs.{Run};
+ghost use Rattle.bz_session.specs.HostWords.{hosts_of};
+ghost use Rattle.bz_session.specs.Limits.{max_sessions};
+ghost use Rattle.bz_session.specs.Words.{Spell, texts};
+ghost use Rattle.bz_cli.specs.Pooling.{IsAgreed, IsFirstRefused, fault_for, refusal_of, who_at, Pools, PoolsText, RefusesSessions, WritesClosed};
+ghost use Rattle.bz_cli.specs.Reading.{ReadsWithin};
+
+use crate::fault::Fault;
+use crate::input::read_input;
+use crate::open::open_net;
+use crate::run::write_out;
+use bz_model::{HostCmd, NetError, Who};
+use bz_net::Net;
+use bz_pool::{Gate, run_pool};
+use bz_session::{End, SessionError, parse_host_words};
+use std::alloc::Global;
+use std::io::{Read, Write};
+use std::sync::Wait;
+use std::thread::Threads;
+
+/// How many workers play, and how far.
+#[derive(Clone, Copy, Debug, PartialEq, Eq)]
+pub struct PoolOptions {
+    /// From 1 to 8.
+    pub workers: u8,
+    /// The most firings of all workers together.
+    pub fuel: u64,
+    /// The most entries of the journal, from 1 to 16,777,216.
+    pub journal: u32,
+}
+
+// Nothing is done round a fire.
+struct Ungated;
+
+impl Gate for Ungated {
+    fn before(&self, _worker: u8, _comp: u32) {}
+
+    fn after(&self, _worker: u8, _comp: u32) {}
+}
+
+/// Plays each session's words on a part of the netlist that the reader gives, beside workers, each on a thread of its own, and
+/// writes the trace once all have ended. The ends are those of the sessions, then of the workers. An event that was refused is
+/// told by the first end that has one.
+pub fn pool_cmd<R: Read, W: Write, H: Threads + Wait + Sync>(
+    rt: &H,
+    alloc: Global,
+    part: &[u8],
+    options: PoolOptions,
+    words: &[&str],
+    input: &mut R,
+    output: &mut W,
+) -> Result<Vec<End>, Fault>
+    requires workers { (1 ≤ options.workers) × (options.workers ≤ 8) }
+    requires journal { (0 < options.journal) × (options.journal ≤ 16777216) }
+    ensures pools { IfSome (R.remaining input.old) (λ text. Pools text (texts words.now) part.now options.workers options.fuel (W.contents output.old) (W.contents output.new) result) }
+
+    // Whatever comes of it, it reads at most one byte past the limit.
+    ensures bounded { ReadsWithin (R.remaining input.old) (R.remaining input.new) }
+{
+    let sessions = pool_words(alloc, words)?;
+    let text = read_input(alloc, input)?;
+    pool_text(rt, alloc, part, options, text.as_slice(), sessions, output)
+}
+
+// The sessions that the words spell.
+fn pool_words(alloc: Global, words: &[&str]) -> Result<Vec<Vec<HostCmd>>, Fault>
+    ensures ok { IfOk result (λ v. Spell (texts words.now) (map hosts_of v.items)) }
+    ensures few { IfOk result (λ v. (1 ≤ vec_len v) × (vec_len v ≤ max_sessions)) }
+    ensures err { IfErr result (RefusesSessions (texts words.now)) }
+{
+    match parse_host_words(alloc, words) {
+        Ok(sessions) => Ok(sessions),
+        Err(error) => Err(Fault::from(error)),
+    }
+}
+
+// Plays the sessions on a part of the text, and writes the trace.
+fn pool_text<W: Write, H: Threads + Wait + Sync>(
+    rt: &H,
+    alloc: Global,
+    part: &[u8],
+    options: PoolOptions,
+    text: &[u8],
+    sessions: Vec<Vec<HostCmd>>,
+    output: &mut W,
+) -> Result<Vec<End>, Fault>
+    requires workers { (1 ≤ options.workers) × (options.workers ≤ 8) }
+    requires journal { (0 < options.journal) × (options.journal ≤ 16777216) }
+    requires sessions { (1 ≤ vec_len sessions) × (vec_len sessions ≤ 16) }
+    ensures { PoolsText text.now part.now options.fuel (vec_len sessions + options.workers) (W.contents output.old) (W.contents output.new) result }
+{
+    let net = open_net(alloc, part, options.journal, text)?;
+    let count = sessions.len();
+    let (closed, ends) = run_pool(
+        rt,
+        alloc,
+        net,
+        options.workers,
+        options.fuel,
+        &Ungated,
+        sessions,
+    )?;
+    write_closed(&closed.net, ends, count, options.fuel, output)
+}
+
+// Writes the trace of a pool that was closed, with its ends, of which the first so many are the sessions'.
+fn write_closed<W: Write>(
+    net: &Net,
+    ends: Vec<End>,
+    sessions: usize,
+    fuel: u64,
+    output: &mut W,
+) -> Result<Vec<End>, Fault>
+    requires run { Run net.now.wiring (opening net.now.wiring) net.now.journal net.now.state }
+    requires within { fired_count net.now.journal ≤ fuel }
+    requires few { vec_len ends ≤ 24 }
+    ensures { WritesClosed net.now.wiring fuel (vec_len ends) (W.contents output.old) (W.contents output.new) result }
+{
+    write_out(net.names(), net.journal(), net.clashes(), output)?;
+    match first_refused(ends.as_slice(), sessions) {
+        None => Ok(ends),
+        Some(fault) => Err(fault),
+    }
+}
+
+// The fault of the first end that is a refusal.
+fn first_refused(ends: &[End], sessions: usize) -> Option<Fault>
+    requires few { length ends.now ≤ 24 }
+    ensures some { IfSome result (IsFirstRefused ends.now sessions) }
+    ensures none { IfNone result (All IsAgreed ends.now) }
+{
+    for (place, end) in ends.iter().enumerate() {
+        if let Some(error) = refusal_of(*end) {
+            return Some(fault_for(error, who_at(place, sessions)));
+        }
+    }
+    None
+}
+
+// The error of an end that is a refusal. Words are read before they are played, so that an event alone is refused.
+fn refusal_of(end: End) -> Option<NetError>
+    ensures { result ≡ refusal_of end }
+{
+    match end {
+        End::Refused(_, SessionError::Event(error)) => Some(error),
+        End::Refused(_, SessionError::BadWord(_)) => Some(NetError::Memory),
+        End::Refused(_, SessionError::Memory) => Some(NetError::Memory),
+        End::Done | End::Resting(_) | End::Spent(_) | End::Stopped(_) => None,
+    }
+}
+
+// Whose end stands at a place, from 0: those of the sessions come first.
+fn who_at(place: usize, sessions: usize) -> Who
+    requires few { place < 24 }
+    ensures { result ≡ who_at place sessions }
+{
+    if place < sessions {
+        Who::Host((place + 1) as u8)
+    } else {
+        Who::Worker((place - sessions + 1) as u8)
+    }
+}
+
+fn fault_for(error: NetError, who: Who) -> Fault
+    ensures { result ≡ fault_for error who }
+{
+    match error {
+        NetError::Memory => Fault::Memory,
+        error => Fault::Ended { error, who },
+    }
+}
