@@ -7,7 +7,9 @@ pub mod netlists;
 mod nets;
 mod playing;
 mod script;
+mod spoiling;
 
 pub use nets::{flat_of, net_of};
 pub use playing::{Outcome, check, list, play};
 pub use script::Script;
+pub use spoiling::{Spoilt, told, told_spoilt};
