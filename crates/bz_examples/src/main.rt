@@ -1,8 +1,8 @@
 //! Goes through the examples of the repository, of which `data` has a copy, and tells of each whether the program writes what
-//! is written beside it.
+//! is written beside it, and whether it takes the traces for what they are, whole and with a line spoilt.
 #![tactic(auto)]
 
-use bz_playing::{list, play};
+use bz_playing::{Spoilt, check, list, play, told, told_spoilt};
 use std::fs;
 use std::test::Fail;
 
@@ -15,6 +15,9 @@ const PLAYED: [&str; 6] = [
     "steer",
     "careless",
 ];
+
+/// How a trace is spoilt, for each line of the file that says what is told of it then.
+const SPOILT: [Spoilt; 3] = [Spoilt::LeftOut, Spoilt::Doubled, Spoilt::Exchanged];
 
 /// Netlists with the lists of the part of their name.
 const LISTED: [&str; 2] = ["tee", "two_place"];
@@ -75,6 +78,21 @@ fn played(rt: &HostRuntime, name: &str) -> Result<(), Fail> {
     )
 }
 
+fn checked(rt: &HostRuntime, name: &str) -> Result<(), Fail> {
+    let netlist = file(rt, name, "breeze")?;
+    let trace = file(rt, name, "trace")?;
+    let outcome = check(rt.alloc(), netlist.as_str(), name, trace.as_bytes())?;
+    let mut is_right = told(rt.alloc(), &outcome)?.as_str() == "r";
+    let wanted = file(rt, name, "spoilt")?;
+    let mut wanted = wanted.lines();
+    for how in SPOILT {
+        let found = told_spoilt(rt.alloc(), netlist.as_str(), name, trace.as_str(), how)?;
+        is_right = is_right && wanted.next() == Some(found.as_str());
+    }
+    let label = format!(in rt.alloc(); "check of {name}")?;
+    tell(rt, label.as_str(), is_right)
+}
+
 fn listed(rt: &HostRuntime, name: &str) -> Result<(), Fail> {
     let netlist = file(rt, name, "breeze")?;
     let outcome = list(rt.alloc(), netlist.as_bytes(), name)?;
@@ -104,6 +122,9 @@ fn refused(rt: &HostRuntime, name: &str) -> Result<(), Fail> {
 fn main(rt: HostRuntime) -> Result<(), Fail> {
     for name in PLAYED {
         played(&rt, name)?;
+    }
+    for name in PLAYED {
+        checked(&rt, name)?;
     }
     for name in LISTED {
         listed(&rt, name)?;
