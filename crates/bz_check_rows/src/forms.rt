@@ -1,8 +1,8 @@
 //! Every form of a line, and every way to spoil it.
 
-use crate::table::{lines_are_told, told};
-use bz_playing::check;
+use crate::table::lines_are_told;
 use bz_playing::netlists::BUFFER;
+use bz_playing::{check, told};
 use std::test::Fail;
 
 /// A firing with and without values, with each item missing, doubled, spelt otherwise or out of range.
@@ -330,7 +330,7 @@ fn ends_of_lines(rt: HostRuntime) -> Result<(), Fail> {
     ];
     for (trace, want) in rows {
         let outcome = check(alloc, BUFFER, "buffer", trace.as_bytes())?;
-        let found = told(&rt, alloc, &outcome)?;
+        let found = told(alloc, &outcome)?;
         assert_eq!(rt; found.as_str(), want, "of {trace}");
     }
     Ok(())
@@ -354,7 +354,7 @@ fn form_comes_first(rt: HostRuntime) -> Result<(), Fail> {
     ];
     for (trace, want) in rows {
         let outcome = check(alloc, BUFFER, "buffer", trace.as_bytes())?;
-        let found = told(&rt, alloc, &outcome)?;
+        let found = told(alloc, &outcome)?;
         assert_eq!(rt; found.as_str(), want, "of {trace}");
     }
     Ok(())
@@ -386,7 +386,7 @@ fn clash_lines(rt: HostRuntime) -> Result<(), Fail> {
     ];
     for (trace, want) in rows {
         let outcome = check(alloc, BUFFER, "buffer", trace.as_bytes())?;
-        let found = told(&rt, alloc, &outcome)?;
+        let found = told(alloc, &outcome)?;
         assert_eq!(rt; found.as_str(), want, "of {trace}");
     }
     Ok(())

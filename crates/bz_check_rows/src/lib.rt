@@ -6,6 +6,8 @@ mod commands;
 #[cfg(test)]
 mod forms;
 #[cfg(test)]
+mod sessions;
+#[cfg(test)]
 mod table;
 #[cfg(test)]
 mod walks;

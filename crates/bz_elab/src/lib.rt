@@ -19,6 +19,3 @@ pub use elaboration::elaborate;
 pub use error::ElabError;
 pub use flat::{Ends, Flat, FlatComp, Pieces, dup_comps};
 pub use laws::{leaves_are_met, places_differ, stops_rise};
-
-#[cfg(test)]
-mod tests;

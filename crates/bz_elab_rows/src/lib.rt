@@ -4,10 +4,16 @@
 #[cfg(test)]
 mod checking;
 #[cfg(test)]
+mod circles;
+#[cfg(test)]
 mod copies;
+#[cfg(test)]
+mod nets;
 #[cfg(test)]
 mod pairs;
 #[cfg(test)]
 mod refusals;
+#[cfg(test)]
+mod small;
 #[cfg(test)]
 mod trees;

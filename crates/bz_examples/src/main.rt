@@ -1,11 +1,13 @@
 //! Goes through the examples of the repository, of which `data` has a copy, and tells of each whether the program writes what
-//! is written beside it.
+//! is written beside it, and whether it takes the traces for what they are, whole and with a line spoilt.
 #![tactic(auto)]
 
 use bz_cli::PoolOptions;
-use bz_playing::{check, list, play, pool};
+use bz_playing::{Spoilt, check, list, play, pool, told, told_spoilt};
 use std::fs;
+use std::sync::Wait;
 use std::test::Fail;
+use std::thread::Threads;
 
 /// Netlists with the words that drive them and the traces they give, each of the part of its name.
 const PLAYED: [&str; 6] = [
@@ -19,6 +21,9 @@ const PLAYED: [&str; 6] = [
 
 /// Netlists with the words of sessions and what each session is answered, in every trace, of the part of their name.
 const SHARED: [&str; 1] = ["two"];
+
+/// How a trace is spoilt, for each line of the file that says what is told of it then.
+const SPOILT: [Spoilt; 3] = [Spoilt::LeftOut, Spoilt::Doubled, Spoilt::Exchanged];
 
 /// Netlists with the lists of the part of their name.
 const LISTED: [&str; 2] = ["tee", "two_place"];
@@ -79,7 +84,7 @@ fn played(rt: &HostRuntime, name: &str) -> Result<(), Fail> {
     )
 }
 
-fn shared(rt: &HostRuntime, name: &str) -> Result<(), Fail> {
+fn shared<T: Threads + Wait + Sync>(rt: &HostRuntime, threads: &T, name: &str) -> Result<(), Fail> {
     let alloc = rt.alloc();
     let netlist = file(rt, name, "breeze")?;
     let words = file(rt, name, "words")?;
@@ -89,16 +94,38 @@ fn shared(rt: &HostRuntime, name: &str) -> Result<(), Fail> {
         fuel: 1_000_000,
         journal: 1_000_000,
     };
-    let played = pool(rt, alloc, netlist.as_str(), name, options, words.as_slice())?;
+    let played = pool(
+        threads,
+        alloc,
+        netlist.as_str(),
+        name,
+        options,
+        words.as_slice(),
+    )?;
     let verdict = check(alloc, netlist.as_str(), name, played.text.as_slice())?;
-    let mut told = String::new(alloc);
+    let mut answers = String::new(alloc);
     for session in 1..=2u8 {
         let head = format!(in alloc; "h{session} ")?;
         let lines = played.lines_of(alloc, head.as_str())?;
-        told.push_str(lines.as_str())?;
+        answers.push_str(lines.as_str())?;
     }
     let records = file(rt, name, "records")?;
-    tell(rt, name, verdict.status == 0 && told == records)
+    tell(rt, name, verdict.status == 0 && answers == records)
+}
+
+fn checked(rt: &HostRuntime, name: &str) -> Result<(), Fail> {
+    let netlist = file(rt, name, "breeze")?;
+    let trace = file(rt, name, "trace")?;
+    let outcome = check(rt.alloc(), netlist.as_str(), name, trace.as_bytes())?;
+    let mut is_right = told(rt.alloc(), &outcome)?.as_str() == "r";
+    let wanted = file(rt, name, "spoilt")?;
+    let mut wanted = wanted.lines();
+    for how in SPOILT {
+        let found = told_spoilt(rt.alloc(), netlist.as_str(), name, trace.as_str(), how)?;
+        is_right = is_right && wanted.next() == Some(found.as_str());
+    }
+    let label = format!(in rt.alloc(); "check of {name}")?;
+    tell(rt, label.as_str(), is_right)
 }
 
 fn listed(rt: &HostRuntime, name: &str) -> Result<(), Fail> {
@@ -132,7 +159,10 @@ fn main(rt: HostRuntime) -> Result<(), Fail> {
         played(&rt, name)?;
     }
     for name in SHARED {
-        shared(&rt, name)?;
+        shared(&rt, &rt, name)?;
+    }
+    for name in PLAYED {
+        checked(&rt, name)?;
     }
     for name in LISTED {
         listed(&rt, name)?;

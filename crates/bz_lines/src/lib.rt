@@ -8,8 +8,6 @@ mod page;
 mod parts;
 mod reading;
 mod tally;
-#[cfg(test)]
-mod tests;
 mod text;
 mod trace;
 

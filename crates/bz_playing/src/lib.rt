@@ -8,8 +8,10 @@ mod nets;
 mod playing;
 mod pools;
 mod script;
+mod spoiling;
 
 pub use nets::{flat_of, net_of};
 pub use playing::{Outcome, check, list, play};
 pub use pools::{Pooled, pool};
 pub use script::Script;
+pub use spoiling::{Spoilt, told, told_spoilt};

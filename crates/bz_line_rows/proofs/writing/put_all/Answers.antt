@@ -5,7 +5,7 @@ use Rattle.std.proofs.lemmas.Result.{err_from_is_err_and}
 use Rattle.bz_model.specs.Traces.{line_text}
 use Rattle.bz_lines.specs.Writing.{HasLines}
 use Rattle.bz_lines.proofs.Sent.{stops_before, pieces_stop}
-use Rattle.bz_lines.proofs.tests.put_all.Goals as goal
+use Rattle.bz_line_rows.proofs.writing.put_all.Goals as goal
 
 pub returns-in_err-put_first_line : goal.returns-in_err-put_first_line
 returns-in_err-put_first_line g c =

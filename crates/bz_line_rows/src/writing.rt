@@ -1,7 +1,9 @@
+//! Traces written from entries, line by line.
+
 ghost use Rattle.std.specs.List.{flat_map};
 ghost use Rattle.bz_lines.specs.Writing.{WritesLines};
 
-use super::*;
+use bz_lines::{NameForm, WriteFault, put_clashes, put_entries, put_first_line, write_trace_1};
 use bz_model::{Entry, Move, Names, Phase, Port, Reply, Value, Verb, Who};
 use std::alloc::{AllocError, Global};
 use std::io;
