@@ -1,8 +1,1 @@
-pub mod Taken
-pub mod Played
-pub mod Spelt
-pub mod Outcomes
 pub mod PoolOutcomes
-pub mod Lines
-pub mod Splitting
-pub mod Checks

@@ -25,14 +25,15 @@ use Rattle.bz_session.specs.declared.words.SessionError.{SessionError}
 use Rattle.bz_session.specs.declared.words.SessionError.TheVariants as session
 use Rattle.bz_session.specs.Words.{Spell}
 use Rattle.bz_session.specs.declared.playing.End.{End}
-use Rattle.bz_cli.specs.declared.fault.Fault.{Fault}
-use Rattle.bz_cli.specs.declared.fault.Fault.TheVariants.{Write}
-use Rattle.bz_cli.specs.Limits.{input_limit}
-use Rattle.bz_cli.specs.Opening.{Denotes}
-use Rattle.bz_cli.proofs.Checks.{keeps_same}
+use Rattle.bz_commands.specs.declared.fault.Fault.{Fault}
+use Rattle.bz_commands.specs.declared.fault.Fault.TheVariants.{Write}
+use Rattle.bz_commands.specs.Limits.{input_limit}
+use Rattle.bz_commands.specs.Opening.{Denotes}
+use Rattle.bz_commands.proofs.Checks.{keeps_same}
 use Rattle.bz_cli.specs.Pooling.{IsAgreed, IsFirstRefused, IsOfPool, Pooled, Pools, PoolsText, RefusesSessions, WritesClosed, fault_for}
-use Rattle.bz_cli.specs.Running.{AppendsSome}
-use Rattle.bz_cli.specs.Statuses.{of_pool, of_words}
+use Rattle.bz_commands.specs.Running.{AppendsSome}
+use Rattle.bz_commands.specs.Statuses.{of_words}
+use Rattle.bz_cli.specs.Faults.{of_pool}
 
 -- what was played on the net, and the text that goes out of it
 pub pooled_so : (fuel : ℕ) (closed : Simulation) (comps : List ℕ) (Out : List ℕ → Type 0) → AreClashed closed.wiring closed.journal comps → Run closed.wiring (opening closed.wiring) closed.journal closed.state → fired_count closed.journal ≤ fuel → Out (trace_text closed.wiring.ports closed.journal comps) → Pooled closed.wiring fuel Out

@@ -1,10 +1,2 @@
-pub mod Limits
-pub mod Reading
-pub mod Statuses
-pub mod Opening
-pub mod Playing
-pub mod Running
+pub mod Faults
 pub mod Pooling
-pub mod Listing
-pub mod Listed
-pub mod Checking

@@ -1,20 +1,9 @@
-//! The commands of `breezesim`, over any reader and writer.
+//! The commands of `breezesim`, over any reader and writer: those of `bz_commands`, and `pool`.
 #![tactic(auto)]
 
-mod checking;
-mod fault;
-mod input;
-mod list;
-mod listing;
-mod open;
-mod playing;
 mod pooling;
-mod run;
 
-pub use checking::check_cmd;
-pub use fault::Fault;
-pub use input::{INPUT_LIMIT, InputFault, read_input};
-pub use list::list_cmd;
-pub use playing::{Stop, play};
+pub use bz_commands::{
+    Fault, INPUT_LIMIT, InputFault, Stop, check_cmd, list_cmd, play, read_input, run_cmd,
+};
 pub use pooling::{PoolOptions, pool_cmd};
-pub use run::run_cmd;

@@ -8,16 +8,15 @@ ghost use Rattle.bz_model.specs.Runs.{Run};
 ghost use Rattle.bz_session.specs.HostWords.{hosts_of};
 ghost use Rattle.bz_session.specs.Limits.{max_sessions};
 ghost use Rattle.bz_session.specs.Words.{Spell, texts};
+ghost use Rattle.bz_cli.specs.Faults.{of_pool};
 ghost use Rattle.bz_cli.specs.Pooling.{IsAgreed, IsFirstRefused, fault_for, refusal_of, who_at, Pools, PoolsText, RefusesSessions, WritesClosed};
-ghost use Rattle.bz_cli.specs.Reading.{ReadsWithin};
+ghost use Rattle.bz_commands.specs.Reading.{ReadsWithin};
 
-use crate::fault::Fault;
-use crate::input::read_input;
-use crate::open::open_net;
-use crate::run::write_out;
+use bz_commands::{Fault, open_net, read_input, write_out};
+use bz_locked::CloseError;
 use bz_model::{HostCmd, NetError, Who};
 use bz_net::Net;
-use bz_pool::{Gate, run_pool};
+use bz_pool::{Gate, PoolError, run_pool};
 use bz_session::{End, SessionError, parse_host_words};
 use std::alloc::Global;
 use std::io::{Read, Write};
@@ -97,7 +96,7 @@ fn pool_text<W: Write, H: Threads + Wait + Sync>(
 {
     let net = open_net(alloc, part, options.journal, text)?;
     let count = sessions.len();
-    let (closed, ends) = run_pool(
+    let pooled = run_pool(
         rt,
         alloc,
         net,
@@ -105,8 +104,24 @@ fn pool_text<W: Write, H: Threads + Wait + Sync>(
         options.fuel,
         &Ungated,
         sessions,
-    )?;
+    );
+    let (closed, ends) = match pooled {
+        Ok(pooled) => pooled,
+        Err(error) => return Err(of_pool(error)),
+    };
     write_closed(&closed.net, ends, count, options.fuel, output)
+}
+
+// Why a pool came to no close, as the command's fault.
+fn of_pool(error: PoolError) -> Fault
+    ensures { result ≡ of_pool error }
+{
+    match error {
+        PoolError::Close(CloseError::Discord(who, at)) => Fault::Discord { who, at },
+        PoolError::Close(CloseError::Memory) => Fault::Memory,
+        PoolError::Memory => Fault::Memory,
+        PoolError::NoThread => Fault::NoThread,
+    }
 }
 
 // Writes the trace of a pool that was closed, with its ends, of which the first so many are the sessions'.

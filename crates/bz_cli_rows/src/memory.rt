@@ -1,6 +1,6 @@
 //! Memory that is refused after the net is open.
 
-use bz_cli::run_cmd;
+use bz_commands::run_cmd;
 use std::alloc::{AllocError, Global};
 use std::io;
 use std::io::Write;

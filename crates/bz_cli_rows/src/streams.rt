@@ -1,6 +1,6 @@
 //! Readers and writers that fail, and inputs at the limit, on each command.
 
-use bz_cli::{Fault, list_cmd, run_cmd};
+use bz_commands::{Fault, list_cmd, run_cmd};
 use bz_playing::netlists::BUFFER;
 use std::alloc::Global;
 use std::io;

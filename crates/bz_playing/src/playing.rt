@@ -2,7 +2,7 @@
 
 ghost use Rattle.std.specs.Prelude.{◌<◌, ◌≤◌};
 
-use bz_cli::{Fault, check_cmd, list_cmd, run_cmd};
+use bz_commands::{Fault, check_cmd, list_cmd, run_cmd};
 use std::alloc::Global;
 use std::test::Fail;
 

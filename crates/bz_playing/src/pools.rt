@@ -1,6 +1,7 @@
 //! Sessions played beside workers.
 
-use bz_cli::{Fault, PoolOptions, pool_cmd};
+use bz_cli::{PoolOptions, pool_cmd};
+use bz_commands::Fault;
 use bz_session::End;
 use std::alloc::Global;
 use std::sync::Wait;

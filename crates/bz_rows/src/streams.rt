@@ -1,6 +1,6 @@
 //! Readers and writers that fail, and want of memory.
 
-use bz_cli::{Fault, list_cmd, run_cmd};
+use bz_commands::{Fault, list_cmd, run_cmd};
 use bz_playing::netlists::BUFFER;
 use std::io;
 use std::io::{Read, Write};

@@ -1,0 +1,7 @@
+pub mod Taken
+pub mod Played
+pub mod Spelt
+pub mod Outcomes
+pub mod Lines
+pub mod Splitting
+pub mod Checks

@@ -1,0 +1,19 @@
+//! The commands `list`, `run` and `check`, over any reader and writer.
+#![tactic(auto)]
+
+mod checking;
+mod fault;
+mod input;
+mod list;
+mod listing;
+mod open;
+mod playing;
+mod run;
+
+pub use checking::check_cmd;
+pub use fault::Fault;
+pub use input::{INPUT_LIMIT, InputFault, read_input};
+pub use list::list_cmd;
+pub use open::open_net;
+pub use playing::{Stop, play};
+pub use run::{run_cmd, write_out};
