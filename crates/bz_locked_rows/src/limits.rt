@@ -1,0 +1,135 @@
+//! What a shared net refuses, and what stops it.
+
+use crate::alone::{Alone, Turns, take_alone};
+use crate::texts::{commands, journal_lines, record_lines};
+use bz_locked::{FireError, NetLedger, WaitReply, Work};
+use bz_model::{NetError, Reply};
+use bz_net::RestReply;
+use bz_playing::netlists::BUFFER;
+use bz_session::{End, SessionError};
+use std::alloc::Global;
+use std::process::Abort;
+use std::sync::Wait;
+use std::test::Fail;
+
+/// Commands that the buffer refuses from its opening on.
+const REFUSED: [(&str, NetError); 5] = [
+    ("accept:zz", NetError::UnknownPort),
+    ("accept:activate", NetError::WrongSide),
+    ("answer:i", NetError::ValueMissing),
+    ("offer:activate:1", NetError::ValueUnwanted),
+    ("answer:i:256", NetError::TooLarge),
+];
+
+struct Refusals;
+
+/// A command is refused, at once and where it would be waited for.
+fn is_refused<L: NetLedger, R: Wait + Abort>(
+    rt: &R,
+    alloc: Global,
+    alone: &mut Alone<L>,
+    word: &str,
+    error: NetError,
+) -> Result<(), Fail> {
+    let words = commands(alloc, word)?;
+    assert!(rt; words.len() == 1);
+    assert!(rt; alone.host(rt, &words[0]) == Err(error), "{word}");
+    assert!(rt; alone.wait_host(rt, &words[0]) == Err(error), "{word}");
+    let end = End::Refused(1, SessionError::Event(error));
+    assert!(rt; alone.play(rt, &words) == end, "{word}");
+    assert!(rt; alone.own().len() == 0 && alone.seen() == 0, "{word}");
+    Ok(())
+}
+
+impl Turns for Refusals {
+    fn take<L: NetLedger, R: Wait + Abort>(
+        &self,
+        rt: &R,
+        alloc: Global,
+        alone: &mut Alone<L>,
+    ) -> Result<(), Fail> {
+        for (word, error) in REFUSED {
+            is_refused(rt, alloc, alone, word, error)?;
+        }
+        for comp in [0, 2, 5, 6] {
+            let fired = alone.fire(rt, comp);
+            assert!(rt;
+                fired == Err(FireError::Net(NetError::NotEnabled)),
+                "{comp}"
+            );
+        }
+        assert!(rt; alone.wait_work(rt) == Work::Resting && alone.seen() == 0);
+        Ok(())
+    }
+}
+
+#[test]
+fn refusals_leave_no_entry(rt: HostRuntime) -> Result<(), Fail> {
+    let alloc = rt.alloc();
+    let closed = take_alone(&rt, alloc, BUFFER, "buffer", 100, 1000, &Refusals)?;
+    assert!(rt; journal_lines(alloc, &closed)?.as_str() == "" && closed.front == 0);
+    assert!(rt; closed.shares.as_slice() == [0].as_slice());
+    Ok(())
+}
+
+struct FullJournal;
+
+impl Turns for FullJournal {
+    fn take<L: NetLedger, R: Wait + Abort>(
+        &self,
+        rt: &R,
+        alloc: Global,
+        alone: &mut Alone<L>,
+    ) -> Result<(), Fail> {
+        let words = commands(alloc, "offer:activate watch:i accept:i")?;
+        assert!(rt; words.len() == 3);
+        assert!(rt; alone.wait_host(rt, &words[0]) == Ok(WaitReply::Answered(Reply::Done)));
+        assert!(rt; alone.fire(rt, 2).is_ok() && alone.fire(rt, 2).is_ok());
+        assert!(rt; alone.host(rt, &words[1]) == Err(NetError::JournalFull));
+        assert!(rt; alone.wait_host(rt, &words[1]) == Err(NetError::JournalFull));
+        assert!(rt; alone.first_ready(rt, 1) == Ok(RestReply::Ready(3)));
+        assert!(rt; alone.wait_work(rt) == Work::Ready);
+        let full = FireError::Net(NetError::JournalFull);
+        assert!(rt; alone.fire(rt, 3) == Err(full));
+        assert!(rt; alone.wait_work(rt) == Work::Stopped);
+        assert!(rt; alone.wait_host(rt, &words[2]) == Ok(WaitReply::Stopped));
+        Ok(())
+    }
+}
+
+#[test]
+fn full_journal_stops_all(rt: HostRuntime) -> Result<(), Fail> {
+    let alloc = rt.alloc();
+    let closed = take_alone(&rt, alloc, BUFFER, "buffer", 3, 1000, &FullJournal)?;
+    let lines = "h1 offer activate done\nw1 fire 2 take 1\nw1 fire 2 ask 4\n";
+    assert!(rt; journal_lines(alloc, &closed)?.as_str() == lines && closed.front == 3);
+    assert!(rt; closed.shares.as_slice() == [2].as_slice());
+    Ok(())
+}
+
+struct Stops;
+
+impl Turns for Stops {
+    fn take<L: NetLedger, R: Wait + Abort>(
+        &self,
+        rt: &R,
+        alloc: Global,
+        alone: &mut Alone<L>,
+    ) -> Result<(), Fail> {
+        alone.end(rt);
+        assert!(rt; alone.wait_work(rt) == Work::Resting);
+        alone.stop(rt);
+        assert!(rt; alone.wait_work(rt) == Work::Stopped);
+        let words = commands(alloc, "offer:activate accept:i")?;
+        assert!(rt; alone.play(rt, &words) == End::Stopped(2));
+        Ok(())
+    }
+}
+
+#[test]
+fn stop_is_told_before_rest(rt: HostRuntime) -> Result<(), Fail> {
+    let alloc = rt.alloc();
+    let closed = take_alone(&rt, alloc, BUFFER, "buffer", 100, 1000, &Stops)?;
+    assert!(rt; record_lines(alloc, &closed, 1)?.as_str() == "h1 offer activate done\n");
+    Ok(())
+}

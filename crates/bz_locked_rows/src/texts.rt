@@ -1,0 +1,52 @@
+//! Words as commands, nets just opened, and entries as the lines of a trace.
+
+ghost use Rattle.std.specs.Prelude.{◌≡◌, ◌<◌, ◌≤◌, [], IfOk};
+
+use bz_lines::put_entries;
+use bz_locked::Closed;
+use bz_model::{Entry, HostCmd};
+use bz_net::Net;
+use bz_playing::flat_of;
+use bz_session::parse_host_words;
+use std::alloc::Global;
+use std::test::Fail;
+
+/// The net of a part, with a journal of at most `limit` entries.
+pub fn opened(alloc: Global, netlist: &str, part: &str, limit: u32) -> Result<Net, Fail>
+    requires { (0 < limit) × (limit ≤ 16777216) }
+    ensures { IfOk result (λ net. net.journal ≡ []) }
+{
+    let flat = flat_of(alloc, netlist, part)?;
+    Ok(Net::open(alloc, flat, limit)?)
+}
+
+/// The commands of one session, spelled with spaces between.
+pub fn commands(alloc: Global, words: &str) -> Result<Vec<HostCmd>, Fail> {
+    let mut spelled = Vec::new(alloc);
+    for word in words.split_whitespace() {
+        spelled.push(word)?;
+    }
+    let mut sessions = parse_host_words(alloc, &spelled)?;
+    Ok(sessions.pop().ok_or("a session")?)
+}
+
+/// The lines of some entries of a net.
+fn lines(alloc: Global, net: &Net, entries: &[Entry]) -> Result<String, Fail> {
+    let mut text = Vec::new(alloc);
+    put_entries(&mut text, net.names(), entries)?;
+    Ok(String::from_utf8(text)?)
+}
+
+/// The lines of the journal.
+pub fn journal_lines(alloc: Global, closed: &Closed) -> Result<String, Fail> {
+    lines(alloc, &closed.net, closed.net.journal())
+}
+
+/// The lines of a session's record, counted from 1.
+pub fn record_lines(alloc: Global, closed: &Closed, session: usize) -> Result<String, Fail> {
+    let record = closed
+        .records
+        .get(session.wrapping_sub(1))
+        .ok_or("a record")?;
+    lines(alloc, &closed.net, record)
+}
