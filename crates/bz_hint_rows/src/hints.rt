@@ -2,7 +2,7 @@
 
 ghost use Rattle.std.specs.Prelude.{◌≡◌, ◌<◌};
 
-use bz_pool::{FIRST_CAPACITY, HintOwner, HintPass, HintThief, Stolen, hints};
+use bz_hints::{FIRST_CAPACITY, HintOwner, HintPass, HintThief, Stolen, hints};
 use std::alloc::{AllocError, Global};
 use std::sync::Wait;
 use std::test::*;

@@ -1,12 +1,11 @@
-//! Sessions and workers on threads of their own, and a worker's hints.
+//! Sessions and workers on threads of their own. A worker's hints are those of `bz_hints`, which it passes on.
 #![tactic(auto)]
 
 mod crew;
-mod hint;
 mod pool;
 mod raids;
 mod work;
 
-pub use hint::{FIRST_CAPACITY, HintOwner, HintPass, HintThief, Memory, Stolen, hints};
+pub use bz_hints::{FIRST_CAPACITY, HintOwner, HintPass, HintThief, Memory, Stolen, hints};
 pub use pool::{PoolError, run_pool};
 pub use work::Gate;

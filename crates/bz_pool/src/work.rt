@@ -2,8 +2,8 @@
 
 ghost use Rattle.std.specs.Prelude.{◌≡◌, OnOk};
 
-use crate::hint::HintOwner;
 use crate::raids::Raid;
+use bz_hints::HintOwner;
 use bz_locked::{FireError, NetLedger, SharedNet, Work, Worker};
 use bz_model::{NetError, Who};
 use bz_net::RestReply;

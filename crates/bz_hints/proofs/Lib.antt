@@ -1,0 +1,3 @@
+pub mod HintOrders
+pub mod HintMoves
+pub mod HintHistories

@@ -1,0 +1,3 @@
+pub mod HintRules
+pub mod Hints
+pub mod Stolen
