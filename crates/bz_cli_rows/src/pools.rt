@@ -114,7 +114,7 @@ fn waits<R: Threads + Wait + Sync + Abort>(
     };
     let words = "offer:activate collect:activate";
     let played = pool_of(rt, alloc, BUFFER, "buffer", options, words)?;
-    let Ok(ends) = played.answer else {
+    let Ok(ends) = &played.answer else {
         return Err(Fail::from("the pool failed"));
     };
     assert_eq!(rt; ends.as_slice().first().copied(), Some(end));
