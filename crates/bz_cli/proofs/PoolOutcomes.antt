@@ -20,10 +20,10 @@ use Rattle.bz_net.specs.Simulation.{Simulation}
 use Rattle.bz_locked.specs.declared.closing.CloseError.TheVariants as close
 use Rattle.bz_pool.specs.declared.pool.PoolError.{PoolError}
 use Rattle.bz_pool.specs.declared.pool.PoolError.TheVariants as pool
-use Rattle.bz_session.specs.HostWords.{hosts_of, SpellsHosts}
-use Rattle.bz_session.specs.declared.words.SessionError.{SessionError}
-use Rattle.bz_session.specs.declared.words.SessionError.TheVariants as session
-use Rattle.bz_session.specs.Words.{Spell}
+use Rattle.bz_words.specs.HostWords.{hosts_of, SpellsHosts}
+use Rattle.bz_words.specs.declared.words.SessionError.{SessionError}
+use Rattle.bz_words.specs.declared.words.SessionError.TheVariants as session
+use Rattle.bz_words.specs.Words.{Spell}
 use Rattle.bz_session.specs.declared.playing.End.{End}
 use Rattle.bz_commands.specs.declared.fault.Fault.{Fault}
 use Rattle.bz_commands.specs.declared.fault.Fault.TheVariants.{Write}

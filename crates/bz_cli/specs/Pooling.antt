@@ -14,11 +14,11 @@ use Rattle.bz_model.specs.Nets.{Wiring, State, opening}
 use Rattle.bz_model.specs.Runs.{Run}
 use Rattle.bz_model.specs.Traces.{IsTrace}
 use Rattle.bz_locked.specs.Journal.{fired_count}
-use Rattle.bz_session.specs.HostWords.{hosts_of, IsFirstUnfit}
-use Rattle.bz_session.specs.Words.{Spell}
+use Rattle.bz_words.specs.HostWords.{hosts_of, IsFirstUnfit}
+use Rattle.bz_words.specs.Words.{Spell}
 use Rattle.bz_session.specs.declared.playing.End.{End}
 use Rattle.bz_session.specs.declared.playing.End.TheVariants as end
-use Rattle.bz_session.specs.declared.words.SessionError.TheVariants as session
+use Rattle.bz_words.specs.declared.words.SessionError.TheVariants as session
 use Rattle.bz_commands.specs.Limits.{input_limit}
 use Rattle.bz_commands.specs.Opening.{Denotes, RefusesNet}
 use Rattle.bz_commands.specs.Running.{AppendsSome, StopsAtInput}

@@ -4,6 +4,6 @@
 mod pooling;
 
 pub use bz_commands::{
-    Fault, INPUT_LIMIT, InputFault, Stop, check_cmd, list_cmd, play, read_input, run_cmd,
+    Fault, INPUT_LIMIT, InputFault, Stop, check_cmd, list_cmd, read_input, run_cmd,
 };
 pub use pooling::{PoolOptions, pool_cmd};

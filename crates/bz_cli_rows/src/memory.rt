@@ -1,4 +1,4 @@
-//! Memory that is refused after the net is open.
+//! Memory that is used up once the net is open.
 
 use bz_commands::run_cmd;
 use std::alloc::{AllocError, Global};
@@ -60,9 +60,9 @@ fn take_all(alloc: Global) -> Result<Vec<Vec<u8>>, AllocError> {
     Ok(blocks)
 }
 
-// The net is opened, and then the journal grows until memory is refused: what was played up to there is written.
+// There is memory to open the net and no more, where a journal of these moves would take 200 MB: all is played and written.
 #[test]
-fn writes_what_was_played(rt: HostRuntime) -> Result<(), Fail> {
+fn plays_without_memory(rt: HostRuntime) -> Result<(), Fail> {
     let alloc = rt.alloc();
     let left = Vec::<u8>::with_capacity(alloc, 1 << 25)?;
     let blocks = take_all(alloc)?;
@@ -72,17 +72,13 @@ fn writes_what_was_played(rt: HostRuntime) -> Result<(), Fail> {
         last: 0,
         is_right: true,
     };
-    let words = ["offer:a", "run:16000000"];
+    let words = ["offer:a", "run:2000001"];
     let mut input = SPIN.as_bytes();
     let result = run_cmd(alloc, b"spin", 16_777_216, &words, &mut input, &mut output);
     drop(blocks);
-    let Err(fault) = result else {
-        return Err(Fail::from("all was played"));
-    };
-    assert_eq!(rt; format!(in alloc; "{fault}")?.as_str(), "F3 Memory");
-    assert_eq!(rt; fault.status(), 3);
+    assert!(rt; result.is_ok());
     assert!(rt; output.is_right);
-    assert!(rt; output.place > 10_000);
+    assert_eq!(rt; output.place, 33_500_041);
     assert_eq!(rt; output.last, b'\n');
     Ok(())
 }

@@ -1,7 +1,7 @@
 -- The ends of channels: which port of which component holds which end.
 use Rattle.std.specs.Prelude.{◌≡◌, ℕ, ◌-◌, ◌<◌, ◌≤◌, ◌^◌, Bool, true, false, not, Option, None, Some, List, length, map, slice_index_or}
 use Rattle.bz_model.specs.Names.{External, NamesDiffer}
-use Rattle.bz_model.specs.declared.channel.TheConstants.{MAX_WIDTH}
+use Rattle.bz_model.specs.Limits.{max_width}
 use Rattle.bz_model.specs.Rows.{MeetsRow}
 use Rattle.bz_model.specs.Nets.{Site, Wiring, IsPort, site_at, chan_at, passive_at, chan_in}
 use Rattle.bz_model.specs.Hosts.{port_is_passive}
@@ -39,7 +39,7 @@ pub record WellWired (w : Wiring) : Type 0 where
       → MeetsRow (site_at w.sites c).kind (site_at w.sites c).sizes (map (chan_in w.chans) (site_at w.sites c).chans)
   pub ports_to : length w.ports ≤ length w.chans
   pub names_differ : NamesDiffer w.ports
-  pub ports_narrow : (k : ℕ) → 0 < k → k ≤ length w.ports → (chan_in w.chans k).width ≤ MAX_WIDTH
+  pub ports_narrow : (k : ℕ) → 0 < k → k ≤ length w.ports → (chan_in w.chans k).width ≤ max_width
   pub chans_few : length w.chans ≤ most_chans
   pub comps_few : length w.sites ≤ most_comps
   pub ports_few : (c : ℕ) → length (site_at w.sites c).chans < 2 ^ 32

@@ -1,7 +1,7 @@
 -- The kind that a netlist names, with its parameters.
 use Rattle.std.specs.Prelude.{if◌then◌else◌, ℕ, ◌%◌, ◌^◌, ◌&&◌, nat_le, Bool, true, false, bytes_eq, Option, Some, None, List, [], ◌∷◌, codes, find, filter_map, slice_get, Result, Ok, Err}
 use Rattle.std.specs.Option.{option_map, option_and_then}
-use Rattle.bz_model.specs.declared.channel.TheConstants.{MAX_WIDTH}
+use Rattle.bz_model.specs.Limits.{max_width}
 use Rattle.bz_model.specs.declared.expr.Operand.{Operand}
 use Rattle.bz_model.specs.declared.expr.Source.TheVariants.{Given}
 use Rattle.bz_model.specs.declared.operation.UnaryOp.{UnaryOp}
@@ -163,7 +163,7 @@ binary_by params = option_map (λ op. BinaryFunc op (flag params 1) (flag params
 -- an operand of this width, with this value
 abbrev pub given : Option ℕ → Option ℕ → Bool → Option Operand
 given (Some width) (Some value) signed =
-    if nat_le 1 width && nat_le width MAX_WIDTH
+    if nat_le 1 width && nat_le width max_width
     then Some (record { source = Given value; width = width; signed = signed })
     else None
 given width value signed = None

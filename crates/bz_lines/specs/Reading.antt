@@ -6,7 +6,7 @@ use Rattle.bz_model.specs.declared.channel.Move.{Move}
 use Rattle.bz_model.specs.declared.channel.Move.TheVariants as move
 use Rattle.bz_model.specs.declared.channel.Phase.{Phase}
 use Rattle.bz_model.specs.declared.channel.Phase.TheVariants as phase
-use Rattle.bz_model.specs.declared.channel.TheConstants.{MAX_WIDTH}
+use Rattle.bz_model.specs.Limits.{max_width}
 use Rattle.bz_model.specs.declared.event.Who.{Who}
 use Rattle.bz_model.specs.declared.event.Who.TheVariants as who
 use Rattle.bz_model.specs.declared.event.Verb.{Verb}
@@ -57,7 +57,7 @@ number_at most (b ∷ t) =
     else None
 
 abbrev pub most_value : ℕ
-most_value = 2 ^ MAX_WIDTH - 1
+most_value = 2 ^ max_width - 1
 
 abbrev pub most_number : ℕ
 most_number = 4294967295

@@ -10,7 +10,7 @@ use Rattle.bz_lines.specs.declared.text.Version.{Version}
 use Rattle.bz_lines.specs.declared.text.Version.TheVariants.{One, Two}
 use Rattle.bz_lines.specs.declared.text.TraceError.{TraceError}
 use Rattle.bz_lines.specs.declared.text.TraceError.TheVariants.{Bad, Memory}
-use Rattle.bz_lines.specs.declared.text.TheConstants.{MAX_ENTRIES}
+use Rattle.bz_model.specs.Limits.{max_entries}
 use Rattle.bz_model.specs.Entries.{HasLine, IsNumber32, told}
 
 abbrev pub first_line : Version → List ℕ
@@ -36,13 +36,13 @@ spelling ports t = first_line t.version ++ (lines ports t.entries ++ clash_lines
 -- each entry has a line, there are not too many, and version 1 has no clashes
 pub record HasText (net : Outside) (t : Trace) : Type 0 where
   pub each : AllByRecursion (HasLine net) t.entries
-  pub few : length t.entries ≤ MAX_ENTRIES
+  pub few : length t.entries ≤ max_entries
   pub numbers : AllByRecursion IsNumber32 t.clashes
   pub without : t.version ≡ One → t.clashes ≡ []
 
 -- behind n entries no further one stands here: no entry's line does, or n are the most
 abbrev pub NoEntry : Outside → ℕ → List ℕ → Type 0
-NoEntry net n rest = (e : Entry) (after : List ℕ) → HasLine net e → rest ≡ line_text net.ports e ++ after → n ≡ MAX_ENTRIES
+NoEntry net n rest = (e : Entry) (after : List ℕ) → HasLine net e → rest ≡ line_text net.ports e ++ after → n ≡ max_entries
 
 abbrev pub NoClash : Version → List ℕ → Type 0
 NoClash version rest = (comp : ℕ) (after : List ℕ) → IsNumber32 comp → rest ≡ clash_text comp ++ after → version ≡ One

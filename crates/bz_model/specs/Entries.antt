@@ -5,7 +5,7 @@ use Rattle.bz_model.specs.declared.channel.Chan.{Chan}
 use Rattle.bz_model.specs.declared.channel.Move.{Move}
 use Rattle.bz_model.specs.declared.channel.Phase.{Phase}
 use Rattle.bz_model.specs.declared.channel.Phase.TheVariants as phase
-use Rattle.bz_model.specs.declared.channel.TheConstants.{MAX_WIDTH}
+use Rattle.bz_model.specs.Limits.{max_width}
 use Rattle.bz_model.specs.declared.event.Who.{Who}
 use Rattle.bz_model.specs.declared.event.Who.TheVariants as who
 use Rattle.bz_model.specs.declared.event.Verb.{Verb}
@@ -30,7 +30,7 @@ abbrev pub IsNumber32 : ℕ → Type 0
 IsNumber32 n = n < 2 ^ 32
 
 abbrev pub IsValue : ℕ → Type 0
-IsValue v = v < 2 ^ MAX_WIDTH
+IsValue v = v < 2 ^ max_width
 
 abbrev pub IsPhase : Phase → Type 0
 IsPhase phase.Idle = ⊤

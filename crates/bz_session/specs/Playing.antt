@@ -9,7 +9,7 @@ use Rattle.bz_net.specs.Answering.{is_answer}
 use Rattle.bz_locked.specs.Commands.{IsEntryOf, RefusesPoll}
 use Rattle.bz_locked.specs.Working.{WasAdded, WasTold, WasRefused}
 use Rattle.bz_locked.specs.declared.locked.Work.TheVariants as work
-use Rattle.bz_session.specs.declared.words.SessionError.TheVariants.{BadWord, Event, Memory}
+use Rattle.bz_words.specs.declared.words.SessionError.TheVariants.{BadWord, Event, Memory}
 use Rattle.bz_session.specs.declared.playing.End.{End}
 use Rattle.bz_session.specs.declared.playing.End.TheVariants.{Done, Resting, Spent, Stopped, Refused}
 

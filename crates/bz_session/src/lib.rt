@@ -1,10 +1,7 @@
-//! Words of the command line as commands, and what a host session plays of them on a shared net.
+//! What a host session plays on a shared net. Passes the words of the command line on.
 #![tactic(auto)]
 
-mod host_words;
 mod playing;
-mod words;
 
-pub use host_words::parse_host_words;
+pub use bz_words::{MAX_SESSIONS, SessionError, command, parse_host_words, parse_words, read_name};
 pub use playing::{End, play};
-pub use words::{MAX_SESSIONS, SessionError, command, parse_words, read_name};

@@ -3,9 +3,9 @@
 ghost use Rattle.std.specs.Prelude.{◌≡◌, length};
 ghost use Rattle.bz_session.specs.Playing.{Played, NamesWord, EndIs};
 
-use crate::words::SessionError;
 use bz_locked::{NetLedger, Session, SharedNet, WaitReply};
 use bz_model::HostCmd;
+use bz_words::SessionError;
 use std::sync::Wait;
 use std::sync::ledger::Ledger;
 

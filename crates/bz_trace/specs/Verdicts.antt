@@ -7,7 +7,7 @@ use Rattle.bz_model.specs.Runs.{Run}
 use Rattle.bz_model.specs.Clashes.{AreClashed}
 use Rattle.bz_model.specs.Entries.{HasWho, IsNumber32}
 use Rattle.bz_lines.specs.declared.tally.Counts.{Counts}
-use Rattle.bz_lines.specs.declared.text.TheConstants.{MAX_ENTRIES}
+use Rattle.bz_model.specs.Limits.{max_entries}
 use Rattle.bz_lines.specs.declared.text.Version.{Version}
 use Rattle.bz_lines.specs.declared.text.Version.TheVariants.{One, Two}
 use Rattle.bz_lines.specs.Counting.{is_fired, is_host, is_rest}
@@ -25,7 +25,7 @@ pub record IsRunText (w : Wiring) (text : List ℕ) : Type 0 where
   pub version : Version
   pub entries : List Entry
   pub by : AllByRecursion HasWho entries
-  pub few : length entries ≤ MAX_ENTRIES
+  pub few : length entries ≤ max_entries
   pub last : State
   pub run : Run w (opening w) entries last
   pub clashes : List ℕ

@@ -4,7 +4,7 @@ ghost use Rattle.std.specs.Prelude.{◌≡◌, ◌≢◌, ◌⊎◌, ◌++◌};
 ghost use Rattle.bz_model.specs.Nets.{outside};
 ghost use Rattle.bz_elab.specs.Wires.{WellWired};
 ghost use Rattle.bz_net.specs.Simulation.{IsOpened};
-ghost use Rattle.bz_lines.specs.declared.text.TheConstants.{MAX_ENTRIES};
+ghost use Rattle.bz_model.specs.Limits.{max_entries};
 ghost use Rattle.bz_lines.specs.Texts.{first_line};
 ghost use Rattle.bz_trace.specs.Verdicts.{AreDue, CountsRun, FirstDiffers, Judges, JudgesBy};
 
@@ -71,7 +71,7 @@ fn check_text(alloc: Global, flat: Flat, text: &[u8]) -> (Verdict, Counts)
 
 // The lines behind the first one.
 fn check_lines(net: &mut Net, names: &Names, version: Version, text: &[u8]) -> Verdict
-    requires opened { IsOpened net.old.wiring MAX_ENTRIES net.old }
+    requires opened { IsOpened net.old.wiring max_entries net.old }
     requires names { names.now ≡ outside net.old.wiring }
     requires wired { WellWired net.old.wiring }
     ensures { JudgesBy net.old.wiring (first_line version ++ text.now) net.new.journal result }

@@ -1,5 +1,5 @@
 use Rattle.std.proofs.Common.{arith}
-use Rattle.bz_session.specs.Words.{texts}
+use Rattle.bz_words.specs.Words.{texts}
 use Rattle.bz_cli.proofs.PoolOutcomes.{pools_on}
 use Rattle.bz_cli.proofs.pooling.pool_cmd.Goals as goal
 

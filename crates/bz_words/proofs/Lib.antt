@@ -1,0 +1,4 @@
+pub mod NameForms
+pub mod Commands
+pub mod Sessions
+pub mod HostSessions

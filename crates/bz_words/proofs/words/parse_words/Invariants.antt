@@ -1,0 +1,10 @@
+use Rattle.std.proofs.Common.{◌≤◌, ◌+◌, [], ◌∷◌, ◌++◌, map, take, length}
+use Rattle.bz_words.specs.declared.words.TheConstants.{MAX_SESSIONS}
+use Rattle.bz_words.specs.Words.{texts, session_of, AreSessions}
+use Rattle.bz_words.proofs.words.parse_words.Given as goal
+
+abbrev pub invariant-loop-place : goal.invariant-loop-place
+invariant-loop-place l = record {
+  spelt : AreSessions (texts (take l.place l.words)) (map session_of l.sessions.items ++ session_of l.session ∷ []);
+  few : length l.sessions.items + 1 ≤ MAX_SESSIONS;
+}
