@@ -1,18 +1,17 @@
 -- What a Bar does next: the heads of its two sides, and what each leaves.
-use Rattle.std.proofs.Common.{◌≡◌, ◌≢◌, ◌⊎◌, inl, inr, ℕ, zero, suc, ◌+◌, ◌-◌, ◌<◌, ◌≤◌, Bool, true, false, ◌&&◌, List, length, get_or, Option, Some, refl, ap, sym, ◌∙◌, subst, arith}
+use Rattle.std.proofs.Common.{◌≡◌, ◌≢◌, ◌⊎◌, inl, inr, ℕ, zero, suc, ◌+◌, ◌-◌, ◌<◌, ◌≤◌, true, false, List, length, get_or, Some, refl, ap, sym, ◌∙◌, subst, arith}
 use Rattle.std.specs.Prelude.{min}
 use Rattle.std.proofs.lemmas.Bool.{cases_lt}
 use Rattle.std.proofs.lemmas.List.{get_or_past}
 use Rattle.bz_model.specs.declared.expr.Expr.{Expr}
 use Rattle.bz_model.specs.declared.expr.Expr.TheVariants.{Nothing, SomeOne}
 use Rattle.bz_model.specs.declared.channel.Move.TheVariants.{Ask, Take, Reply, Got}
-use Rattle.bz_model.specs.Terms.{Store, Term, Terms, reply, got, seq, par, forever, done, no_terms, term, all, with_term}
-use Rattle.bz_model.specs.Heads.{Head, IsHead, HasOneHead, tidy, tidy_all, is_done, are_done, together}
-use Rattle.bz_model.specs.Processes.{after, pull, both}
-use Rattle.bz_kinds.specs.declared.row.Due.{Due}
-use Rattle.bz_kinds.specs.Row.{due_of, lead_due, leg_due}
-use Rattle.bz_kinds.specs.Together.{busy, IsLegNumber}
-use Rattle.bz_kinds.specs.Bar.{Side, round, leg_left, legs_left, left_at, side_left, IsQuiet, IsBusy, IsSide, busy_of, out, guard, activate, todo, bar_due, IsPlace}
+use Rattle.bz_model.specs.Terms.{Store, Term, reply, got, seq, par, forever, done, no_terms, term, all, with_term}
+use Rattle.bz_model.specs.Heads.{Head, IsHead, HasOneHead, tidy, tidy_all, is_done, are_done}
+use Rattle.bz_model.specs.Processes.{after}
+use Rattle.bz_kinds.specs.Row.{Due, due_of, lead_due, leg_due}
+use Rattle.bz_kinds.specs.Together.{IsLegNumber}
+use Rattle.bz_kinds.specs.Bar.{Side, round, leg_left, legs_left, left_at, side_left, IsQuiet, IsSide, out, guard, activate, todo, bar_due, IsPlace}
 use Rattle.bz_kinds.proofs.Arrays.{head-in-all, head-at-all, all-cong, with_term-all, tidy-all, all-done, all-busy, tidy-with_term}
 
 module _ (n : ℕ) (side : Side) where

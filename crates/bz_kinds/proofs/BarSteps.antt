@@ -1,17 +1,17 @@
 -- What each move of a Bar leaves.
-use Rattle.std.proofs.Common.{◌≡◌, ◌≢◌, ◌⊎◌, inl, inr, ℕ, zero, suc, ◌+◌, ◌-◌, ◌<◌, ◌≤◌, Bool, true, false, ◌&&◌, List, length, get_or, set, Some, refl, ap, sym, ◌∙◌, subst, arith}
-use Rattle.std.specs.Prelude.{not, nat_eq, if◌then◌else◌}
+use Rattle.std.proofs.Common.{◌≡◌, ◌≢◌, inl, inr, ℕ, zero, suc, ◌+◌, ◌-◌, ◌<◌, ◌≤◌, Bool, true, false, ◌&&◌, List, length, get_or, set, refl, ap, sym, ◌∙◌, arith}
+use Rattle.std.specs.Prelude.{nat_eq}
 use Rattle.std.proofs.lemmas.Bool.{cases_eq, cases_lt, eq-eqb, ne_eqb}
-use Rattle.std.proofs.lemmas.List.{get_or-set_same, get_or-set_other, get_or_past}
+use Rattle.std.proofs.lemmas.List.{get_or-set_same, get_or-set_other}
 use Rattle.std.proofs.Math.ListN.{length-set}
-use Rattle.bz_model.specs.Terms.{Store, Term, seq, par, done, no_terms, term, first_one}
-use Rattle.bz_model.specs.Heads.{Head, IsHead, tidy, is_done, together}
-use Rattle.bz_model.specs.Processes.{after, pull, both}
+use Rattle.bz_model.specs.Terms.{Store, Term, par, no_terms, term, first_one}
+use Rattle.bz_model.specs.Heads.{Head, tidy, is_done}
+use Rattle.bz_model.specs.Processes.{after, both}
 use Rattle.bz_kinds.specs.Row.{is_open, Toggles}
 use Rattle.bz_kinds.specs.Together.{busy, IsLegNumber}
-use Rattle.bz_kinds.specs.Bar.{Side, leg_left, side_left, left_at, IsQuiet, IsBusy, IsSide, busy_of, out, guard, activate, todo, IsPlace, Steps}
+use Rattle.bz_kinds.specs.Bar.{leg_left, side_left, IsQuiet, IsBusy, IsSide, busy_of, out, guard, activate, IsPlace, Steps}
 use Rattle.bz_kinds.proofs.Opening.{Keeps, keeps-set, toggles-set, toggles-then, keeps-then}
-use Rattle.bz_kinds.proofs.BarLaws.{OfSide, take_head, reply_head, ask_head, got_head, opened, opened-busy, opened-over, side-head, side-has, side-tidy, side-busy, side-same, still-side, take-leaves, ask-leaves, got-leaves, waits, whole_guard, whole_active, one-head}
+use Rattle.bz_kinds.proofs.BarLaws.{OfSide, take_head, reply_head, ask_head, got_head, opened-busy, opened-over, side-has, side-tidy, side-busy, side-same, still-side, take-leaves, ask-leaves, got-leaves, waits, whole_guard, whole_active, one-head}
 
 -- counting
 

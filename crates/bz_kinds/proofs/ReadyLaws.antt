@@ -1,5 +1,5 @@
 -- Which ports can move, by their bits.
-use Rattle.std.proofs.Common.{◌≡◌, ◌≢◌, ℕ, zero, suc, ◌+◌, ◌*◌, ◌<◌, ◌≤◌, ◌==◌, ◌⊎◌, inl, inr, Bool, true, false, List, Option, Some, None, IsTrue, IfSome, ◌↔◌, length, get_or, map, refl, sym, ap, subst, ◌∙◌, arith}
+use Rattle.std.proofs.Common.{◌≡◌, ℕ, zero, suc, ◌+◌, ◌*◌, ◌<◌, ◌≤◌, ◌==◌, inl, inr, Bool, true, false, List, Option, Some, None, IsTrue, ◌↔◌, length, get_or, map, refl, sym, ap, subst, ◌∙◌, arith}
 use Rattle.std.specs.Prelude.{not, nat_lt, nat_le, ◌&&◌, if◌then◌else◌}
 use Rattle.std.specs.Option.{option_map}
 use Rattle.std.specs.Int.{bit_at}
@@ -9,18 +9,16 @@ use Rattle.std.proofs.lemmas.Bool.{cases_lt, le-leb, lt-leb, lt-ltb, le-ltb, fal
 use Rattle.bz_bits.specs.declared.word.PortWord.{PortWord}
 use Rattle.bz_bits.specs.PortWords.{number_in, between, goes}
 use Rattle.bz_model.specs.declared.channel.Move.{Move}
-use Rattle.bz_model.specs.declared.channel.Move.TheVariants.{Ask, Take, Reply, Got}
 use Rattle.bz_model.specs.declared.channel.Chan.{Chan}
 use Rattle.bz_model.specs.Heads.{Head, IsHeadOn, Component, opens, open_at}
 use Rattle.bz_model.specs.Terms.{Store}
 use Rattle.bz_model.specs.Processes.{member}
-use Rattle.bz_kinds.specs.declared.row.Due.{Due}
 use Rattle.bz_kinds.specs.declared.row.Leg.{Leg}
 use Rattle.bz_kinds.specs.declared.row.Script.{Script}
 use Rattle.bz_kinds.specs.declared.row.Meet.{Meet}
 use Rattle.bz_kinds.specs.declared.row.Plan.{Plan}
 use Rattle.bz_kinds.specs.declared.row.Plan.TheVariants.{InTurn, Together, Once, Cells, Signalled, Select, Indexed, OneByOne, Choice, Meeting, Decision, Bar}
-use Rattle.bz_kinds.specs.Row.{is_open}
+use Rattle.bz_kinds.specs.Row.{Due, is_open}
 use Rattle.bz_kinds.specs.Comp.{todo_of, IsAt, plan_due, places}
 use Rattle.bz_kinds.specs.Start.{IsShapeOf}
 use Rattle.bz_kinds.specs.declared.shape.Shape.{Shape}

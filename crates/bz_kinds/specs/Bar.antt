@@ -4,11 +4,10 @@
 use Rattle.std.specs.Prelude.{◌≡◌, ◌⊎◌, ℕ, zero, suc, ◌+◌, ◌<◌, List, length, min, slice_index, Option, None}
 use Rattle.bz_model.specs.declared.expr.Expr.{Expr}
 use Rattle.bz_model.specs.declared.expr.Expr.TheVariants.{Nothing, SomeOne}
-use Rattle.bz_model.specs.Terms.{Store, Term, Terms, ask, reply, got, seq, par, forever, when, done, leads, all}
+use Rattle.bz_model.specs.Terms.{Store, Term, Terms, reply, got, seq, par, forever, when, done, leads, all}
 use Rattle.bz_model.specs.Heads.{Head, IsHead, tidy}
 use Rattle.bz_model.specs.Processes.{after, enclosed, pull, both}
-use Rattle.bz_kinds.specs.declared.row.Due.{Due}
-use Rattle.bz_kinds.specs.Row.{lead_due, leg_due, Toggles}
+use Rattle.bz_kinds.specs.Row.{Due, lead_due, leg_due, Toggles}
 use Rattle.bz_kinds.specs.Together.{busy, IsLegNumber}
 
 -- one of the two: its port, the ports that it encloses and the slots for what these bring, the slot for what is taken, the

@@ -1,14 +1,15 @@
 //! A guard over inputs, and a call of the output of the first input that was 1: where the ports are after a move.
 
 ghost use Rattle.std.specs.Prelude.{◌≡◌, ◌≢◌, ◌<◌, ◌^◌, slice_index, Some};
+ghost use Rattle.std.specs.Option.{option_map};
 ghost use Rattle.bz_model.specs.Terms.{Store, first_one};
 ghost use Rattle.bz_model.specs.Processes.{after};
-ghost use Rattle.bz_kinds.specs.declared.row.Due.{Due};
+ghost use Rattle.bz_kinds.specs.Row.{Due, seen};
 ghost use Rattle.bz_kinds.specs.Bar.{IsPlace, Steps, out, bar_due};
 
 use crate::enclosed::{lead_due, leg_due};
 use crate::ports::{CLOSED, CLOSED_DUE, OPEN, OPEN_DUE, Ports};
-use crate::row::{Due, Leg};
+use crate::row::DueMove;
 use bz_model::{Expr, Value, first_one};
 
 /// Makes the move that is due at a port. `left` inputs are still to be pulled, and `slots` has what came in with the move.
@@ -47,20 +48,14 @@ pub fn step(ports: &mut Ports, left: &mut u32, size: u32, port: u32, slots: &[Va
 }
 
 /// The move due at `port`, whose number is `number`.
-pub fn due(size: u32, port: u32, number: u8) -> Option<Due>
-    ensures { result ≡ bar_due size port number }
+pub fn due(size: u32, port: u32, number: u8) -> Option<DueMove<'static>>
+    ensures { option_map seen result ≡ bar_due size port number }
 {
     match port {
         0 => None,
-        1 => lead_due(size, Expr::SomeOne, number),
-        2 => lead_due(size, Expr::Nothing, number),
-        _ => {
-            let leg = Leg {
-                gives: Expr::Nothing,
-                into: size.min(port - 3),
-            };
-            leg_due(leg, number)
-        }
+        1 => lead_due(size, &Expr::SomeOne, number),
+        2 => lead_due(size, &Expr::Nothing, number),
+        _ => leg_due(&Expr::Nothing, size.min(port - 3), number),
     }
 }
 

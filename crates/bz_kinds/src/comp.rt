@@ -1,20 +1,24 @@
 //! A component: where its ports are, and the values that it keeps.
 
 ghost use Rattle.std.specs.Prelude.{◌≡◌, ◌≤◌, ◌-◌, ◌^◌, ◌<◌, ◌↔◌, not, ℕ, Some, IsTrue, IfSome, IfOk, IfErr, length, slice_index, slice_set, replicate};
+ghost use Rattle.std.specs.Option.{option_map};
 ghost use Rattle.bz_kind_table.specs.declared.error.KindError.TheVariants.{Memory};
 ghost use Rattle.bz_model.specs.Heads.{Head, IsHeadOn, CanMove, Moves, Turns, HasOneHead, carried, opens, open_at};
 ghost use Rattle.bz_model.specs.Terms.{stored, IsNarrow};
 ghost use Rattle.bz_model.specs.Rows.{MeetsRow};
 ghost use Rattle.bz_model.specs.Processes.{member, start_of};
 ghost use Rattle.bz_model.specs.Widths.{Fitted, FitsAt, HoldsAt};
+ghost use Rattle.bz_kinds.specs.Row.{seen};
 ghost use Rattle.bz_kinds.specs.Moves.{AreEnabled};
 ghost use Rattle.bz_kinds.specs.Ready.{AreReady};
 ghost use Rattle.bz_kinds.specs.Start.{BeginsAt, IsAllDue, IsDueBut, AreMembersDue};
+ghost use Rattle.bz_kinds.specs.Kept.{plan_of};
 ghost use Rattle.bz_kinds.specs.Comp.{IsAt, IsDue, IsFor, Goes, plan_due};
 
+use crate::kept::{KeptPlan, keep};
 use crate::move_iter::MoveIter;
 use crate::ports::{CLOSED, CLOSED_DUE, Ports};
-use crate::row::{Due, Plan};
+use crate::row::{DueMove, Plan};
 use crate::sense::{move_at, sense_word};
 use crate::shape::shape_of;
 use crate::{
@@ -29,7 +33,7 @@ use std::marker::Model;
 /// A component in a state, seen as its process, its channels and the ports that its own moves have opened.
 #[derive(Drop)]
 pub struct Comp {
-    plan: Plan,
+    plan: KeptPlan,
     size: u32,
     left: u32,
     ports: Ports,
@@ -51,12 +55,13 @@ impl Model for Comp {
     ghost coded = { Prim.hlevel (codes, term_code) };
 
     ghost use Rattle.bz_kinds.specs.Comp.{todo_of, IsAt, places};
+    ghost use Rattle.bz_kinds.specs.Kept.{plan_of};
     ghost use Rattle.bz_kinds.specs.Row.{is_open};
     ghost use Rattle.bz_kinds.specs.Ready.{IsSensed};
 
-    ghost view = { λ c. record { proc = record { todo = todo_of c.plan c.size c.left c.ports; store = c.slots.items }; chans = c.chans.items; open_ports = map is_open c.ports } };
+    ghost view = { λ c. record { proc = record { todo = todo_of (plan_of c.plan) c.size c.left c.ports; store = c.slots.items }; chans = c.chans.items; open_ports = map is_open c.ports } };
 
-    ghost invariant = { λ c. IsAt c.plan c.size c.left c.ports c.slots.items × ((c.size < 2 ^ 30) × IsSensed c.plan c.size 0 c.passive × (places c.plan c.size ≡ suc (length c.chans.items))) × ((bits : ℕ) × Sends c.chans.items bits (todo_of c.plan c.size c.left c.ports)) };
+    ghost invariant = { λ c. IsAt (plan_of c.plan) c.size c.left c.ports c.slots.items × ((c.size < 2 ^ 30) × IsSensed (plan_of c.plan) c.size 0 c.passive × (places (plan_of c.plan) c.size ≡ suc (length c.chans.items))) × ((bits : ℕ) × Sends c.chans.items bits (todo_of (plan_of c.plan) c.size c.left c.ports)) };
 }
 
 /// A component of this kind at its start, with arrays of these lengths, on these channels in the order of its ports.
@@ -70,9 +75,10 @@ pub fn start(alloc: Global, kind: &Kind, sizes: [u32; 2], chans: &[Chan]) -> Res
     let ports = first_ports(alloc, &shape.plan, shape.legs)?;
     let slots = vec![in alloc; 0; shape.slots as usize]?;
     let chans = chans.to_vec(alloc)?;
-    let passive = sense_word(&shape.plan, shape.legs, 0);
+    let plan = keep(alloc, shape.plan)?;
+    let passive = sense_word(&plan, shape.legs, 0);
     Ok(Comp {
-        plan: shape.plan,
+        plan,
         size: shape.legs,
         left: 0,
         ports,
@@ -111,7 +117,7 @@ pub fn apply(comp: &mut Comp, port: u32, phase: Phase) -> (Move, Option<Value>)
         unreachable!()
     };
     let incoming = phase.incoming(due.mv);
-    let value = carried(due, &comp.slots, incoming);
+    let value = carried(&due, &comp.slots, incoming);
     store(&mut comp.slots, due.into, incoming);
     advance(
         &comp.plan,
@@ -153,7 +159,7 @@ pub fn dup(alloc: Global, comp: &Comp) -> Result<Comp, KindError>
     ensures same { IfOk result (λ c. c ≡ comp.now) }
     ensures memory { IfErr result (λ e. e ≡ Memory) }
 {
-    let plan = comp.plan.dup()?;
+    let plan = comp.plan.dup(alloc)?;
     let ports = comp.ports.dup(alloc)?;
     let slots = comp.slots.to_vec(alloc)?;
     let chans = comp.chans.to_vec(alloc)?;
@@ -237,9 +243,9 @@ fn first_members(alloc: Global, count: usize, members: u32) -> Result<Ports, All
 }
 
 // What the due move carries: what it sends, else what came in.
-fn carried(due: Due, slots: &[Value], incoming: Option<Value>) -> Option<Value>
-    requires { IsNarrow due.gives }
-    ensures { result ≡ carried due.mv due.gives slots.now incoming }
+fn carried(due: &DueMove<'_>, slots: &[Value], incoming: Option<Value>) -> Option<Value>
+    requires { IsNarrow due.now.gives.now }
+    ensures { result ≡ carried due.now.mv due.now.gives.now slots.now incoming }
 {
     match due.mv {
         Move::Ask | Move::Reply => due.gives.value(slots),
@@ -265,44 +271,57 @@ fn put(slots: &mut [Value], slot: u32, value: Value)
 }
 
 /// The move due at a port, whose number is `number`.
-pub(crate) fn due_at(plan: &Plan, size: u32, left: u32, port: u32, number: u8) -> Option<Due>
-    ensures { result ≡ plan_due plan.now size left port number }
+pub(crate) fn due_at(
+    plan: &KeptPlan,
+    size: u32,
+    left: u32,
+    port: u32,
+    number: u8,
+) -> Option<DueMove<'_>>
+    ensures { option_map seen result ≡ plan_due (plan_of plan.now) size left port number }
 {
     match plan {
-        Plan::InTurn(row) | Plan::Together(row) | Plan::Once(row) => enclosed::due(
-            row, port, number,
-        ),
-        Plan::Cells => cells::due(port, number),
-        Plan::Select(_) => enclosed::due(&select::ROW, port, number),
-        Plan::Indexed(_) => indexed::due(left, port, number),
-        Plan::OneByOne(script) => script::due(*script, port, number),
-        Plan::Signalled => signalled::due(port, number),
-        Plan::Choice(mix) => choice::due(mix, size, port, number),
-        Plan::Meeting(meet) => meeting::due(meet, size, port, number),
-        Plan::Decision => decision::due(size, port, number),
-        Plan::Bar => bar::due(size, port, number),
+        KeptPlan::InTurn(row) => enclosed::due(row.get(), port, number),
+        KeptPlan::Together(row) => enclosed::due(row.get(), port, number),
+        KeptPlan::Once(row) => enclosed::due(row.get(), port, number),
+        KeptPlan::Cells => cells::due(port, number),
+        KeptPlan::Select(_) => enclosed::due(&select::ROW, port, number),
+        KeptPlan::Indexed(_) => indexed::due(left, port, number),
+        KeptPlan::OneByOne(script) => script::due(*script, port, number),
+        KeptPlan::Signalled => signalled::due(port, number),
+        KeptPlan::Choice(mix) => choice::due(mix.get(), size, port, number),
+        KeptPlan::Meeting(meet) => meeting::due(meet.get(), size, port, number),
+        KeptPlan::Decision => decision::due(size, port, number),
+        KeptPlan::Bar => bar::due(size, port, number),
     }
 }
 
 // Takes the ports to where they are after the due move at `port`. `slots` has what came in with it.
-fn advance(plan: &Plan, size: u32, left: &mut u32, ports: &mut Ports, port: u32, slots: &[Value])
-    requires place { IsAt plan.now size left.old ports.old slots.now }
+fn advance(
+    plan: &KeptPlan,
+    size: u32,
+    left: &mut u32,
+    ports: &mut Ports,
+    port: u32,
+    slots: &[Value],
+)
+    requires place { IsAt (plan_of plan.now) size left.old ports.old slots.now }
     requires small { size < 2 ^ 30 }
-    requires due { IsDue plan.now size left.old port ports.old }
-    ensures { Goes plan.now size left.old ports.old port left.new ports.new slots.now }
+    requires due { IsDue (plan_of plan.now) size left.old port ports.old }
+    ensures { Goes (plan_of plan.now) size left.old ports.old port left.new ports.new slots.now }
 {
     match plan {
-        Plan::InTurn(_) => in_turn::step(ports, left, size, port),
-        Plan::Together(_) => together::step(ports, left, size, port),
-        Plan::Once(_) => once::step(ports, left, size, port),
-        Plan::Cells => cells::step(ports, size, port),
-        Plan::Select(spans) => select::step(spans, ports, left, size, port, slots),
-        Plan::Indexed(spans) => indexed::step(spans, ports, left, size, port, slots),
-        Plan::OneByOne(script) => script::step(*script, ports, left, port, slots),
-        Plan::Signalled => signalled::step(ports, size, port),
-        Plan::Choice(mix) => choice::step(mix, ports, left, size, port),
-        Plan::Meeting(meet) => meeting::step(meet, ports, left, size, port),
-        Plan::Decision => decision::step(ports, left, size, port),
-        Plan::Bar => bar::step(ports, left, size, port, slots),
+        KeptPlan::InTurn(_) => in_turn::step(ports, left, size, port),
+        KeptPlan::Together(_) => together::step(ports, left, size, port),
+        KeptPlan::Once(_) => once::step(ports, left, size, port),
+        KeptPlan::Cells => cells::step(ports, size, port),
+        KeptPlan::Select(spans) => select::step(spans, ports, left, size, port, slots),
+        KeptPlan::Indexed(spans) => indexed::step(spans, ports, left, size, port, slots),
+        KeptPlan::OneByOne(script) => script::step(*script, ports, left, port, slots),
+        KeptPlan::Signalled => signalled::step(ports, size, port),
+        KeptPlan::Choice(mix) => choice::step(mix.get(), ports, left, size, port),
+        KeptPlan::Meeting(meet) => meeting::step(meet.get(), ports, left, size, port),
+        KeptPlan::Decision => decision::step(ports, left, size, port),
+        KeptPlan::Bar => bar::step(ports, left, size, port, slots),
     }
 }

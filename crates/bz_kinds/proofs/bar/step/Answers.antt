@@ -1,4 +1,4 @@
-use Rattle.std.proofs.Common.{sym, ◌∙◌}
+use Rattle.std.proofs.Common.{◌∙◌}
 use Rattle.bz_kinds.proofs.BarLaws.{output-three}
 use Rattle.bz_kinds.proofs.bar.step.Goals as goal
 

@@ -1,4 +1,4 @@
-use Rattle.std.proofs.Common.{◌≡◌, ◌∙◌, sym, arith}
+use Rattle.std.proofs.Common.{arith}
 use Rattle.bz_kinds.proofs.BarSteps.{took_none}
 use Rattle.bz_kinds.proofs.bar.take_activate.Goals as goal
 

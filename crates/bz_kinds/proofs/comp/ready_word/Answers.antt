@@ -1,14 +1,13 @@
-use Rattle.std.proofs.Common.{◌≡◌, ◌∙◌, ap, sym, refl, ℕ}
-use Rattle.std.specs.Prelude.{◌==◌, ◌+◌, ◌*◌}
-use Rattle.std.specs.Int.{bit_at}
+use Rattle.std.proofs.Common.{sym, refl}
 use Rattle.bz_kinds.specs.Ready.{IsSensed}
+use Rattle.bz_kinds.specs.Kept.{plan_of}
 use Rattle.bz_kinds.proofs.ReadyLaws.{ready_at, as_is, at_ports, opens_closed}
 use Rattle.bz_kinds.proofs.comp.ready_word.Goals as goal
 use Rattle.bz_kinds.proofs.comp.ready_word.Goals.{then-at-eq0, else-at-eq0}
 
 pub returns-clause-ready : goal.returns-clause-ready
 returns-clause-ready c =
-    let known : IsSensed c.comp.inside.plan c.comp.inside.size c.args.at c.if-at-eq0.passive =
+    let known : IsSensed (plan_of c.comp.inside.plan) c.comp.inside.size c.args.at c.if-at-eq0.passive =
     elim c.if-at-eq0.branch [
       | then-at-eq0 w ↦ as_is _ _ 0 c.args.at c.comp.inside.passive c.if-at-eq0.passive (sym w.if-at-eq0.true) (sym w.passive-is) c.comp.invariant.1.1
       | else-at-eq0 w ↦ as_is _ _ c.args.at c.args.at w.sense_word-passive.result c.if-at-eq0.passive refl (sym w.passive-is) w.sense_word-passive.ensures
