@@ -5,3 +5,4 @@ pub mod Outcomes
 pub mod Lines
 pub mod Splitting
 pub mod Checks
+pub mod Pieces

@@ -5,9 +5,9 @@ use Rattle.std.proofs.lemmas.List.{length-map, length-take-le, map-append, take-
 use Rattle.std.specs.Io.KnownBytes.{Appends, Keeps}
 use Rattle.bz_model.specs.declared.event.Cmd.{Cmd}
 use Rattle.bz_lines.specs.Writing.{AppendsFront}
-use Rattle.bz_session.specs.Words.{Command, IsWord, command_of, texts}
+use Rattle.bz_words.specs.Words.{Command, IsWord, command_of, texts}
 use Rattle.bz_commands.specs.Running.{AppendsSome, AreCommands, IsBadAt}
-use Rattle.bz_session.proofs.Sessions.{texts_more}
+use Rattle.bz_words.proofs.Sessions.{texts_more}
 
 pub AreCommands-push : (words : List (List ℕ)) (cs : List Command) (word : List ℕ) (c : Command) → AreCommands words cs → IsWord word c → AreCommands (words ++ word ∷ []) (cs ++ c ∷ [])
 AreCommands-push [] [] word c are is = (is, tt)

@@ -7,3 +7,4 @@ pub mod Running
 pub mod Listing
 pub mod Listed
 pub mod Checking
+pub mod Sending

@@ -12,7 +12,7 @@ use Rattle.bz_commands.specs.declared.fault.Fault.{Fault}
 use Rattle.bz_commands.specs.declared.fault.Fault.TheVariants.{Word, Event, Read, Write, Memory}
 use Rattle.bz_commands.specs.declared.playing.Stop.{Stop}
 use Rattle.bz_commands.specs.Limits.{input_limit}
-use Rattle.bz_session.specs.Words.{Command, IsWord, command_of}
+use Rattle.bz_words.specs.Words.{Command, IsWord, command_of}
 use Rattle.bz_commands.specs.Opening.{Denotes, RefusesNet}
 
 -- each word spells a command
@@ -45,6 +45,11 @@ fault_for word e = Event e word
 
 abbrev pub fault_of : Stop → Fault
 fault_of stop = fault_for stop.word stop.error
+
+-- why a play stopped, if it did
+abbrev pub stop_of : {A : Type 0} → Result A Stop → Option Stop
+stop_of (Ok u) = None
+stop_of (Err stop) = Some stop
 
 -- the entries are those that the commands play on the net, to their end or up to where they stop
 abbrev pub IsPlayed : Wiring → ℕ → List Cmd → Option Stop → List Entry → Type 0

@@ -4,8 +4,8 @@ use Rattle.bz_sexpr.specs.declared.error.SexprError.{SexprError}
 use Rattle.bz_sexpr.specs.declared.error.SexprError.TheVariants as text
 use Rattle.bz_breeze.specs.declared.error.BreezeError.{BreezeError}
 use Rattle.bz_breeze.specs.declared.error.BreezeError.TheVariants as part
-use Rattle.bz_session.specs.declared.words.SessionError.{SessionError}
-use Rattle.bz_session.specs.declared.words.SessionError.TheVariants as session
+use Rattle.bz_words.specs.declared.words.SessionError.{SessionError}
+use Rattle.bz_words.specs.declared.words.SessionError.TheVariants as session
 use Rattle.bz_commands.specs.declared.fault.Fault.{Fault}
 use Rattle.bz_commands.specs.declared.fault.Fault.TheVariants.{Word, Text, Part, Net, Event, Ended, Discord, NoThread, Read, Write, Memory}
 use Rattle.bz_commands.specs.declared.input.InputFault.{InputFault}

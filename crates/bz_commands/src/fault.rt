@@ -8,9 +8,9 @@ use crate::input::InputFault;
 use bz_breeze::{BreezeError, Place};
 use bz_elab::ElabError;
 use bz_model::{NetError, Who};
-use bz_session::SessionError;
 use bz_sexpr::SexprError;
 use bz_trace::{NameForm, WriteFault};
+use bz_words::SessionError;
 use std::alloc::{AllocError, AllocFailed};
 use std::fmt;
 

@@ -7,6 +7,7 @@ mod input;
 mod list;
 mod listing;
 mod open;
+mod pending;
 mod playing;
 mod run;
 
@@ -15,5 +16,5 @@ pub use fault::Fault;
 pub use input::{INPUT_LIMIT, InputFault, read_input};
 pub use list::list_cmd;
 pub use open::open_net;
-pub use playing::{Stop, play};
-pub use run::{run_cmd, write_out};
+pub use playing::Stop;
+pub use run::{run_cmd, run_in_pieces, write_out};

@@ -1,27 +1,31 @@
 //! The command `run`: words played on a part of a netlist, and the trace of it.
 
-ghost use Rattle.std.specs.Prelude.{◌≡◌, ◌<◌, ◌≤◌, [], map, IfOk, IfErr, IfSome, OnOk, OnErr};
+ghost use Rattle.std.specs.Prelude.{◌≡◌, ◌≢◌, ◌<◌, ◌≤◌, [], map, vec_capacity, IfOk, IfErr, IfSome, OnOk, OnErr};
 ghost use Rattle.std.specs.Io.KnownBytes.{Appends};
-ghost use Rattle.bz_model.specs.Nets.{opening};
 ghost use Rattle.bz_model.specs.Traces.{trace_text};
+ghost use Rattle.bz_net.specs.Progress.{IsToldBy};
 ghost use Rattle.bz_commands.specs.Reading.{ReadsWithin};
-ghost use Rattle.bz_session.specs.Words.{command_of, texts};
+ghost use Rattle.bz_words.specs.Words.{command_of, texts};
 ghost use Rattle.bz_commands.specs.Running.{AppendsSome, AreCommands, PlaysNet, PlaysText, RefusesWords, Runs, fault_of};
 
 use crate::fault::Fault;
 use crate::input::read_input;
-use crate::open::open_net;
-use crate::playing::{Stop, play};
+use crate::open::flat_of;
+use crate::pending::Pending;
+use crate::playing::{Stop, play_out};
 use bz_model::{Cmd, Entry, Names, NetError};
-use bz_net::Net;
-use bz_session::command;
+use bz_net::Play;
 use bz_trace::{WriteFault, write_trace};
+use bz_words::command;
 use std::alloc::Global;
 use std::io::{Read, Write};
 
-/// Plays the words on a part of the netlist that the reader gives, with a journal of at most `journal` entries, and writes
-/// the trace. Nothing is written before the net is open. The exit status of the program is 0 where all was played, else
-/// that of the fault.
+/// How many entries of a play go out at a time.
+const PIECE: usize = 2048;
+
+/// Plays the words on a part of the netlist that the reader gives, up to `journal` entries, and writes the trace as it goes.
+/// Nothing is written before the net is open, and from there on no memory is taken. Where the writer fails the words are
+/// played on to their end. The exit status of the program is 0 where all was played, else that of the fault.
 pub fn run_cmd<R: Read, W: Write>(
     alloc: Global,
     part: &[u8],
@@ -37,43 +41,75 @@ pub fn run_cmd<R: Read, W: Write>(
     // Whatever comes of it, it reads at most one byte past the limit.
     ensures bounded { ReadsWithin (R.remaining input.old) (R.remaining input.new) }
 {
+    run_in_pieces(alloc, part, journal, PIECE, words, input, output)
+}
+
+/// `run_cmd` with pieces of `room` entries.
+pub fn run_in_pieces<R: Read, W: Write>(
+    alloc: Global,
+    part: &[u8],
+    journal: u32,
+    room: usize,
+    words: &[&str],
+    input: &mut R,
+    output: &mut W,
+) -> Result<(), Fault>
+    requires least { 0 < journal }
+    requires most { journal ≤ 16777216 }
+    requires some { 0 < room }
+    ensures runs { IfSome (R.remaining input.old) (λ text. Runs text (texts words.now) part.now journal (W.contents output.old) (W.contents output.new) result) }
+    ensures bounded { ReadsWithin (R.remaining input.old) (R.remaining input.new) }
+{
     let cmds = run_words(alloc, words)?;
     let text = read_input(alloc, input)?;
     play_text(
         alloc,
         part,
         journal,
+        room,
         text.as_slice(),
         cmds.as_slice(),
         output,
     )
 }
 
-// Plays the commands on a part of the text, and writes the trace.
+// Plays the commands on a part of the text, and writes the trace in pieces of so many entries.
 fn play_text<W: Write>(
     alloc: Global,
     part: &[u8],
     journal: u32,
+    room: usize,
     text: &[u8],
     cmds: &[Cmd],
     output: &mut W,
 ) -> Result<(), Fault>
-    requires least { 0 < journal }
-    requires most { journal ≤ 16777216 }
+    requires { 0 < room }
     ensures { PlaysText text.now part.now journal cmds.now (W.contents output.old) (W.contents output.new) result }
 {
-    let net = open_net(alloc, part, journal, text)?;
-    play_net(net, cmds, output)
+    let buffer = Vec::with_capacity(alloc, room)?;
+    let flat = flat_of(alloc, part, text)?;
+    let Ok(play) = Play::open(alloc, flat, journal) else {
+        return Err(Fault::Memory);
+    };
+    play_net(play, buffer, cmds, output)
 }
 
-// Plays the commands on a net that was just opened, and writes the trace.
-fn play_net<W: Write>(mut net: Net, cmds: &[Cmd], output: &mut W) -> Result<(), Fault>
-    requires state { net.state ≡ opening net.wiring }
-    requires journal { net.journal ≡ [] }
-    ensures { PlaysNet net.wiring net.limit cmds.now (W.contents output.old) (W.contents output.new) result }
+// Plays the commands on a net that was just opened, and writes the trace through a buffer.
+fn play_net<W: Write>(
+    mut play: Play,
+    buffer: Vec<Entry>,
+    cmds: &[Cmd],
+    output: &mut W,
+) -> Result<(), Fault>
+    requires told { IsToldBy play [] }
+    requires empty { buffer.items ≡ [] }
+    requires room { 0 < vec_capacity buffer }
+    ensures plays { PlaysNet play.wiring play.left cmds.now (W.contents output.old) (W.contents output.new) result }
+    ensures memory { IfErr result (λ fault. fault ≢ Fault.Memory) }
 {
-    let played = play(&mut net, cmds);
-    write_out(net.names(), net.journal(), net.clashes(), output)?;
+    let mut pending = Pending::begin(buffer, output);
+    let played = play_out(&mut play, cmds, &mut pending, output);
+    pending.finish(play.names(), play.clashes(), output)?;
     match played {
         Ok(()) => Ok(()),
         Err(stop) => Err(fault_of(stop)),

@@ -8,3 +8,4 @@ pub mod Taken
 pub mod Lines
 pub mod Texts
 pub mod Cuts
+pub mod Counted

@@ -15,11 +15,7 @@ pub fn counts(entries: &[Entry]) -> Counts
 {
     let mut counts = Counts::NONE;
     for entry in entries {
-        match entry {
-            Entry::Fired { .. } => counts.fired += 1,
-            Entry::Host { .. } => counts.host += 1,
-            Entry::Rested { .. } => counts.rests += 1,
-        }
+        counts.add(entry);
     }
     counts
 }

@@ -14,6 +14,8 @@ pub mod Soundness
 pub mod Opening
 pub mod Hosts
 pub mod Playing
+pub mod Nodes
 pub mod Telling
 pub mod Cores
 pub mod Kept
+pub mod Pieces

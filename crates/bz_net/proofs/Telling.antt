@@ -1,8 +1,8 @@
 -- What components are told is kept, and tells where they can move.
-use Rattle.std.proofs.Common.{◌≡◌, ◌≢◌, ℕ, zero, suc, ◌+◌, ◌-◌, ◌*◌, ◌/◌, ◌%◌, ◌^◌, ◌<◌, ◌≤◌, ◌==◌, ◌⊎◌, inl, inr, Bool, true, false, Option, Some, None, List, [], length, get_or, set, map, replicate, IsTrue, ◌↔◌, refl, sym, ap, subst, ◌∙◌, arith}
-use Rattle.std.specs.Prelude.{not, MatchOption}
+use Rattle.std.proofs.Common.{◌≡◌, ◌≢◌, ℕ, zero, suc, ◌+◌, ◌-◌, ◌*◌, ◌/◌, ◌%◌, ◌^◌, ◌<◌, ◌≤◌, ◌==◌, inl, inr, Bool, true, false, Option, Some, None, List, [], length, get_or, set, replicate, IsTrue, ◌↔◌, refl, sym, ap, subst, ◌∙◌, arith}
+use Rattle.std.specs.Prelude.{not, MatchOption, MatchBool, is_some}
 use Rattle.std.specs.Int.{bit_at, from_bool, trailing_zeros, w64}
-use Rattle.std.proofs.lemmas.List.{get_or-set_same, get_or-set_other, length-set, length-map, get_or_read}
+use Rattle.std.proofs.lemmas.List.{get_or-set_same, get_or-set_other, length-set, get_or_read}
 use Rattle.std.proofs.lemmas.Bool.{cases_eq, cases_lt, false≢true}
 use Rattle.std.proofs.lemmas.Nat.Bits.{bit_at-zero, bit_at-trailing_zeros}
 use Rattle.bz_bits.specs.Row.{bit_of}
@@ -11,18 +11,18 @@ use Rattle.bz_model.specs.declared.channel.Move.TheVariants.{Ask, Take, Reply, G
 use Rattle.bz_model.specs.declared.channel.Phase.{Phase}
 use Rattle.bz_model.specs.declared.channel.Phase.TheVariants.{Idle, Asked, Taken, Replied, Broken}
 use Rattle.bz_model.specs.Phases.{may_move, phase_after}
-use Rattle.bz_model.specs.Heads.{Proc, Component, Head, IsHeadOn, CanMove, HasOneHead, Moves, Turns, opens, open_at}
+use Rattle.bz_model.specs.Heads.{Proc, Component, Head, IsHeadOn, CanMove, HasOneHead, Moves, Turns, opens}
 use Rattle.bz_model.specs.Nets.{Site, Wiring, IsPort, StepsAt, site_at, chan_at, passive_at}
 use Rattle.bz_model.specs.Runs.{CanStep, IsLowest}
 use Rattle.bz_kinds.specs.Ready.{CanGo, AreReady, is_free}
-use Rattle.bz_net.specs.Sides.{Sided, answers}
+use Rattle.bz_net.specs.Sides.{answers}
 use Rattle.bz_net.proofs.Sides.{sided-head}
 use Rattle.bz_net.specs.Keeping.{Tied, is_open, comp_at, no_comp, phase_in, state_of}
 use Rattle.bz_net.proofs.Ties.{at_other, at_same, proc_is, tied_step}
 use Rattle.bz_net.proofs.Hosts.{tied_command, side_from}
 use Rattle.bz_model.specs.declared.event.Verb.{Verb}
 use Rattle.bz_model.specs.Hosts.{host_after, refusal_at}
-use Rattle.bz_net.specs.Told.{is_here, here_at, flag_of, Told, Retold, NoneGoes, GoesFirst, IsTurning, HasChans, Sighted, AreEnds, AllAreEnds, PutAt, PutEnd, HasBit, Turned, StaysSighted, HostSighted}
+use Rattle.bz_net.specs.Told.{is_here, here_at, flag_of, Told, Retold, Goes, NoneGoes, GoesFirst, IsTurning, HasChans, Sighted, AreEnds, AllAreEnds, PutAt, PutEnd, HasBit, Turned, StaysSighted, HostSighted}
 use Rattle.bz_elab.specs.declared.flat.Ends.{Ends}
 use Rattle.bz_elab.specs.Wires.{WellWired, EndsOf, IsEnd, at_side, port_of_side, end_at, ends_in}
 
@@ -89,6 +89,17 @@ module _ (sites : List Site) (phases : List Phase) (comps : List Component) (her
     lowest = λ q lt at. first.before q lt (goes_where q at);
   }
 
+  -- and one that can move by the bits can move
+  pub moves_are : 0 < c → c ≤ length sites → (b : Bool) → MatchBool b (Goes (comp_at comps c) (here_at heres c)) (NoneGoes (comp_at comps c) (here_at heres c)) → MatchBool b (CanStep sites (state_of phases comps) c) (CanStep sites (state_of phases comps) c → ⊥)
+  moves_are from to true (p, above, last, goes) =
+      (p, steps_where p (record { comp_from = from; comp_to = to; port_from = above; port_to = (let len = sighted.chans_of c from to in omega (arith, last, len)) }) goes)
+  moves_are from to false none = λ (p, at). none p (let q = at.is_port.port_to in let len = sighted.chans_of c from to in omega (arith, q, len)) (goes_where p at)
+
+-- the first by the bits is one
+pub is_one : (c : Component) (here : List ℕ) (o : Option ℕ) → MatchOption o (NoneGoes c here) (GoesFirst c here) → MatchBool (is_some o) (Goes c here) (NoneGoes c here)
+is_one c here None none = none
+is_one c here (Some p) first = (p, first.from, first.to, first.goes)
+
 -- one word of a component's ports
 module _ (c : Component) (here : List ℕ) (at word bits : ℕ) (fits : word < 2 ^ 64) (ready : AreReady c.proc at bits word) (is : bits ≡ get_or here at 0) where
   bit_is : (q : ℕ) → q / 64 ≡ at → IsTrue (bit_at word (q % 64) == 1) ↔ CanGo c.proc q (flag_of here q)
@@ -109,6 +120,13 @@ module _ (c : Component) (here : List ℕ) (at word bits : ℕ) (fits : word < 2
         | inl low ↦ inv q low
         | inr high ↦ none_there q (omega (arith, high, lt)) (ap (λ (x : ℕ). bit_at x (q % 64)) none ∙ bit_at-zero (q % 64))
       ]
+
+  pub word_goes : 0 < word → ((p : ℕ) (h : Head) → IsHeadOn c.proc p h → (0 < p) × (p ≤ length c.chans)) → Goes c here
+  word_goes pos held =
+      let t = trailing_zeros w64 word in let f = bit_at-trailing_zeros w64 word pos fits in let tl : t < 64 = f.0 in
+      let p = 64 * at + t in let e : p / 64 ≡ at = omega (arith, tl) in let m : p % 64 ≡ t = omega (arith, tl) in
+      let can = (bit_is p e).0 (ap (λ (i : ℕ). bit_at word i == 1) m ∙ ap (λ (x : ℕ). x == 1) f.1) in
+      let (h, on, free) = can in let within = held p h on in (p, within.0, within.1, can)
 
   pub word_hits : 0 < word → ((q : ℕ) → q < 64 * at → CanGo c.proc q (flag_of here q) → ⊥) → ((p : ℕ) (h : Head) → IsHeadOn c.proc p h → (0 < p) × (p ≤ length c.chans)) → GoesFirst c here (64 * at + trailing_zeros w64 word)
   word_hits pos inv held =
@@ -214,15 +232,14 @@ bit_flag true = refl
 bit_flag false = refl
 
 -- one end is told; x is what was read there
-pub put_end : (heres : List (List ℕ)) (end : Option ℕ) (c p : ℕ) (bit : Bool) (x words : List ℕ) → end ≡ Some c → HasBit heres end p → x ≡ get_or heres (c - 1) x → length words ≡ length (get_or heres (c - 1) x) → bit_of words p ≡ from_bool bit → ((q : ℕ) → q ≢ p → bit_of words q ≡ bit_of (get_or heres (c - 1) x) q) → PutEnd heres (set heres (c - 1) words) end p bit
+pub put_end : (heres : List (List ℕ)) (end : Option ℕ) (c p : ℕ) (bit : Bool) (x words : List ℕ) → end ≡ Some c → HasBit heres end p → x ≡ get_or heres (c - 1) x → length words ≡ length x → bit_of words p ≡ from_bool bit → ((q : ℕ) → q ≢ p → bit_of words q ≡ bit_of x q) → PutEnd heres (set heres (c - 1) words) end p bit
 put_end heres None c p bit x words is has read long here others = absurd (cc)
 put_end heres (Some d) c p bit x words is has read long here others =
     let e : d ≡ c = cc in
     let (from, to, room) = subst (λ (n : ℕ). (0 < n) × (n ≤ length heres) × (p < 64 * length (here_at heres n))) e has in
     let same : x ≡ here_at heres c = get_or_read heres (c - 1) x (omega (arith, from, to)) read [] in
-    let was : get_or heres (c - 1) x ≡ here_at heres c = sym read ∙ same in
     subst (λ (n : ℕ). PutAt heres (set heres (c - 1) words) n p bit) (sym e)
-    (put_at heres c p words bit from to (long ∙ ap length was) (ap (λ (n : ℕ). n == 1) here ∙ bit_flag bit) (λ q ne. ap (λ (n : ℕ). n == 1) (others q ne) ∙ ap (λ (l : List ℕ). flag_of l q) was))
+    (put_at heres c p words bit from to (long ∙ ap length same) (ap (λ (n : ℕ). n == 1) here ∙ bit_flag bit) (λ q ne. ap (λ (n : ℕ). n == 1) (others q ne) ∙ ap (λ (l : List ℕ). flag_of l q) same))
 
 -- a net that keeps its ties and its bits is sighted
 pub sighted_from : (w : Wiring) (phases : List Phase) (comps : List Component) (heres : List (List ℕ)) → Tied w phases comps → HasChans w.sites comps → Told w phases heres → ((c : ℕ) → length (here_at heres c) ≤ 2 ^ 26) → Sighted w.sites phases comps heres
@@ -267,6 +284,11 @@ module _ (sites : List Site) (phases : List Phase) (comps : List Component) (her
   lowest_read o found turning =
       lowest_is sites phases comps heres sighted c (subst IsTurning x_at turning) from to o
       (subst (λ (l : List ℕ). MatchOption o (NoneGoes (comp_at comps c) l) (GoesFirst (comp_at comps c) l)) h_at (subst (λ (y : Component). MatchOption o (NoneGoes y h) (GoesFirst y h)) x_at found))
+
+  pub moves_read : (b : Bool) → MatchBool b (Goes x h) (NoneGoes x h) → IsTurning x → MatchBool b (CanStep sites (state_of phases comps) c) (CanStep sites (state_of phases comps) c → ⊥)
+  moves_read b found turning =
+      moves_are sites phases comps heres sighted c (subst IsTurning x_at turning) from to b
+      (subst (λ (l : List ℕ). MatchBool b (Goes (comp_at comps c) l) (NoneGoes (comp_at comps c) l)) h_at (subst (λ (y : Component). MatchBool b (Goes y h) (NoneGoes y h)) x_at found))
 
   pub room_read : length x.chans < 64 * length h
   room_read = let a = ap (λ (y : Component). length y.chans) x_at in let b = ap (λ (l : List ℕ). length l) h_at in let n = sighted.chans_of c from to in let r = sighted.room c from to in omega (arith, a, b, n, r)

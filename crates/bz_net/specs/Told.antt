@@ -51,6 +51,10 @@ pub record Retold (sites : List Site) (heres heres' : List (List ℕ)) (k : ℕ)
 abbrev pub NoneGoes : Component → List ℕ → Type 0
 NoneGoes c here = (p : ℕ) → p ≤ length c.chans → CanGo c.proc p (flag_of here p) → ⊥
 
+-- by its bits it can move at one of them
+abbrev pub Goes : Component → List ℕ → Type 0
+Goes c here = (p : ℕ) × (0 < p) × (p ≤ length c.chans) × CanGo c.proc p (flag_of here p)
+
 -- by its bits it can move at p, which is one of its ports, and at none before
 pub record GoesFirst (c : Component) (here : List ℕ) (p : ℕ) : Type 0 where
   pub from : 0 < p

@@ -11,12 +11,12 @@ ghost use Rattle.bz_net.specs.Ends.{TellsEnds, TellsPort, IsSolePort};
 ghost use Rattle.bz_net.specs.Noted.{NotedAt};
 ghost use Rattle.bz_net.specs.Sides.{answers};
 
-use crate::here::{blank_all, command, dup_bits, lowest_port, mark_all, move_comp};
-use crate::moves::{answers, can_fire, dup_all, note_clash, port_in, refusal_of, start_all};
+use crate::here::{command, lowest_port, mark_all, move_comp};
+use crate::moves::{answers, can_fire, note_clash, port_in, refusal_of};
+use crate::node::{Node, dup_all, start_all};
 use crate::noted::Noted;
-use bz_bits::PortBits;
+use bz_arena::Arena;
 use bz_elab::{Ends, Flat, FlatComp, dup_comps};
-use bz_kinds::Comp;
 use bz_model::{Move, Names, NetError, Phase, Reply, Value, Verb};
 use bz_ready::ReadySet;
 use std::alloc::{AllocError, Global};
@@ -28,8 +28,7 @@ pub(crate) struct Core {
     names: Names,
     sites: Vec<FlatComp>,
     ends: Vec<Ends>,
-    comps: Vec<Comp>,
-    heres: Vec<PortBits>,
+    nodes: Arena<Node>,
     phases: Vec<Phase>,
     ready: ReadySet,
 }
@@ -46,17 +45,18 @@ impl Model for Core {
     ghost use Rattle.std.specs.Prelude.{map};
     ghost use Rattle.bz_elab.specs.Flats.{site_of};
     ghost use Rattle.bz_net.specs.Keeping.{state_of};
+    ghost use Rattle.bz_net.specs.Nodes.{comps_of, heres_of};
 
     ghost view = { λ n. record {
       wiring = record { chans = n.names.chans; sites = map site_of n.sites.items; ports = n.names.ports };
-      state = state_of n.phases.items n.comps.items;
+      state = state_of n.phases.items (comps_of n.nodes);
     } };
 
     ghost use Rattle.bz_net.specs.Core.{CoreSound};
 
     ghost invariant = { λ n. CoreSound
         (record { chans = n.names.chans; sites = map site_of n.sites.items; ports = n.names.ports })
-        n.phases.items n.comps.items n.heres.items
+        n.phases.items (comps_of n.nodes) (heres_of n.nodes)
         n.ends.items n.ready.row };
 }
 
@@ -70,16 +70,12 @@ impl Core {
         ensures err { IfErr result (λ e. e ≡ NetError.Memory) }
     {
         let pieces = flat.into_pieces();
-        let comps = start_all(alloc, &pieces.chans, &pieces.comps)?;
+        let nodes = start_all(alloc, &pieces.chans, &pieces.comps)?;
         let phases = match vec![in alloc; Phase::Idle; pieces.chans.len()] {
             Ok(phases) => phases,
             Err(_) => return Err(NetError::Memory),
         };
-        let heres = match blank_all(alloc, &pieces.comps) {
-            Ok(heres) => heres,
-            Err(_) => return Err(NetError::Memory),
-        };
-        let ready = match mark_all(alloc, &pieces.comps, &comps, &phases, &heres) {
+        let ready = match mark_all(alloc, &pieces.comps, &phases, &nodes) {
             Ok(ready) => ready,
             Err(_) => return Err(NetError::Memory),
         };
@@ -87,8 +83,7 @@ impl Core {
             names: Names::new(pieces.ports, pieces.chans),
             sites: pieces.comps,
             ends: pieces.ends,
-            comps,
-            heres,
+            nodes,
             phases,
             ready,
         })
@@ -101,16 +96,14 @@ impl Core {
         let names = self.names.dup(alloc)?;
         let sites = dup_comps(alloc, &self.sites)?;
         let ends = Vec::from_slice(alloc, &self.ends)?;
-        let comps = dup_all(alloc, &self.comps)?;
-        let heres = dup_bits(alloc, &self.heres)?;
+        let nodes = dup_all(alloc, &self.nodes)?;
         let phases = Vec::from_slice(alloc, &self.phases)?;
-        let ready = mark_all(alloc, &self.sites, &self.comps, &self.phases, &self.heres)?;
+        let ready = mark_all(alloc, &self.sites, &self.phases, &self.nodes)?;
         Ok(Core {
             names,
             sites,
             ends,
-            comps,
-            heres,
+            nodes,
             phases,
             ready,
         })
@@ -197,7 +190,7 @@ impl Core {
         ensures { MatchBool result (StepsAt self.now.wiring.sites self.now.state comp port)
             (StepsAt self.now.wiring.sites self.now.state comp port → ⊥) }
     {
-        can_fire(&self.sites, &self.comps, &self.phases, comp, port)
+        can_fire(&self.sites, &self.nodes, &self.phases, comp, port)
     }
 
     /// The component that is next to fire, from a number on.
@@ -215,7 +208,7 @@ impl Core {
         ensures { MatchOption result (CanStep self.now.wiring.sites self.now.state comp → ⊥)
             (IsLowest self.now.wiring.sites self.now.state comp) }
     {
-        lowest_port(&self.sites, &self.phases, &self.comps, &self.heres, comp)
+        lowest_port(&self.sites, &self.phases, &self.nodes, comp)
     }
 
     /// Moves a component at a port: the channel, the move and its value.
@@ -230,8 +223,7 @@ impl Core {
         move_comp(
             &self.sites,
             &self.ends,
-            &mut self.comps,
-            &mut self.heres,
+            &mut self.nodes,
             &mut self.phases,
             &mut self.ready,
             comp,
@@ -251,8 +243,7 @@ impl Core {
         command(
             &self.sites,
             &self.ends,
-            &self.comps,
-            &mut self.heres,
+            &mut self.nodes,
             &mut self.phases,
             &mut self.ready,
             verb,

@@ -1,6 +1,6 @@
 //! What each component is told of its channels, the lowest port at which it can move by that, and its moves.
 
-ghost use Rattle.std.specs.Prelude.{◌≡◌, ◌≤◌, ◌<◌, ◌*◌, ◌^◌, ℕ, suc, length, map, MatchOption, IfSome, IfOk};
+ghost use Rattle.std.specs.Prelude.{◌≡◌, ◌≤◌, ◌<◌, ◌*◌, ◌^◌, ℕ, suc, length, map, MatchOption, MatchBool, IfSome, IfOk};
 ghost use Rattle.bz_model.specs.Nets.{StepsAt};
 ghost use Rattle.bz_elab.specs.Wires.{StandsIn, ends_in};
 ghost use Rattle.bz_elab.specs.Flats.{site_of};
@@ -8,9 +8,12 @@ ghost use Rattle.bz_kinds.specs.Ready.{CanGo};
 ghost use Rattle.bz_model.specs.Runs.{CanStep, IsLowest};
 ghost use Rattle.bz_net.specs.Keeping.{state_of, Placed, Refreshed, RefreshedEnds, MarksAll, CommandedAt, phase_in};
 ghost use Rattle.bz_model.specs.Hosts.{host_after};
-ghost use Rattle.bz_net.specs.Told.{is_here, flag_of, NoneGoes, GoesFirst, IsTurning, Sighted, AreEnds, AllAreEnds, AreBlank, HasBit, PutEnd, Retold, Turned, StaysSighted, HostSighted};
+ghost use Rattle.bz_net.specs.Nodes.{comps_of, heres_of};
+ghost use Rattle.bz_net.specs.Told.{is_here, flag_of, Goes, NoneGoes, GoesFirst, IsTurning, Sighted, AreEnds, AllAreEnds, HasBit, PutEnd, Retold, Turned, StaysSighted, HostSighted};
 
 use crate::moves::reply_to;
+use crate::node::{Node, node_id};
+use bz_arena::Arena;
 use bz_bits::PortBits;
 use bz_elab::{Ends, FlatComp};
 use bz_kinds::{Comp, ready_word};
@@ -59,91 +62,124 @@ fn lowest_far(comp: &Comp, here: &PortBits) -> Option<u32>
     None
 }
 
+/// Whether a component can move by what it is told. The ports round `port` are looked at first: there it often can, and then
+/// no others are looked at.
+fn can_go(comp: &Comp, here: &PortBits, port: u32) -> bool
+    requires room { length comp.now.chans < 64 * length here.now }
+    requires few { length here.now ≤ 2 ^ 26 }
+    ensures goes { MatchBool result (Goes comp.now here.now) (NoneGoes comp.now here.now) }
+    ensures turning { IsTurning comp.now }
+{
+    let at = port / 64;
+    let word = ready_word(comp, at, here.word(at as usize));
+    if word != 0 {
+        return true;
+    }
+    lowest_of(comp, here).is_some()
+}
+
+/// Whether a component has a step. The ports round `port` are looked at first.
+fn can_step(sites: &[FlatComp], phases: &[Phase], nodes: &Arena<Node>, comp: u32, port: u32) -> bool
+    requires sighted { Sighted (map site_of sites.now) phases.now (comps_of nodes.now) (heres_of nodes.now) }
+    requires from { 0 < comp }
+    requires to { comp ≤ length sites.now }
+    ensures { MatchBool result
+        (CanStep (map site_of sites.now) (state_of phases.now (comps_of nodes.now)) comp)
+        (CanStep (map site_of sites.now) (state_of phases.now (comps_of nodes.now)) comp → ⊥) }
+{
+    let node = nodes.get(node_id(comp));
+    can_go(&node.comp, &node.here, port)
+}
+
 /// The lowest port at which a component has a step.
 pub(crate) fn lowest_port(
     sites: &[FlatComp],
     phases: &[Phase],
-    comps: &[Comp],
-    heres: &[PortBits],
+    nodes: &Arena<Node>,
     comp: u32,
 ) -> Option<u32>
-    requires sighted { Sighted (map site_of sites.now) phases.now comps.now heres.now }
+    requires sighted { Sighted (map site_of sites.now) phases.now (comps_of nodes.now) (heres_of nodes.now) }
     requires from { 0 < comp }
     requires to { comp ≤ length sites.now }
     ensures { MatchOption result
-        (CanStep (map site_of sites.now) (state_of phases.now comps.now) comp → ⊥)
-        (IsLowest (map site_of sites.now) (state_of phases.now comps.now) comp) }
+        (CanStep (map site_of sites.now) (state_of phases.now (comps_of nodes.now)) comp → ⊥)
+        (IsLowest (map site_of sites.now) (state_of phases.now (comps_of nodes.now)) comp) }
 {
-    lowest_of(&comps[comp as usize - 1], &heres[comp as usize - 1])
+    let node = nodes.get(node_id(comp));
+    lowest_of(&node.comp, &node.here)
 }
 
 /// Tells the ports at both ends of a channel of its phase.
+#[inline(always)]
 pub(crate) fn retell(
     sites: &[FlatComp],
-    heres: &mut [PortBits],
+    nodes: &mut Arena<Node>,
     chan: u32,
     ends: Ends,
     phase: Phase,
 )
     requires ends { AreEnds (map site_of sites.now) chan ends }
-    requires active { HasBit heres.old ends.active ends.active_port }
-    requires passive { HasBit heres.old ends.passive ends.passive_port }
-    ensures { Retold (map site_of sites.now) heres.old heres.new chan phase }
+    requires active { HasBit (heres_of nodes.old) ends.active ends.active_port }
+    requires passive { HasBit (heres_of nodes.old) ends.passive ends.passive_port }
+    ensures told { Retold (map site_of sites.now) (heres_of nodes.old) (heres_of nodes.new) chan phase }
+    ensures comps { comps_of nodes.new ≡ comps_of nodes.old }
 {
-    tell_end(heres, ends.active, ends.active_port, is_here(phase, false));
-    tell_end(heres, ends.passive, ends.passive_port, is_here(phase, true));
+    tell_end(nodes, ends.active, ends.active_port, is_here(phase, false));
+    tell_end(nodes, ends.passive, ends.passive_port, is_here(phase, true));
 }
 
-fn tell_end(heres: &mut [PortBits], end: Option<u32>, port: u32, bit: bool)
-    requires { HasBit heres.old end port }
-    ensures { PutEnd heres.old heres.new end port bit }
+#[inline(always)]
+fn tell_end(nodes: &mut Arena<Node>, end: Option<u32>, port: u32, bit: bool)
+    requires { HasBit (heres_of nodes.old) end port }
+    ensures put { PutEnd (heres_of nodes.old) (heres_of nodes.new) end port bit }
+    ensures comps { comps_of nodes.new ≡ comps_of nodes.old }
 {
     if let Some(comp) = end {
-        heres[comp as usize - 1].put(port as usize, bit);
+        nodes.get_mut(node_id(comp)).here.put(port as usize, bit);
     }
 }
 
-/// Looks again whether one component can move.
+/// Looks again whether one component can move, round `port` first.
 fn refresh(
     sites: &[FlatComp],
-    comps: &[Comp],
     phases: &[Phase],
-    heres: &[PortBits],
+    nodes: &Arena<Node>,
     ready: &mut ReadySet,
     comp: u32,
+    port: u32,
 )
-    requires sighted { Sighted (map site_of sites.now) phases.now comps.now heres.now }
+    requires sighted { Sighted (map site_of sites.now) phases.now (comps_of nodes.now) (heres_of nodes.now) }
     requires from { 0 < comp }
     requires to { comp ≤ length sites.now }
     requires row { length ready.old.row ≡ suc (length sites.now) }
-    ensures { Refreshed (map site_of sites.now) (state_of phases.now comps.now) ready.old.row ready.new.row comp }
+    ensures { Refreshed (map site_of sites.now) (state_of phases.now (comps_of nodes.now)) ready.old.row ready.new.row comp }
 {
-    match lowest_port(sites, phases, comps, heres, comp) {
-        Some(_) => ready.insert(comp),
-        None => ready.remove(comp),
+    if can_step(sites, phases, nodes, comp, port) {
+        ready.insert(comp);
+    } else {
+        ready.remove(comp);
     }
 }
 
 /// Looks again whether the components at both ends of a channel can move.
 fn refresh_ends(
     sites: &[FlatComp],
-    comps: &[Comp],
     phases: &[Phase],
-    heres: &[PortBits],
+    nodes: &Arena<Node>,
     ready: &mut ReadySet,
     ends: Ends,
 )
-    requires sighted { Sighted (map site_of sites.now) phases.now comps.now heres.now }
+    requires sighted { Sighted (map site_of sites.now) phases.now (comps_of nodes.now) (heres_of nodes.now) }
     requires row { length ready.old.row ≡ suc (length sites.now) }
     requires active { IfSome ends.active (λ c. (0 < c) × (c ≤ length sites.now)) }
     requires passive { IfSome ends.passive (λ c. (0 < c) × (c ≤ length sites.now)) }
-    ensures { RefreshedEnds (map site_of sites.now) (state_of phases.now comps.now) ready.old.row ready.new.row ends }
+    ensures { RefreshedEnds (map site_of sites.now) (state_of phases.now (comps_of nodes.now)) ready.old.row ready.new.row ends }
 {
     if let Some(comp) = ends.active {
-        refresh(sites, comps, phases, heres, ready, comp);
+        refresh(sites, phases, nodes, ready, comp, ends.active_port);
     }
     if let Some(comp) = ends.passive {
-        refresh(sites, comps, phases, heres, ready, comp);
+        refresh(sites, phases, nodes, ready, comp, ends.passive_port);
     }
 }
 
@@ -151,55 +187,54 @@ fn refresh_ends(
 pub(crate) fn mark_all(
     alloc: Global,
     sites: &[FlatComp],
-    comps: &[Comp],
     phases: &[Phase],
-    heres: &[PortBits],
+    nodes: &Arena<Node>,
 ) -> Result<ReadySet, AllocError>
-    requires sighted { Sighted (map site_of sites.now) phases.now comps.now heres.now }
+    requires sighted { Sighted (map site_of sites.now) phases.now (comps_of nodes.now) (heres_of nodes.now) }
     requires few { length sites.now ≤ 1000000 }
-    ensures { IfOk result (λ ready. MarksAll (map site_of sites.now) (state_of phases.now comps.now) ready.row (length sites.now)) }
+    ensures { IfOk result (λ ready. MarksAll (map site_of sites.now) (state_of phases.now (comps_of nodes.now)) ready.row (length sites.now)) }
 {
     let count = sites.len() as u32;
     let mut ready = ReadySet::new(alloc, count)?;
     for place in 0..count {
-        refresh(sites, comps, phases, heres, &mut ready, place + 1);
+        refresh(sites, phases, nodes, &mut ready, place + 1, 1);
     }
     Ok(ready)
 }
 
 /// Moves a component at a port, tells both ends of the channel, and looks again whether the components there can move.
 /// Answers the channel, the move and its value.
+#[inline(always)]
 pub(crate) fn move_comp(
     sites: &[FlatComp],
     ends: &[Ends],
-    comps: &mut [Comp],
-    heres: &mut [PortBits],
+    nodes: &mut Arena<Node>,
     phases: &mut [Phase],
     ready: &mut ReadySet,
     comp: u32,
     port: u32,
 ) -> (u32, Move, Option<Value>)
-    requires placed { Placed (map site_of sites.now) phases.old comps.old }
-    requires sighted { Sighted (map site_of sites.now) phases.old comps.old heres.old }
-    requires stays { StaysSighted (map site_of sites.now) phases.old comps.old heres.old comp port }
-    requires steps { StepsAt (map site_of sites.now) (state_of phases.old comps.old) comp port }
+    requires placed { Placed (map site_of sites.now) phases.old (comps_of nodes.old) }
+    requires sighted { Sighted (map site_of sites.now) phases.old (comps_of nodes.old) (heres_of nodes.old) }
+    requires stays { StaysSighted (map site_of sites.now) phases.old (comps_of nodes.old) (heres_of nodes.old) comp port }
+    requires steps { StepsAt (map site_of sites.now) (state_of phases.old (comps_of nodes.old)) comp port }
     requires row { length ready.old.row ≡ suc (length sites.now) }
     requires ends_len { length ends.now ≡ length phases.old }
     requires stands { StandsIn (map site_of sites.now) ends.now }
     requires are_ends { AllAreEnds (map site_of sites.now) ends.now }
     ensures told { Turned (map site_of sites.now)
-        phases.old comps.old heres.old phases.new comps.new heres.new comp port result.0 result.1 result.2 }
-    ensures refreshed { RefreshedEnds (map site_of sites.now) (state_of phases.new comps.new)
+        phases.old (comps_of nodes.old) (heres_of nodes.old) phases.new (comps_of nodes.new) (heres_of nodes.new) comp port result.0 result.1 result.2 }
+    ensures refreshed { RefreshedEnds (map site_of sites.now) (state_of phases.new (comps_of nodes.new))
         ready.old.row ready.new.row (ends_in ends.now result.0) }
 {
     let chan = sites[comp as usize - 1].chans[port as usize - 1];
     let phase = phases[chan as usize - 1];
-    let (mv, value) = bz_kinds::apply(&mut comps[comp as usize - 1], port, phase);
+    let (mv, value) = bz_kinds::apply(&mut nodes.get_mut(node_id(comp)).comp, port, phase);
     let next = phase.after(mv, value);
     phases[chan as usize - 1] = next;
     let pair = ends[chan as usize - 1];
-    retell(sites, heres, chan, pair, next);
-    refresh_ends(sites, comps, phases, heres, ready, pair);
+    retell(sites, nodes, chan, pair, next);
+    refresh_ends(sites, phases, nodes, ready, pair);
     (chan, mv, value)
 }
 
@@ -208,16 +243,15 @@ pub(crate) fn move_comp(
 pub(crate) fn command(
     sites: &[FlatComp],
     ends: &[Ends],
-    comps: &[Comp],
-    heres: &mut [PortBits],
+    nodes: &mut Arena<Node>,
     phases: &mut [Phase],
     ready: &mut ReadySet,
     verb: Verb,
     port: u32,
     value: Option<Value>,
 ) -> Reply
-    requires sighted { Sighted (map site_of sites.now) phases.old comps.now heres.old }
-    requires stays { HostSighted (map site_of sites.now) phases.old comps.now heres.old port (host_after verb value (phase_in phases.old port)) }
+    requires sighted { Sighted (map site_of sites.now) phases.old (comps_of nodes.old) (heres_of nodes.old) }
+    requires stays { HostSighted (map site_of sites.now) phases.old (comps_of nodes.old) (heres_of nodes.old) port (host_after verb value (phase_in phases.old port)) }
     requires from { 0 < port }
     requires to { port ≤ length phases.old }
     requires row { length ready.old.row ≡ suc (length sites.now) }
@@ -225,39 +259,16 @@ pub(crate) fn command(
     requires stands { StandsIn (map site_of sites.now) ends.now }
     requires are_ends { AllAreEnds (map site_of sites.now) ends.now }
     ensures commanded { CommandedAt (map site_of sites.now) ends.now
-        comps.now phases.old phases.new
+        (comps_of nodes.old) phases.old phases.new
         ready.old.row ready.new.row verb port value result }
-    ensures told { Retold (map site_of sites.now) heres.old heres.new port (host_after verb value (phase_in phases.old port)) }
+    ensures told { Retold (map site_of sites.now) (heres_of nodes.old) (heres_of nodes.new) port (host_after verb value (phase_in phases.old port)) }
+    ensures comps { comps_of nodes.new ≡ comps_of nodes.old }
 {
     let place = port as usize - 1;
     let (reply, after) = reply_to(verb, value, phases[place]);
     phases[place] = after;
     let pair = ends[place];
-    retell(sites, heres, port, pair, after);
-    refresh_ends(sites, comps, phases, heres, ready, pair);
+    retell(sites, nodes, port, pair, after);
+    refresh_ends(sites, phases, nodes, ready, pair);
     reply
-}
-
-/// A bit for each port of each component, all 0.
-pub(crate) fn blank_all(alloc: Global, sites: &[FlatComp]) -> Result<Vec<PortBits>, AllocError>
-    ensures { IfOk result (λ heres. AreBlank (map site_of sites.now) heres.items (length sites.now)) }
-{
-    let mut heres = Vec::with_capacity(alloc, sites.len())?;
-    for site in sites {
-        let here = PortBits::new(alloc, site.chans.len() + 1)?;
-        heres.push(here)?;
-    }
-    Ok(heres)
-}
-
-/// The same bits.
-pub(crate) fn dup_bits(alloc: Global, heres: &[PortBits]) -> Result<Vec<PortBits>, AllocError>
-    ensures { IfOk result (λ same. same.items ≡ heres.now) }
-{
-    let mut same = Vec::with_capacity(alloc, heres.len())?;
-    for here in heres {
-        let copy = here.dup(alloc)?;
-        same.push(copy)?;
-    }
-    Ok(same)
 }

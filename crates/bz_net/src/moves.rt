@@ -1,22 +1,22 @@
-//! Components at their start, and reads of components and of channels, over the lists that a net keeps.
+//! Reads of components and of channels, over the lists that a net keeps, and what a host command does to a phase.
 
-ghost use Rattle.std.specs.Prelude.{true, ◌≡◌, ◌≤◌, ◌<◌, ◌^◌, ℕ, suc, length, map, All, [], MatchOption, MatchBool, IfSome, IfOk, IfErr};
-ghost use Rattle.bz_model.specs.Nets.{IsPort, StepsAt, chan_at, chan_in, site_at};
+ghost use Rattle.std.specs.Prelude.{true, ◌≡◌, ◌≤◌, ◌<◌, ◌^◌, ℕ, suc, length, map, [], MatchOption, MatchBool, IfSome};
+ghost use Rattle.bz_model.specs.Nets.{IsPort, StepsAt, chan_at, site_at};
 ghost use Rattle.bz_model.specs.Hosts.{reply_to, host_after, fits_side, received, refusal_at};
-ghost use Rattle.bz_model.specs.Rows.{MeetsRow};
-ghost use Rattle.bz_model.specs.Processes.{start_of};
 ghost use Rattle.bz_elab.specs.Flats.{site_of};
 ghost use Rattle.bz_model.specs.Clashes.{is_mixer, IsAsked, Clashes};
 ghost use Rattle.bz_net.specs.Noted.{NotedEnd};
 ghost use Rattle.bz_net.specs.Ends.{IsPortIn};
 ghost use Rattle.bz_net.specs.Sides.{answers};
-ghost use Rattle.bz_net.specs.Keeping.{state_of, Started, Placed, ReadsChans, StartsWell};
+ghost use Rattle.bz_net.specs.Keeping.{state_of, Placed, ReadsChans};
+ghost use Rattle.bz_net.specs.Nodes.{comps_of};
 
+use crate::node::{Node, node_id};
 use crate::noted::Noted;
+use bz_arena::Arena;
 use bz_elab::{Ends, FlatComp};
-use bz_kinds::{Comp, is_passive};
-use bz_model::{Chan, ChanKind, Kind, Move, Names, NetError, Phase, Reply, Value, Verb, fits};
-use std::alloc::{AllocError, Global};
+use bz_kinds::is_passive;
+use bz_model::{ChanKind, Kind, Move, Names, NetError, Phase, Reply, Value, Verb, fits};
 
 /// The channel at a component's port.
 pub(crate) fn chan_of(sites: &[FlatComp], comp: u32, port: u32) -> Option<u32>
@@ -59,19 +59,23 @@ pub(crate) fn port_in(ends: &[Ends], chan: u32, passive: bool, comp: u32) -> Opt
 /// Whether a component has a step at a port.
 pub(crate) fn can_fire(
     sites: &[FlatComp],
-    comps: &[Comp],
+    nodes: &Arena<Node>,
     phases: &[Phase],
     comp: u32,
     port: u32,
 ) -> bool
-    requires { Placed (map site_of sites.now) phases.now comps.now }
+    requires { Placed (map site_of sites.now) phases.now (comps_of nodes.now) }
     ensures { MatchBool result
-        (StepsAt (map site_of sites.now) (state_of phases.now comps.now) comp port)
-        (StepsAt (map site_of sites.now) (state_of phases.now comps.now) comp port → ⊥) }
+        (StepsAt (map site_of sites.now) (state_of phases.now (comps_of nodes.now)) comp port)
+        (StepsAt (map site_of sites.now) (state_of phases.now (comps_of nodes.now)) comp port → ⊥) }
 {
     match chan_of(sites, comp, port) {
         None => false,
-        Some(chan) => bz_kinds::enabled(&comps[comp as usize - 1], port, phases[chan as usize - 1]),
+        Some(chan) => bz_kinds::enabled(
+            &nodes.get(node_id(comp)).comp,
+            port,
+            phases[chan as usize - 1],
+        ),
     }
 }
 
@@ -203,60 +207,5 @@ pub(crate) fn refusal_of(
         (true, Some(value)) if !fits(chan.width, value) => Some(NetError::TooLarge),
         (false, Some(_)) => Some(NetError::ValueUnwanted),
         _ => None,
-    }
-}
-
-/// A component at its start for each flat component.
-pub(crate) fn start_all(
-    alloc: Global,
-    chans: &[Chan],
-    sites: &[FlatComp],
-) -> Result<Vec<Comp>, NetError>
-    requires { StartsWell chans.now (map site_of sites.now) }
-    ensures ok { IfOk result (λ comps. Started chans.now (map site_of sites.now) comps.items (length sites.now)) }
-    ensures err { IfErr result (λ e. e ≡ NetError.Memory) }
-{
-    let mut comps = Vec::new(alloc);
-    for site in sites {
-        let comp = start_one(alloc, chans, site)?;
-        match comps.push(comp) {
-            Ok(()) => {}
-            Err(_) => return Err(NetError::Memory),
-        }
-    }
-    Ok(comps)
-}
-
-/// The same components.
-pub(crate) fn dup_all(alloc: Global, comps: &[Comp]) -> Result<Vec<Comp>, AllocError>
-    ensures { IfOk result (λ v. v.items ≡ comps.now) }
-{
-    let mut same = Vec::new(alloc);
-    for comp in comps {
-        let Ok(copy) = bz_kinds::dup(alloc, comp) else {
-            return Err(AllocError);
-        };
-        same.push(copy)?;
-    }
-    Ok(same)
-}
-
-/// A component at its start.
-fn start_one(alloc: Global, chans: &[Chan], site: &FlatComp) -> Result<Comp, NetError>
-    requires chans { All (λ k. (0 < k) × (k ≤ length chans.now)) site.now.chans.items }
-    requires meets { MeetsRow site.now.kind site.now.sizes (map (chan_in chans.now) site.now.chans.items) }
-    ensures ok { IfOk result (λ comp. comp ≡ start_of site.now.kind site.now.sizes (map (chan_in chans.now) site.now.chans.items)) }
-    ensures err { IfErr result (λ e. e ≡ NetError.Memory) }
-{
-    let mut own = Vec::new(alloc);
-    for chan in &site.chans {
-        match own.push(chans[*chan as usize - 1]) {
-            Ok(()) => {}
-            Err(_) => return Err(NetError::Memory),
-        }
-    }
-    match bz_kinds::start(alloc, &site.kind, site.sizes, &own) {
-        Ok(comp) => Ok(comp),
-        Err(_) => Err(NetError::Memory),
     }
 }

@@ -3,3 +3,5 @@
 
 #[cfg(test)]
 mod nets;
+#[cfg(test)]
+mod plays;

@@ -1,8 +1,8 @@
 //! Calls of a net by host 1 and worker 1. They promise nothing, so that a test of many calls is proved without all that each of
 //! them promises.
 
-use bz_model::{Entry, Move, NetError, Reply, Value, Who};
-use bz_net::{Answer, Event, Net, RestReply, RunEnd};
+use bz_model::{Entry, HostCmd, Move, NetError, Reply, Value, Verb, Who};
+use bz_net::{Answer, Event, Net, Piece, Play, RestReply, RunEnd};
 use std::alloc::Global;
 
 const HOST: Who = Who::Host(1);
@@ -86,4 +86,52 @@ pub fn journal_len(net: &Net) -> usize {
 
 pub fn has_same_journal(net: &Net, other: &Net) -> bool {
     net.journal() == other.journal()
+}
+
+/// A host command on a net that keeps no journal.
+pub fn command(play: &mut Play, cmd: &HostCmd) -> Result<Entry, NetError> {
+    play.command(HOST, cmd)
+}
+
+/// Firings of a net that keeps no journal, into a buffer.
+pub fn run_into(play: &mut Play, from: u32, fuel: u64, buffer: &mut Vec<Entry>) -> Piece {
+    play.run_into(WORKER, from, fuel, buffer)
+}
+
+/// Whether these are the components at which requests met.
+pub fn has_clashes(play: &Play, comps: &[u32]) -> bool {
+    play.clashes() == comps
+}
+
+/// Whether the net has a channel of this number.
+pub fn has_chan(play: &Play, chan: u32) -> bool {
+    play.names().chan(chan).is_some()
+}
+
+/// The port of a move in a net that keeps no journal.
+pub fn port_of_move(play: &Play, comp: u32, chan: u32, mv: Move) -> Option<u32> {
+    play.port_at(comp, chan, mv)
+}
+
+/// A firing of a net that keeps no journal.
+pub fn move_at(play: &mut Play, comp: u32, port: u32) -> Result<Entry, NetError> {
+    play.fire_move(WORKER, comp, port)
+}
+
+/// Whether a net that keeps no journal rests.
+pub fn ask_rest(play: &mut Play) -> Result<RestReply, NetError> {
+    play.rest(WORKER)
+}
+
+/// A host command at the port of this number on a net that keeps no journal.
+pub fn host_at(
+    play: &mut Play,
+    verb: Verb,
+    port: u32,
+    value: Option<Value>,
+) -> Result<Reply, NetError> {
+    if port == 0 || port as usize > play.names().ports().len() {
+        return Err(NetError::UnknownPort);
+    }
+    play.host_at(HOST, verb, port, value)
 }

@@ -3,7 +3,7 @@
 ghost use Rattle.std.specs.Prelude.{◌<◌, ◌≤◌};
 
 use bz_elab::Flat;
-use bz_net::Net;
+use bz_net::{Net, Play};
 use std::alloc::Global;
 use std::test::Fail;
 
@@ -21,4 +21,10 @@ pub fn net_of(alloc: Global, netlist: &str, part: &str, limit: u32) -> Result<Ne
 {
     let flat = flat_of(alloc, netlist, part)?;
     Ok(Net::open(alloc, flat, limit)?)
+}
+
+/// The net of a part, at its opening, without a journal: it lets in `limit` entries.
+pub fn play_of(alloc: Global, netlist: &str, part: &str, limit: u32) -> Result<Play, Fail> {
+    let flat = flat_of(alloc, netlist, part)?;
+    Ok(Play::open(alloc, flat, limit)?)
 }

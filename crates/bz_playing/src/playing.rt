@@ -2,7 +2,12 @@
 
 ghost use Rattle.std.specs.Prelude.{◌<◌, ◌≤◌};
 
-use bz_commands::{Fault, check_cmd, list_cmd, run_cmd};
+use crate::calls::{run, serve_host};
+use crate::nets::net_of;
+use bz_commands::{Fault, check_cmd, list_cmd, run_cmd, run_in_pieces, write_out};
+use bz_model::{Cmd, NetError};
+use bz_net::{Event, Net, RunEnd};
+use bz_session::command;
 use std::alloc::Global;
 use std::test::Fail;
 
@@ -36,6 +41,71 @@ pub fn play(
         &mut trace,
     );
     gathered(alloc, trace, result)
+}
+
+/// Plays the words, with a trace that goes out in pieces of `room` entries.
+pub fn play_in_pieces(
+    alloc: Global,
+    netlist: &str,
+    part: &str,
+    journal: u32,
+    room: usize,
+    words: &[&str],
+) -> Result<Outcome, Fail>
+    requires least { 0 < journal }
+    requires most { journal ≤ 16777216 }
+    requires some { 0 < room }
+{
+    let mut input = netlist.as_bytes();
+    let mut trace = Vec::new(alloc);
+    let result = run_in_pieces(
+        alloc,
+        part.as_bytes(),
+        journal,
+        room,
+        words,
+        &mut input,
+        &mut trace,
+    );
+    gathered(alloc, trace, result)
+}
+
+/// Plays the words on a net that keeps its journal, and writes the trace of that.
+pub fn play_with_journal(
+    alloc: Global,
+    netlist: &str,
+    part: &str,
+    journal: u32,
+    words: &[&str],
+) -> Result<Outcome, Fail>
+    requires least { 0 < journal }
+    requires most { journal ≤ 16777216 }
+{
+    let mut net = net_of(alloc, netlist, part, journal)?;
+    let mut answer = Ok(());
+    for (place, word) in words.iter().enumerate() {
+        let Some(cmd) = command(alloc, word)? else {
+            return Err(Fail::from("no word"));
+        };
+        if let Err(error) = event(&mut net, &cmd) {
+            let word = place + 1;
+            answer = Err(Fault::Event { error, word });
+            break;
+        }
+    }
+    let mut trace = Vec::new(alloc);
+    write_out(net.names(), net.journal(), net.clashes(), &mut trace)?;
+    gathered(alloc, trace, answer)
+}
+
+fn event(net: &mut Net, cmd: &Cmd) -> Result<(), NetError> {
+    match cmd {
+        Cmd::Host(cmd) => serve_host(net, Event::Host(cmd)).map(|_| ()),
+        Cmd::Run(fuel) => match run(net, 1, *fuel) {
+            RunEnd::Refused(_, error) => Err(error),
+            _ => Ok(()),
+        },
+    }
 }
 
 /// Lists a part of the netlist.

@@ -1,5 +1,5 @@
 use Rattle.std.proofs.Common.{map, take}
-use Rattle.bz_session.specs.Words.{command_of, texts}
+use Rattle.bz_words.specs.Words.{command_of, texts}
 use Rattle.bz_commands.specs.Running.{AreCommands}
 use Rattle.bz_commands.proofs.run.run_words.Given as goal
 

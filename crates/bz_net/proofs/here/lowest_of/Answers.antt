@@ -1,4 +1,4 @@
-use Rattle.std.proofs.Common.{◌≡◌, ◌+◌, ◌*◌, ◌<◌, ℕ, subst, arith}
+use Rattle.std.proofs.Common.{◌≡◌, ◌+◌, ◌*◌, ℕ, subst, arith}
 use Rattle.std.specs.Int.{trailing_zeros, w64}
 use Rattle.bz_net.specs.Told.{GoesFirst}
 use Rattle.bz_net.proofs.Telling.{word_passes, word_hits}

@@ -1,21 +1,29 @@
-use Rattle.std.proofs.Common.{◌≡◌, ◌≤◌, length, map, sym, subst}
+use Rattle.std.proofs.Common.{◌≤◌, map, sym, subst}
 use Rattle.std.proofs.lemmas.List.{length-map}
 use Rattle.bz_elab.specs.Flats.{site_of}
+use Rattle.bz_net.specs.Nodes.{comps_of, heres_of}
+use Rattle.bz_net.proofs.Nodes.{comp_read, bits_read}
 use Rattle.bz_net.proofs.Telling.{lowest_read, room_read, few_read}
 use Rattle.bz_net.proofs.here.lowest_port.Goals as goal
 
 pub returns : goal.returns
 returns c =
-    lowest_read (map site_of c.args.sites.now) c.args.phases.now c.args.comps.now c.args.heres.now c.requires.sighted c.args.comp c.requires.from
-    (subst (λ n. c.args.comp ≤ n) (sym (length-map c.args.sites.now site_of)) c.requires.to) c.index-comps-comp.result c.index-heres-comp.result c.index-comps-comp.is c.index-heres-comp.is
+    let nodes = c.args.nodes.now in let x = c.get-node.result.now in let comp = c.args.comp in
+    let at = c.node_id.ensures in let is = c.get-node.ensures in
+    lowest_read (map site_of c.args.sites.now) c.args.phases.now (comps_of nodes) (heres_of nodes) c.requires.sighted comp c.requires.from
+    (subst (λ n. comp ≤ n) (sym (length-map c.args.sites.now site_of)) c.requires.to) x.comp x.here (comp_read nodes comp c.node_id.result x at is) (bits_read nodes comp c.node_id.result x at is)
     c.lowest_of.result c.lowest_of.ensures.lowest c.lowest_of.ensures.turning
 
 pub lowest_of-requires-clause-room : goal.lowest_of-requires-clause-room
 lowest_of-requires-clause-room c =
-    room_read (map site_of c.args.sites.now) c.args.phases.now c.args.comps.now c.args.heres.now c.requires.sighted c.args.comp c.requires.from
-    (subst (λ n. c.args.comp ≤ n) (sym (length-map c.args.sites.now site_of)) c.requires.to) c.index-comps-comp.result c.index-heres-comp.result c.index-comps-comp.is c.index-heres-comp.is
+    let nodes = c.args.nodes.now in let x = c.get-node.result.now in let comp = c.args.comp in
+    let at = c.node_id.ensures in let is = c.get-node.ensures in
+    room_read (map site_of c.args.sites.now) c.args.phases.now (comps_of nodes) (heres_of nodes) c.requires.sighted comp c.requires.from
+    (subst (λ n. comp ≤ n) (sym (length-map c.args.sites.now site_of)) c.requires.to) x.comp x.here (comp_read nodes comp c.node_id.result x at is) (bits_read nodes comp c.node_id.result x at is)
 
 pub lowest_of-requires-clause-few : goal.lowest_of-requires-clause-few
 lowest_of-requires-clause-few c =
-    few_read (map site_of c.args.sites.now) c.args.phases.now c.args.comps.now c.args.heres.now c.requires.sighted c.args.comp c.requires.from
-    (subst (λ n. c.args.comp ≤ n) (sym (length-map c.args.sites.now site_of)) c.requires.to) c.index-comps-comp.result c.index-heres-comp.result c.index-comps-comp.is c.index-heres-comp.is
+    let nodes = c.args.nodes.now in let x = c.get-node.result.now in let comp = c.args.comp in
+    let at = c.node_id.ensures in let is = c.get-node.ensures in
+    few_read (map site_of c.args.sites.now) c.args.phases.now (comps_of nodes) (heres_of nodes) c.requires.sighted comp c.requires.from
+    (subst (λ n. comp ≤ n) (sym (length-map c.args.sites.now site_of)) c.requires.to) x.comp x.here (comp_read nodes comp c.node_id.result x at is) (bits_read nodes comp c.node_id.result x at is)

@@ -6,6 +6,7 @@ use Rattle.bz_elab.specs.Flats.{site_of}
 use Rattle.bz_net.specs.Core.{Standing}
 use Rattle.bz_net.specs.Keeping.{state_of}
 use Rattle.bz_net.proofs.Readiness.{next_ready}
+use Rattle.bz_net.specs.Nodes.{comps_of}
 use Rattle.bz_net.proofs.core_net.Core.next_ready.Goals as goal
 
 pub returns : goal.returns
@@ -13,4 +14,4 @@ returns c =
     let n = c.self.inside in
     let w : Wiring = record { chans = n.names.chans; sites = map site_of n.sites.items; ports = n.names.ports } in
     subst (λ (v : Standing). MatchOption c.next_from.result (Rest v.wiring.sites v.state) (IsNext (CanStep v.wiring.sites v.state) c.args.from)) c.self.view_is
-    (next_ready w (state_of n.phases.items n.comps.items) n.ready.row c.args.from c.next_from.result c.self.invariant.ready c.next_from.ensures)
+    (next_ready w (state_of n.phases.items (comps_of n.nodes)) n.ready.row c.args.from c.next_from.result c.self.invariant.ready c.next_from.ensures)

@@ -1,21 +1,21 @@
-use Rattle.std.proofs.Common.{◌≡◌, ◌<◌, ◌≤◌, ◌-◌, true, length, map, refl, sym, ap, subst, arith, ◌∙◌}
+use Rattle.std.proofs.Common.{◌≡◌, ◌-◌, true, length, map, sym, ap, subst, arith, ◌∙◌}
 use Rattle.std.proofs.lemmas.List.{get_or_read, length-map}
 use Rattle.bz_elab.specs.declared.flat.Ends.{Ends}
-use Rattle.bz_elab.specs.Wires.{EndsOf, end_at, ends_in, no_ends, at_side}
+use Rattle.bz_elab.specs.Wires.{end_at, ends_in, no_ends, at_side}
 use Rattle.bz_model.specs.Nets.{Wiring}
 use Rattle.bz_elab.specs.Flats.{site_of}
 use Rattle.bz_net.specs.Core.{Standing}
-use Rattle.bz_net.specs.Keeping.{ReadsChans}
 use Rattle.bz_net.specs.Noted.{NotedEnd, NotedAt}
 use Rattle.bz_net.proofs.Cores.{core_reads}
 use Rattle.bz_net.proofs.Stands.{in_range, noted_at}
+use Rattle.bz_net.specs.Nodes.{comps_of, heres_of}
 use Rattle.bz_net.proofs.core_net.Core.note_clash.Goals as goal
 
 pub note_clash-requires-clause-reads : goal.note_clash-requires-clause-reads
 note_clash-requires-clause-reads c =
     let n = c.self.inside in
     let w : Wiring = record { chans = n.names.chans; sites = map site_of n.sites.items; ports = n.names.ports } in
-    rw (c.deref.ensures.value, c.deref-2.ensures.value) (core_reads w n.phases.items n.comps.items n.heres.items n.ends.items n.ready.row c.self.invariant)
+    rw (c.deref.ensures.value, c.deref-2.ensures.value) (core_reads w n.phases.items (comps_of n.nodes) (heres_of n.nodes) n.ends.items n.ready.row c.self.invariant)
 
 pub note_clash-requires-clause-end : goal.note_clash-requires-clause-end
 note_clash-requires-clause-end c =

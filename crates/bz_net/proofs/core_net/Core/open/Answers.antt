@@ -1,10 +1,11 @@
-use Rattle.std.proofs.Common.{◌≡◌, ℕ, length, map, replicate, sym, ap, refl, ◌∙◌, subst, arith}
+use Rattle.std.proofs.Common.{◌≡◌, length, replicate, sym, ap, ◌∙◌, subst, arith}
 use Rattle.std.proofs.lemmas.List.{length-map}
 use Rattle.std.proofs.lemmas.Grind.{common_steps}
 use Rattle.bz_model.specs.Nets.{Wiring, opening}
 use Rattle.bz_model.specs.declared.channel.Phase.TheVariants.{Idle}
 use Rattle.bz_elab.specs.Flats.{site_of, wiring_of}
 use Rattle.bz_net.specs.Keeping.{state_of, Started, MarksAll}
+use Rattle.bz_net.specs.Nodes.{comps_of, heres_of}
 use Rattle.bz_net.specs.Told.{AreBlank}
 use Rattle.bz_net.proofs.Cores.{core_first, sighted_first}
 use Rattle.bz_net.proofs.Opening.{marks_ready, state_opening}
@@ -15,15 +16,15 @@ mark_all-requires-clause-sighted c =
     let p = c.into_pieces-pieces.result in
     let w : Wiring = wiring_of p.chans.items p.comps.items p.ports.items in
     let phases = c.in-Ok.phases.items in
-    let comps = c.in_ok-comps.comps.items in
-    let heres = c.in-Ok-blank_all.heres.items in
+    let comps = comps_of c.in_ok-nodes.nodes in
+    let heres = heres_of c.in_ok-nodes.nodes in
     let idle : phases ≡ replicate (length w.chans) Idle = grind (arith, common_steps) in
     let count = sym (length-map p.comps.items site_of) in
-    let begun : Started w.chans w.sites comps (length p.comps.items) = rw (c.deref.ensures.value, c.deref-2.ensures.value) at c.in_ok-comps.ensures.ok in
-    let blank : AreBlank w.sites heres (length p.comps.items) = rw c.deref-3.ensures.value at c.in-Ok-blank_all.ensures in
+    let begun : Started w.chans w.sites comps (length p.comps.items) = rw (c.deref.ensures.value, c.deref-2.ensures.value) at c.in_ok-nodes.ensures.started in
+    let blank : AreBlank w.sites heres (length p.comps.items) = rw c.deref-2.ensures.value at c.in_ok-nodes.ensures.blank in
     let started = subst (Started w.chans w.sites comps) count begun in
     let blanks = subst (AreBlank w.sites heres) count blank in
-    rw (c.deref-4.ensures.value, c.deref-5.ensures.value, c.deref-6.ensures.value, c.deref-7.ensures.value)
+    rw (c.deref-3.ensures.value, c.deref-4.ensures.value)
     (sighted_first w phases comps heres c.into_pieces-pieces.ensures.wired idle started blanks)
 
 pub invariant_of-result : goal.invariant_of-result
@@ -31,15 +32,15 @@ invariant_of-result c =
     let p = c.into_pieces-pieces.result in
     let w : Wiring = wiring_of p.chans.items p.comps.items p.ports.items in
     let phases = c.in-Ok.phases.items in
-    let comps = c.in_ok-comps.comps.items in
-    let heres = c.in-Ok-blank_all.heres.items in
+    let comps = comps_of c.in_ok-nodes.nodes in
+    let heres = heres_of c.in_ok-nodes.nodes in
     let idle : phases ≡ replicate (length w.chans) Idle = grind (arith, common_steps) in
     let count = sym (length-map p.comps.items site_of) in
-    let begun : Started w.chans w.sites comps (length p.comps.items) = rw (c.deref.ensures.value, c.deref-2.ensures.value) at c.in_ok-comps.ensures.ok in
-    let blank : AreBlank w.sites heres (length p.comps.items) = rw c.deref-3.ensures.value at c.in-Ok-blank_all.ensures in
+    let begun : Started w.chans w.sites comps (length p.comps.items) = rw (c.deref.ensures.value, c.deref-2.ensures.value) at c.in_ok-nodes.ensures.started in
+    let blank : AreBlank w.sites heres (length p.comps.items) = rw c.deref-2.ensures.value at c.in_ok-nodes.ensures.blank in
     let started = subst (Started w.chans w.sites comps) count begun in
     let blanks = subst (AreBlank w.sites heres) count blank in
-    let marks : MarksAll w.sites (state_of phases comps) c.in-Ok-mark_all.ready.row (length p.comps.items) = rw (c.deref-4.ensures.value, c.deref-5.ensures.value, c.deref-6.ensures.value) at c.in-Ok-mark_all.ensures in
+    let marks : MarksAll w.sites (state_of phases comps) c.in-Ok-mark_all.ready.row (length p.comps.items) = rw (c.deref-3.ensures.value, c.deref-4.ensures.value) at c.in-Ok-mark_all.ensures in
     rw c.new.ensures
     (core_first w phases comps heres c.into_pieces-pieces.ensures.wired idle started blanks p.ends.items c.in-Ok-mark_all.ready.row c.into_pieces-pieces.ensures.ends_of
     (marks_ready w (state_of phases comps) c.in-Ok-mark_all.ready.row (length p.comps.items) count marks))
@@ -49,12 +50,12 @@ returns-clause-state c =
     let p = c.into_pieces-pieces.result in
     let w : Wiring = wiring_of p.chans.items p.comps.items p.ports.items in
     let phases = c.in-Ok.phases.items in
-    let comps = c.in_ok-comps.comps.items in
-    let heres = c.in-Ok-blank_all.heres.items in
+    let comps = comps_of c.in_ok-nodes.nodes in
+    let heres = heres_of c.in_ok-nodes.nodes in
     let idle : phases ≡ replicate (length w.chans) Idle = grind (arith, common_steps) in
     let count = sym (length-map p.comps.items site_of) in
-    let begun : Started w.chans w.sites comps (length p.comps.items) = rw (c.deref.ensures.value, c.deref-2.ensures.value) at c.in_ok-comps.ensures.ok in
-    let blank : AreBlank w.sites heres (length p.comps.items) = rw c.deref-3.ensures.value at c.in-Ok-blank_all.ensures in
+    let begun : Started w.chans w.sites comps (length p.comps.items) = rw (c.deref.ensures.value, c.deref-2.ensures.value) at c.in_ok-nodes.ensures.started in
+    let blank : AreBlank w.sites heres (length p.comps.items) = rw c.deref-2.ensures.value at c.in_ok-nodes.ensures.blank in
     let started = subst (Started w.chans w.sites comps) count begun in
     let blanks = subst (AreBlank w.sites heres) count blank in
     let same : c.args.flat.wiring ≡ w = c.into_pieces-pieces.ensures.wiring in

@@ -1,4 +1,4 @@
-use Rattle.std.proofs.Common.{◌≡◌, map, subst}
+use Rattle.std.proofs.Common.{map, subst}
 use Rattle.bz_model.specs.Nets.{Wiring}
 use Rattle.bz_elab.specs.Flats.{site_of}
 use Rattle.bz_net.specs.Sides.{answers}
@@ -6,6 +6,7 @@ use Rattle.bz_net.specs.Core.{Standing}
 use Rattle.bz_net.specs.Ends.{TellsPort, IsSolePort}
 use Rattle.bz_net.proofs.Soles.{sole_port}
 use Rattle.bz_net.proofs.Stands.{tells_port}
+use Rattle.bz_net.specs.Nodes.{comps_of}
 use Rattle.bz_net.proofs.core_net.Core.port_at.Goals as goal
 
 told : (c : goal.After-port_in) → TellsPort (map site_of c.self.inside.sites.items) c.args.chan (answers c.args.mv) c.args.comp c.port_in.result
@@ -23,4 +24,4 @@ returns-clause-sole c =
     let n = c.self.inside in
     let w : Wiring = record { chans = n.names.chans; sites = map site_of n.sites.items; ports = n.names.ports } in
     subst (λ (v : Standing). IsSolePort v.wiring.sites v.state c.args.comp c.args.chan c.args.mv c.port_in.result) c.self.view_is
-    (sole_port w n.phases.items n.comps.items c.args.comp c.args.chan c.args.mv c.port_in.result c.self.invariant.wired c.self.invariant.tied (told c))
+    (sole_port w n.phases.items (comps_of n.nodes) c.args.comp c.args.chan c.args.mv c.port_in.result c.self.invariant.wired c.self.invariant.tied (told c))

@@ -1,0 +1,122 @@
+-- Events of a net that keeps no journal, beside any journal.
+use Rattle.std.proofs.Common.{◌≡◌, ◌↔◌, ℕ, ◌+◌, ◌<◌, ◌≤◌, Option, List, [], ◌∷◌, ◌++◌, length, Contains, refl, sym, ap, subst, ◌∙◌, arith, append_assoc, append-nil, length-append}
+use Rattle.bz_model.specs.declared.channel.Move.{Move}
+use Rattle.bz_model.specs.declared.event.Entry.{Entry}
+use Rattle.bz_model.specs.declared.event.Entry.TheVariants.{Fired, Host, Rested}
+use Rattle.bz_model.specs.declared.event.Reply.{Reply}
+use Rattle.bz_model.specs.declared.event.Verb.{Verb}
+use Rattle.bz_model.specs.declared.event.Who.{Who}
+use Rattle.bz_model.specs.Nets.{Wiring, State, Step, opening}
+use Rattle.bz_model.specs.Hosts.{HostStep}
+use Rattle.bz_model.specs.Runs.{Follows, Rest}
+use Rattle.bz_elab.specs.Wires.{WellWired}
+use Rattle.bz_net.specs.declared.event.RunEnd.TheVariants as ended
+use Rattle.bz_net.specs.Noted.{Notes, NotedAt}
+use Rattle.bz_net.specs.Progress.{Progress, IsToldBy, LeadsOn, Enters, RunsInto, with_journal}
+use Rattle.bz_net.specs.Replies.{IsPicked}
+use Rattle.bz_net.specs.Running.{Plays}
+use Rattle.bz_net.specs.Simulation.{Adds}
+use Rattle.bz_net.proofs.Clashing.{clashed_fired, clashed_commanded, clashed_rested, clashed_opening}
+use Rattle.bz_net.proofs.Playing.{plays_more}
+use Rattle.bz_net.proofs.Soundness.{Run-push}
+
+abbrev pub progress : Wiring → State → Notes → ℕ → Progress
+progress w s notes left = record { wiring = w; state = s; clashed = notes.numbers; left = left }
+
+pub told_opening : (w : Wiring) (s : State) (notes : Notes) (left : ℕ) → s ≡ opening w → notes.numbers ≡ [] → IsToldBy (progress w s notes left) []
+told_opening w s notes left opened none = record { run = opened; clashed = clashed_opening w notes.numbers none }
+
+-- an entry that follows is one more of any journal
+pub enters : (old new : Progress) (e : Entry) → new.wiring ≡ old.wiring → Follows old.wiring old.state e new.state → old.left ≡ new.left + 1 → LeadsOn old (e ∷ []) new → Enters old e new
+enters old new e wiring follows left leads = record {
+  adds = λ journal. record {
+    wiring = wiring;
+    journal = refl;
+    follows = follows;
+    limit = let more = length-append journal (e ∷ []) in omega (arith, more, left);
+    had_place = omega (arith, left);
+    room = omega (arith, left);
+  };
+  leads = leads;
+}
+
+module _ (w w' : Wiring) (s next : State) (old new : Notes) (left left' : ℕ) (same : w' ≡ w) (wired : WellWired w) (one : left ≡ left' + 1) where
+  pub enters_fired : (who : Who) (c p k : ℕ) (mv : Move) (value : Option ℕ) → Step w.sites s c p k mv value next → NotedAt w'.sites next.phases old new k → Enters (progress w s old left) (Fired who c p k mv value) (progress w' next new left')
+  enters_fired who c p k mv value step noted =
+      let here : NotedAt w.sites next.phases old new k = subst (λ (v : Wiring). NotedAt v.sites next.phases old new k) same noted in
+      let leads : LeadsOn (progress w s old left) (Fired who c p k mv value ∷ []) (progress w next new left') = λ journal told. record {
+        run = Run-push w (opening w) journal s (Fired who c p k mv value) next told.run step;
+        clashed = clashed_fired w s next journal who c p k mv value wired told.run step old new told.clashed here;
+      } in
+      enters (progress w s old left) (progress w' next new left') (Fired who c p k mv value) same step one (subst (λ (v : Wiring). LeadsOn (progress w s old left) (Fired who c p k mv value ∷ []) (progress v next new left')) (sym same) leads)
+
+  pub enters_commanded : (who : Who) (verb : Verb) (port : ℕ) (value : Option ℕ) (reply : Reply) → HostStep w s verb port value reply next → NotedAt w'.sites next.phases old new port → Enters (progress w s old left) (Host who verb port value reply) (progress w' next new left')
+  enters_commanded who verb port value reply step noted =
+      let here : NotedAt w.sites next.phases old new port = subst (λ (v : Wiring). NotedAt v.sites next.phases old new port) same noted in
+      let leads : LeadsOn (progress w s old left) (Host who verb port value reply ∷ []) (progress w next new left') = λ journal told. record {
+        run = Run-push w (opening w) journal s (Host who verb port value reply) next told.run step;
+        clashed = clashed_commanded w s next journal who verb port value reply wired told.run step old new told.clashed here;
+      } in
+      enters (progress w s old left) (progress w' next new left') (Host who verb port value reply) same step one (subst (λ (v : Wiring). LeadsOn (progress w s old left) (Host who verb port value reply ∷ []) (progress v next new left')) (sym same) leads)
+
+pub enters_rested : (w : Wiring) (s : State) (notes : Notes) (left left' : ℕ) (who : Who) → left ≡ left' + 1 → Rest w.sites s → Enters (progress w s notes left) (Rested who) (progress w s notes left')
+enters_rested w s notes left left' who one rests = enters (progress w s notes left) (progress w s notes left') (Rested who) refl (rests, refl) one
+    (λ journal told. record {
+      run = Run-push w (opening w) journal s (Rested who) s told.run (rests, refl);
+      clashed = clashed_rested w s journal who told.run rests notes told.clashed;
+    })
+
+-- so many firings so far, and the buffer has their entries
+pub record Firing (old new : Progress) (held now : List Entry) (who : Who) (from fired next : ℕ) : Type 0 where
+  pub entries : List Entry
+  pub buffer : now ≡ held ++ entries
+  pub leads : LeadsOn old entries new
+  pub plays : (journal : List Entry) → Plays (with_journal old journal) (with_journal new (journal ++ entries)) who from fired next
+
+pub none_yet : (p : Progress) (held : List Entry) (who : Who) (from : ℕ) → Firing p p held held who from 0 from
+none_yet p held who from = record {
+  entries = [];
+  buffer = sym (append-nil held);
+  leads = λ journal told. subst (IsToldBy p) (sym (append-nil journal)) told;
+  plays = λ journal. subst (λ es. Plays (with_journal p journal) (with_journal p es) who from 0 from) (sym (append-nil journal))
+      (record { entries = []; journal = sym (append-nil journal); firings = (refl, refl, refl); wiring = refl; limit = refl; room = omega arith });
+}
+
+module _ (old mid new : Progress) (held now after : List Entry) (who : Who) (from fired next : ℕ) (e : Entry) (so_far : Firing old mid held now who from fired next) (pushed : after ≡ now ++ e ∷ []) (picked : IsPicked (with_journal mid []) who next e) (one : Enters mid e new) where
+  buffer_more : after ≡ held ++ (so_far.entries ++ e ∷ [])
+  buffer_more = pushed ∙ (ap (λ xs. xs ++ e ∷ []) so_far.buffer ∙ append_assoc held so_far.entries (e ∷ []))
+
+  leads_more : LeadsOn old (so_far.entries ++ e ∷ []) new
+  leads_more journal told = subst (IsToldBy new) (append_assoc journal so_far.entries (e ∷ [])) (one.leads (journal ++ so_far.entries) (so_far.leads journal told))
+
+-- one firing more
+pub fired_more : (old mid new : Progress) (held now after : List Entry) (who who' : Who) (from fired next c p k : ℕ) (mv : Move) (value : Option ℕ) → Firing old mid held now who from fired next → after ≡ now ++ Fired who' c p k mv value ∷ [] → IsPicked (with_journal mid []) who next (Fired who' c p k mv value) → Enters mid (Fired who' c p k mv value) new → Firing old new held after who from (fired + 1) (c + 1)
+fired_more old mid new held now after who who' from fired next c p k mv value so_far pushed picked one =
+    let e : Entry = Fired who' c p k mv value in
+    record {
+      entries = so_far.entries ++ e ∷ [];
+      buffer = buffer_more old mid new held now after who from fired next e so_far pushed picked one;
+      leads = leads_more old mid new held now after who from fired next e so_far pushed picked one;
+      plays = λ journal. subst (λ es. Plays (with_journal old journal) (with_journal new es) who from (fired + 1) (c + 1)) (append_assoc journal so_far.entries (e ∷ []))
+          (plays_more (with_journal old journal) (with_journal mid (journal ++ so_far.entries)) (with_journal new ((journal ++ so_far.entries) ++ e ∷ [])) who who' from fired next c p k mv value (so_far.plays journal) picked (one.adds (journal ++ so_far.entries)));
+    }
+
+-- none can move
+pub rests_there : (old mid new : Progress) (held now after : List Entry) (who who' : Who) (from due fired next : ℕ) → fired < due → Firing old mid held now who from fired next → after ≡ now ++ Rested who' ∷ [] → IsPicked (with_journal mid []) who next (Rested who') → Enters mid (Rested who') new → RunsInto old new held after who from due (record { end = ended.Rest fired; next = next })
+rests_there old mid new held now after who who' from due fired next fewer so_far pushed picked one =
+    let e : Entry = Rested who' in
+    record {
+      entries = so_far.entries ++ e ∷ [];
+      buffer = buffer_more old mid new held now after who from fired next e so_far pushed picked one;
+      leads = leads_more old mid new held now after who from fired next e so_far pushed picked one;
+      ran = λ journal. (
+        fewer,
+        (
+          with_journal mid (journal ++ so_far.entries),
+          next,
+          so_far.plays journal,
+          subst (λ es. Adds (with_journal mid (journal ++ so_far.entries)) (Rested who) (with_journal new es)) (append_assoc journal so_far.entries (e ∷ []))
+              (subst (λ (x : Who). Adds (with_journal mid (journal ++ so_far.entries)) (Rested x) (with_journal new ((journal ++ so_far.entries) ++ e ∷ []))) picked (one.adds (journal ++ so_far.entries))),
+        ),
+      );
+    }

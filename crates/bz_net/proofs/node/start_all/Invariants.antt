@@ -1,0 +1,9 @@
+use Rattle.std.proofs.Common.{map}
+use Rattle.bz_elab.specs.Flats.{site_of}
+use Rattle.bz_net.specs.Keeping.{Started}
+use Rattle.bz_net.specs.Nodes.{comps_of, heres_of}
+use Rattle.bz_net.specs.Told.{AreBlank}
+use Rattle.bz_net.proofs.node.start_all.Given as goal
+
+abbrev pub invariant-loop-site : goal.invariant-loop-site
+invariant-loop-site l = record { begun : Started l.chans (map site_of l.sites) (comps_of l.nodes) l.site-index; blank : AreBlank (map site_of l.sites) (heres_of l.nodes) l.site-index }

@@ -1,0 +1,9 @@
+use Rattle.std.proofs.Common.{◌≡◌, length, sym, ap, ◌∙◌}
+use Rattle.bz_model.specs.Nets.{opening}
+use Rattle.bz_net.proofs.Pieces.{told_opening}
+use Rattle.bz_net.proofs.play.Play.open.Goals as goal
+
+pub returns-in-Ok-clause-told : goal.returns-in-Ok-clause-told
+returns-in-Ok-clause-told c =
+    let core = c.in_ok-core.core in let of = c.in_ok-core.ensures in
+    told_opening core.wiring core.state c.in-Ok.noted c.args.limit (of.state ∙ ap opening (sym of.wiring)) c.in-Ok.ensures.numbers

@@ -1,0 +1,73 @@
+-- What contracts see of a net that keeps no journal. Whoever plays it may keep one: then it is a net with that journal.
+use Rattle.std.specs.Prelude.{◌≡◌, ℕ, ◌+◌, Option, Some, None, List, [], ◌∷◌, ◌++◌, length, Contains, ◌↔◌}
+use Rattle.bz_model.specs.declared.event.NetError.{NetError}
+use Rattle.bz_model.specs.declared.event.NetError.TheVariants.{JournalFull}
+use Rattle.bz_model.specs.declared.event.Verb.{Verb}
+use Rattle.bz_model.specs.declared.event.Who.{Who}
+use Rattle.bz_model.specs.declared.event.Entry.{Entry}
+use Rattle.bz_model.specs.declared.event.Entry.TheVariants.{Rested}
+use Rattle.bz_model.specs.Nets.{Wiring, State, opening}
+use Rattle.bz_model.specs.Hosts.{refusal_at}
+use Rattle.bz_model.specs.Runs.{CanStep, IsNext, Run}
+use Rattle.bz_model.specs.Clashes.{ClashesIn}
+use Rattle.bz_elab.specs.Wires.{WellWired}
+use Rattle.bz_net.specs.declared.event.Piece.{Piece}
+use Rattle.bz_net.specs.declared.event.RestReply.{RestReply}
+use Rattle.bz_net.specs.declared.event.RestReply.TheVariants as asked
+use Rattle.bz_net.specs.declared.event.RunEnd.{RunEnd}
+use Rattle.bz_net.specs.declared.event.RunEnd.TheVariants.{Rest, Spent, Refused}
+use Rattle.bz_net.specs.Noted.{Notes}
+use Rattle.bz_net.specs.Running.{Plays, Ran}
+use Rattle.bz_net.specs.Simulation.{Simulation, Adds}
+
+-- `clashed` are the components at which requests met so far, `left` is how many entries the limit still lets in
+pub record Progress : Type 0 where
+  pub wiring : Wiring
+  pub state : State
+  pub clashed : List ℕ
+  pub left : ℕ
+
+-- the net with this journal; the entries that are still let in need no memory of it
+abbrev pub with_journal : Progress → List Entry → Simulation
+with_journal p journal = record { wiring = p.wiring; state = p.state; journal = journal; limit = length journal + p.left; room = p.left }
+
+-- the journal tells the run from the opening to where the net is, and what is noted are the clashes of that run
+pub record IsToldBy (p : Progress) (journal : List Entry) : Type 0 where
+  pub run : Run p.wiring (opening p.wiring) journal p.state
+  pub clashed : (c : ℕ) → Contains p.clashed c ↔ ClashesIn p.wiring (opening p.wiring) journal c
+
+-- a journal that tells of the old net tells of the new one with these entries behind it
+abbrev pub LeadsOn : Progress → List Entry → Progress → Type 0
+LeadsOn old entries new = (journal : List Entry) → IsToldBy old journal → IsToldBy new (journal ++ entries)
+
+-- an event made this entry, whatever journal is kept
+pub record Enters (old : Progress) (entry : Entry) (new : Progress) : Type 0 where
+  pub adds : (journal : List Entry) → Adds (with_journal old journal) entry (with_journal new (journal ++ entry ∷ []))
+  pub leads : LeadsOn old (entry ∷ []) new
+
+-- the answer to the question whether any component can move: none, which is an entry, or the least that can, and nothing changes
+abbrev pub EntersRest : Progress → Progress → Who → RestReply → Type 0
+EntersRest old new who asked.Rest = Enters old (Rested who) new
+EntersRest old new who (asked.Ready c) = IsNext (CanStep old.wiring.sites old.state) 1 c × (new ≡ old)
+
+-- why a host command at external port number `port` is refused
+abbrev pub RefusesAt : Progress → Verb → ℕ → Option ℕ → NetError → Type 0
+RefusesAt old verb port value JournalFull = (refusal_at old.wiring verb port value ≡ None) × (old.left ≡ 0)
+RefusesAt old verb port value e = refusal_at old.wiring verb port value ≡ Some e
+
+-- a number of firings in a row; where all that were due are made, the next search begins at `next`
+abbrev pub RanTo : Simulation → Simulation → Who → ℕ → ℕ → ℕ → RunEnd → Type 0
+RanTo old new who from due next (Spent fired) = (fired ≡ due) × Plays old new who from fired next
+RanTo old new who from due next end = Ran old new who from due end
+
+-- the buffer, which held some entries, has those of the firings behind them
+pub record RunsInto (old new : Progress) (held now : List Entry) (who : Who) (from due : ℕ) (piece : Piece) : Type 0 where
+  pub entries : List Entry
+  pub buffer : now ≡ held ++ entries
+  pub leads : LeadsOn old entries new
+  pub ran : (journal : List Entry) → RanTo (with_journal old journal) (with_journal new (journal ++ entries)) who from due piece.next piece.end
+
+-- what such a net keeps
+pub record PlaysWell (w : Wiring) (notes : Notes) : Type 0 where
+  pub wired : WellWired w
+  pub most : notes.most ≡ length w.sites

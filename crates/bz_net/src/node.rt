@@ -1,0 +1,104 @@
+//! The nodes of a net: each component, with what it is told of its channels.
+
+ghost use Rattle.std.specs.Prelude.{◌≡◌, ◌≤◌, ◌<◌, ◌-◌, ◌+◌, ◌/◌, ℕ, length, map, All, IfOk, IfErr};
+ghost use Rattle.bz_bits.specs.Row.{bit_of};
+ghost use Rattle.bz_elab.specs.Flats.{site_of};
+ghost use Rattle.bz_model.specs.Nets.{chan_in};
+ghost use Rattle.bz_model.specs.Processes.{start_of};
+ghost use Rattle.bz_model.specs.Rows.{MeetsRow};
+ghost use Rattle.bz_net.specs.Keeping.{Started, StartsWell};
+ghost use Rattle.bz_net.specs.Nodes.{comps_of, heres_of};
+ghost use Rattle.bz_net.specs.Told.{AreBlank};
+
+use bz_arena::{Arena, Id};
+use bz_bits::PortBits;
+use bz_elab::FlatComp;
+use bz_kinds::Comp;
+use bz_model::{Chan, NetError};
+use std::alloc::{AllocError, Global};
+
+/// A component, and a bit for each of its ports: whether what a take or a got there waits for is on the channel.
+#[derive(Drop)]
+pub(crate) struct Node {
+    pub(crate) here: PortBits,
+    pub(crate) comp: Comp,
+}
+
+/// Where the node of a component lies.
+pub(crate) fn node_id(comp: u32) -> Id<Node>
+    requires { 0 < comp }
+    ensures { result ≡ comp - 1 }
+{
+    Id::at(comp as usize - 1)
+}
+
+/// A node for each flat component: the component is at its start, and all bits are 0.
+pub(crate) fn start_all(
+    alloc: Global,
+    chans: &[Chan],
+    sites: &[FlatComp],
+) -> Result<Arena<Node>, NetError>
+    requires { StartsWell chans.now (map site_of sites.now) }
+    ensures started { IfOk result (λ nodes. Started chans.now (map site_of sites.now) (comps_of nodes) (length sites.now)) }
+    ensures blank { IfOk result (λ nodes. AreBlank (map site_of sites.now) (heres_of nodes) (length sites.now)) }
+    ensures err { IfErr result (λ e. e ≡ NetError.Memory) }
+{
+    let mut nodes = Arena::new(alloc);
+    for site in sites {
+        let node = start_one(alloc, chans, site)?;
+        match nodes.push(node) {
+            Ok(_) => {}
+            Err(_) => return Err(NetError::Memory),
+        }
+    }
+    Ok(nodes)
+}
+
+/// The same nodes.
+pub(crate) fn dup_all(alloc: Global, nodes: &Arena<Node>) -> Result<Arena<Node>, AllocError>
+    ensures { IfOk result (λ same. same ≡ nodes.now) }
+{
+    let mut same = Arena::new(alloc);
+    for place in 0..nodes.len() {
+        let copy = dup_one(alloc, nodes.get(Id::at(place)))?;
+        match same.push(copy) {
+            Ok(_) => {}
+            Err(_) => return Err(AllocError),
+        }
+    }
+    Ok(same)
+}
+
+fn start_one(alloc: Global, chans: &[Chan], site: &FlatComp) -> Result<Node, NetError>
+    requires chans { All (λ k. (0 < k) × (k ≤ length chans.now)) site.now.chans.items }
+    requires meets { MeetsRow site.now.kind site.now.sizes (map (chan_in chans.now) site.now.chans.items) }
+    ensures comp { IfOk result (λ node. node.comp ≡ start_of site.now.kind site.now.sizes (map (chan_in chans.now) site.now.chans.items)) }
+    ensures words { IfOk result (λ node. length node.here ≡ length site.now.chans.items / 64 + 1) }
+    ensures none { IfOk result (λ node. (p : ℕ) → bit_of node.here p ≡ 0) }
+    ensures err { IfErr result (λ e. e ≡ NetError.Memory) }
+{
+    let mut own = Vec::new(alloc);
+    for chan in &site.chans {
+        match own.push(chans[*chan as usize - 1]) {
+            Ok(()) => {}
+            Err(_) => return Err(NetError::Memory),
+        }
+    }
+    let Ok(here) = PortBits::new(alloc, site.chans.len() + 1) else {
+        return Err(NetError::Memory);
+    };
+    match bz_kinds::start(alloc, &site.kind, site.sizes, &own) {
+        Ok(comp) => Ok(Node { here, comp }),
+        Err(_) => Err(NetError::Memory),
+    }
+}
+
+fn dup_one(alloc: Global, node: &Node) -> Result<Node, AllocError>
+    ensures { IfOk result (λ same. same ≡ node.now) }
+{
+    let here = node.here.dup(alloc)?;
+    match bz_kinds::dup(alloc, &node.comp) {
+        Ok(comp) => Ok(Node { here, comp }),
+        Err(_) => Err(AllocError),
+    }
+}

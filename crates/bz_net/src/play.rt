@@ -1,0 +1,271 @@
+//! A net that keeps no journal: the entries of its events go to whoever plays it.
+
+ghost use Rattle.std.specs.Prelude.{◌≡◌, ◌-◌, ◌≤◌, ◌<◌, min, length, [], ◌∷◌, ◌++◌, None, vec_len, vec_capacity, IfOk, IfErr, IfSome, IfNone, OnErr, List};
+ghost use Rattle.std.specs.List.Sorted.{IsStrictlyIncreasing};
+ghost use Rattle.bz_model.specs.declared.event.Entry.{Entry};
+ghost use Rattle.bz_model.specs.declared.event.Reply.{Reply};
+ghost use Rattle.bz_model.specs.Hosts.{refusal_at};
+ghost use Rattle.bz_model.specs.Names.{NamesDiffer};
+ghost use Rattle.bz_model.specs.Nets.{StepsAt, outside};
+ghost use Rattle.bz_model.specs.Runs.{Rest};
+ghost use Rattle.bz_elab.specs.Wires.{WellWired};
+ghost use Rattle.bz_net.specs.Ends.{TellsPort, IsSolePort};
+ghost use Rattle.bz_net.specs.Progress.{Enters, EntersRest, IsToldBy, LeadsOn, RefusesAt, RunsInto, with_journal};
+ghost use Rattle.bz_net.specs.Replies.{IsFiring, IsPicked, IsSoleStep, RefusesCommand, RefusesEntry, RefusesFire, Replies};
+ghost use Rattle.bz_net.specs.Sides.{answers};
+
+use crate::core_net::Core;
+use crate::event::{Piece, RestReply, RunEnd};
+use crate::moves::refusal_of;
+use crate::noted::Noted;
+use bz_elab::Flat;
+use bz_model::{Entry, HostCmd, Move, Names, NetError, Reply, Value, Verb, Who};
+use std::alloc::Global;
+use std::marker::Model;
+
+/// A net with the components at which requests met, and how many entries are still let in. After its opening it takes no
+/// memory.
+#[derive(Drop)]
+pub struct Play {
+    core: Core,
+    noted: Noted,
+    left: u32,
+}
+
+impl Model for Play {
+    ghost use Rattle.bz_net.specs.Progress.{Progress};
+    ghost use Rattle.bz_model.specs.Codes.{term_code};
+    ghost use Rattle.std.specs.Coded.{codes};
+
+    ghost Value = { Progress };
+
+    ghost coded = { Prim.hlevel (codes, term_code) };
+
+    ghost view = { λ n. record {
+      wiring = n.core.wiring;
+      state = n.core.state;
+      clashed = n.noted.numbers;
+      left = n.left;
+    } };
+
+    ghost use Rattle.bz_net.specs.Progress.{PlaysWell};
+
+    ghost invariant = { λ n. PlaysWell n.core.wiring n.noted };
+}
+
+impl Play {
+    /// Opens a net that lets in `limit` entries: all channels are idle, and each component is at its start. Where memory is
+    /// refused, the flat net is gone.
+    pub fn open(alloc: Global, flat: Flat, limit: u32) -> Result<Play, NetError>
+        ensures wiring { IfOk result (λ play. play.wiring ≡ flat.wiring) }
+        ensures left { IfOk result (λ play. play.left ≡ limit) }
+        ensures told { IfOk result (λ play. IsToldBy play []) }
+        ensures err { IfErr result (λ e. e ≡ NetError.Memory) }
+    {
+        let core = Core::open(alloc, flat)?;
+        match Noted::new(alloc, core.comp_count()) {
+            Ok(noted) => Ok(Play {
+                core,
+                noted,
+                left: limit,
+            }),
+            Err(_) => Err(NetError::Memory),
+        }
+    }
+
+    /// The external ports and the channels of the net.
+    pub fn names(&self) -> &Names
+        ensures value { result.now ≡ outside self.now.wiring }
+        ensures differ { NamesDiffer self.now.wiring.ports }
+        ensures wired { WellWired self.now.wiring }
+    {
+        self.core.names()
+    }
+
+    /// The components at which requests met so far, rising: each a Call, a CallMux or a CallDemux.
+    pub fn clashes(&self) -> &[u32]
+        ensures clashed { result.now ≡ self.now.clashed }
+        ensures rising { IsStrictlyIncreasing self.now.clashed }
+    {
+        self.noted.as_slice()
+    }
+
+    /// Makes one host command, whose entry it answers.
+    pub fn command(&mut self, who: Who, cmd: &HostCmd) -> Result<Entry, NetError>
+        ensures replies { IfOk result (λ entry. (reply : Reply) × ((journal : List Entry) →
+            Replies (with_journal self.old journal) (with_journal self.new (journal ++ entry ∷ []))
+            who cmd.now.verb cmd.now.port.items cmd.now.value reply)) }
+        ensures leads { IfOk result (λ entry. LeadsOn self.old (entry ∷ []) self.new) }
+        ensures cause { IfErr result (λ e. (journal : List Entry) →
+            RefusesCommand (with_journal self.old journal) cmd.now.verb cmd.now.port.items cmd.now.value e) }
+        ensures err { OnErr result (self.new ≡ self.old) }
+    {
+        let port = self.core.port_of(cmd.verb, &cmd.port, cmd.value)?;
+        match self.command_at(who, cmd.verb, port, cmd.value) {
+            Some(entry) => Ok(entry),
+            None => Err(NetError::JournalFull),
+        }
+    }
+
+    /// Makes one host command that is not refused at an external port. `None` where no more entry is let in.
+    fn command_at(&mut self, who: Who, verb: Verb, port: u32, value: Option<Value>) -> Option<Entry>
+        requires from { 0 < port }
+        requires to { port ≤ length self.old.wiring.ports }
+        requires agreed { refusal_at self.old.wiring verb port value ≡ None }
+        ensures made { IfSome result (λ entry. (reply : Reply) × (entry ≡ Entry.Host who verb port value reply)) }
+        ensures enters { IfSome result (λ entry. Enters self.old entry self.new) }
+        ensures full { IfNone result ((self.new ≡ self.old) × (self.old.left ≡ 0)) }
+    {
+        if self.left == 0 {
+            return None;
+        }
+        self.left -= 1;
+        let reply = self.core.command(verb, port, value);
+        self.core.note_clash(port, &mut self.noted);
+        Some(Entry::Host {
+            who,
+            verb,
+            port,
+            value,
+            reply,
+        })
+    }
+
+    /// Fires one component after another, each the next from the number after the last, and puts the entries into a buffer:
+    /// `fuel` firings, or as many as the buffer has room for, or until none can move or no more entry is let in.
+    pub fn run_into(&mut self, who: Who, from: u32, fuel: u64, buffer: &mut Vec<Entry>) -> Piece
+        ensures runs { RunsInto self.old self.new buffer.old.items buffer.new.items who from
+            (min fuel (vec_capacity buffer.old - vec_len buffer.old)) result }
+        ensures room { vec_capacity buffer.old ≤ vec_capacity buffer.new }
+    {
+        let room = buffer.capacity() - buffer.len();
+        let due = fuel.min(room as u64);
+        let mut next = from;
+        for fired in 0..due {
+            let Some(entry) = self.step(who, next) else {
+                let end = RunEnd::Refused(fired, NetError::JournalFull);
+                return Piece { end, next };
+            };
+            buffer.push(entry).unwrap();
+            match entry {
+                Entry::Fired { comp, .. } => {
+                    // A read of the net brings its bound on component numbers, so the sum fits.
+                    let _ = &self.left;
+                    next = comp + 1;
+                }
+                _ => {
+                    let end = RunEnd::Rest(fired);
+                    return Piece { end, next };
+                }
+            }
+        }
+        let end = RunEnd::Spent(due);
+        Piece { end, next }
+    }
+
+    /// Fires the next component at its lowest port, or finds that none can move. `None` where no more entry is let in.
+    #[inline(always)]
+    fn step(&mut self, who: Who, from: u32) -> Option<Entry>
+        ensures picked { IfSome result (IsPicked (with_journal self.old []) who from) }
+        ensures enters { IfSome result (λ entry. Enters self.old entry self.new) }
+        ensures full { IfNone result ((self.new ≡ self.old) × (self.old.left ≡ 0)) }
+    {
+        if self.left == 0 {
+            return None;
+        }
+        let Some(comp) = self.core.next_ready(from) else {
+            self.left -= 1;
+            return Some(Entry::Rested { who });
+        };
+        let port = self.core.lowest(comp).unwrap();
+        Some(self.fire(who, comp, port))
+    }
+
+    /// Fires the move of a component at a port where it can move.
+    #[inline(always)]
+    fn fire(&mut self, who: Who, comp: u32, port: u32) -> Entry
+        requires steps { StepsAt self.old.wiring.sites self.old.state comp port }
+        requires place { 0 < self.old.left }
+        ensures fired { IsFiring who comp port result }
+        ensures sole { IsSoleStep (with_journal self.old []) (with_journal self.new []) who comp port result }
+        ensures enters { Enters self.old result self.new }
+    {
+        self.left -= 1;
+        let (chan, mv, value) = self.core.fire(comp, port);
+        self.core.note_clash(chan, &mut self.noted);
+        Entry::Fired {
+            who,
+            comp,
+            port,
+            chan,
+            mv,
+            value,
+        }
+    }
+
+    /// The port at which a component makes this move on a channel: it holds the active end where it asks or gets, the
+    /// passive end where it takes or replies. `None` where the component holds no such end.
+    pub fn port_at(&self, comp: u32, chan: u32, mv: Move) -> Option<u32>
+        ensures end { TellsPort self.now.wiring.sites chan (answers mv) comp result }
+        ensures sole { IsSolePort self.now.wiring.sites self.now.state comp chan mv result }
+    {
+        self.core.port_at(comp, chan, mv)
+    }
+
+    /// Fires the one move that a component has at a port.
+    pub fn fire_move(&mut self, who: Who, comp: u32, port: u32) -> Result<Entry, NetError>
+        ensures fired { IfOk result (IsFiring who comp port) }
+        ensures sole { IfOk result (IsSoleStep (with_journal self.old []) (with_journal self.new []) who comp port) }
+        ensures enters { IfOk result (λ entry. Enters self.old entry self.new) }
+        ensures cause { IfErr result (λ e. (journal : List Entry) → RefusesFire (with_journal self.old journal) comp port e) }
+        ensures err { OnErr result (self.new ≡ self.old) }
+    {
+        if !self.core.can_fire(comp, port) {
+            return Err(NetError::NotEnabled);
+        }
+        if self.left == 0 {
+            return Err(NetError::JournalFull);
+        }
+        Ok(self.fire(who, comp, port))
+    }
+
+    /// Asks whether any component can move.
+    pub fn rest(&mut self, who: Who) -> Result<RestReply, NetError>
+        ensures ok { IfOk result (EntersRest self.old self.new who) }
+        ensures resting { IfErr result (λ e. Rest self.old.wiring.sites self.old.state) }
+        ensures cause { IfErr result (λ e. (journal : List Entry) → RefusesEntry (with_journal self.old journal) e) }
+        ensures err { OnErr result (self.new ≡ self.old) }
+    {
+        if let Some(comp) = self.core.next_ready(1) {
+            return Ok(RestReply::Ready(comp));
+        }
+        if self.left == 0 {
+            return Err(NetError::JournalFull);
+        }
+        self.left -= 1;
+        Ok(RestReply::Rest)
+    }
+
+    /// Makes one host command at the external port of this number.
+    pub fn host_at(
+        &mut self,
+        who: Who,
+        verb: Verb,
+        port: u32,
+        value: Option<Value>,
+    ) -> Result<Reply, NetError>
+        requires from { 0 < port }
+        requires to { port ≤ length self.old.wiring.ports }
+        ensures enters { IfOk result (λ reply. Enters self.old (Entry.Host who verb port value reply) self.new) }
+        ensures cause { IfErr result (RefusesAt self.old verb port value) }
+        ensures err { OnErr result (self.new ≡ self.old) }
+    {
+        if let Some(e) = refusal_of(self.core.names(), verb, port, value) {
+            return Err(e);
+        }
+        match self.command_at(who, verb, port, value) {
+            Some(Entry::Host { reply, .. }) => Ok(reply),
+            _ => Err(NetError::JournalFull),
+        }
+    }
+}
