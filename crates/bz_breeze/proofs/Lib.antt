@@ -1,5 +1,6 @@
 pub mod Finding
 pub mod Reading
+pub mod Heads
 pub mod Least
 pub mod Members
 pub mod Shapes

@@ -6,7 +6,7 @@ use Rattle.bz_model.specs.Names.{External}
 use Rattle.bz_model.specs.declared.channel.Chan.{Chan}
 use Rattle.bz_model.specs.declared.channel.ChanKind.{ChanKind}
 use Rattle.bz_model.specs.declared.channel.ChanKind.TheVariants.{Sync, Push, Pull}
-use Rattle.bz_model.specs.declared.channel.TheConstants.{MAX_WIDTH}
+use Rattle.bz_model.specs.Limits.{max_width}
 use Rattle.bz_sexpr.specs.Data.{Datum, leaf, items, num, truth, text, symbol}
 use Rattle.bz_sexpr.specs.Views.{list_of}
 use Rattle.bz_breeze.specs.Records.{ParamRecord, SlotRecord, ComponentRecord, one, many}
@@ -53,7 +53,7 @@ ports = each (λ before d. at_byte (place_of d) (new_port before d))
 abbrev pub wide_channel : ChanKind → List Datum → Result Chan Code
 wide_channel kind (leaf (num w) span ∷ rest) =
     if w == 0 then Err BadForm
-    else (if nat_lt MAX_WIDTH w then Err TooWide
+    else (if nat_lt max_width w then Err TooWide
     else Ok (record { kind = kind; width = w }))
 wide_channel kind ds = Err BadForm
 

@@ -3,7 +3,7 @@ use Rattle.std.specs.Prelude.{ℕ, ◌-◌, ◌≤◌, nat_lt, length, map, find
 use Rattle.std.specs.Option.{option_and_then}
 use Rattle.std.specs.List.{AllByRecursion}
 use Rattle.bz_model.specs.Names.{External, NamesDiffer, external}
-use Rattle.bz_model.specs.declared.channel.TheConstants.{MAX_WIDTH}
+use Rattle.bz_model.specs.Limits.{max_width}
 use Rattle.bz_model.specs.declared.channel.Chan.{Chan}
 use Rattle.bz_sexpr.specs.Data.{Datum, leaf, items, text, symbol, span_of}
 use Rattle.bz_sexpr.specs.declared.datum.Span.{Span}
@@ -106,7 +106,7 @@ HasPortChannels p = length p.ports.items ≤ length p.channels.items
 -- no two ports of a part have one name, and no channel is wider than the greatest width
 pub record IsFit (p : Part) : Type 0 where
   pub names_differ : NamesDiffer (map external p.ports.items)
-  pub narrow : AllByRecursion (λ c. c.width ≤ MAX_WIDTH) p.channels.items
+  pub narrow : AllByRecursion (λ c. c.width ≤ max_width) p.channels.items
 
 -- the number of the part of a name, counted from 0
 abbrev pub number_named : List Part → List ℕ → Option ℕ

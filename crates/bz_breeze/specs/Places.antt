@@ -4,7 +4,7 @@ use Rattle.std.specs.List.{filter_map}
 use Rattle.std.specs.Option.{option_and_then}
 use Rattle.bz_model.specs.Names.{External}
 use Rattle.bz_model.specs.declared.channel.ChanKind.{ChanKind}
-use Rattle.bz_model.specs.declared.channel.TheConstants.{MAX_WIDTH}
+use Rattle.bz_model.specs.Limits.{max_width}
 use Rattle.bz_sexpr.specs.Data.{Datum, leaf, text, span_of}
 use Rattle.bz_sexpr.specs.declared.datum.Span.{Span}
 use Rattle.bz_breeze.specs.Records.{ComponentRecord}
@@ -34,7 +34,7 @@ pub data ChannelFault : Datum → Code → Type 0 where
   -- it has none of the shapes
   no_channel : {d : Datum} → (IsSync d → ⊥) → ((kind : ChanKind) (w : ℕ) → IsWide d kind w → ⊥) → ChannelFault d BadForm
   width_0 : {d : Datum} (kind : ChanKind) → IsWide d kind 0 → ChannelFault d BadForm
-  too_wide : {d : Datum} (kind : ChanKind) (w : ℕ) → IsWide d kind w → MAX_WIDTH < w → ChannelFault d TooWide
+  too_wide : {d : Datum} (kind : ChanKind) (w : ℕ) → IsWide d kind w → max_width < w → ChannelFault d TooWide
 
 -- a list that is not headed by `component`
 abbrev pub IsUndeclared : Datum → Type 0

@@ -1,6 +1,6 @@
 -- Going through the data of a list, up to the first fault.
 use Rattle.std.specs.Prelude.{ℕ, List, [], ◌∷◌, ◌++◌, Option, Some, None, Result, Ok, Err}
-use Rattle.bz_sexpr.specs.Data.{Datum, leaf, items, span_of}
+use Rattle.bz_sexpr.specs.Data.{Datum, leaf, symbol, items, span_of}
 use Rattle.bz_sexpr.specs.Views.{list_of}
 use Rattle.bz_breeze.specs.declared.error.Code.{Code}
 
@@ -8,6 +8,11 @@ use Rattle.bz_breeze.specs.declared.error.Code.{Code}
 abbrev pub inside : Datum → Option (List Datum)
 inside (items ds span) = Some (list_of ds)
 inside (leaf l span) = None
+
+-- the symbol at the head of a list, and what follows it
+abbrev pub head_and_rest : List Datum → Option (List ℕ × List Datum)
+head_and_rest (leaf (symbol head) span ∷ rest) = Some (head, rest)
+head_and_rest ds = None
 
 -- the byte at which a datum begins
 abbrev pub place_of : Datum → ℕ

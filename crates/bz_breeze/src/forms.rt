@@ -4,9 +4,9 @@ ghost use Rattle.std.specs.Prelude.{◌≡◌, map, IfOk, IfErr, Ok, Some};
 ghost use Rattle.std.specs.List.{filter_map};
 ghost use Rattle.std.specs.Option.{option_map};
 ghost use Rattle.bz_model.specs.Names.{external};
-ghost use Rattle.bz_sexpr.specs.Views.{datum_view};
+ghost use Rattle.bz_sexpr.specs.Forms.{form_view, forms_view, text_view};
 ghost use Rattle.bz_breeze.specs.Records.{param_record, slot_record, component_record};
-ghost use Rattle.bz_breeze.specs.Turns.{inside, place_of, if_read, at_byte};
+ghost use Rattle.bz_breeze.specs.Turns.{inside, head_and_rest, place_of, if_read, at_byte};
 ghost use Rattle.bz_breeze.specs.Views.{fields_view};
 ghost use Rattle.bz_breeze.specs.Faults.{HasFault};
 ghost use Rattle.bz_breeze.specs.Forms.{named_port, listed_port, port, ports, wide_channel, listed_channel, channel, channels, param, number, numbers, slot, slots, named_fields, fields_of, component_of, listed_component, component, components};
@@ -15,44 +15,59 @@ use crate::error::{Code, Refusal};
 use crate::part::{Component, Slot};
 use bz_model::{Chan, ChanKind, MAX_WIDTH, Param, Port};
 use bz_names::NameSet;
-use bz_sexpr::Datum;
+use bz_sexpr::{Form, Forms, Leaf, Shape, Text};
 use std::alloc::{AllocError, Global};
 
 /// The data of a list.
-pub(crate) fn inside(datum: &Datum) -> Option<&[Datum]>
-    ensures { option_map (λ ds. map datum_view ds.now) result ≡ inside (datum_view datum.now) }
+pub(crate) fn inside(form: Form<'_>) -> Option<Forms<'_>>
+    ensures { option_map forms_view result ≡ inside (form_view form.entry) }
 {
-    match datum {
-        Datum::Items(items, _) => Some(items.as_slice()),
+    match form.shape() {
+        Shape::Items(items) => Some(items),
+        _ => None,
+    }
+}
+
+/// The symbol at the head of a list, and what follows it.
+pub(crate) fn headed(items: Forms<'_>) -> Option<(&[u8], Forms<'_>)>
+    ensures { option_map (λ p. (p.0.now, forms_view p.1)) result ≡ head_and_rest (forms_view items.entry) }
+{
+    let (first, rest) = items.split_first()?;
+    match first.shape() {
+        Shape::Leaf(Leaf::Symbol(head)) => Some((head, rest)),
         _ => None,
     }
 }
 
 /// Of `"NAME" SENSE ..`, the name, and whether the sense is passive.
-fn named_port(items: &[Datum]) -> Result<(&[u8], bool), Code>
-    ensures { if_read result (λ p. Ok (record { name = p.0.now; passive = p.1 })) ≡ named_port (map datum_view items.now) }
+fn named_port(items: Forms<'_>) -> Result<(Text<'_>, bool), Code>
+    ensures { if_read result (λ p. Ok (record { name = text_view p.0; passive = p.1 })) ≡ named_port (forms_view items.entry) }
 {
-    let [Datum::Text(name, _), Datum::Symbol(sense, _), ..] = items else {
+    let Some((name, rest)) = items.split_first() else {
         return Err(Code::BadForm);
     };
-    let sense = sense.as_slice();
+    let Shape::Leaf(Leaf::Text(name)) = name.shape() else {
+        return Err(Code::BadForm);
+    };
+    let Some((sense, _)) = headed(rest) else {
+        return Err(Code::BadForm);
+    };
     if sense == b"passive".as_slice() {
-        Ok((name.as_slice(), true))
+        Ok((name, true))
     } else if sense == b"active".as_slice() {
-        Ok((name.as_slice(), false))
+        Ok((name, false))
     } else {
         Err(Code::BadForm)
     }
 }
 
 /// Of `port "NAME" SENSE ..` or `sync-port "NAME" SENSE ..`, the same.
-fn listed_port(items: &[Datum]) -> Result<(&[u8], bool), Code>
-    ensures { if_read result (λ p. Ok (record { name = p.0.now; passive = p.1 })) ≡ listed_port (map datum_view items.now) }
+fn listed_port(items: Forms<'_>) -> Result<(Text<'_>, bool), Code>
+    ensures { if_read result (λ p. Ok (record { name = text_view p.0; passive = p.1 })) ≡ listed_port (forms_view items.entry) }
 {
-    let [Datum::Symbol(head, _), rest @ ..] = items else {
+    let Some((head, rest)) = headed(items) else {
         return Err(Code::BadForm);
     };
-    let head = head.as_slice();
     if head == b"port".as_slice() || head == b"sync-port".as_slice() {
         named_port(rest)
     } else if head == b"arrayed-port".as_slice() || head == b"arrayed-sync-port".as_slice() {
@@ -63,59 +78,63 @@ fn listed_port(items: &[Datum]) -> Result<(&[u8], bool), Code>
 }
 
 /// The name that a member of `ports` gives, and whether the port is passive.
-fn port(member: &Datum) -> Result<(&[u8], bool), Code>
-    ensures { if_read result (λ p. Ok (record { name = p.0.now; passive = p.1 })) ≡ port (datum_view member.now) }
+fn port(member: Form<'_>) -> Result<(Text<'_>, bool), Code>
+    ensures { if_read result (λ p. Ok (record { name = text_view p.0; passive = p.1 })) ≡ port (form_view member.entry) }
 {
-    match member {
-        Datum::Items(items, _) => listed_port(items.as_slice()),
-        _ => Err(Code::BadForm),
+    match inside(member) {
+        Some(items) => listed_port(items),
+        None => Err(Code::BadForm),
     }
 }
 
 /// The ports that the members of `ports` name.
-pub(crate) fn ports(alloc: Global, members: &[Datum]) -> Result<Vec<Port>, Refusal>
-    ensures ok { IfOk result (λ v. ports (map datum_view members.now) ≡ Ok (map external v.items)) }
-    ensures err { IfErr result (HasFault (ports (map datum_view members.now))) }
+pub(crate) fn ports(alloc: Global, members: Forms<'_>) -> Result<Vec<Port>, Refusal>
+    ensures ok { IfOk result (λ v. ports (forms_view members.entry) ≡ Ok (map external v.items)) }
+    ensures err { IfErr result (HasFault (ports (forms_view members.entry))) }
 {
-    let mut ports = Vec::new(alloc);
+    let mut ports = Vec::with_capacity(alloc, members.len())?;
     let mut names = NameSet::new(alloc);
-    for member in members {
+    let mut rest = members;
+    while let Some((member, after)) = rest.split_first() {
         let (name, passive) = match port(member) {
             Ok(port) => port,
             Err(code) => return Err(Refusal::At(code, member.span().from)),
         };
-        if !names.insert(alloc, name)? {
+        let name = name.bytes(alloc)?;
+        if !names.insert(alloc, name.as_slice())? {
             return Err(Refusal::At(Code::BadForm, member.span().from));
         }
-        let name = Vec::from_slice(alloc, name)?;
         ports.push(Port { name, passive })?;
+        rest = after;
     }
     Ok(ports)
 }
 
 /// A channel of this kind, with its width at the front of the rest.
-fn wide_channel(kind: ChanKind, rest: &[Datum]) -> Result<Chan, Code>
-    ensures { result ≡ wide_channel kind (map datum_view rest.now) }
+fn wide_channel(kind: ChanKind, rest: Forms<'_>) -> Result<Chan, Code>
+    ensures { result ≡ wide_channel kind (forms_view rest.entry) }
 {
-    match rest {
-        [Datum::Num(0, _), ..] => Err(Code::BadForm),
-        [Datum::Num(width, _), ..] if *width > MAX_WIDTH as u128 => Err(Code::TooWide),
-        [Datum::Num(width, _), ..] => Ok(Chan {
+    let Some((width, _)) = rest.split_first() else {
+        return Err(Code::BadForm);
+    };
+    match width.shape() {
+        Shape::Leaf(Leaf::Num(0)) => Err(Code::BadForm),
+        Shape::Leaf(Leaf::Num(width)) if width > MAX_WIDTH as u128 => Err(Code::TooWide),
+        Shape::Leaf(Leaf::Num(width)) => Ok(Chan {
             kind,
-            width: *width as u32,
+            width: width as u32,
         }),
         _ => Err(Code::BadForm),
     }
 }
 
 /// The channel of `sync ..`, `push W ..` or `pull W ..`.
-fn listed_channel(items: &[Datum]) -> Result<Chan, Code>
-    ensures { result ≡ listed_channel (map datum_view items.now) }
+fn listed_channel(items: Forms<'_>) -> Result<Chan, Code>
+    ensures { result ≡ listed_channel (forms_view items.entry) }
 {
-    let [Datum::Symbol(head, _), rest @ ..] = items else {
+    let Some((head, rest)) = headed(items) else {
         return Err(Code::BadForm);
     };
-    let head = head.as_slice();
     if head == b"sync".as_slice() {
         Ok(Chan {
             kind: ChanKind::Sync,
@@ -131,109 +150,117 @@ fn listed_channel(items: &[Datum]) -> Result<Chan, Code>
 }
 
 /// The channel that a member of `channels` names.
-fn channel(member: &Datum) -> Result<Chan, Code>
-    ensures { result ≡ channel (datum_view member.now) }
+fn channel(member: Form<'_>) -> Result<Chan, Code>
+    ensures { result ≡ channel (form_view member.entry) }
 {
-    match member {
-        Datum::Items(items, _) => listed_channel(items.as_slice()),
-        _ => Err(Code::BadForm),
+    match inside(member) {
+        Some(items) => listed_channel(items),
+        None => Err(Code::BadForm),
     }
 }
 
 /// The channels that the members of `channels` name.
-pub(crate) fn channels(alloc: Global, members: &[Datum]) -> Result<Vec<Chan>, Refusal>
-    ensures ok { IfOk result (λ v. channels (map datum_view members.now) ≡ Ok v.items) }
-    ensures err { IfErr result (HasFault (channels (map datum_view members.now))) }
+pub(crate) fn channels(alloc: Global, members: Forms<'_>) -> Result<Vec<Chan>, Refusal>
+    ensures ok { IfOk result (λ v. channels (forms_view members.entry) ≡ Ok v.items) }
+    ensures err { IfErr result (HasFault (channels (forms_view members.entry))) }
 {
-    let mut channels = Vec::new(alloc);
-    for member in members {
+    let mut channels = Vec::with_capacity(alloc, members.len())?;
+    let mut rest = members;
+    while let Some((member, after)) = rest.split_first() {
         match channel(member) {
             Ok(channel) => channels.push(channel)?,
             Err(code) => return Err(Refusal::At(code, member.span().from)),
         }
+        rest = after;
     }
     Ok(channels)
 }
 
 /// A parameter by its shape, where symbols and lists are none.
-fn param(alloc: Global, datum: &Datum) -> Result<Option<Param>, AllocError>
-    ensures { IfOk result (λ o. option_map param_record o ≡ param (datum_view datum.now)) }
+fn param(alloc: Global, form: Form<'_>) -> Result<Option<Param>, AllocError>
+    ensures { IfOk result (λ o. option_map param_record o ≡ param (form_view form.entry)) }
 {
-    Ok(match datum {
-        Datum::Num(n, _) => Some(Param::Num(*n)),
-        Datum::Truth(flag, _) => Some(Param::Flag(*flag)),
-        Datum::Text(text, _) => {
-            let text = text.as_slice();
-            if text == b"true".as_slice() {
+    Ok(match form.shape() {
+        Shape::Leaf(Leaf::Num(n)) => Some(Param::Num(n)),
+        Shape::Leaf(Leaf::Truth(flag)) => Some(Param::Flag(flag)),
+        Shape::Leaf(Leaf::Text(text)) => {
+            let text = text.bytes(alloc)?;
+            if text.as_slice() == b"true".as_slice() {
                 Some(Param::Flag(true))
-            } else if text == b"false".as_slice() {
+            } else if text.as_slice() == b"false".as_slice() {
                 Some(Param::Flag(false))
             } else {
-                Some(Param::Word(Vec::from_slice(alloc, text)?))
+                Some(Param::Word(text))
             }
         }
         _ => None,
     })
 }
 
-fn params(alloc: Global, list: &[Datum]) -> Result<Vec<Param>, AllocError>
-    ensures { IfOk result (λ v. map param_record v.items ≡ filter_map param (map datum_view list.now)) }
+fn params(alloc: Global, list: Forms<'_>) -> Result<Vec<Param>, AllocError>
+    ensures { IfOk result (λ v. map param_record v.items ≡ filter_map param (forms_view list.entry)) }
 {
-    let mut params = Vec::new(alloc);
-    for datum in list {
-        if let Some(param) = param(alloc, datum)? {
+    let mut params = Vec::with_capacity(alloc, list.len())?;
+    let mut rest = list;
+    while let Some((form, after)) = rest.split_first() {
+        if let Some(param) = param(alloc, form)? {
             params.push(param)?;
         }
+        rest = after;
     }
     Ok(params)
 }
 
 /// The number of a channel.
-fn number(datum: &Datum) -> Result<u32, Code>
-    ensures { result ≡ number (datum_view datum.now) }
+fn number(form: Form<'_>) -> Result<u32, Code>
+    ensures { result ≡ number (form_view form.entry) }
 {
-    match datum {
-        Datum::Num(n, _) if *n <= u32::MAX as u128 => Ok(*n as u32),
+    match form.shape() {
+        Shape::Leaf(Leaf::Num(n)) if n <= u32::MAX as u128 => Ok(n as u32),
         _ => Err(Code::BadForm),
     }
 }
 
 /// The channels' numbers in an entry of the component at the byte `at`.
-fn numbers(alloc: Global, list: &[Datum], at: usize) -> Result<Vec<u32>, Refusal>
-    ensures ok { IfOk result (λ v. numbers (map datum_view list.now) ≡ Ok v.items) }
-    ensures err { IfErr result (HasFault (at_byte at (numbers (map datum_view list.now)))) }
+fn numbers(alloc: Global, list: Forms<'_>, at: usize) -> Result<Vec<u32>, Refusal>
+    ensures ok { IfOk result (λ v. numbers (forms_view list.entry) ≡ Ok v.items) }
+    ensures err { IfErr result (HasFault (at_byte at (numbers (forms_view list.entry)))) }
 {
-    let mut numbers = Vec::new(alloc);
-    for datum in list {
-        match number(datum) {
+    let mut numbers = Vec::with_capacity(alloc, list.len())?;
+    let mut rest = list;
+    while let Some((form, after)) = rest.split_first() {
+        match number(form) {
             Ok(number) => numbers.push(number)?,
             Err(code) => return Err(Refusal::At(code, at)),
         }
+        rest = after;
     }
     Ok(numbers)
 }
 
 /// An entry of the component at the byte `at`.
-fn slot(alloc: Global, datum: &Datum, at: usize) -> Result<Slot, Refusal>
-    ensures ok { IfOk result (λ s. slot (datum_view datum.now) ≡ Ok (slot_record s)) }
-    ensures err { IfErr result (HasFault (at_byte at (slot (datum_view datum.now)))) }
+fn slot(alloc: Global, form: Form<'_>, at: usize) -> Result<Slot, Refusal>
+    ensures ok { IfOk result (λ s. slot (form_view form.entry) ≡ Ok (slot_record s)) }
+    ensures err { IfErr result (HasFault (at_byte at (slot (form_view form.entry)))) }
 {
-    match datum {
-        Datum::Items(items, _) => Ok(Slot::Many(numbers(alloc, items.as_slice(), at)?)),
-        _ => match number(datum) {
+    match inside(form) {
+        Some(items) => Ok(Slot::Many(numbers(alloc, items, at)?)),
+        None => match number(form) {
             Ok(number) => Ok(Slot::One(number)),
             Err(code) => Err(Refusal::At(code, at)),
         },
     }
 }
 
-fn slots(alloc: Global, list: &[Datum], at: usize) -> Result<Vec<Slot>, Refusal>
-    ensures ok { IfOk result (λ v. slots (map datum_view list.now) ≡ Ok (map slot_record v.items)) }
-    ensures err { IfErr result (HasFault (at_byte at (slots (map datum_view list.now)))) }
+fn slots(alloc: Global, list: Forms<'_>, at: usize) -> Result<Vec<Slot>, Refusal>
+    ensures ok { IfOk result (λ v. slots (forms_view list.entry) ≡ Ok (map slot_record v.items)) }
+    ensures err { IfErr result (HasFault (at_byte at (slots (forms_view list.entry)))) }
 {
-    let mut slots = Vec::new(alloc);
-    for datum in list {
-        slots.push(slot(alloc, datum, at)?)?;
+    let mut slots = Vec::with_capacity(alloc, list.len())?;
+    let mut rest = list;
+    while let Some((form, after)) = rest.split_first() {
+        slots.push(slot(alloc, form, at)?)?;
+        rest = after;
     }
     Ok(slots)
 }
@@ -241,18 +268,17 @@ fn slots(alloc: Global, list: &[Datum], at: usize) -> Result<Vec<Slot>, Refusal>
 /// What stands in a component after its head.
 #[derive(Clone, Copy)]
 struct Fields<'d> {
-    name: &'d [u8],
-    params: &'d [Datum],
-    entries: &'d [Datum],
+    name: Text<'d>,
+    params: Forms<'d>,
+    entries: Forms<'d>,
 }
 
 /// Of `(PARAMETERS) (ENTRIES) ..`, after a name.
-fn named_fields<'d>(name: &'d [u8], items: &'d [Datum]) -> Option<Fields<'d>>
-    ensures { option_map fields_view result ≡ named_fields name.now (map datum_view items.now) }
+fn named_fields<'d>(name: Text<'d>, items: Forms<'d>) -> Option<Fields<'d>>
+    ensures { option_map fields_view result ≡ named_fields (text_view name.entry) (forms_view items.entry) }
 {
-    let [params, entries, ..] = items else {
-        return None;
-    };
+    let (params, rest) = items.split_first()?;
+    let (entries, _) = rest.split_first()?;
     Some(Fields {
         name,
         params: inside(params)?,
@@ -261,11 +287,12 @@ fn named_fields<'d>(name: &'d [u8], items: &'d [Datum]) -> Option<Fields<'d>>
 }
 
 /// Of `"NAME" (PARAMETERS) (ENTRIES) ..`.
-fn fields_of(items: &[Datum]) -> Option<Fields<'_>>
-    ensures { option_map fields_view result ≡ fields_of (map datum_view items.now) }
+fn fields_of(items: Forms<'_>) -> Option<Fields<'_>>
+    ensures { option_map fields_view result ≡ fields_of (forms_view items.entry) }
 {
-    match items {
-        [Datum::Text(name, _), rest @ ..] => named_fields(name.as_slice(), rest),
+    let (name, rest) = items.split_first()?;
+    match name.shape() {
+        Shape::Leaf(Leaf::Text(name)) => named_fields(name, rest),
         _ => None,
     }
 }
@@ -277,7 +304,7 @@ fn component_of(alloc: Global, component: Fields<'_>, at: usize) -> Result<Compo
 {
     let entries = slots(alloc, component.entries, at)?;
     let params = params(alloc, component.params)?;
-    let name = Vec::from_slice(alloc, component.name)?;
+    let name = component.name.bytes(alloc)?;
     Ok(Component {
         name,
         params,
@@ -286,14 +313,14 @@ fn component_of(alloc: Global, component: Fields<'_>, at: usize) -> Result<Compo
 }
 
 /// The component of `component "NAME" (PARAMETERS) (ENTRIES) ..`, at the byte `at`.
-fn listed_component(alloc: Global, items: &[Datum], at: usize) -> Result<Component, Refusal>
-    ensures ok { IfOk result (λ c. listed_component (map datum_view items.now) ≡ Ok (component_record c)) }
-    ensures err { IfErr result (HasFault (at_byte at (listed_component (map datum_view items.now)))) }
+fn listed_component(alloc: Global, items: Forms<'_>, at: usize) -> Result<Component, Refusal>
+    ensures ok { IfOk result (λ c. listed_component (forms_view items.entry) ≡ Ok (component_record c)) }
+    ensures err { IfErr result (HasFault (at_byte at (listed_component (forms_view items.entry)))) }
 {
-    let [Datum::Symbol(head, _), rest @ ..] = items else {
+    let Some((head, rest)) = headed(items) else {
         return Err(Refusal::At(Code::Undeclared, at));
     };
-    if head.as_slice() != b"component".as_slice() {
+    if head != b"component".as_slice() {
         return Err(Refusal::At(Code::Undeclared, at));
     }
     match fields_of(rest) {
@@ -303,25 +330,27 @@ fn listed_component(alloc: Global, items: &[Datum], at: usize) -> Result<Compone
 }
 
 /// The component that a member of `components` names.
-fn component(alloc: Global, member: &Datum) -> Result<Component, Refusal>
-    ensures ok { IfOk result (λ c. component (datum_view member.now) ≡ Ok (component_record c)) }
-    ensures err { IfErr result (HasFault (at_byte (place_of (datum_view member.now)) (component (datum_view member.now)))) }
+fn component(alloc: Global, member: Form<'_>) -> Result<Component, Refusal>
+    ensures ok { IfOk result (λ c. component (form_view member.entry) ≡ Ok (component_record c)) }
+    ensures err { IfErr result (HasFault (at_byte (place_of (form_view member.entry)) (component (form_view member.entry)))) }
 {
     let at = member.span().from;
-    match member {
-        Datum::Items(items, _) => listed_component(alloc, items.as_slice(), at),
-        _ => Err(Refusal::At(Code::BadForm, at)),
+    match inside(member) {
+        Some(items) => listed_component(alloc, items, at),
+        None => Err(Refusal::At(Code::BadForm, at)),
     }
 }
 
 /// The components that the members of `components` name.
-pub(crate) fn components(alloc: Global, members: &[Datum]) -> Result<Vec<Component>, Refusal>
-    ensures ok { IfOk result (λ v. components (map datum_view members.now) ≡ Ok (map component_record v.items)) }
-    ensures err { IfErr result (HasFault (components (map datum_view members.now))) }
+pub(crate) fn components(alloc: Global, members: Forms<'_>) -> Result<Vec<Component>, Refusal>
+    ensures ok { IfOk result (λ v. components (forms_view members.entry) ≡ Ok (map component_record v.items)) }
+    ensures err { IfErr result (HasFault (components (forms_view members.entry))) }
 {
-    let mut components = Vec::new(alloc);
-    for member in members {
+    let mut components = Vec::with_capacity(alloc, members.len())?;
+    let mut rest = members;
+    while let Some((member, after)) = rest.split_first() {
         components.push(component(alloc, member)?)?;
+        rest = after;
     }
     Ok(components)
 }

@@ -9,6 +9,6 @@ mod part_list;
 
 pub use bz_model::Port;
 pub use error::{BreezeError, Place};
-pub use netlist::parts;
+pub use netlist::{parts, parts_of};
 pub use part::{Component, Part, Slot};
 pub use part_list::Parts;

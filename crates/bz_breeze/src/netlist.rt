@@ -1,8 +1,9 @@
 //! Reading the parts of a netlist.
 
-ghost use Rattle.std.specs.Prelude.{◌≡◌, ℕ, ◌∷◌, ◌++◌, [], map, IfOk, IfErr, IfSome, Ok, Some};
+ghost use Rattle.std.specs.Prelude.{◌≡◌, ℕ, ◌∷◌, ◌++◌, [], map, IfOk, IfErr, IfSome, Ok, Some, None};
 ghost use Rattle.std.specs.Option.{option_map};
 ghost use Rattle.bz_sexpr.specs.Order.{AreInOrder};
+ghost use Rattle.bz_sexpr.specs.Forms.{form_view, forms_view};
 ghost use Rattle.bz_sexpr.specs.Views.{datum_view};
 ghost use Rattle.bz_breeze.specs.Records.{part_record};
 ghost use Rattle.bz_breeze.specs.Faults.{Fault, HasFault, Tells, fault_of, fault_in};
@@ -12,12 +13,12 @@ ghost use Rattle.bz_breeze.specs.Views.{lists_view};
 ghost use Rattle.bz_breeze.specs.Parts.{ports_form, channels_form, components_form, headed_form, form, finished, part_of, named_part, after_head, part_items, parts, HasPortChannels};
 
 use crate::error::{BreezeError, Code, Place, Refusal};
-use crate::forms::{channels, components, inside, ports};
+use crate::forms::{channels, components, headed, inside, ports};
 use crate::part::{Component, Part};
 use crate::part_list::Parts;
 use bz_model::{Chan, Port};
 use bz_names::NameSet;
-use bz_sexpr::{Datum, Span};
+use bz_sexpr::{Datum, Form, Forms, Leaf, Shape, Span};
 use std::alloc::Global;
 
 /// The lists of a part that have come so far.
@@ -29,9 +30,9 @@ struct Lists {
 }
 
 /// The lists with the ports that a form at the byte `at` names.
-fn ports_form(alloc: Global, lists: Lists, members: &[Datum], at: usize) -> Result<Lists, Refusal>
-    ensures ok { IfOk result (λ l. ports_form (lists_view lists) at (map datum_view members.now) ≡ Ok (lists_view l)) }
-    ensures err { IfErr result (HasFault (ports_form (lists_view lists) at (map datum_view members.now))) }
+fn ports_form(alloc: Global, lists: Lists, members: Forms<'_>, at: usize) -> Result<Lists, Refusal>
+    ensures ok { IfOk result (λ l. ports_form (lists_view lists) at (forms_view members.entry) ≡ Ok (lists_view l)) }
+    ensures err { IfErr result (HasFault (ports_form (lists_view lists) at (forms_view members.entry))) }
 {
     if lists.ports.is_some() {
         return Err(Refusal::At(Code::BadForm, at));
@@ -47,11 +48,11 @@ fn ports_form(alloc: Global, lists: Lists, members: &[Datum], at: usize) -> Resu
 fn channels_form(
     alloc: Global,
     lists: Lists,
-    members: &[Datum],
+    members: Forms<'_>,
     at: usize,
 ) -> Result<Lists, Refusal>
-    ensures ok { IfOk result (λ l. channels_form (lists_view lists) at (map datum_view members.now) ≡ Ok (lists_view l)) }
-    ensures err { IfErr result (HasFault (channels_form (lists_view lists) at (map datum_view members.now))) }
+    ensures ok { IfOk result (λ l. channels_form (lists_view lists) at (forms_view members.entry) ≡ Ok (lists_view l)) }
+    ensures err { IfErr result (HasFault (channels_form (lists_view lists) at (forms_view members.entry))) }
 {
     if lists.channels.is_some() {
         return Err(Refusal::At(Code::BadForm, at));
@@ -67,11 +68,11 @@ fn channels_form(
 fn components_form(
     alloc: Global,
     lists: Lists,
-    members: &[Datum],
+    members: Forms<'_>,
     at: usize,
 ) -> Result<Lists, Refusal>
-    ensures ok { IfOk result (λ l. components_form (lists_view lists) at (map datum_view members.now) ≡ Ok (lists_view l)) }
-    ensures err { IfErr result (HasFault (components_form (lists_view lists) at (map datum_view members.now))) }
+    ensures ok { IfOk result (λ l. components_form (lists_view lists) at (forms_view members.entry) ≡ Ok (lists_view l)) }
+    ensures err { IfErr result (HasFault (components_form (lists_view lists) at (forms_view members.entry))) }
 {
     if lists.components.is_some() {
         return Err(Refusal::At(Code::BadForm, at));
@@ -84,14 +85,13 @@ fn components_form(
 }
 
 /// The lists after a list of the part, which is read where its head is one of three.
-fn headed_form(alloc: Global, lists: Lists, items: &[Datum], at: usize) -> Result<Lists, Refusal>
-    ensures ok { IfOk result (λ l. headed_form (lists_view lists) at (map datum_view items.now) ≡ Ok (lists_view l)) }
-    ensures err { IfErr result (HasFault (headed_form (lists_view lists) at (map datum_view items.now))) }
+fn headed_form(alloc: Global, lists: Lists, items: Forms<'_>, at: usize) -> Result<Lists, Refusal>
+    ensures ok { IfOk result (λ l. headed_form (lists_view lists) at (forms_view items.entry) ≡ Ok (lists_view l)) }
+    ensures err { IfErr result (HasFault (headed_form (lists_view lists) at (forms_view items.entry))) }
 {
-    let [Datum::Symbol(head, _), members @ ..] = items else {
+    let Some((head, members)) = headed(items) else {
         return Ok(lists);
     };
-    let head = head.as_slice();
     if head == b"ports".as_slice() {
         ports_form(alloc, lists, members, at)
     } else if head == b"channels".as_slice() {
@@ -104,13 +104,13 @@ fn headed_form(alloc: Global, lists: Lists, items: &[Datum], at: usize) -> Resul
 }
 
 /// The lists after one more item of the part.
-fn form(alloc: Global, lists: Lists, item: &Datum) -> Result<Lists, Refusal>
-    ensures ok { IfOk result (λ l. form (lists_view lists) (datum_view item.now) ≡ Ok (lists_view l)) }
-    ensures err { IfErr result (HasFault (form (lists_view lists) (datum_view item.now))) }
+fn form(alloc: Global, lists: Lists, item: Form<'_>) -> Result<Lists, Refusal>
+    ensures ok { IfOk result (λ l. form (lists_view lists) (form_view item.entry) ≡ Ok (lists_view l)) }
+    ensures err { IfErr result (HasFault (form (lists_view lists) (form_view item.entry))) }
 {
-    match item {
-        Datum::Items(items, span) => headed_form(alloc, lists, items.as_slice(), span.from),
-        _ => Ok(lists),
+    match inside(item) {
+        Some(items) => headed_form(alloc, lists, items, item.span().from),
+        None => Ok(lists),
     }
 }
 
@@ -142,9 +142,9 @@ fn finished(alloc: Global, name: &[u8], lists: Lists, end: usize) -> Result<Part
 }
 
 /// The part of a name whose forms are these, with its last byte at `end`.
-fn part_of(alloc: Global, name: &[u8], forms: &[Datum], end: usize) -> Result<Part, Refusal>
-    ensures ok { IfOk result (λ p. part_of name.now end (map datum_view forms.now) ≡ Ok (part_record p)) }
-    ensures err { IfErr result (HasFault (part_of name.now end (map datum_view forms.now))) }
+fn part_of(alloc: Global, name: &[u8], forms: Forms<'_>, end: usize) -> Result<Part, Refusal>
+    ensures ok { IfOk result (λ p. part_of name.now end (forms_view forms.entry) ≡ Ok (part_record p)) }
+    ensures err { IfErr result (HasFault (part_of name.now end (forms_view forms.entry))) }
     ensures name { IfOk result (λ p. p.name.items ≡ name.now) }
     ensures fits { IfOk result HasPortChannels }
 {
@@ -153,8 +153,10 @@ fn part_of(alloc: Global, name: &[u8], forms: &[Datum], end: usize) -> Result<Pa
         channels: None,
         components: None,
     };
-    for item in forms {
+    let mut rest = forms;
+    while let Some((item, after)) = rest.split_first() {
         lists = form(alloc, lists, item)?;
+        rest = after;
     }
     finished(alloc, name, lists, end)
 }
@@ -179,23 +181,25 @@ fn in_part(alloc: Global, name: &[u8], refusal: Refusal) -> BreezeError
 fn named_part(
     alloc: Global,
     names: &mut NameSet,
-    items: &[Datum],
+    items: Forms<'_>,
     span: Span,
 ) -> Result<Part, BreezeError>
-    ensures ok { IfOk result (λ p. named_part names.old span (map datum_view items.now) ≡ Ok (part_record p)) }
-    ensures err { IfErr result (Tells (named_part names.old span (map datum_view items.now))) }
+    ensures ok { IfOk result (λ p. named_part names.old span (forms_view items.entry) ≡ Ok (part_record p)) }
+    ensures err { IfErr result (Tells (named_part names.old span (forms_view items.entry))) }
     ensures names { IfOk result (λ p. names.new ≡ names.old ++ p.name.items ∷ []) }
     ensures fits { IfOk result HasPortChannels }
 {
-    let [Datum::Text(name, quote), forms @ ..] = items else {
-        return Err(Code::BadForm.at(Place {
-            part: None,
-            at: span.from,
-        }));
+    let Some((first, forms)) = items.split_first() else {
+        return Err(nameless(span.from));
     };
+    let Shape::Leaf(Leaf::Text(name)) = first.shape() else {
+        return Err(nameless(span.from));
+    };
+    let name = name.bytes(alloc)?;
     let name = name.as_slice();
     if !names.insert(alloc, name)? {
-        return Err(in_part(alloc, name, Refusal::At(Code::DoublePart, quote.from)));
+        let quote = first.span().from;
+        return Err(in_part(alloc, name, Refusal::At(Code::DoublePart, quote)));
     }
     match part_of(alloc, name, forms, span.to.saturating_sub(1)) {
         Ok(part) => Ok(part),
@@ -203,23 +207,30 @@ fn named_part(
     }
 }
 
-/// What follows the symbol `breeze-part`.
-fn after_head(items: &[Datum]) -> Option<&[Datum]>
-    ensures { option_map (λ ds. map datum_view ds.now) result ≡ after_head (map datum_view items.now) }
+/// The refusal of a part without a name, at the byte `at`.
+fn nameless(at: usize) -> BreezeError
+    ensures { fault_of result ≡ Some (record { code = Code.BadForm; part = None; at = at }) }
 {
-    match items {
-        [Datum::Symbol(head, _), rest @ ..] if head.as_slice() == b"breeze-part".as_slice() => {
-            Some(rest)
-        }
-        _ => None,
+    Code::BadForm.at(Place { part: None, at })
+}
+
+/// What follows the symbol `breeze-part`.
+fn after_head(items: Forms<'_>) -> Option<Forms<'_>>
+    ensures { option_map forms_view result ≡ after_head (forms_view items.entry) }
+{
+    let (head, rest) = headed(items)?;
+    if head == b"breeze-part".as_slice() {
+        Some(rest)
+    } else {
+        None
     }
 }
 
 /// What follows the head of a list headed by `breeze-part`.
-fn part_items(datum: &Datum) -> Option<&[Datum]>
-    ensures { option_map (λ ds. map datum_view ds.now) result ≡ part_items (datum_view datum.now) }
+fn part_items(form: Form<'_>) -> Option<Forms<'_>>
+    ensures { option_map forms_view result ≡ part_items (form_view form.entry) }
 {
-    after_head(inside(datum)?)
+    after_head(inside(form)?)
 }
 
 /// The parts that the data name, or the fault of `specs/Places.antt` that stands first: of data in the order of a text, as
@@ -232,21 +243,35 @@ pub fn parts(alloc: Global, netlist: &[Datum]) -> Result<Parts, BreezeError>
     ensures fault { IfErr result (λ e. IfSome (fault_of e) (IsFault (map datum_view netlist.now))) }
     ensures least { (end : ℕ) → AreInOrder (map datum_view netlist.now) end → IfErr result (λ e. IfSome (fault_of e) (IsLeast (map datum_view netlist.now))) }
 {
+    parts_of(alloc, Forms::Data(netlist))
+}
+
+/// The same of data in a tree or of those of a text's nodes, as `bz_sexpr::read_forest` answers them.
+pub fn parts_of(alloc: Global, netlist: Forms<'_>) -> Result<Parts, BreezeError>
+    ensures ok { IfOk result (λ ps. parts (forms_view netlist.entry) ≡ Ok (map part_record ps)) }
+    ensures named { IfOk result (λ ps. AreParts (forms_view netlist.entry) (map part_record ps)) }
+    ensures faultless { IfOk result (λ ps. (fault : Fault) → IsFault (forms_view netlist.entry) fault → ⊥) }
+    ensures err { IfErr result (Tells (parts (forms_view netlist.entry))) }
+    ensures fault { IfErr result (λ e. IfSome (fault_of e) (IsFault (forms_view netlist.entry))) }
+    ensures least { (end : ℕ) → AreInOrder (forms_view netlist.entry) end → IfErr result (λ e. IfSome (fault_of e) (IsLeast (forms_view netlist.entry))) }
+{
     read_parts(alloc, netlist)
 }
 
 /// The parts that the data name, or the first fault that is met.
-fn read_parts(alloc: Global, netlist: &[Datum]) -> Result<Parts, BreezeError>
-    ensures ok { IfOk result (λ ps. parts (map datum_view netlist.now) ≡ Ok (map part_record ps)) }
-    ensures err { IfErr result (Tells (parts (map datum_view netlist.now))) }
+fn read_parts(alloc: Global, netlist: Forms<'_>) -> Result<Parts, BreezeError>
+    ensures ok { IfOk result (λ ps. parts (forms_view netlist.entry) ≡ Ok (map part_record ps)) }
+    ensures err { IfErr result (Tells (parts (forms_view netlist.entry))) }
 {
     let mut list = Vec::new(alloc);
     let mut names = NameSet::new(alloc);
-    for datum in netlist {
-        if let Some(items) = part_items(datum) {
-            let part = named_part(alloc, &mut names, items, datum.span())?;
+    let mut rest = netlist;
+    while let Some((form, after)) = rest.split_first() {
+        if let Some(items) = part_items(form) {
+            let part = named_part(alloc, &mut names, items, form.span())?;
             list.push(part)?;
         }
+        rest = after;
     }
     Ok(Parts::new(list, names))
 }

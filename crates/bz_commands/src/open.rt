@@ -32,10 +32,10 @@ pub(crate) fn flat_of(alloc: Global, part: &[u8], text: &[u8]) -> Result<Flat, F
     ensures ok { IfOk result (λ flat. Denotes text.now part.now flat.wiring) }
     ensures err { IfErr result (RefusesNet text.now part.now) }
 {
-    let data = bz_sexpr::read(alloc, text)?;
-    let parts = bz_breeze::parts(alloc, data.as_slice())?;
-    // the records have all that is wanted of the data, which take most of the memory
-    drop(data);
+    let forest = bz_sexpr::read_forest(alloc, text)?;
+    let parts = bz_breeze::parts_of(alloc, forest.forms())?;
+    // the records have all that is wanted of the data
+    drop(forest);
     match elaborate(alloc, &parts, part) {
         Ok(flat) => Ok(flat),
         Err(ElabError::Memory) => Err(Fault::Memory),

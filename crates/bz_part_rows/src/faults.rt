@@ -1,5 +1,6 @@
 //! Faults of parts with their bytes: each alone, beside parts that are in order, and two at a time.
 
+use crate::shapes::is_read_alike;
 use bz_playing::list;
 use std::alloc::{AllocError, Global};
 use std::process::Abort;
@@ -223,6 +224,7 @@ fn is_told(
     assert_eq!(rt; outcome.fault.as_str(), line.as_str(), "at {netlist}");
     assert_eq!(rt; outcome.status, 1);
     assert_eq!(rt; outcome.text.len(), 0);
+    assert!(rt; is_read_alike(alloc, netlist.as_str())?, "at {netlist}");
     Ok(())
 }
 

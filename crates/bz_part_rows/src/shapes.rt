@@ -2,7 +2,7 @@
 
 use bz_breeze::{BreezeError, Component, Part, Parts, Place, Port, Slot, parts};
 use bz_model::{Chan, ChanKind, Param};
-use bz_sexpr::read;
+use bz_sexpr::{read, read_forest};
 use std::alloc::{AllocError, Global};
 use std::str;
 use std::test::Fail;
@@ -356,6 +356,29 @@ fn refusals_tell_their_place(rt: HostRuntime) -> Result<(), Fail> {
     for (text, want) in REFUSALS {
         let got = refusal(rt.alloc(), text)?;
         assert_eq!(rt; got.as_str(), want, "at {text}");
+    }
+    Ok(())
+}
+
+/// Whether the tree of a text and its nodes give the same parts, or the same fault.
+pub fn is_read_alike(alloc: Global, text: &str) -> Result<bool, Fail> {
+    let data = read(alloc, text.as_bytes())?;
+    let forest = read_forest(alloc, text.as_bytes())?;
+    let of_nodes = bz_breeze::parts_of(alloc, forest.forms());
+    Ok(match (parts(alloc, data.as_slice()), of_nodes) {
+        (Ok(tree), Ok(nodes)) => tree.list() == nodes.list(),
+        (Err(tree), Err(nodes)) => tree == nodes,
+        _ => false,
+    })
+}
+
+#[test]
+fn nodes_are_read_as_a_tree_is(rt: HostRuntime) -> Result<(), Fail> {
+    for text in [BUFFER, DECORATED] {
+        assert!(rt; is_read_alike(rt.alloc(), text)?, "at {text}");
+    }
+    for (text, _) in REFUSALS {
+        assert!(rt; is_read_alike(rt.alloc(), text)?, "at {text}");
     }
     Ok(())
 }

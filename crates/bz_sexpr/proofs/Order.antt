@@ -1,5 +1,5 @@
 -- The data that a text spells are in the order of the text.
-use Rattle.std.proofs.Common.{◌≡◌, ℕ, ◌+◌, ◌-◌, ◌<◌, ◌≤◌, List, [], ◌∷◌, ◌++◌, length, map, Result, Ok, Err, IfOk, Vec, Global, ap, ◌∙◌, arith, subst, append_assoc, length-append}
+use Rattle.std.proofs.Common.{◌≡◌, ℕ, ◌+◌, ◌-◌, ◌<◌, ◌≤◌, List, [], ◌∷◌, ◌++◌, length, Result, Ok, Err, IfOk, ap, ◌∙◌, arith, subst, append_assoc, length-append}
 use Rattle.std.specs.List.{flat_map}
 use Rattle.std.proofs.lemmas.List.{append-nil}
 use Rattle.bz_sexpr.specs.Bytes.{quote}
@@ -8,8 +8,7 @@ use Rattle.bz_sexpr.specs.Pieces.{Piece, blank, comment, opening, closing, quote
 use Rattle.bz_sexpr.specs.Tokens.{Token, opens, closes, lone, listing, listings, token_of, tokens}
 use Rattle.bz_sexpr.specs.Spelling.{Spells}
 use Rattle.bz_sexpr.specs.Order.{IsInOrder, AreWithin, AreInOrder}
-use Rattle.bz_sexpr.specs.Views.{data_of, datum_view}
-use Rattle.bz_sexpr.specs.declared.datum.Datum as declared
+use Rattle.bz_sexpr.specs.Views.{data_of}
 use Rattle.bz_sexpr.specs.declared.error.SexprError.{SexprError}
 
 -- tokens one after another, from one byte up to another
@@ -68,6 +67,6 @@ spelt_in_order whole ds s =
     let end : 0 + length (spelt b.pieces) ≡ length whole = omega (arith, ap length (b.cut ∙ append-nil (spelt b.pieces))) in
     all_in_order ds 0 (length whole) (subst (λ ts. Follow 0 ts (length whole)) b.listed (subst (Follow 0 (tokens 0 b.pieces)) end (tokens_follow b.pieces [] 0 b.each)))
 
-pub answered_in_order : (whole : List ℕ) (r : Result (Vec declared.Datum Global) SexprError) → IfOk r (λ v. Spells whole (map datum_view v.items)) → IfOk r (λ v. AreInOrder (map datum_view v.items) (length whole))
-answered_in_order whole (Ok v) s = spelt_in_order whole (map datum_view v.items) s
-answered_in_order whole (Err e) s = tt
+pub answered_in_order : {A : Type 0} (seen : A → List Datum) (whole : List ℕ) (r : Result A SexprError) → IfOk r (λ v. Spells whole (seen v)) → IfOk r (λ v. AreInOrder (seen v) (length whole))
+answered_in_order seen whole (Ok v) s = spelt_in_order whole (seen v) s
+answered_in_order seen whole (Err e) s = tt

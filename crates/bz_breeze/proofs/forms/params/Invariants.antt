@@ -1,9 +1,12 @@
-use Rattle.std.proofs.Common.{◌≡◌, ◌++◌, map, drop}
+use Rattle.std.proofs.Common.{◌≡◌, ◌++◌, map, length}
 use Rattle.std.specs.List.{filter_map}
-use Rattle.bz_sexpr.specs.Views.{datum_view}
+use Rattle.bz_sexpr.specs.Forms.{forms_view}
 use Rattle.bz_breeze.specs.Records.{param_record}
 use Rattle.bz_breeze.specs.Forms.{param}
 use Rattle.bz_breeze.proofs.forms.params.Given as goal
 
-abbrev pub invariant-loop-datum : goal.invariant-loop-datum
-invariant-loop-datum l = filter_map param (map datum_view l.list) ≡ map param_record l.params.items ++ filter_map param (map datum_view (drop l.datum-index l.list))
+abbrev pub invariant-loop-form : goal.invariant-loop-form
+invariant-loop-form l = filter_map param (forms_view l.list) ≡ map param_record l.params.items ++ filter_map param (forms_view l.rest)
+
+abbrev pub decreases-loop-form : goal.decreases-loop-form
+decreases-loop-form l = length (forms_view l.rest)

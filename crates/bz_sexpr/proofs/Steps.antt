@@ -1,0 +1,188 @@
+-- What the reader keeps, after each kind of piece.
+use Rattle.std.proofs.Common.{◌≡◌, ◌≢◌, ℕ, suc, ◌+◌, ◌-◌, ◌≤◌, ◌<◌, List, [], ◌∷◌, ◌++◌, length, take, drop, Option, Some, None, refl, sym, ap, ap₂, ◌∙◌, arith, subst, append_assoc, length-append, slice_set}
+use Rattle.std.proofs.lemmas.List.{append-nil}
+use Rattle.std.proofs.Math.Seq.{set-append_seam}
+use Rattle.bz_sexpr.specs.Bytes.{open_paren, close_paren}
+use Rattle.bz_sexpr.specs.Data.{Leaf, Datum, leaf, items, Data, none, more, max_depth}
+use Rattle.bz_sexpr.specs.Pieces.{spelling, spelt}
+use Rattle.bz_sexpr.specs.Tokens.{lone}
+use Rattle.bz_sexpr.specs.Views.{list_of, data_of}
+use Rattle.bz_sexpr.specs.Nodes.{nodes_of, nodes_in, row, between, leaf_in, forest}
+use Rattle.bz_sexpr.specs.Reading.{Opened, laid, opening_node, kept_of, places_of, ReadTo, IsTold, AreTold, OpensAt, AreOpened, SpellsLeaf}
+use Rattle.bz_sexpr.specs.declared.datum.Span.{Span}
+use Rattle.bz_sexpr.specs.declared.node.Node.{Node}
+use Rattle.bz_sexpr.specs.declared.reader.OpenList.{OpenList}
+use Rattle.bz_sexpr.proofs.Laid.{row-append, list_of-data_of, list_piece}
+use Rattle.bz_sexpr.proofs.Readings.{read_leaf, read_open, read_close}
+
+-- ---- pieces of a text
+
+take_some : {A : Type 0} (xs ys : List A) (n : ℕ) → take (length xs + n) (xs ++ ys) ≡ xs ++ take n ys
+take_some [] ys n = ap (λ k. take k ys) (omega arith)
+take_some (x ∷ xs) ys n =
+    let more : length (x ∷ xs) + n ≡ suc (length xs + n) = omega arith in
+    ap (λ k. take k (x ∷ (xs ++ ys))) more ∙ ap (λ zs. x ∷ zs) (take_some xs ys n)
+
+drop_some : {A : Type 0} (xs ys : List A) → drop (length xs) (xs ++ ys) ≡ ys
+drop_some [] ys = refl
+drop_some (x ∷ xs) ys = drop_some xs ys
+
+take_whole : {A : Type 0} (xs ys : List A) → take (length xs) (xs ++ ys) ≡ xs
+take_whole [] ys = refl
+take_whole (x ∷ xs) ys = ap (λ zs. x ∷ zs) (take_whole xs ys)
+
+-- the bytes behind a front, so many of them
+piece_of : (front back : List ℕ) (n : ℕ) → between (length front) (length front + n) (front ++ back) ≡ take n back
+piece_of front back n = ap (drop (length front)) (take_some front back n) ∙ drop_some front (take n back)
+
+pub piece_is : (whole front piece after : List ℕ) (from to : ℕ) → whole ≡ front ++ (piece ++ after) → length front ≡ from → to ≡ from + length piece → between from to whole ≡ piece
+piece_is whole front piece after from to cut at end =
+    let to_is : to ≡ length front + length piece = omega (arith, at, end) in
+    rw (cut, ← at, to_is) (piece_of front (piece ++ after) (length piece) ∙ take_whole piece after)
+
+piece_begins : (whole front after : List ℕ) (b from n : ℕ) → whole ≡ front ++ b ∷ after → length front ≡ from → between from (from + suc n) whole ≡ b ∷ take n after
+piece_begins whole front after b from n cut at = rw (cut, ← at) (piece_of front (b ∷ after) (suc n))
+
+-- ---- what is told
+
+pub told_push : (whole : List ℕ) (ds : List Datum) (d : Datum) → AreTold whole (data_of ds) → IsTold whole d → AreTold whole (data_of (ds ++ d ∷ []))
+told_push whole [] d told is = (is, tt)
+told_push whole (e ∷ ds) d told is = (told.0, told_push whole ds d told.1 is)
+
+pub opened_less : (whole : List ℕ) (n m : ℕ) (os : List Opened) → AreOpened whole n os → m ≤ n → AreOpened whole m os
+opened_less whole n m [] h le = tt
+opened_less whole n m (o ∷ os) (place, told, others) le =
+    ((place.0, place.1, place.2, place.3, omega (arith, place.4, le)), told, opened_less whole n m os others le)
+
+pub laid_more : (os : List Opened) (ds es : List Datum) → laid os (ds ++ es) ≡ laid os ds ++ row es
+laid_more [] ds es = row-append ds es
+laid_more (o ∷ os) ds es =
+    ap (λ ns. laid os o.before ++ opening_node o.from ∷ ns) (row-append ds es) ∙ sym (append_assoc (laid os o.before) (opening_node o.from ∷ row ds) (row es))
+
+-- ---- a leaf
+
+pub record AddsLeaf (whole rest : List ℕ) (lists : List Opened) (ds : List Datum) (from to : ℕ) : Type 0 where
+  pub d : Datum
+  pub read : ReadTo whole rest lists (ds ++ d ∷ [])
+  pub told : AreTold whole (data_of (ds ++ d ∷ []))
+  pub nodes : laid lists (ds ++ d ∷ []) ≡ laid lists ds ++ record { from = from; to = to; size = 0; count = 0 } ∷ []
+
+pub adds_leaf : (whole front rest : List ℕ) (lists : List Opened) (ds : List Datum) (from to : ℕ) → ReadTo whole front lists ds → AreTold whole (data_of ds) → SpellsLeaf front rest → from + length front ≡ length whole → to + length rest ≡ length whole
+    → AddsLeaf whole rest lists ds from to
+adds_leaf whole front rest lists ds from to read told leaf_is place end =
+    let p = leaf_is.piece in
+    let long : length front ≡ length (spelling p) + length rest = omega (arith, ap length leaf_is.cut, length-append (spelling p) rest) in
+    let ends : to ≡ from + length (spelling p) = omega (arith, long, place, end) in
+    let before = spelt read.begins_with.pieces in
+    let cut : whole ≡ before ++ (spelling p ++ rest) = read.begins_with.cut ∙ ap (λ s. before ++ s) leaf_is.cut in
+    let at : length before ≡ from = omega (arith, ap length read.begins_with.cut, length-append before front, place) in
+    let span : Span = record { from = from; to = to } in
+    let d : Datum = leaf leaf_is.value span in
+    let here : IsTold whole d = ap leaf_in (piece_is whole before (spelling p) rest from to cut at ends) ∙ leaf_is.leaf_of_piece in
+    record {
+      d = d;
+      read = read_leaf whole front rest lists ds p from leaf_is.value span read leaf_is.cut place leaf_is.is_piece (leaf_is.spells from ∙ ap (λ n. lone leaf_is.value (record { from = from; to = n }) ∷ []) (sym ends));
+      told = told_push whole ds d told here;
+      nodes = laid_more lists ds (d ∷ []);
+    }
+
+-- ---- a list that opens
+
+pub opens_list : (whole rest after : List ℕ) (lists : List Opened) (ds : List Datum) (at : ℕ) → ReadTo whole rest lists ds → AreOpened whole (length rest) lists → AreTold whole (data_of ds) → rest ≡ open_paren ∷ after → at + length rest ≡ length whole
+    → AreOpened whole (length after) (record { from = at; before = ds } ∷ lists)
+opens_list whole rest after lists ds at read opened told first place =
+    let before = spelt read.begins_with.pieces in (
+      (before, after, read.begins_with.cut ∙ ap (λ s. before ++ s) first, omega (arith, ap length read.begins_with.cut, length-append before rest, place), omega arith),
+      told,
+      opened_less whole (length rest) (length after) lists opened (omega (arith, ap length first)),
+    )
+
+-- ---- a list that closes
+
+last_same : {A : Type 0} (xs ys : List A) (x y : A) → xs ++ x ∷ [] ≡ ys ++ y ∷ [] → (xs ≡ ys) × (x ≡ y)
+last_same [] [] x y e = (refl, cc)
+last_same [] (z ∷ []) x y e = absurd cc
+last_same [] (z ∷ w ∷ ys) x y e = absurd cc
+last_same (z ∷ []) [] x y e = absurd cc
+last_same (z ∷ w ∷ xs) [] x y e = absurd cc
+last_same (z ∷ xs) (w ∷ ys) x y e =
+    let first : z ≡ w = cc in
+    let others : xs ++ x ∷ [] ≡ ys ++ y ∷ [] = cc in
+    let rest = last_same xs ys x y others in
+    (ap₂ (λ a b. a ∷ b) first rest.0, rest.1)
+
+abbrev kept_one : Opened → List Opened → OpenList
+kept_one o os = record { node = length (laid os o.before); from = o.from; before = length o.before }
+
+pub one_kept : (node from before node' before' : ℕ) → node ≡ node' → before ≡ before' → (let l : OpenList = record { node = node; from = from; before = before } in l) ≡ record { node = node'; from = from; before = before' }
+one_kept node from before node' before' e f = ap₂ (λ n b. record { node = n; from = from; before = b }) e f
+
+-- the innermost list that is open
+pub innermost : (lists : List Opened) (init : List OpenList) (last : OpenList) → init ++ last ∷ [] ≡ kept_of lists → (o : Opened) × (os : List Opened) × (lists ≡ o ∷ os) × (init ≡ kept_of os) × (last ≡ kept_one o os)
+innermost [] [] last e = absurd cc
+innermost [] (x ∷ init) last e = absurd cc
+innermost (o ∷ os) init last e = let same = last_same init (kept_of os) last (kept_one o os) e in (o, os, refl, same.0, same.1)
+
+pub record Closes (whole after : List ℕ) (init : List OpenList) (last : OpenList) (at : ℕ) (ds : List Datum) (nodes : List Node) : Type 0 where
+  pub lists : List Opened
+  pub ds' : List Datum
+  pub read : ReadTo whole after lists ds'
+  pub opened : AreOpened whole (length after) lists
+  pub told : AreTold whole (data_of ds')
+  pub stack : init ≡ kept_of lists
+  pub counted : length ds' ≡ last.before + 1
+  pub size : last.node + 1 + length (row ds) ≡ length nodes
+  pub closed : (n : Node) → n ≡ record { from = last.from; to = at + 1; size = length (row ds); count = length ds } → slice_set nodes last.node n ≡ laid lists ds'
+
+closes : (whole rest after : List ℕ) (o : Opened) (os : List Opened) (ds : List Datum) (nodes : List Node) (init : List OpenList) (last : OpenList) (at : ℕ) → ReadTo whole rest (o ∷ os) ds → AreOpened whole (length rest) (o ∷ os)
+    → AreTold whole (data_of ds) → nodes ≡ laid (o ∷ os) ds → init ≡ kept_of os → last ≡ kept_one o os → rest ≡ close_paren ∷ after → at + length rest ≡ length whole → Closes whole after init last at ds nodes
+closes whole rest after o os ds nodes init last at read (opens, before_told, others) told nodes_are init_is last_is first place =
+    let span : Span = record { from = o.from; to = at + 1 } in
+    let d : Datum = items (data_of ds) span in
+    let n = at - o.from in
+    let to_is : at + 1 ≡ o.from + suc n = omega (arith, ap length first, place, ap length opens.2, length-append opens.0 (open_paren ∷ opens.1), opens.3, opens.4) in
+    let piece : between o.from (at + 1) whole ≡ open_paren ∷ take n opens.1 = ap (λ k. between o.from k whole) to_is ∙ piece_begins whole opens.0 opens.1 open_paren o.from n opens.2 opens.3 in
+    let here : IsTold whole d = (ap leaf_in piece ∙ list_piece _ (take n opens.1) open_paren refl refl, told) in
+    let outer = laid os o.before in
+    let node_at : last.node ≡ length outer = ap (λ l. l.node) last_is in
+    record {
+      lists = os;
+      ds' = o.before ++ d ∷ [];
+      read = read_close whole rest after os ds o at span read first place refl;
+      opened = opened_less whole (length rest) (length after) os others (omega (arith, ap length first));
+      told = told_push whole o.before d before_told here;
+      stack = init_is;
+      counted = omega (arith, length-append o.before (d ∷ []), ap (λ l. l.before) last_is);
+      size = omega (arith, node_at, ap length nodes_are, length-append outer (opening_node o.from ∷ row ds));
+      closed = λ m is.
+          ap₂ (λ ns k. slice_set ns k m) nodes_are node_at ∙ set-append_seam outer (opening_node o.from) (row ds) m
+          ∙ ap (λ k. outer ++ k ∷ row ds) (is ∙ ap₂ (λ f c. node_from f (at + 1) (length (row ds)) c) (ap (λ l. l.from) last_is) (sym (ap length (list_of-data_of ds))))
+          ∙ ap (λ ns. outer ++ node_from o.from (at + 1) (length (row ds)) (length (list_of (data_of ds))) ∷ ns) (sym (append-nil (row ds)))
+          ∙ sym (laid_more os o.before (d ∷ []));
+    }
+  where
+    node_from : ℕ → ℕ → ℕ → ℕ → Node
+    node_from from to size count = record { from = from; to = to; size = size; count = count }
+
+pub closes_list : (whole rest after : List ℕ) (lists : List Opened) (ds : List Datum) (nodes : List Node) (kept init : List OpenList) (last : OpenList) (at : ℕ) → ReadTo whole rest lists ds → AreOpened whole (length rest) lists → AreTold whole (data_of ds)
+    → nodes ≡ laid lists ds → kept ≡ kept_of lists → kept ≡ init ++ last ∷ [] → rest ≡ close_paren ∷ after → at + length rest ≡ length whole → Closes whole after init last at ds nodes
+closes_list whole rest after lists ds nodes kept init last at read opened told nodes_are kept_are popped first place =
+    let top = innermost lists init last (sym popped ∙ kept_are) in
+    closes whole rest after top.0 top.1 ds nodes init last at
+    (subst (λ ls. ReadTo whole rest ls ds) top.2 read) (subst (AreOpened whole (length rest)) top.2 opened) told (nodes_are ∙ ap (λ ls. laid ls ds) top.2) top.3 top.4 first place
+
+-- no list is open
+pub none_kept : (lists : List Opened) → kept_of lists ≡ [] → lists ≡ []
+none_kept [] e = refl
+none_kept (o ∷ os) e = absurd (omega (arith, length-append (kept_of os) (kept_one o os ∷ []), ap length e))
+
+pub length-kept : (lists : List Opened) → length (kept_of lists) ≡ length lists
+length-kept [] = refl
+length-kept (o ∷ os) = omega (arith, length-append (kept_of os) (kept_one o os ∷ []), length-kept os)
+
+pub popped : (old new : List OpenList) (last : OpenList) → old ≡ new ++ last ∷ [] → old ≡ new ++ last ∷ []
+popped old new last e = e
+
+pub closed_node : (from to size count from' to' size' count' : ℕ) → from ≡ from' → to ≡ to' → size ≡ size' → count ≡ count'
+    → (let n : Node = record { from = from; to = to; size = size; count = count } in n) ≡ record { from = from'; to = to'; size = size'; count = count' }
+closed_node from to size count from' to' size' count' e f g h = rw (e, f, g, h) refl

@@ -1,0 +1,230 @@
+//! Data as they are read: those of a tree, or those that the nodes of a text stand for.
+
+ghost use Rattle.std.specs.Prelude.{◌≡◌, length};
+ghost use Rattle.bz_sexpr.specs.Nodes.{row, forest};
+
+use crate::bytes::{number, unquoted};
+use crate::node::Node;
+use crate::{Datum, Span};
+use std::alloc::{AllocError, Global};
+
+/// Data that nodes of a text stand for.
+#[derive(Clone, Copy)]
+pub struct NodeForms<'t> {
+    pub(crate) text: &'t [u8],
+    pub(crate) nodes: &'t [Node],
+    /// How many data.
+    pub(crate) len: usize,
+    ghost laid: { nodes.now ≡ row (forest text.now nodes.now) },
+    ghost counted: { len ≡ length (forest text.now nodes.now) },
+}
+
+/// A datum that a node of a text stands for, with the nodes of the data in it.
+#[derive(Clone, Copy)]
+pub struct NodeForm<'t> {
+    pub(crate) text: &'t [u8],
+    pub(crate) node: Node,
+    pub(crate) inner: &'t [Node],
+    ghost laid: { inner.now ≡ row (forest text.now inner.now) },
+    ghost counted: { node.count ≡ length (forest text.now inner.now) },
+}
+
+/// Data in a row.
+#[derive(Clone, Copy)]
+pub enum Forms<'t> {
+    Data(&'t [Datum]),
+    Nodes(NodeForms<'t>),
+}
+
+/// A datum.
+#[derive(Clone, Copy)]
+pub enum Form<'t> {
+    Datum(&'t Datum),
+    Node(NodeForm<'t>),
+}
+
+/// The bytes of a text.
+#[derive(Clone, Copy)]
+pub enum Text<'t> {
+    Plain(&'t [u8]),
+    /// As they stand between the quotes.
+    Quoted(&'t [u8]),
+}
+
+/// A datum that is no list.
+#[derive(Clone, Copy)]
+pub enum Leaf<'t> {
+    Num(u128),
+    /// `#t` or `#f`.
+    Truth(bool),
+    Text(Text<'t>),
+    Symbol(&'t [u8]),
+}
+
+/// What a datum is.
+#[derive(Clone, Copy)]
+pub enum Shape<'t> {
+    Leaf(Leaf<'t>),
+    Items(Forms<'t>),
+}
+
+impl<'t> NodeForms<'t> {
+    ghost use Rattle.std.specs.Option.{option_map};
+    ghost use Rattle.bz_sexpr.specs.Forms.{forms_view, first_and_rest};
+
+    fn split_first(self) -> Option<(NodeForm<'t>, NodeForms<'t>)>
+        ensures { first_and_rest (option_map (λ p. (Form.Node p.0, Forms.Nodes p.1)) result) ≡ forms_view (Forms.Nodes self.entry) }
+    {
+        let (node, behind) = self.nodes.split_first()?;
+        let (inner, nodes) = behind.split_at(node.size as usize);
+        let text = self.text;
+        let len = self.len - 1;
+        Some((
+            NodeForm {
+                text,
+                node: *node,
+                inner,
+            },
+            NodeForms { text, nodes, len },
+        ))
+    }
+}
+
+impl<'t> NodeForm<'t> {
+    ghost use Rattle.bz_sexpr.specs.Data.{span_of};
+    ghost use Rattle.bz_sexpr.specs.Forms.{form_view, shape_view};
+
+    fn shape(self) -> Shape<'t>
+        ensures { shape_view result (span_of (form_view (Form.Node self.entry))) ≡ form_view (Form.Node self.entry) }
+    {
+        match Leaf::of_piece(self.node.piece(self.text)) {
+            Some(leaf) => Shape::Leaf(leaf),
+            None => Shape::Items(Forms::Nodes(NodeForms {
+                text: self.text,
+                nodes: self.inner,
+                len: self.node.inside(),
+            })),
+        }
+    }
+
+    fn span(self) -> Span
+        ensures { result ≡ span_of (form_view (Form.Node self.entry)) }
+    {
+        self.node.span()
+    }
+}
+
+impl<'t> Leaf<'t> {
+    ghost use Rattle.std.specs.Option.{option_map};
+    ghost use Rattle.bz_sexpr.specs.Data.{leaf_of};
+    ghost use Rattle.bz_sexpr.specs.Nodes.{leaf_in};
+    ghost use Rattle.bz_sexpr.specs.Forms.{leaf_view};
+
+    /// The leaf that a piece of a text spells, unless it spells a list.
+    pub(crate) fn of_piece(piece: &'t [u8]) -> Option<Leaf<'t>>
+        ensures { option_map leaf_view result ≡ leaf_in piece.now }
+    {
+        let Some((first, after)) = piece.split_first() else {
+            return Some(Leaf::Symbol(piece));
+        };
+        match *first {
+            b'(' => None,
+            b'"' => {
+                let (raw, _quote) = after.split_at(after.len().saturating_sub(1));
+                Some(Leaf::Text(Text::Quoted(raw)))
+            }
+            _ => Some(Leaf::of_run(piece)),
+        }
+    }
+
+    /// What a run is.
+    #[tactic(auto, unfolding(crate::specs::Data::leaf_of))]
+    fn of_run(run: &'t [u8]) -> Leaf<'t>
+        ensures { leaf_view result ≡ leaf_of run.now }
+    {
+        if run == b"#t".as_slice() {
+            Leaf::Truth(true)
+        } else if run == b"#f".as_slice() {
+            Leaf::Truth(false)
+        } else if let Some(n) = number(run) {
+            Leaf::Num(n)
+        } else {
+            Leaf::Symbol(run)
+        }
+    }
+}
+
+impl<'t> Forms<'t> {
+    ghost use Rattle.bz_sexpr.specs.Forms.{forms_view, first_and_rest};
+
+    /// How many data.
+    pub fn len(self) -> usize
+        ensures { result ≡ length (forms_view self.entry) }
+    {
+        match self {
+            Forms::Data(data) => data.len(),
+            Forms::Nodes(nodes) => nodes.len,
+        }
+    }
+
+    /// The first datum and those behind it.
+    pub fn split_first(self) -> Option<(Form<'t>, Forms<'t>)>
+        ensures { first_and_rest result ≡ forms_view self.entry }
+    {
+        match self {
+            Forms::Data(data) => {
+                let (first, rest) = data.split_first()?;
+                Some((Form::Datum(first), Forms::Data(rest)))
+            }
+            Forms::Nodes(nodes) => {
+                let (first, rest) = nodes.split_first()?;
+                Some((Form::Node(first), Forms::Nodes(rest)))
+            }
+        }
+    }
+}
+
+impl<'t> Form<'t> {
+    ghost use Rattle.bz_sexpr.specs.Data.{span_of};
+    ghost use Rattle.bz_sexpr.specs.Forms.{form_view, shape_view};
+
+    pub fn shape(self) -> Shape<'t>
+        ensures { shape_view result (span_of (form_view self.entry)) ≡ form_view self.entry }
+    {
+        match self {
+            Form::Datum(Datum::Num(n, _)) => Shape::Leaf(Leaf::Num(*n)),
+            Form::Datum(Datum::Truth(flag, _)) => Shape::Leaf(Leaf::Truth(*flag)),
+            Form::Datum(Datum::Text(bytes, _)) => Shape::Leaf(Leaf::Text(Text::Plain(
+                bytes.as_slice(),
+            ))),
+            Form::Datum(Datum::Symbol(name, _)) => Shape::Leaf(Leaf::Symbol(name.as_slice())),
+            Form::Datum(Datum::Items(items, _)) => Shape::Items(Forms::Data(items.as_slice())),
+            Form::Node(node) => node.shape(),
+        }
+    }
+
+    /// The piece of the text that spells the datum.
+    pub fn span(self) -> Span
+        ensures { result ≡ span_of (form_view self.entry) }
+    {
+        match self {
+            Form::Datum(datum) => datum.span(),
+            Form::Node(node) => node.span(),
+        }
+    }
+}
+
+impl<'t> Text<'t> {
+    ghost use Rattle.std.specs.Prelude.{IfOk};
+    ghost use Rattle.bz_sexpr.specs.Forms.{text_view};
+
+    /// A copy of the bytes.
+    pub fn bytes(self, alloc: Global) -> Result<Vec<u8>, AllocError>
+        ensures { IfOk result (λ v. v.items ≡ text_view self.entry) }
+    {
+        match self {
+            Text::Plain(bytes) => Vec::from_slice(alloc, bytes),
+            Text::Quoted(raw) => unquoted(alloc, raw),
+        }
+    }
+}
