@@ -3,9 +3,10 @@
 
     measure.py PROGRAM [OTHER]      MOVES=1000000 and ROUNDS=3 may be set in the environment
 
-Each row is one workload: the best time of each program in seconds, and, where there are two, how many times as long the first
-takes. A row of moves leaves out the time of the same command without any. The netlists are made by netlists.py, in a folder that
-goes away.
+Each row is one workload: the best time of each program in seconds, its memory at its greatest in MB, and, where there are two, how
+many times as long the first takes. A row of moves leaves out the time of the same command without any. No figure of memory is below
+that of Python itself, some 15 MB, out of which the programs are started. The netlists are made by netlists.py, in a folder that goes
+away.
 """
 import os
 import subprocess
@@ -18,25 +19,29 @@ MOVES = int(os.environ.get("MOVES", "1000000"))
 ROUNDS = int(os.environ.get("ROUNDS", "3"))
 
 
-def seconds(program, arguments, netlist):
-    """The best time of some rounds; None where the program refuses."""
-    best = None
+def measured(program, arguments, netlist):
+    """The best time of some rounds, and the greatest memory in MB; None where the program refuses."""
+    best, most = None, 0.0
     for _ in range(ROUNDS):
-        with open(netlist, "rb") as text:
+        with open(netlist, "rb") as text, tempfile.TemporaryFile() as said:
             begin = time.monotonic()
-            done = subprocess.run([program, *arguments], stdin=text, stdout=subprocess.DEVNULL, stderr=subprocess.PIPE)
+            child = subprocess.Popen([program, *arguments], stdin=text, stdout=subprocess.DEVNULL, stderr=said)
+            _, status, used = os.wait4(child.pid, 0)
             took = time.monotonic() - begin
-        if done.returncode != 0:
-            print(f"    {program}: {done.stderr.decode(errors='replace').strip()}")
-            return None
+            child.returncode = os.waitstatus_to_exitcode(status)
+            if child.returncode != 0:
+                said.seek(0)
+                print(f"    {program}: {said.read().decode(errors='replace').strip()}")
+                return None
         best = took if best is None else min(best, took)
-    return best
+        most = max(most, used.ru_maxrss / 1024)
+    return best, most
 
 
-def show(label, times):
-    cells = ["refused" if t is None else f"{t:8.3f} s" for t in times]
-    if len(times) == 2 and None not in times and times[1] > 0:
-        cells.append(f"{times[0] / times[1]:6.1f} times")
+def show(label, all_measured):
+    cells = ["refused" if it is None else f"{it[0]:8.3f} s {it[1]:6.0f} MB" for it in all_measured]
+    if len(all_measured) == 2 and None not in all_measured and all_measured[1][0] > 0:
+        cells.append(f"{all_measured[0][0] / all_measured[1][0]:6.1f} times")
     print(f"{label:40}" + "  ".join(cells), flush=True)
 
 
@@ -44,15 +49,15 @@ def run(words):
     return ["run", "--part", "bench", "--journal", "16777216", *words]
 
 
-def without(times, empty):
-    """What is left of the times without those of an empty run."""
-    return [None if t is None or e is None else max(t - e, 0.0) for t, e in zip(times, empty)]
+def without(all_measured, empty):
+    """The same without the times of an empty run."""
+    return [None if it is None or e is None else (max(it[0] - e[0], 0.0), it[1]) for it, e in zip(all_measured, empty)]
 
 
 def moves(programs, shape, size, netlist):
-    empty = [seconds(p, run(["run:0"]), netlist) for p in programs]
+    empty = [measured(p, run(["run:0"]), netlist) for p in programs]
     show(f"{shape} {size}: opened", empty)
-    full = [seconds(p, run(["offer:go", f"run:{MOVES}"]), netlist) for p in programs]
+    full = [measured(p, run(["offer:go", f"run:{MOVES}"]), netlist) for p in programs]
     show(f"{shape} {size}: {MOVES} moves", without(full, empty))
 
 
@@ -60,7 +65,7 @@ def pools(programs, shape, size, netlist):
     """The same moves by workers on threads, with what opening takes."""
     for workers in (1, 2, 4, 8):
         words = ["pool", "--part", "bench", "--journal", "16777216", "--workers", str(workers), "--fuel", str(MOVES), "offer:go"]
-        show(f"{shape} {size}: {MOVES} moves by {workers}", [seconds(p, words, netlist) for p in programs])
+        show(f"{shape} {size}: {MOVES} moves by {workers}", [measured(p, words, netlist) for p in programs])
 
 
 def main():
@@ -84,8 +89,8 @@ def main():
         for shape in ("large", "tree"):
             text = netlist(shape, 1000000)
             print(f"{shape}: {os.path.getsize(text)} bytes")
-            show(f"{shape}: listed", [seconds(p, ["list", "--part", "bench"], text) for p in programs])
-            show(f"{shape}: opened", [seconds(p, run(["run:0"]), text) for p in programs])
+            show(f"{shape}: listed", [measured(p, ["list", "--part", "bench"], text) for p in programs])
+            show(f"{shape}: opened", [measured(p, run(["run:0"]), text) for p in programs])
 
 
 if __name__ == "__main__":
