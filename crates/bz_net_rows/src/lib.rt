@@ -3,5 +3,3 @@
 
 #[cfg(test)]
 mod nets;
-#[cfg(test)]
-mod plays;
