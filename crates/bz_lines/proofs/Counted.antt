@@ -1,5 +1,5 @@
 -- What counts tell of a list.
-use Rattle.std.proofs.Common.{◌≡◌, ℕ, ◌<◌, ◌≤◌, List, length, arith}
+use Rattle.std.proofs.Common.{ℕ, ◌<◌, List, length, arith}
 use Rattle.std.proofs.lemmas.List.Sums.{count_by-le-length}
 use Rattle.bz_model.specs.declared.event.Entry.{Entry}
 use Rattle.bz_lines.specs.declared.tally.Counts.{Counts}

@@ -1,7 +1,7 @@
 -- A text is cut in one way: into a trace, as long as one goes, and the rest.
-use Rattle.std.proofs.Common.{◌≡◌, ◌≢◌, ℕ, zero, suc, ◌+◌, ◌-◌, ◌<◌, ◌≤◌, ◌^◌, Bool, true, false, List, [], ◌∷◌, ◌++◌, length, map, Option, Some, None, refl, sym, ap, ap₂, subst, ◌∙◌, arith, append_assoc, ◌⊎◌, inl, inr, codes, length-append}
+use Rattle.std.proofs.Common.{◌≡◌, ◌≢◌, ℕ, ◌+◌, ◌≤◌, List, [], ◌∷◌, ◌++◌, length, map, Option, Some, None, refl, sym, ap, ap₂, subst, ◌∙◌, arith, append_assoc, inl, inr, codes, length-append}
 use Rattle.std.specs.Prelude.{IfSome}
-use Rattle.std.specs.List.{flat_map, AllByRecursion}
+use Rattle.std.specs.List.{AllByRecursion}
 use Rattle.std.proofs.Math.ListN.{length-map}
 use Rattle.std.proofs.lemmas.List.{append-nil, map-append}
 use Rattle.bz_model.specs.declared.event.Entry.{Entry}
@@ -12,11 +12,11 @@ use Rattle.bz_lines.specs.declared.text.Version.TheVariants.{One, Two}
 use Rattle.bz_lines.specs.declared.text.TheConstants.{MAX_ENTRIES}
 use Rattle.bz_model.specs.Entries.{HasLine, IsNumber32, told}
 use Rattle.bz_lines.specs.Reading.{line_at, clash_at, who_at, strip}
-use Rattle.bz_lines.specs.Texts.{first_line, lines, clash_lines, Trace, spelling, HasText, NoEntry, NoClash, IsLaterBad, IsFirstBad, IsBad, Spells, Outcome, entries_are, bad_line, ComesTo, Skips, ClashesFrom, OtherFrom}
+use Rattle.bz_lines.specs.Texts.{first_line, lines, clash_lines, Trace, spelling, HasText, NoEntry, NoClash, IsLaterBad, IsBad, Spells, Outcome, entries_are, bad_line, ComesTo, ClashesFrom, OtherFrom}
 use Rattle.bz_lines.proofs.Strips.{none-some, strip_again}
 use Rattle.std.proofs.lemmas.Option.{some_pair_parts}
-use Rattle.bz_lines.proofs.Lines.{Stands, line_again, line_takes}
-use Rattle.bz_lines.proofs.Texts.{longer_by, some_line, line_shorter, all_more, flat_more, no_clash_from, no_entry_from, clash_no_entry, same_entries, same_clashes}
+use Rattle.bz_lines.proofs.Lines.{line_again, line_takes}
+use Rattle.bz_lines.proofs.Texts.{all_more, flat_more, no_clash_from, no_entry_from, clash_no_entry, same_entries, same_clashes}
 
 pub record Cut (net : Outside) (text : List ℕ) (t : Trace) (rest : List ℕ) : Type 0 where
   pub has_text : HasText net t

@@ -4,6 +4,7 @@ pub mod Strips
 pub mod Numbers
 pub mod LineLaws
 pub mod NameLaws
+pub mod FormLaws
 pub mod Taken
 pub mod Lines
 pub mod Texts

@@ -1,10 +1,8 @@
 -- A line that stands at the front is read back, and what is read is a line.
-use Rattle.std.proofs.Common.{◌≡◌, ◌≢◌, ℕ, zero, suc, ◌+◌, ◌-◌, ◌*◌, ◌<◌, ◌≤◌, ◌^◌, Bool, true, false, cond, ◌&&◌, List, [], ◌∷◌, ◌++◌, length, Option, Some, None, refl, sym, ap, subst, ◌∙◌, arith, ◌==◌, append_assoc, ◌⊎◌, inl, inr, codes}
-use Rattle.std.specs.Prelude.{IfSome, unwrap_or, ⊤}
+use Rattle.std.proofs.Common.{◌≡◌, ℕ, zero, suc, ◌+◌, ◌<◌, ◌≤◌, ◌^◌, Bool, true, false, List, [], ◌∷◌, ◌++◌, Option, Some, None, refl, ap, ◌∙◌, arith, ◌==◌, append_assoc}
+use Rattle.std.specs.Prelude.{IfSome}
 use Rattle.std.specs.Fmt.{decimal}
-use Rattle.std.specs.Char.{is_ascii_digit}
 use Rattle.std.proofs.Math.Dec.{eqb-suc-zero}
-use Rattle.std.proofs.lemmas.Option.{some_pair_parts}
 use Rattle.bz_model.specs.declared.channel.Move.{Move}
 use Rattle.bz_model.specs.declared.channel.Move.TheVariants as move
 use Rattle.bz_model.specs.declared.channel.Phase.{Phase}
@@ -15,16 +13,12 @@ use Rattle.bz_model.specs.declared.event.Verb.{Verb}
 use Rattle.bz_model.specs.declared.event.Verb.TheVariants as verb
 use Rattle.bz_model.specs.declared.event.Reply.{Reply}
 use Rattle.bz_model.specs.declared.event.Reply.TheVariants as reply
-use Rattle.bz_model.specs.declared.event.Entry.{Entry}
-use Rattle.bz_model.specs.declared.event.Entry.TheVariants as entry
-use Rattle.bz_model.specs.Names.{Outside, External, port_name, port_number, number_from, numbered}
-use Rattle.bz_model.specs.Traces.{who_text, move_text, verb_text, value_text, phase_text, reply_text, name_form, byte_form, line_text}
-use Rattle.bz_model.specs.Entries.{IsWho, IsHost, IsNumber32, IsValue, IsPhase, IsReply, IsCarried, IsGiven, HasLine, told, carries}
-use Rattle.bz_lines.specs.Reading.{◌>>=◌, strip, number_at, who_number, who_at, move_at, verb_at, carried_at, fired_at, value_end, value_end_or, phase_end, reply_end, port_from, given_at, host_at, event_at, line_at, begins_digit, may_bring, most_value, most_number, with_else}
-use Rattle.bz_lines.proofs.Strips.{none-some, strip_again, strip_takes, strip_append}
+use Rattle.bz_model.specs.Traces.{who_text, move_text, verb_text, value_text, phase_text, reply_text}
+use Rattle.bz_model.specs.Entries.{IsWho, IsValue, IsPhase, IsReply, IsCarried, IsGiven}
+use Rattle.bz_lines.specs.Reading.{strip, who_number, who_at, move_at, verb_at, carried_at, value_end, phase_end, reply_end, given_at, begins_digit, most_value}
 use Rattle.std.proofs.lemmas.Fmt.{decimal_by_steps_wide}
 use Rattle.std.proofs.Common.{◌%◌}
-use Rattle.bz_lines.proofs.Numbers.{number_again, number_takes, digit_of}
+use Rattle.bz_lines.proofs.Numbers.{number_again, digit_of}
 
 -- who, before a space
 who_number_again : (most n : ℕ) (t : List ℕ) → most < 10 ^ 64 → 0 < n → n ≤ most → who_number most (decimal n ++ 32 ∷ t) ≡ Some (n, 32 ∷ t)

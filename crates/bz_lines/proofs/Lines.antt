@@ -1,8 +1,7 @@
 -- A whole line: what stands at the front is read, and what is read stands there.
-use Rattle.std.proofs.Common.{◌≡◌, ◌≢◌, ℕ, zero, suc, ◌+◌, ◌-◌, ◌<◌, ◌≤◌, ◌^◌, Bool, true, false, cond, ◌&&◌, List, [], ◌∷◌, ◌++◌, Option, Some, None, refl, sym, ap, subst, ◌∙◌, arith, ◌==◌, append_assoc, ◌⊎◌, inl, inr, codes}
-use Rattle.std.specs.Prelude.{IfSome, unwrap_or, ⊤}
+use Rattle.std.proofs.Common.{◌≡◌, ℕ, false, List, [], ◌∷◌, ◌++◌, Option, Some, None, refl, sym, ap, subst, ◌∙◌, arith, append_assoc, ◌⊎◌, inl, inr, codes}
+use Rattle.std.specs.Prelude.{unwrap_or}
 use Rattle.std.specs.Fmt.{decimal}
-use Rattle.std.proofs.lemmas.Option.{some_pair_parts}
 use Rattle.bz_model.specs.declared.channel.Move.{Move}
 use Rattle.bz_model.specs.declared.event.Who.{Who}
 use Rattle.bz_model.specs.declared.event.Who.TheVariants as who
@@ -12,10 +11,10 @@ use Rattle.bz_model.specs.declared.event.Reply.{Reply}
 use Rattle.bz_model.specs.declared.event.Entry.{Entry}
 use Rattle.bz_model.specs.declared.event.Entry.TheVariants as entry
 use Rattle.bz_model.specs.Names.{Outside, port_name, port_number}
-use Rattle.bz_model.specs.Traces.{who_text, move_text, verb_text, value_text, phase_text, reply_text, name_form, line_text, fired_text, host_text, rested_text}
-use Rattle.bz_model.specs.Entries.{IsWho, IsHost, IsNumber32, IsValue, IsReply, IsCarried, IsGiven, HasLine, told, carries}
-use Rattle.bz_lines.specs.Reading.{◌>>=◌, strip, number_at, who_at, move_at, verb_at, carried_at, fired_at, reply_end, port_from, given_at, host_at, event_at, line_at, begins_digit, most_value, most_number, with_else, fired_else, of_host}
-use Rattle.bz_lines.proofs.Strips.{none-some, strip_again, strip_takes}
+use Rattle.bz_model.specs.Traces.{who_text, move_text, verb_text, value_text, reply_text, name_form, line_text, fired_text, host_text, rested_text}
+use Rattle.bz_model.specs.Entries.{IsWho, IsHost, IsNumber32, IsReply, IsCarried, IsGiven, HasLine, told, carries}
+use Rattle.bz_lines.specs.Reading.{strip, number_at, who_at, move_at, verb_at, carried_at, fired_at, reply_end, port_from, given_at, host_at, event_at, line_at, begins_digit, most_number, fired_else, of_host}
+use Rattle.bz_lines.proofs.Strips.{none-some, strip_takes}
 use Rattle.bz_lines.proofs.Numbers.{number_again}
 use Rattle.bz_lines.proofs.NameLaws.{else_takes, port_takes, port_again, named}
 use Rattle.bz_lines.proofs.Taken.{answered, bind_some, number32_takes, who_takes, move_takes, verb_takes, carried_takes, reply_takes, given_takes, given_text}

@@ -1,6 +1,6 @@
 -- Name forms: no two names have one, and none begins another.
-use Rattle.std.proofs.Common.{◌≡◌, ◌≢◌, ℕ, zero, suc, ◌+◌, ◌-◌, ◌*◌, ◌/◌, ◌%◌, ◌<◌, ◌≤◌, Bool, true, false, cond, ◌&&◌, List, [], ◌∷◌, ◌++◌, length, Option, Some, None, refl, sym, ap, ap₂, subst, ◌∙◌, arith, ◌==◌, append_assoc, ◌⊎◌, inl, inr, codes, bytes_eq, nat_lt}
-use Rattle.std.specs.Prelude.{unwrap_or, slice_get}
+use Rattle.std.proofs.Common.{◌≡◌, ◌≢◌, ℕ, suc, ◌+◌, ◌/◌, ◌%◌, ◌<◌, ◌≤◌, Bool, true, false, cond, List, [], ◌∷◌, ◌++◌, length, Option, Some, None, refl, sym, ap, ap₂, ◌∙◌, arith, append_assoc, ◌⊎◌, inl, inr, codes, bytes_eq}
+use Rattle.std.specs.Prelude.{slice_get}
 use Rattle.std.proofs.Common.{map, drop, get_or, drop-cons}
 use Rattle.bz_model.specs.Names.{external}
 use Rattle.bz_model.specs.declared.names.Port.{Port}
@@ -9,10 +9,10 @@ use Rattle.std.specs.Option.{option_map}
 use Rattle.std.proofs.lemmas.Bool.Decides.{nat_tests}
 use Rattle.std.proofs.lemmas.Option.{some_pair_parts}
 use Rattle.std.proofs.lemmas.Slice.Eq.{bytes_eq-Decides}
-use Rattle.bz_model.specs.Names.{Outside, External, port_name, port_number, number_from, numbered}
+use Rattle.bz_model.specs.Names.{External, port_name, port_number, number_from}
 use Rattle.bz_model.specs.Traces.{is_plain, hex_digit, name_form, byte_form}
 use Rattle.bz_lines.specs.Reading.{strip, port_from, with_else}
-use Rattle.bz_lines.proofs.Strips.{none-some, strip_again, strip_takes, strip_append}
+use Rattle.bz_lines.proofs.Strips.{none-some, strip_again, strip_takes}
 use Rattle.bz_lines.proofs.Numbers.{chosen}
 
 not_so : (b : Bool) → (b ≡ true → ⊥) → b ≡ false
@@ -22,7 +22,7 @@ not_so false h = refl
 names_differ : (a b : List ℕ) → a ≢ b → bytes_eq a b ≡ false
 names_differ a b differ = not_so (bytes_eq a b) (λ e. differ ((bytes_eq-Decides a b).0 e))
 
-hex_from : (n : ℕ) → 48 ≤ hex_digit n
+pub hex_from : (n : ℕ) → 48 ≤ hex_digit n
 unfolding hex_digit
 hex_from n = grind (arith, nat_tests)
 
@@ -34,7 +34,7 @@ plain_range : (b : ℕ) → is_plain b ≡ true → (33 ≤ b) × (b ≢ 37)
 unfolding is_plain
 plain_range b e = (grind (arith, nat_tests), grind (arith, nat_tests))
 
-cons_same : {X : Type 0} {x y : X} {xs ys : List X} → (x ∷ xs) ≡ (y ∷ ys) → (x ≡ y) × (xs ≡ ys)
+pub cons_same : {X : Type 0} {x y : X} {xs ys : List X} → (x ∷ xs) ≡ (y ∷ ys) → (x ≡ y) × (xs ≡ ys)
 cons_same e = (cc, cc)
 
 -- the form of a byte is itself, or three bytes
@@ -46,7 +46,7 @@ form_by : (b : ℕ) (plain : Bool) → is_plain b ≡ plain → HasForm b (cond 
 form_by b true e = let r = plain_range b e in itself r.0 r.1
 form_by b false e = by_number
 
-has_form : (b : ℕ) → HasForm b (byte_form b)
+pub has_form : (b : ℕ) → HasForm b (byte_form b)
 unfolding byte_form
 has_form b = form_by b (is_plain b) refl
 
@@ -89,10 +89,10 @@ same_name (c ∷ a) [] x y e = absurd (not_empty c (byte_form c) (flat_map byte_
 same_name (c ∷ a) (d ∷ b) x y e = same_bytes (c ∷ a) (d ∷ b) x y e
 
 -- the space stands behind the form
-spaced : (name t : List ℕ) → (name_form name ++ codes " ") ++ t ≡ name_form name ++ 32 ∷ t
+pub spaced : (name t : List ℕ) → (name_form name ++ codes " ") ++ t ≡ name_form name ++ 32 ∷ t
 spaced name t = append_assoc (name_form name) (codes " ") t
 
-here_again : (name t : List ℕ) → strip (name_form name ++ codes " ") (name_form name ++ 32 ∷ t) ≡ Some t
+pub here_again : (name t : List ℕ) → strip (name_form name ++ codes " ") (name_form name ++ 32 ∷ t) ≡ Some t
 here_again name t = ap (strip (name_form name ++ codes " ")) (sym (spaced name t)) ∙ strip_again (name_form name ++ codes " ") t
 
 other_none : (a b t : List ℕ) (o : Option (List ℕ)) → a ≢ b → strip (name_form a ++ codes " ") (name_form b ++ 32 ∷ t) ≡ o → o ≡ None

@@ -1,20 +1,18 @@
 -- What follows a front.
-use Rattle.std.proofs.Common.{◌≡◌, ◌≢◌, ℕ, zero, suc, ◌+◌, ◌-◌, ◌<◌, ◌≤◌, Bool, true, false, cond, List, [], ◌∷◌, ◌++◌, length, take, drop, Option, Some, None, refl, sym, ap, subst, ◌∙◌, arith, ◌==◌, append_assoc, nat_eq}
-use Rattle.std.specs.Prelude.{MatchOption}
-use Rattle.std.specs.Borrow.{Bor}
-use lib.Pointwise.{pointwise}
-use Rattle.std.specs.Cmp.Lexicographic.{same_text, other_text}
+use Rattle.std.proofs.Common.{◌≡◌, ◌≢◌, ℕ, suc, ◌+◌, ◌<◌, Bool, true, false, cond, List, [], ◌∷◌, ◌++◌, length, drop, Option, Some, None, refl, sym, ap, ◌∙◌, arith, ◌==◌, get_or, drop-cons, add-one, length-append}
 use Rattle.std.proofs.lemmas.Bool.{eqb-true, eq-eqb}
-use Rattle.std.proofs.lemmas.List.{take-append-drop}
-use Rattle.std.proofs.Common.{get_or, map, drop-cons, add-one}
 use Rattle.std.specs.List.{flat_map}
-use Rattle.bz_model.specs.Traces.{byte_form, name_form}
-use Rattle.bz_model.specs.Names.{External, external}
-use Rattle.bz_model.specs.declared.names.Port.{Port}
-use Rattle.bz_lines.specs.Reading.{strip, Reads, ◌>>=◌}
+use Rattle.bz_model.specs.Traces.{byte_form}
+use Rattle.bz_lines.specs.Reading.{strip, ◌>>=◌}
 
 pub none-some : {A : Type 0} (x : A) → None ≡ Some x → ⊥
 none-some x e = cc
+
+differ_eqb : (a b : ℕ) → a ≢ b → (a == b) ≡ false
+differ_eqb a b n = elim (a == b) as (λ x. (a == b) ≡ x → x ≡ false) [
+  | true ↦ λ e. absurd (n (eqb-true a b e))
+  | false ↦ λ e. refl
+] refl
 
 pub strip_again : (p t : List ℕ) → strip p (p ++ t) ≡ Some t
 unfolding strip
@@ -41,26 +39,21 @@ strip_append [] q t = refl
 strip_append (a ∷ p) q [] = refl
 strip_append (a ∷ p) q (b ∷ t) = ap (λ o. cond (a == b) o None) (strip_append p q t) ∙ bind_cond (a == b) (strip p t) (strip q)
 
-take_front : (p r : List ℕ) → take (length p) (p ++ r) ≡ p
-take_front [] r = refl
-take_front (a ∷ p) r = ap (λ s. a ∷ s) (take_front p r)
+-- a text that is shorter than a front doesn't have it
+pub strip_short : (p t : List ℕ) (o : Option (List ℕ)) → strip p t ≡ o → length t < length p → o ≡ None
+strip_short p t None e h = refl
+strip_short p t (Some r) e h = let long = ap length (strip_takes p t r e) ∙ length-append p r in absurd (omega (arith, long, h))
 
-strip_other : (p t : List ℕ) (o : Option (List ℕ)) → strip p t ≡ o → take (length p) t ≢ p → o ≡ None
-strip_other p t None e n = refl
-strip_other p t (Some r) e n = absurd (n (ap (take (length p)) (strip_takes p t r e) ∙ take_front p r))
+-- one byte of a front more
+pub strip_step : (p t : List ℕ) (i : ℕ) → i < length p → i < length t → strip (drop i p) (drop i t) ≡ cond (get_or p i 0 == get_or t i 0) (strip (drop (suc i) p) (drop (suc i) t)) None
+unfolding strip
+strip_step p t i h g = rw (drop-cons p i 0 h, drop-cons t i 0 g) refl
 
-pub strip_none : (p t : List ℕ) → pointwise nat_eq (take (length p) t) p ≡ false → None ≡ strip p t
-strip_none p t e = sym (strip_other p t (strip p t) refl (other_text (take (length p) t) p (sym e)))
+pub strip_same : (p t : List ℕ) (i : ℕ) → i < length p → i < length t → get_or t i 0 ≡ get_or p i 0 → strip (drop i p) (drop i t) ≡ strip (drop (suc i) p) (drop (suc i) t)
+strip_same p t i h g e = rw (strip_step p t i h g, eq-eqb (get_or p i 0) (get_or t i 0) (sym e)) refl
 
-pub strip_some : (p t : List ℕ) → pointwise nat_eq (take (length p) t) p ≡ true → strip p t ≡ Some (drop (length p) t)
-strip_some p t e =
-    let whole : t ≡ p ++ drop (length p) t = sym (take-append-drop (length p) t) ∙ ap (λ s. s ++ drop (length p) t) (same_text (take (length p) t) p (sym e)) in
-    ap (strip p) whole ∙ strip_again p (drop (length p) t)
-
-pub strip_reads : (p t : List ℕ) (o : Option (Bor (List ℕ))) → MatchOption o (pointwise nat_eq (take (length p) t) p ≡ false) (λ x. (pointwise nat_eq (take (length p) t) p ≡ true) × (x.now ≡ drop (length p) t) × (length x.now + length p ≡ length t))
-    → Reads (λ r. r.now) o (strip p t)
-strip_reads p t None m = sym (strip_none p t m)
-strip_reads p t (Some x) m = strip_some p t m.0 ∙ ap (λ s. Some s) (sym m.1)
+pub strip_differs : (p t : List ℕ) (i : ℕ) → i < length p → i < length t → get_or t i 0 ≢ get_or p i 0 → strip (drop i p) (drop i t) ≡ None
+strip_differs p t i h g n = rw (strip_step p t i h g, differ_eqb (get_or p i 0) (get_or t i 0) (λ e. n (sym e))) refl
 
 -- one byte of a name more, and what follows it or not
 pub name_step : (bs : List ℕ) (i : ℕ) (t : List ℕ) (o : Option (List ℕ)) → i < length bs → strip (byte_form (get_or bs i 0)) t ≡ o

@@ -1,8 +1,7 @@
 -- What is read of a line is what stands there.
-use Rattle.std.proofs.Common.{◌≡◌, ◌≢◌, ℕ, zero, suc, ◌+◌, ◌-◌, ◌<◌, ◌≤◌, ◌^◌, Bool, true, false, cond, ◌&&◌, List, [], ◌∷◌, ◌++◌, Option, Some, None, refl, sym, ap, subst, ◌∙◌, arith, ◌==◌, append_assoc, ◌⊎◌, inl, inr, codes}
-use Rattle.std.specs.Prelude.{IfSome, unwrap_or, ⊤}
+use Rattle.std.proofs.Common.{◌≡◌, ℕ, zero, suc, ◌<◌, ◌≤◌, ◌^◌, Bool, true, false, ◌&&◌, List, [], ◌∷◌, ◌++◌, Option, Some, None, refl, sym, ap, subst, ◌∙◌, arith, ◌==◌, append_assoc, ◌⊎◌, inl, inr, codes}
+use Rattle.std.specs.Prelude.{IfSome}
 use Rattle.std.specs.Fmt.{decimal}
-use Rattle.std.specs.Char.{is_ascii_digit}
 use Rattle.std.proofs.lemmas.Bool.{eqb-true}
 use Rattle.std.proofs.lemmas.Option.{some_pair_parts}
 use Rattle.bz_model.specs.declared.channel.Move.{Move}
@@ -15,15 +14,12 @@ use Rattle.bz_model.specs.declared.event.Verb.{Verb}
 use Rattle.bz_model.specs.declared.event.Verb.TheVariants as verb
 use Rattle.bz_model.specs.declared.event.Reply.{Reply}
 use Rattle.bz_model.specs.declared.event.Reply.TheVariants as reply
-use Rattle.bz_model.specs.declared.event.Entry.{Entry}
-use Rattle.bz_model.specs.declared.event.Entry.TheVariants as entry
-use Rattle.bz_model.specs.Names.{Outside, port_name, port_number}
-use Rattle.bz_model.specs.Traces.{who_text, move_text, verb_text, value_text, phase_text, reply_text, name_form, line_text, fired_text, host_text, rested_text}
-use Rattle.bz_model.specs.Entries.{IsWho, IsHost, IsNumber32, IsValue, IsPhase, IsReply, IsCarried, IsGiven, HasLine, told, carries}
-use Rattle.bz_lines.specs.Reading.{◌>>=◌, strip, number_at, who_number, who_at, move_at, verb_at, carried_at, fired_at, value_end, value_end_or, phase_end, reply_end, port_from, given_at, given_if, host_at, event_at, line_at, begins_digit, may_bring, most_value, most_number, with_else, valued_else, phased_else, value_else, fired_else, of_host, asked, replied}
-use Rattle.bz_lines.proofs.Strips.{none-some, strip_again, strip_takes, strip_append}
+use Rattle.bz_model.specs.Traces.{who_text, move_text, verb_text, value_text, phase_text, reply_text}
+use Rattle.bz_model.specs.Entries.{IsWho, IsNumber32, IsValue, IsPhase, IsReply, IsCarried, IsGiven}
+use Rattle.bz_lines.specs.Reading.{◌>>=◌, strip, number_at, who_number, who_at, move_at, verb_at, carried_at, value_end, value_end_or, phase_end, reply_end, given_at, given_if, begins_digit, may_bring, most_value, most_number, valued_else, phased_else, value_else, asked, replied}
+use Rattle.bz_lines.proofs.Strips.{none-some, strip_takes}
 use Rattle.bz_lines.proofs.Numbers.{number_takes, chosen, and_both}
-use Rattle.bz_lines.proofs.NameLaws.{else_takes, port_takes, named}
+use Rattle.bz_lines.proofs.NameLaws.{else_takes}
 
 pub bind_some : {A B : Type 0} (o : Option A) (f : A → Option B) (y : B) → (o >>= f) ≡ Some y → (x : A) × (o ≡ Some x) × (f x ≡ Some y)
 bind_some None f y e = absurd (none-some y e)

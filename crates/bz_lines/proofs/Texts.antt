@@ -1,8 +1,7 @@
 -- Whole texts: a text comes to one outcome at most.
-use Rattle.std.proofs.Common.{◌≡◌, ◌≢◌, ℕ, zero, suc, ◌+◌, ◌-◌, ◌<◌, ◌≤◌, ◌^◌, Bool, true, false, cond, List, [], ◌∷◌, ◌++◌, length, map, Option, Some, None, refl, sym, ap, ap₂, subst, ◌∙◌, arith, append_assoc, ◌⊎◌, inl, inr, codes, length-append}
+use Rattle.std.proofs.Common.{◌≡◌, ℕ, suc, ◌+◌, ◌<◌, ◌≤◌, List, [], ◌∷◌, ◌++◌, length, map, Some, None, refl, sym, ap, ap₂, subst, ◌∙◌, arith, append_assoc, codes, length-append}
 use Rattle.std.specs.Fmt.{decimal}
 use Rattle.std.specs.List.{flat_map, AllByRecursion}
-use Rattle.std.proofs.lemmas.Grind.{flat_map-append}
 use Rattle.std.proofs.lemmas.List.{append-nil}
 use Rattle.std.proofs.lemmas.Option.{some_pair_parts}
 use Rattle.bz_model.specs.declared.event.Entry.{Entry}
@@ -15,12 +14,12 @@ use Rattle.bz_lines.specs.declared.text.Version.{Version}
 use Rattle.bz_lines.specs.declared.text.Version.TheVariants.{One, Two}
 use Rattle.bz_lines.specs.declared.text.TheConstants.{MAX_ENTRIES}
 use Rattle.bz_model.specs.Entries.{HasLine, IsNumber32, told}
-use Rattle.bz_lines.specs.Reading.{◌>>=◌, strip, number_at, who_at, line_at, clash_at, most_number}
-use Rattle.bz_lines.specs.Texts.{first_line, lines, clash_lines, Trace, spelling, HasText, NoEntry, NoClash, IsLaterBad, IsFirstBad, IsBad, Spells, Outcome, entries_are, bad_line, ComesTo, Skips, ClashesFrom, OtherFrom}
+use Rattle.bz_lines.specs.Reading.{strip, number_at, who_at, line_at, clash_at, most_number}
+use Rattle.bz_lines.specs.Texts.{first_line, lines, clash_lines, NoEntry, NoClash}
 use Rattle.bz_lines.proofs.Strips.{none-some, strip_again, strip_takes}
 use Rattle.bz_lines.proofs.Numbers.{number_again}
 use Rattle.bz_lines.proofs.Taken.{answered, bind_some, number32_takes}
-use Rattle.bz_lines.proofs.Lines.{line_again, line_takes, Stands}
+use Rattle.bz_lines.proofs.Lines.{line_again, line_takes}
 
 pub no_version : (t : List ℕ) → strip (codes "trace 1\n") t ≡ None → strip (codes "trace 2\n") t ≡ None → (v : Version) (rest : List ℕ) → t ≡ first_line v ++ rest → ⊥
 no_version t p q One rest e = none-some rest (sym p ∙ ap (strip (codes "trace 1\n")) e ∙ strip_again (codes "trace 1\n") rest)

@@ -1,7 +1,7 @@
 -- The reading of a line, as one function on lists: what stands at the front, and what follows it.
-use Rattle.std.specs.Prelude.{◌≡◌, ℕ, suc, ◌+◌, ◌-◌, ◌*◌, ◌<◌, ◌≤◌, ◌^◌, Bool, true, false, ◌==◌, ◌&&◌, nat_le, Option, Some, None, List, [], ◌∷◌, ◌++◌, codes, if◌then◌else◌}
+use Rattle.std.specs.Prelude.{◌≡◌, ◌≢◌, ℕ, suc, ◌+◌, ◌-◌, ◌*◌, ◌^◌, Bool, true, false, ◌==◌, ◌&&◌, nat_le, Option, Some, None, List, [], ◌∷◌, ◌++◌, codes, if◌then◌else◌}
 use Rattle.std.specs.Char.{is_ascii_digit}
-use Rattle.bz_model.specs.declared.channel.Chan.{Chan}
+use Rattle.std.specs.List.{AllByRecursion}
 use Rattle.bz_model.specs.declared.channel.Move.{Move}
 use Rattle.bz_model.specs.declared.channel.Move.TheVariants as move
 use Rattle.bz_model.specs.declared.channel.Phase.{Phase}
@@ -165,6 +165,13 @@ reply_end t =
     (phased_else (strip (codes "busy ") t) reply.Busy
     (phased_else (strip (codes "not-taken ") t) reply.NotTaken
     (phased_else (Some t) reply.Watched None)))))
+
+-- a port by the form of its name
+abbrev pub form_of : External → List ℕ
+form_of p = name_form p.name
+
+abbrev pub HasNoSpace : List ℕ → Type 0
+HasNoSpace text = AllByRecursion (λ b. b ≢ 32) text
 
 -- the first port from number k on whose name stands here, and a space
 unfoldable pub port_from : ℕ → List External → List ℕ → Option (ℕ × List ℕ)

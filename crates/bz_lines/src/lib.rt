@@ -6,6 +6,7 @@ mod name_form;
 mod output;
 mod page;
 mod parts;
+mod ports;
 mod reading;
 mod tally;
 mod text;
@@ -15,6 +16,7 @@ pub use counting::counts;
 pub use name_form::NameForm;
 pub use output::WriteFault;
 pub use parts::{Part, put_parts};
+pub use ports::LineNames;
 pub use reading::{clash_at, line_at, strip};
 pub use tally::Counts;
 pub use text::{

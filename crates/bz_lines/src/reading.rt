@@ -2,23 +2,66 @@
 
 ghost use Rattle.std.specs.Prelude.{◌≡◌, ◌≤◌, ◌<◌, ◌^◌, ◌++◌, codes, length, map, IfSome, Some, None};
 ghost use Rattle.bz_model.specs.Entries.{carries};
-ghost use Rattle.bz_lines.specs.Reading.{Reads, strip, digits_on, number_at, who_number, who_at, move_at, verb_at, carried_at, fired_at, value_end, phase_end, reply_end, port_from, given_at, host_at, event_at, line_at, clash_at, begins_digit, may_bring, most_number};
-ghost use Rattle.bz_model.specs.Names.{external};
-ghost use Rattle.bz_model.specs.Traces.{name_form, byte_form};
+ghost use Rattle.bz_lines.specs.Reading.{Reads, strip, digits_on, number_at, who_number, who_at, move_at, verb_at, carried_at, fired_at, value_end, phase_end, reply_end, given_at, host_at, event_at, line_at, clash_at, begins_digit, may_bring, most_number, most_value};
 
-use crate::name_form::{hex_digit, is_plain};
-use bz_model::{Entry, Move, Names, Phase, Port, Reply, Value, Verb, Who, carries};
+use crate::ports::{LineNames, port_at};
+use bz_model::{Entry, Move, Names, Phase, Reply, Value, Verb, Who, carries};
 
 /// What follows this front of a text, where the text has it.
+#[inline(always)]
 pub fn strip<'a>(text: &'a [u8], front: &[u8]) -> Option<&'a [u8]>
     ensures { Reads (λ r. r.now) result (strip front.now text.now) }
 {
-    text.strip_prefix(front)
+    if text.len() < front.len() {
+        return None;
+    }
+    for place in 0..front.len() {
+        if text[place] != front[place] {
+            return None;
+        }
+    }
+    Some(&text[front.len()..])
+}
+
+/// The value that goes on from `first`, up to the first byte that is no digit.
+#[tactic(auto, unfolding(crate::specs::Reading::digits_on))]
+fn value_on(text: &[u8], first: Value) -> Option<(Value, &[u8])>
+    ensures { Reads (λ r. (r.0, r.1.now)) result (digits_on most_value first text.now) }
+{
+    let mut n = first;
+    let mut rest = text;
+    while let Some((digit, after)) = rest.split_first() {
+        if !digit.is_ascii_digit() {
+            return Some((n, rest));
+        }
+        if n > Value::MAX / 10 {
+            return None;
+        }
+        n = (10 * n).checked_add(Value::from(*digit - b'0'))?;
+        rest = after;
+    }
+    Some((n, rest))
+}
+
+/// The value at the front of a text, without zeros that lead.
+#[tactic(auto, unfolding(crate::specs::Reading::number_at))]
+fn value_at(text: &[u8]) -> Option<(Value, &[u8])>
+    ensures { Reads (λ r. (r.0, r.1.now)) result (number_at most_value text.now) }
+{
+    let (digit, rest) = text.split_first()?;
+    if !digit.is_ascii_digit() {
+        return None;
+    }
+    if *digit == b'0' {
+        return Some((0, rest));
+    }
+    value_on(rest, Value::from(*digit - b'0'))
 }
 
 /// The number that goes on from `first`, up to the first byte that is no digit.
 #[tactic(auto, unfolding(crate::specs::Reading::digits_on))]
-fn digits_on(text: &[u8], first: Value, most: Value) -> Option<(Value, &[u8])>
+#[inline(always)]
+fn digits_on(text: &[u8], first: u64, most: u32) -> Option<(u64, &[u8])>
     requires { first ≤ most }
     ensures reads { Reads (λ r. (r.0, r.1.now)) result (digits_on most first text.now) }
     ensures within { IfSome result (λ r. r.0 ≤ most) }
@@ -29,8 +72,8 @@ fn digits_on(text: &[u8], first: Value, most: Value) -> Option<(Value, &[u8])>
         if !digit.is_ascii_digit() {
             return Some((n, rest));
         }
-        n = n.checked_mul(10)?.checked_add(Value::from(*digit - b'0'))?;
-        if n > most {
+        n = 10 * n + u64::from(*digit - b'0');
+        if n > u64::from(most) {
             return None;
         }
         rest = after;
@@ -40,7 +83,8 @@ fn digits_on(text: &[u8], first: Value, most: Value) -> Option<(Value, &[u8])>
 
 /// The number at the front of a text, of at most `most`, without zeros that lead.
 #[tactic(auto, unfolding(crate::specs::Reading::number_at))]
-fn number_at(text: &[u8], most: Value) -> Option<(Value, &[u8])>
+#[inline(always)]
+fn number_at(text: &[u8], most: u32) -> Option<(u32, &[u8])>
     ensures reads { Reads (λ r. (r.0, r.1.now)) result (number_at most text.now) }
     ensures within { IfSome result (λ r. r.0 ≤ most) }
 {
@@ -48,22 +92,24 @@ fn number_at(text: &[u8], most: Value) -> Option<(Value, &[u8])>
     if !digit.is_ascii_digit() {
         return None;
     }
-    let first = Value::from(*digit - b'0');
-    if first > most {
+    let first = u64::from(*digit - b'0');
+    if first > u64::from(most) {
         return None;
     }
     if first == 0 {
         return Some((0, rest));
     }
-    digits_on(rest, first, most)
+    let (n, rest) = digits_on(rest, first, most)?;
+    Some((n as u32, rest))
 }
 
 /// The number of a host or a worker, from 1 to `most`.
 #[tactic(auto, unfolding(crate::specs::Reading::who_number))]
+#[inline(always)]
 fn who_number(text: &[u8], most: u8) -> Option<(u8, &[u8])>
     ensures { Reads (λ r. (r.0, r.1.now)) result (who_number most text.now) }
 {
-    let (n, rest) = number_at(text, Value::from(most))?;
+    let (n, rest) = number_at(text, u32::from(most))?;
     if n == 0 {
         return None;
     }
@@ -130,6 +176,7 @@ fn verb_at(text: &[u8]) -> Option<(Verb, &[u8])>
 
 /// A space and a value, where one is carried.
 #[tactic(auto, unfolding(crate::specs::Reading::carried_at))]
+#[inline(always)]
 fn carried_at(text: &[u8], carried: bool) -> Option<(Option<Value>, &[u8])>
     ensures { Reads (λ r. (r.0, r.1.now)) result (carried_at carried text.now) }
 {
@@ -137,7 +184,7 @@ fn carried_at(text: &[u8], carried: bool) -> Option<(Option<Value>, &[u8])>
         return Some((None, text));
     }
     let text = strip(text, b" ")?;
-    let (value, rest) = number_at(text, Value::MAX)?;
+    let (value, rest) = value_at(text)?;
     Some((Some(value), rest))
 }
 
@@ -152,15 +199,16 @@ fn carried(names: &Names, chan: u32, mv: Move) -> bool
 }
 
 /// The number of a component or a channel.
+#[inline(always)]
 fn number(text: &[u8]) -> Option<(u32, &[u8])>
     ensures { Reads (λ r. (r.0, r.1.now)) result (number_at most_number text.now) }
 {
-    let (n, rest) = number_at(text, Value::from(u32::MAX))?;
-    Some((n as u32, rest))
+    number_at(text, u32::MAX)
 }
 
 /// A firing, from its component on.
 #[tactic(auto, unfolding(crate::specs::Reading::fired_at))]
+#[inline(always)]
 fn fired_at<'a>(names: &Names, who: Who, text: &'a [u8]) -> Option<(Entry, &'a [u8])>
     ensures { Reads (λ r. (r.0, r.1.now)) result (fired_at names.now who text.now) }
 {
@@ -190,7 +238,7 @@ fn value_end(text: &[u8]) -> Option<(Option<Value>, &[u8])>
         return Some((None, rest));
     }
     let text = strip(text, b" ")?;
-    let (value, text) = number_at(text, Value::MAX)?;
+    let (value, text) = value_at(text)?;
     let rest = strip(text, b"\n")?;
     Some((Some(value), rest))
 }
@@ -227,7 +275,7 @@ fn reply_end(text: &[u8]) -> Option<(Reply, &[u8])>
         return Some((Reply::Done, rest));
     }
     if let Some(text) = strip(text, b"value ") {
-        let (value, text) = number_at(text, Value::MAX)?;
+        let (value, text) = value_at(text)?;
         let rest = strip(text, b"\n")?;
         return Some((Reply::Value(value), rest));
     }
@@ -244,58 +292,6 @@ fn reply_end(text: &[u8]) -> Option<(Reply, &[u8])>
     }
     let (phase, rest) = phase_end(text)?;
     Some((Reply::Watched(phase), rest))
-}
-
-/// What follows a byte of a name, in its form.
-#[tactic(auto, unfolding(bz_model::specs::Traces::byte_form))]
-fn strip_byte(text: &[u8], byte: u8) -> Option<&[u8]>
-    ensures { Reads (λ r. r.now) result (strip (byte_form byte) text.now) }
-{
-    if is_plain(byte) {
-        strip(text, &[byte])
-    } else {
-        strip(text, &[b'%', hex_digit(byte / 16), hex_digit(byte % 16)])
-    }
-}
-
-/// What follows a name, in its form.
-fn strip_name<'a>(text: &'a [u8], name: &[u8]) -> Option<&'a [u8]>
-    ensures { Reads (λ r. r.now) result (strip (name_form name.now) text.now) }
-{
-    if name.is_empty() {
-        return strip(text, b"%");
-    }
-    let mut rest = text;
-    for byte in name {
-        let Some(after) = strip_byte(rest, *byte) else {
-            return None;
-        };
-        rest = after;
-    }
-    Some(rest)
-}
-
-/// What follows a name, in its form, and a space.
-fn strip_word<'a>(text: &'a [u8], name: &[u8]) -> Option<&'a [u8]>
-    ensures { Reads (λ r. r.now) result (strip (name_form name.now ++ codes " ") text.now) }
-{
-    match strip_name(text, name) {
-        Some(text) => strip(text, b" "),
-        None => None,
-    }
-}
-
-/// The first port whose name stands at the front, and a space.
-fn port_at<'a>(ports: &[Port], text: &'a [u8]) -> Option<(u32, &'a [u8])>
-    requires { length ports.now < 2 ^ 32 }
-    ensures { Reads (λ r. (r.0, r.1.now)) result (port_from 1 (map external ports.now) text.now) }
-{
-    for (place, port) in ports.iter().enumerate() {
-        if let Some(rest) = strip_word(text, &port.name) {
-            return Some((place as u32 + 1, rest));
-        }
-    }
-    None
 }
 
 /// Whether a command of this verb may bring a value.
@@ -323,18 +319,18 @@ fn given_at(text: &[u8], verb: Verb) -> Option<(Option<Value>, &[u8])>
     if !may_bring(verb) || !begins_digit(text) {
         return Some((None, text));
     }
-    let (value, text) = number_at(text, Value::MAX)?;
+    let (value, text) = value_at(text)?;
     let rest = strip(text, b" ")?;
     Some((Some(value), rest))
 }
 
 /// A host's command, from its verb on.
 #[tactic(auto, unfolding(crate::specs::Reading::host_at))]
-fn host_at<'a>(names: &Names, who: Who, text: &'a [u8]) -> Option<(Entry, &'a [u8])>
+fn host_at<'a>(names: &LineNames, who: Who, text: &'a [u8]) -> Option<(Entry, &'a [u8])>
     ensures { Reads (λ r. (r.0, r.1.now)) result (host_at names.now who text.now) }
 {
     let (verb, text) = verb_at(text)?;
-    let (port, text) = port_at(names.ports(), text)?;
+    let (port, text) = port_at(names, text)?;
     let (value, text) = given_at(text, verb)?;
     let (reply, rest) = reply_end(text)?;
     let entry = Entry::Host {
@@ -349,14 +345,14 @@ fn host_at<'a>(names: &Names, who: Who, text: &'a [u8]) -> Option<(Entry, &'a [u
 
 /// An event, behind the one that made it.
 #[tactic(auto, unfolding(crate::specs::Reading::event_at))]
-fn event_at<'a>(names: &Names, who: Who, text: &'a [u8]) -> Option<(Entry, &'a [u8])>
+fn event_at<'a>(names: &LineNames, who: Who, text: &'a [u8]) -> Option<(Entry, &'a [u8])>
     ensures { Reads (λ r. (r.0, r.1.now)) result (event_at names.now who text.now) }
 {
     if let Some(rest) = strip(text, b" rest\n") {
         return Some((Entry::Rested { who }, rest));
     }
     if let Some(text) = strip(text, b" fire ") {
-        return fired_at(names, who, text);
+        return fired_at(names.names(), who, text);
     }
     let text = strip(text, b" ")?;
     match who {
@@ -367,7 +363,7 @@ fn event_at<'a>(names: &Names, who: Who, text: &'a [u8]) -> Option<(Entry, &'a [
 
 /// The entry whose line stands at the front, and what follows it.
 #[tactic(auto, unfolding(crate::specs::Reading::line_at))]
-pub fn line_at<'a>(names: &Names, text: &'a [u8]) -> Option<(Entry, &'a [u8])>
+pub fn line_at<'a>(names: &LineNames, text: &'a [u8]) -> Option<(Entry, &'a [u8])>
     ensures { Reads (λ r. (r.0, r.1.now)) result (line_at names.now text.now) }
 {
     let (who, text) = who_at(text)?;

@@ -7,6 +7,7 @@ ghost use Rattle.bz_model.specs.Entries.{HasLine, IsNumber32, told};
 ghost use Rattle.bz_lines.specs.Texts.{first_line, lines, clash_lines, NoClash, NoEntry, Outcome, ComesTo, outcome_of, ClashesFrom, OtherFrom, Skips};
 ghost use Rattle.bz_lines.specs.declared.text.TraceError.TheVariants.{Memory};
 
+use crate::ports::LineNames;
 use crate::reading::{clash_at, line_at, strip};
 use bz_model::{Entry, Names};
 use std::alloc::{AllocError, AllocFailed, Global};
@@ -107,10 +108,11 @@ pub fn read_trace(alloc: Global, names: &Names, text: &[u8]) -> Result<Vec<Entry
     ensures only { (o : Outcome) → ComesTo names.now text.now o
         → IfSome (outcome_of result) (λ p. p ≡ o) }
 {
-    read_lines(alloc, names, text)
+    let names = LineNames::new(alloc, names);
+    read_lines(alloc, &names, text)
 }
 
-fn read_lines(alloc: Global, names: &Names, text: &[u8]) -> Result<Vec<Entry>, TraceError>
+fn read_lines(alloc: Global, names: &LineNames, text: &[u8]) -> Result<Vec<Entry>, TraceError>
     ensures { IfSome (outcome_of result) (ComesTo names.now text.now) }
 {
     let (version, mut rest) = match version_at(text) {

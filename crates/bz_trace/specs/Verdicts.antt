@@ -1,6 +1,6 @@
 -- What is said of a text: it is the trace of a run, or the first line that no run allows, or the first that is no line.
 use Rattle.std.specs.Prelude.{◌≡◌, ◌≢◌, ◌⊎◌, ⊤, ℕ, ◌+◌, ◌≤◌, Option, Some, None, List, [], ◌∷◌, ◌++◌, length, MatchOption}
-use Rattle.std.specs.List.{AllByRecursion, count_by}
+use Rattle.std.specs.List.{AllByRecursion}
 use Rattle.bz_model.specs.declared.event.Entry.{Entry}
 use Rattle.bz_model.specs.Nets.{Wiring, State, opening, outside}
 use Rattle.bz_model.specs.Runs.{Run}
@@ -10,7 +10,7 @@ use Rattle.bz_lines.specs.declared.tally.Counts.{Counts}
 use Rattle.bz_model.specs.Limits.{max_entries}
 use Rattle.bz_lines.specs.declared.text.Version.{Version}
 use Rattle.bz_lines.specs.declared.text.Version.TheVariants.{One, Two}
-use Rattle.bz_lines.specs.Counting.{is_fired, is_host, is_rest}
+use Rattle.bz_lines.specs.Counting.{Tells}
 use Rattle.bz_lines.specs.Texts.{lines, clash_lines, Trace, HasText, spelling, IsBad}
 use Rattle.bz_trace.specs.declared.checking.Verdict.{Verdict}
 use Rattle.bz_trace.specs.declared.checking.Verdict.TheVariants as verdict
@@ -93,22 +93,16 @@ Judges w text (verdict.Not line) = IsNoRun w text line
 Judges w text (verdict.Bad line) = IsBad (outside w) text line
 Judges w text verdict.Memory = ⊤
 
--- how many entries there are of each kind
-pub record Tells (counts : Counts) (entries : List Entry) : Type 0 where
-  pub fired : counts.fired ≡ count_by is_fired entries
-  pub host : counts.host ≡ count_by is_host entries
-  pub rests : counts.rests ≡ count_by is_rest entries
-
 -- the text is that of a run, and so many of its entries are of each kind
 abbrev pub CountsRun : Wiring → List ℕ → Counts → Type 0
 CountsRun w text counts = (run : IsRunText w text) × Tells counts run.entries
 
--- The same, where a net has played this journal.
-abbrev pub JudgesBy : Wiring → List ℕ → List Entry → Verdict → Type 0
-JudgesBy w text journal verdict.Run = (run : IsRunText w text) × (run.entries ≡ journal)
-JudgesBy w text journal (verdict.Not line) = IsNoRun w text line
-JudgesBy w text journal (verdict.Bad line) = IsBad (outside w) text line
-JudgesBy w text journal verdict.Memory = ⊤
+-- The same, with these counts.
+abbrev pub JudgesBy : Wiring → List ℕ → Counts → Verdict → Type 0
+JudgesBy w text counts verdict.Run = CountsRun w text counts
+JudgesBy w text counts (verdict.Not line) = IsNoRun w text line
+JudgesBy w text counts (verdict.Bad line) = IsBad (outside w) text line
+JudgesBy w text counts verdict.Memory = ⊤
 
 -- The first place at which these clash lines are other than those due.
 abbrev pub FirstDiffers : List ℕ → List ℕ → Option ℕ → Type 0

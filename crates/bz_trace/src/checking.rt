@@ -1,18 +1,20 @@
 //! The check of a whole text.
 
-ghost use Rattle.std.specs.Prelude.{◌≡◌, ◌≢◌, ◌⊎◌, ◌++◌};
+ghost use Rattle.std.specs.Prelude.{◌≡◌, ◌≢◌, ◌⊎◌, [], ◌++◌, List};
+ghost use Rattle.bz_model.specs.declared.event.Entry.{Entry};
 ghost use Rattle.bz_model.specs.Nets.{outside};
 ghost use Rattle.bz_elab.specs.Wires.{WellWired};
-ghost use Rattle.bz_net.specs.Simulation.{IsOpened};
+ghost use Rattle.bz_net.specs.Progress.{IsToldBy};
 ghost use Rattle.bz_model.specs.Limits.{max_entries};
 ghost use Rattle.bz_lines.specs.Texts.{first_line};
 ghost use Rattle.bz_trace.specs.Verdicts.{AreDue, CountsRun, FirstDiffers, Judges, JudgesBy};
 
 use crate::following::play_on;
 use bz_elab::Flat;
-use bz_lines::{Counts, MAX_ENTRIES, Version, clash_at, counts, line_at, other_line, version_at};
-use bz_model::Names;
-use bz_net::Net;
+use bz_lines::{
+    Counts, LineNames, MAX_ENTRIES, Version, clash_at, line_at, other_line, version_at,
+};
+use bz_net::Play;
 use std::alloc::Global;
 
 /// What is said of a text.
@@ -54,57 +56,60 @@ fn check_text(alloc: Global, flat: Flat, text: &[u8]) -> (Verdict, Counts)
     ensures counted { result.0 ≡ Verdict.Run → CountsRun flat.wiring text.now result.1 }
     ensures wired { result.0 ≢ Verdict.Memory → WellWired flat.wiring }
 {
-    let Ok(mut net) = Net::open(alloc, flat, MAX_ENTRIES as u32) else {
+    let Ok(mut net) = Play::open(alloc, flat, MAX_ENTRIES as u32) else {
         return (Verdict::Memory, Counts::NONE);
     };
     let Ok(names) = net.names().dup(alloc) else {
         return (Verdict::Memory, Counts::NONE);
     };
+    let names = LineNames::new(alloc, &names);
     match version_at(text) {
-        Some((version, lines)) => {
-            let verdict = check_lines(&mut net, &names, version, lines);
-            (verdict, counts(net.journal()))
-        }
+        Some((version, lines)) => check_lines(&mut net, &names, version, lines),
         None => (Verdict::Bad(1), Counts::NONE),
     }
 }
 
-// The lines behind the first one.
-fn check_lines(net: &mut Net, names: &Names, version: Version, text: &[u8]) -> Verdict
-    requires opened { IsOpened net.old.wiring max_entries net.old }
+// The lines behind the first one, and how many entries of each kind they tell.
+fn check_lines(
+    net: &mut Play,
+    names: &LineNames,
+    version: Version,
+    text: &[u8],
+) -> (Verdict, Counts)
+    requires opened { IsToldBy net.old [] }
+    requires left { net.old.left ≡ max_entries }
     requires names { names.now ≡ outside net.old.wiring }
     requires wired { WellWired net.old.wiring }
-    ensures { JudgesBy net.old.wiring (first_line version ++ text.now) net.new.journal result }
+    ensures { JudgesBy net.old.wiring (first_line version ++ text.now) result.1 result.0 }
 {
     let mut rest = text;
+    let mut counts = Counts::NONE;
     let mut count: usize = 0;
     let mut stop: Option<usize> = None;
     while let Some((line, after)) = line_at(names, rest) {
         if count == MAX_ENTRIES {
-            return Verdict::Bad(MAX_ENTRIES + 2);
+            return (Verdict::Bad(MAX_ENTRIES + 2), counts);
         }
-        let Some(stopped) = play_on(net, names, line, count + 2, stop) else {
-            return Verdict::Memory;
-        };
-        stop = stopped;
+        stop = play_on(net, line, count + 2, stop);
+        counts.add(&line);
         count += 1;
         rest = after;
     }
     if let Some(line) = other_line(version, rest, count + 2) {
-        return Verdict::Bad(line);
+        return (Verdict::Bad(line), counts);
     }
     if let Some(line) = stop {
-        return Verdict::Not(line);
+        return (Verdict::Not(line), counts);
     }
     match other_clash(rest, due(net, version)) {
-        None => Verdict::Run,
-        Some(place) => Verdict::Not(count + place + 2),
+        None => (Verdict::Run, counts),
+        Some(place) => (Verdict::Not(count + place + 2), counts),
     }
 }
 
 // The components whose clash lines are due behind the entries that the net has played.
-fn due(net: &Net, version: Version) -> &[u32]
-    ensures { AreDue net.now.wiring version net.now.journal result.now }
+fn due(net: &Play, version: Version) -> &[u32]
+    ensures { (journal : List Entry) → IsToldBy net.now journal → AreDue net.now.wiring version journal result.now }
 {
     match version {
         Version::One => &[],

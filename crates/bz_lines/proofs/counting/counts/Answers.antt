@@ -1,4 +1,4 @@
-use Rattle.std.proofs.Common.{◌≡◌, ◌<◌, ◌≤◌, length, take, sym, subst, arith}
+use Rattle.std.proofs.Common.{take, sym, subst, arith}
 use Rattle.std.proofs.lemmas.List.{length-take-le, take_more}
 use Rattle.bz_lines.specs.Counting.{Tells}
 use Rattle.bz_lines.proofs.Counted.{fewer}

@@ -1,8 +1,8 @@
-use Rattle.std.proofs.Common.{◌≡◌, ◌≢◌, ◌+◌, subst, length, inl, inr, refl, arith}
+use Rattle.std.proofs.Common.{◌≡◌, ◌≢◌, ◌+◌, subst, length, arith}
 use Rattle.bz_lines.specs.declared.text.TheConstants.{MAX_ENTRIES}
 use Rattle.bz_lines.specs.Texts.{OtherFrom}
 use Rattle.bz_lines.proofs.Texts.{line_shorter}
-use Rattle.bz_lines.proofs.Cuts.{Read, bad_most, read_whole, bad_behind, read_more}
+use Rattle.bz_lines.proofs.Cuts.{bad_most, read_whole, bad_behind, read_more}
 use Rattle.bz_lines.proofs.text.read_lines.Goals as goal
 
 pub returns-then-len-eq-MAX_ENTRIES : goal.returns-then-len-eq-MAX_ENTRIES

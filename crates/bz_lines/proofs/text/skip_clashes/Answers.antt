@@ -1,4 +1,4 @@
-use Rattle.std.proofs.Common.{◌≡◌, ◌+◌, ◌<◌, ◌≤◌, [], ◌∷◌, ◌++◌, length, refl, ap, ◌∙◌, arith, length-append}
+use Rattle.std.proofs.Common.{[], ◌∷◌, ◌++◌, ◌∙◌, arith, length-append}
 use Rattle.bz_model.specs.Entries.{IsNumber32}
 use Rattle.bz_model.specs.Traces.{clash_text}
 use Rattle.bz_lines.specs.declared.text.Version.TheVariants.{Two}

@@ -1,8 +1,8 @@
-use Rattle.std.proofs.Common.{◌≡◌, sym, ap, ◌∙◌, codes, ◌++◌, Some, None}
+use Rattle.std.proofs.Common.{ap, ◌∙◌, codes}
 use Rattle.bz_model.specs.Traces.{name_form}
-use Rattle.bz_lines.specs.Reading.{strip, Reads, ◌>>=◌}
+use Rattle.bz_lines.specs.Reading.{strip, ◌>>=◌}
 use Rattle.bz_lines.proofs.Strips.{strip_append}
-use Rattle.bz_lines.proofs.reading.strip_word.Goals as goal
+use Rattle.bz_lines.proofs.ports.strip_word.Goals as goal
 
 pub returns-in-Some : goal.returns-in-Some
 returns-in-Some c =

@@ -1,10 +1,10 @@
-use Rattle.std.proofs.Common.{◌≡◌, ◌<◌, [], drop, length, ap, ◌∙◌, arith, Some, None}
+use Rattle.std.proofs.Common.{◌≡◌, [], drop, ap, ◌∙◌, arith, Some, None}
 use Rattle.std.proofs.Math.ListN.{drop_of_length-le}
 use Rattle.std.specs.List.{flat_map}
 use Rattle.bz_model.specs.Traces.{byte_form}
-use Rattle.bz_lines.specs.Reading.{strip, ◌>>=◌}
+use Rattle.bz_lines.specs.Reading.{strip}
 use Rattle.bz_lines.proofs.Strips.{name_step}
-use Rattle.bz_lines.proofs.reading.strip_name.Goals as goal
+use Rattle.bz_lines.proofs.ports.strip_name.Goals as goal
 
 pub returns-in_default : goal.returns-in_default
 returns-in_default c =

@@ -1,10 +1,9 @@
-use Rattle.std.proofs.Common.{◌≡◌, suc, ◌+◌, ◌<◌, [], map, drop, length, sym, ap, ◌∙◌, arith, Some, None, add-one, codes, ◌++◌}
+use Rattle.std.proofs.Common.{◌≡◌, suc, [], map, drop, ap, ◌∙◌, arith, Some, None, add-one}
 use Rattle.std.proofs.Math.ListN.{drop_of_length-le}
 use Rattle.bz_model.specs.Names.{external}
-use Rattle.bz_model.specs.Traces.{name_form}
-use Rattle.bz_lines.specs.Reading.{strip, port_from}
+use Rattle.bz_lines.specs.Reading.{port_from}
 use Rattle.bz_lines.proofs.NameLaws.{port_step}
-use Rattle.bz_lines.proofs.reading.port_at.Goals as goal
+use Rattle.bz_lines.proofs.ports.port_among.Goals as goal
 
 pub returns-in-Some : goal.returns-in-Some
 returns-in-Some c =
