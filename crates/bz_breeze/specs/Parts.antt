@@ -1,5 +1,5 @@
 -- The parts of a netlist: the records that the data name, or the first fault in the text.
-use Rattle.std.specs.Prelude.{ℕ, ◌-◌, ◌≤◌, nat_lt, length, map, find, position, List, [], ◌∷◌, ◌++◌, Option, Some, None, Result, Ok, Err, if◌then◌else◌, bytes_eq, codes}
+use Rattle.std.specs.Prelude.{ℕ, Bool, false, ◌==◌, ◌-◌, ◌≤◌, nat_lt, length, map, find, position, List, [], ◌∷◌, ◌++◌, Option, Some, None, Result, Ok, Err, if◌then◌else◌, bytes_eq, codes}
 use Rattle.std.specs.Option.{option_and_then}
 use Rattle.std.specs.List.{AllByRecursion}
 use Rattle.bz_model.specs.Names.{External, NamesDiffer, external}
@@ -107,6 +107,11 @@ HasPortChannels p = length p.ports.items ≤ length p.channels.items
 pub record IsFit (p : Part) : Type 0 where
   pub names_differ : NamesDiffer (map external p.ports.items)
   pub narrow : AllByRecursion (λ c. c.width ≤ max_width) p.channels.items
+
+-- a name begins with a dollar sign
+abbrev pub has_dollar : List ℕ → Bool
+has_dollar [] = false
+has_dollar (b ∷ name) = b == 36
 
 -- the number of the part of a name, counted from 0
 abbrev pub number_named : List Part → List ℕ → Option ℕ

@@ -1,8 +1,8 @@
 //! The parts of a netlist, found by name.
 
-ghost use Rattle.std.specs.Prelude.{◌≡◌, map, All};
+ghost use Rattle.std.specs.Prelude.{◌≡◌, ◌↔◌, map, All, false, IsTrue};
 ghost use Rattle.std.specs.Option.{option_copied};
-ghost use Rattle.bz_breeze.specs.Parts.{number_named, part_named, HasPortChannels, IsFit};
+ghost use Rattle.bz_breeze.specs.Parts.{number_named, part_named, has_dollar, HasPortChannels, IsFit};
 
 use crate::part::Part;
 use bz_names::NameSet;
@@ -13,18 +13,38 @@ use std::marker::Model;
 pub struct Parts {
     list: Vec<Part>,
     names: NameSet,
+    /// Whether no name begins with a dollar sign, as those of kinds do.
+    is_plain: bool,
 }
 
 impl Model for Parts {
-    ghost use Rattle.std.specs.Prelude.{◌≡◌, List, map, All};
+    ghost use Rattle.std.specs.Prelude.{◌≡◌, List, map, All, false, IsTrue};
     ghost use Rattle.bz_breeze.specs.declared.part.Part.{Part};
-    ghost use Rattle.bz_breeze.specs.Parts.{HasPortChannels, IsFit};
+    ghost use Rattle.bz_breeze.specs.Parts.{has_dollar, HasPortChannels, IsFit};
 
     ghost Value = { List Part };
 
     ghost view = { λ p. p.list.items };
 
-    ghost invariant = { λ p. (p.names ≡ map (λ q. q.name.items) p.list.items) × All HasPortChannels p.list.items × All IsFit p.list.items };
+    ghost invariant = { λ p. (p.names ≡ map (λ q. q.name.items) p.list.items) × All HasPortChannels p.list.items × All IsFit p.list.items
+        × (IsTrue p.is_plain → All (λ q. has_dollar q.name.items ≡ false) p.list.items) };
+}
+
+// Whether a name begins with a dollar sign.
+fn has_dollar(name: &[u8]) -> bool
+    ensures { result ≡ has_dollar name.now }
+{
+    match name.split_first() {
+        Some((first, _)) => *first == b'$',
+        None => false,
+    }
+}
+
+// Whether no part's name begins with a dollar sign.
+fn are_plain(list: &[Part]) -> bool
+    ensures { IsTrue result ↔ All (λ q. has_dollar q.name.items ≡ false) list.now }
+{
+    list.iter().all(|part| !has_dollar(part.name.as_slice()))
 }
 
 impl Parts {
@@ -35,7 +55,12 @@ impl Parts {
         requires fit { All IsFit list.items }
         ensures { result ≡ list.items }
     {
-        Parts { list, names }
+        let is_plain = are_plain(list.as_slice());
+        Parts {
+            list,
+            names,
+            is_plain,
+        }
     }
 
     /// The parts, in the order of the text.
@@ -51,6 +76,10 @@ impl Parts {
     pub fn number(&self, name: &[u8]) -> Option<usize>
         ensures { result ≡ number_named self.now name.now }
     {
+        // most names that are asked for are those of kinds
+        if self.is_plain && has_dollar(name) {
+            return None;
+        }
         self.names.place(name)
     }
 

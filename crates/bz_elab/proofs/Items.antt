@@ -1,5 +1,5 @@
 -- A part's components, as they were read.
-use Rattle.std.proofs.Common.{◌≡◌, ℕ, zero, suc, ◌+◌, ◌-◌, ◌^◌, ◌<◌, ◌≤◌, ◌⊎◌, inl, inr, Bool, true, None, Some, List, [], ◌∷◌, ◌++◌, length, drop, take, refl, sym, ◌∙◌, ap, subst, arith, add-one, get_or, slice_get, length-append, length-drop}
+use Rattle.std.proofs.Common.{◌≡◌, ℕ, zero, suc, ◌+◌, ◌-◌, ◌^◌, ◌<◌, ◌≤◌, ◌⊎◌, inl, inr, Bool, true, None, Some, List, [], ◌∷◌, ◌++◌, length, drop, take, refl, sym, ◌∙◌, ap, subst, arith, add-one, get_or, slice_get, append_assoc, map, length-append, length-drop}
 use Rattle.std.specs.List.{flat_map, All}
 use Rattle.std.proofs.lemmas.List.{append-nil}
 use Rattle.std.proofs.lemmas.Option.{slice_get_read, slice_get_within}
@@ -13,16 +13,19 @@ use Rattle.bz_elab.specs.declared.walk.Draft.{Draft}
 use Rattle.bz_elab.specs.declared.walk.Level.{Level}
 use Rattle.bz_elab.specs.declared.reading.Instance.{Instance}
 use Rattle.bz_elab.specs.declared.reading.Item.{Item}
+use Rattle.bz_elab.specs.declared.reading.Item.TheVariants.{Leaf}
+use Rattle.std.specs.declared.vec.Vec.{Vec}
+use Rattle.std.specs.declared.alloc.Global.{Global}
 use Rattle.bz_elab.specs.declared.reading.Reading.{Reading}
 use Rattle.bz_elab.specs.Entries.{flattened}
 use Rattle.bz_elab.specs.Wires.{most_chans}
-use Rattle.bz_elab.specs.Paths.{Path, Place, copy, leaf, instance, leaf_role, chans_of_copy, own_places, named, component, inner, copied, each_from, visit, walk, own_chans}
+use Rattle.bz_elab.specs.Paths.{Path, Place, copy, leaf, instance, leaf_role, chans_of_copy, own_places, named, component, inner, most_instances, copied, each_from, visit, walk, own_chans}
 use Rattle.bz_elab.specs.Refusals.{IsChannel}
 use Rattle.bz_elab.specs.Numbers.{number_named, inner_number, number_at, is_marked}
-use Rattle.bz_elab.specs.Growth.{IsFlat, IsSoundInstance, Refused, IsShort, IsBare, net_number, FitsNet, CopyNumbers, Grows, Counts, Flattened, Counted, below_copy}
-use Rattle.bz_elab.specs.Readings.{AddsNothing, IsItem, IsCopy, LeafOn, CopyOn, IsFull, AreRead, IsReadBelow}
+use Rattle.bz_elab.specs.Growth.{IsFlat, IsSoundInstance, Refused, IsShort, IsBare, IsNet, net_number, FitsNet, CopyNumbers, Grows, Counts, Entered, Flattened, Counted, below_copy}
+use Rattle.bz_elab.specs.Readings.{AddsNothing, IsItem, IsCopy, LeafOn, CopyOn, IsFull, AreRead, IsReadBelow, told, ends_of, AreOwn}
 use Rattle.bz_elab.proofs.Counting.{counts_bare, counts_step, counts_nothing, counts_leaf_step, counts_copy_step, leaf_ends}
-use Rattle.bz_elab.proofs.Growing.{grows_bare, grows_nothing, flatten_step, leaf_step, copy_step, copies_grow, length_grown, fits_inside, take_whole, component_at}
+use Rattle.bz_elab.proofs.Growing.{grows_bare, grows_nothing, flatten_step, leaf_step, copy_step, copies_grow, length_grown, fits_inside, take_whole, component_at, whole_net}
 use Rattle.bz_elab.proofs.Slots.{all_arranged, length-arranged}
 use Rattle.bz_elab.proofs.Soundness.{same_some}
 use Rattle.bz_elab.proofs.Totaling.{copied_below}
@@ -194,12 +197,12 @@ read_skip parts own (d ∷ ds) (y ∷ ys) c (inr (before, more)) nothing = inr (
 
 -- what was read of the first parts
 pub record ReadUpto (parts : List Part) (marks : List Bool) (n : ℕ) (readings : List Reading) : Type 0 where
-  pub are : (k : ℕ) (p : Part) (r : Reading) → k < n → is_marked marks k ≡ true → slice_get parts k ≡ Some p → slice_get readings k ≡ Some r → AreRead parts p.channels.items p.components.items r.items.items
+  pub are : (k : ℕ) (p : Part) (r : Reading) → k < n → is_marked marks k ≡ true → slice_get parts k ≡ Some p → slice_get readings k ≡ Some r → AreRead parts p.channels.items p.components.items (told r)
 
 -- One item more.
 
 pub reading_of : (parts : List Part) (n : ℕ) (part : Part) (readings : List Reading) (r : Reading) → slice_get parts n ≡ Some part → IsReadBelow parts n readings → r ≡ get_or readings n r
-    → AreRead parts part.channels.items part.components.items r.items.items
+    → AreRead parts part.channels.items part.components.items (told r)
 reading_of parts n part readings r at read is =
     let w = slice_get_within parts n part at in
     read.are n part r ([], refl) at (slice_get_read readings (length readings) n r refl (omega (arith, w, read.len)) is)
@@ -324,3 +327,85 @@ refused_copy own c p d n i e (inr (big, many)) =
     let a = length-append (drop (length p.ports.items) p.channels.items) (flat_map own_chans []) in
     let b = length-drop (length p.ports.items) p.channels.items in
     inr (inr (big, inr (inl (omega (arith, many, a, b)))))
+
+-- The leaves before a part's first instance.
+
+pub next_leaf : (parts : List Part) (part : Part) (levels : List Level) (depth : ℕ) (old new : Draft) (leaves : List FlatComp) (items : List Item) (i : ℕ) (g : FlatComp) → IsShort parts part depth
+    → SoFar parts part levels depth old new (map Leaf (drop i leaves) ++ items) → i < length leaves → g ≡ get_or leaves i g → NextAt parts part levels depth old new (Leaf g) (map Leaf (drop (suc i) leaves) ++ items)
+next_leaf parts part levels depth old new leaves items i g short s lt is =
+    next_item parts part levels depth old new (Leaf g) (map Leaf (drop (suc i) leaves) ++ items) short (rw (drop_next leaves i g lt is) at s)
+
+pub no_leaf : (parts : List Part) (part : Part) (levels : List Level) (depth : ℕ) (old new : Draft) (leaves : List FlatComp) (items : List Item) (i : ℕ) → SoFar parts part levels depth old new (map Leaf (drop i leaves) ++ items)
+    → length leaves ≤ i → SoFar parts part levels depth old new items
+no_leaf parts part levels depth old new leaves items i s le = rw (drop_past leaves i le) at s
+
+-- one item more was read
+pub told_leaf : (leaves : List FlatComp) (g : FlatComp) → map Leaf (leaves ++ g ∷ []) ++ [] ≡ (map Leaf leaves ++ []) ++ Leaf g ∷ []
+told_leaf [] g = refl
+told_leaf (f ∷ fs) g = ap (λ xs. Leaf f ∷ xs) (told_leaf fs g)
+
+-- The top's leaves where it has no instance: they are the net's own.
+
+pub ends_push : (fs : List FlatComp) (f : FlatComp) → ends_of (fs ++ f ∷ []) ≡ ends_of fs + length f.chans.items
+ends_push [] f = omega arith
+ends_push (g ∷ gs) f = let h = ends_push gs f in omega (arith, h)
+
+-- a list that has room where another has
+cut : (v : Vec FlatComp Global) (fs : List FlatComp) → length fs ≤ v.len → Vec FlatComp Global
+cut v fs le = record { ptr = v.ptr; len = length fs; cap = v.cap; alloc = v.alloc; items = fs; ok = (refl, let w = v.ok.1 in omega (arith, le, w)); small = v.small }
+
+same_numbers : (ks : List ℕ) → ks ≡ map (net_number []) ks
+same_numbers [] = refl
+same_numbers (k ∷ ks) = ap (λ xs. k ∷ xs) (same_numbers ks)
+
+same_grown : (parts : List Part) (part : Part) (depth : ℕ) (old mid new : Draft) → new.chans.items ≡ mid.chans.items → new.comps.items ≡ mid.comps.items → new.ends ≡ mid.ends
+    → Flattened parts part [] depth old mid × Counted parts part depth old mid → Flattened parts part [] depth old new × Counted parts part depth old new
+same_grown parts part depth old mid new chans comps ends (grown, counted) = (
+  λ top path before at len n.
+      let g = grown top path before at len n in
+      record { comps = g.comps; chans_are = chans ∙ g.chans_are; comps_are = comps ∙ g.comps_are; leaves = g.leaves },
+  λ path.
+      let k = counted path in
+      record { comps_are = ap length comps ∙ k.comps_are; chans_are = ap length chans ∙ k.chans_are; ends_are = ends ∙ k.ends_are },
+)
+
+pub own_grown : (parts : List Part) (part : Part) (depth : ℕ) (old mid new : Draft) (left done : List FlatComp) → IsShort parts part depth
+    → new.chans.items ≡ mid.chans.items → mid.comps.items ≡ done → new.comps.items ≡ done ++ left → new.ends ≡ mid.ends + ends_of left → SoFar parts part [] depth old mid (map Leaf left)
+    → Flattened parts part [] depth old new × Counted parts part depth old new
+unfolding cut
+own_grown parts part depth old mid new [] done short chans first all ends s =
+    same_grown parts part depth old mid new chans (all ∙ append-nil done ∙ sym first) (omega (arith, ends)) (all_items parts part [] depth old mid short s)
+own_grown parts part depth old mid new (g ∷ gs) done short chans first all ends s =
+    let next = next_item parts part [] depth old mid (Leaf g) (map Leaf gs) short s in
+    let le : length (done ++ g ∷ []) ≤ new.comps.len =
+    let n = ap length all in
+    let a = length-append done (g ∷ gs) in
+    let b = length-append done (g ∷ []) in
+    omega (arith, n, a, b, new.comps.ok.0) in
+    let one : Draft = record { chans = mid.chans; comps = cut new.comps (done ++ g ∷ []) le; ends = mid.ends + length g.chans.items } in
+    let on : LeafOn [] g mid one = record {
+      added = g;
+      on = same_numbers g.chans.items;
+      kind_is = refl;
+      sizes_are = refl;
+      chans_are = refl;
+      comps_are = ap (λ xs. xs ++ g ∷ []) (sym first);
+      ends_are = refl;
+    } in
+    own_grown parts part depth old one new gs (done ++ g ∷ []) short chans refl (all ∙ sym (append_assoc done (g ∷ []) gs)) (omega (arith, ends))
+    (record {
+      at = next.at + 1;
+      upto = upto_leaf parts part [] depth old mid one next.at next.comp g next.lt next.is next.item.0 next.item.1 on next.upto;
+      rest = next.rest;
+    })
+
+pub own_whole : (parts : List Part) (n : ℕ) (part : Part) (readings : List Reading) (comps : List FlatComp) (ends : ℕ) (empty mid new : Draft) → slice_get parts n ≡ Some part → IsReadBelow parts n readings
+    → IsShort parts part most_instances → AreOwn readings n comps ends → empty.chans.items ≡ [] → empty.comps.items ≡ [] → empty.ends ≡ 0 → Entered empty mid part 0
+    → new.chans.items ≡ mid.chans.items → new.comps.items ≡ comps → new.ends ≡ ends → IsNet parts part new
+own_whole parts n part readings comps ends empty mid new at read short own no_chans no_comps no_ends entered chans all count =
+    let told_of = read.are n part own.reading ([], refl) at own.stands in
+    let start = so_far_start parts part [] most_instances mid (told own.reading) (map Leaf comps) (sym own.all) told_of in
+    let mid_ends = entered.ends_are in
+    let own_ends = own.ends_are in
+    let (grown, counted) = own_grown parts part most_instances mid mid new comps [] short chans (entered.comps_are ∙ no_comps) all (omega (arith, count, own_ends, mid_ends, no_ends)) start in
+    whole_net parts part empty mid new no_chans no_comps no_ends entered grown counted

@@ -17,7 +17,7 @@ use Rattle.bz_elab.specs.Growth.{IsSound, IsSoundInstance}
 use Rattle.bz_elab.specs.Order.{order, NoneBefore}
 use Rattle.bz_elab.specs.Numbers.{number_named, is_marked, IsReached, Marks}
 use Rattle.bz_elab.specs.Least.{IsSeen, IsSeenCopy}
-use Rattle.bz_elab.specs.Readings.{IsEmpty, AreRead, AreReadings, IsReadBelow}
+use Rattle.bz_elab.specs.Readings.{IsEmpty, AreRead, AreReadings, IsReadBelow, told}
 use Rattle.bz_elab.proofs.Items.{ReadUpto}
 use Rattle.bz_elab.proofs.Soundness.{same_some}
 
@@ -60,7 +60,7 @@ get_last (y ∷ ys) x r zero e h = absurd (omega (arith, e))
 get_last (y ∷ ys) x r (suc k) e h = get_last ys x r k (omega (arith, e)) h
 
 pub read_more : (parts : List Part) (marks : List Bool) (n : ℕ) (readings : List Reading) (x : Reading) (part : Part) → length readings ≡ n → slice_get parts n ≡ Some part
-    → (is_marked marks n ≡ true → AreRead parts part.channels.items part.components.items x.items.items) → ReadUpto parts marks n readings → ReadUpto parts marks (n + 1) (readings ++ x ∷ [])
+    → (is_marked marks n ≡ true → AreRead parts part.channels.items part.components.items (told x)) → ReadUpto parts marks n readings → ReadUpto parts marks (n + 1) (readings ++ x ∷ [])
 read_more parts marks n readings x part len at here u = record {
   are = λ k p r lt marked there stands. elim (eqb_tells k n) [
     | inl e ↦

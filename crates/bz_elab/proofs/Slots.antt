@@ -1,5 +1,5 @@
 -- Entries, and the ports that they stand for.
-use Rattle.std.proofs.Common.{◌≡◌, ℕ, zero, suc, ◌+◌, ◌<◌, ◌≢◌, true, false, not, None, Some, List, [], ◌∷◌, ◌++◌, length, map, drop, take, refl, sym, ◌∙◌, ap, arith, get_or, set, zero-add, append_assoc, length-append, count_by, slice_get, if◌then◌else◌, cond, ◌⊎◌, inl, inr}
+use Rattle.std.proofs.Common.{◌≡◌, ℕ, zero, suc, ◌+◌, ◌<◌, ◌≢◌, true, false, not, None, Some, List, [], ◌∷◌, ◌++◌, length, map, drop, take, refl, sym, ◌∙◌, ap, arith, get_or, set, zero-add, append_assoc, length-append, count_by, slice_get, if◌then◌else◌, cond, ◌⊎◌, inl, inr, Bool, ◌↔◌, IsTrue}
 use Rattle.std.specs.List.{All}
 use Rattle.std.proofs.lemmas.List.{take_more, drop_more, drop-drop}
 use Rattle.std.proofs.lemmas.List.Elements.{filter_map-append, All-nil, All-cons, All-head, All-tail, All-append}
@@ -11,7 +11,7 @@ use Rattle.bz_breeze.specs.declared.part.Slot.{Slot}
 use Rattle.bz_breeze.specs.declared.part.Slot.TheVariants.{One, Many}
 use Rattle.bz_model.specs.declared.channel.Chan.{Chan}
 use Rattle.bz_model.specs.declared.kind.Kind.{Kind}
-use Rattle.bz_elab.specs.Entries.{flattened, singles, lists, list_of, first_list, in_row, pulls, guard_second, guard_in_front, has_guard, leads_with_guard, in_order, arranged}
+use Rattle.bz_elab.specs.Entries.{flattened, named_in, singles, lists, list_of, first_list, in_row, pulls, guard_second, guard_in_front, has_guard, leads_with_guard, in_order, arranged}
 use Rattle.std.proofs.Math.ListN.{get_or-map as read-map}
 
 pub drop_item : {X : Type 0} (xs : List X) (i : ℕ) (x : X) → i < length xs → x ≡ get_or xs i x → drop i xs ≡ x ∷ drop (i + 1) xs
@@ -320,3 +320,24 @@ pub no_size : (ls : List (List ℕ)) (i : ℕ) → slice_get ls i ≡ None → g
 no_size [] i e = refl
 no_size (l ∷ ls) zero e = cc
 no_size (l ∷ ls) (suc i) e = no_size ls i e
+
+-- what holds of all that each entry names holds of all that they name
+pub all_named : (P : ℕ → Type 0) (es : List Slot) → All (λ e. All P (named_in e)) es → All P (flattened es)
+all_named P [] h = All-nil P
+all_named P (e ∷ es) h =
+    All-append P (named_in e) (flattened es) (All-head (λ (x : Slot). All P (named_in x)) e es h) (all_named P es (All-tail (λ (x : Slot). All P (named_in x)) e es h))
+
+both : (P : ℕ → Type 0) (xs ys : List ℕ) → All P (xs ++ ys) → All P xs × All P ys
+both P [] ys h = (All-nil P, h)
+both P (x ∷ xs) ys h =
+    let rest = both P xs ys (All-tail P x (xs ++ ys) h) in
+    (All-cons P x xs (All-head P x (xs ++ ys) h) rest.0, rest.1)
+
+pub each_named : (P : ℕ → Type 0) (es : List Slot) → All P (flattened es) → All (λ e. All P (named_in e)) es
+each_named P [] h = All-nil (λ (x : Slot). All P (named_in x))
+each_named P (e ∷ es) h =
+    let parts = both P (named_in e) (flattened es) h in
+    All-cons (λ (x : Slot). All P (named_in x)) e es parts.0 (each_named P es parts.1)
+
+pub tells_named : (P : ℕ → Type 0) (es : List Slot) (b : Bool) → (IsTrue b ↔ All (λ e. All P (named_in e)) es) → IsTrue b ↔ All P (flattened es)
+tells_named P es b t = (λ h. all_named P es (t.0 h), λ h. t.1 (each_named P es h))

@@ -49,14 +49,32 @@ AreRead parts own [] (x ∷ xs) = ⊥
 AreRead parts own (c ∷ cs) [] = AddsNothing parts c × AreRead parts own cs []
 AreRead parts own (c ∷ cs) (x ∷ xs) = (IsItem parts own c x × AreRead parts own cs xs) ⊎ (AddsNothing parts c × AreRead parts own cs (x ∷ xs))
 
+-- what was read of a part: of its components before its first instance, then of the others
+abbrev pub told : Reading → List Item
+told r = map Leaf r.leaves.items ++ r.items.items
+
 -- what was read of the parts of which P holds
 pub record AreReadings (parts : List Part) (P : ℕ → Type 0) (readings : List Reading) : Type 0 where
   pub len : length readings ≡ length parts
-  pub are : (n : ℕ) (p : Part) (r : Reading) → P n → slice_get parts n ≡ Some p → slice_get readings n ≡ Some r → AreRead parts p.channels.items p.components.items r.items.items
+  pub are : (n : ℕ) (p : Part) (r : Reading) → P n → slice_get parts n ≡ Some p → slice_get readings n ≡ Some r → AreRead parts p.channels.items p.components.items (told r)
 
 -- what was read of a part and all that it reaches
 abbrev pub IsReadBelow : List Part → ℕ → List Reading → Type 0
 IsReadBelow parts n readings = AreReadings parts (IsReached parts n) readings
+
+-- how many ends components have
+abbrev pub ends_of : List FlatComp → ℕ
+ends_of [] = 0
+ends_of (f ∷ fs) = length f.chans.items + ends_of fs
+
+-- what was read of part n is of these components, which are no instances; they and their ends are not too many for a net
+pub record AreOwn (readings : List Reading) (n : ℕ) (comps : List FlatComp) (ends : ℕ) : Type 0 where
+  pub reading : Reading
+  pub stands : slice_get readings n ≡ Some reading
+  pub all : told reading ≡ map Leaf comps
+  pub ends_are : ends ≡ ends_of comps
+  pub few : length comps ≤ most_comps
+  pub few_ends : ends ≤ most_ends
 
 -- The walk.
 

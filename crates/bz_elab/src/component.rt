@@ -7,7 +7,7 @@ ghost use Rattle.bz_model.specs.Rows.{row_of};
 ghost use Rattle.bz_model.specs.Nets.{chan_in};
 ghost use Rattle.bz_kind_table.specs.Table.{seen};
 ghost use Rattle.bz_elab.specs.declared.error.Fault.TheVariants as fault;
-ghost use Rattle.bz_elab.specs.Entries.{flattened, singles, lists, single_of, list_of, sizes_of, in_row, in_order, arranged, guard_second, guard_in_front, pulls, FitsPorts};
+ghost use Rattle.bz_elab.specs.Entries.{flattened, named_in, singles, lists, single_of, list_of, sizes_of, in_row, in_order, arranged, guard_second, guard_in_front, pulls, FitsPorts};
 ghost use Rattle.bz_elab.specs.Paths.{leaf_role, of_kind, instance};
 ghost use Rattle.bz_elab.specs.Refusals.{HasFault, IsChannel, kinds_of, widths_of, formals_of, HasPortChannels};
 ghost use Rattle.bz_elab.specs.Growth.{IsFlat, IsSoundInstance};
@@ -35,8 +35,7 @@ pub fn leaf_of(alloc: Global, channels: &[Chan], component: &Component) -> Resul
     if !fits_ports(&kind, entries) {
         return Err(Fault::PortCount);
     }
-    let named = flattened(alloc, entries)?;
-    if !are_channels(named.as_slice(), channels.len()) {
+    if !name_channels(entries, channels.len()) {
         return Err(Fault::BadChannel);
     }
     let sizes = sizes_of(entries);
@@ -85,7 +84,7 @@ pub fn instance_of(
 fn flattened(alloc: Global, entries: &[Slot]) -> Result<Vec<u32>, AllocError>
     ensures { IfOk result (λ v. v.items ≡ flattened entries.now) }
 {
-    let mut named = Vec::new(alloc);
+    let mut named = Vec::with_capacity(alloc, entries.len())?;
     for entry in entries {
         match entry {
             Slot::One(chan) => named.push(*chan)?,
@@ -221,11 +220,22 @@ fn arranged(
     Ok(chans)
 }
 
+// Room for all channels that entries name.
+fn room_for(entries: &[Slot]) -> usize {
+    let mut room = entries.len();
+    for entry in entries {
+        if let Slot::Many(chans) = entry {
+            room = room.saturating_add(chans.len());
+        }
+    }
+    room
+}
+
 // The channels of the entries, in the order of a row.
 fn in_row(alloc: Global, rows: &[PortRow], entries: &[Slot]) -> Result<Vec<u32>, AllocError>
     ensures { IfOk result (λ v. v.items ≡ in_row (map seen rows.now) (singles entries.now) (lists entries.now)) }
 {
-    let mut chans = Vec::new(alloc);
+    let mut chans = Vec::with_capacity(alloc, room_for(entries))?;
     let mut ones = 0;
     let mut manys = 0;
     for row in rows {
@@ -308,12 +318,29 @@ fn are_channels(numbers: &[u32], count: usize) -> bool
     numbers.iter().all(|k| 0 < *k && *k as usize <= count)
 }
 
+// Whether all that entries name are channels, of which there are so many.
+fn name_channels(entries: &[Slot], count: usize) -> bool
+    ensures { IsTrue result ↔ All (λ e. All (λ k. (0 < k) × (k ≤ count)) (named_in e)) entries.now }
+{
+    entries.iter().all(|entry| names_channels(entry, count))
+}
+
+// Whether all that an entry names are.
+fn names_channels(entry: &Slot, count: usize) -> bool
+    ensures { IsTrue result ↔ All (λ k. (0 < k) × (k ≤ count)) (named_in entry.now) }
+{
+    match entry {
+        Slot::One(chan) => are_channels(&[*chan], count),
+        Slot::Many(chans) => are_channels(chans.as_slice(), count),
+    }
+}
+
 // The channels of these numbers.
 fn carried(alloc: Global, channels: &[Chan], numbers: &[u32]) -> Result<Vec<Chan>, AllocError>
     requires { All (IsChannel channels.now) numbers.now }
     ensures { IfOk result (λ v. v.items ≡ map (chan_in channels.now) numbers.now) }
 {
-    let mut carried = Vec::new(alloc);
+    let mut carried = Vec::with_capacity(alloc, numbers.len())?;
     for number in numbers {
         carried.push(channels[*number as usize - 1])?;
     }

@@ -27,7 +27,7 @@ pub fn elaborate(alloc: Global, parts: &Parts, top: &[u8]) -> Result<Flat, ElabE
     };
     let part = &parts.list()[number];
     let read = check(alloc, parts, number, part)?;
-    let draft = net_of(alloc, parts, read.as_slice(), number, part)?;
+    let draft = net_of(alloc, parts, read, number, part)?;
     let ends = wire(
         alloc,
         draft.comps.as_slice(),

@@ -1,6 +1,6 @@
 //! The components of parts, each read once, and their least fault.
 
-ghost use Rattle.std.specs.Prelude.{◌≡◌, ◌<◌, ◌⊎◌, ℕ, true, None, Some, [], length, slice_get, IfOk, IfErr};
+ghost use Rattle.std.specs.Prelude.{◌≡◌, ◌<◌, ◌⊎◌, ℕ, true, None, Some, [], ◌∷◌, ◌++◌, length, slice_get, IfOk, IfErr, OnOk};
 ghost use Rattle.std.specs.List.{All};
 ghost use Rattle.bz_elab.specs.declared.error.ElabError.TheVariants.{Memory};
 ghost use Rattle.bz_elab.specs.declared.error.Fault.TheVariants as fault;
@@ -10,7 +10,7 @@ ghost use Rattle.bz_elab.specs.Refusals.{HasPortChannels, HasFault};
 ghost use Rattle.bz_elab.specs.Order.{order};
 ghost use Rattle.bz_elab.specs.Least.{IsSeen, IsSeenCopy, IsLeastFault, InMarked, LeastOn, lesser};
 ghost use Rattle.bz_elab.specs.Numbers.{is_marked};
-ghost use Rattle.bz_elab.specs.Readings.{AreRead, AreReadings};
+ghost use Rattle.bz_elab.specs.Readings.{AreRead, AreReadings, told};
 ghost use Rattle.bz_elab.specs.Totals.{AreTotals};
 
 use crate::component::{instance_of, leaf_of};
@@ -20,7 +20,7 @@ use crate::totals::{Total, is_bare};
 use crate::walk::{MOST_INSTANCES, find};
 use bz_breeze::{Component, Part, Parts};
 use bz_model::Chan;
-use std::alloc::Global;
+use std::alloc::{AllocError, Global};
 
 /// A fault, and the component that has it.
 #[derive(Clone, Copy)]
@@ -64,11 +64,14 @@ pub fn read_parts(
     let mut least = None;
     let mut readings = Vec::with_capacity(alloc, list.len())?;
     for (number, part) in list.iter().enumerate() {
-        let mut items = Vec::new(alloc);
+        let mut reading = Reading {
+            leaves: Vec::new(alloc),
+            items: Vec::new(alloc),
+        };
         if marks[number] {
-            least = read_part(alloc, parts, totals, number, part, least, &mut items)?;
+            least = read_part(alloc, parts, totals, number, part, least, &mut reading)?;
         }
-        readings.push(Reading { items })?;
+        readings.push(reading)?;
     }
     Ok((least, readings))
 }
@@ -81,22 +84,22 @@ fn read_part(
     number: usize,
     part: &Part,
     before: Option<Found>,
-    items: &mut Vec<Item>,
+    reading: &mut Reading,
 ) -> Result<Option<Found>, ElabError>
     requires whole { All HasPortChannels parts.now }
     requires totals { AreTotals parts.now totals.now }
     requires part_is { slice_get parts.now number ≡ Some part.now }
-    requires items { items.old.items ≡ [] }
+    requires reading { told reading.old ≡ [] }
     ensures ok { IfOk result (LeastOn parts.now number before) }
     ensures kept { IfOk result (λ least. least ≡ None → before ≡ None) }
-    ensures read { IfOk result (λ least. least ≡ None → AreRead parts.now part.now.channels.items part.now.components.items items.new.items) }
+    ensures read { IfOk result (λ least. least ≡ None → AreRead parts.now part.now.channels.items part.now.components.items (told reading.new)) }
     ensures err { IfErr result (λ e. e ≡ Memory) }
 {
     let mut least = before;
     for (place, component) in part.components.iter().enumerate() {
         match look(alloc, parts, totals, part.channels.as_slice(), component)? {
             Seen::Nothing => {}
-            Seen::Adds(item) => items.push(item)?,
+            Seen::Adds(item) => add_item(reading, item)?,
             Seen::Wrong(fault) => {
                 let spot = Spot {
                     part: number,
@@ -107,6 +110,17 @@ fn read_part(
         }
     }
     Ok(least)
+}
+
+// One more component of a part.
+fn add_item(reading: &mut Reading, item: Item) -> Result<(), AllocError>
+    ensures { OnOk result (told reading.new ≡ told reading.old ++ item ∷ []) }
+{
+    match item {
+        Item::Leaf(leaf) if reading.items.is_empty() => reading.leaves.push(leaf)?,
+        item => reading.items.push(item)?,
+    }
+    Ok(())
 }
 
 // Looks at a component.

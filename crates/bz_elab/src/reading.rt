@@ -20,5 +20,8 @@ pub struct Instance {
 /// The components of a part, in order, but for those that add nothing to the net.
 #[derive(Drop)]
 pub struct Reading {
+    /// Those before its first instance.
+    pub leaves: Vec<FlatComp>,
+    /// Those from its first instance on.
     pub items: Vec<Item>,
 }

@@ -1,13 +1,13 @@
 //! The walk of a part's copies, by which its net is made.
 
-ghost use Rattle.std.specs.Prelude.{◌≡◌, ◌<◌, ◌≤◌, ◌+◌, ◌-◌, ◌^◌, ◌++◌, ◌∷◌, [], ◌⊎◌, ℕ, List, Some, length, map, slice_get, option_and_then, slice_index_or, IfOk, IfErr, IfSome, OnOk};
+ghost use Rattle.std.specs.Prelude.{◌≡◌, ◌<◌, ◌≤◌, ◌+◌, ◌-◌, ◌^◌, ◌++◌, ◌∷◌, [], ◌⊎◌, ℕ, List, Some, length, map, slice_get, option_and_then, slice_index_or, IfOk, IfErr, IfSome, IfNone, OnOk};
 ghost use Rattle.std.specs.List.{All};
 ghost use Rattle.bz_elab.specs.declared.error.ElabError.TheVariants.{Memory, TooBig};
 ghost use Rattle.bz_elab.specs.Paths.{named, most_instances};
 ghost use Rattle.bz_elab.specs.Refusals.{AppliesTo, HasPortChannels, most_ends};
 ghost use Rattle.bz_elab.specs.Numbers.{number_named};
 ghost use Rattle.bz_elab.specs.Order.{rank};
-ghost use Rattle.bz_elab.specs.Readings.{LeafOn, CopyOn, IsFull, IsReadBelow};
+ghost use Rattle.bz_elab.specs.Readings.{LeafOn, CopyOn, IsFull, IsReadBelow, AreOwn, ends_of};
 ghost use Rattle.bz_elab.specs.Wires.{most_comps, most_chans};
 ghost use Rattle.bz_elab.specs.Growth.{net_number, FitsNet, Entered, Flattened, Counted, Fails, IsNet, IsShort, Within};
 
@@ -207,6 +207,9 @@ fn flatten<'r>(
     ensures early { IfErr result (λ e. rank e ≤ 10) }
 {
     let reading = &readings[number];
+    for leaf in &reading.leaves {
+        add_leaf(alloc, leaf, levels, draft)?;
+    }
     for item in &reading.items {
         match item {
             Item::Leaf(named) => add_leaf(alloc, named, levels, draft)?,
@@ -232,17 +235,34 @@ fn flatten<'r>(
     Ok(())
 }
 
+// How many ends components have, unless they or their ends are too many for a net.
+fn ends_of(comps: &[FlatComp]) -> Option<usize>
+    ensures { IfSome result (λ n. (n ≡ ends_of comps.now) × (n ≤ most_ends) × (length comps.now ≤ most_comps)) }
+{
+    if comps.len() > MOST_COMPONENTS {
+        return None;
+    }
+    let mut ends = 0;
+    for comp in comps {
+        if comp.chans.len() > MOST_ENDS - ends {
+            return None;
+        }
+        ends += comp.chans.len();
+    }
+    Some(ends)
+}
+
 /// The net of a part, by its number, from what was read of it and of all that it reaches.
 pub fn net_of(
     alloc: Global,
     parts: &Parts,
-    readings: &[Reading],
+    mut readings: Vec<Reading>,
     number: usize,
     part: &Part,
 ) -> Result<Draft, ElabError>
     requires whole { All HasPortChannels parts.now }
     requires part_is { slice_get parts.now number ≡ Some part.now }
-    requires read { IsReadBelow parts.now number readings.now }
+    requires read { IsReadBelow parts.now number readings.items }
     requires short { IsShort parts.now part.now most_instances }
     ensures within { IfOk result Within }
     ensures ok { IfOk result (IsNet parts.now part.now) }
@@ -255,6 +275,53 @@ pub fn net_of(
         ends: 0,
     };
     enter(&mut draft, part, 0)?;
+    if let Some((comps, ends)) = own_leaves(&mut readings, number) {
+        return Ok(Draft {
+            chans: draft.chans,
+            comps,
+            ends,
+        });
+    }
+    flatten_top(alloc, parts, readings.as_slice(), number, part, &mut draft)?;
+    Ok(draft)
+}
+
+// What was read of a part that has no instance, taken for the net's own, and how many ends these components have. None where
+// there is an instance, or too much for a net.
+fn own_leaves(readings: &mut Vec<Reading>, number: usize) -> Option<(Vec<FlatComp>, usize)>
+    requires { number < length readings.old.items }
+    ensures own { IfSome result (λ p. AreOwn readings.old.items number p.0.items p.1) }
+    ensures kept { IfNone result (readings.new.items ≡ readings.old.items) }
+{
+    let top = &readings[number];
+    if !top.items.is_empty() {
+        return None;
+    }
+    let ends = ends_of(top.leaves.as_slice())?;
+    Some((readings.swap_remove(number).leaves, ends))
+}
+
+// `flatten` of the top.
+fn flatten_top(
+    alloc: Global,
+    parts: &Parts,
+    readings: &[Reading],
+    number: usize,
+    part: &Part,
+    draft: &mut Draft,
+) -> Result<(), ElabError>
+    requires whole { All HasPortChannels parts.now }
+    requires part_is { slice_get parts.now number ≡ Some part.now }
+    requires levels { FitsNet [] (length part.now.channels.items) (length draft.old.chans.items) }
+    requires read { IsReadBelow parts.now number readings.now }
+    requires short { IsShort parts.now part.now most_instances }
+    requires draft { Within draft.old }
+    ensures within { Within draft.new }
+    ensures ok { OnOk result (Flattened parts.now part.now [] most_instances draft.old draft.new) }
+    ensures counted { OnOk result (Counted parts.now part.now most_instances draft.old draft.new) }
+    ensures err { IfErr result (Fails parts.now part.now most_instances draft.old) }
+    ensures early { IfErr result (λ e. rank e ≤ 10) }
+{
     flatten(
         alloc,
         parts,
@@ -263,7 +330,6 @@ pub fn net_of(
         part,
         &[],
         MOST_INSTANCES,
-        &mut draft,
-    )?;
-    Ok(draft)
+        draft,
+    )
 }

@@ -72,6 +72,7 @@ impl<'t> NodeForms<'t> {
     ghost use Rattle.std.specs.Option.{option_map};
     ghost use Rattle.bz_sexpr.specs.Forms.{forms_view, first_and_rest};
 
+    #[inline(always)]
     fn split_first(self) -> Option<(NodeForm<'t>, NodeForms<'t>)>
         ensures { first_and_rest (option_map (λ p. (Form.Node p.0, Forms.Nodes p.1)) result) ≡ forms_view (Forms.Nodes self.entry) }
     {
@@ -94,6 +95,7 @@ impl<'t> NodeForm<'t> {
     ghost use Rattle.bz_sexpr.specs.Data.{span_of};
     ghost use Rattle.bz_sexpr.specs.Forms.{form_view, shape_view};
 
+    #[inline(always)]
     fn shape(self) -> Shape<'t>
         ensures { shape_view result (span_of (form_view (Form.Node self.entry))) ≡ form_view (Form.Node self.entry) }
     {
@@ -121,6 +123,7 @@ impl<'t> Leaf<'t> {
     ghost use Rattle.bz_sexpr.specs.Forms.{leaf_view};
 
     /// The leaf that a piece of a text spells, unless it spells a list.
+    #[inline(always)]
     pub(crate) fn of_piece(piece: &'t [u8]) -> Option<Leaf<'t>>
         ensures { option_map leaf_view result ≡ leaf_in piece.now }
     {
@@ -168,6 +171,7 @@ impl<'t> Forms<'t> {
     }
 
     /// The first datum and those behind it.
+    #[inline(always)]
     pub fn split_first(self) -> Option<(Form<'t>, Forms<'t>)>
         ensures { first_and_rest result ≡ forms_view self.entry }
     {
@@ -188,6 +192,7 @@ impl<'t> Form<'t> {
     ghost use Rattle.bz_sexpr.specs.Data.{span_of};
     ghost use Rattle.bz_sexpr.specs.Forms.{form_view, shape_view};
 
+    #[inline(always)]
     pub fn shape(self) -> Shape<'t>
         ensures { shape_view result (span_of (form_view self.entry)) ≡ form_view self.entry }
     {

@@ -1,7 +1,7 @@
 use Rattle.std.proofs.lemmas.Result.{err_from_is_err_and}
 use Rattle.bz_elab.specs.declared.error.Fault.TheVariants as fault
 use Rattle.bz_elab.specs.Refusals.{IsChannel}
-use Rattle.bz_elab.proofs.Slots.{all_arranged}
+use Rattle.bz_elab.proofs.Slots.{all_arranged, tells_named}
 use Rattle.bz_elab.proofs.Roles.{role_kind, role_fault_or, leaf_fault, not_both}
 use Rattle.bz_elab.proofs.Firsts.{role_first_or, by_kind, count_first, channel_first, kinds_first, widths_first}
 use Rattle.bz_elab.proofs.component.leaf_of.Goals as goal
@@ -18,62 +18,58 @@ returns-then-not-fits_ports-clause-err c =
     let tells = rw c.as_slice-entries.ensures.value at c.fits_ports.ensures in
     leaf_fault c.args.channels.now c.args.component.now _ fault.PortCount role (λ fits. not_both _ (tells.1 fits) c.if-not-fits_ports.true)
 
-pub returns-then-not-are_channels-clause-err : goal.returns-then-not-are_channels-clause-err
-returns-then-not-are_channels-clause-err c =
+pub returns-then-not-name_channels-clause-err : goal.returns-then-not-name_channels-clause-err
+returns-then-not-name_channels-clause-err c =
     let role = role_kind c.args.component.now c.in_ok-kind.kind (rw (c.as_slice.ensures.value, c.as_slice-2.ensures.value) at c.in_ok-kind.ensures.ok) in
-    let named = rw c.as_slice-entries.ensures.value at c.in_ok-named.ensures in
-    let tells = rw (c.as_slice-3.ensures.value, named) at c.are_channels.ensures in
-    leaf_fault c.args.channels.now c.args.component.now _ fault.BadChannel role (λ within. not_both _ (tells.1 within) c.if-not-are_channels.true)
+    let tells = tells_named (IsChannel c.args.channels.now) _ _ (rw c.as_slice-entries.ensures.value at c.name_channels.ensures) in
+    leaf_fault c.args.channels.now c.args.component.now _ fault.BadChannel role (λ within. not_both _ (tells.1 within) c.if-not-name_channels.true)
 
 pub arranged-requires : goal.arranged-requires
 arranged-requires c =
-    let named = rw c.as_slice-entries.ensures.value at c.in_ok-named.ensures in
-    let tells = rw (c.as_slice-3.ensures.value, named) at c.are_channels.ensures in
-    rw c.as_slice-entries.ensures.value (tells.0 c.if-not-are_channels.false)
+    let tells = tells_named (IsChannel c.args.channels.now) _ _ (rw c.as_slice-entries.ensures.value at c.name_channels.ensures) in
+    rw c.as_slice-entries.ensures.value (tells.0 c.if-not-name_channels.false)
 
 pub carried-requires : goal.carried-requires
 carried-requires c =
     let entries = c.args.component.now.entries.items in
-    let named = rw c.as_slice-entries.ensures.value at c.in_ok-named.ensures in
-    let tells = rw (c.as_slice-3.ensures.value, named) at c.are_channels.ensures in
+    let tells = tells_named (IsChannel c.args.channels.now) _ _ (rw c.as_slice-entries.ensures.value at c.name_channels.ensures) in
     let chans = rw c.as_slice-entries.ensures.value at c.in_ok-chans.ensures in
-    rw (c.as_slice-4.ensures.value, chans) (all_arranged (IsChannel c.args.channels.now) c.in_ok-kind.kind c.args.channels.now entries (tells.0 c.if-not-are_channels.false))
+    rw (c.as_slice-3.ensures.value, chans) (all_arranged (IsChannel c.args.channels.now) c.in_ok-kind.kind c.args.channels.now entries (tells.0 c.if-not-name_channels.false))
 
 pub returns-then-not-kinds_are-clause-err : goal.returns-then-not-kinds_are-clause-err
 returns-then-not-kinds_are-clause-err c =
     let role = role_kind c.args.component.now c.in_ok-kind.kind (rw (c.as_slice.ensures.value, c.as_slice-2.ensures.value) at c.in_ok-kind.ensures.ok) in
     let chans = rw c.as_slice-entries.ensures.value at c.in_ok-chans.ensures in
-    let carried = rw (c.as_slice-4.ensures.value, chans) at c.in_ok-carried.ensures in
+    let carried = rw (c.as_slice-3.ensures.value, chans) at c.in_ok-carried.ensures in
     let sizes = rw c.as_slice-entries.ensures.value at c.sizes_of-sizes.ensures in
-    let tells = rw (c.as_slice-5.ensures.value, carried, sizes) at c.kinds_are.ensures in
+    let tells = rw (c.as_slice-4.ensures.value, carried, sizes) at c.kinds_are.ensures in
     leaf_fault c.args.channels.now c.args.component.now _ fault.KindMismatch role (λ kinds. not_both _ (tells.1 kinds) c.if-not-kinds_are.true)
 
 pub returns-then-not-widths_fit-clause-err : goal.returns-then-not-widths_fit-clause-err
 returns-then-not-widths_fit-clause-err c =
     let role = role_kind c.args.component.now c.in_ok-kind.kind (rw (c.as_slice.ensures.value, c.as_slice-2.ensures.value) at c.in_ok-kind.ensures.ok) in
     let chans = rw c.as_slice-entries.ensures.value at c.in_ok-chans.ensures in
-    let carried = rw (c.as_slice-4.ensures.value, chans) at c.in_ok-carried.ensures in
-    let tells = rw (c.as_slice-6.ensures.value, carried) at c.widths_fit.ensures in
+    let carried = rw (c.as_slice-3.ensures.value, chans) at c.in_ok-carried.ensures in
+    let tells = rw (c.as_slice-5.ensures.value, carried) at c.widths_fit.ensures in
     leaf_fault c.args.channels.now c.args.component.now _ fault.WidthMismatch role (λ widths. not_both _ (tells.1 widths) c.if-not-widths_fit.true)
 
 pub returns-clause-ok : goal.returns-clause-ok
 returns-clause-ok c =
     let role = role_kind c.args.component.now c.in_ok-kind.kind (rw (c.as_slice.ensures.value, c.as_slice-2.ensures.value) at c.in_ok-kind.ensures.ok) in
     let fits = rw c.as_slice-entries.ensures.value at c.fits_ports.ensures in
-    let named = rw c.as_slice-entries.ensures.value at c.in_ok-named.ensures in
-    let within = rw (c.as_slice-3.ensures.value, named) at c.are_channels.ensures in
+    let within = tells_named (IsChannel c.args.channels.now) _ _ (rw c.as_slice-entries.ensures.value at c.name_channels.ensures) in
     let chans = rw c.as_slice-entries.ensures.value at c.in_ok-chans.ensures in
-    let carried = rw (c.as_slice-4.ensures.value, chans) at c.in_ok-carried.ensures in
+    let carried = rw (c.as_slice-3.ensures.value, chans) at c.in_ok-carried.ensures in
     let sizes = rw c.as_slice-entries.ensures.value at c.sizes_of-sizes.ensures in
-    let kinds = rw (c.as_slice-5.ensures.value, carried, sizes) at c.kinds_are.ensures in
-    let widths = rw (c.as_slice-6.ensures.value, carried) at c.widths_fit.ensures in
+    let kinds = rw (c.as_slice-4.ensures.value, carried, sizes) at c.kinds_are.ensures in
+    let widths = rw (c.as_slice-5.ensures.value, carried) at c.widths_fit.ensures in
     record {
       role_is = role;
       sizes_are = sizes;
       chans_are = chans;
       sound = record {
         fits = fits.0 c.if-not-fits_ports.false;
-        within = within.0 c.if-not-are_channels.false;
+        within = within.0 c.if-not-name_channels.false;
         kinds = kinds.0 c.if-not-kinds_are.false;
         widths = widths.0 c.if-not-widths_fit.false;
       };
@@ -92,8 +88,8 @@ returns-then-not-fits_ports-clause-first c =
     let role = role_kind c.args.component.now c.in_ok-kind.kind (rw (c.as_slice.ensures.value, c.as_slice-2.ensures.value) at c.in_ok-kind.ensures.ok) in
     by_kind c.args.channels.now c.args.component.now _ fault.PortCount role (count_first c.args.channels.now c.args.component.now _)
 
-pub returns-then-not-are_channels-clause-first : goal.returns-then-not-are_channels-clause-first
-returns-then-not-are_channels-clause-first c =
+pub returns-then-not-name_channels-clause-first : goal.returns-then-not-name_channels-clause-first
+returns-then-not-name_channels-clause-first c =
     let role = role_kind c.args.component.now c.in_ok-kind.kind (rw (c.as_slice.ensures.value, c.as_slice-2.ensures.value) at c.in_ok-kind.ensures.ok) in
     let fits = rw c.as_slice-entries.ensures.value at c.fits_ports.ensures in
     by_kind c.args.channels.now c.args.component.now _ fault.BadChannel role (channel_first c.args.channels.now c.args.component.now _ (fits.0 c.if-not-fits_ports.false))
@@ -102,20 +98,18 @@ pub returns-then-not-kinds_are-clause-first : goal.returns-then-not-kinds_are-cl
 returns-then-not-kinds_are-clause-first c =
     let role = role_kind c.args.component.now c.in_ok-kind.kind (rw (c.as_slice.ensures.value, c.as_slice-2.ensures.value) at c.in_ok-kind.ensures.ok) in
     let fits = rw c.as_slice-entries.ensures.value at c.fits_ports.ensures in
-    let named = rw c.as_slice-entries.ensures.value at c.in_ok-named.ensures in
-    let within = rw (c.as_slice-3.ensures.value, named) at c.are_channels.ensures in
+    let within = tells_named (IsChannel c.args.channels.now) _ _ (rw c.as_slice-entries.ensures.value at c.name_channels.ensures) in
     by_kind c.args.channels.now c.args.component.now _ fault.KindMismatch role
-    (kinds_first c.args.channels.now c.args.component.now _ (fits.0 c.if-not-fits_ports.false) (within.0 c.if-not-are_channels.false))
+    (kinds_first c.args.channels.now c.args.component.now _ (fits.0 c.if-not-fits_ports.false) (within.0 c.if-not-name_channels.false))
 
 pub returns-then-not-widths_fit-clause-first : goal.returns-then-not-widths_fit-clause-first
 returns-then-not-widths_fit-clause-first c =
     let role = role_kind c.args.component.now c.in_ok-kind.kind (rw (c.as_slice.ensures.value, c.as_slice-2.ensures.value) at c.in_ok-kind.ensures.ok) in
     let fits = rw c.as_slice-entries.ensures.value at c.fits_ports.ensures in
-    let named = rw c.as_slice-entries.ensures.value at c.in_ok-named.ensures in
-    let within = rw (c.as_slice-3.ensures.value, named) at c.are_channels.ensures in
+    let within = tells_named (IsChannel c.args.channels.now) _ _ (rw c.as_slice-entries.ensures.value at c.name_channels.ensures) in
     let chans = rw c.as_slice-entries.ensures.value at c.in_ok-chans.ensures in
-    let carried = rw (c.as_slice-4.ensures.value, chans) at c.in_ok-carried.ensures in
+    let carried = rw (c.as_slice-3.ensures.value, chans) at c.in_ok-carried.ensures in
     let sizes = rw c.as_slice-entries.ensures.value at c.sizes_of-sizes.ensures in
-    let kinds = rw (c.as_slice-5.ensures.value, carried, sizes) at c.kinds_are.ensures in
+    let kinds = rw (c.as_slice-4.ensures.value, carried, sizes) at c.kinds_are.ensures in
     by_kind c.args.channels.now c.args.component.now _ fault.WidthMismatch role
-    (widths_first c.args.channels.now c.args.component.now _ (fits.0 c.if-not-fits_ports.false) (within.0 c.if-not-are_channels.false) (kinds.0 c.if-not-kinds_are.false))
+    (widths_first c.args.channels.now c.args.component.now _ (fits.0 c.if-not-fits_ports.false) (within.0 c.if-not-name_channels.false) (kinds.0 c.if-not-kinds_are.false))

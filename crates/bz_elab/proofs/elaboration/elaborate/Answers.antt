@@ -54,7 +54,7 @@ pub wire-requires-clause-fit : goal.wire-requires-clause-fit
 wire-requires-clause-fit c =
     let draft = c.in_ok-draft.draft in
     let n : c.len.result ≡ length draft.chans.items = omega arith in
-    rw (n, c.as_slice-2.ensures.value) (comps_fit c.args.parts.now c.index-list-number.result draft c.in_ok-draft.ensures.ok c.in_ok-read.ensures.sound c.in_ok-draft.ensures.within)
+    rw (n, c.as_slice.ensures.value) (comps_fit c.args.parts.now c.index-list-number.result draft c.in_ok-draft.ensures.ok c.in_ok-read.ensures.sound c.in_ok-draft.ensures.within)
 
 pub wire-requires-clause-ports_to : goal.wire-requires-clause-ports_to
 wire-requires-clause-ports_to c =
@@ -62,7 +62,7 @@ wire-requires-clause-ports_to c =
     let draft = c.in_ok-draft.draft in
     let whole = subst (λ (p : Part). HasPortChannels p) (sym c.index-list-number.is) (c.list.ensures.fits c.in-Some.number part (let w = c.in-Some.ensures.within in omega (arith, w, ap length c.list.ensures.value))) in
     let n : c.len.result ≡ length draft.chans.items = omega arith in
-    rw (n, c.as_slice-3.ensures.value) (ports_within c.args.parts.now part draft c.in_ok-draft.ensures.ok whole)
+    rw (n, c.as_slice-2.ensures.value) (ports_within c.args.parts.now part draft c.in_ok-draft.ensures.ok whole)
 
 pub returns-in_err-ends-clause-err : goal.returns-in_err-ends-clause-err
 returns-in_err-ends-clause-err c =
@@ -70,7 +70,7 @@ returns-in_err-ends-clause-err c =
     let draft = c.in_ok-draft.draft in
     let read = part_read c.args.parts.now _ c.in-Some.number part c.list.ensures.value c.in-Some.ensures.within c.index-list-number.is in
     let p = err_from_is_err_and c.from_residual-in_err-ends.result c.from_residual-in_err-ends.ensures.1 in
-    let why = rw (c.as_slice-2.ensures.value, c.as_slice-3.ensures.value) at c.in_err-ends.ensures.err in
+    let why = rw (c.as_slice.ensures.value, c.as_slice-2.ensures.value) at c.in_err-ends.ensures.err in
     rw (p.1, p.2) (refuses_named c.args.parts.now c.args.top.now part _ (sym c.in-Some.ensures.part ∙ read)
     (wire_refuses c.args.parts.now part draft _ c.in_ok-draft.ensures.ok c.in_ok-read.ensures.ok why))
 
@@ -80,8 +80,8 @@ of-requires-clause-wired c =
     let draft = c.in_ok-draft.draft in
     let whole = subst (λ (p : Part). HasPortChannels p) (sym c.index-list-number.is) (c.list.ensures.fits c.in-Some.number part (let w = c.in-Some.ensures.within in omega (arith, w, ap length c.list.ensures.value))) in
     let fit = subst (λ (p : Part). IsFit p) (sym c.index-list-number.is) (c.list.ensures.fit c.in-Some.number part (let w = c.in-Some.ensures.within in omega (arith, w, ap length c.list.ensures.value))) in
-    let ended = rw (c.as_slice-2.ensures.value, c.as_slice-3.ensures.value) at c.in_ok-ends.ensures.ok.1 in
-    let ports = rw c.as_slice-4.ensures.value at c.in_ok-ports.ensures in
+    let ended = rw (c.as_slice.ensures.value, c.as_slice-2.ensures.value) at c.in_ok-ends.ensures.ok.1 in
+    let ports = rw c.as_slice-3.ensures.value at c.in_ok-ports.ensures in
     subst (λ (w : Wiring). WellWired w) (sym (same_ports draft.chans.items draft.comps.items c.in_ok-ports.ports.items part.ports.items ports))
     (well_wired c.args.parts.now part draft c.in_ok-ends.ends.items c.in_ok-draft.ensures.ok c.in_ok-read.ensures.sound c.in_ok-draft.ensures.within whole fit ended)
 
@@ -89,8 +89,8 @@ pub of-requires-clause-ends_of : goal.of-requires-clause-ends_of
 of-requires-clause-ends_of c =
     let part = c.index-list-number.result in
     let draft = c.in_ok-draft.draft in
-    let ended = rw (c.as_slice-2.ensures.value, c.as_slice-3.ensures.value) at c.in_ok-ends.ensures.ok.1 in
-    let ports = rw c.as_slice-4.ensures.value at c.in_ok-ports.ensures in
+    let ended = rw (c.as_slice.ensures.value, c.as_slice-2.ensures.value) at c.in_ok-ends.ensures.ok.1 in
+    let ports = rw c.as_slice-3.ensures.value at c.in_ok-ports.ensures in
     let n : length c.in_ok-ends.ends.items ≡ length draft.chans.items = omega (arith, c.in_ok-ends.ensures.ok.0) in
     subst (λ (w : Wiring). EndsOf w c.in_ok-ends.ends.items) (sym (same_ports draft.chans.items draft.comps.items c.in_ok-ports.ports.items part.ports.items ports))
     (ends_of draft.chans.items draft.comps.items part.ports.items c.in_ok-ends.ends.items n ended)
@@ -100,7 +100,7 @@ returns-clause-ok c =
     let part = c.index-list-number.result in
     let draft = c.in_ok-draft.draft in
     let read = part_read c.args.parts.now _ c.in-Some.number part c.list.ensures.value c.in-Some.ensures.within c.index-list-number.is in
-    let ports = rw c.as_slice-4.ensures.value at c.in_ok-ports.ensures in
+    let ports = rw c.as_slice-3.ensures.value at c.in_ok-ports.ensures in
     record {
       top = part;
       is_named = sym c.in-Some.ensures.part ∙ read;
@@ -113,6 +113,6 @@ returns-clause-fit c =
     let part = c.index-list-number.result in
     let draft = c.in_ok-draft.draft in
     let read = part_read c.args.parts.now _ c.in-Some.number part c.list.ensures.value c.in-Some.ensures.within c.index-list-number.is in
-    let ended = rw (c.as_slice-2.ensures.value, c.as_slice-3.ensures.value) at c.in_ok-ends.ensures.ok.1 in
+    let ended = rw (c.as_slice.ensures.value, c.as_slice-2.ensures.value) at c.in_ok-ends.ensures.ok.1 in
     none_applies c.args.parts.now c.args.top.now part draft c.in_ok-ends.ends.items (sym c.in-Some.ensures.part ∙ read) c.in_ok-draft.ensures.ok c.in_ok-read.ensures.sound
     c.in_ok-draft.ensures.within ended

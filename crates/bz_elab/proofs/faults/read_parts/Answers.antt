@@ -16,7 +16,7 @@ loop-number-preserved c =
     let readings = c.loop-number.readings.items in
     let part = c.index-list-number.result in
     let inv = c.loop-number.invariant in
-    let x : Reading = record { items = c.if-marks-number.items } in
+    let x : Reading = c.if-marks-number.reading in
     let lt : n < length parts = omega (arith, c.loop-number-test.true, ap length c.list-list.ensures.value) in
     let at = part_read parts _ n part c.list-list.ensures.value lt c.index-list-number.is in
     rw c.in_ok-push.ensures.items (elim c.if-marks-number.branch [
@@ -25,7 +25,7 @@ loop-number-preserved c =
           rw w.least-is (record {
             least = w.in_ok-least.ensures.ok marks here inv.least;
             len = let k = length-append readings (x ∷ []) in omega (arith, inv.len, k);
-            read = λ e. read_more parts marks n readings x part inv.len at (λ m. rw w.items-is (w.in_ok-least.ensures.read e)) (inv.read (w.in_ok-least.ensures.kept e));
+            read = λ e. read_more parts marks n readings x part inv.len at (λ m. rw w.reading-is (w.in_ok-least.ensures.read e)) (inv.read (w.in_ok-least.ensures.kept e));
           })
       | else-marks-number w ↦
           let clear : is_marked marks n ≡ false = same_read marks n _ _ (omega (arith, c.requires.marks, ap length c.list-list.ensures.value)) ∙ w.if-marks-number.false in

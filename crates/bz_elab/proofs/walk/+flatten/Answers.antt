@@ -1,22 +1,63 @@
-use Rattle.std.proofs.Common.{arith, ◌+◌, [], length, sym, ◌∙◌, ap, suc, subst, refl, add-one}
+use Rattle.std.proofs.Common.{arith, map, ◌++◌, ◌+◌, [], length, sym, ◌∙◌, ap, suc, subst, refl, add-one}
 use Rattle.std.proofs.lemmas.Option.{slice_get_within}
 use Rattle.std.proofs.lemmas.Result.{err_from_is_err_and}
 use Rattle.bz_breeze.specs.declared.part.Part.{Part}
+use Rattle.bz_elab.specs.declared.reading.Item.TheVariants.{Leaf}
 use Rattle.bz_elab.specs.Refusals.{HasPortChannels}
 use Rattle.bz_elab.proofs.Growing.{component_at}
 use Rattle.bz_elab.proofs.Soundness.{part_read}
 use Rattle.bz_elab.proofs.Failing.{leaf_fails, copy_fails, deeper_fails, deep_ends}
-use Rattle.bz_elab.proofs.Items.{reading_of, so_far_start, next_at, all_at, leaf_within, numbers_fit, inside_fits, upto_fits, item_is, copy_of, short_less, read_below, inner_component, upto_leaf, upto_copy, refused_leaf, refused_copy}
+use Rattle.bz_elab.proofs.Items.{reading_of, so_far_start, next_at, next_leaf, no_leaf, all_at, leaf_within, numbers_fit, inside_fits, upto_fits, item_is, copy_of, short_less, read_below, inner_component, upto_leaf, upto_copy, refused_leaf, refused_copy}
 use Rattle.bz_elab.proofs.walk.+flatten.Goals as goal
 use Rattle.bz_elab.proofs.walk.+flatten.Goals.{in-Leaf+in_ok-add_leaf-in-Leaf, in-Copy+else-depth-eq0+in_ok-inside-in-Copy+in_ok-flatten-in-Copy}
 
-pub loop-item-init : goal.loop-item-init
-loop-item-init t c =
-    let read = reading_of c.args.parts.now c.args.number c.args.part.now c.args.readings.now c.index-readings-number.result c.requires.part_is c.requires.read c.index-readings-number.is in
-    (c.requires.draft, so_far_start c.args.parts.now c.args.part.now c.args.levels.now c.args.depth c.args.draft.now _ _ c.deref-item-items.ensures.value read)
+pub loop-leaf-init : goal.loop-leaf-init
+loop-leaf-init t c =
+    let reading = c.index-readings-number.result in
+    let read = reading_of c.args.parts.now c.args.number c.args.part.now c.args.readings.now reading c.requires.part_is c.requires.read c.index-readings-number.is in
+    let same = ap (λ fs. map Leaf fs ++ reading.items.items) c.deref-leaf-items.ensures.value in
+    (c.requires.draft, so_far_start c.args.parts.now c.args.part.now c.args.levels.now c.args.depth c.args.draft.now _ _ same read)
 
 pub add_leaf-requires-clause-chans : goal.add_leaf-requires-clause-chans
 add_leaf-requires-clause-chans t c =
+    let next = next_leaf c.args.parts.now c.args.part.now c.args.levels.now c.args.depth _ _ c.deref-leaf-items.result.now _ c.loop-leaf.leaf-index c.leaf-item.result c.requires.short c.loop-leaf.invariant.1 (omega (arith, c.loop-leaf-test.true)) c.leaf-item.is in
+    let few = c.loop-leaf.invariant.0.chans_few in
+    numbers_fit c.args.levels.now _ _ _ (upto_fits c.args.parts.now c.args.part.now c.args.levels.now c.args.depth _ _ next.at _ next.upto c.requires.levels) (omega (arith, few))
+    (leaf_within c.args.part.now.channels.items next.comp c.leaf-item.result next.item.1)
+
+pub add_leaf-requires-clause-draft : goal.add_leaf-requires-clause-draft
+add_leaf-requires-clause-draft t c = c.loop-leaf.invariant.0
+
+pub returns-in_err-add_leaf-clause-err : goal.returns-in_err-add_leaf-clause-err
+returns-in_err-add_leaf-clause-err t c =
+    let p = err_from_is_err_and c.from_residual.result c.from_residual.ensures.1 in
+    let next = next_leaf c.args.parts.now c.args.part.now c.args.levels.now c.args.depth _ _ c.deref-leaf-items.result.now _ c.loop-leaf.leaf-index c.leaf-item.result c.requires.short c.loop-leaf.invariant.1 (omega (arith, c.loop-leaf-test.true)) c.leaf-item.is in
+    rw (p.1, p.2) (leaf_fails c.args.parts.now c.args.part.now c.args.number c.args.depth next.at c.args.part.now.components.items next.comp _ _ _
+    c.requires.part_is refl next.lt next.is next.item.0 next.upto.counts (refused_leaf c.args.part.now.channels.items next.comp c.leaf-item.result c.loop-leaf.draft _ _ _ next.item.1 c.in_err-add_leaf.ensures.err))
+
+pub loop-leaf-preserved : goal.loop-leaf-preserved
+loop-leaf-preserved t c =
+    let parts = c.args.parts.now in
+    let part = c.args.part.now in
+    let next = next_leaf parts part c.args.levels.now c.args.depth _ _ c.deref-leaf-items.result.now _ c.loop-leaf.leaf-index c.leaf-item.result c.requires.short c.loop-leaf.invariant.1 (omega (arith, c.loop-leaf-test.true)) c.leaf-item.is in
+    rw add-one (
+      c.add_leaf.ensures.within,
+      record {
+        at = next.at + 1;
+        upto = upto_leaf parts part c.args.levels.now c.args.depth c.args.draft.now c.loop-leaf.draft c.add_leaf.new.draft next.at next.comp c.leaf-item.result next.lt next.is next.item.0 next.item.1
+            c.in_ok-add_leaf.ensures.ok next.upto;
+        rest = next.rest;
+      },
+    )
+
+pub loop-item-init : goal.loop-item-init
+loop-item-init t c =
+    let reading = c.index-readings-number.result in
+    let rest = no_leaf c.args.parts.now c.args.part.now c.args.levels.now c.args.depth c.args.draft.now c.loop-leaf.draft c.deref-leaf-items.result.now reading.items.items c.loop-leaf.leaf-index c.loop-leaf.invariant.1 (omega (arith, c.loop-leaf-test.false)) in
+    (c.loop-leaf.invariant.0, rw c.deref-item-items.ensures.value rest)
+
+pub add_leaf-requires-in-Leaf-clause-chans : goal.add_leaf-requires-in-Leaf-clause-chans
+add_leaf-requires-in-Leaf-clause-chans t c =
     let next = next_at c.args.parts.now c.args.part.now c.args.levels.now c.args.depth _ _ c.deref-item-items.result.now c.loop-item.item-index c.item-item.result c.requires.short c.loop-item.invariant.1 (omega (arith, c.loop-item-test.true)) c.item-item.is in
     let item = item_is c.args.parts.now c.args.part.now.channels.items next.comp _ _ c.in-Leaf.is next.item in
     let few = c.loop-item.invariant.0.chans_few in
@@ -25,7 +66,7 @@ add_leaf-requires-clause-chans t c =
 
 pub returns-in_err-add_leaf-in-Leaf-clause-err : goal.returns-in_err-add_leaf-in-Leaf-clause-err
 returns-in_err-add_leaf-in-Leaf-clause-err t c =
-    let p = err_from_is_err_and c.from_residual.result c.from_residual.ensures.1 in
+    let p = err_from_is_err_and c.from_residual-in_err-add_leaf-in-Leaf.result c.from_residual-in_err-add_leaf-in-Leaf.ensures.1 in
     let next = next_at c.args.parts.now c.args.part.now c.args.levels.now c.args.depth _ _ c.deref-item-items.result.now c.loop-item.item-index c.item-item.result c.requires.short c.loop-item.invariant.1 (omega (arith, c.loop-item-test.true)) c.item-item.is in
     let item = item_is c.args.parts.now c.args.part.now.channels.items next.comp _ _ c.in-Leaf.is next.item in
     rw (p.1, p.2) (leaf_fails c.args.parts.now c.args.part.now c.args.number c.args.depth next.at c.args.part.now.components.items next.comp _ _ _
@@ -126,10 +167,10 @@ loop-item-preserved t c =
       | in-Leaf+in_ok-add_leaf-in-Leaf w ↦
           let item = item_is c.args.parts.now c.args.part.now.channels.items next.comp _ _ w.in-Leaf.is next.item in
           rw (w.draft-is, add-one) (
-            w.add_leaf.ensures.within,
+            w.add_leaf-in-Leaf.ensures.within,
             record {
               at = next.at + 1;
-              upto = upto_leaf parts part c.args.levels.now c.args.depth c.args.draft.now c.loop-item.draft w.add_leaf.new.draft next.at next.comp w.in-Leaf.named next.lt next.is item.0 item.1
+              upto = upto_leaf parts part c.args.levels.now c.args.depth c.args.draft.now c.loop-item.draft w.add_leaf-in-Leaf.new.draft next.at next.comp w.in-Leaf.named next.lt next.is item.0 item.1
                   w.in_ok-add_leaf-in-Leaf.ensures.ok next.upto;
               rest = next.rest;
             },

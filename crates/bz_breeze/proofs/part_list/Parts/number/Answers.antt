@@ -1,6 +1,13 @@
 use Rattle.std.proofs.Common.{◌∙◌, ap, sym, bytes_eq, position}
 use Rattle.bz_names.proofs.Names.{position-map}
+use Rattle.bz_breeze.proofs.Finding.{none_plain}
 use Rattle.bz_breeze.proofs.part_list.Parts.number.Goals as goal
+
+pub returns-then-has_dollar : goal.returns-then-has_dollar
+returns-then-has_dollar c =
+    let name = c.args.name.now in
+    sym (none_plain name c.self.inside.list.items (sym c.has_dollar.ensures ∙ c.if-has_dollar.true) (c.self.invariant.3 c.if-self.true))
+    ∙ ap (λ ps. position (λ p. bytes_eq name p.name.items) ps) c.self.view_is
 
 pub returns : goal.returns
 returns c =
