@@ -26,6 +26,12 @@ pub record Denotes (text name : List ℕ) (w : Wiring) : Type 0 where
   pub read : parts forms ≡ Ok (map part_record listed)
   pub net : Elaborated listed name w
 
+-- The text spells data that name these parts.
+pub record NamesParts (text : List ℕ) (listed : List Part) : Type 0 where
+  pub forms : List Datum
+  pub spelt : ComesTo text (data_are forms)
+  pub read : parts forms ≡ Ok (map part_record listed)
+
 -- The net of this part, at its opening, with a journal of so many entries.
 abbrev pub Opens : List ℕ → List ℕ → ℕ → Simulation → Type 0
 Opens text name limit net = (w : Wiring) × Denotes text name w × IsOpened w limit net
@@ -55,3 +61,15 @@ RefusesNet text name (fault.Net e part) =
     × ((listed : List Part) × (parts forms ≡ Ok (map part_record listed)) × Refuses listed name e × (part.items ≡ name_told listed name e))
 RefusesNet text name fault.Memory = ⊤
 RefusesNet text name fault = ⊥
+
+-- Why a text names no parts, and why one of these parts has no net.
+abbrev pub RefusesText : List ℕ → Fault → Type 0
+RefusesText text (fault.Text e) = MatchOption (outcome_of (Err e)) ⊥ (ComesTo text)
+RefusesText text (fault.Part e) = (forms : List Datum) × ComesTo text (data_are forms) × Tells (parts forms) e × MatchOption (fault_of e) ⊥ (IsLeast forms)
+RefusesText text fault.Memory = ⊤
+RefusesText text fault = ⊥
+
+abbrev pub RefusesPart : List Part → List ℕ → Fault → Type 0
+RefusesPart listed name (fault.Net e part) = Refuses listed name e × (part.items ≡ name_told listed name e)
+RefusesPart listed name fault.Memory = ⊤
+RefusesPart listed name fault = ⊥

@@ -10,7 +10,7 @@ ghost use Rattle.bz_commands.specs.Running.{AppendsSome};
 use crate::fault::Fault;
 use crate::input::read_input;
 use crate::listing::write_list;
-use crate::open::flat_of;
+use crate::open::flat_of_input;
 use bz_elab::Flat;
 use bz_trace::WriteFault;
 use std::alloc::Global;
@@ -29,14 +29,14 @@ pub fn list_cmd<R: Read, W: Write>(
     ensures bounded { ReadsWithin (R.remaining input.old) (R.remaining input.new) }
 {
     let text = read_input(alloc, input)?;
-    list_net(alloc, part, text.as_slice(), output)
+    list_net(alloc, part, text, output)
 }
 
 // Lists the net of a part of the text.
-fn list_net<W: Write>(alloc: Global, part: &[u8], text: &[u8], output: &mut W) -> Result<(), Fault>
-    ensures { ListsText text.now part.now (W.contents output.old) (W.contents output.new) result }
+fn list_net<W: Write>(alloc: Global, part: &[u8], text: Vec<u8>, output: &mut W) -> Result<(), Fault>
+    ensures { ListsText text.items part.now (W.contents output.old) (W.contents output.new) result }
 {
-    let flat = flat_of(alloc, part, text)?;
+    let flat = flat_of_input(alloc, part, text)?;
     write_out(part, flat, output)?;
     Ok(())
 }

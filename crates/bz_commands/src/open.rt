@@ -4,10 +4,11 @@ ghost use Rattle.std.specs.Prelude.{◌≡◌, ◌≤◌, ◌<◌, ◌⊎◌, �
 ghost use Rattle.std.specs.declared.alloc.Global.{Global};
 ghost use Rattle.std.specs.declared.vec.Vec.{Vec};
 ghost use Rattle.bz_commands.specs.declared.fault.Fault.{Fault};
-ghost use Rattle.bz_commands.specs.Opening.{Denotes, Opens, RefusesNet, name_told, part_in};
+ghost use Rattle.bz_elab.specs.Refusals.{Elaborated};
+ghost use Rattle.bz_commands.specs.Opening.{Denotes, NamesParts, Opens, RefusesNet, RefusesPart, RefusesText, name_told, part_in};
 
 use crate::fault::Fault;
-use bz_breeze::{BreezeError, Part};
+use bz_breeze::{BreezeError, Part, Parts};
 use bz_elab::{ElabError, Flat, elaborate};
 use bz_net::Net;
 use bz_sexpr::SexprError;
@@ -32,11 +33,36 @@ pub(crate) fn flat_of(alloc: Global, part: &[u8], text: &[u8]) -> Result<Flat, F
     ensures ok { IfOk result (λ flat. Denotes text.now part.now flat.wiring) }
     ensures err { IfErr result (RefusesNet text.now part.now) }
 {
+    let parts = parts_of(alloc, text)?;
+    flat_in(alloc, &parts, part)
+}
+
+/// The same of a text that ends there: the records have all that is wanted of it.
+pub(crate) fn flat_of_input(alloc: Global, part: &[u8], text: Vec<u8>) -> Result<Flat, Fault>
+    ensures ok { IfOk result (λ flat. Denotes text.items part.now flat.wiring) }
+    ensures err { IfErr result (RefusesNet text.items part.now) }
+{
+    let parts = parts_of(alloc, text.as_slice())?;
+    drop(text);
+    flat_in(alloc, &parts, part)
+}
+
+// The parts of the text.
+fn parts_of(alloc: Global, text: &[u8]) -> Result<Parts, Fault>
+    ensures ok { IfOk result (NamesParts text.now) }
+    ensures err { IfErr result (RefusesText text.now) }
+{
     let forest = bz_sexpr::read_forest(alloc, text)?;
     let parts = bz_breeze::parts_of(alloc, forest.forms())?;
-    // the records have all that is wanted of the data
-    drop(forest);
-    match elaborate(alloc, &parts, part) {
+    Ok(parts)
+}
+
+// The flat net of one of these parts.
+fn flat_in(alloc: Global, parts: &Parts, part: &[u8]) -> Result<Flat, Fault>
+    ensures ok { IfOk result (λ flat. Elaborated parts.now part.now flat.wiring) }
+    ensures err { IfErr result (RefusesPart parts.now part.now) }
+{
+    match elaborate(alloc, parts, part) {
         Ok(flat) => Ok(flat),
         Err(ElabError::Memory) => Err(Fault::Memory),
         Err(error) => Err(in_part(alloc, parts.list(), part, error)),

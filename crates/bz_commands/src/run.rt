@@ -10,7 +10,7 @@ ghost use Rattle.bz_commands.specs.Running.{AppendsSome, AreCommands, PlaysNet, 
 
 use crate::fault::Fault;
 use crate::input::read_input;
-use crate::open::flat_of;
+use crate::open::flat_of_input;
 use crate::pending::Pending;
 use crate::playing::{Stop, play_out};
 use bz_model::{Cmd, Entry, Names, NetError};
@@ -67,7 +67,7 @@ pub fn run_in_pieces<R: Read, W: Write>(
         part,
         journal,
         room,
-        text.as_slice(),
+        text,
         cmds.as_slice(),
         output,
     )
@@ -79,15 +79,15 @@ fn play_text<W: Write>(
     part: &[u8],
     journal: u32,
     room: usize,
-    text: &[u8],
+    text: Vec<u8>,
     cmds: &[Cmd],
     output: &mut W,
 ) -> Result<(), Fault>
     requires { 0 < room }
-    ensures { PlaysText text.now part.now journal cmds.now (W.contents output.old) (W.contents output.new) result }
+    ensures { PlaysText text.items part.now journal cmds.now (W.contents output.old) (W.contents output.new) result }
 {
     let buffer = Vec::with_capacity(alloc, room)?;
-    let flat = flat_of(alloc, part, text)?;
+    let flat = flat_of_input(alloc, part, text)?;
     let Ok(play) = Play::open(alloc, flat, journal) else {
         return Err(Fault::Memory);
     };
