@@ -1,0 +1,5 @@
+pub mod Found
+pub mod Inner
+pub mod Lines
+pub mod Texts
+pub mod Views
