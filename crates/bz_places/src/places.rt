@@ -6,6 +6,7 @@ ghost use Rattle.bz_model.specs.Names.{numbered};
 ghost use Rattle.bz_places.specs.declared.error.PlacesError.TheVariants.{Memory, TooDeep};
 ghost use Rattle.bz_elab.specs.Paths.{most_instances};
 ghost use Rattle.bz_places.specs.Found.{Locates, Misses, IsDeeper, found, located, with_find};
+ghost use Rattle.bz_places.specs.Net.{FindsNamed};
 ghost use Rattle.bz_places.specs.Views.{find_of, spot_of};
 
 use crate::bare::bare_parts;
@@ -43,6 +44,7 @@ impl Places {
     /// The places of the net of the first part of that name. Where `bz_elab::elaborate` refuses the part this may take long.
     pub fn of(alloc: Global, parts: &Parts, top: &[u8]) -> Result<Places, PlacesError>
         ensures ok { IfOk result (Locates parts.now top.now) }
+        ensures net { IfOk result (FindsNamed parts.now top.now) }
         ensures err { IfErr result (λ e. (e ≡ Memory) ⊎ Misses parts.now top.now e) }
     {
         let Some(number) = number_of(parts, top) else {
