@@ -15,6 +15,7 @@ pub use checking::check_cmd;
 pub use fault::Fault;
 pub use input::{INPUT_LIMIT, InputFault, read_input};
 pub use list::list_cmd;
-pub use open::open_net;
+pub use listing::{carried_parts, put_head, put_ports};
+pub use open::{in_part, open_net};
 pub use playing::Stop;
 pub use run::{run_cmd, run_in_pieces, write_out};

@@ -25,7 +25,8 @@ pub(crate) fn write_list<W: Write>(out: &mut W, name: &[u8], flat: Flat) -> Resu
     put_body(out, &pieces.chans, &pieces.ports, &pieces.comps)
 }
 
-fn put_head<W: Write>(out: &mut W, name: &[u8]) -> Result<(), WriteFault>
+/// Writes the first line of a list: the name of the part.
+pub fn put_head<W: Write>(out: &mut W, name: &[u8]) -> Result<(), WriteFault>
     ensures { Writes (W.contents out.old) (W.contents out.new) result (head_text name.now) }
 {
     let parts = [Part::Bytes(b"part "), Part::Name(name), Part::Bytes(b"\n")];
@@ -55,7 +56,8 @@ fn put_tail<W: Write>(out: &mut W, chans: usize, comps: &[FlatComp]) -> Result<(
     put_comps(out, comps)
 }
 
-fn put_ports<W: Write>(out: &mut W, chans: &[Chan], ports: &[Port]) -> Result<(), WriteFault>
+/// Writes the lines of the external ports, port k being channel k.
+pub fn put_ports<W: Write>(out: &mut W, chans: &[Chan], ports: &[Port]) -> Result<(), WriteFault>
     ensures { Writes (W.contents out.old) (W.contents out.new) result
         (ports_text chans.now (map external ports.now)) }
 {
@@ -105,8 +107,8 @@ fn sense_word(passive: bool) -> &'static [u8]
     if passive { b"passive" } else { b"active" }
 }
 
-// What a channel carries, and its width where it has one.
-fn carried_parts(chan: Chan) -> (&'static [u8], Option<Value>)
+/// What a channel carries, and its width where it has one.
+pub fn carried_parts(chan: Chan) -> (&'static [u8], Option<Value>)
     ensures { carried_text chan.kind chan.width ≡ result.0.now ++ value_text result.1 }
 {
     match chan.kind {

@@ -69,8 +69,8 @@ fn flat_in(alloc: Global, parts: &Parts, part: &[u8]) -> Result<Flat, Fault>
     }
 }
 
-// The refusal of a net, with the name of the part that it is in, or else the name asked for.
-fn in_part(alloc: Global, parts: &[Part], asked: &[u8], error: ElabError) -> Fault
+/// The refusal of a net as a fault, with the name of the part that it is in, or else the name asked for.
+pub fn in_part(alloc: Global, parts: &[Part], asked: &[u8], error: ElabError) -> Fault
     ensures { (result ≡ Fault.Memory)
         ⊎ ((name : Vec ℕ Global) × (result ≡ Fault.Net error name) × (name.items ≡ name_told parts.now asked.now error)) }
 {

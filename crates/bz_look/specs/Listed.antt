@@ -1,0 +1,27 @@
+-- What the command `list --paths` reads and writes.
+use Rattle.std.specs.Prelude.{ℕ, ◌≤◌, ◌⊎◌, List, length, Option, Result, Ok, Err, IsErrAnd}
+use Rattle.std.specs.Io.KnownBytes.{Appends, Keeps}
+use Rattle.bz_commands.specs.declared.fault.Fault.{Fault}
+use Rattle.bz_commands.specs.declared.fault.Fault.TheVariants.{Write}
+use Rattle.bz_commands.specs.Limits.{input_limit}
+use Rattle.bz_commands.specs.Opening.{RefusesNet}
+use Rattle.bz_commands.specs.Running.{AppendsSome, StopsAtInput}
+use Rattle.bz_look.specs.declared.survey.Survey.{Survey}
+use Rattle.bz_look.specs.Surveys.{IsSurvey}
+use Rattle.bz_look.specs.Listing.{paths_text}
+
+-- The text of a survey went out; where the writer failed, a front of it.
+abbrev pub TellsSurvey : {E : Type 0} → List ℕ → Survey → Option (List ℕ) → Option (List ℕ) → Result E Fault → Type 0
+TellsSurvey part s old new (Ok u) = Appends old new (paths_text s part)
+TellsSurvey part s old new (Err Write) = AppendsSome old new (paths_text s part)
+TellsSurvey part s old new (Err fault) = ⊥
+
+-- The netlist is refused and nothing went out, or the text of its survey did.
+abbrev pub ListsPaths : {E : Type 0} → List ℕ → List ℕ → Option (List ℕ) → Option (List ℕ) → Result E Fault → Type 0
+ListsPaths text part old new answer =
+    IsErrAnd answer (λ fault. RefusesNet text part fault × Keeps old new)
+    ⊎ ((s : Survey) × IsSurvey text part s × TellsSurvey part s old new answer)
+
+-- The command: the input is not taken, or its net is listed.
+abbrev pub Lists : {E : Type 0} → List ℕ → List ℕ → Option (List ℕ) → Option (List ℕ) → Result E Fault → Type 0
+Lists text part old new answer = StopsAtInput old new answer ⊎ ((length text ≤ input_limit) × ListsPaths text part old new answer)

@@ -1,0 +1,20 @@
+//! The net of a part, with the places of all that it has.
+
+ghost use Rattle.std.specs.Prelude.{◌≤◌, length};
+
+use bz_breeze::Parts;
+use bz_elab::Pieces;
+use bz_places::{PartLines, Places};
+
+/// The net of a part, and where everything in it stands.
+#[derive(Drop)]
+pub struct Survey {
+    pub net: Pieces,
+    pub parts: Parts,
+    pub places: Places,
+    /// Of each part, in the order of the text.
+    pub lines: Vec<PartLines>,
+
+    ghost few: { length net.comps.items ≤ 1000000 },
+    ghost few_chans: { length net.chans.items ≤ 2000000 },
+}
