@@ -1,0 +1,43 @@
+//! The command `draw`.
+
+ghost use Rattle.bz_commands.specs.Reading.{ReadsWithin};
+
+use crate::drawing::drawing_of;
+use crate::graph::put_graph;
+use bz_commands::{Fault, read_input};
+use bz_look::survey_of;
+use std::alloc::Global;
+use std::io::{Read, Write};
+
+/// Draws the net of a part of the netlist that the reader gives, with instances within `depth` others as boxes. Nothing is
+/// written where the netlist is refused.
+pub fn draw_cmd<R: Read, W: Write>(
+    alloc: Global,
+    part: &[u8],
+    depth: Option<usize>,
+    input: &mut R,
+    output: &mut W,
+) -> Result<(), Fault>
+    // Whatever comes of it, it reads at most one byte past the limit.
+    ensures bounded { ReadsWithin (R.remaining input.old) (R.remaining input.new) }
+{
+    let text = read_input(alloc, input)?;
+    draw_text(alloc, part, depth, text.as_slice(), output)
+}
+
+// Draws the net of a part of the text.
+fn draw_text<W: Write>(
+    alloc: Global,
+    part: &[u8],
+    depth: Option<usize>,
+    text: &[u8],
+    output: &mut W,
+) -> Result<(), Fault> {
+    let survey = survey_of(alloc, part, text)?;
+    let drawing = drawing_of(alloc, &survey, depth)?;
+    put_graph(alloc, output, part, &survey, &drawing)?;
+    match output.flush() {
+        Ok(()) => Ok(()),
+        Err(_) => Err(Fault::Write),
+    }
+}
