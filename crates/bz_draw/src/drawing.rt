@@ -61,11 +61,7 @@ pub fn drawing_of(
 }
 
 // The components that are drawn themselves, sorted by the copies that they are in.
-fn comps_of(
-    alloc: Global,
-    count: usize,
-    folding: &Folding,
-) -> Result<Vec<(usize, u32)>, AllocError>
+fn comps_of(alloc: Global, count: usize, folding: &Folding) -> Result<Vec<(usize, u32)>, AllocError>
     requires { count ≤ 1000000 }
     ensures { IfOk result (λ v. AreNodes folding.now.boxes.items count (map (λ n. n.1) v.items)) }
 {

@@ -23,11 +23,7 @@ pub struct Folding {
 
 impl Folding {
     /// Boxes at the depth that is asked for, else at the greatest at which not too much is drawn.
-    pub fn of(
-        alloc: Global,
-        places: &Places,
-        depth: Option<usize>,
-    ) -> Result<Folding, AllocError> {
+    pub fn of(alloc: Global, places: &Places, depth: Option<usize>) -> Result<Folding, AllocError> {
         let deepest = deepest(places.instances());
         let depth = match depth {
             Some(depth) => depth.min(deepest),

@@ -53,7 +53,9 @@ fn put_head<W: Write>(
     put_parts(
         out,
         &[
-            Part::Bytes(b"  rankdir=LR; ranksep=0.6; nodesep=0.3; fontname=\"Helvetica\"; fontsize=11; labelloc=b;\n"),
+            Part::Bytes(
+                b"  rankdir=LR; ranksep=0.6; nodesep=0.3; fontname=\"Helvetica\"; fontsize=11; labelloc=b;\n",
+            ),
             Part::Bytes(b"  label=\""),
         ],
     )?;
@@ -65,8 +67,12 @@ fn put_head<W: Write>(
     put_parts(
         out,
         &[
-            Part::Bytes(b"\\nfilled dot: the end that asks; open dot: the end that answers; arrow: where the value goes; /8: its bits\";\n"),
-            Part::Bytes(b"  node [shape=record, fontname=\"Helvetica\", fontsize=10, height=0.3];\n"),
+            Part::Bytes(
+                b"\\nfilled dot: the end that asks; open dot: the end that answers; arrow: where the value goes; /8: its bits\";\n",
+            ),
+            Part::Bytes(
+                b"  node [shape=record, fontname=\"Helvetica\", fontsize=10, height=0.3];\n",
+            ),
             Part::Bytes(b"  edge [fontname=\"Helvetica\", fontsize=9, dir=both, arrowsize=0.6];\n"),
         ],
     )
@@ -118,10 +124,7 @@ fn put_width<W: Write>(out: &mut W, chan: Chan) -> Result<(), WriteFault> {
         ChanKind::Sync => Ok(()),
         ChanKind::Push | ChanKind::Pull => put_parts(
             out,
-            &[
-                Part::Bytes(b" /"),
-                Part::Number(Value::from(chan.width)),
-            ],
+            &[Part::Bytes(b" /"), Part::Number(Value::from(chan.width))],
         ),
     }
 }
@@ -130,8 +133,10 @@ fn put_width<W: Write>(out: &mut W, chan: Chan) -> Result<(), WriteFault> {
 fn shape_of(kind: ChanKind) -> &'static [u8] {
     match kind {
         ChanKind::Sync => b"\", arrowtail=dot, arrowhead=odot];\n",
-        ChanKind::Push => b"\", arrowtail=dot, arrowhead=odotnormal, color=\"#1a56a0\", fontcolor=\"#1a56a0\", penwidth=2];\n",
-        ChanKind::Pull => b"\", arrowtail=dotnormal, arrowhead=odot, color=\"#b04a00\", fontcolor=\"#b04a00\", penwidth=2];\n",
+        ChanKind::Push =>
+            b"\", arrowtail=dot, arrowhead=odotnormal, color=\"#1a56a0\", fontcolor=\"#1a56a0\", penwidth=2];\n",
+        ChanKind::Pull =>
+            b"\", arrowtail=dotnormal, arrowhead=odot, color=\"#b04a00\", fontcolor=\"#b04a00\", penwidth=2];\n",
     }
 }
 
@@ -162,10 +167,7 @@ fn comp_at(s: &Survey, comp: u32) -> Option<&FlatComp> {
 
 fn put_tip<W: Write>(out: &mut W, s: &Survey, tip: Tip) -> Result<(), WriteFault> {
     match tip {
-        Tip::Port(port) => put_parts(
-            out,
-            &[Part::Bytes(b"p"), Part::Number(Value::from(port))],
-        ),
+        Tip::Port(port) => put_parts(out, &[Part::Bytes(b"p"), Part::Number(Value::from(port))]),
         Tip::Folded(instance) => match s.places.instances().get(instance) {
             Some(instance) => put_steps(out, b"i", b"_", instance),
             None => Ok(()),
@@ -185,9 +187,6 @@ fn put_cell<W: Write>(out: &mut W, s: &Survey, comp: u32, port: u32) -> Result<(
     )?;
     match comp_at(s, comp) {
         Some(wide) if is_wide(wide) => put_parts(out, &[Part::Bytes(row_name(wide, port))]),
-        _ => put_parts(
-            out,
-            &[Part::Bytes(b"p"), Part::Number(Value::from(port))],
-        ),
+        _ => put_parts(out, &[Part::Bytes(b"p"), Part::Number(Value::from(port))]),
     }
 }

@@ -93,15 +93,9 @@ fn detail(
                 Source::Given(value) => low_bits(value, right.width),
                 Source::Kept(_) => 0,
             };
-            put_parts(
-                &mut text,
-                &[Part::Name(word), Part::Value(Some(constant))],
-            )?;
+            put_parts(&mut text, &[Part::Name(word), Part::Value(Some(constant))])?;
         }
-        Kind::Slice(low) => put_parts(
-            &mut text,
-            &[Part::Bytes(b"from bit "), Part::Number(*low)],
-        )?,
+        Kind::Slice(low) => put_parts(&mut text, &[Part::Bytes(b"from bit "), Part::Number(*low)])?,
         Kind::Constant(value) => put_parts(
             &mut text,
             &[Part::Number(low_bits(*value, out_width(chans, comp)))],
@@ -137,8 +131,5 @@ pub(crate) fn written_at<'p>(parts: &'p [PartRecord], place: &Place) -> Option<&
     if place.position == 0 {
         return None;
     }
-    parts
-        .get(place.part)?
-        .components
-        .get(place.position - 1)
+    parts.get(place.part)?.components.get(place.position - 1)
 }

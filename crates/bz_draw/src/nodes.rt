@@ -101,10 +101,7 @@ fn put_cluster<W: Write>(
     put_pad(out, level)?;
     put_parts(out, &[Part::Bytes(b"  label=\"")])?;
     put_title(alloc, out, s, instance)?;
-    put_parts(
-        out,
-        &[Part::Bytes(b"\"; labelloc=t; color=gray60;\n")],
-    )
+    put_parts(out, &[Part::Bytes(b"\"; labelloc=t; color=gray60;\n")])
 }
 
 fn put_box<W: Write>(
@@ -165,10 +162,7 @@ pub(crate) fn put_steps<W: Write>(
 ) -> Result<(), WriteFault> {
     put_parts(out, &[Part::Bytes(before)])?;
     for step in &instance.path {
-        put_parts(
-            out,
-            &[Part::Number(*step as Value), Part::Bytes(between)],
-        )?;
+        put_parts(out, &[Part::Number(*step as Value), Part::Bytes(between)])?;
     }
     let last = [Part::Bytes(b""), Part::Number(instance.position as Value)];
     put_parts(out, &last)

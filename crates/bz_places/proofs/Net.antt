@@ -22,8 +22,7 @@ module _ {B : Type 0} (parts : List Part) (pick : List Find → List B) (own : n
     (of_told : (at : Spot) (xs : List Find) → pick (told at xs) ≡ pick xs)
     (of_copy : (n : ℕ) (part : Part) (path : List ℕ) (i : ℕ) (up : List ℕ) → slice_get parts n ≡ Some part → reverse path ≡ i ∷ up → pick (inner_channels parts path n) ≡ own (net.copy (i ∷ up) part))
     (of_leaf : (n : ℕ) (part : Part) (path : List ℕ) (k : ℕ) (c : Component) → slice_get parts n ≡ Some part → slice_get part.components.items k ≡ Some c
-        → pick (component (spot n path (suc k)) ∷ []) ≡ own (net.leaf (reverse path) c)) where
-
+    → pick (component (spot n path (suc k)) ∷ []) ≡ own (net.leaf (reverse path) c)) where
   -- a walk below copies of this depth does
   abbrev Agrees : ℕ → Type 0
   Agrees d = (n : ℕ) (part : Part) (path : List ℕ) (i : ℕ) (up : List ℕ) → slice_get parts n ≡ Some part → reverse path ≡ i ∷ up → pick (found_in parts d path n) ≡ flat_map own (net.walk parts d (i ∷ up) part)
@@ -147,11 +146,10 @@ comps_leaf : (parts : List Part) (n : ℕ) (part : Part) (path : List ℕ) (k : 
     → comps_of parts (component (spot n path (suc k)) ∷ []) ≡ own_leaf (net.leaf (reverse path) c)
 comps_leaf parts n part path k c at here =
     let is : leaf_at parts (spot n path (suc k)) ≡ Some (net.leaf (reverse path) c) =
-        ap (λ o. option_map (net.leaf (reverse path)) (option_and_then (λ p. net.component p (suc k)) o)) at ∙ ap (option_map (net.leaf (reverse path))) here in
+    ap (λ o. option_map (net.leaf (reverse path)) (option_and_then (λ p. net.component p (suc k)) o)) at ∙ ap (option_map (net.leaf (reverse path))) here in
     ap (λ o. o ∷ []) is
 
 -- ---- the net
-
 
 pub finds_net : (parts : List Part) (n : ℕ) (top : Part) → slice_get parts n ≡ Some top → FindsNet parts top (located (found parts n))
 finds_net parts n top at = record {
