@@ -5,6 +5,8 @@ ghost use Rattle.std.specs.Prelude.{◌<◌, ◌≤◌};
 use crate::calls::{run, serve_host};
 use crate::nets::net_of;
 use bz_commands::{Fault, check_cmd, list_cmd, run_cmd, run_in_pieces, write_out};
+use bz_draw::draw_cmd;
+use bz_look::{list_paths_cmd, parts_cmd};
 use bz_model::{Cmd, NetError};
 use bz_net::{Event, Net, RunEnd};
 use bz_session::command;
@@ -113,6 +115,35 @@ pub fn list(alloc: Global, netlist: &[u8], part: &str) -> Result<Outcome, Fail> 
     let mut input = netlist;
     let mut text = Vec::new(alloc);
     let result = list_cmd(alloc, part.as_bytes(), &mut input, &mut text);
+    gathered(alloc, text, result)
+}
+
+/// Lists a part of the netlist, with where everything in it stands.
+pub fn list_paths(alloc: Global, netlist: &[u8], part: &str) -> Result<Outcome, Fail> {
+    let mut input = netlist;
+    let mut text = Vec::new(alloc);
+    let result = list_paths_cmd(alloc, part.as_bytes(), &mut input, &mut text);
+    gathered(alloc, text, result)
+}
+
+/// Draws a part of the netlist, with instances within `depth` others as boxes.
+pub fn draw(
+    alloc: Global,
+    netlist: &[u8],
+    part: &str,
+    depth: Option<usize>,
+) -> Result<Outcome, Fail> {
+    let mut input = netlist;
+    let mut text = Vec::new(alloc);
+    let result = draw_cmd(alloc, part.as_bytes(), depth, &mut input, &mut text);
+    gathered(alloc, text, result)
+}
+
+/// Lists the parts of the netlist.
+pub fn parts(alloc: Global, netlist: &[u8]) -> Result<Outcome, Fail> {
+    let mut input = netlist;
+    let mut text = Vec::new(alloc);
+    let result = parts_cmd(alloc, &mut input, &mut text);
     gathered(alloc, text, result)
 }
 
