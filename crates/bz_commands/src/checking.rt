@@ -63,8 +63,8 @@ fn is_run(verdict: Verdict) -> bool
     matches!(verdict, Verdict::Run)
 }
 
-// The netlist and the trace of a text: the first line that is exactly that of a trace begins it.
-fn split_trace(text: &[u8]) -> (&[u8], &[u8])
+/// The netlist and the trace of a text: the first line that is exactly that of a trace begins it.
+pub fn split_trace(text: &[u8]) -> (&[u8], &[u8])
     ensures { Splits text.now result.0.now result.1.now }
 {
     for place in 0..text.len() {

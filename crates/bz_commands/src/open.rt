@@ -29,7 +29,7 @@ pub fn open_net(alloc: Global, part: &[u8], limit: u32, text: &[u8]) -> Result<N
 }
 
 /// The flat net of a part of the text.
-pub(crate) fn flat_of(alloc: Global, part: &[u8], text: &[u8]) -> Result<Flat, Fault>
+pub fn flat_of(alloc: Global, part: &[u8], text: &[u8]) -> Result<Flat, Fault>
     ensures ok { IfOk result (λ flat. Denotes text.now part.now flat.wiring) }
     ensures err { IfErr result (RefusesNet text.now part.now) }
 {

@@ -1,0 +1,75 @@
+//! Which lines of a trace are asked for.
+
+ghost use Rattle.std.specs.Prelude.{◌<◌, ◌^◌, IfOk, IfErr};
+ghost use Rattle.bz_chart.specs.Pieces.{IsNoPiece, IsPiece};
+
+use bz_lifelines::Piece;
+use std::fmt;
+
+/// The most lines that a chart holds.
+const MOST_ROWS: usize = 2000;
+
+/// The lines that are asked for, counted from 1: from the second one on where no first one is named, since the first line of a
+/// trace names its version and has no row; to the end where no last one is.
+#[derive(Clone, Copy, Debug, PartialEq, Eq)]
+pub struct LineRange {
+    pub from: Option<usize>,
+    pub to: Option<usize>,
+}
+
+/// Why the lines that are asked for are not drawn.
+#[derive(Clone, Copy, Debug, PartialEq, Eq)]
+pub enum PieceFault {
+    /// The first line is behind the last.
+    Above { from: usize, to: usize },
+    /// The last line isn't there.
+    NoLast { to: usize, lines: usize },
+    /// The first line isn't there.
+    NoFirst { from: usize, lines: usize },
+    /// There are more lines than a chart holds, in a trace of so many.
+    TooLong { lines: usize },
+}
+
+impl fmt::Display for PieceFault {
+    fn fmt<W: fmt::Write>(&self, f: &mut fmt::Formatter<W>) -> fmt::Result {
+        match self {
+            PieceFault::Above { from, to } => write!(f, "--from {from} is above --to {to}"),
+            PieceFault::NoLast { to, lines } => {
+                write!(f, "--to {to}: the trace has {lines} lines")
+            }
+            PieceFault::NoFirst { from, lines } => {
+                write!(f, "--from {from}: the trace has {lines} lines")
+            }
+            PieceFault::TooLong { lines } => write!(
+                f,
+                "the trace has {lines} lines, and a chart holds 2000: give --from and --to"
+            ),
+        }
+    }
+}
+
+/// The lines of this range of a trace that has so many lines.
+pub(crate) fn piece_of(range: LineRange, lines: usize) -> Result<Piece, PieceFault>
+    requires { lines < 2 ^ 62 }
+    ensures ok { IfOk result (λ piece. IsPiece range lines piece.first piece.rows) }
+    ensures err { IfErr result (λ fault. IsNoPiece range lines fault) }
+{
+    let first = range.from.unwrap_or(2).max(2);
+    let last = match range.to {
+        Some(to) if to < first => return Err(PieceFault::Above { from: first, to }),
+        Some(to) if to > lines => return Err(PieceFault::NoLast { to, lines }),
+        Some(to) => to,
+        None if range.from.is_some() && first > lines => {
+            return Err(PieceFault::NoFirst { from: first, lines });
+        }
+        None => lines,
+    };
+    let rows = (last + 1).saturating_sub(first);
+    if rows > MOST_ROWS {
+        return Err(PieceFault::TooLong { lines });
+    }
+    Ok(Piece {
+        first,
+        rows: rows as u32,
+    })
+}

@@ -1,0 +1,86 @@
+//! The lanes beside a lifeline, in which requests and replies wait until they come in.
+
+ghost use Rattle.std.specs.Prelude.{◌≤◌, ◌<◌, ◌+◌, ◌-◌, ◌^◌, IfSome};
+
+/// The greatest lane, which those share that find no other one free.
+pub(crate) const LAST_LANE: u32 = 5;
+
+/// A side of a lifeline, or the way to it.
+#[derive(Clone, Copy, Debug, PartialEq, Eq)]
+pub(crate) enum Side {
+    Left,
+    Right,
+}
+
+impl Side {
+    pub fn other(self) -> Side {
+        match self {
+            Side::Left => Side::Right,
+            Side::Right => Side::Left,
+        }
+    }
+
+    /// So far from a place, on this side.
+    pub fn from(self, x: u64, by: u64) -> u64
+        requires left { by ≤ x }
+        requires right { x + by < 2 ^ 64 }
+        ensures left { x - by ≤ result }
+        ensures right { result ≤ x + by }
+    {
+        match self {
+            Side::Left => x - by,
+            Side::Right => x + by,
+        }
+    }
+}
+
+/// How many are in each lane of one side.
+#[derive(Clone, Copy, Debug, PartialEq, Eq)]
+pub(crate) struct Lanes {
+    counts: [u32; 6],
+}
+
+impl Lanes {
+    pub const FREE: Lanes = Lanes { counts: [0; 6] };
+
+    /// Takes the least lane that is free, else the last one.
+    pub fn take(&mut self) -> u32
+        ensures { result ≤ 5 }
+    {
+        let lane = self.least_free();
+        let count = &mut self.counts[lane as usize];
+        *count = count.saturating_add(1);
+        lane
+    }
+
+    fn least_free(&self) -> u32
+        ensures { result ≤ 5 }
+    {
+        for lane in 0..LAST_LANE {
+            if self.counts[lane as usize] == 0 {
+                return lane;
+            }
+        }
+        LAST_LANE
+    }
+
+    pub fn leave(&mut self, lane: u32)
+        requires { lane ≤ 5 }
+    {
+        let count = &mut self.counts[lane as usize];
+        *count = count.saturating_sub(1);
+    }
+
+    /// The greatest lane in use.
+    pub fn greatest(&self) -> Option<u32>
+        ensures { IfSome result (λ lane. lane ≤ 5) }
+    {
+        let mut greatest = None;
+        for lane in 0..=LAST_LANE {
+            if self.counts[lane as usize] > 0 {
+                greatest = Some(lane);
+            }
+        }
+        greatest
+    }
+}
