@@ -1,6 +1,7 @@
 //! The program `breezesim`.
 #![tactic(auto)]
 
+use bz_chart::{ChartFault, LineRange, chart_cmd};
 use bz_cli::{Fault, PoolOptions, check_cmd, list_cmd, pool_cmd, run_cmd};
 use bz_session::{End, read_name};
 use clap::error::ErrorKind;
@@ -92,6 +93,22 @@ fn fuel_arg<'a>(alloc: Global) -> Arg<'a> {
         .default_value("1000000")
 }
 
+fn from_arg<'a>(alloc: Global) -> Arg<'a> {
+    Arg::new(alloc, "from")
+        .long("from")
+        .value_name("L")
+        .help("The first line of the trace that is drawn; line 1 names its version")
+        .value_parser(value_parser!(u64))
+}
+
+fn to_arg<'a>(alloc: Global) -> Arg<'a> {
+    Arg::new(alloc, "to")
+        .long("to")
+        .value_name("L")
+        .help("The last line that is drawn")
+        .value_parser(value_parser!(u64))
+}
+
 fn sessions_arg<'a>(alloc: Global) -> Arg<'a> {
     Arg::new(alloc, "words")
         .value_name("WORDS")
@@ -110,14 +127,17 @@ fn words_arg<'a>(alloc: Global) -> Arg<'a> {
         .action(ArgAction::Append)
 }
 
-fn command_line<'a>(alloc: Global) -> Result<Command<'a>, AllocError> {
-    let run = Command::new(alloc, "run")
+fn run_command<'a>(alloc: Global) -> Result<Command<'a>, AllocError> {
+    Command::new(alloc, "run")
         .about("Plays the words on a part of the netlist on standard input, and writes the trace")
         .arg(part_arg(alloc)?)?
         .arg(part_form_arg(alloc)?)?
         .arg(journal_arg(alloc))?
-        .arg(words_arg(alloc))?;
-    let pool = Command::new(alloc, "pool")
+        .arg(words_arg(alloc))
+}
+
+fn pool_command<'a>(alloc: Global) -> Result<Command<'a>, AllocError> {
+    Command::new(alloc, "pool")
         .about(
             "Plays the words of sessions beside workers, each on a thread of its own, and writes the trace",
         )
@@ -126,26 +146,47 @@ fn command_line<'a>(alloc: Global) -> Result<Command<'a>, AllocError> {
         .arg(workers_arg(alloc))?
         .arg(fuel_arg(alloc))?
         .arg(journal_arg(alloc))?
-        .arg(sessions_arg(alloc))?;
-    let list = Command::new(alloc, "list")
+        .arg(sessions_arg(alloc))
+}
+
+fn list_command<'a>(alloc: Global) -> Result<Command<'a>, AllocError> {
+    Command::new(alloc, "list")
         .about("Lists the ports and components of a part's net, of the netlist on standard input")
         .arg(part_arg(alloc)?)?
-        .arg(part_form_arg(alloc)?)?;
-    let check = Command::new(alloc, "check")
+        .arg(part_form_arg(alloc)?)
+}
+
+fn check_command<'a>(alloc: Global) -> Result<Command<'a>, AllocError> {
+    Command::new(alloc, "check")
         .about(
             "Tells whether the trace behind the netlist on standard input is that of a run of a part's net",
         )
         .arg(part_arg(alloc)?)?
-        .arg(part_form_arg(alloc)?)?;
+        .arg(part_form_arg(alloc)?)
+}
+
+fn chart_command<'a>(alloc: Global) -> Result<Command<'a>, AllocError> {
+    Command::new(alloc, "chart")
+        .about(
+            "Draws the trace behind the netlist on standard input, where it is that of a run of a part's net, as SVG",
+        )
+        .arg(part_arg(alloc)?)?
+        .arg(part_form_arg(alloc)?)?
+        .arg(from_arg(alloc))?
+        .arg(to_arg(alloc))
+}
+
+fn command_line<'a>(alloc: Global) -> Result<Command<'a>, AllocError> {
     Command::new(alloc, "breezesim")
         .about(
             "A simulator of Breeze handshake circuits, proved in what it plays, lists and refuses",
         )
         .subcommand_required(true)
-        .subcommand(list)?
-        .subcommand(check)?
-        .subcommand(pool)?
-        .subcommand(run)
+        .subcommand(list_command(alloc)?)?
+        .subcommand(chart_command(alloc)?)?
+        .subcommand(check_command(alloc)?)?
+        .subcommand(pool_command(alloc)?)?
+        .subcommand(run_command(alloc)?)
 }
 
 // The name of the part that is asked for, or the status with which the program ends.
@@ -277,6 +318,29 @@ fn check<'a>(rt: &HostRuntime, matches: &ArgMatches<'a>) -> ExitCode {
     }
 }
 
+fn chart<'a>(rt: &HostRuntime, matches: &ArgMatches<'a>) -> ExitCode {
+    let alloc = rt.alloc();
+    let part = match part_name(rt, matches) {
+        Ok(part) => part,
+        Err(status) => return status,
+    };
+    let lines = LineRange {
+        from: matches.get_one::<u64>("from").map(|line| line as usize),
+        to: matches.get_one::<u64>("to").map(|line| line as usize),
+    };
+    let Ok(mut output) = BufWriter::with_capacity(alloc, BUFFER_SIZE, io::writer(rt)) else {
+        return refuse(rt, &Fault::Memory);
+    };
+    match chart_cmd(alloc, part.as_slice(), lines, &mut rt.reader(), &mut output) {
+        Ok(()) => ExitCode::SUCCESS,
+        Err(ChartFault::Command(fault)) => refuse(rt, &fault),
+        Err(fault) => {
+            let _ = eprintln!(rt; "error: {fault}");
+            ExitCode::from(fault.status())
+        }
+    }
+}
+
 // The exit status of a command.
 fn ends(rt: &HostRuntime, answer: Result<(), Fault>) -> ExitCode {
     match answer {
@@ -335,6 +399,7 @@ fn main(rt: HostRuntime) -> ExitCode {
     match command.try_get_matches_from(words.as_slice()) {
         Err(error) => explain(&rt, &error),
         Ok(matches) => match matches.subcommand() {
+            Some(("chart", matches)) => chart(&rt, matches),
             Some(("check", matches)) => check(&rt, matches),
             Some(("list", matches)) => list(&rt, matches),
             Some(("pool", matches)) => pool(&rt, &rt, matches),
