@@ -1,6 +1,12 @@
 //! The program `breezesim`.
 #![tactic(auto)]
 
+mod help;
+
+use crate::help::{
+    CHART_USAGE, CHECK_STATUSES, CHECK_USAGE, LIST_USAGE, POOL_USAGE, POOL_WORDS, RUN_USAGE,
+    RUN_WORDS, VERSION,
+};
 use bz_chart::{ChartFault, LineRange, chart_cmd};
 use bz_cli::{Fault, PoolOptions, check_cmd, list_cmd, pool_cmd, run_cmd};
 use bz_session::{End, read_name};
@@ -49,6 +55,7 @@ enum ArgsFault {
 fn part_arg<'a>(alloc: Global) -> Result<Arg<'a>, AllocError> {
     Arg::new(alloc, "part")
         .long("part")
+        .short('p')
         .value_name("P")
         .help("The part whose net is opened")
         .allow_hyphen_values(true)
@@ -130,6 +137,8 @@ fn words_arg<'a>(alloc: Global) -> Arg<'a> {
 fn run_command<'a>(alloc: Global) -> Result<Command<'a>, AllocError> {
     Command::new(alloc, "run")
         .about("Plays the words on a part of the netlist on standard input, and writes the trace")
+        .override_usage(RUN_USAGE)
+        .after_help(RUN_WORDS)
         .arg(part_arg(alloc)?)?
         .arg(part_form_arg(alloc)?)?
         .arg(journal_arg(alloc))?
@@ -141,6 +150,8 @@ fn pool_command<'a>(alloc: Global) -> Result<Command<'a>, AllocError> {
         .about(
             "Plays the words of sessions beside workers, each on a thread of its own, and writes the trace",
         )
+        .override_usage(POOL_USAGE)
+        .after_help(POOL_WORDS)
         .arg(part_arg(alloc)?)?
         .arg(part_form_arg(alloc)?)?
         .arg(workers_arg(alloc))?
@@ -152,6 +163,7 @@ fn pool_command<'a>(alloc: Global) -> Result<Command<'a>, AllocError> {
 fn list_command<'a>(alloc: Global) -> Result<Command<'a>, AllocError> {
     Command::new(alloc, "list")
         .about("Lists the ports and components of a part's net, of the netlist on standard input")
+        .override_usage(LIST_USAGE)
         .arg(part_arg(alloc)?)?
         .arg(part_form_arg(alloc)?)
 }
@@ -161,6 +173,8 @@ fn check_command<'a>(alloc: Global) -> Result<Command<'a>, AllocError> {
         .about(
             "Tells whether the trace behind the netlist on standard input is that of a run of a part's net",
         )
+        .override_usage(CHECK_USAGE)
+        .after_help(CHECK_STATUSES)
         .arg(part_arg(alloc)?)?
         .arg(part_form_arg(alloc)?)
 }
@@ -170,6 +184,7 @@ fn chart_command<'a>(alloc: Global) -> Result<Command<'a>, AllocError> {
         .about(
             "Draws the trace behind the netlist on standard input, where it is that of a run of a part's net, as SVG",
         )
+        .override_usage(CHART_USAGE)
         .arg(part_arg(alloc)?)?
         .arg(part_form_arg(alloc)?)?
         .arg(from_arg(alloc))?
@@ -181,6 +196,7 @@ fn command_line<'a>(alloc: Global) -> Result<Command<'a>, AllocError> {
         .about(
             "A simulator of Breeze handshake circuits, proved in what it plays, lists and refuses",
         )
+        .version(VERSION)
         .subcommand_required(true)
         .subcommand(list_command(alloc)?)?
         .subcommand(chart_command(alloc)?)?
