@@ -1,8 +1,9 @@
 //! Pools: sessions beside workers, from bytes to bytes.
 
+use crate::pooled::{Pooled, pool};
 use bz_cli::PoolOptions;
 use bz_playing::netlists::{BUFFER, TWO};
-use bz_playing::{Pooled, check, pool};
+use bz_playing::check;
 use bz_session::End;
 use std::alloc::Global;
 use std::process::Abort;

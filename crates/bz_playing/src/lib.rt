@@ -6,7 +6,6 @@ pub mod calls;
 pub mod netlists;
 mod nets;
 mod playing;
-mod pools;
 mod script;
 mod spoiling;
 
@@ -14,6 +13,5 @@ pub use nets::{flat_of, net_of, play_of};
 pub use playing::{
     Outcome, check, draw, list, list_paths, parts, play, play_in_pieces, play_with_journal,
 };
-pub use pools::{Pooled, pool};
 pub use script::Script;
 pub use spoiling::{Spoilt, told, told_spoilt};

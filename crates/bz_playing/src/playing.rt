@@ -9,7 +9,7 @@ use bz_draw::draw_cmd;
 use bz_look::{list_paths_cmd, parts_cmd};
 use bz_model::{Cmd, NetError};
 use bz_net::{Event, Net, RunEnd};
-use bz_session::command;
+use bz_words::command;
 use std::alloc::Global;
 use std::test::Fail;
 
