@@ -1,10 +1,16 @@
-//! Memory that is used up once the net is open.
+//! Memory that is used up once the net is open, or before it.
 
+use crate::pooled::{Pooled, pool};
+use bz_cli::PoolOptions;
 use bz_commands::run_cmd;
+use bz_playing::check;
+use bz_playing::netlists::TWO;
 use std::alloc::{AllocError, Global};
 use std::io;
 use std::io::Write;
+use std::sync::Wait;
 use std::test::Fail;
+use std::thread::Threads;
 
 /// A loop round a Continue, which never rests.
 const SPIN: &str = "(breeze-part \"spin\" (ports (sync-port \"a\" passive)) (channels (sync) (sync))
@@ -80,5 +86,85 @@ fn plays_without_memory(rt: HostRuntime) -> Result<(), Fail> {
     assert!(rt; output.is_right);
     assert_eq!(rt; output.place, 33_500_041);
     assert_eq!(rt; output.last, b'\n');
+    Ok(())
+}
+
+/// Two buffers side by side, with a session for each.
+const BOTH: [&str; 10] = [
+    "offer:activate",
+    "accept:i1",
+    "answer:i1:5",
+    "accept:o1",
+    "answer:o1",
+    "/",
+    "accept:i2",
+    "answer:i2:7",
+    "accept:o2",
+    "answer:o2",
+];
+
+// A pool that finds so much memory and no more.
+fn pool_with<R: Threads + Wait + Sync>(rt: &R, alloc: Global, room: usize) -> Result<Pooled, Fail> {
+    let options = PoolOptions {
+        workers: 3,
+        fuel: 1000,
+        journal: 1000,
+    };
+    let left = Vec::<u8>::with_capacity(alloc, room)?;
+    let blocks = take_all(alloc)?;
+    drop(left);
+    let played = pool(rt, alloc, TWO, "two", options, &BOTH);
+    drop(blocks);
+    played
+}
+
+// Whether the pool was played; where it was, all agrees, and else it told what it lacked.
+fn is_played(alloc: Global, played: &Pooled) -> Result<bool, Fail> {
+    match &played.answer {
+        Ok(_) => {
+            let verdict = check(alloc, TWO, "two", played.text.as_slice())?;
+            if !verdict.text.starts_with(b"run: 63 fired, 9 host, ") {
+                return Err(Fail::from("no run of all"));
+            }
+            Ok(true)
+        }
+        Err(fault) => {
+            let line = format!(in alloc; "{fault}")?;
+            if fault.status() != 3
+                || (line.as_str() != "F3 Memory" && line.as_str() != "P3 NoThread")
+            {
+                return Err(Fail::from("another fault"));
+            }
+            if !played.text.is_empty() {
+                let verdict = check(alloc, TWO, "two", played.text.as_slice())?;
+                if !verdict.text.starts_with(b"run: ") {
+                    return Err(Fail::from("no run"));
+                }
+            }
+            Ok(false)
+        }
+    }
+}
+
+// A pool of two sessions and three workers with ever more memory: it lacks some, and then plays to the end.
+#[test]
+fn pools_with_little_memory(rt: HostRuntime) -> Result<(), Fail> {
+    let alloc = rt.alloc();
+    let mut refused = 0;
+    let mut last = false;
+    for step in 0..160 {
+        let room = if step < 80 {
+            1024 * step
+        } else {
+            1_048_576 * (step - 80)
+        };
+        let played = pool_with(&rt, alloc, room)?;
+        last = is_played(alloc, &played)?;
+        if !last {
+            refused += 1;
+        }
+    }
+    assert!(rt; last);
+    assert!(rt; refused > 9, "{refused}");
     Ok(())
 }

@@ -2,8 +2,8 @@
 
 use crate::pooled::{Pooled, pool};
 use bz_cli::PoolOptions;
-use bz_playing::netlists::{BUFFER, TWO};
 use bz_playing::check;
+use bz_playing::netlists::{BUFFER, TWO};
 use bz_session::End;
 use std::alloc::Global;
 use std::process::Abort;
