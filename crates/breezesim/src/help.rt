@@ -8,7 +8,11 @@ pub(crate) const RUN_USAGE: &str = "breezesim run [--journal N] --part P [WORDS]
 pub(crate) const POOL_USAGE: &str =
     "breezesim pool [--workers N] [--fuel N] [--journal N] --part P [WORDS]... < FILE";
 
-pub(crate) const LIST_USAGE: &str = "breezesim list --part P < FILE";
+pub(crate) const LIST_USAGE: &str = "breezesim list [--paths] --part P < FILE";
+
+pub(crate) const PARTS_USAGE: &str = "breezesim parts < FILE";
+
+pub(crate) const DRAW_USAGE: &str = "breezesim draw [--depth N] --part P < FILE";
 
 pub(crate) const CHECK_USAGE: &str = "breezesim check --part P < FILE";
 

@@ -1,33 +1,29 @@
 //! The program `breezesim`.
 #![tactic(auto)]
 
+mod command_line;
 mod help;
+mod word_file;
 
-use crate::help::{
-    CHART_USAGE, CHECK_STATUSES, CHECK_USAGE, LIST_USAGE, POOL_USAGE, POOL_WORDS, RUN_USAGE,
-    RUN_WORDS, VERSION,
-};
+use crate::command_line::{MAX_JOURNAL, MAX_WORKERS, command_line};
+use crate::word_file::split_words;
 use bz_chart::{ChartFault, LineRange, chart_cmd};
-use bz_cli::{Fault, PoolOptions, check_cmd, list_cmd, pool_cmd, run_cmd};
+use bz_cli::{Fault, PoolOptions, check_cmd, list_cmd, pool_cmd, read_input, run_cmd};
+use bz_draw::draw_cmd;
+use bz_look::{list_paths_cmd, parts_cmd};
 use bz_session::{End, read_name};
 use clap::error::ErrorKind;
-use clap::{Arg, ArgAction, ArgMatches, Command, Error, value_parser};
-use std::alloc::{AllocError, Global};
-use std::io;
-use std::io::BufWriter;
+use clap::{ArgMatches, Error};
+use std::alloc::Global;
+use std::io::{BufWriter, Read};
 use std::process::ExitCode;
 use std::rt::Env;
 use std::sync::Wait;
 use std::thread::Threads;
-
-/// The longest journal that may be asked for, in entries.
-const MAX_JOURNAL: u32 = 16_777_216;
+use std::{fs, io};
 
 /// The journal where none is asked for.
 const JOURNAL: u32 = 1_000_000;
-
-/// The most workers of a pool.
-const MAX_WORKERS: u8 = 8;
 
 /// The workers where no number is asked for.
 const WORKERS: u8 = 2;
@@ -52,159 +48,6 @@ enum ArgsFault {
     Memory,
 }
 
-fn part_arg<'a>(alloc: Global) -> Result<Arg<'a>, AllocError> {
-    Arg::new(alloc, "part")
-        .long("part")
-        .short('p')
-        .value_name("P")
-        .help("The part whose net is opened")
-        .allow_hyphen_values(true)
-        .action(ArgAction::Set)
-        .required_unless_present("part-form")
-}
-
-fn part_form_arg<'a>(alloc: Global) -> Result<Arg<'a>, AllocError> {
-    Arg::new(alloc, "part-form")
-        .long("part-form")
-        .value_name("F")
-        .help("The same part, its name in name form: %ff is the byte 255")
-        .allow_hyphen_values(true)
-        .action(ArgAction::Set)
-        .conflicts_with("part")
-}
-
-fn journal_arg<'a>(alloc: Global) -> Arg<'a> {
-    Arg::new(alloc, "journal")
-        .long("journal")
-        .value_name("N")
-        .help("The most entries of the journal")
-        .value_parser(value_parser!(u32).range(1..=i64::from(MAX_JOURNAL)))
-        .default_value("1000000")
-}
-
-fn workers_arg<'a>(alloc: Global) -> Arg<'a> {
-    Arg::new(alloc, "workers")
-        .long("workers")
-        .value_name("N")
-        .help("How many workers fire, from 1 to 8")
-        .value_parser(value_parser!(u8).range(1..=i64::from(MAX_WORKERS)))
-        .default_value("2")
-}
-
-fn fuel_arg<'a>(alloc: Global) -> Arg<'a> {
-    Arg::new(alloc, "fuel")
-        .long("fuel")
-        .value_name("N")
-        .help("The most firings of all workers together")
-        .value_parser(value_parser!(u64))
-        .default_value("1000000")
-}
-
-fn from_arg<'a>(alloc: Global) -> Arg<'a> {
-    Arg::new(alloc, "from")
-        .long("from")
-        .value_name("L")
-        .help("The first line of the trace that is drawn; line 1 names its version")
-        .value_parser(value_parser!(u64))
-}
-
-fn to_arg<'a>(alloc: Global) -> Arg<'a> {
-    Arg::new(alloc, "to")
-        .long("to")
-        .value_name("L")
-        .help("The last line that is drawn")
-        .value_parser(value_parser!(u64))
-}
-
-fn sessions_arg<'a>(alloc: Global) -> Arg<'a> {
-    Arg::new(alloc, "words")
-        .value_name("WORDS")
-        .help(
-            "offer:P[:V], collect:P, accept:P, answer:P[:V], watch:P; a / begins the next session",
-        )
-        .num_args(0..)
-        .action(ArgAction::Append)
-}
-
-fn words_arg<'a>(alloc: Global) -> Arg<'a> {
-    Arg::new(alloc, "words")
-        .value_name("WORDS")
-        .help("offer:P[:V], collect:P, accept:P, answer:P[:V], watch:P, run:N")
-        .num_args(0..)
-        .action(ArgAction::Append)
-}
-
-fn run_command<'a>(alloc: Global) -> Result<Command<'a>, AllocError> {
-    Command::new(alloc, "run")
-        .about("Plays the words on a part of the netlist on standard input, and writes the trace")
-        .override_usage(RUN_USAGE)
-        .after_help(RUN_WORDS)
-        .arg(part_arg(alloc)?)?
-        .arg(part_form_arg(alloc)?)?
-        .arg(journal_arg(alloc))?
-        .arg(words_arg(alloc))
-}
-
-fn pool_command<'a>(alloc: Global) -> Result<Command<'a>, AllocError> {
-    Command::new(alloc, "pool")
-        .about(
-            "Plays the words of sessions beside workers, each on a thread of its own, and writes the trace",
-        )
-        .override_usage(POOL_USAGE)
-        .after_help(POOL_WORDS)
-        .arg(part_arg(alloc)?)?
-        .arg(part_form_arg(alloc)?)?
-        .arg(workers_arg(alloc))?
-        .arg(fuel_arg(alloc))?
-        .arg(journal_arg(alloc))?
-        .arg(sessions_arg(alloc))
-}
-
-fn list_command<'a>(alloc: Global) -> Result<Command<'a>, AllocError> {
-    Command::new(alloc, "list")
-        .about("Lists the ports and components of a part's net, of the netlist on standard input")
-        .override_usage(LIST_USAGE)
-        .arg(part_arg(alloc)?)?
-        .arg(part_form_arg(alloc)?)
-}
-
-fn check_command<'a>(alloc: Global) -> Result<Command<'a>, AllocError> {
-    Command::new(alloc, "check")
-        .about(
-            "Tells whether the trace behind the netlist on standard input is that of a run of a part's net",
-        )
-        .override_usage(CHECK_USAGE)
-        .after_help(CHECK_STATUSES)
-        .arg(part_arg(alloc)?)?
-        .arg(part_form_arg(alloc)?)
-}
-
-fn chart_command<'a>(alloc: Global) -> Result<Command<'a>, AllocError> {
-    Command::new(alloc, "chart")
-        .about(
-            "Draws the trace behind the netlist on standard input, where it is that of a run of a part's net, as SVG",
-        )
-        .override_usage(CHART_USAGE)
-        .arg(part_arg(alloc)?)?
-        .arg(part_form_arg(alloc)?)?
-        .arg(from_arg(alloc))?
-        .arg(to_arg(alloc))
-}
-
-fn command_line<'a>(alloc: Global) -> Result<Command<'a>, AllocError> {
-    Command::new(alloc, "breezesim")
-        .about(
-            "A simulator of Breeze handshake circuits, proved in what it plays, lists and refuses",
-        )
-        .version(VERSION)
-        .subcommand_required(true)
-        .subcommand(list_command(alloc)?)?
-        .subcommand(chart_command(alloc)?)?
-        .subcommand(check_command(alloc)?)?
-        .subcommand(pool_command(alloc)?)?
-        .subcommand(run_command(alloc)?)
-}
-
 // The name of the part that is asked for, or the status with which the program ends.
 fn part_name<'a>(rt: &HostRuntime, matches: &ArgMatches<'a>) -> Result<Vec<u8>, ExitCode> {
     let alloc = rt.alloc();
@@ -222,35 +65,89 @@ fn part_name<'a>(rt: &HostRuntime, matches: &ArgMatches<'a>) -> Result<Vec<u8>, 
     }
 }
 
-fn run<'a>(rt: &HostRuntime, matches: &ArgMatches<'a>) -> ExitCode {
+// The words that a file gives, or the status with which the program ends.
+fn words_in(rt: &HostRuntime, path: &str) -> Result<String, ExitCode> {
+    let alloc = rt.alloc();
+    let Ok(mut file) = fs::open(rt, path) else {
+        return Err(unreadable(rt, path));
+    };
+    let Ok(bytes) = read_input(alloc, &mut file) else {
+        return Err(unreadable(rt, path));
+    };
+    match String::from_utf8(bytes) {
+        Ok(text) => Ok(text),
+        Err(_) => Err(unreadable(rt, path)),
+    }
+}
+
+fn run<'a, R: Read>(rt: &HostRuntime, matches: &ArgMatches<'a>, input: &mut R) -> ExitCode {
+    match matches.get_str("word-file") {
+        None => run_words(rt, matches, matches.get_strs("words").unwrap_or(&[]), input),
+        Some(path) => {
+            let text = match words_in(rt, path) {
+                Ok(text) => text,
+                Err(status) => return status,
+            };
+            match split_words(rt.alloc(), text.as_str()) {
+                Ok(words) => run_words(rt, matches, words.as_slice(), input),
+                Err(_) => refuse(rt, &Fault::Memory),
+            }
+        }
+    }
+}
+
+fn run_words<'a, R: Read>(
+    rt: &HostRuntime,
+    matches: &ArgMatches<'a>,
+    words: &[&str],
+    input: &mut R,
+) -> ExitCode {
     let alloc = rt.alloc();
     let part = match part_name(rt, matches) {
         Ok(part) => part,
         Err(status) => return status,
     };
     let journal = matches.get_one::<u32>("journal").unwrap_or(JOURNAL);
-    let words = matches.get_strs("words").unwrap_or(&[]);
     if journal == 0 || journal > MAX_JOURNAL {
         return ExitCode::from(BAD_COMMAND_LINE);
     }
     let Ok(mut output) = BufWriter::with_capacity(alloc, BUFFER_SIZE, io::writer(rt)) else {
         return refuse(rt, &Fault::Memory);
     };
-    let result = run_cmd(
-        alloc,
-        part.as_slice(),
-        journal,
-        words,
-        &mut rt.reader(),
-        &mut output,
-    );
+    let result = run_cmd(alloc, part.as_slice(), journal, words, input, &mut output);
     ends(rt, result)
 }
 
-fn pool<'a, T: Threads + Wait + Sync>(
+fn pool<'a, T: Threads + Wait + Sync, R: Read>(
     rt: &HostRuntime,
     threads: &T,
     matches: &ArgMatches<'a>,
+    input: &mut R,
+) -> ExitCode {
+    match matches.get_str("word-file") {
+        None => {
+            let words = matches.get_strs("words").unwrap_or(&[]);
+            pool_words(rt, threads, matches, words, input)
+        }
+        Some(path) => {
+            let text = match words_in(rt, path) {
+                Ok(text) => text,
+                Err(status) => return status,
+            };
+            match split_words(rt.alloc(), text.as_str()) {
+                Ok(words) => pool_words(rt, threads, matches, words.as_slice(), input),
+                Err(_) => refuse(rt, &Fault::Memory),
+            }
+        }
+    }
+}
+
+fn pool_words<'a, T: Threads + Wait + Sync, R: Read>(
+    rt: &HostRuntime,
+    threads: &T,
+    matches: &ArgMatches<'a>,
+    words: &[&str],
+    input: &mut R,
 ) -> ExitCode {
     let alloc = rt.alloc();
     let part = match part_name(rt, matches) {
@@ -262,7 +159,6 @@ fn pool<'a, T: Threads + Wait + Sync>(
         fuel: matches.get_one::<u64>("fuel").unwrap_or(FUEL),
         journal: matches.get_one::<u32>("journal").unwrap_or(JOURNAL),
     };
-    let words = matches.get_strs("words").unwrap_or(&[]);
     if options.workers == 0 || options.workers > MAX_WORKERS {
         return ExitCode::from(BAD_COMMAND_LINE);
     }
@@ -278,7 +174,7 @@ fn pool<'a, T: Threads + Wait + Sync>(
         part.as_slice(),
         options,
         words,
-        &mut rt.reader(),
+        input,
         &mut output,
     );
     match result {
@@ -305,7 +201,7 @@ fn note(rt: &HostRuntime, session: usize, end: End) {
     };
 }
 
-fn list<'a>(rt: &HostRuntime, matches: &ArgMatches<'a>) -> ExitCode {
+fn list<'a, R: Read>(rt: &HostRuntime, matches: &ArgMatches<'a>, input: &mut R) -> ExitCode {
     let alloc = rt.alloc();
     let part = match part_name(rt, matches) {
         Ok(part) => part,
@@ -314,11 +210,37 @@ fn list<'a>(rt: &HostRuntime, matches: &ArgMatches<'a>) -> ExitCode {
     let Ok(mut output) = BufWriter::with_capacity(alloc, BUFFER_SIZE, io::writer(rt)) else {
         return refuse(rt, &Fault::Memory);
     };
-    let result = list_cmd(alloc, part.as_slice(), &mut rt.reader(), &mut output);
+    let result = if matches.get_flag("paths") {
+        list_paths_cmd(alloc, part.as_slice(), input, &mut output)
+    } else {
+        list_cmd(alloc, part.as_slice(), input, &mut output)
+    };
     ends(rt, result)
 }
 
-fn check<'a>(rt: &HostRuntime, matches: &ArgMatches<'a>) -> ExitCode {
+fn draw<'a, R: Read>(rt: &HostRuntime, matches: &ArgMatches<'a>, input: &mut R) -> ExitCode {
+    let alloc = rt.alloc();
+    let part = match part_name(rt, matches) {
+        Ok(part) => part,
+        Err(status) => return status,
+    };
+    let depth = matches.get_one::<u32>("depth").map(|depth| depth as usize);
+    let Ok(mut output) = BufWriter::with_capacity(alloc, BUFFER_SIZE, io::writer(rt)) else {
+        return refuse(rt, &Fault::Memory);
+    };
+    let result = draw_cmd(alloc, part.as_slice(), depth, input, &mut output);
+    ends(rt, result)
+}
+
+fn parts<R: Read>(rt: &HostRuntime, input: &mut R) -> ExitCode {
+    let alloc = rt.alloc();
+    let Ok(mut output) = BufWriter::with_capacity(alloc, BUFFER_SIZE, io::writer(rt)) else {
+        return refuse(rt, &Fault::Memory);
+    };
+    ends(rt, parts_cmd(alloc, input, &mut output))
+}
+
+fn check<'a, R: Read>(rt: &HostRuntime, matches: &ArgMatches<'a>, input: &mut R) -> ExitCode {
     let alloc = rt.alloc();
     let part = match part_name(rt, matches) {
         Ok(part) => part,
@@ -327,14 +249,14 @@ fn check<'a>(rt: &HostRuntime, matches: &ArgMatches<'a>) -> ExitCode {
     let Ok(mut output) = BufWriter::with_capacity(alloc, BUFFER_SIZE, io::writer(rt)) else {
         return refuse(rt, &Fault::Memory);
     };
-    match check_cmd(alloc, part.as_slice(), &mut rt.reader(), &mut output) {
+    match check_cmd(alloc, part.as_slice(), input, &mut output) {
         Ok(true) => ExitCode::SUCCESS,
         Ok(false) => ExitCode::from(NO_RUN),
         Err(fault) => refuse(rt, &fault),
     }
 }
 
-fn chart<'a>(rt: &HostRuntime, matches: &ArgMatches<'a>) -> ExitCode {
+fn chart<'a, R: Read>(rt: &HostRuntime, matches: &ArgMatches<'a>, input: &mut R) -> ExitCode {
     let alloc = rt.alloc();
     let part = match part_name(rt, matches) {
         Ok(part) => part,
@@ -347,7 +269,7 @@ fn chart<'a>(rt: &HostRuntime, matches: &ArgMatches<'a>) -> ExitCode {
     let Ok(mut output) = BufWriter::with_capacity(alloc, BUFFER_SIZE, io::writer(rt)) else {
         return refuse(rt, &Fault::Memory);
     };
-    match chart_cmd(alloc, part.as_slice(), lines, &mut rt.reader(), &mut output) {
+    match chart_cmd(alloc, part.as_slice(), lines, input, &mut output) {
         Ok(()) => ExitCode::SUCCESS,
         Err(ChartFault::Command(fault)) => refuse(rt, &fault),
         Err(fault) => {
@@ -377,6 +299,12 @@ fn reject(rt: &HostRuntime, line: &str) -> ExitCode {
     ExitCode::from(BAD_COMMAND_LINE)
 }
 
+// Ends where a file that the command line names can't be had.
+fn unreadable(rt: &HostRuntime, path: &str) -> ExitCode {
+    let _ = eprintln!(rt; "error: {path} can't be read");
+    ExitCode::from(BAD_COMMAND_LINE)
+}
+
 // Ends with a bad command line, or with the help that was asked for.
 fn explain(rt: &HostRuntime, error: &Error) -> ExitCode {
     if let ErrorKind::OutOfMemory = error.kind() {
@@ -403,6 +331,41 @@ fn words_of<R: Env + Alloc<A = Global>>(rt: &R) -> Result<Vec<String>, ArgsFault
 #[cfg(test)]
 mod tests;
 
+// Does what a subcommand says, on the netlist of the file that it names, or of standard input.
+fn play<'a, T: Threads + Wait + Sync>(
+    rt: &HostRuntime,
+    threads: &T,
+    name: &str,
+    matches: &ArgMatches<'a>,
+) -> ExitCode {
+    match matches.get_str("netlist") {
+        None => play_on(rt, threads, name, matches, &mut rt.reader()),
+        Some(path) => match fs::open(rt, path) {
+            Ok(mut file) => play_on(rt, threads, name, matches, &mut file),
+            Err(_) => unreadable(rt, path),
+        },
+    }
+}
+
+fn play_on<'a, T: Threads + Wait + Sync, R: Read>(
+    rt: &HostRuntime,
+    threads: &T,
+    name: &str,
+    matches: &ArgMatches<'a>,
+    input: &mut R,
+) -> ExitCode {
+    match name {
+        "chart" => chart(rt, matches, input),
+        "check" => check(rt, matches, input),
+        "draw" => draw(rt, matches, input),
+        "list" => list(rt, matches, input),
+        "parts" => parts(rt, input),
+        "pool" => pool(rt, threads, matches, input),
+        "run" => run(rt, matches, input),
+        _ => ExitCode::from(BAD_COMMAND_LINE),
+    }
+}
+
 fn main(rt: HostRuntime) -> ExitCode {
     let words = match words_of(&rt) {
         Ok(words) => words,
@@ -415,12 +378,8 @@ fn main(rt: HostRuntime) -> ExitCode {
     match command.try_get_matches_from(words.as_slice()) {
         Err(error) => explain(&rt, &error),
         Ok(matches) => match matches.subcommand() {
-            Some(("chart", matches)) => chart(&rt, matches),
-            Some(("check", matches)) => check(&rt, matches),
-            Some(("list", matches)) => list(&rt, matches),
-            Some(("pool", matches)) => pool(&rt, &rt, matches),
-            Some(("run", matches)) => run(&rt, matches),
-            _ => ExitCode::from(BAD_COMMAND_LINE),
+            Some((name, matches)) => play(&rt, &rt, name, matches),
+            None => ExitCode::from(BAD_COMMAND_LINE),
         },
     }
 }

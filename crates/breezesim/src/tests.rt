@@ -1,6 +1,8 @@
 //! What the command line takes.
 
-use crate::{ArgsFault, MAX_JOURNAL, command_line, words_of};
+use crate::command_line::{MAX_JOURNAL, command_line};
+use crate::word_file::split_words;
+use crate::{ArgsFault, words_of};
 use clap::error::ErrorKind;
 use std::alloc::Global;
 use std::env::FillError;
@@ -9,7 +11,7 @@ use std::test::Fail;
 
 #[test]
 fn bad_command_lines(rt: HostRuntime) -> Result<(), Fail> {
-    let cases: [(&[&str], ErrorKind); 11] = [
+    let cases: [(&[&str], ErrorKind); 16] = [
         (&["breezesim"], ErrorKind::MissingSubcommand),
         (&["breezesim", "play"], ErrorKind::InvalidSubcommand),
         (&["breezesim", "run"], ErrorKind::MissingRequiredArgument),
@@ -36,6 +38,23 @@ fn bad_command_lines(rt: HostRuntime) -> Result<(), Fail> {
             ErrorKind::UnknownArgument,
         ),
         (&["breezesim", "run", "--help"], ErrorKind::DisplayHelp),
+        (
+            &["breezesim", "parts", "--part", "p"],
+            ErrorKind::UnknownArgument,
+        ),
+        (&["breezesim", "draw"], ErrorKind::MissingRequiredArgument),
+        (
+            &["breezesim", "draw", "--part", "p", "--depth", "deep"],
+            ErrorKind::ValueValidation,
+        ),
+        (
+            &["breezesim", "run", "--part", "p", "--paths"],
+            ErrorKind::UnknownArgument,
+        ),
+        (
+            &["breezesim", "run", "--part", "p", "--words", "f", "run:5"],
+            ErrorKind::ArgumentConflict,
+        ),
     ];
     for (words, kind) in cases {
         let command = command_line(rt.alloc())?;
@@ -85,6 +104,58 @@ fn part_in_name_form(rt: HostRuntime) -> Result<(), Fail> {
         assert_eq!(rt; matches.get_str("part-form"), Some("-%ff"));
         assert_eq!(rt; matches.get_str("part"), None);
     }
+    Ok(())
+}
+
+#[test]
+fn files_in_place_of_input_and_words(rt: HostRuntime) -> Result<(), Fail> {
+    for name in ["run", "pool"] {
+        let command = command_line(rt.alloc())?;
+        let words = [
+            "breezesim",
+            name,
+            "--netlist",
+            "n",
+            "--part",
+            "p",
+            "--words",
+            "w",
+        ];
+        let Ok(matches) = command.try_get_matches_from(&words) else {
+            return Err(Fail::from("refused"));
+        };
+        let Some((_, matches)) = matches.subcommand() else {
+            return Err(Fail::from("no subcommand"));
+        };
+        assert_eq!(rt; matches.get_str("netlist"), Some("n"));
+        assert_eq!(rt; matches.get_str("word-file"), Some("w"));
+    }
+    for (name, has_paths) in [("list", false), ("list", true)] {
+        let command = command_line(rt.alloc())?;
+        let all = ["breezesim", name, "--part", "p", "--paths"];
+        let words = if has_paths { &all[..] } else { &all[..4] };
+        let Ok(matches) = command.try_get_matches_from(words) else {
+            return Err(Fail::from("refused"));
+        };
+        let Some((_, matches)) = matches.subcommand() else {
+            return Err(Fail::from("no subcommand"));
+        };
+        assert_eq!(rt; matches.get_flag("paths"), has_paths);
+    }
+    Ok(())
+}
+
+#[test]
+fn words_of_a_file(rt: HostRuntime) -> Result<(), Fail> {
+    let alloc = rt.alloc();
+    let words = split_words(alloc, "# all\n offer:a\trun:5 # run:6\n\n/\nwatch:o#x\n")?;
+    let cases = ["offer:a", "run:5", "/", "watch:o"];
+    assert_eq!(rt; words.len(), cases.len());
+    for (word, want) in words.iter().zip(cases.iter()) {
+        assert_eq!(rt; *word, *want);
+    }
+    let words = split_words(alloc, "")?;
+    assert_eq!(rt; words.len(), 0);
     Ok(())
 }
 

@@ -3,7 +3,7 @@
 #![tactic(auto)]
 
 use bz_cli::PoolOptions;
-use bz_playing::{Spoilt, check, list, play, pool, told, told_spoilt};
+use bz_playing::{Spoilt, check, draw, list, list_paths, parts, play, pool, told, told_spoilt};
 use std::fs;
 use std::sync::Wait;
 use std::test::Fail;
@@ -27,6 +27,19 @@ const SPOILT: [Spoilt; 3] = [Spoilt::LeftOut, Spoilt::Doubled, Spoilt::Exchanged
 
 /// Netlists with the lists of the part of their name.
 const LISTED: [&str; 2] = ["tee", "two_place"];
+
+/// Netlists with the lists of the part of their name that tell where everything stands, and its drawings.
+const PLACED: [&str; 6] = [
+    "buffer",
+    "arbiter_tree",
+    "pipeline",
+    "countdown",
+    "tee",
+    "two_place",
+];
+
+/// Netlists with the lists of their parts.
+const PARTED: [&str; 2] = ["arbiter_tree", "pipeline"];
 
 /// Netlists whose part `p` is refused.
 const REFUSED: [&str; 13] = [
@@ -139,6 +152,42 @@ fn listed(rt: &HostRuntime, name: &str) -> Result<(), Fail> {
     )
 }
 
+fn placed(rt: &HostRuntime, name: &str) -> Result<(), Fail> {
+    let netlist = file(rt, name, "breeze")?;
+    let outcome = list_paths(rt.alloc(), netlist.as_bytes(), name)?;
+    let text = file(rt, name, "paths")?;
+    let label = format!(in rt.alloc(); "paths of {name}")?;
+    tell(
+        rt,
+        label.as_str(),
+        outcome.fault.is_empty() && outcome.text.as_slice() == text.as_bytes(),
+    )
+}
+
+fn drawn(rt: &HostRuntime, name: &str) -> Result<(), Fail> {
+    let netlist = file(rt, name, "breeze")?;
+    let outcome = draw(rt.alloc(), netlist.as_bytes(), name, None)?;
+    let text = file(rt, name, "dot")?;
+    let label = format!(in rt.alloc(); "drawing of {name}")?;
+    tell(
+        rt,
+        label.as_str(),
+        outcome.fault.is_empty() && outcome.text.as_slice() == text.as_bytes(),
+    )
+}
+
+fn parted(rt: &HostRuntime, name: &str) -> Result<(), Fail> {
+    let netlist = file(rt, name, "breeze")?;
+    let outcome = parts(rt.alloc(), netlist.as_bytes())?;
+    let text = file(rt, name, "parts")?;
+    let label = format!(in rt.alloc(); "parts of {name}")?;
+    tell(
+        rt,
+        label.as_str(),
+        outcome.fault.is_empty() && outcome.text.as_slice() == text.as_bytes(),
+    )
+}
+
 fn refused(rt: &HostRuntime, name: &str) -> Result<(), Fail> {
     let netlist = file(
         rt,
@@ -166,6 +215,15 @@ fn main(rt: HostRuntime) -> Result<(), Fail> {
     }
     for name in LISTED {
         listed(&rt, name)?;
+    }
+    for name in PLACED {
+        placed(&rt, name)?;
+    }
+    for name in PLACED {
+        drawn(&rt, name)?;
+    }
+    for name in PARTED {
+        parted(&rt, name)?;
     }
     for name in REFUSED {
         refused(&rt, name)?;
