@@ -55,13 +55,13 @@ far_side move.Got = true
 
 -- a move on a channel joins who makes it and who stands at the other end
 abbrev pub step_by : Plan → Move → ℕ → Option ℕ → Lifeline → Step
-step_by net mv chan value maker = record
-    { mv = mv
-    ; chan = chan
-    ; value = value
-    ; maker = maker
-    ; other = unwrap_or (lifeline_at net chan (far_side mv)) maker
-    }
+step_by net mv chan value maker = record {
+  mv = mv;
+  chan = chan;
+  value = value;
+  maker = maker;
+  other = unwrap_or (lifeline_at net chan (far_side mv)) maker;
+}
 
 -- the move that a host's command makes where it is done
 abbrev pub move_of : Verb → Move

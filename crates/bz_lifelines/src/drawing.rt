@@ -14,7 +14,7 @@ use crate::rows::{put_rows, shown};
 use crate::scene::{Scene, TOP};
 use crate::svg::{LARGE, WHITE, put_text};
 use crate::words::{Cut, digits, letters};
-use bz_lines::NameForm;
+use bz_lines::{LineNames, NameForm};
 use std::alloc::{AllocError, Global};
 
 /// How many letters of the part's name the title shows.
@@ -123,11 +123,12 @@ fn lines_of<'a>(
     piece: Piece,
 ) -> Result<Vec<Line<'a>>, AllocError> {
     let mut lines = Vec::new(alloc);
+    let names = LineNames::new(alloc, circuit.names());
     let texts = trace
         .chunk_by(|byte, _| *byte != b'\n')
         .skip(piece.first - 1);
     for (number, text) in (piece.first..=piece.last()).zip(texts) {
-        if let Some(line) = read_line(circuit, number, text) {
+        if let Some(line) = read_line(circuit, &names, number, text) {
             lines.push(line)?;
         }
     }
@@ -143,9 +144,10 @@ fn pass(
     bars: &mut Bars,
     flow: &mut Flow,
 ) -> Result<(), AllocError> {
+    let names = LineNames::new(alloc, scene.circuit.names());
     let texts = trace.chunk_by(|byte, _| *byte != b'\n');
     for (number, text) in (1..piece.first).zip(texts) {
-        if let Some(line) = read_line(scene.circuit, number, text) {
+        if let Some(line) = read_line(scene.circuit, &names, number, text) {
             bars.pass(scene, line.event)?;
             flow.note(alloc, scene, line.event, None)?;
         }

@@ -4,7 +4,7 @@ ghost use Rattle.std.specs.Prelude.{◌≡◌};
 ghost use Rattle.bz_lifelines.specs.Lifelines.{move_of, shown_of, step_by, told_of};
 
 use crate::circuit::{Circuit, Lifeline};
-use bz_lines::{clash_at, line_at};
+use bz_lines::{LineNames, clash_at, line_at};
 use bz_model::{Entry, Move, Phase, Reply, Value, Verb, Who};
 
 /// One of the four moves of a handshake, on a channel, by the lifeline that makes it. Without another one at the channel's
@@ -50,9 +50,14 @@ pub(crate) struct Line<'a> {
 }
 
 /// Reads a line, its end included; `None` where it tells nothing.
-pub(crate) fn read_line<'a>(circuit: &Circuit, number: usize, line: &'a [u8]) -> Option<Line<'a>> {
+pub(crate) fn read_line<'a>(
+    circuit: &Circuit,
+    names: &LineNames<'_>,
+    number: usize,
+    line: &'a [u8],
+) -> Option<Line<'a>> {
     let text = line.strip_suffix(b"\n").unwrap_or(line);
-    if let Some((entry, _)) = line_at(circuit.names(), line) {
+    if let Some((entry, _)) = line_at(names, line) {
         return Some(Line {
             number,
             text,
@@ -110,13 +115,7 @@ fn step_of(circuit: &Circuit, mv: Move, chan: u32, value: Option<Value>, maker: 
     }
 }
 
-fn host_event(
-    circuit: &Circuit,
-    verb: Verb,
-    port: u32,
-    value: Option<Value>,
-    reply: Reply,
-) -> Event
+fn host_event(circuit: &Circuit, verb: Verb, port: u32, value: Option<Value>, reply: Reply) -> Event
     ensures { result ≡ told_of circuit.now verb port value reply }
 {
     let brought = match reply {
