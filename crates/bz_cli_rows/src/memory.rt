@@ -1,10 +1,10 @@
 //! Memory that is used up once the net is open, or before it.
 
-use crate::pooled::{Pooled, pool};
 use bz_cli::PoolOptions;
 use bz_commands::run_cmd;
 use bz_playing::check;
 use bz_playing::netlists::TWO;
+use bz_showing::{Pooled, pool};
 use std::alloc::{AllocError, Global};
 use std::io;
 use std::io::Write;

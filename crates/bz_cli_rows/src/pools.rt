@@ -1,10 +1,10 @@
 //! Pools: sessions beside workers, from bytes to bytes.
 
-use crate::pooled::{Pooled, pool};
 use bz_cli::PoolOptions;
 use bz_playing::check;
 use bz_playing::netlists::{BUFFER, TWO};
 use bz_session::End;
+use bz_showing::{Pooled, pool};
 use std::alloc::Global;
 use std::process::Abort;
 use std::sync::Wait;

@@ -1,9 +1,12 @@
 //! Goes through the examples of the repository, of which `data` has a copy, and tells of each whether the program writes what
-//! is written beside it, and whether it takes the traces for what they are, whole and with a line spoilt.
+//! is written beside it, whether it takes the traces for what they are, whole and with a line spoilt, and draws them as they are
+//! drawn beside it.
 #![tactic(auto)]
 
+use bz_chart::LineRange;
 use bz_cli::PoolOptions;
-use bz_playing::{Spoilt, check, draw, list, list_paths, parts, play, pool, told, told_spoilt};
+use bz_playing::{Spoilt, check, list, play, told, told_spoilt};
+use bz_showing::{chart, draw, list_paths, parts, pool};
 use std::fs;
 use std::sync::Wait;
 use std::test::Fail;
@@ -40,6 +43,27 @@ const PLACED: [&str; 6] = [
 
 /// Netlists with the lists of their parts.
 const PARTED: [&str; 2] = ["arbiter_tree", "pipeline"];
+/// Netlists with the charts of their traces, and the lines that are drawn where not all are.
+const CHARTED: [(&str, LineRange); 7] = [
+    ("buffer", ALL),
+    ("arbiter_tree", ALL),
+    ("countdown", ALL),
+    (
+        "pipeline",
+        LineRange {
+            from: Some(55),
+            to: Some(90),
+        },
+    ),
+    ("tee", ALL),
+    ("two_place", ALL),
+    ("cross", ALL),
+];
+
+const ALL: LineRange = LineRange {
+    from: None,
+    to: None,
+};
 
 /// Netlists whose part `p` is refused.
 const REFUSED: [&str; 13] = [
@@ -188,6 +212,19 @@ fn parted(rt: &HostRuntime, name: &str) -> Result<(), Fail> {
     )
 }
 
+fn charted(rt: &HostRuntime, name: &str, lines: LineRange) -> Result<(), Fail> {
+    let netlist = file(rt, name, "breeze")?;
+    let trace = file(rt, name, "trace")?;
+    let outcome = chart(rt.alloc(), netlist.as_str(), name, trace.as_str(), lines)?;
+    let drawing = file(rt, name, "svg")?;
+    let label = format!(in rt.alloc(); "chart of {name}")?;
+    tell(
+        rt,
+        label.as_str(),
+        outcome.fault.is_empty() && outcome.text.as_slice() == drawing.as_bytes(),
+    )
+}
+
 fn refused(rt: &HostRuntime, name: &str) -> Result<(), Fail> {
     let netlist = file(
         rt,
@@ -224,6 +261,9 @@ fn main(rt: HostRuntime) -> Result<(), Fail> {
     }
     for name in PARTED {
         parted(&rt, name)?;
+    }
+    for (name, lines) in CHARTED {
+        charted(&rt, name, lines)?;
     }
     for name in REFUSED {
         refused(&rt, name)?;

@@ -1,6 +1,6 @@
 //! What `list --paths` and `parts` write, and what they refuse.
 
-use bz_playing::{list_paths, parts};
+use bz_showing::{list_paths, parts};
 use std::test::Fail;
 
 /// Instances in instances, parts that bring nothing, and members in an order of their own.

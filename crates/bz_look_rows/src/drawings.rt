@@ -1,7 +1,7 @@
 //! What `draw` writes where instances are drawn and where they are boxes.
 
 use crate::commands::NESTED;
-use bz_playing::draw;
+use bz_showing::draw;
 use std::test::Fail;
 
 const HEAD: &str =

@@ -10,8 +10,6 @@ mod script;
 mod spoiling;
 
 pub use nets::{flat_of, net_of, play_of};
-pub use playing::{
-    Outcome, check, draw, list, list_paths, parts, play, play_in_pieces, play_with_journal,
-};
+pub use playing::{Outcome, check, gathered, list, play, play_in_pieces, play_with_journal};
 pub use script::Script;
 pub use spoiling::{Spoilt, told, told_spoilt};

@@ -5,8 +5,6 @@ ghost use Rattle.std.specs.Prelude.{◌<◌, ◌≤◌};
 use crate::calls::{run, serve_host};
 use crate::nets::net_of;
 use bz_commands::{Fault, check_cmd, list_cmd, run_cmd, run_in_pieces, write_out};
-use bz_draw::draw_cmd;
-use bz_look::{list_paths_cmd, parts_cmd};
 use bz_model::{Cmd, NetError};
 use bz_net::{Event, Net, RunEnd};
 use bz_words::command;
@@ -118,35 +116,6 @@ pub fn list(alloc: Global, netlist: &[u8], part: &str) -> Result<Outcome, Fail> 
     gathered(alloc, text, result)
 }
 
-/// Lists a part of the netlist, with where everything in it stands.
-pub fn list_paths(alloc: Global, netlist: &[u8], part: &str) -> Result<Outcome, Fail> {
-    let mut input = netlist;
-    let mut text = Vec::new(alloc);
-    let result = list_paths_cmd(alloc, part.as_bytes(), &mut input, &mut text);
-    gathered(alloc, text, result)
-}
-
-/// Draws a part of the netlist, with instances within `depth` others as boxes.
-pub fn draw(
-    alloc: Global,
-    netlist: &[u8],
-    part: &str,
-    depth: Option<usize>,
-) -> Result<Outcome, Fail> {
-    let mut input = netlist;
-    let mut text = Vec::new(alloc);
-    let result = draw_cmd(alloc, part.as_bytes(), depth, &mut input, &mut text);
-    gathered(alloc, text, result)
-}
-
-/// Lists the parts of the netlist.
-pub fn parts(alloc: Global, netlist: &[u8]) -> Result<Outcome, Fail> {
-    let mut input = netlist;
-    let mut text = Vec::new(alloc);
-    let result = parts_cmd(alloc, &mut input, &mut text);
-    gathered(alloc, text, result)
-}
-
 /// Checks a trace behind a netlist.
 pub fn check(alloc: Global, netlist: &str, part: &str, trace: &[u8]) -> Result<Outcome, Fail> {
     let mut bytes = Vec::from_slice(alloc, netlist.as_bytes())?;
@@ -164,7 +133,8 @@ pub fn check(alloc: Global, netlist: &str, part: &str, trace: &[u8]) -> Result<O
     }
 }
 
-fn gathered(alloc: Global, text: Vec<u8>, answer: Result<(), Fault>) -> Result<Outcome, Fail> {
+/// What a command wrote, with its answer.
+pub fn gathered(alloc: Global, text: Vec<u8>, answer: Result<(), Fault>) -> Result<Outcome, Fail> {
     match answer {
         Ok(()) => Ok(Outcome {
             text,

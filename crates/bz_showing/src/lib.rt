@@ -1,0 +1,8 @@
+//! What worked examples share beyond plays: pools, lists with places, and drawings of nets and traces.
+#![tactic(auto)]
+
+mod looking;
+mod pools;
+
+pub use looking::{chart, draw, list_paths, parts};
+pub use pools::{Pooled, pool};
