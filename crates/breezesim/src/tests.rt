@@ -11,7 +11,7 @@ use std::test::Fail;
 
 #[test]
 fn bad_command_lines(rt: HostRuntime) -> Result<(), Fail> {
-    let cases: [(&[&str], ErrorKind); 16] = [
+    let cases: [(&[&str], ErrorKind); 18] = [
         (&["breezesim"], ErrorKind::MissingSubcommand),
         (&["breezesim", "play"], ErrorKind::InvalidSubcommand),
         (&["breezesim", "run"], ErrorKind::MissingRequiredArgument),
@@ -37,6 +37,10 @@ fn bad_command_lines(rt: HostRuntime) -> Result<(), Fail> {
             &["breezesim", "list", "--part", "p", "run:5"],
             ErrorKind::UnknownArgument,
         ),
+        (
+            &["breezesim", "chart", "--part", "p", "--to", "x"],
+            ErrorKind::ValueValidation,
+        ),
         (&["breezesim", "run", "--help"], ErrorKind::DisplayHelp),
         (
             &["breezesim", "parts", "--part", "p"],
@@ -55,6 +59,7 @@ fn bad_command_lines(rt: HostRuntime) -> Result<(), Fail> {
             &["breezesim", "run", "--part", "p", "--words", "f", "run:5"],
             ErrorKind::ArgumentConflict,
         ),
+        (&["breezesim", "--version"], ErrorKind::DisplayVersion),
     ];
     for (words, kind) in cases {
         let command = command_line(rt.alloc())?;
@@ -91,8 +96,24 @@ fn options_of_run(rt: HostRuntime) -> Result<(), Fail> {
 }
 
 #[test]
+fn lines_of_chart(rt: HostRuntime) -> Result<(), Fail> {
+    let command = command_line(rt.alloc())?;
+    let words = ["breezesim", "chart", "-p", "p", "--from", "55"];
+    let Ok(matches) = command.try_get_matches_from(&words) else {
+        return Err(Fail::from("refused"));
+    };
+    let Some(("chart", matches)) = matches.subcommand() else {
+        return Err(Fail::from("another subcommand"));
+    };
+    assert_eq!(rt; matches.get_str("part"), Some("p"));
+    assert_eq!(rt; matches.get_one::<u64>("from"), Some(55));
+    assert_eq!(rt; matches.get_one::<u64>("to"), None);
+    Ok(())
+}
+
+#[test]
 fn part_in_name_form(rt: HostRuntime) -> Result<(), Fail> {
-    for name in ["list", "run"] {
+    for name in ["chart", "list", "run"] {
         let command = command_line(rt.alloc())?;
         let words = ["breezesim", name, "--part-form", "-%ff"];
         let Ok(matches) = command.try_get_matches_from(&words) else {
