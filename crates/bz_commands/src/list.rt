@@ -33,7 +33,12 @@ pub fn list_cmd<R: Read, W: Write>(
 }
 
 // Lists the net of a part of the text.
-fn list_net<W: Write>(alloc: Global, part: &[u8], text: Vec<u8>, output: &mut W) -> Result<(), Fault>
+fn list_net<W: Write>(
+    alloc: Global,
+    part: &[u8],
+    text: Vec<u8>,
+    output: &mut W,
+) -> Result<(), Fault>
     ensures { ListsText text.items part.now (W.contents output.old) (W.contents output.new) result }
 {
     let flat = flat_of_input(alloc, part, text)?;

@@ -62,15 +62,7 @@ pub fn run_in_pieces<R: Read, W: Write>(
 {
     let cmds = run_words(alloc, words)?;
     let text = read_input(alloc, input)?;
-    play_text(
-        alloc,
-        part,
-        journal,
-        room,
-        text,
-        cmds.as_slice(),
-        output,
-    )
+    play_text(alloc, part, journal, room, text, cmds.as_slice(), output)
 }
 
 // Plays the commands on a part of the text, and writes the trace in pieces of so many entries.
