@@ -150,7 +150,7 @@ fn is_played(alloc: Global, played: &Pooled) -> Result<bool, Fail> {
 #[test]
 fn pools_with_little_memory(rt: HostRuntime) -> Result<(), Fail> {
     let alloc = rt.alloc();
-    let mut refused = 0;
+    let mut refused = 0u32;
     let mut last = false;
     for step in 0..160 {
         let room = if step < 80 {
@@ -161,7 +161,7 @@ fn pools_with_little_memory(rt: HostRuntime) -> Result<(), Fail> {
         let played = pool_with(&rt, alloc, room)?;
         last = is_played(alloc, &played)?;
         if !last {
-            refused += 1;
+            refused = refused.saturating_add(1);
         }
     }
     assert!(rt; last);
