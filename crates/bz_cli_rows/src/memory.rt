@@ -152,11 +152,11 @@ fn pools_with_little_memory(rt: HostRuntime) -> Result<(), Fail> {
     let alloc = rt.alloc();
     let mut refused = 0u32;
     let mut last = false;
-    for step in 0..160 {
-        let room = if step < 80 {
-            1024 * step
+    for step in 0..40 {
+        let room = if step < 20 {
+            4096 * step
         } else {
-            1_048_576 * (step - 80)
+            8_388_608 * (step - 20)
         };
         let played = pool_with(&rt, alloc, room)?;
         last = is_played(alloc, &played)?;
