@@ -4,7 +4,7 @@ use Rattle.std.specs.Prelude.{not, nat_lt, nat_le, ◌&&◌, if◌then◌else◌
 use Rattle.std.specs.Option.{option_map}
 use Rattle.std.specs.Int.{bit_at}
 use Rattle.std.proofs.lemmas.List.{get_or_past}
-use Rattle.std.proofs.lemmas.Nat.Bits.{bit_at-lt}
+use Rattle.std.proofs.lemmas.Nat.Bits.{bit_at-lt, bit_at-zero}
 use Rattle.std.proofs.lemmas.Bool.{cases_lt, le-leb, lt-leb, lt-ltb, le-ltb, false≢true}
 use Rattle.bz_bits.specs.declared.word.PortWord.{PortWord}
 use Rattle.bz_bits.specs.PortWords.{number_in, between, goes}
@@ -119,19 +119,30 @@ module _ (plan : Plan) (n left : ℕ) (w : List ℕ) (s : Store) (chans : List C
         λ (k, at, free). let e = next-only plan n left w s chans c view ok p (Some mv) is k at in let f : mv ≡ k.move = cc in subst (λ (m : Move). IsTrue (is_free m here)) (sym f) free,
       )
 
-  pub ready_at : (at passive here word : ℕ) (ports : PortWord) → IsSensed plan n at passive
-      → ((i : ℕ) → i < 64 → number_in ports i ≡ get_or w (64 * at + i) 0)
-      → ((i : ℕ) → i < 64 → (bit_at word i == 1) ≡ goes (bit_at ports.due i == 1) (bit_at ports.opened i == 1) (bit_at passive i == 1) (bit_at here i == 1))
+  ready_by : (at here word : ℕ) (ports : PortWord) → ((i : ℕ) → i < 64 → number_in ports i ≡ get_or w (64 * at + i) 0)
+      → ((i : ℕ) → i < 64 → (bit_at word i == 1) ≡ goes (bit_at ports.due i == 1) (bit_at ports.opened i == 1) (is_told (sense plan n (64 * at + i))) (bit_at here i == 1))
       → AreReady c.proc at here word
-  ready_at at passive here word ports sensed numbers bits i lt =
+  ready_by at here word ports numbers bits i lt =
       let p = 64 * at + i in let h = bit_at here i == 1 in let d = bit_at ports.due i in let q = bit_at ports.opened i in
       let is : (bit_at word i == 1) ≡ can_go (next_at p) h =
-      bits i lt ∙ ap (λ (b : Bool). goes (d == 1) (q == 1) b h) (sensed i lt)
+      bits i lt
       ∙ gate (sense plan n p) d q h (bit_at-lt ports.due i) (bit_at-lt ports.opened i) (λ e. numbers i lt ∙ unsensed plan n left w s ok p e)
       ∙ ap (λ (a : ℕ). can_go (move_by (sense plan n p) a) h) (numbers i lt)
       ∙ ap (λ (o : Option Move). can_go o h) (sym (due-move plan n left p (get_or w p 0))) in
       let on = goes_on p h (next_at p) refl in
       (λ t. on.0 (subst IsTrue is t), λ can. subst IsTrue (sym is) (on.1 can))
+
+  pub ready_at : (at passive here word : ℕ) (ports : PortWord) → IsSensed plan n at passive
+      → ((i : ℕ) → i < 64 → number_in ports i ≡ get_or w (64 * at + i) 0)
+      → ((i : ℕ) → i < 64 → (bit_at word i == 1) ≡ goes (bit_at ports.due i == 1) (bit_at ports.opened i == 1) (bit_at passive i == 1) (bit_at here i == 1))
+      → AreReady c.proc at here word
+  ready_at at passive here word ports sensed numbers bits =
+      ready_by at here word ports numbers (λ i lt. bits i lt ∙ ap (λ (b : Bool). goes (bit_at ports.due i == 1) (bit_at ports.opened i == 1) b (bit_at here i == 1)) (sensed i lt))
+
+  -- where no move is due, none can be made
+  pub none_due : (at here : ℕ) (ports : PortWord) → ports.due ≡ 0 → ((i : ℕ) → i < 64 → number_in ports i ≡ get_or w (64 * at + i) 0) → AreReady c.proc at here 0
+  none_due at here ports none numbers =
+      ready_by at here 0 ports numbers (λ i lt. ap (λ (b : ℕ). b == 1) (bit_at-zero i) ∙ sym (ap (λ (b : ℕ). goes (b == 1) (bit_at ports.opened i == 1) (is_told (sense plan n (64 * at + i))) (bit_at here i == 1)) (ap (λ (d : ℕ). bit_at d i) none ∙ bit_at-zero i)))
 
 -- the passive ports of a plan stand together
 no_and : (b : Bool) → (b && false) ≡ false

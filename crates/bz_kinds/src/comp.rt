@@ -146,12 +146,15 @@ pub fn ready_word(comp: &Comp, at: u32, here: u64) -> u64
     ensures held { (p : ℕ) (h : Head) → IsHeadOn comp.now.proc p h → (0 < p) × (p ≤ length comp.now.chans) }
     ensures turns { (p : ℕ) (h : Head) → IsHeadOn comp.now.proc p h → opens h.move ≡ not (open_at comp.now p) }
 {
+    let word = comp.ports.word(at);
     let passive = if at == 0 {
         comp.passive
+    } else if word.due == 0 {
+        return 0;
     } else {
         sense_word(&comp.plan, comp.size, at)
     };
-    comp.ports.word(at).ready(passive, here)
+    word.ready(passive, here)
 }
 
 /// The same component in the same state.

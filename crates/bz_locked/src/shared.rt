@@ -1,6 +1,7 @@
 //! The net behind its lock, with the front beside it.
 
 ghost use Rattle.std.specs.Prelude.{◌≡◌, ℕ, ◌+◌, ◌-◌, ◌<◌, ◌≤◌, ◌∷◌, [], ◌++◌, true, length, vec_len, IfOk, IfErr, OnErr, OnOk, MatchResult, slice_index_or};
+ghost use Rattle.std.specs.Vec.{vec_capacity};
 ghost use Rattle.bz_net.specs.Answering.{is_answer};
 ghost use Rattle.bz_locked.specs.Parts.{SessionView, WorkerView, new_session, new_worker, Tells};
 ghost use Rattle.bz_locked.specs.Commands.{IsEntryOf, RefusesPoll};
@@ -19,7 +20,7 @@ use bz_model::{Entry, HostCmd, NetError, Reply, Who};
 use bz_net::{Net, RestReply};
 use std::alloc::{AllocError, Global};
 use std::marker::Model;
-use std::sync::ledger::{Blank, Ledger, Share};
+use std::sync::ledger::{Blank, Book, Ledger, Share};
 use std::sync::{Condvar, Mutex, Wait};
 
 /// A net that host sessions and workers share. Its one lock is held for one event at a time; a call that waits waits for
@@ -76,6 +77,27 @@ fn new_sessions(
     Ok(sessions)
 }
 
+/// A worker that has fired nothing, with one part of the seat and of the share.
+fn new_worker<L: NetLedger>(
+    front: &Front,
+    seat: &mut FrontSeat,
+    share: &mut Share<L>,
+    number: u8,
+) -> Worker<L>
+    requires seat { (seat.old.table ≡ front.now.table) × (seat.old.seen ≡ 0) × (seat.old.published ≡ 0) × (1 < seat.old.parts) }
+    requires share { (0 < share.old.parts) × (share.old.amount ≡ 0) }
+    ensures worker { result ≡ new_worker front.now.table number }
+    ensures seat { (seat.new.table ≡ seat.old.table) × (seat.new.seen ≡ 0) × (seat.new.published ≡ 0) × (seat.new.parts + 1 ≡ seat.old.parts) }
+    ensures share { (share.new.parts + 1 ≡ share.old.parts) × (share.new.amount ≡ 0) }
+{
+    Worker {
+        who: Who::Worker(number),
+        seat: front.split(seat),
+        share: share.split_off(1, 0),
+        fired: 0,
+    }
+}
+
 /// The workers, each with one part of the seat and of the share.
 fn new_workers<L: NetLedger>(
     alloc: Global,
@@ -92,16 +114,70 @@ fn new_workers<L: NetLedger>(
 {
     let mut workers = Vec::new(alloc);
     for k in 0..count {
-        let part = front.split(seat);
-        let own = share.split_off(1, 0);
-        workers.push(Worker {
-            who: Who::Worker(k + 1),
-            seat: part,
-            share: own,
-            fired: 0,
-        })?;
+        workers.push(new_worker(front, seat, share, k + 1))?;
     }
     Ok(workers)
+}
+
+/// How the sessions stand at the start, and room for what the close gathers.
+#[derive(Drop)]
+struct Rooms {
+    standings: Vec<Standing>,
+    records: Vec<Vec<Entry>>,
+    shares: Vec<u64>,
+}
+
+impl Rooms {
+    fn new(alloc: Global, sessions: u8, workers: u8) -> Result<Rooms, AllocError>
+        ensures records { IfOk result (λ r. (r.records.items ≡ []) × (sessions ≤ vec_capacity r.records)) }
+        ensures shares { IfOk result (λ r. (r.shares.items ≡ []) × (workers ≤ vec_capacity r.shares)) }
+    {
+        Ok(Rooms {
+            standings: vec![in alloc; Standing::Running; sessions as usize]?,
+            records: Vec::with_capacity(alloc, sessions as usize)?,
+            shares: Vec::with_capacity(alloc, workers as usize)?,
+        })
+    }
+}
+
+/// What stands beside a net that is shared.
+#[derive(Drop)]
+struct Made<L: NetLedger> {
+    front: Front,
+    fired: Book<L>,
+    root: Share<L>,
+    hosts: Vec<Session>,
+    crew: Vec<Worker<L>>,
+    rooms: Rooms,
+}
+
+impl<L: NetLedger> Made<L> {
+    fn new(alloc: Global, blank: Blank, sessions: u8, workers: u8) -> Result<Made<L>, CloseError>
+        requires ledger { (blank.name ≡ L.name) × (blank.parts ≡ L.parts) × (L.parts ≡ workers) }
+        requires counts { (1 ≤ sessions) × (sessions ≤ 16) × (1 ≤ workers) × (workers ≤ 8) }
+        ensures front { IfOk result (λ r. r.front.parts ≡ sessions + workers) }
+        ensures fired { IfOk result (λ r. r.fired.total ≡ 0) }
+        ensures root { IfOk result (λ r. (r.root.parts ≡ 0) × (r.root.amount ≡ 0)) }
+        ensures records { IfOk result (λ r. (r.rooms.records.items ≡ []) × (sessions ≤ vec_capacity r.rooms.records)) }
+        ensures shares { IfOk result (λ r. (r.rooms.shares.items ≡ []) × (workers ≤ vec_capacity r.rooms.shares)) }
+        ensures sessions { IfOk result (λ r. (vec_len r.hosts ≡ sessions) × ((k : ℕ) (d : SessionView) → k < sessions → slice_index_or r.hosts.items k d ≡ new_session r.front.table (k + 1))) }
+        ensures workers { IfOk result (λ r. (vec_len r.crew ≡ workers) × ((k : ℕ) (d : WorkerView) → k < workers → slice_index_or r.crew.items k d ≡ new_worker r.front.table (k + 1))) }
+        ensures err { IfErr result (λ e. e ≡ CloseError.Memory) }
+    {
+        let rooms = Rooms::new(alloc, sessions, workers)?;
+        let (front, mut seat) = Front::new(alloc, u64::from(sessions) + u64::from(workers))?;
+        let (fired, mut root) = blank.open::<L>();
+        let crew = new_workers(alloc, &front, &mut seat, &mut root, workers)?;
+        let hosts = new_sessions(alloc, &front, seat, sessions)?;
+        Ok(Made {
+            front,
+            fired,
+            root,
+            hosts,
+            crew,
+            rooms,
+        })
+    }
 }
 
 impl<L: NetLedger> SharedNet<L> {
@@ -124,31 +200,26 @@ impl<L: NetLedger> SharedNet<L> {
         ensures workers { IfOk result (λ r. (vec_len r.2 ≡ workers) × ((k : ℕ) (d : WorkerView) → k < workers → slice_index_or r.2.items k d ≡ new_worker r.0.table (k + 1))) }
         ensures err { IfErr result (λ e. e ≡ CloseError.Memory) }
     {
-        let (front, mut seat) = Front::new(alloc, u64::from(sessions) + u64::from(workers))?;
-        let (fired, mut root) = blank.open::<L>();
-        let crew = new_workers(alloc, &front, &mut seat, &mut root, workers)?;
-        let hosts = new_sessions(alloc, &front, seat, sessions)?;
-        let standings = vec![in alloc; Standing::Running; sessions as usize]?;
-        let records = Vec::with_capacity(alloc, sessions as usize)?;
-        let shares = Vec::with_capacity(alloc, workers as usize)?;
+        let made = Made::new(alloc, blank, sessions, workers)?;
+        let rooms = made.rooms;
         let locked = Locked {
             net,
             fuel,
             stopped: false,
-            sessions: standings,
-            fired,
-            root,
+            sessions: rooms.standings,
+            fired: made.fired,
+            root: made.root,
         };
         let shared = SharedNet {
             locked: Mutex::new(locked),
             changed: Condvar::new(),
-            front,
+            front: made.front,
             sessions: sessions as usize,
             workers: workers as usize,
-            records,
-            shares,
+            records: rooms.records,
+            shares: rooms.shares,
         };
-        Ok((shared, hosts, crew))
+        Ok((shared, made.hosts, made.crew))
     }
 
     /// Carries a command out at once, and wakes all who wait.

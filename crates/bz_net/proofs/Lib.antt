@@ -17,5 +17,6 @@ pub mod Playing
 pub mod Nodes
 pub mod Telling
 pub mod Cores
+pub mod Foreseeing
 pub mod Kept
 pub mod Pieces

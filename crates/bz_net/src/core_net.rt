@@ -7,12 +7,13 @@ ghost use Rattle.bz_model.specs.Nets.{Step, StepsAt, opening, outside, phase_at}
 ghost use Rattle.bz_model.specs.Runs.{CanStep, IsLowest, IsNext, Rest};
 ghost use Rattle.bz_elab.specs.Wires.{WellWired};
 ghost use Rattle.bz_net.specs.Core.{IsSole};
+ghost use Rattle.bz_net.specs.Due.{Foresees, TellsDue};
 ghost use Rattle.bz_net.specs.Ends.{TellsEnds, TellsPort, IsSolePort};
 ghost use Rattle.bz_net.specs.Noted.{NotedAt};
 ghost use Rattle.bz_net.specs.Sides.{answers};
 
 use crate::here::{command, lowest_port, mark_all, move_comp};
-use crate::moves::{answers, can_fire, note_clash, port_in, refusal_of};
+use crate::moves::{answers, can_fire, due_at, foresee, note_clash, port_in, refusal_of};
 use crate::node::{Node, dup_all, start_all};
 use crate::noted::Noted;
 use bz_arena::Arena;
@@ -191,6 +192,25 @@ impl Core {
             (StepsAt self.now.wiring.sites self.now.state comp port → ⊥) }
     {
         can_fire(&self.sites, &self.nodes, &self.phases, comp, port)
+    }
+
+    /// The move that a component has at a port, whether or not it can be made.
+    pub(crate) fn due(&self, comp: u32, port: u32) -> Option<Move>
+        ensures { TellsDue self.now.wiring.sites self.now.state comp port result }
+    {
+        due_at(&self.sites, &self.nodes, &self.phases, comp, port)
+    }
+
+    /// The channel, the move and the value of the step that a component has at a port, where it has one.
+    pub(crate) fn foresee(
+        &self,
+        alloc: Global,
+        comp: u32,
+        port: u32,
+    ) -> Result<Option<(u32, Move, Option<Value>)>, AllocError>
+        ensures { IfOk result (Foresees self.now.wiring.sites self.now.state comp port) }
+    {
+        foresee(alloc, &self.sites, &self.nodes, &self.phases, comp, port)
     }
 
     /// The component that is next to fire, from a number on.

@@ -1,11 +1,12 @@
 //! Reads of components and of channels, over the lists that a net keeps, and what a host command does to a phase.
 
-ghost use Rattle.std.specs.Prelude.{true, ◌≡◌, ◌≤◌, ◌<◌, ◌^◌, ℕ, suc, length, map, [], MatchOption, MatchBool, IfSome};
+ghost use Rattle.std.specs.Prelude.{true, ◌≡◌, ◌≤◌, ◌<◌, ◌^◌, ℕ, suc, length, map, [], MatchOption, MatchBool, IfOk, IfSome};
 ghost use Rattle.bz_model.specs.Nets.{IsPort, StepsAt, chan_at, site_at};
 ghost use Rattle.bz_model.specs.Hosts.{reply_to, host_after, fits_side, received, refusal_at};
 ghost use Rattle.bz_elab.specs.Flats.{site_of};
 ghost use Rattle.bz_model.specs.Clashes.{is_mixer, IsAsked, Clashes};
 ghost use Rattle.bz_net.specs.Noted.{NotedEnd};
+ghost use Rattle.bz_net.specs.Due.{Foresees, TellsDue};
 ghost use Rattle.bz_net.specs.Ends.{IsPortIn};
 ghost use Rattle.bz_net.specs.Sides.{answers};
 ghost use Rattle.bz_net.specs.Keeping.{state_of, Placed, ReadsChans};
@@ -17,6 +18,7 @@ use bz_arena::Arena;
 use bz_elab::{Ends, FlatComp};
 use bz_kinds::is_passive;
 use bz_model::{ChanKind, Kind, Move, Names, NetError, Phase, Reply, Value, Verb, fits};
+use std::alloc::{AllocError, Global};
 
 /// The channel at a component's port.
 pub(crate) fn chan_of(sites: &[FlatComp], comp: u32, port: u32) -> Option<u32>
@@ -77,6 +79,51 @@ pub(crate) fn can_fire(
             phases[chan as usize - 1],
         ),
     }
+}
+
+/// The move that a component has at a port, whether or not it can be made.
+pub(crate) fn due_at(
+    sites: &[FlatComp],
+    nodes: &Arena<Node>,
+    phases: &[Phase],
+    comp: u32,
+    port: u32,
+) -> Option<Move>
+    requires { Placed (map site_of sites.now) phases.now (comps_of nodes.now) }
+    ensures { TellsDue (map site_of sites.now) (state_of phases.now (comps_of nodes.now)) comp port result }
+{
+    match chan_of(sites, comp, port) {
+        None => None,
+        Some(_) => bz_kinds::next(&nodes.get(node_id(comp)).comp, port),
+    }
+}
+
+/// The channel, the move and the value of the step that a component has at a port, where it has one: the step is tried on a copy
+/// of the component.
+pub(crate) fn foresee(
+    alloc: Global,
+    sites: &[FlatComp],
+    nodes: &Arena<Node>,
+    phases: &[Phase],
+    comp: u32,
+    port: u32,
+) -> Result<Option<(u32, Move, Option<Value>)>, AllocError>
+    requires { Placed (map site_of sites.now) phases.now (comps_of nodes.now) }
+    ensures { IfOk result (Foresees (map site_of sites.now) (state_of phases.now (comps_of nodes.now)) comp port) }
+{
+    let Some(chan) = chan_of(sites, comp, port) else {
+        return Ok(None);
+    };
+    let node = nodes.get(node_id(comp));
+    let phase = phases[chan as usize - 1];
+    if !bz_kinds::enabled(&node.comp, port, phase) {
+        return Ok(None);
+    }
+    let Ok(mut copy) = bz_kinds::dup(alloc, &node.comp) else {
+        return Err(AllocError);
+    };
+    let (mv, value) = bz_kinds::apply(&mut copy, port, phase);
+    Ok(Some((chan, mv, value)))
 }
 
 /// Whether a kind is one at which requests may meet.

@@ -9,9 +9,10 @@ ghost use Rattle.bz_net.specs.Answering.{is_answer, would_answer};
 ghost use Rattle.bz_model.specs.Runs.{CanStep, Rest, IsNext, Run};
 ghost use Rattle.bz_elab.specs.Wires.{WellWired};
 ghost use Rattle.bz_net.specs.Simulation.{Adds, IsOpened};
+ghost use Rattle.bz_net.specs.Due.{Foresees, TellsDue};
 ghost use Rattle.bz_net.specs.Ends.{TellsEnds, TellsPort, IsSolePort, IsOn};
 ghost use Rattle.bz_net.specs.Sides.{answers};
-ghost use Rattle.bz_net.specs.Replies.{Admits, RefusesEntry, RefusesFire, IsFiring, IsSoleStep, IsLowestFiring, RefusesLowest, IsPicked, Replies, RefusesCommand};
+ghost use Rattle.bz_net.specs.Replies.{Admits, RefusesAt, RefusesEntry, RefusesFire, IsFiring, IsSoleStep, IsLowestFiring, RefusesLowest, IsPicked, Replies, RefusesCommand};
 ghost use Rattle.bz_net.specs.Resting.{TellsRest};
 ghost use Rattle.bz_net.specs.Running.{Ran};
 ghost use Rattle.bz_net.specs.Serving.{Serves, Refuses};
@@ -19,7 +20,7 @@ ghost use Rattle.bz_model.specs.Clashes.{AreClashed};
 
 use crate::core_net::Core;
 use crate::event::{Answer, Event, RestReply, RunEnd};
-use crate::moves::reply_to;
+use crate::moves::{refusal_of, reply_to};
 use crate::noted::Noted;
 use bz_elab::Flat;
 use bz_model::{Entry, HostCmd, Move, Names, NetError, Phase, Reply, Value, Verb, Who};
@@ -115,6 +116,33 @@ impl Net {
             (CanStep self.now.wiring.sites self.now.state comp → ⊥) }
     {
         self.core.is_ready(comp)
+    }
+
+    /// Whether a component can move at a port.
+    pub fn can_fire(&self, comp: u32, port: u32) -> bool
+        ensures { MatchBool result (StepsAt self.now.wiring.sites self.now.state comp port)
+            (StepsAt self.now.wiring.sites self.now.state comp port → ⊥) }
+    {
+        self.core.can_fire(comp, port)
+    }
+
+    /// The move that a component has at a port, whether or not its channel lets it be made.
+    pub fn due(&self, comp: u32, port: u32) -> Option<Move>
+        ensures { TellsDue self.now.wiring.sites self.now.state comp port result }
+    {
+        self.core.due(comp, port)
+    }
+
+    /// The channel, the move and the value that `fire_move` would enter, where a component can move at a port.
+    pub fn foresee(
+        &self,
+        alloc: Global,
+        comp: u32,
+        port: u32,
+    ) -> Result<Option<(u32, Move, Option<Value>)>, AllocError>
+        ensures { IfOk result (Foresees self.now.wiring.sites self.now.state comp port) }
+    {
+        self.core.foresee(alloc, comp, port)
     }
 
     /// Makes sure that one more entry can be added.
@@ -415,6 +443,26 @@ impl Net {
             })
             .unwrap();
         Ok(reply)
+    }
+
+    /// Makes one host command at the external port of this number.
+    pub fn host_at(
+        &mut self,
+        who: Who,
+        verb: Verb,
+        port: u32,
+        value: Option<Value>,
+    ) -> Result<Reply, NetError>
+        requires from { 0 < port }
+        requires to { port ≤ length self.old.wiring.ports }
+        ensures adds { IfOk result (λ reply. Adds self.old (Entry.Host who verb port value reply) self.new) }
+        ensures cause { IfErr result (RefusesAt self.old verb port value) }
+        ensures err { OnErr result (self.new ≡ self.old) }
+    {
+        if let Some(e) = refusal_of(self.core.names(), verb, port, value) {
+            return Err(e);
+        }
+        self.command_at(who, verb, port, value)
     }
 
     /// Begins a handshake at a port declared passive.

@@ -8,8 +8,10 @@ mod nets;
 mod playing;
 mod script;
 mod spoiling;
+mod tasks;
 
 pub use nets::{flat_of, net_of, play_of};
 pub use playing::{Outcome, check, gathered, list, play, play_in_pieces, play_with_journal};
 pub use script::Script;
 pub use spoiling::{Spoilt, told, told_spoilt};
+pub use tasks::{Task, answer, pieces_over, run_over};

@@ -4,7 +4,8 @@ ghost use Rattle.std.specs.Prelude.{◌<◌, ◌≤◌};
 
 use crate::calls::{run, serve_host};
 use crate::nets::net_of;
-use bz_commands::{Fault, check_cmd, list_cmd, run_cmd, run_in_pieces, write_out};
+use crate::tasks::{check_over, list_over, pieces_over, run_over};
+use bz_commands::{Fault, write_out};
 use bz_model::{Cmd, NetError};
 use bz_net::{Event, Net, RunEnd};
 use bz_words::command;
@@ -32,14 +33,7 @@ pub fn play(
 {
     let mut input = netlist;
     let mut trace = Vec::new(alloc);
-    let result = run_cmd(
-        alloc,
-        part.as_bytes(),
-        journal,
-        words,
-        &mut input,
-        &mut trace,
-    );
+    let result = run_over(alloc, part, journal, words, &mut input, &mut trace);
     gathered(alloc, trace, result)
 }
 
@@ -58,15 +52,7 @@ pub fn play_in_pieces(
 {
     let mut input = netlist.as_bytes();
     let mut trace = Vec::new(alloc);
-    let result = run_in_pieces(
-        alloc,
-        part.as_bytes(),
-        journal,
-        room,
-        words,
-        &mut input,
-        &mut trace,
-    );
+    let result = pieces_over(alloc, part, journal, room, words, &mut input, &mut trace);
     gathered(alloc, trace, result)
 }
 
@@ -82,25 +68,36 @@ pub fn play_with_journal(
     requires most { journal ≤ 16777216 }
 {
     let mut net = net_of(alloc, netlist, part, journal)?;
-    let mut answer = Ok(());
-    for (place, word) in words.iter().enumerate() {
-        let Some(cmd) = command(alloc, word)? else {
-            return Err(Fail::from("no word"));
-        };
-        if let Err(error) = event(&mut net, &cmd) {
-            let word = place + 1;
-            answer = Err(Fault::Event { error, word });
-            break;
-        }
-    }
+    play_on(alloc, &mut net, words)
+}
+
+// Plays the words on a net, and writes the trace of its journal. The net is owned above, where nothing else can end.
+fn play_on(alloc: Global, net: &mut Net, words: &[&str]) -> Result<Outcome, Fail> {
+    let answer = play_words(alloc, net, words)?;
     let mut trace = Vec::new(alloc);
     write_out(net.names(), net.journal(), net.clashes(), &mut trace)?;
     gathered(alloc, trace, answer)
 }
 
+fn play_words(alloc: Global, net: &mut Net, words: &[&str]) -> Result<Result<(), Fault>, Fail> {
+    for (place, word) in words.iter().enumerate() {
+        let Some(cmd) = command(alloc, word)? else {
+            return Err(Fail::from("no word"));
+        };
+        if let Err(error) = event(net, &cmd) {
+            let word = place + 1;
+            return Ok(Err(Fault::Event { error, word }));
+        }
+    }
+    Ok(Ok(()))
+}
+
 fn event(net: &mut Net, cmd: &Cmd) -> Result<(), NetError> {
     match cmd {
-        Cmd::Host(cmd) => serve_host(net, Event::Host(cmd)).map(|_| ()),
+        Cmd::Host(cmd) => {
+            serve_host(net, Event::Host(cmd))?;
+            Ok(())
+        }
         Cmd::Run(fuel) => match run(net, 1, *fuel) {
             RunEnd::Refused(_, error) => Err(error),
             _ => Ok(()),
@@ -112,7 +109,7 @@ fn event(net: &mut Net, cmd: &Cmd) -> Result<(), NetError> {
 pub fn list(alloc: Global, netlist: &[u8], part: &str) -> Result<Outcome, Fail> {
     let mut input = netlist;
     let mut text = Vec::new(alloc);
-    let result = list_cmd(alloc, part.as_bytes(), &mut input, &mut text);
+    let result = list_over(alloc, part, &mut input, &mut text);
     gathered(alloc, text, result)
 }
 
@@ -123,7 +120,7 @@ pub fn check(alloc: Global, netlist: &str, part: &str, trace: &[u8]) -> Result<O
     bytes.extend_from_slice(trace)?;
     let mut input = bytes.as_slice();
     let mut text = Vec::new(alloc);
-    match check_cmd(alloc, part.as_bytes(), &mut input, &mut text) {
+    match check_over(alloc, part, &mut input, &mut text) {
         Ok(is_run) => Ok(Outcome {
             text,
             fault: String::new(alloc),

@@ -1,0 +1,5 @@
+pub mod Offering
+pub mod Replays
+pub mod Busyness
+pub mod Going
+pub mod Answered

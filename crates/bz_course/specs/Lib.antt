@@ -1,0 +1,5 @@
+pub mod Offers
+pub mod HostOffers
+pub mod Waiting
+pub mod Replaying
+pub mod Courses

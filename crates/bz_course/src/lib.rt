@@ -1,0 +1,16 @@
+//! A net that is played by hand: the moves that can be made in it, what is under way, and the way back.
+#![tactic(auto)]
+
+mod busy;
+mod course;
+mod host_offers;
+mod offers;
+mod picker;
+mod replaying;
+
+pub use busy::busy_chans;
+pub use course::{Course, Mark, UndoError};
+pub use host_offers::{HostOffer, answered_words};
+pub use offers::{Offer, offers_of};
+pub use picker::Picker;
+pub use replaying::replay;

@@ -1,0 +1,39 @@
+//! Picking by chance.
+
+ghost use Rattle.std.specs.Prelude.{◌<◌};
+
+use rand_core::utils::NextWord;
+use rand_pcg::Pcg32;
+
+/// The stream of all pickers: they differ by their seeds.
+const STREAM: u64 = 54;
+
+/// What is picked by: the seed, and how far the picking is.
+#[derive(Clone, Copy, Debug, PartialEq, Eq)]
+pub struct Picker {
+    pub seed: u64,
+    state: u64,
+}
+
+impl Picker {
+    /// Begins the picking of a seed.
+    pub fn new(seed: u64) -> Picker {
+        Picker {
+            seed,
+            state: Pcg32::new(seed, STREAM).state(),
+        }
+    }
+
+    /// One of so many numbers from 0 on.
+    pub fn pick(&mut self, count: u32) -> u32
+        requires { 0 < count }
+        ensures { result < count }
+    {
+        let mut words = Pcg32::from_state(self.state, STREAM);
+        let high = words.next_word();
+        let low = words.next_word();
+        self.state = words.state();
+        let word = u64::from(high) * 4_294_967_296 + u64::from(low);
+        (word % u64::from(count)) as u32
+    }
+}
