@@ -1,23 +1,20 @@
 //! The program `breezesim`.
 #![tactic(auto)]
 
-mod command_line;
-mod help;
-mod word_file;
-
-use crate::command_line::{MAX_JOURNAL, MAX_WORKERS, command_line};
-use crate::word_file::split_words;
 use bz_chart::{ChartFault, LineRange, chart_cmd};
 use bz_cli::{Fault, PoolOptions, check_cmd, list_cmd, pool_cmd, read_input, run_cmd};
+use bz_command_line::{ArgsFault, MAX_JOURNAL, MAX_WORKERS, command_line, split_words, words_of};
+use bz_commands::split_trace;
 use bz_draw::draw_cmd;
+use bz_explain::{Asked, Words};
 use bz_look::{list_paths_cmd, parts_cmd};
+use bz_notes::{Keeping, tell};
 use bz_session::{End, read_name};
 use clap::error::ErrorKind;
 use clap::{ArgMatches, Error};
 use std::alloc::Global;
 use std::io::{BufWriter, Read};
 use std::process::ExitCode;
-use std::rt::Env;
 use std::sync::Wait;
 use std::thread::Threads;
 use std::{fs, io};
@@ -37,16 +34,11 @@ const BUFFER_SIZE: usize = 65_536;
 /// The status of a trace that is not that of a run.
 const NO_RUN: u8 = 1;
 
+/// The words of a command that takes none.
+const NO_WORDS: Words<'static, 'static> = Words::Run(&[]);
+
 /// The status of a bad command line.
 const BAD_COMMAND_LINE: u8 = 2;
-
-/// Why the words of the command line can't be had.
-#[derive(Clone, Copy, Debug, PartialEq, Eq)]
-enum ArgsFault {
-    /// One of them is not UTF-8.
-    NotText,
-    Memory,
-}
 
 // The name of the part that is asked for, or the status with which the program ends.
 fn part_name<'a>(rt: &HostRuntime, matches: &ArgMatches<'a>) -> Result<Vec<u8>, ExitCode> {
@@ -80,7 +72,11 @@ fn words_in(rt: &HostRuntime, path: &str) -> Result<String, ExitCode> {
     }
 }
 
-fn run<'a, R: Read>(rt: &HostRuntime, matches: &ArgMatches<'a>, input: &mut R) -> ExitCode {
+fn run<'a, R: Read + Drop>(
+    rt: &HostRuntime,
+    matches: &ArgMatches<'a>,
+    input: &mut Keeping<R>,
+) -> ExitCode {
     match matches.get_str("word-file") {
         None => run_words(rt, matches, matches.get_strs("words").unwrap_or(&[]), input),
         Some(path) => {
@@ -96,11 +92,11 @@ fn run<'a, R: Read>(rt: &HostRuntime, matches: &ArgMatches<'a>, input: &mut R) -
     }
 }
 
-fn run_words<'a, R: Read>(
+fn run_words<'a, R: Read + Drop>(
     rt: &HostRuntime,
     matches: &ArgMatches<'a>,
     words: &[&str],
-    input: &mut R,
+    input: &mut Keeping<R>,
 ) -> ExitCode {
     let alloc = rt.alloc();
     let part = match part_name(rt, matches) {
@@ -115,14 +111,14 @@ fn run_words<'a, R: Read>(
         return refuse(rt, &Fault::Memory);
     };
     let result = run_cmd(alloc, part.as_slice(), journal, words, input, &mut output);
-    ends(rt, result)
+    ends(rt, result, asked(input.kept(), &part, Words::Run(words)))
 }
 
-fn pool<'a, T: Threads + Wait + Sync, R: Read>(
+fn pool<'a, T: Threads + Wait + Sync, R: Read + Drop>(
     rt: &HostRuntime,
     threads: &T,
     matches: &ArgMatches<'a>,
-    input: &mut R,
+    input: &mut Keeping<R>,
 ) -> ExitCode {
     match matches.get_str("word-file") {
         None => {
@@ -142,12 +138,12 @@ fn pool<'a, T: Threads + Wait + Sync, R: Read>(
     }
 }
 
-fn pool_words<'a, T: Threads + Wait + Sync, R: Read>(
+fn pool_words<'a, T: Threads + Wait + Sync, R: Read + Drop>(
     rt: &HostRuntime,
     threads: &T,
     matches: &ArgMatches<'a>,
     words: &[&str],
-    input: &mut R,
+    input: &mut Keeping<R>,
 ) -> ExitCode {
     let alloc = rt.alloc();
     let part = match part_name(rt, matches) {
@@ -184,7 +180,7 @@ fn pool_words<'a, T: Threads + Wait + Sync, R: Read>(
             }
             ExitCode::SUCCESS
         }
-        Err(fault) => refuse(rt, &fault),
+        Err(fault) => refuse_asked(rt, &fault, asked(input.kept(), &part, Words::Pool(words))),
     }
 }
 
@@ -201,7 +197,11 @@ fn note(rt: &HostRuntime, session: usize, end: End) {
     };
 }
 
-fn list<'a, R: Read>(rt: &HostRuntime, matches: &ArgMatches<'a>, input: &mut R) -> ExitCode {
+fn list<'a, R: Read + Drop>(
+    rt: &HostRuntime,
+    matches: &ArgMatches<'a>,
+    input: &mut Keeping<R>,
+) -> ExitCode {
     let alloc = rt.alloc();
     let part = match part_name(rt, matches) {
         Ok(part) => part,
@@ -215,10 +215,14 @@ fn list<'a, R: Read>(rt: &HostRuntime, matches: &ArgMatches<'a>, input: &mut R) 
     } else {
         list_cmd(alloc, part.as_slice(), input, &mut output)
     };
-    ends(rt, result)
+    ends(rt, result, asked(input.kept(), &part, NO_WORDS))
 }
 
-fn draw<'a, R: Read>(rt: &HostRuntime, matches: &ArgMatches<'a>, input: &mut R) -> ExitCode {
+fn draw<'a, R: Read + Drop>(
+    rt: &HostRuntime,
+    matches: &ArgMatches<'a>,
+    input: &mut Keeping<R>,
+) -> ExitCode {
     let alloc = rt.alloc();
     let part = match part_name(rt, matches) {
         Ok(part) => part,
@@ -229,18 +233,23 @@ fn draw<'a, R: Read>(rt: &HostRuntime, matches: &ArgMatches<'a>, input: &mut R) 
         return refuse(rt, &Fault::Memory);
     };
     let result = draw_cmd(alloc, part.as_slice(), depth, input, &mut output);
-    ends(rt, result)
+    ends(rt, result, asked(input.kept(), &part, NO_WORDS))
 }
 
-fn parts<R: Read>(rt: &HostRuntime, input: &mut R) -> ExitCode {
+fn parts<R: Read + Drop>(rt: &HostRuntime, input: &mut Keeping<R>) -> ExitCode {
     let alloc = rt.alloc();
     let Ok(mut output) = BufWriter::with_capacity(alloc, BUFFER_SIZE, io::writer(rt)) else {
         return refuse(rt, &Fault::Memory);
     };
-    ends(rt, parts_cmd(alloc, input, &mut output))
+    let result = parts_cmd(alloc, input, &mut output);
+    ends(rt, result, asked(input.kept(), &[], NO_WORDS))
 }
 
-fn check<'a, R: Read>(rt: &HostRuntime, matches: &ArgMatches<'a>, input: &mut R) -> ExitCode {
+fn check<'a, R: Read + Drop>(
+    rt: &HostRuntime,
+    matches: &ArgMatches<'a>,
+    input: &mut Keeping<R>,
+) -> ExitCode {
     let alloc = rt.alloc();
     let part = match part_name(rt, matches) {
         Ok(part) => part,
@@ -252,11 +261,15 @@ fn check<'a, R: Read>(rt: &HostRuntime, matches: &ArgMatches<'a>, input: &mut R)
     match check_cmd(alloc, part.as_slice(), input, &mut output) {
         Ok(true) => ExitCode::SUCCESS,
         Ok(false) => ExitCode::from(NO_RUN),
-        Err(fault) => refuse(rt, &fault),
+        Err(fault) => refuse_asked(rt, &fault, asked(netlist(input), &part, NO_WORDS)),
     }
 }
 
-fn chart<'a, R: Read>(rt: &HostRuntime, matches: &ArgMatches<'a>, input: &mut R) -> ExitCode {
+fn chart<'a, R: Read + Drop>(
+    rt: &HostRuntime,
+    matches: &ArgMatches<'a>,
+    input: &mut Keeping<R>,
+) -> ExitCode {
     let alloc = rt.alloc();
     let part = match part_name(rt, matches) {
         Ok(part) => part,
@@ -271,7 +284,9 @@ fn chart<'a, R: Read>(rt: &HostRuntime, matches: &ArgMatches<'a>, input: &mut R)
     };
     match chart_cmd(alloc, part.as_slice(), lines, input, &mut output) {
         Ok(()) => ExitCode::SUCCESS,
-        Err(ChartFault::Command(fault)) => refuse(rt, &fault),
+        Err(ChartFault::Command(fault)) => {
+            refuse_asked(rt, &fault, asked(netlist(input), &part, NO_WORDS))
+        }
         Err(fault) => {
             let _ = eprintln!(rt; "error: {fault}");
             ExitCode::from(fault.status())
@@ -279,18 +294,43 @@ fn chart<'a, R: Read>(rt: &HostRuntime, matches: &ArgMatches<'a>, input: &mut R)
     }
 }
 
+// What the notes of a fault are told of, where they were asked for and the netlist was kept.
+fn asked<'a, 't>(
+    netlist: Option<&'a [u8]>,
+    part: &'a [u8],
+    words: Words<'a, 't>,
+) -> Option<Asked<'a, 't>> {
+    Some(Asked {
+        netlist: netlist?,
+        part,
+        words,
+    })
+}
+
+// The netlist in front of a trace, where it was kept.
+fn netlist<R: Read + Drop>(input: &Keeping<R>) -> Option<&[u8]> {
+    let (netlist, _trace) = split_trace(input.kept()?);
+    Some(netlist)
+}
+
 // The exit status of a command.
-fn ends(rt: &HostRuntime, answer: Result<(), Fault>) -> ExitCode {
+fn ends(rt: &HostRuntime, answer: Result<(), Fault>, asked: Option<Asked<'_, '_>>) -> ExitCode {
     match answer {
         Ok(()) => ExitCode::SUCCESS,
-        Err(fault) => refuse(rt, &fault),
+        Err(fault) => refuse_asked(rt, &fault, asked),
     }
 }
 
 // Ends with a fault line.
 fn refuse(rt: &HostRuntime, fault: &Fault) -> ExitCode {
-    let _ = eprintln!(rt; "breezesim: {fault}");
-    ExitCode::from(fault.status())
+    refuse_asked(rt, fault, None)
+}
+
+// Ends with a fault line, and with notes behind it where they were asked for.
+fn refuse_asked(rt: &HostRuntime, fault: &Fault, asked: Option<Asked<'_, '_>>) -> ExitCode {
+    let alloc = rt.alloc();
+    let notes = asked.map(|asked| bz_explain::explain(alloc, fault, asked));
+    ExitCode::from(tell(alloc, fault, notes.as_ref(), &mut rt.stderr()))
 }
 
 // Ends with a bad command line.
@@ -318,19 +358,6 @@ fn explain(rt: &HostRuntime, error: &Error) -> ExitCode {
     }
 }
 
-fn words_of<R: Env + Alloc<A = Global>>(rt: &R) -> Result<Vec<String>, ArgsFault> {
-    match std::env::args(rt) {
-        Ok(args) => args.collect(rt.alloc()).map_err(|_| ArgsFault::Memory),
-        Err(error) => match error.kind() {
-            io::ErrorKind::InvalidData => Err(ArgsFault::NotText),
-            _ => Err(ArgsFault::Memory),
-        },
-    }
-}
-
-#[cfg(test)]
-mod tests;
-
 // Does what a subcommand says, on the netlist of the file that it names, or of standard input.
 fn play<'a, T: Threads + Wait + Sync>(
     rt: &HostRuntime,
@@ -339,21 +366,22 @@ fn play<'a, T: Threads + Wait + Sync>(
     matches: &ArgMatches<'a>,
 ) -> ExitCode {
     match matches.get_str("netlist") {
-        None => play_on(rt, threads, name, matches, &mut rt.reader()),
+        None => play_on(rt, threads, name, matches, rt.reader()),
         Some(path) => match fs::open(rt, path) {
-            Ok(mut file) => play_on(rt, threads, name, matches, &mut file),
+            Ok(file) => play_on(rt, threads, name, matches, file),
             Err(_) => unreadable(rt, path),
         },
     }
 }
 
-fn play_on<'a, T: Threads + Wait + Sync, R: Read>(
+fn play_on<'a, T: Threads + Wait + Sync, R: Read + Drop>(
     rt: &HostRuntime,
     threads: &T,
     name: &str,
     matches: &ArgMatches<'a>,
-    input: &mut R,
+    input: R,
 ) -> ExitCode {
+    let input = &mut Keeping::new(rt.alloc(), input, matches.get_flag("explain"));
     match name {
         "chart" => chart(rt, matches, input),
         "check" => check(rt, matches, input),

@@ -3,6 +3,9 @@
 //! drawn beside it.
 #![tactic(auto)]
 
+mod notes;
+
+use crate::notes::{explained, explained_faults};
 use bz_chart::LineRange;
 use bz_cli::PoolOptions;
 use bz_playing::{Spoilt, check, list, play, told, told_spoilt};
@@ -32,32 +35,37 @@ const SPOILT: [Spoilt; 3] = [Spoilt::LeftOut, Spoilt::Doubled, Spoilt::Exchanged
 const LISTED: [&str; 2] = ["tee", "two_place"];
 
 /// Netlists with the lists of the part of their name that tell where everything stands, and its drawings.
-const PLACED: [&str; 6] = [
+const PLACED: [&str; 7] = [
     "buffer",
     "arbiter_tree",
     "pipeline",
     "countdown",
     "tee",
     "two_place",
+    "cross",
 ];
 
 /// Netlists with the lists of their parts.
 const PARTED: [&str; 2] = ["arbiter_tree", "pipeline"];
-/// Netlists with the charts of their traces, and the lines that are drawn where not all are.
-const CHARTED: [(&str, LineRange); 7] = [
-    ("buffer", ALL),
-    ("arbiter_tree", ALL),
-    ("countdown", ALL),
+
+/// Netlists with the charts of their traces, the part, and the lines that are drawn where not all are.
+const CHARTED: [(&str, &str, LineRange); 9] = [
+    ("buffer", "buffer", ALL),
+    ("arbiter_tree", "arbiter_tree", ALL),
+    ("countdown", "countdown", ALL),
     (
+        "pipeline",
         "pipeline",
         LineRange {
             from: Some(55),
             to: Some(90),
         },
     ),
-    ("tee", ALL),
-    ("two_place", ALL),
-    ("cross", ALL),
+    ("tee", "tee", ALL),
+    ("two_place", "two_place", ALL),
+    ("cross", "cross", ALL),
+    ("clash", "m", ALL),
+    ("wide_values", "row", ALL),
 ];
 
 const ALL: LineRange = LineRange {
@@ -212,10 +220,10 @@ fn parted(rt: &HostRuntime, name: &str) -> Result<(), Fail> {
     )
 }
 
-fn charted(rt: &HostRuntime, name: &str, lines: LineRange) -> Result<(), Fail> {
+fn charted(rt: &HostRuntime, name: &str, part: &str, lines: LineRange) -> Result<(), Fail> {
     let netlist = file(rt, name, "breeze")?;
     let trace = file(rt, name, "trace")?;
-    let outcome = chart(rt.alloc(), netlist.as_str(), name, trace.as_str(), lines)?;
+    let outcome = chart(rt.alloc(), netlist.as_str(), part, trace.as_str(), lines)?;
     let drawing = file(rt, name, "svg")?;
     let label = format!(in rt.alloc(); "chart of {name}")?;
     tell(
@@ -262,11 +270,12 @@ fn main(rt: HostRuntime) -> Result<(), Fail> {
     for name in PARTED {
         parted(&rt, name)?;
     }
-    for (name, lines) in CHARTED {
-        charted(&rt, name, lines)?;
+    for (name, part, lines) in CHARTED {
+        charted(&rt, name, part, lines)?;
     }
     for name in REFUSED {
         refused(&rt, name)?;
     }
-    Ok(())
+    explained(&rt)?;
+    explained_faults(&rt)
 }

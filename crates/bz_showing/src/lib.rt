@@ -4,5 +4,5 @@
 mod looking;
 mod pools;
 
-pub use looking::{chart, draw, list_paths, parts};
+pub use looking::{Look, chart, draw, list_paths, look_at, parts};
 pub use pools::{Pooled, pool};

@@ -1,0 +1,196 @@
+//! A netlist that was read, and where its records stand.
+
+use crate::joined::chan_at;
+use crate::seat::{Head, part_form};
+use crate::source::{put_place, put_spot};
+use bz_breeze::{Component, Part as PartRecord, Parts, Slot};
+use bz_kind_table::{KindError, kind_of};
+use bz_lines::Part;
+use bz_model::{Chan, Kind, Port, Value};
+use bz_notes::{Draft, spot_of};
+use bz_places::Place;
+use bz_sexpr::Forms;
+use std::alloc::{AllocError, Global};
+
+/// A netlist: its text, the data that this spells, and the parts that these name.
+#[derive(Clone, Copy)]
+pub(crate) struct Netlist<'t> {
+    pub(crate) text: &'t [u8],
+    pub(crate) data: Forms<'t>,
+    pub(crate) parts: &'t Parts,
+}
+
+/// A component of a part.
+#[derive(Clone, Copy)]
+pub(crate) struct Site<'t> {
+    pub(crate) netlist: Netlist<'t>,
+    /// The number of its part, from 0.
+    pub(crate) number: usize,
+    pub(crate) part: &'t PartRecord,
+    /// Its position in that part, from 1.
+    pub(crate) position: usize,
+    pub(crate) component: &'t Component,
+}
+
+impl<'t> Netlist<'t> {
+    /// The component at a position of a part.
+    pub(crate) fn site(self, number: usize, position: usize) -> Option<Site<'t>> {
+        let part = self.parts.list().get(number)?;
+        let component = part.components.get(position.checked_sub(1)?)?;
+        Some(Site {
+            netlist: self,
+            number,
+            part,
+            position,
+            component,
+        })
+    }
+
+    /// The name of a part.
+    pub(crate) fn name(self, number: usize) -> &'t [u8] {
+        match self.parts.list().get(number) {
+            Some(part) => part.name.as_slice(),
+            None => &[],
+        }
+    }
+
+    /// The byte at which a part begins.
+    pub(crate) fn byte_of_part(self, number: usize) -> Option<usize> {
+        let part = part_form(self.data, number)?;
+        Some(part.span.from)
+    }
+
+    /// The byte at which a record of a part begins.
+    pub(crate) fn byte_of(self, number: usize, head: Head, position: usize) -> Option<usize> {
+        let record = part_form(self.data, number)?.member(head, position)?;
+        Some(record.span().from)
+    }
+
+    /// Tells where a record of a part stands, with a mark.
+    pub(crate) fn put_record(
+        self,
+        draft: &mut Draft,
+        number: usize,
+        head: Head,
+        position: usize,
+        mark: &[Part<'_>],
+    ) -> Result<(), AllocError> {
+        match self.byte_of(number, head, position) {
+            Some(byte) => put_place(draft, self.text, byte, mark),
+            None => Ok(()),
+        }
+    }
+
+    /// Tells where a record of a part stands, by what it is there.
+    pub(crate) fn put_listed(
+        self,
+        draft: &mut Draft,
+        number: usize,
+        head: Head,
+        position: usize,
+    ) -> Result<(), AllocError> {
+        let mark = [
+            Part::Bytes(head.member().as_bytes()),
+            Part::Bytes(b" "),
+            Part::Number(position as Value),
+            Part::Bytes(b" of part "),
+            Part::Name(self.name(number)),
+        ];
+        self.put_record(draft, number, head, position, &mark)
+    }
+
+    /// Goes on with the line and column of a record.
+    pub(crate) fn put_spot_of(
+        self,
+        draft: &mut Draft,
+        number: usize,
+        head: Head,
+        position: usize,
+    ) -> Result<(), AllocError> {
+        match self.byte_of(number, head, position) {
+            Some(byte) => put_spot(draft, spot_of(self.text, byte)),
+            None => Ok(()),
+        }
+    }
+}
+
+impl<'t> Netlist<'t> {
+    /// The channel at a place.
+    pub(crate) fn chan(self, place: &Place) -> Option<Chan> {
+        let part = self.parts.list().get(place.part)?;
+        part.channels.get(place.position.checked_sub(1)?).copied()
+    }
+
+    /// The external port at a place.
+    pub(crate) fn port(self, place: &Place) -> Option<&'t Port> {
+        let part = self.parts.list().get(place.part)?;
+        part.ports.get(place.position.checked_sub(1)?)
+    }
+}
+
+impl<'t> Site<'t> {
+    /// The part that it is an instance of.
+    pub(crate) fn inner(self) -> Option<&'t PartRecord> {
+        self.netlist.parts.find(self.component.name.as_slice())
+    }
+
+    /// Its kind, where its name and parameters are those of one.
+    pub(crate) fn kind(self, alloc: Global) -> Result<Option<Kind>, AllocError> {
+        match kind_of(
+            alloc,
+            self.component.name.as_slice(),
+            self.component.params.as_slice(),
+        ) {
+            Ok(kind) => Ok(Some(kind)),
+            Err(KindError::Memory) => Err(AllocError),
+            Err(_) => Ok(None),
+        }
+    }
+
+    /// All channels that its entries name, in order.
+    pub(crate) fn named(self, alloc: Global) -> Result<Vec<u32>, AllocError> {
+        let mut named = Vec::new(alloc);
+        for entry in &self.component.entries {
+            match entry {
+                Slot::One(chan) => named.push(*chan)?,
+                Slot::Many(chans) => named.extend_from_slice(chans.as_slice())?,
+            }
+        }
+        Ok(named)
+    }
+
+    /// Whether one of them is this channel.
+    pub(crate) fn has_channel(self, chan: u32) -> bool {
+        for entry in &self.component.entries {
+            let found = match entry {
+                Slot::One(named) => *named == chan,
+                Slot::Many(chans) => chans.contains(&chan),
+            };
+            if found {
+                return true;
+            }
+        }
+        false
+    }
+
+    /// How many of its entries are lists.
+    pub(crate) fn lists(self) -> usize {
+        self.component
+            .entries
+            .iter()
+            .filter(|entry| is_list(entry))
+            .count()
+    }
+
+    /// The channel of its part of a number, from 1.
+    pub(crate) fn channel(self, number: u32) -> Option<Chan> {
+        chan_at(&self.part.channels, number)
+    }
+}
+
+fn is_list(entry: &Slot) -> bool {
+    match entry {
+        Slot::One(_) => false,
+        Slot::Many(_) => true,
+    }
+}
