@@ -52,3 +52,10 @@ nothing_out A text part range old (Command fault.NoThread) so = (so, keeps_same 
 nothing_out A text part range old (Command fault.Read) so = (so, keeps_same old)
 nothing_out A text part range old (Command fault.Write) so = absurd so.3
 nothing_out A text part range old (Command fault.Memory) so = (so, keeps_same old)
+
+-- the line of a trace that is no run, or no trace, is told
+pub no_run : (text part netlist trace : List ℕ) (w : Wiring) (range : LineRange) (line : ℕ) → Splits text netlist trace → Denotes netlist part w → Judges w trace (verdict.Not line) → Refuses text part range (NotRun line)
+no_run text part netlist trace w range line splits net judged = record { netlist = netlist; trace = trace; splits = splits; wiring = w; net = net; judged = judged; said = tt }
+
+pub no_trace : (text part netlist trace : List ℕ) (w : Wiring) (range : LineRange) (line : ℕ) → Splits text netlist trace → Denotes netlist part w → Judges w trace (verdict.Bad line) → Refuses text part range (NotTrace line)
+no_trace text part netlist trace w range line splits net judged = record { netlist = netlist; trace = trace; splits = splits; wiring = w; net = net; judged = judged; said = tt }

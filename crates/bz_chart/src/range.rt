@@ -3,7 +3,7 @@
 ghost use Rattle.std.specs.Prelude.{◌<◌, ◌^◌, IfOk, IfErr};
 ghost use Rattle.bz_chart.specs.Pieces.{IsNoPiece, IsPiece};
 
-use bz_lifelines::Piece;
+use bz_outline::Piece;
 use std::fmt;
 
 /// The most lines that a chart holds.

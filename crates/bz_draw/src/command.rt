@@ -5,6 +5,7 @@ ghost use Rattle.bz_commands.specs.Reading.{ReadsWithin};
 use crate::drawing::drawing_of;
 use crate::graph::put_graph;
 use bz_commands::{Fault, read_input};
+use bz_lines::{Part, put_parts};
 use bz_look::survey_of;
 use std::alloc::Global;
 use std::io::{Read, Write};
@@ -25,7 +26,7 @@ pub fn draw_cmd<R: Read, W: Write>(
     draw_text(alloc, part, depth, text.as_slice(), output)
 }
 
-// Draws the net of a part of the text.
+// Draws the net of a part of the text. The drawing is made whole before any of it goes out.
 fn draw_text<W: Write>(
     alloc: Global,
     part: &[u8],
@@ -35,7 +36,11 @@ fn draw_text<W: Write>(
 ) -> Result<(), Fault> {
     let survey = survey_of(alloc, part, text)?;
     let drawing = drawing_of(alloc, &survey, depth)?;
-    put_graph(alloc, output, part, &survey, &drawing)?;
+    let mut graph = Vec::new(alloc);
+    if put_graph(alloc, &mut graph, part, &survey, &drawing).is_err() {
+        return Err(Fault::Memory);
+    }
+    put_parts(output, &[Part::Bytes(graph.as_slice())])?;
     match output.flush() {
         Ok(()) => Ok(()),
         Err(_) => Err(Fault::Write),

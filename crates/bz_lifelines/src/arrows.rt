@@ -2,7 +2,7 @@
 //! row of another line.
 
 ghost use Rattle.std.specs.Prelude.{◌≤◌};
-ghost use Rattle.bz_lifelines.specs.Layout.{HasRoom, IsClear};
+ghost use Rattle.bz_outline.specs.Layout.{HasRoom, IsClear};
 
 use crate::lanes::Side;
 use crate::scene::{Scene, TOP, colour};

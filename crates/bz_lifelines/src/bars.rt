@@ -1,9 +1,8 @@
 //! Bars: how long a lifeline holds what it took.
 
-use crate::circuit::Lifeline;
-use crate::event::{Event, Line, Step};
 use crate::scene::{Scene, TOP};
 use bz_model::Move;
+use bz_outline::{Event, Lifeline, Line, Step};
 use std::alloc::{AllocError, Global};
 
 /// What the lifeline of a column holds.

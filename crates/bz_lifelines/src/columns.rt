@@ -2,9 +2,8 @@
 
 ghost use Rattle.std.specs.Prelude.{◌≤◌, ◌<◌, ◌+◌, ◌*◌, ◌^◌, length, vec_len, IfOk, OnOk};
 
-use crate::circuit::{Circuit, Lifeline};
-use crate::event::{Event, Line};
 use bz_model::{Port, numbered};
+use bz_outline::{Circuit, Event, Lifeline, Line};
 use std::alloc::{AllocError, Global};
 
 /// Which lifelines take part in some lines of a trace.

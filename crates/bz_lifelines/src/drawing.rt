@@ -1,20 +1,17 @@
 //! The whole drawing.
 
 use crate::bars::Bars;
-use crate::circuit::Circuit;
 use crate::columns::Columns;
-use crate::event::{Line, read_line};
 use crate::flow::Flow;
 use crate::heads::Heads;
-use crate::layout::Layout;
 use crate::legend::{put_legend, sign_count};
 use crate::origins::Origins;
-use crate::piece::Piece;
 use crate::rows::{put_rows, shown};
 use crate::scene::{Scene, TOP};
 use crate::svg::{LARGE, WHITE, put_text};
 use crate::words::{Cut, digits, letters};
 use bz_lines::{LineNames, NameForm};
+use bz_outline::{Circuit, Layout, Line, Piece, read_line};
 use std::alloc::{AllocError, Global};
 
 /// How many letters of the part's name the title shows.
@@ -125,7 +122,7 @@ fn lines_of<'a>(
     let mut lines = Vec::new(alloc);
     let names = LineNames::new(alloc, circuit.names());
     let texts = trace
-        .chunk_by(|byte, _| *byte != b'\n')
+        .split_inclusive(|byte| *byte == b'\n')
         .skip(piece.first - 1);
     for (number, text) in (piece.first..=piece.last()).zip(texts) {
         if let Some(line) = read_line(circuit, &names, number, text) {
@@ -145,7 +142,7 @@ fn pass(
     flow: &mut Flow,
 ) -> Result<(), AllocError> {
     let names = LineNames::new(alloc, scene.circuit.names());
-    let texts = trace.chunk_by(|byte, _| *byte != b'\n');
+    let texts = trace.split_inclusive(|byte| *byte == b'\n');
     for (number, text) in (1..piece.first).zip(texts) {
         if let Some(line) = read_line(scene.circuit, &names, number, text) {
             bars.pass(scene, line.event)?;

@@ -3,15 +3,14 @@
 ghost use Rattle.std.specs.Prelude.{◌≤◌, IfSome};
 
 use crate::arrows::{Sent, put_arrow};
-use crate::circuit::Lifeline;
 use crate::columns::set;
-use crate::event::{Event, Step, denial_word, phase_word};
-use crate::labels::{channel_label, put_label};
+use crate::labels::{channel_label, denial_word, phase_word, put_label};
 use crate::lanes::{Lanes, Side};
 use crate::meetings::Meetings;
 use crate::scene::{Scene, colour};
 use crate::svg::{DARK, RED, put_circle, put_cross, put_triangle};
 use bz_model::{Move, Phase, numbered};
+use bz_outline::{Event, Lifeline, Step};
 use std::alloc::{AllocError, Global};
 
 /// The lanes of a lifeline.

@@ -1,8 +1,7 @@
 //! What stands at the head of each lifeline, and again between and below the rows.
 
-ghost use Rattle.bz_lifelines.specs.Layout.{HasRoom, IsClear};
+ghost use Rattle.bz_outline.specs.Layout.{HasRoom, IsClear};
 
-use crate::circuit::{Circuit, Lifeline};
 use crate::origins::Origins;
 use crate::scene::Scene;
 use crate::svg::{DARK, MIDDLE, MIDDLE_BOLD, MIDDLE_LARGE, WHITE, put_rect, put_text};
@@ -10,6 +9,7 @@ use crate::words::{Cut, first_line, letters};
 use bz_kind_table::kind_word;
 use bz_lines::NameForm;
 use bz_model::{Chan, ChanKind};
+use bz_outline::{Circuit, Lifeline};
 use std::alloc::{AllocError, Global};
 
 /// How many letters of a port's name are shown.

@@ -1,11 +1,12 @@
 //! Words beside a lifeline.
 
-ghost use Rattle.bz_lifelines.specs.Layout.{IsClear};
+ghost use Rattle.bz_outline.specs.Layout.{IsClear};
 
 use crate::lanes::Side;
 use crate::svg::WHITE;
 use crate::words::{Cut, letters};
-use bz_model::Value;
+use bz_model::{Phase, Value};
+use bz_outline::Denial;
 use std::alloc::{AllocError, Global};
 
 /// How many digits a value has at most where all of them are shown at an arrow.
@@ -38,6 +39,26 @@ pub(crate) fn put_label(
         out,
         "<text x=\"{left}\" y=\"{base}\" fill=\"{colour}\">{text}</text>"
     )
+}
+
+/// The word of a trace for how a host is told no.
+pub(crate) fn denial_word(denial: Denial) -> &'static str {
+    match denial {
+        Denial::NotYet => "not-yet",
+        Denial::Busy => "busy",
+        Denial::NotTaken => "not-taken",
+    }
+}
+
+/// The word of a phase, without its value.
+pub(crate) fn phase_word(phase: Phase) -> &'static str {
+    match phase {
+        Phase::Idle => "idle",
+        Phase::Asked(_) => "asked",
+        Phase::Taken => "taken",
+        Phase::Replied(_) => "replied",
+        Phase::Broken => "broken",
+    }
 }
 
 /// A channel, and the value that rides on it.

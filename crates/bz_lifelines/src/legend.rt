@@ -1,11 +1,11 @@
 //! What the signs of a chart mean.
 
-ghost use Rattle.bz_lifelines.specs.Layout.{HasRoom, IsClear};
+ghost use Rattle.bz_outline.specs.Layout.{HasRoom, IsClear};
 
-use crate::layout::Layout;
 use crate::rows::RESTING;
 use crate::scene::{PULL, PUSH};
 use crate::svg::{DARK, PLAIN, WHITE, put_circle, put_cross, put_rect, put_text, put_triangle};
+use bz_outline::Layout;
 use std::alloc::AllocError;
 
 /// A sign that the legend explains.

@@ -1,9 +1,8 @@
 //! Where requests meet: at a Call, CallMux or CallDemux that has one of them when another comes.
 
-use crate::circuit::{Circuit, Lifeline};
 use crate::columns::set;
-use crate::event::Event;
 use bz_model::{Kind, Move, numbered};
+use bz_outline::{Circuit, Event, Lifeline};
 use std::alloc::{AllocError, Global};
 
 /// How many handshakes each component is in with callers, and whether it was told that some met there.

@@ -1,9 +1,8 @@
 //! The lines of the trace, each on a row.
 
-use crate::event::{Event, Line};
-use crate::layout::Layout;
 use crate::svg::{AT_END, HOST_LINE, LINE, NUMBER, put_rect, put_text};
 use crate::words::Cut;
+use bz_outline::{Event, Layout, Line};
 use std::alloc::AllocError;
 
 /// How many letters of a line are shown.

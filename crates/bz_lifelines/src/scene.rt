@@ -1,10 +1,9 @@
 //! What all parts of a drawing go by.
 
-use crate::circuit::Circuit;
 use crate::columns::Columns;
-use crate::layout::Layout;
 use crate::svg::DARK;
 use bz_model::ChanKind;
+use bz_outline::{Circuit, Layout};
 
 /// The net that is drawn, the lifelines that are shown of it, and the places of all.
 #[derive(Clone, Copy)]

@@ -1,6 +1,6 @@
 //! The parts of a drawing, as the text of SVG.
 
-ghost use Rattle.bz_lifelines.specs.Layout.{IsClear};
+ghost use Rattle.bz_outline.specs.Layout.{IsClear};
 
 use std::alloc::AllocError;
 use std::fmt::Display;

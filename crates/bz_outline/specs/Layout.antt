@@ -1,7 +1,7 @@
 -- Where everything stands on a chart, in pixels: rows of 16, columns of 72, letters of 6.
 use Rattle.std.specs.Prelude.{ℕ, zero, suc, ◌+◌, ◌*◌, ◌-◌, ◌/◌, ◌%◌, ◌^◌, ◌≤◌, ◌<◌, min, max}
 use Rattle.std.specs.Int.{div_ceil}
-use Rattle.bz_lifelines.specs.declared.layout.Layout.{Layout}
+use Rattle.bz_outline.specs.declared.layout.Layout.{Layout}
 
 -- so many pixels are before it, and it is within the numbers of a machine
 abbrev pub HasRoom : ℕ → ℕ → Type 0

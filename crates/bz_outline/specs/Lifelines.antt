@@ -1,5 +1,5 @@
 -- Which lifelines stand at the ends of a channel, and what an entry of a trace shows between them.
-use Rattle.std.specs.Prelude.{ℕ, Bool, true, false, not, Option, Some, None, unwrap_or}
+use Rattle.std.specs.Prelude.{ℕ, Bool, true, false, Option, Some, None, unwrap_or}
 use Rattle.bz_model.specs.declared.channel.Chan.{Chan}
 use Rattle.bz_model.specs.declared.channel.ChanKind.TheVariants.{Sync}
 use Rattle.bz_model.specs.declared.channel.Move.{Move}
@@ -14,12 +14,12 @@ use Rattle.bz_model.specs.Names.{channel, numbered, port_sense}
 use Rattle.bz_elab.specs.declared.flat.Ends.{Ends}
 use Rattle.bz_elab.specs.Flats.{Plan}
 use Rattle.bz_elab.specs.Wires.{at_side}
-use Rattle.bz_lifelines.specs.declared.circuit.Lifeline.{Lifeline}
-use Rattle.bz_lifelines.specs.declared.circuit.Lifeline.TheVariants.{Port, Comp}
-use Rattle.bz_lifelines.specs.declared.event.Step.{Step}
-use Rattle.bz_lifelines.specs.declared.event.Denial.TheVariants.{NotYet, Busy, NotTaken}
-use Rattle.bz_lifelines.specs.declared.event.Event.{Event}
-use Rattle.bz_lifelines.specs.declared.event.Event.TheVariants.{Moved, Watched, Refused, Rested}
+use Rattle.bz_outline.specs.declared.circuit.Lifeline.{Lifeline}
+use Rattle.bz_outline.specs.declared.circuit.Lifeline.TheVariants.{Port, Comp}
+use Rattle.bz_outline.specs.declared.event.Step.{Step}
+use Rattle.bz_outline.specs.declared.event.Denial.TheVariants.{NotYet, Busy, NotTaken}
+use Rattle.bz_outline.specs.declared.event.Event.{Event}
+use Rattle.bz_outline.specs.declared.event.Event.TheVariants.{Moved, Watched, Refused, Rested}
 
 -- at a port declared passive the host calls
 abbrev pub is_passive : Plan → ℕ → Bool

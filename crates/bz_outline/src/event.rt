@@ -1,7 +1,7 @@
 //! What a line of a trace tells, as a chart shows it.
 
 ghost use Rattle.std.specs.Prelude.{◌≡◌};
-ghost use Rattle.bz_lifelines.specs.Lifelines.{move_of, shown_of, step_by, told_of};
+ghost use Rattle.bz_outline.specs.Lifelines.{move_of, shown_of, step_by, told_of};
 
 use crate::circuit::{Circuit, Lifeline};
 use bz_lines::{LineNames, clash_at, line_at};
@@ -10,7 +10,7 @@ use bz_model::{Entry, Move, Phase, Reply, Value, Verb, Who};
 /// One of the four moves of a handshake, on a channel, by the lifeline that makes it. Without another one at the channel's
 /// other end, `other` is the same.
 #[derive(Clone, Copy, Debug, PartialEq, Eq)]
-pub(crate) struct Step {
+pub struct Step {
     pub mv: Move,
     pub chan: u32,
     pub value: Option<Value>,
@@ -20,7 +20,7 @@ pub(crate) struct Step {
 
 /// How a host is told no.
 #[derive(Clone, Copy, Debug, PartialEq, Eq)]
-pub(crate) enum Denial {
+pub enum Denial {
     NotYet,
     Busy,
     NotTaken,
@@ -28,7 +28,7 @@ pub(crate) enum Denial {
 
 /// What a line tells.
 #[derive(Clone, Copy, Debug, PartialEq, Eq)]
-pub(crate) enum Event {
+pub enum Event {
     Moved(Step),
     /// A host has looked at a port.
     Watched { port: u32, phase: Phase },
@@ -41,7 +41,7 @@ pub(crate) enum Event {
 
 /// A line of the trace.
 #[derive(Clone, Copy, Debug)]
-pub(crate) struct Line<'a> {
+pub struct Line<'a> {
     /// Its number, from 1.
     pub number: usize,
     pub text: &'a [u8],
@@ -50,7 +50,7 @@ pub(crate) struct Line<'a> {
 }
 
 /// Reads a line, its end included; `None` where it tells nothing.
-pub(crate) fn read_line<'a>(
+pub fn read_line<'a>(
     circuit: &Circuit,
     names: &LineNames<'_>,
     number: usize,
@@ -145,24 +145,4 @@ fn refused(port: u32, denial: Denial) -> Event
     ensures { result ≡ Event.Refused port denial }
 {
     Event::Refused { port, denial }
-}
-
-/// The word of a trace for it.
-pub(crate) fn denial_word(denial: Denial) -> &'static str {
-    match denial {
-        Denial::NotYet => "not-yet",
-        Denial::Busy => "busy",
-        Denial::NotTaken => "not-taken",
-    }
-}
-
-/// The word of a phase, without its value.
-pub(crate) fn phase_word(phase: Phase) -> &'static str {
-    match phase {
-        Phase::Idle => "idle",
-        Phase::Asked(_) => "asked",
-        Phase::Taken => "taken",
-        Phase::Replied(_) => "replied",
-        Phase::Broken => "broken",
-    }
 }

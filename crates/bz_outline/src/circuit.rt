@@ -5,7 +5,7 @@ ghost use Rattle.std.specs.Option.{option_copied, option_map};
 ghost use Rattle.bz_model.specs.Names.{numbered, port_name};
 ghost use Rattle.bz_model.specs.Nets.{outside};
 ghost use Rattle.bz_elab.specs.Flats.{site_of};
-ghost use Rattle.bz_lifelines.specs.Lifelines.{chan_of, is_passive, lifeline_at};
+ghost use Rattle.bz_outline.specs.Lifelines.{chan_of, is_passive, lifeline_at};
 
 use bz_elab::{Ends, Flat, FlatComp};
 use bz_model::{Chan, ChanKind, Names, numbered};
@@ -13,7 +13,7 @@ use std::marker::Model;
 
 /// What stands on a line of its own: an external port, or a component, by its number.
 #[derive(Clone, Copy, Debug, PartialEq, Eq)]
-pub(crate) enum Lifeline {
+pub enum Lifeline {
     Port(u32),
     Comp(u32),
 }
@@ -51,49 +51,50 @@ impl Circuit {
     }
 
     /// The names of its ports and channels.
-    pub(crate) fn names(&self) -> &Names
+    pub fn names(&self) -> &Names
         ensures { result.now ≡ outside self.now.wiring }
     {
         &self.names
     }
 
     /// How many components there are, which leaves room for a lifeline at each end of each port.
-    pub(crate) fn comp_count(&self) -> u32
+    pub fn comp_count(&self) -> u32
         ensures is { result ≡ length self.now.wiring.sites }
         ensures room { result + 2 * length self.now.wiring.ports < 2 ^ 32 }
     {
         self.comps.len() as u32
     }
 
-    pub(crate) fn chan_count(&self) -> usize
+    /// How many channels there are, the ports' among them.
+    pub fn chan_count(&self) -> usize
         ensures { result ≡ length self.now.ends }
     {
         self.ends.len()
     }
 
     /// A component, if there is such a component.
-    pub(crate) fn comp(&self, comp: u32) -> Option<&FlatComp>
+    pub fn comp(&self, comp: u32) -> Option<&FlatComp>
         ensures { option_map site_of (option_copied result) ≡ numbered self.now.wiring.sites comp }
     {
         numbered(&self.comps, comp)
     }
 
     /// The name of a port, if there is such a port.
-    pub(crate) fn name(&self, port: u32) -> Option<&[u8]>
+    pub fn name(&self, port: u32) -> Option<&[u8]>
         ensures { option_copied result ≡ port_name self.now.wiring.ports port }
     {
         self.names.name(port)
     }
 
     /// Whether the host stands at the active end of a port's channel.
-    pub(crate) fn is_passive(&self, port: u32) -> bool
+    pub fn is_passive(&self, port: u32) -> bool
         ensures { result ≡ is_passive self.now port }
     {
         self.names.passive(port).unwrap_or(false)
     }
 
     /// A channel, one without width where there is none of this number.
-    pub(crate) fn chan(&self, chan: u32) -> Chan
+    pub fn chan(&self, chan: u32) -> Chan
         ensures { result ≡ chan_of self.now chan }
     {
         self.names.chan(chan).unwrap_or(Chan {
@@ -104,7 +105,7 @@ impl Circuit {
 
     /// The lifeline at one end of a channel, the active end or the passive one. A port's host has no end of its own in the
     /// table of ends.
-    pub(crate) fn end(&self, chan: u32, active: bool) -> Option<Lifeline>
+    pub fn end(&self, chan: u32, active: bool) -> Option<Lifeline>
         ensures { result ≡ lifeline_at self.now chan (not active) }
     {
         let ends = numbered(&self.ends, chan)?;

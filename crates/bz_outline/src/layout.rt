@@ -1,11 +1,11 @@
 //! Where everything stands on a chart: whole numbers, in pixels.
 
 ghost use Rattle.std.specs.Prelude.{◌≡◌, ◌<◌, ◌^◌};
-ghost use Rattle.bz_lifelines.specs.Layout.{HasRoom, bands, bottom, column, gutter, height, legend_columns, numbers, right, row, sign_column, sign_row, width};
+ghost use Rattle.bz_outline.specs.Layout.{HasRoom, bands, bottom, column, gutter, height, legend_columns, numbers, right, row, sign_column, sign_row, width};
 
 /// What the places of a chart go by.
 #[derive(Clone, Copy, Debug, PartialEq, Eq)]
-pub(crate) struct Layout {
+pub struct Layout {
     /// How many lines of the trace are shown.
     pub rows: u32,
     /// How many lifelines.
@@ -28,8 +28,8 @@ impl Layout {
         8 + 6 * u64::from(self.digits)
     }
 
-    /// How wide the lines of the trace are, with their numbers.
-    pub fn gutter(self) -> u64
+    // How wide the lines of the trace are, with their numbers.
+    fn gutter(self) -> u64
         ensures { result ≡ gutter self }
     {
         self.numbers() + 8 + 6 * u64::from(self.letters) + 12
@@ -77,6 +77,7 @@ impl Layout {
         }
     }
 
+    /// The width of the whole chart.
     pub fn width(self) -> u64
         ensures { result ≡ width self }
     {
@@ -85,8 +86,8 @@ impl Layout {
             .max(440)
     }
 
-    /// How many signs stand in a row of the legend.
-    pub fn legend_columns(self) -> u64
+    // How many signs stand in a row of the legend.
+    fn legend_columns(self) -> u64
         ensures { result ≡ legend_columns self }
     {
         ((self.width() - 16) / 212).max(1)
@@ -100,7 +101,7 @@ impl Layout {
         12 + 212 * (u64::from(place) % self.legend_columns())
     }
 
-    /// The middle of its row.
+    /// The middle of the row of a sign.
     pub fn sign_row(self, place: u32) -> u64
         ensures is { result ≡ sign_row self place }
         ensures room { HasRoom 160 result }
@@ -108,6 +109,7 @@ impl Layout {
         self.bottom() + 60 + 18 * (u64::from(place) / self.legend_columns())
     }
 
+    /// The height of the whole chart.
     pub fn height(self) -> u64
         ensures { result ≡ height self }
     {
