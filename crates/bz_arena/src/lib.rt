@@ -7,8 +7,6 @@ mod chunk;
 mod full;
 mod id;
 mod pair;
-#[cfg(test)]
-mod tests;
 
 pub use arena::Arena;
 pub use id::{Id, Ids};

@@ -6,8 +6,6 @@ mod numbers;
 mod ports;
 mod row;
 mod summed;
-#[cfg(test)]
-mod tests;
 mod word;
 
 pub use bits::PortBits;

@@ -3,8 +3,6 @@
 
 mod front;
 mod rule;
-#[cfg(test)]
-mod tests;
 mod view;
 
 pub use front::{Front, FrontSeat, Memory};

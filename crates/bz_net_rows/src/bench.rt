@@ -2,8 +2,8 @@
 
 use bz_model::{Entry, HostCmd, Move, Value, Verb};
 use std::alloc::{AllocError, Global};
+use std::fmt::Debug;
 use std::process::Abort;
-use std::str::SplitWhitespace;
 use std::test::Fail;
 
 /// What answers the calls of a table.
@@ -19,20 +19,32 @@ pub fn gives(
     bench: &mut impl Bench,
     table: &str,
 ) -> Result<(), Fail> {
+    let told = told(alloc, bench, table)?;
+    assert_eq!(rt; told.as_str(), table);
+    Ok(())
+}
+
+// The table, with what was answered in place of what stands behind each `|`.
+fn told(alloc: Global, bench: &mut impl Bench, table: &str) -> Result<String, Fail> {
     let mut told = String::new(alloc);
     for line in table.lines() {
         let (row, _) = line.split_once("|").unwrap_or((line, ""));
         told.push_str(row)?;
         if row.len() < line.len() {
-            let mut words = Words::of(row);
-            let name = words.text()?;
+            let mut words = Words { rest: row };
+            let name = words.text();
             let answer = bench.call(alloc, name, &mut words)?;
-            told.push_str(format!(in alloc; "| {answer}")?.as_str())?;
+            told.push_str("| ")?;
+            told.push_str(answer.as_str())?;
         }
         told.push_str("\n")?;
     }
-    assert_eq!(rt; told.as_str(), table);
-    Ok(())
+    Ok(told)
+}
+
+/// An answer as it is shown for a look at it.
+pub fn show(alloc: Global, answer: &impl Debug) -> Result<String, Fail> {
+    Ok(format!(in alloc; "{answer:?}")?)
 }
 
 /// A firing as `2.1 take 4`, which is at port 1 of component 2 and on channel 4, with ` 7` behind where it carries that value;
@@ -63,7 +75,7 @@ pub fn entry_text(alloc: Global, entry: &Entry) -> Result<String, AllocError> {
 }
 
 /// Entries side by side.
-pub fn entries_text(alloc: Global, entries: &[Entry]) -> Result<String, AllocError> {
+pub fn entries_text(alloc: Global, entries: &[Entry]) -> Result<String, Fail> {
     let mut text = String::new(alloc);
     for entry in entries {
         if !text.is_empty() {
@@ -74,61 +86,55 @@ pub fn entries_text(alloc: Global, entries: &[Entry]) -> Result<String, AllocErr
     Ok(text)
 }
 
-/// The words of a call.
+/// The words of a call. None of its calls fails, so that nothing ends where a net is held: what a word should not be, the answer
+/// to the call shows.
 #[derive(Drop)]
 pub struct Words<'a> {
-    rest: SplitWhitespace<'a>,
+    rest: &'a str,
 }
 
 impl<'a> Words<'a> {
-    pub fn of(row: &'a str) -> Words<'a> {
-        Words {
-            rest: row.split_whitespace(),
+    /// The next word, which is empty where there is none.
+    pub fn text(&mut self) -> &'a str {
+        let (word, rest) = self.rest.split_once(" ").unwrap_or((self.rest, ""));
+        self.rest = rest;
+        word
+    }
+
+    /// The next word's number, 0 where it is none.
+    pub fn number(&mut self) -> u32 {
+        self.text().parse().unwrap_or(0)
+    }
+
+    /// The next word's value, if there is one.
+    pub fn value(&mut self) -> Option<Value> {
+        self.text().parse().ok()
+    }
+
+    pub fn mv(&mut self) -> Move {
+        match self.text() {
+            "ask" => Move::Ask,
+            "take" => Move::Take,
+            "reply" => Move::Reply,
+            _ => Move::Got,
         }
     }
 
-    pub fn text(&mut self) -> Result<&'a str, Fail> {
-        Ok(self.rest.next().ok_or("a word is missing")?)
-    }
-
-    pub fn number(&mut self) -> Result<u32, Fail> {
-        Ok(self.text()?.parse()?)
-    }
-
-    pub fn value(&mut self) -> Result<Option<Value>, Fail> {
-        match self.rest.next() {
-            Some(word) => Ok(Some(word.parse()?)),
-            None => Ok(None),
-        }
-    }
-
-    pub fn mv(&mut self) -> Result<Move, Fail> {
-        match self.text()? {
-            "ask" => Ok(Move::Ask),
-            "take" => Ok(Move::Take),
-            "reply" => Ok(Move::Reply),
-            "got" => Ok(Move::Got),
-            _ => Err("no move".into()),
-        }
-    }
-
-    pub fn verb(&mut self) -> Result<Verb, Fail> {
-        match self.text()? {
-            "offer" => Ok(Verb::Offer),
-            "collect" => Ok(Verb::Collect),
-            "accept" => Ok(Verb::Accept),
-            "answer" => Ok(Verb::Answer),
-            "watch" => Ok(Verb::Watch),
-            _ => Err("no verb".into()),
+    pub fn verb(&mut self) -> Verb {
+        match self.text() {
+            "offer" => Verb::Offer,
+            "collect" => Verb::Collect,
+            "accept" => Verb::Accept,
+            "answer" => Verb::Answer,
+            _ => Verb::Watch,
         }
     }
 
     /// A command of a host: its verb, its port and its value, if there is one.
-    pub fn command(&mut self, alloc: Global) -> Result<HostCmd, Fail> {
-        Ok(HostCmd {
-            verb: self.verb()?,
-            port: self.text()?.as_bytes().to_vec(alloc)?,
-            value: self.value()?,
-        })
+    pub fn command(&mut self, alloc: Global) -> Result<HostCmd, AllocError> {
+        let verb = self.verb();
+        let port = self.text().as_bytes().to_vec(alloc)?;
+        let value = self.value();
+        Ok(HostCmd { verb, port, value })
     }
 }

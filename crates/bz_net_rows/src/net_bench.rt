@@ -1,7 +1,7 @@
 //! Calls of a net, and of a copy of it.
 
-use crate::bench::{Bench, Words, entry_text};
-use bz_model::{Entry, NetError};
+use crate::bench::{Bench, Words, entry_text, gives, show};
+use bz_model::{Entry, NetError, Reply};
 use bz_net::{Answer, Event, Net};
 use bz_playing::calls::{
     accept, answer, collect, dup, fire, fire_move, has_same_journal, is_ready, journal_len,
@@ -10,71 +10,97 @@ use bz_playing::calls::{
 use bz_playing::net_of;
 use std::alloc::Global;
 use std::mem;
+use std::process::Abort;
 use std::test::Fail;
 
 /// A net, and the copy that was made of it.
 #[derive(Drop)]
-pub struct NetBench {
+struct NetBench {
     net: Net,
     copy: Option<Net>,
 }
 
 impl NetBench {
-    /// The net of a part of a netlist, with a journal of 100 entries at the most.
-    pub fn open(alloc: Global, netlist: &str, part: &str) -> Result<NetBench, Fail> {
-        let net = net_of(alloc, netlist, part, 100)?;
-        Ok(NetBench { net, copy: None })
-    }
-
-    /// The same, with a journal of 3 entries at the most.
-    pub fn open_small(alloc: Global, netlist: &str, part: &str) -> Result<NetBench, Fail> {
-        let net = net_of(alloc, netlist, part, 3)?;
+    // The net of a part of a netlist, with a journal of `limit` entries at the most.
+    fn open(alloc: Global, netlist: &str, part: &str, limit: u32) -> Result<NetBench, Fail> {
+        let limit = limit.clamp(1, 100);
+        let net = net_of(alloc, netlist, part, limit)?;
         Ok(NetBench { net, copy: None })
     }
 }
 
+/// The calls of the table answer so on the net of a part of a netlist, with a journal of 1 to 100 entries at the most.
+pub fn plays(
+    rt: &impl Abort,
+    alloc: Global,
+    netlist: &str,
+    part: &str,
+    limit: u32,
+    table: &str,
+) -> Result<(), Fail> {
+    let mut bench = NetBench::open(alloc, netlist, part, limit)?;
+    gives(rt, alloc, &mut bench, table)
+}
+
 impl Bench for NetBench {
     fn call(&mut self, alloc: Global, name: &str, words: &mut Words<'_>) -> Result<String, Fail> {
-        let net = &mut self.net;
         match name {
             "copy" => {
-                self.copy = Some(dup(net, alloc)?);
+                self.keep(alloc);
                 Ok("copied".to_string(alloc)?)
             }
             "other" => {
-                let copy = self.copy.as_mut().ok_or("there is no copy")?;
-                mem::swap(net, copy);
+                self.exchange();
                 Ok("the other".to_string(alloc)?)
             }
-            "same" => {
-                let copy = self.copy.as_ref().ok_or("there is no copy")?;
-                Ok(format!(in alloc; "{}", has_same_journal(copy, net))?)
+            "same" => show(alloc, &self.is_same()),
+            "move" | "fire" | "step" | "rest" | "run" | "reserve" => {
+                make(alloc, &mut self.net, name, words)
             }
-            "move" | "fire" | "step" | "rest" | "run" | "reserve" => make(alloc, net, name, words),
-            "host" | "worker" => serve(alloc, net, name, words),
+            "host" => serve(alloc, &mut self.net, words),
+            "worker" => work(alloc, &mut self.net, words),
             "offer" | "collect" | "accept" | "answer" | "watch" => {
-                command(alloc, net, name, words)
+                replied(alloc, command(&mut self.net, name, words))
             }
-            _ => look(alloc, net, name, words),
+            "port" | "passive" | "name" => of_names(alloc, &self.net, name, words),
+            "phase" | "ends" => of_chan(alloc, &self.net, name, words.number()),
+            _ => look(alloc, &self.net, name, words),
+        }
+    }
+}
+
+impl NetBench {
+    fn keep(&mut self, alloc: Global) {
+        if let Ok(copy) = dup(&self.net, alloc) {
+            self.copy = Some(copy);
+        }
+    }
+
+    // Goes on with the copy, and keeps the other.
+    fn exchange(&mut self) {
+        if let Some(copy) = &mut self.copy {
+            mem::swap(&mut self.net, copy);
+        }
+    }
+
+    fn is_same(&self) -> bool {
+        match &self.copy {
+            Some(copy) => has_same_journal(copy, &self.net),
+            None => false,
         }
     }
 }
 
 // A call of a worker.
 fn make(alloc: Global, net: &mut Net, name: &str, words: &mut Words<'_>) -> Result<String, Fail> {
-    Ok(match name {
-        "move" => fired(alloc, fire_move(net, words.number()?, words.number()?))?,
-        "fire" => fired(alloc, fire(net, words.number()?))?,
-        "step" => fired(alloc, step(net, words.number()?))?,
-        "rest" => format!(in alloc; "{:?}", rest(net))?,
-        "run" => {
-            format!(in alloc;
-                "{:?}",
-                run(net, words.number()?, u64::from(words.number()?))
-            )?
-        }
-        _ => format!(in alloc; "{:?}", reserve(net, words.number()? as usize))?,
-    })
+    match name {
+        "move" => fired(alloc, fire_move(net, words.number(), words.number())),
+        "fire" => fired(alloc, fire(net, words.number())),
+        "step" => fired(alloc, step(net, words.number())),
+        "rest" => show(alloc, &rest(net)),
+        "run" => show(alloc, &run(net, words.number(), u64::from(words.number()))),
+        _ => show(alloc, &reserve(net, words.number() as usize)),
+    }
 }
 
 fn fired(alloc: Global, made: Result<Entry, NetError>) -> Result<String, Fail> {
@@ -85,56 +111,51 @@ fn fired(alloc: Global, made: Result<Entry, NetError>) -> Result<String, Fail> {
 }
 
 // A call of a host.
-fn command(
-    alloc: Global,
-    net: &mut Net,
-    name: &str,
-    words: &mut Words<'_>,
-) -> Result<String, Fail> {
-    let port = words.text()?.as_bytes();
-    let value = words.value()?;
-    let reply = match name {
+fn command(net: &mut Net, name: &str, words: &mut Words<'_>) -> Result<Reply, NetError> {
+    let port = words.text().as_bytes();
+    let value = words.value();
+    match name {
         "offer" => offer(net, port, value),
         "collect" => collect(net, port),
         "accept" => accept(net, port),
         "answer" => answer(net, port, value),
         _ => watch(net, port),
-    };
-    Ok(match reply {
+    }
+}
+
+fn replied(alloc: Global, made: Result<Reply, NetError>) -> Result<String, Fail> {
+    Ok(match made {
         Ok(reply) => format!(in alloc; "{reply:?}")?,
         Err(error) => format!(in alloc; "{error}")?,
     })
 }
 
-// An event by the one call for all of them.
-fn serve(alloc: Global, net: &mut Net, name: &str, words: &mut Words<'_>) -> Result<String, Fail> {
-    let answer = if name == "host" {
-        let command = words.command(alloc)?;
-        serve_host(net, Event::Host(&command))
-    } else {
-        match words.text()? {
-            "move" => serve_worker(
-                net,
-                Event::Move {
-                    comp: words.number()?,
-                    port: words.number()?,
-                },
-            ),
-            "fire" => serve_worker(
-                net,
-                Event::Fire {
-                    comp: words.number()?,
-                },
-            ),
-            "step" => serve_worker(
-                net,
-                Event::Step {
-                    from: words.number()?,
-                },
-            ),
-            _ => serve_worker(net, Event::Rest),
-        }
-    };
+// An event of a host, by the one call for all events.
+fn serve(alloc: Global, net: &mut Net, words: &mut Words<'_>) -> Result<String, Fail> {
+    let command = words.command(alloc)?;
+    served(alloc, serve_host(net, Event::Host(&command)))
+}
+
+// An event of a worker, by the same call.
+fn work(alloc: Global, net: &mut Net, words: &mut Words<'_>) -> Result<String, Fail> {
+    served(alloc, serve_worker(net, event(words)))
+}
+
+fn event(words: &mut Words<'_>) -> Event<'static> {
+    let name = words.text();
+    let number = words.number();
+    match name {
+        "move" => Event::Move {
+            comp: number,
+            port: words.number(),
+        },
+        "fire" => Event::Fire { comp: number },
+        "step" => Event::Step { from: number },
+        _ => Event::Rest,
+    }
+}
+
+fn served(alloc: Global, answer: Result<Answer, NetError>) -> Result<String, Fail> {
     Ok(match answer {
         Ok(Answer::Fired(entry)) => entry_text(alloc, &entry)?,
         Ok(answer) => format!(in alloc; "{answer:?}")?,
@@ -144,38 +165,37 @@ fn serve(alloc: Global, net: &mut Net, name: &str, words: &mut Words<'_>) -> Res
 
 // What a net tells of itself.
 fn look(alloc: Global, net: &Net, name: &str, words: &mut Words<'_>) -> Result<String, Fail> {
-    Ok(match name {
-        "journal" => format!(in alloc; "{}", journal_len(net))?,
-        "ready" => format!(in alloc; "{}", is_ready(net, words.number()?))?,
-        "next" => format!(in alloc; "{:?}", next_ready(net, words.number()?))?,
-        "phase" => phase(alloc, net, words.number()?)?,
-        "ends" => ends(alloc, net, words.number()?)?,
-        "port-at" => format!(in alloc;
-            "{:?}",
-            port_at(net, words.number()?, words.number()?, words.mv()?)
-        )?,
-        "port" => format!(in alloc; "{:?}", net.names().port(words.text()?.as_bytes()))?,
-        "passive" => format!(in alloc; "{:?}", net.names().passive(words.number()?))?,
-        "name" => match net.names().name(words.number()?) {
-            Some(name) => str::from_utf8(name)?.to_string(alloc)?,
-            None => "none".to_string(alloc)?,
+    match name {
+        "journal" => show(alloc, &journal_len(net)),
+        "ready" => show(alloc, &is_ready(net, words.number())),
+        "next" => show(alloc, &next_ready(net, words.number())),
+        "port-at" => show(
+            alloc,
+            &port_at(net, words.number(), words.number(), words.mv()),
+        ),
+        _ => Err("no call of a net".into()),
+    }
+}
+
+// What its names tell.
+fn of_names(alloc: Global, net: &Net, name: &str, words: &mut Words<'_>) -> Result<String, Fail> {
+    match name {
+        "port" => show(alloc, &net.names().port(words.text().as_bytes())),
+        "passive" => show(alloc, &net.names().passive(words.number())),
+        _ => match net.names().name(words.number()) {
+            Some(name) => Ok(str::from_utf8(name)?.to_string(alloc)?),
+            None => Err("no such port".into()),
         },
-        _ => return Err("no call of a net".into()),
-    })
+    }
 }
 
-// The phase of a channel.
-fn phase(alloc: Global, net: &Net, chan: u32) -> Result<String, Fail> {
+// The phase of a channel, or the components at its ends: the active one and the passive one.
+fn of_chan(alloc: Global, net: &Net, name: &str, chan: u32) -> Result<String, Fail> {
     if net.names().chan(chan).is_none() {
         return Err("no channel".into());
     }
-    Ok(format!(in alloc; "{:?}", net.phase(chan))?)
-}
-
-// The components at the ends of a channel: the active one and the passive one.
-fn ends(alloc: Global, net: &Net, chan: u32) -> Result<String, Fail> {
-    if net.names().chan(chan).is_none() {
-        return Err("no channel".into());
+    if name == "phase" {
+        return show(alloc, &net.phase(chan));
     }
-    Ok(format!(in alloc; "{:?}", net.ends(chan))?)
+    show(alloc, &net.ends(chan))
 }

@@ -1,7 +1,6 @@
 //! A net, event by event.
 
-use crate::bench::gives;
-use crate::net_bench::NetBench;
+use crate::net_bench::plays;
 use bz_playing::netlists::{BUFFER, CELL, KNOT};
 use std::test::Fail;
 
@@ -125,44 +124,71 @@ fire 2 | 2.2 ask 4
 same | true
 ";
 
+/// `a` calls `x` and `b` calls `y`, one at a time.
+const ARBITER: &str = r#"
+(breeze-part "arb"
+ (ports (sync-port "a" passive) (sync-port "b" passive) (sync-port "x" active) (sync-port "y" active))
+ (channels (sync) (sync) (sync) (sync))
+ (components (component "$BrzArbiter" () (1 2 3 4))))
+"#;
+
+/// Both callers have asked, and either may be the first. The second waits until the first has been served.
+const EITHER_FIRST: &str = "
+offer a | Done
+offer b | Done
+copy | copied
+move 1 1 | 1.1 take 1
+other | the other
+move 1 2 | 1.2 take 2
+other | the other
+move 1 2 | N6 NotEnabled
+move 1 3 | 1.3 ask 3
+move 1 2 | N6 NotEnabled
+accept x | Done
+answer x | Done
+move 1 2 | N6 NotEnabled
+move 1 3 | 1.3 got 3
+move 1 2 | N6 NotEnabled
+move 1 1 | 1.1 reply 1
+move 1 2 | 1.2 take 2
+";
+
 #[test]
 fn buffer_by_single_moves(rt: HostRuntime) -> Result<(), Fail> {
-    let mut bench = NetBench::open(rt.alloc(), BUFFER, "buffer")?;
-    gives(&rt, rt.alloc(), &mut bench, SINGLE_MOVES)
+    plays(&rt, rt.alloc(), BUFFER, "buffer", 100, SINGLE_MOVES)
 }
 
 #[test]
 fn what_is_told_of_a_net(rt: HostRuntime) -> Result<(), Fail> {
-    let mut bench = NetBench::open(rt.alloc(), BUFFER, "buffer")?;
-    gives(&rt, rt.alloc(), &mut bench, TOLD)
+    plays(&rt, rt.alloc(), BUFFER, "buffer", 100, TOLD)
 }
 
 #[test]
 fn no_move_at_both_ends_of_a_channel(rt: HostRuntime) -> Result<(), Fail> {
-    let mut bench = NetBench::open(rt.alloc(), KNOT, "knot")?;
-    gives(&rt, rt.alloc(), &mut bench, BOTH_ENDS)
+    plays(&rt, rt.alloc(), KNOT, "knot", 100, BOTH_ENDS)
 }
 
 #[test]
 fn one_handshake_from_both_sides(rt: HostRuntime) -> Result<(), Fail> {
-    let mut bench = NetBench::open(rt.alloc(), BUFFER, "buffer")?;
-    gives(&rt, rt.alloc(), &mut bench, HANDSHAKE)
+    plays(&rt, rt.alloc(), BUFFER, "buffer", 100, HANDSHAKE)
 }
 
 #[test]
 fn a_full_journal(rt: HostRuntime) -> Result<(), Fail> {
-    let mut bench = NetBench::open_small(rt.alloc(), BUFFER, "buffer")?;
-    gives(&rt, rt.alloc(), &mut bench, FULL)
+    plays(&rt, rt.alloc(), BUFFER, "buffer", 3, FULL)
 }
 
 #[test]
 fn any_event_by_one_call(rt: HostRuntime) -> Result<(), Fail> {
-    let mut bench = NetBench::open(rt.alloc(), CELL, "cell")?;
-    gives(&rt, rt.alloc(), &mut bench, SERVED)
+    plays(&rt, rt.alloc(), CELL, "cell", 100, SERVED)
 }
 
 #[test]
 fn copies_are_equal_and_go_apart(rt: HostRuntime) -> Result<(), Fail> {
-    let mut bench = NetBench::open_small(rt.alloc(), BUFFER, "buffer")?;
-    gives(&rt, rt.alloc(), &mut bench, COPY)
+    plays(&rt, rt.alloc(), BUFFER, "buffer", 3, COPY)
+}
+
+#[test]
+fn either_caller_may_be_the_first(rt: HostRuntime) -> Result<(), Fail> {
+    plays(&rt, rt.alloc(), ARBITER, "arb", 100, EITHER_FIRST)
 }

@@ -1,67 +1,98 @@
 //! Calls of a net that keeps no journal.
 
-use crate::bench::{Bench, Words, entries_text, entry_text};
-use bz_model::Entry;
+use crate::bench::{Bench, Words, entries_text, entry_text, gives, show};
+use bz_model::{Entry, NetError};
 use bz_net::Play;
 use bz_playing::calls::{
     ask_rest, command, has_chan, has_clashes, host_at, move_at, port_of_move, run_into,
 };
 use bz_playing::play_of;
 use std::alloc::Global;
+use std::process::Abort;
 use std::test::Fail;
 
 /// A net without a journal, and the buffer for its firings.
 #[derive(Drop)]
-pub struct PlayBench {
+struct PlayBench {
     play: Play,
     buffer: Vec<Entry>,
 }
 
-impl PlayBench {
-    /// The net of a part of a netlist, which lets in `limit` entries.
-    pub fn open(alloc: Global, netlist: &str, part: &str, limit: u32) -> Result<PlayBench, Fail> {
-        let play = play_of(alloc, netlist, part, limit)?;
-        let buffer = Vec::new(alloc);
-        Ok(PlayBench { play, buffer })
-    }
+/// The calls of the table answer so on the net of a part of a netlist, which lets in `limit` entries.
+pub fn plays(
+    rt: &impl Abort,
+    alloc: Global,
+    netlist: &str,
+    part: &str,
+    limit: u32,
+    table: &str,
+) -> Result<(), Fail> {
+    let play = play_of(alloc, netlist, part, limit)?;
+    let buffer = Vec::new(alloc);
+    let mut bench = PlayBench { play, buffer };
+    gives(rt, alloc, &mut bench, table)
 }
 
 impl Bench for PlayBench {
     fn call(&mut self, alloc: Global, name: &str, words: &mut Words<'_>) -> Result<String, Fail> {
-        let play = &mut self.play;
-        Ok(match name {
+        match name {
             "room" => {
-                self.buffer = Vec::with_capacity(alloc, words.number()? as usize)?;
-                "room".to_string(alloc)?
+                self.buffer = Vec::with_capacity(alloc, words.number() as usize)?;
+                Ok("room".to_string(alloc)?)
             }
-            "run" => {
-                let from = words.number()?;
-                let fuel = u64::from(words.number()?);
-                let piece = run_into(play, from, fuel, &mut self.buffer);
-                format!(in alloc; "{:?}, next {}", piece.end, piece.next)?
-            }
-            "buffer" => entries_text(alloc, self.buffer.as_slice())?,
-            "rest" => format!(in alloc; "{:?}", ask_rest(play))?,
-            "move" => match move_at(play, words.number()?, words.number()?) {
-                Ok(entry) => entry_text(alloc, &entry)?,
-                Err(error) => format!(in alloc; "{error}")?,
-            },
-            "host" => match command(play, &words.command(alloc)?) {
-                Ok(entry) => entry_text(alloc, &entry)?,
-                Err(error) => format!(in alloc; "{error}")?,
-            },
-            "host-at" => {
-                let reply = host_at(play, words.verb()?, words.number()?, words.value()?);
-                format!(in alloc; "{reply:?}")?
-            }
-            "port-at" => {
-                let port = port_of_move(play, words.number()?, words.number()?, words.mv()?);
-                format!(in alloc; "{port:?}")?
-            }
-            "chan" => format!(in alloc; "{}", has_chan(play, words.number()?))?,
-            "clashes-none" => format!(in alloc; "{}", has_clashes(play, &[]))?,
-            "clashes-at" => format!(in alloc; "{}", has_clashes(play, &[words.number()?]))?,
-            _ => return Err("no call of a play".into()),
-        })
+            "buffer" => entries_text(alloc, self.buffer.as_slice()),
+            "run" => run(alloc, &mut self.play, &mut self.buffer, words),
+            "host" => host(alloc, &mut self.play, words),
+            "host-at" | "move" | "rest" => make(alloc, &mut self.play, name, words),
+            _ => look(alloc, &self.play, name, words),
+        }
+    }
+}
+
+fn run(
+    alloc: Global,
+    play: &mut Play,
+    buffer: &mut Vec<Entry>,
+    words: &mut Words<'_>,
+) -> Result<String, Fail> {
+    let piece = run_into(play, words.number(), u64::from(words.number()), buffer);
+    Ok(format!(in alloc; "{:?}, next {}", piece.end, piece.next)?)
+}
+
+fn host(alloc: Global, play: &mut Play, words: &mut Words<'_>) -> Result<String, Fail> {
+    let cmd = words.command(alloc)?;
+    made(alloc, command(play, &cmd))
+}
+
+fn made(alloc: Global, made: Result<Entry, NetError>) -> Result<String, Fail> {
+    Ok(match made {
+        Ok(entry) => entry_text(alloc, &entry)?,
+        Err(error) => format!(in alloc; "{error}")?,
+    })
+}
+
+// A call that may change the play.
+fn make(alloc: Global, play: &mut Play, name: &str, words: &mut Words<'_>) -> Result<String, Fail> {
+    match name {
+        "move" => made(alloc, move_at(play, words.number(), words.number())),
+        "rest" => show(alloc, &ask_rest(play)),
+        _ => show(
+            alloc,
+            &host_at(play, words.verb(), words.number(), words.value()),
+        ),
+    }
+}
+
+// What a play tells of itself.
+fn look(alloc: Global, play: &Play, name: &str, words: &mut Words<'_>) -> Result<String, Fail> {
+    match name {
+        "port-at" => show(
+            alloc,
+            &port_of_move(play, words.number(), words.number(), words.mv()),
+        ),
+        "chan" => show(alloc, &has_chan(play, words.number())),
+        "clashes-none" => show(alloc, &has_clashes(play, &[])),
+        "clashes-at" => show(alloc, &has_clashes(play, &[words.number()])),
+        _ => Err("no call of a play".into()),
     }
 }

@@ -1,7 +1,6 @@
 //! A net that keeps no journal, call by call.
 
-use crate::bench::gives;
-use crate::play_bench::PlayBench;
+use crate::play_bench::plays;
 use bz_playing::netlists::BUFFER;
 use std::test::Fail;
 
@@ -70,24 +69,20 @@ host-at watch 1 | Err(JournalFull)
 
 #[test]
 fn buffer_in_pieces(rt: HostRuntime) -> Result<(), Fail> {
-    let mut bench = PlayBench::open(rt.alloc(), BUFFER, "buffer", 100)?;
-    gives(&rt, rt.alloc(), &mut bench, PIECES)
+    plays(&rt, rt.alloc(), BUFFER, "buffer", 100, PIECES)
 }
 
 #[test]
 fn limit_of_a_play(rt: HostRuntime) -> Result<(), Fail> {
-    let mut bench = PlayBench::open(rt.alloc(), BUFFER, "buffer", 2)?;
-    gives(&rt, rt.alloc(), &mut bench, LIMIT)
+    plays(&rt, rt.alloc(), BUFFER, "buffer", 2, LIMIT)
 }
 
 #[test]
 fn requests_that_meet(rt: HostRuntime) -> Result<(), Fail> {
-    let mut bench = PlayBench::open(rt.alloc(), MEET, "m", 9)?;
-    gives(&rt, rt.alloc(), &mut bench, MEETS)
+    plays(&rt, rt.alloc(), MEET, "m", 9, MEETS)
 }
 
 #[test]
 fn one_move_at_a_time(rt: HostRuntime) -> Result<(), Fail> {
-    let mut bench = PlayBench::open(rt.alloc(), BUFFER, "buffer", 4)?;
-    gives(&rt, rt.alloc(), &mut bench, SINGLE_MOVES)
+    plays(&rt, rt.alloc(), BUFFER, "buffer", 4, SINGLE_MOVES)
 }

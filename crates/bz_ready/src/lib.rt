@@ -3,7 +3,5 @@
 
 mod order;
 mod set;
-#[cfg(test)]
-mod tests;
 
 pub use set::ReadySet;

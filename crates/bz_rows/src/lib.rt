@@ -1,23 +1,18 @@
-//! Worked examples from bytes to bytes, over all crates. Nothing stands on this crate.
+//! Worked examples that are no data: with inputs that are counted out, with readers and writers that fail, and of what is told by
+//! values and not by bytes. Nothing stands on this crate.
 #![tactic(auto)]
 
 #[cfg(test)]
 mod arrays;
 #[cfg(test)]
-mod clashes;
-#[cfg(test)]
-mod faults;
-#[cfg(test)]
-mod functions;
-#[cfg(test)]
-mod hosts;
-#[cfg(test)]
-mod lists;
+mod flats;
 #[cfg(test)]
 mod pieces;
 #[cfg(test)]
+mod records;
+#[cfg(test)]
+mod shapes;
+#[cfg(test)]
 mod streams;
 #[cfg(test)]
-mod traces;
-#[cfg(test)]
-mod wide;
+mod trees;

@@ -1,7 +1,8 @@
 //! Readers and writers that fail, and want of memory.
 
-use bz_commands::{Fault, list_cmd, run_cmd};
+use bz_commands::Fault;
 use bz_playing::netlists::BUFFER;
+use bz_playing::{Task, answer, run_over};
 use std::io;
 use std::io::{Read, Write};
 use std::test::Fail;
@@ -37,7 +38,7 @@ impl Write for Full {
 #[test]
 fn reader_that_fails(rt: HostRuntime) -> Result<(), Fail> {
     let mut output = Vec::new(rt.alloc());
-    let Err(fault) = list_cmd(rt.alloc(), b"p", &mut Broken, &mut output) else {
+    let Err(fault) = answer(rt.alloc(), Task::List("p"), &mut Broken, &mut output) else {
         return Err(Fail::from("listed"));
     };
     assert_eq!(rt; format!(in rt.alloc(); "{fault}")?.as_str(), "F1 Read");
@@ -52,7 +53,7 @@ fn writer_that_is_full(rt: HostRuntime) -> Result<(), Fail> {
     let words = ["offer:activate", "watch:zz"];
     let mut input = BUFFER.as_bytes();
     let mut output = Full { left: 9 };
-    let Err(fault) = run_cmd(rt.alloc(), b"buffer", 10, &words, &mut input, &mut output) else {
+    let Err(fault) = run_over(rt.alloc(), "buffer", 10, &words, &mut input, &mut output) else {
         return Err(Fail::from("played"));
     };
     assert_eq!(rt; format!(in rt.alloc(); "{fault}")?.as_str(), "F2 Write");

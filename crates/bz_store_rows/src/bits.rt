@@ -1,0 +1,144 @@
+//! Rows of bits, and the states of ports.
+
+use crate::table::{Bench, Words, done, gives, show};
+use bz_bits::{BitRow, PortStates, SummedRow};
+use std::alloc::Global;
+use std::test::Fail;
+
+// A length that the proofs of these tests don't compute with.
+fn given(len: usize) -> usize {
+    len
+}
+
+impl Bench for BitRow {
+    fn call(&mut self, alloc: Global, name: &str, words: &mut Words<'_>) -> Result<String, Fail> {
+        let place = words.number();
+        match name {
+            "len" => show(alloc, &self.len()),
+            "next" => show(alloc, &self.next_from(place)),
+            _ if place >= self.len() => Err("no such place".into()),
+            "get" => show(alloc, &self.get(place)),
+            "raise" => {
+                self.raise(place);
+                done(alloc)
+            }
+            "lower" => {
+                self.lower(place);
+                done(alloc)
+            }
+            _ => {
+                self.set(place, words.text() == "true");
+                done(alloc)
+            }
+        }
+    }
+}
+
+impl Bench for SummedRow {
+    fn call(&mut self, alloc: Global, name: &str, words: &mut Words<'_>) -> Result<String, Fail> {
+        let place = words.number();
+        match name {
+            "len" => show(alloc, &self.len()),
+            "next" => show(alloc, &self.next_from(place)),
+            _ if place >= self.len() => Err("no such place".into()),
+            "get" => show(alloc, &self.get(place)),
+            _ => {
+                self.set(place, words.text() == "true");
+                done(alloc)
+            }
+        }
+    }
+}
+
+impl Bench for PortStates {
+    fn call(&mut self, alloc: Global, name: &str, words: &mut Words<'_>) -> Result<String, Fail> {
+        if name == "len" {
+            return show(alloc, &self.len());
+        }
+        if name == "next" {
+            let state = (words.number() % 4) as u8;
+            return show(alloc, &self.next_in(state, words.number()));
+        }
+        let port = words.number();
+        if port >= self.len() {
+            return Err("no such port".into());
+        }
+        if name == "get" {
+            return show(alloc, &self.get(port));
+        }
+        self.set(port, (words.number() % 4) as u8);
+        done(alloc)
+    }
+}
+
+const BITS: &str = "
+len | 130
+get 129 | false
+next 0 | None
+raise 3
+set 64 true
+raise 129
+next 0 | Some(3)
+next 4 | Some(64)
+next 65 | Some(129)
+next 130 | None
+lower 64
+set 3 false
+next 0 | Some(129)
+get 129 | true
+get 64 | false
+";
+
+const BLOCKS: &str = "
+len | 600000
+next 0 | None
+set 63 true
+set 64 true
+set 4095 true
+set 599999 true
+next 0 | Some(63)
+next 64 | Some(64)
+next 65 | Some(4095)
+next 4096 | Some(599999)
+set 4095 false
+get 4095 | false
+next 65 | Some(599999)
+set 599999 false
+next 65 | None
+";
+
+/// The first port that is in a state is asked for as `next 3 6`: in state 3, from port 6 on.
+const STATES: &str = "
+len | 200
+get 199 | 0
+set 5 3
+set 70 1
+set 199 3
+get 5 | 3
+get 70 | 1
+next 3 0 | Some(5)
+next 3 6 | Some(199)
+next 1 0 | Some(70)
+next 2 0 | None
+set 5 2
+next 2 0 | Some(5)
+next 0 199 | None
+";
+
+#[test]
+fn bits_of_a_row(rt: HostRuntime) -> Result<(), Fail> {
+    let mut row = BitRow::new(rt.alloc(), given(130))?;
+    gives(&rt, rt.alloc(), &mut row, BITS)
+}
+
+#[test]
+fn searches_across_blocks(rt: HostRuntime) -> Result<(), Fail> {
+    let mut row = SummedRow::new(rt.alloc(), given(600000))?;
+    gives(&rt, rt.alloc(), &mut row, BLOCKS)
+}
+
+#[test]
+fn states_of_ports(rt: HostRuntime) -> Result<(), Fail> {
+    let mut ports = PortStates::new(rt.alloc(), given(200))?;
+    gives(&rt, rt.alloc(), &mut ports, STATES)
+}
