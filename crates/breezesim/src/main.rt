@@ -1,19 +1,23 @@
 //! The program `breezesim`.
 #![tactic(auto)]
 
+mod disk;
+
+use crate::disk::Disk;
 use bz_chart::{ChartFault, LineRange, chart_cmd};
 use bz_cli::{Fault, PoolOptions, check_cmd, list_cmd, pool_cmd, read_input, run_cmd};
 use bz_command_line::{ArgsFault, MAX_JOURNAL, MAX_WORKERS, command_line, split_words, words_of};
 use bz_commands::split_trace;
 use bz_draw::draw_cmd;
 use bz_explain::{Asked, Words};
+use bz_explore::explore_cmd;
 use bz_look::{list_paths_cmd, parts_cmd};
 use bz_notes::{Keeping, tell};
 use bz_session::{End, read_name};
 use clap::error::ErrorKind;
 use clap::{ArgMatches, Error};
 use std::alloc::Global;
-use std::io::{BufWriter, Read};
+use std::io::{BufWriter, IsTerminal, Read};
 use std::process::ExitCode;
 use std::sync::Wait;
 use std::thread::Threads;
@@ -313,6 +317,31 @@ fn netlist<R: Read + Drop>(input: &Keeping<R>) -> Option<&[u8]> {
     Some(netlist)
 }
 
+// Plays a net by the lines of standard input.
+fn explore<'a, R: Read + Drop>(
+    rt: &HostRuntime,
+    matches: &ArgMatches<'a>,
+    input: &mut Keeping<R>,
+) -> ExitCode {
+    let part = match part_name(rt, matches) {
+        Ok(part) => part,
+        Err(status) => return status,
+    };
+    let result = explore_cmd(
+        rt.alloc(),
+        part.as_slice(),
+        rt.stdin().is_terminal(),
+        input,
+        &mut rt.reader(),
+        &mut Disk(rt),
+        &mut io::writer(rt),
+    );
+    match result {
+        Ok(ending) => ExitCode::from(ending.status()),
+        Err(fault) => refuse_asked(rt, &fault, asked(input.kept(), &part, NO_WORDS)),
+    }
+}
+
 // The exit status of a command.
 fn ends(rt: &HostRuntime, answer: Result<(), Fault>, asked: Option<Asked<'_, '_>>) -> ExitCode {
     match answer {
@@ -386,6 +415,7 @@ fn play_on<'a, T: Threads + Wait + Sync, R: Read + Drop>(
         "chart" => chart(rt, matches, input),
         "check" => check(rt, matches, input),
         "draw" => draw(rt, matches, input),
+        "explore" => explore(rt, matches, input),
         "list" => list(rt, matches, input),
         "parts" => parts(rt, input),
         "pool" => pool(rt, threads, matches, input),

@@ -1,8 +1,8 @@
 //! The command line: its subcommands, options and words.
 
 use crate::help::{
-    CHART_USAGE, CHECK_STATUSES, CHECK_USAGE, DRAW_USAGE, LIST_USAGE, PARTS_USAGE, POOL_USAGE,
-    POOL_WORDS, RUN_USAGE, RUN_WORDS, VERSION,
+    CHART_USAGE, CHECK_STATUSES, CHECK_USAGE, DRAW_USAGE, EXPLORE_LINES, EXPLORE_USAGE, LIST_USAGE,
+    PARTS_USAGE, POOL_USAGE, POOL_WORDS, RUN_USAGE, RUN_WORDS, VERSION,
 };
 use clap::{Arg, ArgAction, Command, value_parser};
 use std::alloc::{AllocError, Global};
@@ -224,6 +224,16 @@ fn draw_command<'a>(alloc: Global) -> Result<Command<'a>, AllocError> {
     with_arg(command, Ok(depth_arg(alloc)))
 }
 
+fn explore_command<'a>(alloc: Global) -> Result<Command<'a>, AllocError> {
+    let command = Ok(Command::new(alloc, "explore")
+        .about("Plays a part's net by hand, by the lines of standard input, each with its answer")
+        .override_usage(EXPLORE_USAGE)
+        .after_help(EXPLORE_LINES));
+    let command = with_arg(command, part_arg(alloc));
+    let command = with_arg(command, part_form_arg(alloc));
+    with_arg(command, Ok(netlist_arg(alloc).required(true)))
+}
+
 fn check_command<'a>(alloc: Global) -> Result<Command<'a>, AllocError> {
     let command = Ok(
         Command::new(alloc, "check")
@@ -268,6 +278,7 @@ pub fn command_line<'a>(alloc: Global) -> Result<Command<'a>, AllocError> {
     let command = with_command(command, chart_command(alloc));
     let command = with_command(command, check_command(alloc));
     let command = with_command(command, draw_command(alloc));
+    let command = with_command(command, explore_command(alloc));
     let command = with_command(command, parts_command(alloc));
     let command = with_command(command, pool_command(alloc));
     with_command(command, run_command(alloc))

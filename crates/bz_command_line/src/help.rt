@@ -14,6 +14,8 @@ pub(crate) const PARTS_USAGE: &str = "breezesim parts < FILE";
 
 pub(crate) const DRAW_USAGE: &str = "breezesim draw [--depth N] --part P < FILE";
 
+pub(crate) const EXPLORE_USAGE: &str = "breezesim explore --part P --netlist FILE";
+
 pub(crate) const CHECK_USAGE: &str = "breezesim check --part P < FILE";
 
 pub(crate) const CHART_USAGE: &str = "breezesim chart [--from L] [--to L] --part P < FILE";
@@ -50,6 +52,16 @@ Statuses:
   1  the netlist is refused: S, B and E lines
   2  the command line or a word is bad: H1
   3  an event was refused (N lines), records disagree (C1), a thread was refused (P3), the input or the output failed (F1, F2), or memory was refused (F3)";
+
+/// What stands behind the options of `explore`.
+pub(crate) const EXPLORE_LINES: &str = "\
+The line `help` tells what the lines may say. On a terminal a prompt stands before each of them.
+
+Statuses:
+  0  each line was followed, and each reply was as expected
+  1  a reply was not the expected one, or the netlist is refused: S, B and E lines
+  2  a line could not be followed, or the command line is bad
+  3  the input or the output failed (F1, F2), or memory was refused (F3)";
 
 /// What stands behind the options of `check`.
 pub(crate) const CHECK_STATUSES: &str = "\

@@ -9,7 +9,7 @@ use crate::notes::{explained, explained_faults};
 use bz_chart::LineRange;
 use bz_cli::PoolOptions;
 use bz_playing::{Spoilt, check, list, play, told, told_spoilt};
-use bz_showing::{chart, draw, list_paths, parts, pool};
+use bz_showing::{chart, draw, explore, list_paths, parts, pool};
 use std::fs;
 use std::sync::Wait;
 use std::test::Fail;
@@ -66,6 +66,14 @@ const CHARTED: [(&str, &str, LineRange); 9] = [
     ("cross", "cross", ALL),
     ("clash", "m", ALL),
     ("wide_values", "row", ALL),
+];
+
+/// Sessions by hand, the netlists on which they are played, and the statuses with which they end.
+const EXPLORED: [(&str, &str, u8); 4] = [
+    ("buffer", "buffer", 0),
+    ("arbiter_tree", "arbiter_tree", 0),
+    ("cross", "cross", 0),
+    ("mistakes", "buffer", 2),
 ];
 
 const ALL: LineRange = LineRange {
@@ -233,6 +241,19 @@ fn charted(rt: &HostRuntime, name: &str, part: &str, lines: LineRange) -> Result
     )
 }
 
+fn explored(rt: &HostRuntime, name: &str, netlist: &str, status: u8) -> Result<(), Fail> {
+    let text = file(rt, netlist, "breeze")?;
+    let lines = file(rt, name, "session")?;
+    let outcome = explore(rt.alloc(), text.as_str(), netlist, lines.as_str())?;
+    let answers = file(rt, name, "answers")?;
+    let label = format!(in rt.alloc(); "session {name}")?;
+    tell(
+        rt,
+        label.as_str(),
+        outcome.status == status && outcome.text.as_slice() == answers.as_bytes(),
+    )
+}
+
 fn refused(rt: &HostRuntime, name: &str) -> Result<(), Fail> {
     let netlist = file(
         rt,
@@ -272,6 +293,9 @@ fn main(rt: HostRuntime) -> Result<(), Fail> {
     }
     for (name, part, lines) in CHARTED {
         charted(&rt, name, part, lines)?;
+    }
+    for (name, netlist, status) in EXPLORED {
+        explored(&rt, name, netlist, status)?;
     }
     for name in REFUSED {
         refused(&rt, name)?;
