@@ -225,10 +225,14 @@ fn draw_command<'a>(alloc: Global) -> Result<Command<'a>, AllocError> {
 }
 
 fn explore_command<'a>(alloc: Global) -> Result<Command<'a>, AllocError> {
-    let command = Ok(Command::new(alloc, "explore")
-        .about("Plays a part's net by hand, by the lines of standard input, each with its answer")
-        .override_usage(EXPLORE_USAGE)
-        .after_help(EXPLORE_LINES));
+    let command = Ok(
+        Command::new(alloc, "explore")
+            .about(
+                "Plays a part's net by hand, by the lines of standard input, each with its answer",
+            )
+            .override_usage(EXPLORE_USAGE)
+            .after_help(EXPLORE_LINES),
+    );
     let command = with_arg(command, part_arg(alloc));
     let command = with_arg(command, part_form_arg(alloc));
     with_arg(command, Ok(netlist_arg(alloc).required(true)))

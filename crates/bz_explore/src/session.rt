@@ -351,7 +351,12 @@ impl Session {
         Ok(Goes::On)
     }
 
-    fn expect(&mut self, alloc: Global, words: &[&str], text: &mut Vec<u8>) -> Result<Goes, Trouble> {
+    fn expect(
+        &mut self,
+        alloc: Global,
+        words: &[&str],
+        text: &mut Vec<u8>,
+    ) -> Result<Goes, Trouble> {
         let Some(reply) = self.reply else {
             return Err(Trouble::Bad(Complaint::NoReply));
         };
