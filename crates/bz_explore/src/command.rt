@@ -67,7 +67,7 @@ pub(crate) fn read_command(alloc: Global, words: &[&str]) -> Result<Read, AllocE
 }
 
 // The command of a first word and of what follows it.
-fn read_headed(alloc: Global, head: &str, rest: &[&str]) -> Result<Read, AllocError> {
+fn read_headed<'w>(alloc: Global, head: &'w str, rest: &[&'w str]) -> Result<Read, AllocError> {
     if is_verb(head) {
         return without_port(alloc, head, rest);
     }
@@ -78,7 +78,7 @@ fn read_headed(alloc: Global, head: &str, rest: &[&str]) -> Result<Read, AllocEr
     }
 }
 
-fn without_port(alloc: Global, verb: &str, rest: &[&str]) -> Result<Read, AllocError> {
+fn without_port<'w>(alloc: Global, verb: &'w str, rest: &[&'w str]) -> Result<Read, AllocError> {
     Ok(Read::NoPort(with_port(alloc, verb, rest)?))
 }
 
@@ -95,7 +95,7 @@ fn is_verb(word: &str) -> bool {
 }
 
 // A word of the host as it is written with a port: the one that was given behind it, or any.
-fn with_port(alloc: Global, verb: &str, rest: &[&str]) -> Result<Vec<u8>, AllocError> {
+fn with_port<'w>(alloc: Global, verb: &'w str, rest: &[&'w str]) -> Result<Vec<u8>, AllocError> {
     let port = rest.first().copied().unwrap_or("P");
     let mut text = Vec::new(alloc);
     add(
