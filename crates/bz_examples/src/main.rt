@@ -3,13 +3,15 @@
 //! drawn beside it.
 #![tactic(auto)]
 
+mod exploring;
 mod notes;
 
+use crate::exploring::explore;
 use crate::notes::{explained, explained_faults};
 use bz_chart::LineRange;
 use bz_cli::PoolOptions;
 use bz_playing::{Spoilt, check, list, play, told, told_spoilt};
-use bz_showing::{chart, draw, explore, list_paths, parts, pool};
+use bz_showing::{chart, draw, list_paths, parts, pool};
 use std::fs;
 use std::sync::Wait;
 use std::test::Fail;

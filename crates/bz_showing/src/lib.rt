@@ -1,10 +1,8 @@
-//! What worked examples share beyond plays: pools, lists with places, drawings of nets and traces, and sessions by hand.
+//! What worked examples share beyond plays: pools, lists with places, and drawings of nets and traces.
 #![tactic(auto)]
 
-mod exploring;
 mod looking;
 mod pools;
 
-pub use exploring::explore;
 pub use looking::{Look, chart, draw, list_paths, look_at, parts};
 pub use pools::{Pooled, pool};
