@@ -5,6 +5,7 @@
 mod cases;
 mod escapes;
 mod items;
+mod looks;
 mod operations;
 mod plays;
 mod refusals;
@@ -21,9 +22,11 @@ use std::test::Fail;
 /// Netlists that several files have in common.
 const SHARED: &str = "netlists.rows";
 
-const FILES: [&str; 21] = [
+const FILES: [&str; 23] = [
     "traces.rows",
     "lists.rows",
+    "drawings.rows",
+    "charts.rows",
     "functions.rows",
     "hosts.rows",
     "clashes.rows",
@@ -89,6 +92,10 @@ fn play_item(
         "lines" => verdicts::lines(rt, &case, tally),
         "changed" => verdicts::changed(rt, &case, tally),
         "replies" | "worth" => operations::replies(rt, &case, tally),
+        "paths" => looks::paths(rt, &case, tally),
+        "parts" => looks::parts_listed(rt, &case, tally),
+        "drawing" => looks::drawing(rt, &case, tally),
+        "charts" => looks::charts(rt, &case, tally),
         "spoilt" => verdicts::spoilt(rt, &case, tally),
         _ => Err(item.malformed("no such command")),
     }
