@@ -3,6 +3,7 @@
 #![tactic(auto)]
 
 mod cases;
+mod cuts;
 mod escapes;
 mod items;
 mod looks;
@@ -22,7 +23,7 @@ use std::test::Fail;
 /// Netlists that several files have in common.
 const SHARED: &str = "netlists.rows";
 
-const FILES: [&str; 23] = [
+const FILES: [&str; 24] = [
     "traces.rows",
     "lists.rows",
     "drawings.rows",
@@ -35,6 +36,7 @@ const FILES: [&str; 23] = [
     "pieces.rows",
     "forms.rows",
     "checks.rows",
+    "cuts.rows",
     "sessions.rows",
     "walks.rows",
     "mixers.rows",
@@ -96,6 +98,7 @@ fn play_item(
         "parts" => looks::parts_listed(rt, &case, tally),
         "drawing" => looks::drawing(rt, &case, tally),
         "charts" => looks::charts(rt, &case, tally),
+        "cuts" => cuts::cuts(rt, &case, tally),
         "spoilt" => verdicts::spoilt(rt, &case, tally),
         _ => Err(item.malformed("no such command")),
     }
