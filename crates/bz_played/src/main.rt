@@ -10,6 +10,7 @@ mod looks;
 mod operations;
 mod plays;
 mod refusals;
+mod streams;
 mod tally;
 mod verdicts;
 mod wants;
@@ -23,7 +24,7 @@ use std::test::Fail;
 /// Netlists that several files have in common.
 const SHARED: &str = "netlists.rows";
 
-const FILES: [&str; 24] = [
+const FILES: [&str; 25] = [
     "traces.rows",
     "lists.rows",
     "drawings.rows",
@@ -37,6 +38,7 @@ const FILES: [&str; 24] = [
     "forms.rows",
     "checks.rows",
     "cuts.rows",
+    "streams.rows",
     "sessions.rows",
     "walks.rows",
     "mixers.rows",
@@ -99,6 +101,7 @@ fn play_item(
         "drawing" => looks::drawing(rt, &case, tally),
         "charts" => looks::charts(rt, &case, tally),
         "cuts" => cuts::cuts(rt, &case, tally),
+        "streams" => streams::streams(rt, &case, tally),
         "spoilt" => verdicts::spoilt(rt, &case, tally),
         _ => Err(item.malformed("no such command")),
     }
