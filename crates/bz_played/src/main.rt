@@ -7,9 +7,11 @@ mod cuts;
 mod escapes;
 mod items;
 mod looks;
+mod memory;
 mod operations;
 mod plays;
 mod refusals;
+mod sink;
 mod streams;
 mod tally;
 mod verdicts;
@@ -24,7 +26,7 @@ use std::test::Fail;
 /// Netlists that several files have in common.
 const SHARED: &str = "netlists.rows";
 
-const FILES: [&str; 25] = [
+const FILES: [&str; 26] = [
     "traces.rows",
     "lists.rows",
     "drawings.rows",
@@ -39,6 +41,7 @@ const FILES: [&str; 25] = [
     "checks.rows",
     "cuts.rows",
     "streams.rows",
+    "memory.rows",
     "sessions.rows",
     "walks.rows",
     "mixers.rows",
@@ -101,6 +104,7 @@ fn play_item(
         "drawing" => looks::drawing(rt, &case, tally),
         "charts" => looks::charts(rt, &case, tally),
         "cuts" => cuts::cuts(rt, &case, tally),
+        "memory" => memory::memory(rt, &case, tally),
         "streams" => streams::streams(rt, &case, tally),
         "spoilt" => verdicts::spoilt(rt, &case, tally),
         _ => Err(item.malformed("no such command")),

@@ -1,12 +1,13 @@
 //! Readers and writers that fail at each call.
 
 use crate::cases::Case;
+use crate::sink::Sink;
 use crate::tally::Tally;
 use bz_commands::Fault;
 use bz_playing::{Task, answer};
 use std::alloc::Global;
 use std::io;
-use std::io::{Read, Write};
+use std::io::Read;
 use std::test::Fail;
 
 /// More calls than any command makes here.
@@ -30,38 +31,6 @@ impl Read for Source<'_> {
         buf[..count].copy_from_slice(told);
         self.rest = rest;
         Ok(count)
-    }
-}
-
-/// A writer that takes a few bytes at a time, so many times, and then none; a write that isn't taken fails, or takes no byte. It takes no
-/// memory, and holds what it is given against what is to come.
-#[derive(Drop)]
-struct Sink<'a> {
-    wanted: &'a [u8],
-    writes: usize,
-    fails: bool,
-    is_right: bool,
-}
-
-impl Write for Sink<'_> {
-    fn write(&mut self, buf: &[u8]) -> io::Result<usize> {
-        if self.writes == 0 {
-            if self.fails {
-                return Err(io::Error::from(io::ErrorKind::StorageFull));
-            }
-            return Ok(0);
-        }
-        self.writes -= 1;
-        let count = buf.len().min(7);
-        match self.wanted.strip_prefix(&buf[..count]) {
-            Some(rest) => self.wanted = rest,
-            None => self.is_right = false,
-        }
-        Ok(count)
-    }
-
-    fn flush(&mut self) -> io::Result<()> {
-        Ok(())
     }
 }
 
@@ -170,12 +139,7 @@ fn write_until(
     fails: bool,
     whole: &[u8],
 ) -> Result<(String, bool), Fail> {
-    let mut sink = Sink {
-        wanted: whole,
-        writes,
-        fails,
-        is_right: true,
-    };
+    let mut sink = Sink::new(whole, writes, fails);
     let told = fault_of(alloc, answer(alloc, task, &mut &*input, &mut sink))?;
     let is_right = sink.is_right && told.is_empty() == sink.wanted.is_empty();
     Ok((told, is_right))
