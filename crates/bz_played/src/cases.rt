@@ -16,29 +16,42 @@ pub struct Text {
 }
 
 impl Text {
-    /// The text of an item `netlist NAME` or `text NAME`: the lines below it. That of `bytes NAME TEXT` stands behind the name.
+    /// The text of an item `netlist NAME` or `text NAME`: the lines below it. That of `bytes NAME TEXT` stands behind the name, or
+    /// in the lines below, in which escapes count.
     pub fn read(alloc: Global, item: &Item<'_>) -> Result<Option<Text>, Fail> {
         let (command, rest) = item.head.split_once(" ").unwrap_or((item.head, ""));
         let (name, text) = rest.split_once(" ").unwrap_or((rest, ""));
-        if command == "bytes" {
-            let bytes = item.bytes(alloc, text)?;
-            let name = name.to_string(alloc)?;
-            return Ok(Some(Text { name, bytes }));
-        }
-        if command != "netlist" && command != "text" {
-            return Ok(None);
-        }
-        if !text.is_empty() {
-            return Err(item.malformed("the text stands in the lines below"));
-        }
-        let mut bytes = Vec::new(alloc);
-        for line in &item.body {
-            bytes.extend_from_slice(line.as_bytes())?;
-            bytes.push(b'\n')?;
-        }
+        let bytes = match command {
+            "bytes" if item.body.is_empty() => item.bytes(alloc, text)?,
+            "bytes" | "netlist" | "text" if !text.is_empty() => {
+                return Err(item.malformed("the text stands in the lines below"));
+            }
+            "bytes" => escaped_lines(alloc, item)?,
+            "netlist" | "text" => plain_lines(alloc, item)?,
+            _ => return Ok(None),
+        };
         let name = name.to_string(alloc)?;
         Ok(Some(Text { name, bytes }))
     }
+}
+
+fn plain_lines(alloc: Global, item: &Item<'_>) -> Result<Vec<u8>, Fail> {
+    let mut bytes = Vec::new(alloc);
+    for line in &item.body {
+        bytes.extend_from_slice(line.as_bytes())?;
+        bytes.push(b'\n')?;
+    }
+    Ok(bytes)
+}
+
+fn escaped_lines(alloc: Global, item: &Item<'_>) -> Result<Vec<u8>, Fail> {
+    let mut bytes = Vec::new(alloc);
+    for line in &item.body {
+        let line = item.bytes(alloc, line)?;
+        bytes.extend_from_slice(line.as_slice())?;
+        bytes.push(b'\n')?;
+    }
+    Ok(bytes)
 }
 
 /// Adds a text, whose name is to be no other's.
@@ -77,8 +90,10 @@ pub struct Case<'a, 'b> {
     pub journal: u32,
     /// How words are played beside the command, as each `pieces COUNT` and `net kept` says.
     pub ways: Vec<Way>,
-    /// Behind `trace`, `beside` or `rows`: another text.
+    /// Behind `trace`, `beside`, `rows` or `gives`: another text.
     pub other: &'b [u8],
+    /// Behind `depth`: how deep instances are drawn.
+    pub depth: Option<usize>,
     /// Whether there is `beside each`.
     pub is_each: bool,
     /// Each behind `word`.
@@ -124,6 +139,7 @@ impl<'a, 'b> Case<'a, 'b> {
             journal: 1000,
             ways: Vec::new(alloc),
             other: b"",
+            depth: None,
             is_each: false,
             words: Vec::new(alloc),
         }
@@ -143,13 +159,14 @@ impl<'a, 'b> Case<'a, 'b> {
                 self.netlist = text_of(item, texts, value)?;
             }
             "beside" if value == "each" => self.is_each = true,
-            "trace" | "beside" | "rows" => self.other = text_of(item, texts, value)?,
+            "trace" | "beside" | "rows" | "gives" => self.other = text_of(item, texts, value)?,
             "part" => {
                 let name = item.bytes(alloc, value)?;
                 let name = str::from_utf8(name.as_slice())?.to_string(alloc)?;
                 self.parts.push(name)?;
             }
             "word" => self.words.push(value)?,
+            "depth" => self.depth = Some(item.number(value)? as usize),
             "journal" => self.journal = item.number(value)?,
             "pieces" => {
                 let room = item.number(value)?;

@@ -14,7 +14,8 @@ enum State {
 }
 
 /// The bytes of a text in which `\n`, `\r` and `\t` stand for the ends of lines and tabs, `\xHH` for any byte, and `{N*TEXT}`
-/// for the text N times. None where something else stands behind a `\` or in `{}`.
+/// for the text N times, `{A..B*TEXT}` for it once for each number from A to B, which stands for each `#` in it. None where
+/// something else stands behind a `\` or in `{}`.
 pub fn bytes_of(alloc: Global, text: &str) -> Result<Option<Vec<u8>>, AllocError> {
     match repeated(alloc, text)? {
         Some(text) => unescaped(alloc, text.as_str()),
@@ -22,7 +23,7 @@ pub fn bytes_of(alloc: Global, text: &str) -> Result<Option<Vec<u8>>, AllocError
     }
 }
 
-// The text with each `{N*TEXT}` written out.
+// The text with each `{N*TEXT}` and `{A..B*TEXT}` written out.
 fn repeated(alloc: Global, text: &str) -> Result<Option<String>, AllocError> {
     let mut all = String::new(alloc);
     let (mut front, mut rest) = text.split_once("{").unwrap_or((text, ""));
@@ -37,12 +38,34 @@ fn repeated(alloc: Global, text: &str) -> Result<Option<String>, AllocError> {
         let Some((count, piece)) = piece.split_once("*") else {
             return Ok(None);
         };
-        for _ in 0..count.parse().unwrap_or(0).min(MOST) {
-            all.push_str(piece)?;
+        match count.split_once("..") {
+            Some((first, last)) => push_counted(&mut all, first, last, piece)?,
+            None => push_times(&mut all, count, piece)?,
         }
         (front, rest) = behind.split_once("{").unwrap_or((behind, ""));
     }
     Ok(Some(all))
+}
+
+fn push_times(all: &mut String, count: &str, text: &str) -> Result<(), AllocError> {
+    for _ in 0..count.parse().unwrap_or(0).min(MOST) {
+        all.push_str(text)?;
+    }
+    Ok(())
+}
+
+fn push_counted(all: &mut String, first: &str, last: &str, text: &str) -> Result<(), AllocError> {
+    let first: u32 = first.parse().unwrap_or(1);
+    let last: u32 = last.parse().unwrap_or(0);
+    for number in first..last.min(MOST).saturating_add(1) {
+        for (place, piece) in text.split("#").enumerate() {
+            if place > 0 {
+                write!(all, "{number}")?;
+            }
+            all.push_str(piece)?;
+        }
+    }
+    Ok(())
 }
 
 fn unescaped(alloc: Global, text: &str) -> Result<Option<Vec<u8>>, AllocError> {

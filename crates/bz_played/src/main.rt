@@ -3,11 +3,16 @@
 #![tactic(auto)]
 
 mod cases;
+mod cuts;
 mod escapes;
 mod items;
+mod looks;
+mod memory;
 mod operations;
 mod plays;
 mod refusals;
+mod sink;
+mod streams;
 mod tally;
 mod verdicts;
 mod wants;
@@ -21,9 +26,11 @@ use std::test::Fail;
 /// Netlists that several files have in common.
 const SHARED: &str = "netlists.rows";
 
-const FILES: [&str; 21] = [
+const FILES: [&str; 26] = [
     "traces.rows",
     "lists.rows",
+    "drawings.rows",
+    "charts.rows",
     "functions.rows",
     "hosts.rows",
     "clashes.rows",
@@ -32,6 +39,9 @@ const FILES: [&str; 21] = [
     "pieces.rows",
     "forms.rows",
     "checks.rows",
+    "cuts.rows",
+    "streams.rows",
+    "memory.rows",
     "sessions.rows",
     "walks.rows",
     "mixers.rows",
@@ -89,6 +99,13 @@ fn play_item(
         "lines" => verdicts::lines(rt, &case, tally),
         "changed" => verdicts::changed(rt, &case, tally),
         "replies" | "worth" => operations::replies(rt, &case, tally),
+        "paths" => looks::paths(rt, &case, tally),
+        "parts" => looks::parts_listed(rt, &case, tally),
+        "drawing" => looks::drawing(rt, &case, tally),
+        "charts" => looks::charts(rt, &case, tally),
+        "cuts" => cuts::cuts(rt, &case, tally),
+        "memory" => memory::memory(rt, &case, tally),
+        "streams" => streams::streams(rt, &case, tally),
         "spoilt" => verdicts::spoilt(rt, &case, tally),
         _ => Err(item.malformed("no such command")),
     }

@@ -139,10 +139,7 @@ pub fn list_parts(
     case: &Case<'_, '_>,
     tally: &mut Tally<'_>,
 ) -> Result<(), Fail> {
-    let mut want = Want::begun(rt.alloc(), "")?;
-    for line in &case.item.body {
-        want.tell(case.item, line)?;
-    }
+    let want = Want::of_lines(rt.alloc(), case.item)?;
     for part in &case.parts {
         let outcome = list(rt.alloc(), case.netlist, part)?;
         tally.count(rt, case.name, want.differs(rt.alloc(), &outcome)?)?;

@@ -64,7 +64,8 @@ fn with_line(alloc: Global, text: &str, number: &str, other: &str) -> Result<Str
     Ok(all)
 }
 
-fn is_told(
+/// Counts what the check of this trace tells.
+pub fn is_told(
     rt: &HostRuntime,
     case: &Case<'_, '_>,
     tally: &mut Tally<'_>,

@@ -33,6 +33,15 @@ impl<'a> Want<'a> {
         })
     }
 
+    /// What the lines of an item tell, from the first on.
+    pub fn of_lines(alloc: Global, item: &Item<'a>) -> Result<Want<'a>, Fail> {
+        let mut want = Want::begun(alloc, "")?;
+        for line in &item.body {
+            want.tell(item, line)?;
+        }
+        Ok(want)
+    }
+
     /// A line of what is told: `...` in front of the end of a text, `exit STATUS` or `exit STATUS: FAULT`, `lines COUNT`,
     /// `check VERDICT`, or else a line of the text. A netlist or a word that is refused, by status 1 or 2, has no text.
     pub fn tell(&mut self, item: &Item<'_>, line: &'a str) -> Result<(), Fail> {

@@ -9,6 +9,8 @@ mod flats;
 #[cfg(test)]
 mod pieces;
 #[cfg(test)]
+mod places;
+#[cfg(test)]
 mod records;
 #[cfg(test)]
 mod shapes;

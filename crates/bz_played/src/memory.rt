@@ -1,0 +1,162 @@
+//! Commands with little memory.
+
+use crate::cases::Case;
+use crate::sink::Sink;
+use crate::tally::Tally;
+use bz_commands::Fault;
+use bz_playing::{Outcome, Task, answer};
+use std::alloc::{AllocError, Global};
+use std::test::Fail;
+
+/// More blocks than the heap can be taken in.
+const MOST_BLOCKS: usize = 262_144;
+
+/// More budgets, of 16 bytes more each, than any command lacks here.
+const MOST_BUDGETS: usize = 20_000;
+
+/// More writes than any command makes here.
+const MOST_WRITES: usize = 10_000;
+
+/// What came of a command.
+#[derive(Clone, Copy, Debug, PartialEq, Eq)]
+enum Told {
+    /// It lacked memory, and wrote nothing.
+    Lack,
+    /// What comes of it with ample memory.
+    Whole,
+    Other,
+}
+
+/// Lists each part and plays the words on it, in pieces, or checks the text behind `trace`: with no memory, with 16 bytes, and so on,
+/// until there is enough. Before that F3 is told and nothing is written, and then what is with ample memory.
+pub fn memory(rt: &HostRuntime, case: &Case<'_, '_>, tally: &mut Tally<'_>) -> Result<(), Fail> {
+    let mut behind = Vec::from_slice(rt.alloc(), case.netlist)?;
+    behind.extend_from_slice(case.other)?;
+    for part in &case.parts {
+        let task = if !case.other.is_empty() {
+            Task::Check(part)
+        } else if case.words.is_empty() {
+            Task::List(part)
+        } else {
+            Task::RunInPieces(part, case.words.as_slice())
+        };
+        let differs = differs_for_want(rt.alloc(), task, behind.as_slice())?;
+        tally.count(rt, case.name, differs)?;
+    }
+    Ok(())
+}
+
+// What is told where memory is refused at one growth after another, if it is not as it should be.
+fn differs_for_want(alloc: Global, task: Task<'_>, input: &[u8]) -> Result<Option<String>, Fail> {
+    let whole = whole_of(alloc, task, input)?;
+    let budget = first_enough(alloc, task, input, &whole)?;
+    match budget {
+        Some(budget) if budget > 50 => Ok(None),
+        Some(budget) => Ok(Some(format!(in alloc; "it lacked memory but {budget} times")?)),
+        None => Ok(Some("something else where memory is wanting".to_string(alloc)?)),
+    }
+}
+
+// What comes of a command with ample memory.
+fn whole_of(alloc: Global, task: Task<'_>, input: &[u8]) -> Result<Outcome, Fail> {
+    let mut text = Vec::new(alloc);
+    let result = answer(alloc, task, &mut &*input, &mut text);
+    Ok(Outcome {
+        text,
+        fault: fault_of(alloc, &result)?,
+        status: 0,
+    })
+}
+
+fn fault_of(alloc: Global, answer: &Result<bool, Fault>) -> Result<String, AllocError> {
+    match answer {
+        Ok(_) => Ok(String::new(alloc)),
+        Err(fault) => format!(in alloc; "{fault}"),
+    }
+}
+
+// How often the command lacked memory before it had enough; None where it told something else.
+fn first_enough(
+    alloc: Global,
+    task: Task<'_>,
+    input: &[u8],
+    whole: &Outcome,
+) -> Result<Option<usize>, Fail> {
+    let mut rest = Vec::with_capacity(alloc, MOST_BLOCKS)?;
+    let most = take_most(alloc)?;
+    let enough = first_whole(alloc, task, input, whole, &mut rest);
+    drop(most);
+    enough
+}
+
+fn first_whole(
+    alloc: Global,
+    task: Task<'_>,
+    input: &[u8],
+    whole: &Outcome,
+    rest: &mut Vec<Vec<u8>>,
+) -> Result<Option<usize>, Fail> {
+    for budget in 0..MOST_BUDGETS {
+        match answer_within(alloc, task, input, whole, 16 * budget, rest)? {
+            Told::Lack => {}
+            Told::Whole => return Ok(Some(budget)),
+            Told::Other => return Ok(None),
+        }
+    }
+    Ok(None)
+}
+
+// Does the command with so many bytes of memory.
+fn answer_within(
+    alloc: Global,
+    task: Task<'_>,
+    input: &[u8],
+    whole: &Outcome,
+    bytes: usize,
+    rest: &mut Vec<Vec<u8>>,
+) -> Result<Told, Fail> {
+    let left = Vec::<u8>::with_capacity(alloc, bytes)?;
+    take_all(alloc, 1 << 20, rest)?;
+    drop(left);
+    let mut sink = Sink::new(whole.text.as_slice(), MOST_WRITES, true);
+    let result = answer(alloc, task, &mut &*input, &mut sink);
+    rest.clear();
+    let fault = fault_of(alloc, &result)?;
+    Ok(compared(fault.as_str(), &sink, whole))
+}
+
+fn compared(fault: &str, sink: &Sink<'_>, whole: &Outcome) -> Told {
+    let has_written = sink.wanted.len() != whole.text.len();
+    if sink.is_right && sink.wanted.is_empty() && fault == whole.fault.as_str() {
+        Told::Whole
+    } else if sink.is_right && !has_written && fault == "F3 Memory" {
+        Told::Lack
+    } else {
+        Told::Other
+    }
+}
+
+// Takes blocks of memory, untouched, of this size and then of smaller ones, until the heap refuses even the smallest.
+fn take_all(alloc: Global, largest: usize, blocks: &mut Vec<Vec<u8>>) -> Result<(), AllocError> {
+    let mut size = largest;
+    for _ in blocks.len()..MOST_BLOCKS {
+        match Vec::<u8>::with_capacity(alloc, size) {
+            Ok(block) => blocks.push(block)?,
+            Err(_) if size < 16 => break,
+            Err(_) => size /= 2,
+        }
+    }
+    Ok(())
+}
+
+// All memory but for thirty million bytes, of which small pieces that were used and given back take up little.
+fn take_most(alloc: Global) -> Result<Vec<Vec<u8>>, AllocError> {
+    let mut blocks = Vec::with_capacity(alloc, MOST_BLOCKS)?;
+    let mut room = Vec::with_capacity(alloc, 300)?;
+    for _ in 0..300 {
+        room.push(Vec::<u8>::with_capacity(alloc, 100_000)?)?;
+    }
+    take_all(alloc, 1 << 46, &mut blocks)?;
+    drop(room);
+    Ok(blocks)
+}
