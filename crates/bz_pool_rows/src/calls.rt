@@ -1,10 +1,10 @@
-//! Pools run from words, without all that `run_pool` promises.
+//! Pools run from words, and what they leave as values, so that a test holds nothing large.
 
 ghost use Rattle.std.specs.Prelude.{◌≡◌, ◌<◌, ◌≤◌, [], IfOk};
 
 use bz_lines::{put_entries, write_trace};
 use bz_locked::Closed;
-use bz_model::Entry;
+use bz_model::{Entry, HostCmd};
 use bz_net::Net;
 use bz_playing::{check, flat_of};
 use bz_pool::{Gate, run_pool};
@@ -24,6 +24,70 @@ pub struct Plan {
     pub workers: u8,
 }
 
+/// What a pool leaves.
+#[derive(Drop)]
+pub struct Left {
+    /// Those of the sessions, then those of the workers.
+    pub ends: Vec<End>,
+    /// The lines of all records, the first session's first.
+    pub records: String,
+    pub shares: Vec<u64>,
+    /// The components that fired, in order.
+    pub fired: Vec<u32>,
+    pub entries: usize,
+    pub front: u64,
+    /// What the checker says of the trace.
+    pub verdict: String,
+}
+
+impl Left {
+    /// The ends, how many firings the shares have together and how many the journal has, and the records.
+    pub fn tell(&self, alloc: Global) -> Result<String, AllocError> {
+        let sum = self
+            .shares
+            .iter()
+            .fold(0u64, |sum, share| sum.saturating_add(*share));
+        format!(in alloc;
+            "{:?} {sum} of {} fired\n{}",
+            self.ends.as_slice(),
+            self.fired.len(),
+            self.records
+        )
+    }
+}
+
+/// Runs a pool that plays the words, spelled with spaces between.
+pub fn pool<G: Gate + Sync, R: Threads + Wait + Sync>(
+    rt: &R,
+    alloc: Global,
+    plan: Plan,
+    gate: &G,
+    words: &str,
+) -> Result<Left, Fail> {
+    let (closed, ends) = run_words(rt, alloc, plan, gate, words)?;
+    left_of(alloc, plan, &closed, ends)
+}
+
+fn run_words<G: Gate + Sync, R: Threads + Wait + Sync>(
+    rt: &R,
+    alloc: Global,
+    plan: Plan,
+    gate: &G,
+    words: &str,
+) -> Result<(Closed, Vec<End>), Fail> {
+    let lists = lists_of(alloc, words)?;
+    let net = opened(alloc, plan)?;
+    Ok(run_pool(rt, alloc, net, plan.workers, plan.fuel, gate, lists)?)
+}
+
+fn lists_of(alloc: Global, words: &str) -> Result<Vec<Vec<HostCmd>>, Fail> {
+    let mut spelled = Vec::new(alloc);
+    for word in words.split_whitespace() {
+        spelled.push(word)?;
+    }
+    Ok(parse_host_words(alloc, &spelled)?)
+}
+
 fn opened(alloc: Global, plan: Plan) -> Result<Net, Fail>
     ensures { IfOk result (λ net. net.journal ≡ []) }
 {
@@ -34,49 +98,29 @@ fn opened(alloc: Global, plan: Plan) -> Result<Net, Fail>
     Ok(Net::open(alloc, flat, plan.journal)?)
 }
 
-/// What a pool leaves that plays the words, spelled with spaces between.
-pub fn pool<G: Gate + Sync, R: Threads + Wait + Sync>(
-    rt: &R,
-    alloc: Global,
-    plan: Plan,
-    gate: &G,
-    words: &str,
-) -> Result<(Closed, Vec<End>), Fail> {
-    if plan.workers == 0 || plan.workers > 8 {
-        return Err("too many workers".into());
-    }
-    let mut spelled = Vec::new(alloc);
-    for word in words.split_whitespace() {
-        spelled.push(word)?;
-    }
-    let lists = parse_host_words(alloc, &spelled)?;
-    let net = opened(alloc, plan)?;
-    Ok(run_pool(rt, alloc, net, plan.workers, plan.fuel, gate, lists)?)
+fn left_of(alloc: Global, plan: Plan, closed: &Closed, ends: Vec<End>) -> Result<Left, Fail> {
+    Ok(Left {
+        ends,
+        records: record_lines(alloc, closed)?,
+        shares: Vec::from_slice(alloc, closed.shares.as_slice())?,
+        fired: fired(alloc, closed.net.journal())?,
+        entries: closed.net.journal().len(),
+        front: closed.front,
+        verdict: verdict(alloc, plan, &closed.net)?,
+    })
 }
 
-/// The lines of a session's record, counted from 1.
-pub fn record_lines(alloc: Global, closed: &Closed, session: usize) -> Result<String, Fail> {
-    let record = closed
-        .records
-        .get(session.wrapping_sub(1))
-        .ok_or("a record")?;
+fn record_lines(alloc: Global, closed: &Closed) -> Result<String, Fail> {
     let mut text = Vec::new(alloc);
-    put_entries(&mut text, closed.net.names(), record)?;
+    for record in closed.records.iter() {
+        put_entries(&mut text, closed.net.names(), record)?;
+    }
     Ok(String::from_utf8(text)?)
 }
 
-/// How many firings the shares have together.
-pub fn all_shares(closed: &Closed) -> u64 {
-    closed
-        .shares
-        .iter()
-        .fold(0, |sum, share| sum.saturating_add(*share))
-}
-
-/// The components that fired, in order.
-pub fn fired(alloc: Global, closed: &Closed) -> Result<Vec<u32>, AllocError> {
+fn fired(alloc: Global, journal: &[Entry]) -> Result<Vec<u32>, AllocError> {
     let mut comps = Vec::new(alloc);
-    for entry in closed.net.journal() {
+    for entry in journal {
         if let Entry::Fired { comp, .. } = entry {
             comps.push(*comp)?;
         }
@@ -84,10 +128,8 @@ pub fn fired(alloc: Global, closed: &Closed) -> Result<Vec<u32>, AllocError> {
     Ok(comps)
 }
 
-/// What the checker says of the trace.
-pub fn verdict(alloc: Global, plan: Plan, closed: &Closed) -> Result<String, Fail> {
+fn verdict(alloc: Global, plan: Plan, net: &Net) -> Result<String, Fail> {
     let mut trace = Vec::new(alloc);
-    let net = &closed.net;
     write_trace(net.names(), net.journal(), net.clashes(), &mut trace)?;
     let outcome = check(alloc, plan.netlist, plan.part, &trace)?;
     Ok(String::from_utf8(outcome.text)?)

@@ -1,10 +1,10 @@
 //! How the sessions and workers of a pool end.
 
-use crate::calls::{Plan, all_shares, pool, record_lines, verdict};
+use crate::calls::{Plan, pool};
 use crate::gates::Open;
 use bz_model::NetError;
 use bz_playing::netlists::{BUFFER, TWO};
-use bz_session::{End, SessionError};
+use bz_session::{End, SessionError, parse_host_words};
 use std::test::Fail;
 
 const PLAN: Plan = Plan {
@@ -15,39 +15,61 @@ const PLAN: Plan = Plan {
     workers: 2,
 };
 
-#[test]
-fn rests_at_the_second_word(rt: HostRuntime) -> Result<(), Fail> {
-    let alloc = rt.alloc();
-    let (closed, ends) = pool(&rt, alloc, PLAN, &Open, "offer:activate collect:activate")?;
-    let wanted = [End::Resting(2), End::Resting(0), End::Resting(0)];
-    assert!(rt; ends.as_slice() == wanted.as_slice());
-    assert!(rt; all_shares(&closed) == 6);
-    assert!(rt; record_lines(alloc, &closed, 1)?.as_str() == "h1 offer activate done\n");
-    Ok(())
-}
+/// Eight workers on the buffer without fuel.
+const SPENT: Plan = Plan {
+    fuel: 0,
+    workers: 8,
+    ..PLAN
+};
+
+const BOTH: Plan = Plan {
+    netlist: TWO,
+    part: "two",
+    ..PLAN
+};
+
+const PLACES: [(Plan, &str, &str); 4] = [
+    (
+        PLAN,
+        "offer:activate collect:activate",
+        "[Resting(2), Resting(0), Resting(0)] 6 of 6 fired
+h1 offer activate done
+",
+    ),
+    (
+        Plan { fuel: 2, ..PLAN },
+        "offer:activate collect:activate",
+        "[Spent(2), Spent(0), Spent(0)] 2 of 2 fired
+h1 offer activate done
+",
+    ),
+    (
+        SPENT,
+        "offer:activate accept:i",
+        "[Spent(2), Spent(0), Spent(0), Spent(0), Spent(0), Spent(0), Spent(0), Spent(0), Spent(0)] 0 of 0 fired
+h1 offer activate done
+",
+    ),
+    // one is refused, and the other goes on
+    (
+        BOTH,
+        "offer:activate accept:zz / accept:i2 answer:i2:7 accept:o2 answer:o2",
+        "[Refused(2, Event(UnknownPort)), Done, Resting(0), Resting(0)] 39 of 39 fired
+h1 offer activate done
+h2 accept i2 done
+h2 answer i2 7 done
+h2 accept o2 value 7
+h2 answer o2 done
+",
+    ),
+];
 
 #[test]
-fn is_spent_at_the_second_word(rt: HostRuntime) -> Result<(), Fail> {
-    let alloc = rt.alloc();
-    let plan = Plan { fuel: 2, ..PLAN };
-    let (closed, ends) = pool(&rt, alloc, plan, &Open, "offer:activate collect:activate")?;
-    let wanted = [End::Spent(2), End::Spent(0), End::Spent(0)];
-    assert!(rt; ends.as_slice() == wanted.as_slice());
-    assert!(rt; all_shares(&closed) == 2);
-    Ok(())
-}
-
-#[test]
-fn eight_workers_without_fuel(rt: HostRuntime) -> Result<(), Fail> {
-    let alloc = rt.alloc();
-    let plan = Plan {
-        fuel: 0,
-        workers: 8,
-        ..PLAN
-    };
-    let (closed, ends) = pool(&rt, alloc, plan, &Open, "offer:activate accept:i")?;
-    assert!(rt; ends.len() == 9 && ends[0] == End::Spent(2));
-    assert!(rt; all_shares(&closed) == 0);
+fn pools_end(rt: HostRuntime) -> Result<(), Fail> {
+    for (plan, words, wanted) in PLACES {
+        let told = pool(&rt, rt.alloc(), plan, &Open, words)?.tell(rt.alloc())?;
+        assert_eq!(rt; told.as_str(), wanted);
+    }
     Ok(())
 }
 
@@ -60,48 +82,42 @@ fn met_a_full_journal(end: End) -> bool {
 
 #[test]
 fn a_full_journal_stops_all(rt: HostRuntime) -> Result<(), Fail> {
-    let alloc = rt.alloc();
     let plan = Plan {
         journal: 3,
         workers: 8,
         ..PLAN
     };
-    let (closed, ends) = pool(&rt, alloc, plan, &Open, "offer:activate")?;
-    assert!(rt; closed.net.journal().len() == 3 && closed.front == 3);
-    assert!(rt; ends.len() == 9 && ends.iter().any(|end| met_a_full_journal(*end)));
-    assert!(rt; verdict(alloc, plan, &closed)?.as_str().starts_with("run: "));
-    Ok(())
-}
-
-#[test]
-fn one_is_refused_and_one_goes_on(rt: HostRuntime) -> Result<(), Fail> {
-    let alloc = rt.alloc();
-    let plan = Plan {
-        netlist: TWO,
-        part: "two",
-        ..PLAN
-    };
-    let words = "offer:activate accept:zz / accept:i2 answer:i2:7 accept:o2 answer:o2";
-    let (closed, ends) = pool(&rt, alloc, plan, &Open, words)?;
-    let refused = End::Refused(2, SessionError::Event(NetError::UnknownPort));
-    assert!(rt; ends.len() == 4 && ends[0] == refused && ends[1] == End::Done);
-    let record =
-        "h2 accept i2 done\nh2 answer i2 7 done\nh2 accept o2 value 7\nh2 answer o2 done\n";
-    assert!(rt; record_lines(alloc, &closed, 2)?.as_str() == record);
+    let left = pool(&rt, rt.alloc(), plan, &Open, "offer:activate")?;
+    assert!(rt; left.entries == 3 && left.front == 3 && left.ends.len() == 9);
+    assert!(rt; left.ends.iter().any(|end| met_a_full_journal(*end)));
+    assert!(rt; left.verdict.as_str().starts_with("run: "));
     Ok(())
 }
 
 #[test]
 fn sixteen_sessions(rt: HostRuntime) -> Result<(), Fail> {
-    let alloc = rt.alloc();
-    let mut words = "watch:activate".to_string(alloc)?;
-    for _ in 1..16 {
+    let mut words = "watch:activate".to_string(rt.alloc())?;
+    let mut wanted = "h1 watch activate idle\n".to_string(rt.alloc())?;
+    for session in 2..17u32 {
         words.push_str(" / watch:activate")?;
+        writeln!(wanted, "h{session} watch activate idle")?;
     }
-    let (closed, ends) = pool(&rt, alloc, PLAN, &Open, words.as_str())?;
-    assert!(rt; ends.len() == 18 && closed.records.len() == 16);
-    for record in closed.records.iter() {
-        assert!(rt; record.len() == 1);
+    let left = pool(&rt, rt.alloc(), PLAN, &Open, words.as_str())?;
+    assert_eq!(rt; left.records.as_str(), wanted.as_str());
+    assert!(rt; left.ends.iter().take(16).all(|end| *end == End::Done) && left.ends.len() == 18);
+    Ok(())
+}
+
+// The bar behind the sixteenth session is the 32nd word.
+#[test]
+fn a_seventeenth_is_refused(rt: HostRuntime) -> Result<(), Fail> {
+    let mut words = Vec::new(rt.alloc());
+    for _ in 0..16 {
+        words.push("watch:activate")?;
+        words.push("/")?;
     }
+    words.push("watch:activate")?;
+    let refused = parse_host_words(rt.alloc(), words.as_slice());
+    assert!(rt; refused == Err(SessionError::BadWord(32)));
     Ok(())
 }

@@ -1,8 +1,7 @@
 //! Gates round a worker's firings.
 
-use crate::calls::{Plan, all_shares, fired, pool};
+use crate::calls::{Plan, pool};
 use bz_pool::Gate;
-use bz_session::End;
 use std::sync::atomic::{AtomicBool, Ordering};
 use std::test::Fail;
 use std::thread;
@@ -45,6 +44,13 @@ impl Holding {
         }
     }
 
+    /// Whether both workers fired, and none waited in vain.
+    fn both_fired(&self) -> bool {
+        !self.gave_up.load(Ordering::SeqCst)
+            && self.first_fired.load(Ordering::SeqCst)
+            && self.second_fired.load(Ordering::SeqCst)
+    }
+
     fn has_fired(&self, worker: u8) -> &AtomicBool {
         if worker == 1 {
             &self.first_fired
@@ -74,6 +80,10 @@ impl Gate for Holding {
     }
 }
 
+const SPENT: &str = "[Done, Spent(0), Spent(0)] 1000 of 1000 fired
+h1 offer activate done
+";
+
 #[test]
 fn two_workers_run(rt: HostRuntime) -> Result<(), Fail> {
     let alloc = rt.alloc();
@@ -85,13 +95,9 @@ fn two_workers_run(rt: HostRuntime) -> Result<(), Fail> {
         workers: 2,
     };
     let gate = Holding::new();
-    let (closed, ends) = pool(&rt, alloc, plan, &gate, "offer:activate")?;
-    assert!(rt; !gate.gave_up.load(Ordering::SeqCst));
-    assert!(rt; gate.first_fired.load(Ordering::SeqCst));
-    assert!(rt; gate.second_fired.load(Ordering::SeqCst));
-    assert!(rt; fired(alloc, &closed)?.len() == 1000 && all_shares(&closed) == 1000);
-    let spent = [End::Done, End::Spent(0), End::Spent(0)];
-    assert!(rt; ends.as_slice() == spent.as_slice());
+    let left = pool(&rt, alloc, plan, &gate, "offer:activate")?;
+    assert!(rt; gate.both_fired());
+    assert_eq!(rt; left.tell(alloc)?.as_str(), SPENT);
     Ok(())
 }
 
@@ -105,8 +111,8 @@ fn one_worker_follows_its_hints(rt: HostRuntime) -> Result<(), Fail> {
         fuel: 15,
         workers: 1,
     };
-    let (closed, _) = pool(&rt, alloc, plan, &Open, "offer:activate")?;
+    let left = pool(&rt, alloc, plan, &Open, "offer:activate")?;
     let wanted = [1, 1, 1, 2, 3, 2, 3, 4, 5, 4, 5, 2, 3, 2, 3];
-    assert_eq!(rt; fired(alloc, &closed)?.as_slice(), wanted.as_slice());
+    assert_eq!(rt; left.fired.as_slice(), wanted.as_slice());
     Ok(())
 }

@@ -1,9 +1,8 @@
 //! Two buffers side by side, played round after round.
 
-use crate::calls::{Plan, all_shares, fired, pool, record_lines, verdict};
+use crate::calls::{Plan, pool};
 use crate::gates::Open;
 use bz_playing::netlists::TWO;
-use bz_session::End;
 use std::alloc::Global;
 use std::process::Abort;
 use std::sync::Wait;
@@ -15,34 +14,28 @@ const ROUNDS: u32 = 100;
 const WORDS: &str = "offer:activate accept:i1 answer:i1:5 accept:o1 answer:o1 \
     / accept:i2 answer:i2:7 accept:o2 answer:o2";
 
-const FIRST_RECORD: &str = "h1 offer activate done
+const RECORDS: &str = "h1 offer activate done
 h1 accept i1 done
 h1 answer i1 5 done
 h1 accept o1 value 5
 h1 answer o1 done
-";
-
-const SECOND_RECORD: &str = "h2 accept i2 done
+h2 accept i2 done
 h2 answer i2 7 done
 h2 accept o2 value 7
 h2 answer o2 done
 ";
 
-/// One round, which ends as every other.
+/// One round, which ends as every other: both sessions are done, and all workers rest.
 fn round<R: Threads + Wait + Sync + Abort>(rt: &R, alloc: Global, plan: Plan) -> Result<(), Fail> {
-    let (closed, ends) = pool(rt, alloc, plan, &Open, WORDS)?;
-    assert!(rt; record_lines(alloc, &closed, 1)?.as_str() == FIRST_RECORD);
-    assert!(rt; record_lines(alloc, &closed, 2)?.as_str() == SECOND_RECORD);
-    assert!(rt; all_shares(&closed) == 63 && fired(alloc, &closed)?.len() == 63);
-    assert!(rt; closed.shares.len() == plan.workers as usize && closed.records.len() == 2);
-    assert!(rt; closed.front == closed.net.journal().len() as u64);
-    assert!(rt; ends.len() == 2 + plan.workers as usize);
-    assert!(rt; ends[0] == End::Done && ends[1] == End::Done);
-    for end in ends[2..].iter() {
-        assert!(rt; *end == End::Resting(0));
+    let left = pool(rt, alloc, plan, &Open, WORDS)?;
+    let mut rests = String::new(alloc);
+    for _ in 0..plan.workers {
+        rests.push_str(", Resting(0)")?;
     }
-    let told = verdict(alloc, plan, &closed)?;
-    assert!(rt; told.as_str().starts_with("run: 63 fired, 9 host, "));
+    let wanted = format!(in alloc; "[Done, Done{rests}] 63 of 63 fired\n{RECORDS}")?;
+    assert_eq!(rt; left.tell(alloc)?.as_str(), wanted.as_str());
+    assert!(rt; left.shares.len() == plan.workers as usize && left.front == left.entries as u64);
+    assert!(rt; left.verdict.as_str().starts_with("run: 63 fired, 9 host, "));
     Ok(())
 }
 
