@@ -8,6 +8,4 @@ mod input;
 #[cfg(test)]
 mod memory;
 #[cfg(test)]
-mod pools;
-#[cfg(test)]
 mod streams;

@@ -88,6 +88,12 @@ pub struct Case<'a, 'b> {
     pub parts: Vec<String>,
     /// Behind `journal`; else 1000.
     pub journal: u32,
+    /// Behind `fuel`; else 1000.
+    pub fuel: u32,
+    /// Each behind `workers`.
+    pub workers: Vec<u8>,
+    /// Behind `rounds`: how often a pool is played; else once.
+    pub rounds: u32,
     /// How words are played beside the command, as each `pieces COUNT` and `net kept` says.
     pub ways: Vec<Way>,
     /// Behind `trace`, `beside`, `rows` or `gives`: another text.
@@ -137,6 +143,9 @@ impl<'a, 'b> Case<'a, 'b> {
             netlist: b"",
             parts: Vec::new(alloc),
             journal: 1000,
+            fuel: 1000,
+            workers: Vec::new(alloc),
+            rounds: 1,
             ways: Vec::new(alloc),
             other: b"",
             depth: None,
@@ -167,6 +176,12 @@ impl<'a, 'b> Case<'a, 'b> {
             }
             "word" => self.words.push(value)?,
             "depth" => self.depth = Some(item.number(value)? as usize),
+            "fuel" => self.fuel = item.number(value)?,
+            "workers" => {
+                let workers = u8::try_from(item.number(value)?)?;
+                self.workers.push(workers)?;
+            }
+            "rounds" => self.rounds = item.number(value)?,
             "journal" => self.journal = item.number(value)?,
             "pieces" => {
                 let room = item.number(value)?;

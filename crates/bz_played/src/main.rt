@@ -10,6 +10,7 @@ mod looks;
 mod memory;
 mod operations;
 mod plays;
+mod pools;
 mod refusals;
 mod sink;
 mod streams;
@@ -21,12 +22,14 @@ use crate::cases::{Case, Text, add_text};
 use crate::items::{Item, items_of};
 use crate::tally::Tally;
 use std::fs;
+use std::sync::Wait;
 use std::test::Fail;
+use std::thread::Threads;
 
 /// Netlists that several files have in common.
 const SHARED: &str = "netlists.rows";
 
-const FILES: [&str; 26] = [
+const FILES: [&str; 27] = [
     "traces.rows",
     "lists.rows",
     "drawings.rows",
@@ -40,6 +43,7 @@ const FILES: [&str; 26] = [
     "forms.rows",
     "checks.rows",
     "cuts.rows",
+    "pools.rows",
     "streams.rows",
     "memory.rows",
     "sessions.rows",
@@ -59,28 +63,34 @@ fn main(rt: HostRuntime) -> Result<(), Fail> {
     let shared = fs::read_to_string(&rt, SHARED)?;
     let shared = items_of(rt.alloc(), SHARED, shared.as_str())?;
     for file in FILES {
-        play_file(&rt, shared.as_slice(), file)?;
+        play_file(&rt, &rt, shared.as_slice(), file)?;
     }
     Ok(())
 }
 
-fn play_file(rt: &HostRuntime, shared: &[Item<'_>], file: &str) -> Result<(), Fail> {
+fn play_file<T: Threads + Wait + Sync>(
+    rt: &HostRuntime,
+    threads: &T,
+    shared: &[Item<'_>],
+    file: &str,
+) -> Result<(), Fail> {
     let text = fs::read_to_string(rt, file)?;
     let items = items_of(rt.alloc(), file, text.as_str())?;
     let mut texts = Vec::new(rt.alloc());
     let mut tally = Tally::new(file);
     for item in shared {
-        play_item(rt, item, &mut texts, &mut tally)?;
+        play_item(rt, threads, item, &mut texts, &mut tally)?;
     }
     for item in &items {
-        play_item(rt, item, &mut texts, &mut tally)?;
+        play_item(rt, threads, item, &mut texts, &mut tally)?;
     }
     tally.tell(rt)
 }
 
 // A text is kept, and all else is a case or a table of them.
-fn play_item(
+fn play_item<T: Threads + Wait + Sync>(
     rt: &HostRuntime,
+    threads: &T,
     item: &Item<'_>,
     texts: &mut Vec<Text>,
     tally: &mut Tally<'_>,
@@ -92,6 +102,7 @@ fn play_item(
     match case.command {
         "play" => plays::play_scripts(rt, &case, tally),
         "list" => plays::list_parts(rt, &case, tally),
+        "pool" => pools::pools(rt, threads, &case, tally),
         "refused" => refusals::refused(rt, &case, tally),
         "alike" => refusals::alike(rt, &case, tally),
         "marked" => refusals::marked(rt, &case, tally),
