@@ -8,10 +8,13 @@ use bz_playing::calls::{
     next_ready, offer, port_at, reserve, rest, run, serve_host, serve_worker, step, watch,
 };
 use bz_playing::net_of;
-use std::alloc::Global;
+use std::alloc::{AllocError, Global};
 use std::mem;
 use std::process::Abort;
 use std::test::Fail;
+
+/// More blocks than the heap can be taken in.
+const MOST_BLOCKS: usize = 262_144;
 
 /// A net, and the copy that was made of it.
 #[derive(Drop)]
@@ -57,6 +60,7 @@ impl Bench for NetBench {
             "move" | "fire" | "step" | "rest" | "run" | "reserve" => {
                 make(alloc, &mut self.net, name, words)
             }
+            "scarce" => scarce(alloc, &mut self.net, words),
             "host" => serve(alloc, &mut self.net, words),
             "worker" => work(alloc, &mut self.net, words),
             "offer" | "collect" | "accept" | "answer" | "watch" => {
@@ -128,6 +132,42 @@ fn replied(alloc: Global, made: Result<Reply, NetError>) -> Result<String, Fail>
         Ok(reply) => format!(in alloc; "{reply:?}")?,
         Err(error) => format!(in alloc; "{error}")?,
     })
+}
+
+// A call of a host, or a firing, while all memory is taken.
+fn scarce(alloc: Global, net: &mut Net, words: &mut Words<'_>) -> Result<String, Fail> {
+    let blocks = take_all(alloc)?;
+    let made = attempt(net, words);
+    drop(blocks);
+    match made {
+        Ok(()) => Ok("made".to_string(alloc)?),
+        Err(error) => Ok(format!(in alloc; "{error}")?),
+    }
+}
+
+fn attempt(net: &mut Net, words: &mut Words<'_>) -> Result<(), NetError> {
+    let refused = match words.text() {
+        "fire" => fire(net, words.number()).err(),
+        name => command(net, name, words).err(),
+    };
+    match refused {
+        Some(error) => Err(error),
+        None => Ok(()),
+    }
+}
+
+// Takes blocks of memory, untouched, until the heap refuses even the smallest.
+fn take_all(alloc: Global) -> Result<Vec<Vec<u8>>, AllocError> {
+    let mut blocks = Vec::with_capacity(alloc, MOST_BLOCKS)?;
+    let mut size = 1usize << 46;
+    for _ in 0..MOST_BLOCKS {
+        match Vec::<u8>::with_capacity(alloc, size) {
+            Ok(block) => blocks.push(block)?,
+            Err(_) if size < 16 => break,
+            Err(_) => size /= 2,
+        }
+    }
+    Ok(blocks)
 }
 
 // An event of a host, by the one call for all events.
