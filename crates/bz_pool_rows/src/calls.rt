@@ -4,7 +4,7 @@ ghost use Rattle.std.specs.Prelude.{◌≡◌, ◌<◌, ◌≤◌, [], IfOk};
 
 use bz_lines::{put_entries, write_trace};
 use bz_locked::Closed;
-use bz_model::{Entry, HostCmd};
+use bz_model::Entry;
 use bz_net::Net;
 use bz_playing::{check, flat_of};
 use bz_pool::{Gate, run_pool};
@@ -75,17 +75,20 @@ fn run_words<G: Gate + Sync, R: Threads + Wait + Sync>(
     gate: &G,
     words: &str,
 ) -> Result<(Closed, Vec<End>), Fail> {
-    let lists = lists_of(alloc, words)?;
+    if plan.workers == 0 || plan.workers > 8 {
+        return Err("no such number of workers".into());
+    }
+    let lists = parse_host_words(alloc, &spelled(alloc, words)?)?;
     let net = opened(alloc, plan)?;
     Ok(run_pool(rt, alloc, net, plan.workers, plan.fuel, gate, lists)?)
 }
 
-fn lists_of(alloc: Global, words: &str) -> Result<Vec<Vec<HostCmd>>, Fail> {
+fn spelled(alloc: Global, words: &str) -> Result<Vec<&str>, AllocError> {
     let mut spelled = Vec::new(alloc);
     for word in words.split_whitespace() {
         spelled.push(word)?;
     }
-    Ok(parse_host_words(alloc, &spelled)?)
+    Ok(spelled)
 }
 
 fn opened(alloc: Global, plan: Plan) -> Result<Net, Fail>

@@ -1,9 +1,8 @@
 //! What each form of a part says, with the names that a compiler writes.
 
-use bz_breeze::{BreezeError, Component, Part, Parts, Port, Slot, parts};
-use bz_model::{Chan, ChanKind, Param};
+use bz_breeze::{BreezeError, Part, Parts, parts};
 use bz_sexpr::read;
-use std::alloc::{AllocError, Global};
+use std::alloc::Global;
 use std::test::Fail;
 
 const BUFFER: &str = r#"
@@ -45,83 +44,65 @@ fn parts_of(alloc: Global, text: &str) -> Result<Parts, Fail> {
     Ok(parts(alloc, data.as_slice())?)
 }
 
-fn bytes(alloc: Global, text: &str) -> Result<Vec<u8>, AllocError> {
-    Vec::from_slice(alloc, text.as_bytes())
+// The records of a text, a line for each part, port, channel and component.
+fn told(alloc: Global, text: &str) -> Result<String, Fail> {
+    let found = parts_of(alloc, text)?;
+    let mut told = String::new(alloc);
+    for part in found.list() {
+        put_part(&mut told, part)?;
+    }
+    Ok(told)
 }
 
-fn port(alloc: Global, name: &str, passive: bool) -> Result<Port, AllocError> {
-    let name = bytes(alloc, name)?;
-    Ok(Port { name, passive })
+fn put_part(told: &mut String, part: &Part) -> Result<(), Fail> {
+    writeln!(told, "part {}", str::from_utf8(part.name.as_slice())?)?;
+    for port in &part.ports {
+        let side = if port.passive { "passive" } else { "active" };
+        writeln!(
+            told,
+            "port {side} {}",
+            str::from_utf8(port.name.as_slice())?
+        )?;
+    }
+    for chan in &part.channels {
+        writeln!(told, "{:?} {}", chan.kind, chan.width)?;
+    }
+    for comp in &part.components {
+        let name = str::from_utf8(comp.name.as_slice())?;
+        writeln!(
+            told,
+            "{name} {:?} {:?}",
+            comp.params.as_slice(),
+            comp.entries.as_slice()
+        )?;
+    }
+    Ok(())
 }
 
-fn chan(kind: ChanKind, width: u32) -> Chan {
-    Chan { kind, width }
-}
-
-fn component(
-    alloc: Global,
-    name: &str,
-    params: Vec<Param>,
-    entries: Vec<Slot>,
-) -> Result<Component, AllocError> {
-    let name = bytes(alloc, name)?;
-    Ok(Component {
-        name,
-        params,
-        entries,
-    })
-}
-
-fn buffer(alloc: Global) -> Result<Part, Fail> {
-    let sync = chan(ChanKind::Sync, 0);
-    let push = chan(ChanKind::Push, 8);
-    let pull = chan(ChanKind::Pull, 8);
-    let cell = vec![in alloc;
-        Param::Num(8),
-        Param::Num(1),
-        Param::Word(bytes(alloc, "x")?),
-        Param::Word(bytes(alloc, "")?),
-    ]?;
-    let cell_ends = vec![in alloc; Slot::One(7), Slot::Many(vec![in alloc; 8]?)]?;
-    let legs = vec![in alloc; Slot::One(4), Slot::Many(vec![in alloc; 5, 6]?)]?;
-    let fetch_in = vec![in alloc; Slot::One(5), Slot::One(2), Slot::One(7)]?;
-    let fetch_out = vec![in alloc; Slot::One(6), Slot::One(8), Slot::One(3)]?;
-    Ok(Part {
-        name: bytes(alloc, "buffer")?,
-        ports: vec![in alloc;
-            port(alloc, "activate", true)?,
-            port(alloc, "i", false)?,
-            port(alloc, "o", false)?,
-        ]?,
-        channels: vec![in alloc; sync, pull, push, sync, sync, sync, push, pull]?,
-        components: vec![in alloc;
-            component(alloc, "$BrzVariable", cell, cell_ends)?,
-            component(
-                alloc,
-                "$BrzLoop",
-                Vec::new(alloc),
-                vec![in alloc; Slot::One(1), Slot::One(4)]?
-            )?,
-            component(alloc, "$BrzSequence", vec![in alloc; Param::Num(2)]?, legs)?,
-            component(alloc, "$BrzFetch", vec![in alloc; Param::Num(8)]?, fetch_in)?,
-            component(
-                alloc,
-                "$BrzFetch",
-                vec![in alloc; Param::Num(8)]?,
-                fetch_out
-            )?,
-        ]?,
-    })
-}
+const TOLD: &str = "part buffer
+port passive activate
+port active i
+port active o
+Sync 0
+Pull 8
+Push 8
+Sync 0
+Sync 0
+Sync 0
+Push 8
+Pull 8
+$BrzVariable [Num(8), Num(1), Word([120]), Word([])] [One(7), Many([8])]
+$BrzLoop [] [One(1), One(4)]
+$BrzSequence [Num(2)] [One(4), Many([5, 6])]
+$BrzFetch [Num(8)] [One(5), One(2), One(7)]
+$BrzFetch [Num(8)] [One(6), One(8), One(3)]
+";
 
 #[test]
 fn a_buffer(rt: HostRuntime) -> Result<(), Fail> {
-    let alloc = rt.alloc();
-    let want = vec![in alloc; buffer(alloc)?]?;
-    let bare = parts_of(alloc, BUFFER)?;
-    assert!(rt; bare.list() == want.as_slice());
-    let decorated = parts_of(alloc, DECORATED)?;
-    assert!(rt; decorated.list() == want.as_slice());
+    for text in [BUFFER, DECORATED] {
+        assert_eq!(rt; told(rt.alloc(), text)?.as_str(), TOLD);
+    }
     Ok(())
 }
 
@@ -146,37 +127,17 @@ fn parts_by_name(rt: HostRuntime) -> Result<(), Fail> {
 
 #[test]
 fn bounds_and_shapes(rt: HostRuntime) -> Result<(), Fail> {
-    let alloc = rt.alloc();
     let text =
         r#"(breeze-part "a" (components (component "c" (#t #f "true" "false" "True" 340282366920938463463374607431768211455) (4294967295 () (0 4294967295))))
         (channels (push 64) (pull 1) (sync 9)) (ports (sync-port "p" active) (port "" passive)))"#;
-    let found = parts_of(alloc, text)?;
-    let params = vec![in alloc;
-        Param::Flag(true),
-        Param::Flag(false),
-        Param::Flag(true),
-        Param::Flag(false),
-        Param::Word(bytes(alloc, "True")?),
-        Param::Num(u128::MAX),
-    ]?;
-    let entries = vec![in alloc;
-        Slot::One(4294967295),
-        Slot::Many(Vec::new(alloc)),
-        Slot::Many(vec![in alloc; 0, 4294967295]?),
-    ]?;
-    let want = vec![in alloc;
-        Part {
-            name: bytes(alloc, "a")?,
-            ports: vec![in alloc; port(alloc, "p", false)?, port(alloc, "", true)?]?,
-            channels: vec![in alloc;
-                chan(ChanKind::Push, 64),
-                chan(ChanKind::Pull, 1),
-                chan(ChanKind::Sync, 0)
-            ]?,
-            components: vec![in alloc; component(alloc, "c", params, entries)?]?,
-        },
-    ]?;
-    assert!(rt; found.list() == want.as_slice());
+    let wanted = "part a
+port active p
+port passive \nPush 64
+Pull 1
+Sync 0
+c [Flag(true), Flag(false), Flag(true), Flag(false), Word([84, 114, 117, 101]), Num(340282366920938463463374607431768211455)] [One(4294967295), Many([]), Many([0, 4294967295])]
+";
+    assert_eq!(rt; told(rt.alloc(), text)?.as_str(), wanted);
     Ok(())
 }
 
