@@ -115,7 +115,7 @@ fn play_item<T: Threads + Wait + Sync>(
         "drawing" => looks::drawing(rt, &case, tally),
         "charts" => looks::charts(rt, &case, tally),
         "cuts" => cuts::cuts(rt, &case, tally),
-        "memory" => memory::memory(rt, &case, tally),
+        "memory" => memory::memory(rt, threads, &case, tally),
         "streams" => streams::streams(rt, &case, tally),
         "spoilt" => verdicts::spoilt(rt, &case, tally),
         _ => Err(item.malformed("no such command")),

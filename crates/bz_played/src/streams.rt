@@ -38,22 +38,32 @@ impl Read for Source<'_> {
 /// call, at its second, and so on, F1 is told and nothing was written; with a writer that does, or takes no byte there, F2, and a front
 /// of the text.
 pub fn streams(rt: &HostRuntime, case: &Case<'_, '_>, tally: &mut Tally<'_>) -> Result<(), Fail> {
-    let words = case.words.as_slice();
     let mut behind = Vec::from_slice(rt.alloc(), case.netlist)?;
     behind.extend_from_slice(case.other)?;
     for part in &case.parts {
-        stream(rt, case, Task::List(part), case.netlist, tally)?;
-        stream(rt, case, Task::Run(part, words), case.netlist, tally)?;
-        stream(
-            rt,
-            case,
-            Task::RunInPieces(part, words),
-            case.netlist,
-            tally,
-        )?;
-        stream(rt, case, Task::Check(part), behind.as_slice(), tally)?;
+        streams_of(rt, case, part, behind.as_slice(), tally)?;
     }
     Ok(())
+}
+
+fn streams_of(
+    rt: &HostRuntime,
+    case: &Case<'_, '_>,
+    part: &str,
+    behind: &[u8],
+    tally: &mut Tally<'_>,
+) -> Result<(), Fail> {
+    let words = case.words.as_slice();
+    stream(rt, case, Task::List(part), case.netlist, tally)?;
+    stream(rt, case, Task::Run(part, words), case.netlist, tally)?;
+    stream(
+        rt,
+        case,
+        Task::RunInPieces(part, words),
+        case.netlist,
+        tally,
+    )?;
+    stream(rt, case, Task::Check(part), behind, tally)
 }
 
 fn stream(
