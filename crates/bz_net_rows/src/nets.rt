@@ -57,7 +57,7 @@ run 1 5 | Rest(0)
 /// The journal has room for 4 entries at first, and then for twice as many. Where memory is wanted for more, the net is as it was, and the
 /// other refusals come first.
 const SCARCE: &str = "
-scarce offer activate | N8 Memory
+scarce offer activate | F3 Memory
 scarce offer zz | N1 UnknownPort
 scarce fire 3 | N6 NotEnabled
 journal | 0
@@ -65,14 +65,14 @@ offer activate | Done
 fire 2 | 2.1 take 1
 scarce fire 2 | made
 fire 3 | 3.1 take 4
-scarce fire 3 | N8 Memory
+scarce fire 3 | F3 Memory
 scarce fire 1 | N6 NotEnabled
 journal | 4
 fire 3 | 3.2 ask 5
 fire 4 | 4.1 take 5
 fire 4 | 4.2 ask 2
 rest | Ok(Rest)
-scarce watch i | N8 Memory
+scarce watch i | F3 Memory
 journal | 8
 watch i | Watched(Asked(None))
 ";
