@@ -1,11 +1,11 @@
 //! A shared one-place buffer, call by call, on one thread.
 
-use crate::alone::{Alone, Turns, take_alone};
-use crate::texts::{commands, journal_lines, record_lines};
+use crate::alone::{Alone, Turns};
+use crate::left::buffer_alone;
+use crate::texts::commands;
 use bz_locked::{FireError, Fired, NetLedger, Work};
 use bz_model::{NetError, Phase, Reply, Who};
 use bz_net::RestReply;
-use bz_playing::netlists::BUFFER;
 use bz_session::End;
 use std::alloc::Global;
 use std::process::Abort;
@@ -56,10 +56,8 @@ impl Turns for Spent {
 
 #[test]
 fn no_fuel_is_spent(rt: HostRuntime) -> Result<(), Fail> {
-    let alloc = rt.alloc();
-    let closed = take_alone(&rt, alloc, BUFFER, "buffer", 100, 0, &Spent)?;
-    assert!(rt; journal_lines(alloc, &closed)?.as_str() == "h1 offer activate done\n");
-    assert!(rt; closed.shares.as_slice() == [0].as_slice() && closed.front == 1);
+    let told = buffer_alone(&rt, rt.alloc(), 0, &Spent)?.tell(rt.alloc())?;
+    assert_eq!(rt; told.as_str(), "h1 offer activate done\n[0] front 1");
     Ok(())
 }
 
@@ -75,7 +73,7 @@ w1 fire 4 take 5
 w1 fire 4 ask 2
 w1 rest
 h1 accept i done
-";
+[6] front 9";
 
 fn fires<L: NetLedger, R: Wait + Abort>(rt: &R, alone: &mut Alone<L>) {
     assert!(rt; alone.first_ready(rt, 1) == Ok(RestReply::Ready(2)));
@@ -116,12 +114,12 @@ impl Turns for Firings {
 
 #[test]
 fn six_firings_and_rest(rt: HostRuntime) -> Result<(), Fail> {
-    let alloc = rt.alloc();
-    let closed = take_alone(&rt, alloc, BUFFER, "buffer", 100, 1000, &Firings)?;
-    assert!(rt; journal_lines(alloc, &closed)?.as_str() == FIRINGS);
-    assert!(rt; closed.shares.as_slice() == [6].as_slice() && closed.front == 9);
-    let record = "h1 offer activate done\nh1 accept i done\n";
-    assert!(rt; closed.records.len() == 1 && record_lines(alloc, &closed, 1)?.as_str() == record);
+    let left = buffer_alone(&rt, rt.alloc(), 1000, &Firings)?;
+    assert_eq!(rt; left.tell(rt.alloc())?.as_str(), FIRINGS);
+    assert_eq!(rt;
+        left.records.as_str(),
+        "h1 offer activate done\nh1 accept i done\n"
+    );
     Ok(())
 }
 
@@ -146,14 +144,17 @@ impl Turns for Replies {
     }
 }
 
+const RECORD: &str = "h1 offer activate done
+h1 offer activate busy asked
+h1 collect activate not-yet
+h1 answer o not-taken idle
+h1 watch i idle
+";
+
 #[test]
 fn replies_come_at_once(rt: HostRuntime) -> Result<(), Fail> {
-    let alloc = rt.alloc();
-    let closed = take_alone(&rt, alloc, BUFFER, "buffer", 100, 1000, &Replies)?;
-    let record =
-        "h1 offer activate done\nh1 offer activate busy asked\nh1 collect activate not-yet\n\
-        h1 answer o not-taken idle\nh1 watch i idle\n";
-    assert!(rt; record_lines(alloc, &closed, 1)?.as_str() == record);
-    assert!(rt; journal_lines(alloc, &closed)?.as_str() == record && closed.front == 5);
+    let left = buffer_alone(&rt, rt.alloc(), 1000, &Replies)?;
+    assert!(rt; left.front == 5 && left.journal.as_str() == RECORD);
+    assert_eq!(rt; left.records.as_str(), RECORD);
     Ok(())
 }

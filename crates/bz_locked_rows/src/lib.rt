@@ -6,6 +6,8 @@ mod alone;
 #[cfg(test)]
 mod calls;
 #[cfg(test)]
+mod left;
+#[cfg(test)]
 mod limits;
 #[cfg(test)]
 mod pair;

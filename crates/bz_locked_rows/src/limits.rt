@@ -1,11 +1,11 @@
 //! What a shared net refuses, and what stops it.
 
-use crate::alone::{Alone, Turns, take_alone};
-use crate::texts::{commands, journal_lines, record_lines};
+use crate::alone::{Alone, Turns};
+use crate::left::{buffer_alone, short_of_journal};
+use crate::texts::commands;
 use bz_locked::{FireError, NetLedger, WaitReply, Work};
 use bz_model::{NetError, Reply};
 use bz_net::RestReply;
-use bz_playing::netlists::BUFFER;
 use bz_session::{End, SessionError};
 use std::alloc::Global;
 use std::process::Abort;
@@ -65,10 +65,8 @@ impl Turns for Refusals {
 
 #[test]
 fn refusals_leave_no_entry(rt: HostRuntime) -> Result<(), Fail> {
-    let alloc = rt.alloc();
-    let closed = take_alone(&rt, alloc, BUFFER, "buffer", 100, 1000, &Refusals)?;
-    assert!(rt; journal_lines(alloc, &closed)?.as_str() == "" && closed.front == 0);
-    assert!(rt; closed.shares.as_slice() == [0].as_slice());
+    let told = buffer_alone(&rt, rt.alloc(), 1000, &Refusals)?.tell(rt.alloc())?;
+    assert_eq!(rt; told.as_str(), "[0] front 0");
     Ok(())
 }
 
@@ -99,11 +97,11 @@ impl Turns for FullJournal {
 
 #[test]
 fn full_journal_stops_all(rt: HostRuntime) -> Result<(), Fail> {
-    let alloc = rt.alloc();
-    let closed = take_alone(&rt, alloc, BUFFER, "buffer", 3, 1000, &FullJournal)?;
-    let lines = "h1 offer activate done\nw1 fire 2 take 1\nw1 fire 2 ask 4\n";
-    assert!(rt; journal_lines(alloc, &closed)?.as_str() == lines && closed.front == 3);
-    assert!(rt; closed.shares.as_slice() == [2].as_slice());
+    let told = short_of_journal(&rt, rt.alloc(), &FullJournal)?.tell(rt.alloc())?;
+    assert_eq!(rt;
+        told.as_str(),
+        "h1 offer activate done\nw1 fire 2 take 1\nw1 fire 2 ask 4\n[2] front 3"
+    );
     Ok(())
 }
 
@@ -128,8 +126,7 @@ impl Turns for Stops {
 
 #[test]
 fn stop_is_told_before_rest(rt: HostRuntime) -> Result<(), Fail> {
-    let alloc = rt.alloc();
-    let closed = take_alone(&rt, alloc, BUFFER, "buffer", 100, 1000, &Stops)?;
-    assert!(rt; record_lines(alloc, &closed, 1)?.as_str() == "h1 offer activate done\n");
+    let left = buffer_alone(&rt, rt.alloc(), 1000, &Stops)?;
+    assert_eq!(rt; left.records.as_str(), "h1 offer activate done\n");
     Ok(())
 }

@@ -8,7 +8,7 @@ use bz_model::{Entry, HostCmd};
 use bz_net::Net;
 use bz_playing::flat_of;
 use bz_session::parse_host_words;
-use std::alloc::Global;
+use std::alloc::{AllocError, Global};
 use std::test::Fail;
 
 /// The net of a part, with a journal of at most `limit` entries.
@@ -37,16 +37,45 @@ fn lines(alloc: Global, net: &Net, entries: &[Entry]) -> Result<String, Fail> {
     Ok(String::from_utf8(text)?)
 }
 
-/// The lines of the journal.
-pub fn journal_lines(alloc: Global, closed: &Closed) -> Result<String, Fail> {
-    lines(alloc, &closed.net, closed.net.journal())
+/// What a shared net leaves: values alone, so that a test holds nothing large.
+#[derive(Drop)]
+pub struct Left {
+    /// The lines of the journal.
+    pub journal: String,
+    /// The lines of all records, the first session's first.
+    pub records: String,
+    pub shares: Vec<u64>,
+    pub front: u64,
+    pub entries: usize,
 }
 
-/// The lines of a session's record, counted from 1.
-pub fn record_lines(alloc: Global, closed: &Closed, session: usize) -> Result<String, Fail> {
-    let record = closed
-        .records
-        .get(session.wrapping_sub(1))
-        .ok_or("a record")?;
-    lines(alloc, &closed.net, record)
+impl Left {
+    pub fn of(alloc: Global, closed: &Closed) -> Result<Left, Fail> {
+        Ok(Left {
+            journal: lines(alloc, &closed.net, closed.net.journal())?,
+            records: record_lines(alloc, closed)?,
+            shares: Vec::from_slice(alloc, closed.shares.as_slice())?,
+            front: closed.front,
+            entries: closed.net.journal().len(),
+        })
+    }
+
+    /// The journal, how many firings each worker has, and the front.
+    pub fn tell(&self, alloc: Global) -> Result<String, AllocError> {
+        format!(in alloc;
+            "{}{:?} front {}",
+            self.journal,
+            self.shares.as_slice(),
+            self.front
+        )
+    }
+}
+
+fn record_lines(alloc: Global, closed: &Closed) -> Result<String, Fail> {
+    let mut records = String::new(alloc);
+    for record in closed.records.iter() {
+        let lines = lines(alloc, &closed.net, record)?;
+        records.push_str(lines.as_str())?;
+    }
+    Ok(records)
 }
