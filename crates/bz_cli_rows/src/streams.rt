@@ -1,6 +1,6 @@
 //! Readers and writers that fail, and inputs at the limit, on each command.
 
-use bz_commands::{Fault, list_cmd, run_cmd};
+use bz_commands::{Fault, check_cmd, list_cmd, run_cmd};
 use bz_playing::netlists::BUFFER;
 use std::alloc::Global;
 use std::io;
@@ -13,11 +13,12 @@ use std::test::Fail;
 enum Command {
     List,
     Run,
+    Check,
 }
 
-const COMMANDS: [Command; 2] = [Command::List, Command::Run];
+const COMMANDS: [Command; 3] = [Command::List, Command::Run, Command::Check];
 
-// What the command answers of the one-place buffer.
+// What the command answers of the one-place buffer, behind which there is no trace.
 fn answer<R: Read, W: Write>(
     alloc: Global,
     command: Command,
@@ -27,6 +28,10 @@ fn answer<R: Read, W: Write>(
     match command {
         Command::List => list_cmd(alloc, b"buffer", input, output),
         Command::Run => run_cmd(alloc, b"buffer", 10, &["watch:i"], input, output),
+        Command::Check => match check_cmd(alloc, b"buffer", input, output) {
+            Ok(_) => Ok(()),
+            Err(fault) => Err(fault),
+        },
     }
 }
 
