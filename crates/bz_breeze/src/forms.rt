@@ -19,6 +19,7 @@ use bz_sexpr::{Form, Forms, Leaf, Shape, Text};
 use std::alloc::{AllocError, Global};
 
 /// The data of a list.
+#[inline(always)]
 pub(crate) fn inside(form: Form<'_>) -> Option<Forms<'_>>
     ensures { option_map forms_view result ≡ inside (form_view form.entry) }
 {
@@ -29,6 +30,7 @@ pub(crate) fn inside(form: Form<'_>) -> Option<Forms<'_>>
 }
 
 /// The symbol at the head of a list, and what follows it.
+#[inline(always)]
 pub(crate) fn headed(items: Forms<'_>) -> Option<(&[u8], Forms<'_>)>
     ensures { option_map (λ p. (p.0.now, forms_view p.1)) result ≡ head_and_rest (forms_view items.entry) }
 {
@@ -212,6 +214,7 @@ fn params(alloc: Global, list: Forms<'_>) -> Result<Vec<Param>, AllocError>
 }
 
 /// The number of a channel.
+#[inline(always)]
 fn number(form: Form<'_>) -> Result<u32, Code>
     ensures { result ≡ number (form_view form.entry) }
 {
@@ -239,6 +242,7 @@ fn numbers(alloc: Global, list: Forms<'_>, at: usize) -> Result<Vec<u32>, Refusa
 }
 
 /// An entry of the component at the byte `at`.
+#[inline(always)]
 fn slot(alloc: Global, form: Form<'_>, at: usize) -> Result<Slot, Refusal>
     ensures ok { IfOk result (λ s. slot (form_view form.entry) ≡ Ok (slot_record s)) }
     ensures err { IfErr result (HasFault (at_byte at (slot (form_view form.entry)))) }

@@ -3,6 +3,7 @@
 ghost use Rattle.std.specs.List.{flat_map};
 ghost use Rattle.bz_lines.specs.Writing.{WritesLines};
 
+use bz_arena::Arena;
 use bz_lines::{NameForm, WriteFault, put_clashes, put_entries, put_first_line, write_trace_1};
 use bz_model::{Entry, Move, Names, Phase, Port, Reply, Value, Verb, Who};
 use std::alloc::{AllocError, Global};
@@ -19,7 +20,7 @@ enum Row {
     Rested(Who),
 }
 
-const W1: Who = Who::Worker(1);
+const WORKER: Who = Who::Worker(1);
 
 /// Each form of a line.
 const FORMS: [(Row, &str); 21] = [
@@ -27,7 +28,10 @@ const FORMS: [(Row, &str); 21] = [
         Row::Host(1, Verb::Offer, 1, None, Reply::Done),
         "h1 offer activate done",
     ),
-    (Row::Fired(W1, 2, Move::Take, 1, None), "w1 fire 2 take 1"),
+    (
+        Row::Fired(WORKER, 2, Move::Take, 1, None),
+        "w1 fire 2 take 1",
+    ),
     (
         Row::Fired(Who::Worker(8), 4, Move::Ask, 7, Some(5)),
         "w8 fire 4 ask 7 5",
@@ -36,8 +40,8 @@ const FORMS: [(Row, &str); 21] = [
         Row::Fired(Who::Host(3), 1, Move::Reply, 8, Some(0)),
         "h3 fire 1 reply 8 0",
     ),
-    (Row::Fired(W1, 5, Move::Got, 3, None), "w1 fire 5 got 3"),
-    (Row::Rested(W1), "w1 rest"),
+    (Row::Fired(WORKER, 5, Move::Got, 3, None), "w1 fire 5 got 3"),
+    (Row::Rested(WORKER), "w1 rest"),
     (Row::Rested(Who::Host(16)), "h16 rest"),
     (
         Row::Host(16, Verb::Offer, 2, Some(255), Reply::Busy(Phase::Idle)),
@@ -130,19 +134,25 @@ const FORMS: [(Row, &str); 21] = [
 /// Numbers of each width.
 const NUMBERS: [(Row, &str); 5] = [
     (
-        Row::Fired(W1, 0, Move::Ask, 9, Some(10)),
+        Row::Fired(WORKER, 0, Move::Ask, 9, Some(10)),
         "w1 fire 0 ask 9 10",
     ),
     (
-        Row::Fired(W1, 99, Move::Ask, 100, Some(999)),
+        Row::Fired(WORKER, 99, Move::Ask, 100, Some(999)),
         "w1 fire 99 ask 100 999",
     ),
     (
-        Row::Fired(W1, 1000, Move::Ask, 65_535, Some(100_000)),
+        Row::Fired(WORKER, 1000, Move::Ask, 65_535, Some(100_000)),
         "w1 fire 1000 ask 65535 100000",
     ),
     (
-        Row::Fired(W1, 1_000_000, Move::Ask, 99_999_999, Some(1_234_567_890)),
+        Row::Fired(
+            WORKER,
+            1_000_000,
+            Move::Ask,
+            99_999_999,
+            Some(1_234_567_890),
+        ),
         "w1 fire 1000000 ask 99999999 1234567890",
     ),
     (
@@ -195,16 +205,19 @@ const STOPPED: [(Row, &str); 4] = [
 
 /// A trace of a port with the name `i`.
 const PIECES: [(Row, &str); 4] = [
-    (Row::Fired(W1, 2, Move::Take, 1, None), "w1 fire 2 take 1"),
+    (
+        Row::Fired(WORKER, 2, Move::Take, 1, None),
+        "w1 fire 2 take 1",
+    ),
     (
         Row::Host(1, Verb::Offer, 1, Some(3), Reply::Done),
         "h1 offer i 3 done",
     ),
     (
-        Row::Fired(W1, 4, Move::Ask, 7, Some(5)),
+        Row::Fired(WORKER, 4, Move::Ask, 7, Some(5)),
         "w1 fire 4 ask 7 5",
     ),
-    (Row::Rested(W1), "w1 rest"),
+    (Row::Rested(WORKER), "w1 rest"),
 ];
 
 fn entry(row: Row) -> Entry {
@@ -316,7 +329,7 @@ fn names_of(alloc: Global, list: &[&[u8]]) -> Result<Names, Fail> {
     if ports.len() > 100 {
         return Err("too many ports".into());
     }
-    Ok(Names::new(ports, Vec::new(alloc)))
+    Ok(Names::new(ports, Arena::new(alloc)))
 }
 
 fn gives(

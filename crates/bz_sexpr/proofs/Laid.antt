@@ -1,12 +1,12 @@
 -- The nodes of data, and the data that nodes stand for.
-use Rattle.std.proofs.Common.{◌≡◌, ◌≢◌, ℕ, suc, ◌+◌, ◌≤◌, List, [], ◌∷◌, ◌++◌, length, take, drop, Option, Some, None, refl, sym, ap, ap₂, ◌∙◌, arith, subst, append_assoc, length-append}
+use Rattle.std.proofs.Common.{◌≡◌, ◌≢◌, ℕ, suc, ◌≤◌, List, [], ◌∷◌, ◌++◌, length, take, drop, Option, Some, None, refl, sym, ap, ap₂, ◌∙◌, arith, append_assoc, length-append}
 use Rattle.std.proofs.lemmas.List.{append-nil}
 use Rattle.std.proofs.lemmas.Bool.{ne_eqb}
 use Rattle.bz_sexpr.specs.Bytes.{open_paren, quote}
 use Rattle.bz_sexpr.specs.Data.{Leaf, text, symbol, leaf_of, Datum, leaf, items, Data, none, more, span_of}
 use Rattle.bz_sexpr.specs.Views.{list_of, data_of}
 use Rattle.bz_sexpr.specs.Nodes.{nodes_of, nodes_in, row, between, unquoted, but_last, leaf_in, span_at, datum_at, before_others, forest}
-use Rattle.bz_sexpr.specs.Reading.{Opened, laid, opening_node, IsTold, AreTold}
+use Rattle.bz_sexpr.specs.Reading.{IsTold, AreTold}
 use Rattle.bz_sexpr.specs.declared.datum.Span.{Span}
 use Rattle.bz_sexpr.specs.declared.node.Node.{Node}
 

@@ -1,19 +1,19 @@
 -- What the reader keeps, after each kind of piece.
-use Rattle.std.proofs.Common.{◌≡◌, ◌≢◌, ℕ, suc, ◌+◌, ◌-◌, ◌≤◌, ◌<◌, List, [], ◌∷◌, ◌++◌, length, take, drop, Option, Some, None, refl, sym, ap, ap₂, ◌∙◌, arith, subst, append_assoc, length-append, slice_set}
+use Rattle.std.proofs.Common.{◌≡◌, ℕ, suc, ◌+◌, ◌-◌, ◌≤◌, List, [], ◌∷◌, ◌++◌, length, take, drop, refl, sym, ap, ap₂, ◌∙◌, arith, subst, append_assoc, length-append, slice_set}
 use Rattle.std.proofs.lemmas.List.{append-nil}
 use Rattle.std.proofs.Math.Seq.{set-append_seam}
 use Rattle.bz_sexpr.specs.Bytes.{open_paren, close_paren}
-use Rattle.bz_sexpr.specs.Data.{Leaf, Datum, leaf, items, Data, none, more, max_depth}
+use Rattle.bz_sexpr.specs.Data.{Datum, leaf, items}
 use Rattle.bz_sexpr.specs.Pieces.{spelling, spelt}
 use Rattle.bz_sexpr.specs.Tokens.{lone}
 use Rattle.bz_sexpr.specs.Views.{list_of, data_of}
-use Rattle.bz_sexpr.specs.Nodes.{nodes_of, nodes_in, row, between, leaf_in, forest}
-use Rattle.bz_sexpr.specs.Reading.{Opened, laid, opening_node, kept_of, places_of, ReadTo, IsTold, AreTold, OpensAt, AreOpened, SpellsLeaf}
+use Rattle.bz_sexpr.specs.Nodes.{row, between, leaf_in}
+use Rattle.bz_sexpr.specs.Reading.{Opened, laid, opening_node, kept_of, ReadTo, IsTold, AreTold, AreOpened, SpellsLeaf}
 use Rattle.bz_sexpr.specs.declared.datum.Span.{Span}
 use Rattle.bz_sexpr.specs.declared.node.Node.{Node}
 use Rattle.bz_sexpr.specs.declared.reader.OpenList.{OpenList}
 use Rattle.bz_sexpr.proofs.Laid.{row-append, list_of-data_of, list_piece}
-use Rattle.bz_sexpr.proofs.Readings.{read_leaf, read_open, read_close}
+use Rattle.bz_sexpr.proofs.Readings.{read_leaf, read_close}
 
 -- ---- pieces of a text
 

@@ -1,4 +1,4 @@
-use Rattle.std.proofs.Common.{[], refl, arith, rules}
+use Rattle.std.proofs.Common.{[], refl, rules}
 use Rattle.bz_sexpr.specs.Pieces.{nothing}
 use Rattle.bz_sexpr.proofs.Texts.{goes_on_byte, goes_on_escape, closes_here}
 use Rattle.bz_sexpr.proofs.bytes.split_quoted.Goals as goal

@@ -1,4 +1,4 @@
-use Rattle.std.proofs.Common.{◌≡◌, ◌-◌, length, ap, sym, ◌∙◌, reverse, arith}
+use Rattle.std.proofs.Common.{ap, ◌∙◌, reverse, arith}
 use Rattle.bz_sexpr.proofs.Trees.{split_reverse}
 use Rattle.bz_sexpr.proofs.tree.taken.Goals as goal
 

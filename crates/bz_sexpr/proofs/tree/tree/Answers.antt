@@ -1,9 +1,9 @@
-use Rattle.std.proofs.Common.{◌≡◌, ◌-◌, ◌++◌, ◌∷◌, [], Some, None, take, drop, reverse, ap, ap₂, sym, ◌∙◌, rules, arith}
+use Rattle.std.proofs.Common.{◌≡◌, ◌-◌, ◌++◌, ◌∷◌, [], take, drop, reverse, ap, ap₂, sym, ◌∙◌, rules, arith}
 use Rattle.std.specs.Option.{option_map}
 use Rattle.bz_sexpr.specs.Data.{leaf}
 use Rattle.bz_sexpr.specs.Views.{datum_view}
 use Rattle.bz_sexpr.specs.Forms.{leaf_view}
-use Rattle.bz_sexpr.specs.Nodes.{between, leaf_in, span_at}
+use Rattle.bz_sexpr.specs.Nodes.{leaf_in, span_at}
 use Rattle.bz_sexpr.specs.declared.datum.Datum.{Items}
 use Rattle.bz_sexpr.proofs.Trees.{leaf_made, list_made}
 use Rattle.bz_sexpr.proofs.tree.tree.Goals as goal

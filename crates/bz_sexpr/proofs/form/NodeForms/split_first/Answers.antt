@@ -1,4 +1,4 @@
-use Rattle.std.proofs.Common.{◌≡◌, ◌+◌, length, sym, ap, ◌∙◌, arith, rules}
+use Rattle.std.proofs.Common.{◌≡◌, ◌+◌, length, sym, ap, ◌∙◌, arith}
 use Rattle.bz_sexpr.specs.Nodes.{forest}
 use Rattle.bz_sexpr.proofs.Laid.{first_of}
 use Rattle.bz_sexpr.proofs.form.NodeForms.split_first.Goals as goal

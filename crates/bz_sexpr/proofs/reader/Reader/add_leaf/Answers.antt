@@ -1,6 +1,4 @@
-use Rattle.std.proofs.Common.{◌≡◌, ◌+◌, [], ◌∷◌, ◌++◌, length, refl, sym, ap, ap₂, ◌∙◌, arith, rules, length-append}
-use Rattle.bz_sexpr.specs.Pieces.{spelling}
-use Rattle.bz_sexpr.specs.declared.node.Node.{Node}
+use Rattle.std.proofs.Common.{◌≡◌, [], ◌∷◌, ◌++◌, refl, sym, ap, ◌∙◌, arith, length-append}
 use Rattle.bz_sexpr.proofs.Readings.{piece_not_empty}
 use Rattle.bz_sexpr.proofs.Steps.{adds_leaf, opened_less}
 use Rattle.bz_sexpr.proofs.reader.Reader.add_leaf.Goals as goal

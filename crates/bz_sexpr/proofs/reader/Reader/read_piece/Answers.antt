@@ -1,5 +1,5 @@
-use Rattle.std.proofs.Common.{◌≡◌, ◌≢◌, ◌<◌, ◌∷◌, ◌++◌, length, refl, sym, ap, ◌∙◌, arith, rules, length-append}
-use Rattle.bz_sexpr.specs.Bytes.{semicolon, quote, is_run_byte}
+use Rattle.std.proofs.Common.{◌≡◌, ◌<◌, ◌∷◌, ◌++◌, length, refl, sym, ap, ◌∙◌, arith, rules, length-append}
+use Rattle.bz_sexpr.specs.Bytes.{semicolon, quote}
 use Rattle.bz_sexpr.specs.Pieces.{blank, comment}
 use Rattle.bz_sexpr.specs.Spelling.{IsCutText}
 use Rattle.bz_sexpr.specs.Reading.{places_of}
