@@ -41,6 +41,7 @@ impl<T, A: Allocator + Copy> Arena<T, A> {
     }
 
     /// Appends `node`, or hands it back where there was no memory. Only every 256th push asks for any.
+    #[inline(always)]
     pub fn push(&mut self, node: T) -> Result<Id<T>, T>
         ensures appended { OnOk result (self.new ≡ self.old ++ node ∷ []) }
         ensures id { IfOk result (λ id. id ≡ length self.old) }
@@ -58,6 +59,7 @@ impl<T, A: Allocator + Copy> Arena<T, A> {
         Ok(Id::at(index))
     }
 
+    #[inline(always)]
     pub fn len(&self) -> usize
         ensures { result ≡ length self.now }
     {
@@ -76,6 +78,7 @@ impl<T, A: Allocator + Copy> Arena<T, A> {
         Ids::first(self.len())
     }
 
+    #[inline(always)]
     pub fn get(&self, id: Id<T>) -> &T
         requires { id < length self.now }
         ensures { result.now ≡ slice_index_or self.now id result.now }
@@ -88,6 +91,7 @@ impl<T, A: Allocator + Copy> Arena<T, A> {
         self.last.get(index - start)
     }
 
+    #[inline(always)]
     pub fn get_mut(&mut self, id: Id<T>) -> &mut T
         requires { id < length self.old }
         ensures* writes_back { sem 𝓛 (lends_node T.row A.row A.Allocator self.entry id result) }

@@ -109,6 +109,7 @@ impl<T> Nodes<T> {
     }
 
     /// Puts a node behind the `count` that are there.
+    #[inline(always)]
     pub(crate) fn push(&mut self, count: usize, node: T)
         requires { (count ≡ length self.old.items) × (count < self.old.places) }
         ensures { (self.new.start ≡ self.old.start) × (self.new.places ≡ self.old.places) × (self.new.items ≡ self.old.items ++ node ∷ []) }
@@ -124,6 +125,7 @@ impl<T> Nodes<T> {
         unsafe { self.start.add(left).read() }
     }
 
+    #[inline(always)]
     pub(crate) fn as_slice(&self, count: usize) -> &[T]
         requires { (count ≡ length self.now.items) × (count ≤ self.now.places) }
         ensures { result.now ≡ self.now.items }
@@ -131,6 +133,7 @@ impl<T> Nodes<T> {
         unsafe { slice::from_raw_parts(self.start, count) }
     }
 
+    #[inline(always)]
     pub(crate) fn get_mut(&mut self, index: usize) -> &mut T
         requires { (index < length self.old.items) × (length self.old.items ≤ self.old.places) }
         ensures* writes_back { sem 𝓛 (lends_item T.row self.entry index result) }

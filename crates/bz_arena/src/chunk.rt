@@ -57,6 +57,7 @@ impl<T, A: Allocator + Copy> Chunk<T, A> {
         })
     }
 
+    #[inline(always)]
     pub(crate) fn push(&mut self, node: T)
         requires { (0 < length self.old) × (length self.old < 256) }
         ensures { self.new ≡ self.old ++ node ∷ [] }
@@ -73,6 +74,7 @@ impl<T, A: Allocator + Copy> Chunk<T, A> {
         self.nodes.pop(self.count)
     }
 
+    #[inline(always)]
     pub(crate) fn len(&self) -> usize
         ensures value { result ≡ length self.now }
         ensures fits { result ≤ 256 }
@@ -80,6 +82,7 @@ impl<T, A: Allocator + Copy> Chunk<T, A> {
         self.count
     }
 
+    #[inline(always)]
     pub(crate) fn get(&self, index: usize) -> &T
         requires { index < length self.now }
         ensures { result.now ≡ slice_index_or self.now index result.now }
@@ -87,6 +90,7 @@ impl<T, A: Allocator + Copy> Chunk<T, A> {
         &self.nodes.as_slice(self.count)[index]
     }
 
+    #[inline(always)]
     pub(crate) fn get_mut(&mut self, index: usize) -> &mut T
         requires { index < length self.old }
         ensures* writes_back { sem 𝓛 (lends_in_chunk T.row A.row A.Allocator self.entry index result) }
@@ -167,6 +171,7 @@ impl<T, A: Allocator + Copy> FullChunk<T, A> {
     ghost use Rattle.bz_arena.specs.Lends.{lends_in_full};
     ghost use Rattle.bz_arena.specs.Pairs.{UpdatesBoth};
 
+    #[inline(always)]
     pub(crate) fn get(&self, index: usize) -> &T
         requires { index < 256 }
         ensures { result.now ≡ slice_index_or self.now.chunk index result.now }
@@ -174,6 +179,7 @@ impl<T, A: Allocator + Copy> FullChunk<T, A> {
         self.chunk.get(index)
     }
 
+    #[inline(always)]
     pub(crate) fn get_mut(&mut self, index: usize) -> &mut T
         requires { index < 256 }
         ensures* writes_back { sem 𝓛 (lends_in_full T.row A.row A.Allocator self.entry index result) }

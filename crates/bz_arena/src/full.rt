@@ -41,6 +41,7 @@ impl<T, A: Allocator + Copy> FullChunks<T, A> {
         }
     }
 
+    #[inline(always)]
     pub(crate) fn count(&self) -> usize
         ensures nodes { 256 * result ≡ length self.now }
         ensures small { result ≤ 0x10_0000_0000_0000 }
@@ -48,6 +49,7 @@ impl<T, A: Allocator + Copy> FullChunks<T, A> {
         self.list.len()
     }
 
+    #[inline(always)]
     pub(crate) fn get(&self, index: usize) -> &T
         requires { index < length self.now }
         ensures { result.now ≡ slice_index_or self.now index result.now }
@@ -55,6 +57,7 @@ impl<T, A: Allocator + Copy> FullChunks<T, A> {
         self.list[index / CHUNK_LEN].get(index % CHUNK_LEN)
     }
 
+    #[inline(always)]
     pub(crate) fn get_mut(&mut self, index: usize) -> &mut T
         requires { index < length self.old }
         ensures* writes_back { sem 𝓛 (lends_among T.row A.row A.Allocator self.entry index result) }
@@ -66,6 +69,7 @@ impl<T, A: Allocator + Copy> FullChunks<T, A> {
 
     /// Starts a new last chunk with `node`, and takes in the one that was there. The list grows first, so that nothing
     /// can be refused once the node is in its chunk.
+    #[inline(never)]
     pub(crate) fn start(&mut self, last: &mut Chunk<T, A>, alloc: A, node: T) -> Result<(), T>
         requires { length last.old % 256 ≡ 0 }
         ensures appended { OnOk result (self.new ++ last.new ≡ (self.old ++ last.old) ++ node ∷ []) }

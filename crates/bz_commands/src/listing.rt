@@ -9,6 +9,7 @@ ghost use Rattle.bz_elab.specs.Flats.{site_of};
 ghost use Rattle.bz_lines.specs.Writing.{Writes};
 ghost use Rattle.bz_commands.specs.Listing.{sense_text, carried_text, port_line, ports_text, spaced, comp_head, comp_line, lines, head_text, counts_text, comps_text, list_text};
 
+use bz_arena::{Arena, Id};
 use bz_elab::{Flat, FlatComp};
 use bz_kind_table::kind_word;
 use bz_model::{Chan, ChanKind, Kind, Port, Value};
@@ -36,9 +37,9 @@ pub fn put_head<W: Write>(out: &mut W, name: &[u8]) -> Result<(), WriteFault>
 // What follows the first line.
 fn put_body<W: Write>(
     out: &mut W,
-    chans: &[Chan],
+    chans: &Arena<Chan>,
     ports: &[Port],
-    comps: &[FlatComp],
+    comps: &Arena<FlatComp>,
 ) -> Result<(), WriteFault>
     ensures { Writes (W.contents out.old) (W.contents out.new) result
         (ports_text chans.now (map external ports.now) ++ comps_text (length chans.now) (map site_of comps.now)) }
@@ -48,7 +49,7 @@ fn put_body<W: Write>(
 }
 
 // What follows the ports.
-fn put_tail<W: Write>(out: &mut W, chans: usize, comps: &[FlatComp]) -> Result<(), WriteFault>
+fn put_tail<W: Write>(out: &mut W, chans: usize, comps: &Arena<FlatComp>) -> Result<(), WriteFault>
     ensures { Writes (W.contents out.old) (W.contents out.new) result
         (comps_text chans (map site_of comps.now)) }
 {
@@ -57,7 +58,11 @@ fn put_tail<W: Write>(out: &mut W, chans: usize, comps: &[FlatComp]) -> Result<(
 }
 
 /// Writes the lines of the external ports, port k being channel k.
-pub fn put_ports<W: Write>(out: &mut W, chans: &[Chan], ports: &[Port]) -> Result<(), WriteFault>
+pub fn put_ports<W: Write>(
+    out: &mut W,
+    chans: &Arena<Chan>,
+    ports: &[Port],
+) -> Result<(), WriteFault>
     ensures { Writes (W.contents out.old) (W.contents out.new) result
         (ports_text chans.now (map external ports.now)) }
 {
@@ -68,19 +73,25 @@ pub fn put_ports<W: Write>(out: &mut W, chans: &[Chan], ports: &[Port]) -> Resul
 }
 
 // The channel at a place, one without width where there is none.
-fn chan_at(chans: &[Chan], place: usize) -> Chan
+fn chan_at(chans: &Arena<Chan>, place: usize) -> Chan
     ensures { result ≡ chan_in chans.now (place + 1) }
 {
-    match chans.get(place) {
-        Some(chan) => *chan,
-        None => Chan {
-            kind: ChanKind::Sync,
-            width: 0,
-        },
+    if place < chans.len() {
+        return *chans.get(Id::at(place));
+    }
+    Chan {
+        kind: ChanKind::Sync,
+        width: 0,
     }
 }
 
-fn put_port<W: Write>(out: &mut W, place: usize, port: &Port, chan: Chan) -> Result<(), WriteFault>
+/// Writes the line of an external port, by its place.
+pub fn put_port<W: Write>(
+    out: &mut W,
+    place: usize,
+    port: &Port,
+    chan: Chan,
+) -> Result<(), WriteFault>
     requires { place < 2 ^ 63 }
     ensures { Writes (W.contents out.old) (W.contents out.new) result
         (port_line (place + 1) (external port.now) chan) }
@@ -131,18 +142,17 @@ fn put_counts<W: Write>(out: &mut W, chans: usize, comps: usize) -> Result<(), W
     put_parts(out, &parts)
 }
 
-fn put_comps<W: Write>(out: &mut W, comps: &[FlatComp]) -> Result<(), WriteFault>
+fn put_comps<W: Write>(out: &mut W, comps: &Arena<FlatComp>) -> Result<(), WriteFault>
     ensures { Writes (W.contents out.old) (W.contents out.new) result
         (lines comp_line 1 (map site_of comps.now)) }
 {
-    for (place, comp) in comps.iter().enumerate() {
-        put_comp(out, place, comp)?;
+    for place in 0..comps.len() {
+        put_comp(out, place, comps.get(Id::at(place)))?;
     }
     Ok(())
 }
 
 fn put_comp<W: Write>(out: &mut W, place: usize, comp: &FlatComp) -> Result<(), WriteFault>
-    requires { place < 2 ^ 63 }
     ensures { Writes (W.contents out.old) (W.contents out.new) result
         (comp_line (place + 1) (site_of comp.now)) }
 {
@@ -151,7 +161,6 @@ fn put_comp<W: Write>(out: &mut W, place: usize, comp: &FlatComp) -> Result<(), 
 }
 
 fn put_kind<W: Write>(out: &mut W, place: usize, kind: &Kind) -> Result<(), WriteFault>
-    requires { place < 2 ^ 63 }
     ensures { Writes (W.contents out.old) (W.contents out.new) result
         (comp_head (place + 1) kind.now) }
 {

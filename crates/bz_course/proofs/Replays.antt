@@ -1,5 +1,5 @@
 -- A run that is made again, entry by entry.
-use Rattle.std.proofs.lemmas.List.{take-append-drop, take_more}
+use Rattle.std.proofs.lemmas.List.{length-take-le, take-append-drop, take_more}
 use Rattle.std.proofs.Common.{◌≡◌, ℕ, ◌+◌, ◌<◌, ◌≤◌, Option, Some, None, List, [], ◌∷◌, ◌++◌, append_assoc, length, take, drop, get_or, refl, sym, ap, subst, ◌∙◌, arith}
 use Rattle.bz_model.specs.declared.event.Entry.{Entry}
 use Rattle.bz_model.specs.declared.event.NetError.{NetError}
@@ -77,3 +77,18 @@ run_at w es i d limit net lt run made =
 
 pub take_runs : (w : Wiring) (es : List Entry) (n : ℕ) → IsRun w es → IsRun w (take n es)
 take_runs w es n run = front_runs w (take n es) (drop n es) (subst (IsRun w) (sym (take-append-drop n es)) run)
+
+-- a net that has made fewer entries than its limit can only want memory
+pub memory_wants : (w : Wiring) (entries : List Entry) (i limit : ℕ) (net : Simulation) (e : NetError) → i < length entries → length entries ≤ limit → IsReplayed w (take i entries) limit net → RefusesEntry net e → e ≡ error.Memory
+memory_wants w entries i limit net error.JournalFull more within made full =
+    let short = length-take-le i entries (omega arith) in
+    let long = ap length made.journal in
+    let most = made.limit_is in
+    absurd (omega (arith, full))
+memory_wants w entries i limit net error.Memory more within made wants = refl
+memory_wants w entries i limit net error.UnknownPort more within made full = elim full [ ]
+memory_wants w entries i limit net error.WrongSide more within made full = elim full [ ]
+memory_wants w entries i limit net error.ValueMissing more within made full = elim full [ ]
+memory_wants w entries i limit net error.ValueUnwanted more within made full = elim full [ ]
+memory_wants w entries i limit net error.TooLarge more within made full = elim full [ ]
+memory_wants w entries i limit net error.NotEnabled more within made full = elim full [ ]

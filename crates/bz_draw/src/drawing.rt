@@ -47,7 +47,7 @@ pub fn drawing_of(
 ) -> Result<Drawing, AllocError>
     requires wired { WellWired (wiring_in survey.now) }
     requires ends { EndsOf (wiring_in survey.now) survey.now.net.ends.items }
-    ensures nodes { IfOk result (λ d. AreNodes d.folding.boxes.items (length survey.now.net.comps.items) (map (λ n. n.1) d.comps.items)) }
+    ensures nodes { IfOk result (λ d. AreNodes d.folding.boxes.items (length survey.now.net.comps) (map (λ n. n.1) d.comps.items)) }
     ensures edges { IfOk result (λ d. AreEdges (wiring_in survey.now) d.folding.boxes.items d.edges.items) }
 {
     let folding = Folding::of(alloc, &survey.places, depth)?;

@@ -6,7 +6,7 @@ use crate::nodes::{is_wide, put_count, put_nodes, put_steps, row_name};
 use bz_elab::FlatComp;
 use bz_lines::{Part, WriteFault, put_parts};
 use bz_look::Survey;
-use bz_model::{Chan, ChanKind, Value};
+use bz_model::{Chan, ChanKind, Value, node_of};
 use std::alloc::Global;
 use std::io::Write;
 
@@ -95,7 +95,7 @@ fn put_ports<W: Write>(alloc: Global, out: &mut W, s: &Survey) -> Result<(), Wri
 }
 
 fn put_edge<W: Write>(out: &mut W, s: &Survey, edge: &Edge) -> Result<(), WriteFault> {
-    let chan = match s.net.chans.get((edge.chan as usize).saturating_sub(1)) {
+    let chan = match node_of(&s.net.chans, edge.chan) {
         Some(chan) => *chan,
         None => Chan {
             kind: ChanKind::Sync,
@@ -162,7 +162,7 @@ fn is_crowded(s: &Survey, tip: Tip) -> bool {
 }
 
 fn comp_at(s: &Survey, comp: u32) -> Option<&FlatComp> {
-    s.net.comps.get((comp as usize).saturating_sub(1))
+    node_of(&s.net.comps, comp)
 }
 
 fn put_tip<W: Write>(out: &mut W, s: &Survey, tip: Tip) -> Result<(), WriteFault> {

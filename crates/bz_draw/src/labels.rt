@@ -1,9 +1,10 @@
 //! Texts in labels.
 
+use bz_arena::Arena;
 use bz_breeze::{Component, Part as PartRecord};
 use bz_elab::FlatComp;
 use bz_lines::{Part, WriteFault, put_parts};
-use bz_model::{Chan, Kind, Param, Source, Value, low_bits};
+use bz_model::{Chan, Kind, Param, Source, Value, low_bits, node_of};
 use bz_places::Place;
 use std::alloc::{AllocError, Global};
 use std::io::Write;
@@ -38,7 +39,7 @@ fn put_quoted<W: Write>(out: &mut W, byte: u8) -> Result<(), WriteFault> {
 pub(crate) fn put_detail<W: Write>(
     alloc: Global,
     out: &mut W,
-    chans: &[Chan],
+    chans: &Arena<Chan>,
     comp: &FlatComp,
     written: Option<&Component>,
 ) -> Result<(), WriteFault> {
@@ -71,7 +72,7 @@ fn put_record<W: Write>(out: &mut W, text: &[u8]) -> Result<(), WriteFault> {
 // What the second line says, empty where there is none.
 fn detail(
     alloc: Global,
-    chans: &[Chan],
+    chans: &Arena<Chan>,
     comp: &FlatComp,
     written: Option<&Component>,
 ) -> Result<Vec<u8>, WriteFault> {
@@ -106,13 +107,13 @@ fn detail(
 }
 
 // The width of a component's first port.
-fn out_width(chans: &[Chan], comp: &FlatComp) -> u32 {
+fn out_width(chans: &Arena<Chan>, comp: &FlatComp) -> u32 {
     match comp.chans.first() {
-        Some(chan) if *chan > 0 => match chans.get(*chan as usize - 1) {
+        Some(chan) => match node_of(chans, *chan) {
             Some(chan) => chan.width,
             None => 0,
         },
-        _ => 0,
+        None => 0,
     }
 }
 

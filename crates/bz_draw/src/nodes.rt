@@ -6,7 +6,7 @@ use bz_elab::FlatComp;
 use bz_kind_table::{PortRow, kind_word, port_table};
 use bz_lines::{Part, WriteFault, put_parts};
 use bz_look::Survey;
-use bz_model::Value;
+use bz_model::{Value, node_of};
 use bz_places::Place;
 use std::alloc::Global;
 use std::io::Write;
@@ -175,7 +175,7 @@ fn put_comp<W: Write>(
     s: &Survey,
     number: u32,
 ) -> Result<(), WriteFault> {
-    let Some(comp) = s.net.comps.get((number as usize).saturating_sub(1)) else {
+    let Some(comp) = node_of(&s.net.comps, number) else {
         return Ok(());
     };
     let table = port_table(&comp.kind);

@@ -384,7 +384,7 @@ wiring_refuses parts top (PortSense k) p h = inr (record { applies = h.2.is_in; 
 wiring_refuses parts top Memory p h = inl refl
 wiring_refuses parts top e p h = absurd h
 
-pub wire_refuses : (parts : List Part) (top : Part) (d : Draft) (e : ElabError) → IsNet parts top d → PassesPart parts top → WiringFault (sites_of d.comps.items) (map external top.ports.items) e
+pub wire_refuses : (parts : List Part) (top : Part) (d : Draft) (e : ElabError) → IsNet parts top d → PassesPart parts top → WiringFault (sites_of d.comps) (map external top.ports.items) e
     → (e ≡ Memory) ⊎ RefusesPart parts top e
 wire_refuses parts top d e n p h =
     let is = net_is parts top d n in

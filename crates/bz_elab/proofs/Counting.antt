@@ -54,9 +54,9 @@ leaf_ends own outer c g f flat on =
     ap length on ∙ (length-map g.chans.items (net_number outer) ∙ (ap length flat.chans_are ∙ length-arranged g.kind own c.entries.items flat.sound.fits.singles_are flat.sound.fits.lists_are))
 
 pub counts_leaf : (path : Path) (c : Component) (f : FlatComp) (old new : Draft) → length f.chans.items ≡ length (flattened c.entries.items)
-    → new.chans.items ≡ old.chans.items → new.comps.items ≡ old.comps.items ++ f ∷ [] → new.ends ≡ old.ends + length f.chans.items → Counts old new (leaf path c ∷ [])
+    → new.chans ≡ old.chans → new.comps ≡ old.comps ++ f ∷ [] → new.ends ≡ old.ends + length f.chans.items → Counts old new (leaf path c ∷ [])
 counts_leaf path c f old new count same push ends = record {
-  comps_are = ap length push ∙ length-append old.comps.items (f ∷ []);
+  comps_are = ap length push ∙ length-append old.comps (f ∷ []);
   chans_are = let e = ap length same in omega (arith, e);
   ends_are = let e = ap length (append-nil (flattened c.entries.items)) in omega (arith, ends, count, e);
 }
@@ -65,7 +65,7 @@ pub counts_copy : (old new : Draft) (path : Path) (part : Part) → Entered old 
 counts_copy old new path part e = record {
   comps_are = let k = ap length e.comps_are in omega (arith, k);
   chans_are = let own = drop (ports_at path part) part.channels.items in
-      ap length e.chans_are ∙ (length-append old.chans.items own ∙ ap (λ xs. length old.chans.items + length xs) (sym (append-nil own)));
+      ap length e.chans_are ∙ (length-append old.chans own ∙ ap (λ xs. length old.chans + length xs) (sym (append-nil own)));
   ends_are = let k = e.ends_are in omega arith;
 }
 
@@ -94,7 +94,7 @@ counts_step parts path depth i items x old mid new lt is a b =
     subst (λ (ss : List Stop). Counts old new ss) (sym f) (counts_then old mid new (each_from 1 V (take i items)) (V (suc i) x) a b)
 
 pub counts_leaf_step : (parts : List Part) (path : Path) (depth i : ℕ) (x : Component) (f : FlatComp) (old new : Draft) → named parts x.name.items ≡ None
-    → length f.chans.items ≡ length (flattened x.entries.items) → new.chans.items ≡ old.chans.items → new.comps.items ≡ old.comps.items ++ f ∷ [] → new.ends ≡ old.ends + length f.chans.items
+    → length f.chans.items ≡ length (flattened x.entries.items) → new.chans ≡ old.chans → new.comps ≡ old.comps ++ f ∷ [] → new.ends ≡ old.ends + length f.chans.items
     → Counts old new (visit parts path (walk parts depth) i x)
 counts_leaf_step parts path depth i x f old new none count same push ends = rw (none, visit) (counts_leaf path x f old new count same push ends)
 
@@ -108,15 +108,15 @@ counts_copy_step parts path (suc m) i x in_part old mid new some pos entered dee
     rw (some, visit) (counts_then old mid new (copy (i ∷ path) in_part ∷ []) _ (counts_copy old mid (i ∷ path) in_part entered) below)
 
 -- Too many below a stop are too many in the whole.
-pub too_many : (old mid : Draft) (ss ts us : List Stop) → Counts old mid ss → IsTooMany (length mid.comps.items) (length mid.chans.items) mid.ends ts
-    → IsTooMany (length old.comps.items) (length old.chans.items) old.ends (ss ++ (ts ++ us))
+pub too_many : (old mid : Draft) (ss ts us : List Stop) → Counts old mid ss → IsTooMany (length mid.comps) (length mid.chans) mid.ends ts
+    → IsTooMany (length old.comps) (length old.chans) old.ends (ss ++ (ts ++ us))
 too_many old mid ss ts us a (inl h) = inl (omega (arith, h, a.comps_are, length-more own_comps ss (ts ++ us), length-more own_comps ts us))
 too_many old mid ss ts us a (inr (inl h)) = inr (inl (omega (arith, h, a.chans_are, length-more own_chans ss (ts ++ us), length-more own_chans ts us)))
 too_many old mid ss ts us a (inr (inr h)) = inr (inr (omega (arith, h, a.ends_are, length-more own_ends ss (ts ++ us), length-more own_ends ts us)))
 
 -- what ends the walk at some stops ends it at all
 pub ends_up : (parts : List Part) (top : Part) (mid old : Draft) (ss ts : List Stop) (e : ElabError)
-    → (IsTooMany (length mid.comps.items) (length mid.chans.items) mid.ends ss → IsTooMany (length old.comps.items) (length old.chans.items) old.ends ts)
+    → (IsTooMany (length mid.comps) (length mid.chans) mid.ends ss → IsTooMany (length old.comps) (length old.chans) old.ends ts)
     → EndsWalk parts top mid ss e → EndsWalk parts top old ts e
 ends_up parts top mid old ss ts Memory up h = tt
 ends_up parts top mid old ss ts TooBig up h = up h

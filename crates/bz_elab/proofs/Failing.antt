@@ -45,8 +45,8 @@ stops_before parts path depth items i = each_from 1 (visit parts path (walk part
 -- too many at some stops of a component are too many in the whole
 in_whole : (parts : List Part) (part : Part) (path : Path) (depth i : ℕ) (items : List Component) (x : Component) (old mid : Draft) (pre ts post : List Stop)
     → items ≡ part.components.items → i < length items → x ≡ get_or items i x → visit parts path (walk parts depth) (suc i) x ≡ pre ++ (ts ++ post)
-    → Counts old mid (stops_before parts path depth items i ++ pre) → IsTooMany (length mid.comps.items) (length mid.chans.items) mid.ends ts
-    → IsTooMany (length old.comps.items) (length old.chans.items) old.ends (below_copy parts path depth part)
+    → Counts old mid (stops_before parts path depth items i ++ pre) → IsTooMany (length mid.comps) (length mid.chans) mid.ends ts
+    → IsTooMany (length old.comps) (length old.chans) old.ends (below_copy parts path depth part)
 in_whole parts part path depth i items x old mid pre ts post same lt is here counts many =
     let V : ℕ → Component → List Stop = visit parts path (walk parts depth) in
     let so_far = stops_before parts path depth items i in
@@ -65,7 +65,7 @@ role_some parts x q e = ap (λ o. role_by o x) e
 refused_fails : (parts : List Part) (part : Part) (n depth i : ℕ) (items : List Component) (x : Component) (r : Role) (stop : Stop) (more : Path → List Stop) (old mid : Draft) (e : ElabError)
     → slice_get parts n ≡ Some part → items ≡ part.components.items → i < length items → x ≡ get_or items i x → role parts x ≡ r
     → ((path : Path) → (first : Stop) × (visit parts path (walk parts depth) (suc i) x ≡ first ∷ more path)
-    × (IsTooMany (length mid.comps.items) (length mid.chans.items) mid.ends (stop ∷ []) → IsTooMany (length mid.comps.items) (length mid.chans.items) mid.ends (first ∷ [])))
+    × (IsTooMany (length mid.comps) (length mid.chans) mid.ends (stop ∷ []) → IsTooMany (length mid.comps) (length mid.chans) mid.ends (first ∷ [])))
     → ((path : Path) → Counts old mid (stops_before parts path depth items i))
     → Refused part.channels.items x r mid stop n (i + 1) e → Fails parts part depth old e
 refused_fails parts part n depth i items x r stop more old mid e number same lt is role_is first counts refused top path at full =
@@ -126,22 +126,22 @@ top_big parts top n z h =
     let own = top.channels.items in
     inr (inl (omega (arith, h, z, length-append own (flat_map own_chans rest))))
 
-ends_or : (parts : List Part) (top : Part) (old : Draft) (ss : List Stop) (e : ElabError) → (IsTooMany (length old.comps.items) (length old.chans.items) old.ends ss → IsTooMany 0 0 0 (stops parts top))
+ends_or : (parts : List Part) (top : Part) (old : Draft) (ss : List Stop) (e : ElabError) → (IsTooMany (length old.comps) (length old.chans) old.ends ss → IsTooMany 0 0 0 (stops parts top))
     → EndsWalk parts top old ss e → (e ≡ Memory) ⊎ AppliesTo parts top e
 ends_or parts top old ss Memory up h = inl refl
 ends_or parts top old ss TooBig up h = inr (up h)
 ends_or parts top old ss e up h = inr h
 
 -- the walk below the top ended early
-pub top_fails : (parts : List Part) (top : Part) (empty mid : Draft) (e : ElabError) → empty.comps.items ≡ [] → empty.chans.items ≡ [] → empty.ends ≡ 0
+pub top_fails : (parts : List Part) (top : Part) (empty mid : Draft) (e : ElabError) → empty.comps ≡ [] → empty.chans ≡ [] → empty.ends ≡ 0
     → Entered empty mid top 0 → Fails parts top most_instances mid e → (e ≡ Memory) ⊎ AppliesTo parts top e
 unfolding stops
 top_fails parts top empty mid e no_comps no_chans no_ends entered fails =
     let first : List Stop = copy [] top ∷ [] in
     let below = below_copy parts [] most_instances top in
     let counts : Counts empty mid ([] ++ first) = counts_copy empty mid [] top entered in
-    let zero_comps : length empty.comps.items ≡ 0 = ap length no_comps in
-    let zero_chans : length empty.chans.items ≡ 0 = ap length no_chans in
+    let zero_comps : length empty.comps ≡ 0 = ap length no_comps in
+    let zero_chans : length empty.chans ≡ 0 = ap length no_chans in
     ends_or parts top mid below e
     (λ many.
     let all = rw (zero_comps, zero_chans, no_ends) at (too_many empty mid first below [] counts many) in

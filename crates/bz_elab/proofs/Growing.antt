@@ -68,8 +68,8 @@ leaves_then parts top places (leaf path c ∷ ss) ts (f ∷ fs) gs a b = (a.0, l
 pub grows_nothing : (parts : List Part) (top : Part) (before : List Place) (net : Draft) → Grows parts top before net net []
 grows_nothing parts top before net = record {
   comps = [];
-  chans_are = sym (append-nil net.chans.items);
-  comps_are = sym (append-nil net.comps.items);
+  chans_are = sym (append-nil net.chans);
+  comps_are = sym (append-nil net.comps);
   leaves = tt;
 }
 
@@ -82,8 +82,8 @@ no_leaves parts top places (leaf path c ∷ ss) e = cc
 pub grows_bare : (parts : List Part) (top : Part) (before : List Place) (net : Draft) (ss : List Stop) → IsBare ss → Grows parts top before net net ss
 grows_bare parts top before net ss b = record {
   comps = [];
-  chans_are = rw b.chans (sym (append-nil net.chans.items));
-  comps_are = sym (append-nil net.comps.items);
+  chans_are = rw b.chans (sym (append-nil net.chans));
+  comps_are = sym (append-nil net.comps);
   leaves = no_leaves parts top _ ss b.comps;
 }
 
@@ -94,8 +94,8 @@ grows_then parts top before old mid new ss ts a b =
     ap (λ x. before ++ x) (flat_map-append own_places ss ts) ∙ sym (append_assoc before (flat_map own_places ss) (flat_map own_places ts)) in
     record {
       comps = a.comps ++ b.comps;
-      chans_are = b.chans_are ∙ ap (λ x. x ++ flat_map own_chans ts) a.chans_are ∙ append_assoc old.chans.items (flat_map own_chans ss) (flat_map own_chans ts) ∙ ap (λ x. old.chans.items ++ x) (sym (flat_map-append own_chans ss ts));
-      comps_are = b.comps_are ∙ ap (λ x. x ++ b.comps) a.comps_are ∙ append_assoc old.comps.items a.comps b.comps;
+      chans_are = b.chans_are ∙ ap (λ x. x ++ flat_map own_chans ts) a.chans_are ∙ append_assoc old.chans (flat_map own_chans ss) (flat_map own_chans ts) ∙ ap (λ x. old.chans ++ x) (sym (flat_map-append own_chans ss ts));
+      comps_are = b.comps_are ∙ ap (λ x. x ++ b.comps) a.comps_are ∙ append_assoc old.comps a.comps b.comps;
       leaves = rw places (leaves_then parts top _ ss ts a.comps b.comps (leaves_grow parts top _ (flat_map own_places ts) ss a.comps a.leaves) b.leaves);
     }
 
@@ -116,7 +116,7 @@ actual_numbers parts top before path levels (e ∷ es) n h =
 -- one leaf more: f is g, on the net's channels in place of its part's
 pub grows_leaf : (parts : List Part) (top : Part) (before : List Place) (path : Path) (own : List Chan) (outer : List Level) (c : Component) (g f : FlatComp) (old new : Draft)
     → chans_at parts top path ≡ own → CopyNumbers parts top before path outer → IsFlat own c g → f.chans.items ≡ map (net_number outer) g.chans.items → f.kind ≡ g.kind → f.sizes ≡ g.sizes
-    → new.chans.items ≡ old.chans.items → new.comps.items ≡ old.comps.items ++ f ∷ [] → Grows parts top before old new (leaf path c ∷ [])
+    → new.chans ≡ old.chans → new.comps ≡ old.comps ++ f ∷ [] → Grows parts top before old new (leaf path c ∷ [])
 grows_leaf parts top before path own outer c g f old new here n flat on kind sizes same push =
     let inside = subst (λ (es : List ℕ). All (IsChannel own) es) (sym flat.chans_are) (all_arranged (IsChannel own) g.kind own c.entries.items flat.sound.within) in
     let within = subst (λ (xs : List Chan). All (IsChannel xs) g.chans.items) (sym here) inside in
@@ -125,7 +125,7 @@ grows_leaf parts top before path own outer c g f old new here n flat on kind siz
     flat.chans_are ∙ ap (λ k. arranged k own c.entries.items) (sym kind) ∙ ap (λ chans. arranged f.kind chans c.entries.items) (sym here) in
     record {
       comps = f ∷ [];
-      chans_are = same ∙ sym (append-nil old.chans.items);
+      chans_are = same ∙ sym (append-nil old.chans);
       comps_are = push;
       leaves = rw append-nil (
         record {
@@ -141,8 +141,8 @@ pub grows_copy : (parts : List Part) (top : Part) (before : List Place) (i : ℕ
     → Entered old new part (length part.ports.items) → Grows parts top before old new (copy (i ∷ up) part ∷ [])
 grows_copy parts top before i up part old new e = record {
   comps = [];
-  chans_are = e.chans_are ∙ ap (λ x. old.chans.items ++ x) (sym (append-nil (drop (length part.ports.items) part.channels.items)));
-  comps_are = e.comps_are ∙ sym (append-nil old.comps.items);
+  chans_are = e.chans_are ∙ ap (λ x. old.chans ++ x) (sym (append-nil (drop (length part.ports.items) part.channels.items)));
+  comps_are = e.comps_are ∙ sym (append-nil old.comps);
   leaves = tt;
 }
 
@@ -194,8 +194,8 @@ joined_own parts top part in_part up i c k at has is lt =
 
 pub copy_numbers : (parts : List Part) (top part in_part : Part) (before : List Place) (up : Path) (i : ℕ) (c : Component) (old : Draft) (outer : List Level) (level : Level)
     → copied parts top up ≡ Some part → component part i ≡ Some c → named parts c.name.items ≡ Some in_part
-    → CopyNumbers parts top before up outer → IsSoundInstance part.channels.items c in_part → level.ports.now ≡ flattened c.entries.items → level.before ≡ length old.chans.items
-    → length before ≡ length old.chans.items → CopyNumbers parts top (before ++ flat_map own_places (copy (i ∷ up) in_part ∷ [])) (i ∷ up) (level ∷ outer)
+    → CopyNumbers parts top before up outer → IsSoundInstance part.channels.items c in_part → level.ports.now ≡ flattened c.entries.items → level.before ≡ length old.chans
+    → length before ≡ length old.chans → CopyNumbers parts top (before ++ flat_map own_places (copy (i ∷ up) in_part ∷ [])) (i ∷ up) (level ∷ outer)
 copy_numbers parts top part in_part before up i c old outer level at has is n sound ports_are before_is len k from to =
     let ports = length in_part.ports.items in
     let own = length in_part.channels.items - ports in
@@ -234,10 +234,10 @@ fits_inside levels level n m k own fits within before_is all c from to = elim (l
 pub copies_grow : (parts : List Part) (top : Part) (before more : List Place) (path : Path) (levels : List Level) → CopyNumbers parts top before path levels → CopyNumbers parts top (before ++ more) path levels
 copies_grow parts top before more path levels n c from to = number_grows before more _ _ (n c from to)
 
-pub length_grown : (parts : List Part) (top : Part) (before : List Place) (old new : Draft) (ss : List Stop) → Grows parts top before old new ss → length before ≡ length old.chans.items
-    → length (before ++ flat_map own_places ss) ≡ length new.chans.items
+pub length_grown : (parts : List Part) (top : Part) (before : List Place) (old new : Draft) (ss : List Stop) → Grows parts top before old new ss → length before ≡ length old.chans
+    → length (before ++ flat_map own_places ss) ≡ length new.chans
 length_grown parts top before old new ss g len =
-    length-append before (flat_map own_places ss) ∙ (ap (λ n. n + length (flat_map own_places ss)) len ∙ (ap (λ n. length old.chans.items + n) (owns_length ss) ∙ (sym (length-append old.chans.items (flat_map own_chans ss)) ∙ ap length (sym g.chans_are))))
+    length-append before (flat_map own_places ss) ∙ (ap (λ n. n + length (flat_map own_places ss)) len ∙ (ap (λ n. length old.chans + n) (owns_length ss) ∙ (sym (length-append old.chans (flat_map own_chans ss)) ∙ ap length (sym g.chans_are))))
 
 -- one component more
 pub flatten_step : (parts : List Part) (top : Part) (path : Path) (before : List Place) (depth idx : ℕ) (items : List Component) (x : Component) (old mid new : Draft)
@@ -255,14 +255,14 @@ flatten_step parts top path before depth idx items x old mid new is lt a b =
 
 pub leaf_step : (parts : List Part) (top : Part) (path : Path) (before : List Place) (depth i : ℕ) (own : List Chan) (outer : List Level) (x : Component) (g f : FlatComp) (old new : Draft)
     → named parts x.name.items ≡ None → chans_at parts top path ≡ own → CopyNumbers parts top before path outer → IsFlat own x g → f.chans.items ≡ map (net_number outer) g.chans.items → f.kind ≡ g.kind → f.sizes ≡ g.sizes
-    → new.chans.items ≡ old.chans.items → new.comps.items ≡ old.comps.items ++ f ∷ [] → Grows parts top before old new (visit parts path (walk parts depth) i x)
+    → new.chans ≡ old.chans → new.comps ≡ old.comps ++ f ∷ [] → Grows parts top before old new (visit parts path (walk parts depth) i x)
 leaf_step parts top path before depth i own outer x g f old new none here n flat on kind sizes same push =
     rw (none, visit) (grows_leaf parts top before path own outer x g f old new here n flat on kind sizes same push)
 
 pub copy_step : (parts : List Part) (top part in_part : Part) (path : Path) (before : List Place) (depth i : ℕ) (x : Component) (outer : List Level) (level : Level) (old mid new : Draft)
     → named parts x.name.items ≡ Some in_part → copied parts top path ≡ Some part → component part i ≡ Some x
-    → CopyNumbers parts top before path outer → IsSoundInstance part.channels.items x in_part → level.ports.now ≡ flattened x.entries.items → level.before ≡ length old.chans.items
-    → length before ≡ length old.chans.items → Entered old mid in_part (length in_part.ports.items) → 0 < depth → Flattened parts in_part (level ∷ outer) (depth - 1) mid new
+    → CopyNumbers parts top before path outer → IsSoundInstance part.channels.items x in_part → level.ports.now ≡ flattened x.entries.items → level.before ≡ length old.chans
+    → length before ≡ length old.chans → Entered old mid in_part (length in_part.ports.items) → 0 < depth → Flattened parts in_part (level ∷ outer) (depth - 1) mid new
     → Grows parts top before old new (visit parts path (walk parts depth) i x)
 copy_step parts top part in_part path before zero i x outer level old mid new is at has n sound ports_are before_is len entered pos deeper = absurd (omega arith)
 copy_step parts top part in_part path before (suc m) i x outer level old mid new is at has n sound ports_are before_is len entered pos deeper =
@@ -293,7 +293,7 @@ top_numbers parts top c from to =
 pub top_fits : (top : Part) (n : ℕ) → n ≡ length top.channels.items → FitsNet [] (length top.channels.items) n
 top_fits top n is c from to = omega (arith, is, to)
 
-pub whole_net : (parts : List Part) (top : Part) (empty mid new : Draft) → empty.chans.items ≡ [] → empty.comps.items ≡ [] → empty.ends ≡ 0 → Entered empty mid top 0
+pub whole_net : (parts : List Part) (top : Part) (empty mid new : Draft) → empty.chans ≡ [] → empty.comps ≡ [] → empty.ends ≡ 0 → Entered empty mid top 0
     → Flattened parts top [] most_instances mid new → Counted parts top most_instances mid new → IsNet parts top new
 unfolding stops
 whole_net parts top empty mid new no_chans no_comps no_ends entered deeper counted =
@@ -301,8 +301,8 @@ whole_net parts top empty mid new no_chans no_comps no_ends entered deeper count
     let rest = below_copy parts [] most_instances top in
     let here : Grows parts top [] empty mid (first ∷ []) = record {
       comps = [];
-      chans_are = entered.chans_are ∙ ap (λ x. empty.chans.items ++ x) (sym (append-nil top.channels.items));
-      comps_are = entered.comps_are ∙ sym (append-nil empty.comps.items);
+      chans_are = entered.chans_are ∙ ap (λ x. empty.chans ++ x) (sym (append-nil top.channels.items));
+      comps_are = entered.comps_are ∙ sym (append-nil empty.comps);
       leaves = tt;
     } in
     let below = deeper top [] (flat_map own_places (first ∷ [])) refl (length_grown parts top [] empty mid (first ∷ []) here (sym (ap length no_chans))) (top_numbers parts top) in
@@ -312,14 +312,14 @@ whole_net parts top empty mid new no_chans no_comps no_ends entered deeper count
       chans_are = all.chans_are ∙ ap (λ x. x ++ flat_map own_chans (first ∷ rest)) no_chans;
       comps_len = let n = counts.comps_are in let m = ap length no_comps in omega (arith, n, m);
       ends_are = let n = counts.ends_are in omega (arith, n, no_ends);
-      leaves = let e : new.comps.items ≡ all.comps = all.comps_are ∙ ap (λ x. x ++ all.comps) no_comps in rw e all.leaves;
+      leaves = let e : new.comps ≡ all.comps = all.comps_are ∙ ap (λ x. x ++ all.comps) no_comps in rw e all.leaves;
     }
 
 -- the top's channels are all its part's
-pub top_length : (empty mid : Draft) (top : Part) → empty.chans.items ≡ [] → Entered empty mid top 0 → length mid.chans.items ≡ length top.channels.items
+pub top_length : (empty mid : Draft) (top : Part) → empty.chans ≡ [] → Entered empty mid top 0 → length mid.chans ≡ length top.channels.items
 top_length empty mid top none e =
     let n = ap length e.chans_are in
-    let m = length-append empty.chans.items (drop 0 top.channels.items) in
+    let m = length-append empty.chans (drop 0 top.channels.items) in
     let z = ap length none in
     let d = length-drop 0 top.channels.items in
     omega (arith, n, m, z, d)

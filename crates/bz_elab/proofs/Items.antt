@@ -14,8 +14,6 @@ use Rattle.bz_elab.specs.declared.walk.Level.{Level}
 use Rattle.bz_elab.specs.declared.reading.Instance.{Instance}
 use Rattle.bz_elab.specs.declared.reading.Item.{Item}
 use Rattle.bz_elab.specs.declared.reading.Item.TheVariants.{Leaf}
-use Rattle.std.specs.declared.vec.Vec.{Vec}
-use Rattle.std.specs.declared.alloc.Global.{Global}
 use Rattle.bz_elab.specs.declared.reading.Reading.{Reading}
 use Rattle.bz_elab.specs.Entries.{flattened}
 use Rattle.bz_elab.specs.Wires.{most_chans}
@@ -64,7 +62,7 @@ bare_visit parts part (suc m) k c short has nothing path =
 -- The walk as far as component j.
 
 pub record Upto (parts : List Part) (part : Part) (levels : List Level) (depth : ℕ) (old new : Draft) (j : ℕ) : Type 0 where
-  pub grows : (top : Part) (path : Path) (before : List Place) → copied parts top path ≡ Some part → length before ≡ length old.chans.items → CopyNumbers parts top before path levels
+  pub grows : (top : Part) (path : Path) (before : List Place) → copied parts top path ≡ Some part → length before ≡ length old.chans → CopyNumbers parts top before path levels
       → Grows parts top before old new (each_from 1 (visit parts path (walk parts depth)) (take j part.components.items))
   pub counts : (path : Path) → Counts old new (each_from 1 (visit parts path (walk parts depth)) (take j part.components.items))
 
@@ -253,14 +251,14 @@ copy_of parts own c i p h at =
 
 -- the copies from an instance's up fit the net that has its channels
 pub inside_fits : (parts : List Part) (own : List Chan) (levels inside : List Level) (c : Component) (i : Instance) (p : Part) (old new : Draft) → CopyOf parts own c i p → CopyOn levels i.chans.items p old new inside
-    → FitsNet levels (length own) (length old.chans.items) → FitsNet inside (length p.channels.items) (length new.chans.items)
+    → FitsNet levels (length own) (length old.chans) → FitsNet inside (length p.channels.items) (length new.chans)
 inside_fits parts own levels inside c i p old new h on fits =
     let ports = on.ports_are ∙ h.chans_are in
     let many : length on.level.ports.now ≡ length p.ports.items = ap length ports ∙ h.sound.count in
     let within = subst (λ (es : List ℕ). All (IsChannel own) es) (sym ports) h.sound.within in
-    let grown = ap length on.entered.chans_are ∙ length-append old.chans.items (drop (length p.ports.items) p.channels.items) in
+    let grown = ap length on.entered.chans_are ∙ length-append old.chans (drop (length p.ports.items) p.channels.items) in
     let own_count = length-drop (length p.ports.items) p.channels.items in
-    rw on.inside_is (fits_inside levels on.level (length own) (length old.chans.items) (length new.chans.items) (length p.channels.items) fits within on.before_is (omega (arith, many, grown, own_count)))
+    rw on.inside_is (fits_inside levels on.level (length own) (length old.chans) (length new.chans) (length p.channels.items) fits within on.before_is (omega (arith, many, grown, own_count)))
 
 pub short_less : (parts : List Part) (part p : Part) (k depth : ℕ) → 0 < depth → IsShort parts part depth → inner parts part k ≡ Some p → IsShort parts p (depth - 1)
 short_less parts part p k zero pos short at = absurd (omega arith)
@@ -303,7 +301,7 @@ upto_copy parts part p levels inside depth old mid full new j c i lt is h on pos
     }
 
 -- the net only grows
-pub upto_fits : (parts : List Part) (part : Part) (levels : List Level) (depth : ℕ) (old new : Draft) (j n : ℕ) → Upto parts part levels depth old new j → FitsNet levels n (length old.chans.items) → FitsNet levels n (length new.chans.items)
+pub upto_fits : (parts : List Part) (part : Part) (levels : List Level) (depth : ℕ) (old new : Draft) (j n : ℕ) → Upto parts part levels depth old new j → FitsNet levels n (length old.chans) → FitsNet levels n (length new.chans)
 upto_fits parts part levels depth old new j n u fits c from to =
     let le = fits c from to in
     let grown = (u.counts []).chans_are in
@@ -320,7 +318,7 @@ refused_leaf own c g d n i e flat (inr (big, inr many)) =
     let all = ap length (append-nil (flattened c.entries.items)) in
     inr (inr (big, inr (inr (omega (arith, many, ends, all)))))
 
-pub refused_copy : (own : List Chan) (c : Component) (p : Part) (d : Draft) (n i : ℕ) (e : ElabError) → (e ≡ Memory) ⊎ ((e ≡ TooBig) × (most_chans < length d.chans.items + (length p.channels.items - length p.ports.items)))
+pub refused_copy : (own : List Chan) (c : Component) (p : Part) (d : Draft) (n i : ℕ) (e : ElabError) → (e ≡ Memory) ⊎ ((e ≡ TooBig) × (most_chans < length d.chans + (length p.channels.items - length p.ports.items)))
     → Refused own c (instance p) d (copy (0 ∷ []) p) n i e
 refused_copy own c p d n i e (inl memory) = inl memory
 refused_copy own c p d n i e (inr (big, many)) =
@@ -350,15 +348,11 @@ pub ends_push : (fs : List FlatComp) (f : FlatComp) → ends_of (fs ++ f ∷ [])
 ends_push [] f = omega arith
 ends_push (g ∷ gs) f = let h = ends_push gs f in omega (arith, h)
 
--- a list that has room where another has
-cut : (v : Vec FlatComp Global) (fs : List FlatComp) → length fs ≤ v.len → Vec FlatComp Global
-cut v fs le = record { ptr = v.ptr; len = length fs; cap = v.cap; alloc = v.alloc; items = fs; ok = (refl, let w = v.ok.1 in omega (arith, le, w)); small = v.small }
-
 same_numbers : (ks : List ℕ) → ks ≡ map (net_number []) ks
 same_numbers [] = refl
 same_numbers (k ∷ ks) = ap (λ xs. k ∷ xs) (same_numbers ks)
 
-same_grown : (parts : List Part) (part : Part) (depth : ℕ) (old mid new : Draft) → new.chans.items ≡ mid.chans.items → new.comps.items ≡ mid.comps.items → new.ends ≡ mid.ends
+same_grown : (parts : List Part) (part : Part) (depth : ℕ) (old mid new : Draft) → new.chans ≡ mid.chans → new.comps ≡ mid.comps → new.ends ≡ mid.ends
     → Flattened parts part [] depth old mid × Counted parts part depth old mid → Flattened parts part [] depth old new × Counted parts part depth old new
 same_grown parts part depth old mid new chans comps ends (grown, counted) = (
   λ top path before at len n.
@@ -370,19 +364,13 @@ same_grown parts part depth old mid new chans comps ends (grown, counted) = (
 )
 
 pub own_grown : (parts : List Part) (part : Part) (depth : ℕ) (old mid new : Draft) (left done : List FlatComp) → IsShort parts part depth
-    → new.chans.items ≡ mid.chans.items → mid.comps.items ≡ done → new.comps.items ≡ done ++ left → new.ends ≡ mid.ends + ends_of left → SoFar parts part [] depth old mid (map Leaf left)
+    → new.chans ≡ mid.chans → mid.comps ≡ done → new.comps ≡ done ++ left → new.ends ≡ mid.ends + ends_of left → SoFar parts part [] depth old mid (map Leaf left)
     → Flattened parts part [] depth old new × Counted parts part depth old new
-unfolding cut
 own_grown parts part depth old mid new [] done short chans first all ends s =
     same_grown parts part depth old mid new chans (all ∙ append-nil done ∙ sym first) (omega (arith, ends)) (all_items parts part [] depth old mid short s)
 own_grown parts part depth old mid new (g ∷ gs) done short chans first all ends s =
     let next = next_item parts part [] depth old mid (Leaf g) (map Leaf gs) short s in
-    let le : length (done ++ g ∷ []) ≤ new.comps.len =
-    let n = ap length all in
-    let a = length-append done (g ∷ gs) in
-    let b = length-append done (g ∷ []) in
-    omega (arith, n, a, b, new.comps.ok.0) in
-    let one : Draft = record { chans = mid.chans; comps = cut new.comps (done ++ g ∷ []) le; ends = mid.ends + length g.chans.items } in
+    let one : Draft = record { chans = mid.chans; comps = done ++ g ∷ []; ends = mid.ends + length g.chans.items } in
     let on : LeafOn [] g mid one = record {
       added = g;
       on = same_numbers g.chans.items;
@@ -400,8 +388,8 @@ own_grown parts part depth old mid new (g ∷ gs) done short chans first all end
     })
 
 pub own_whole : (parts : List Part) (n : ℕ) (part : Part) (readings : List Reading) (comps : List FlatComp) (ends : ℕ) (empty mid new : Draft) → slice_get parts n ≡ Some part → IsReadBelow parts n readings
-    → IsShort parts part most_instances → AreOwn readings n comps ends → empty.chans.items ≡ [] → empty.comps.items ≡ [] → empty.ends ≡ 0 → Entered empty mid part 0
-    → new.chans.items ≡ mid.chans.items → new.comps.items ≡ comps → new.ends ≡ ends → IsNet parts part new
+    → IsShort parts part most_instances → AreOwn readings n comps ends → empty.chans ≡ [] → empty.comps ≡ [] → empty.ends ≡ 0 → Entered empty mid part 0
+    → new.chans ≡ mid.chans → new.comps ≡ comps → new.ends ≡ ends → IsNet parts part new
 own_whole parts n part readings comps ends empty mid new at read short own no_chans no_comps no_ends entered chans all count =
     let told_of = read.are n part own.reading ([], refl) at own.stands in
     let start = so_far_start parts part [] most_instances mid (told own.reading) (map Leaf comps) (sym own.all) told_of in

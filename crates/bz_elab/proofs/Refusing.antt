@@ -90,7 +90,7 @@ same_top parts name p q e f = cc
 
 -- no refusal applies to the part that was elaborated
 pub none_applies : (parts : List Part) (name : List ℕ) (top : Part) (d : Draft) (ends : List Ends) → named parts name ≡ Some top → IsNet parts top d → IsSoundBelow parts top most_instances → Within d
-    → WellEnded (sites_of d.comps.items) (map external top.ports.items) ends
+    → WellEnded (sites_of d.comps) (map external top.ports.items) ends
     → (e : ElabError) → Applies parts name e → ⊥
 none_applies parts name top d ends is n s w we NoPart h = cc
 none_applies parts name top d ends is n s w we e (q, named_q, h) =

@@ -23,20 +23,20 @@ use Rattle.bz_elab.specs.Growth.{IsNet, IsSoundBelow, Within, below_copy}
 use Rattle.bz_elab.proofs.Distinct.{places_are_different, sites_are}
 use Rattle.bz_elab.proofs.Meeting.{IsPlaced, comps_placed}
 
-pub net_is : (parts : List Part) (top : Part) (d : Draft) → IsNet parts top d → wiring_of d.chans.items d.comps.items top.ports.items ≡ net parts top
+pub net_is : (parts : List Part) (top : Part) (d : Draft) → IsNet parts top d → wiring_of d.chans d.comps top.ports.items ≡ net parts top
 unfolding net
 net_is parts top d n =
-    let sites = sites_are parts top (all_places parts top) (stops parts top) d.comps.items (places_are_different parts top) n.leaves in
+    let sites = sites_are parts top (all_places parts top) (stops parts top) d.comps (places_are_different parts top) n.leaves in
     rw (n.chans_are, sites) refl
 
-pub placed : (parts : List Part) (top : Part) (d : Draft) (c : ℕ) → IsNet parts top d → IsSoundBelow parts top most_instances → c < length d.comps.items
-    → IsPlaced d.chans.items d.ends (get_or (sites_of d.comps.items) c no_site)
+pub placed : (parts : List Part) (top : Part) (d : Draft) (c : ℕ) → IsNet parts top d → IsSoundBelow parts top most_instances → c < length d.comps
+    → IsPlaced d.chans d.ends (get_or (sites_of d.comps) c no_site)
 placed parts top d c n s lt =
-    rw (n.chans_are, n.ends_are) (comps_placed parts top (all_places parts top) d.comps.items c no_site s refl n.leaves lt)
+    rw (n.chans_are, n.ends_are) (comps_placed parts top (all_places parts top) d.comps c no_site s refl n.leaves lt)
 
-pub comps_fit : (parts : List Part) (top : Part) (d : Draft) → IsNet parts top d → IsSoundBelow parts top most_instances → Within d → CompsFit (length d.chans.items) (sites_of d.comps.items)
+pub comps_fit : (parts : List Part) (top : Part) (d : Draft) → IsNet parts top d → IsSoundBelow parts top most_instances → Within d → CompsFit (length d.chans) (sites_of d.comps)
 comps_fit parts top d n s w =
-    let many : length (sites_of d.comps.items) ≡ length d.comps.items = length-map d.comps.items site_of in
+    let many : length (sites_of d.comps) ≡ length d.comps = length-map d.comps site_of in
     record {
       few = let k = w.chans_few in omega arith;
       comps_few = let k = w.comps_few in omega arith;
@@ -52,12 +52,12 @@ own_first parts top =
     let rest = below_copy parts [] most_instances top in
     omega (arith, length-append top.channels.items (flat_map own_chans rest))
 
-ports_are_few : (parts : List Part) (top : Part) (d : Draft) → IsNet parts top d → IsSoundBelow parts top most_instances → Within d → (c : ℕ) → length (site_at (sites_of d.comps.items) c).chans < 2 ^ 32
-ports_are_few parts top d n s w c = elim (leb_tells (length d.comps.items) (c - 1)) [
+ports_are_few : (parts : List Part) (top : Part) (d : Draft) → IsNet parts top d → IsSoundBelow parts top most_instances → Within d → (c : ℕ) → length (site_at (sites_of d.comps) c).chans < 2 ^ 32
+ports_are_few parts top d n s w c = elim (leb_tells (length d.comps) (c - 1)) [
   | inl h ↦
-      let many : length (sites_of d.comps.items) ≡ length d.comps.items = length-map d.comps.items site_of in
-      let none : site_at (sites_of d.comps.items) c ≡ no_site = get_or_past (sites_of d.comps.items) (c - 1) no_site (omega (arith, h.1, many)) in
-      let zero : length (site_at (sites_of d.comps.items) c).chans ≡ 0 = ap (λ (x : Site). length x.chans) none in
+      let many : length (sites_of d.comps) ≡ length d.comps = length-map d.comps site_of in
+      let none : site_at (sites_of d.comps) c ≡ no_site = get_or_past (sites_of d.comps) (c - 1) no_site (omega (arith, h.1, many)) in
+      let zero : length (site_at (sites_of d.comps) c).chans ≡ 0 = ap (λ (x : Site). length x.chans) none in
       omega (arith, zero)
   | inr h ↦ let p = placed parts top d (c - 1) n s h.1 in let a = p.few in let b = w.ends_few in omega arith
 ]
@@ -77,12 +77,12 @@ port_narrow parts top k good whole from to =
     (narrow_at top.channels.items (k - 1) none good.narrow (omega (arith, from, to, whole)))
 
 pub well_wired : (parts : List Part) (top : Part) (d : Draft) (ends : List Ends) → IsNet parts top d → IsSoundBelow parts top most_instances → Within d → HasPortChannels top → IsFit top
-    → WellEnded (sites_of d.comps.items) (map external top.ports.items) ends → WellWired (wiring_of d.chans.items d.comps.items top.ports.items)
+    → WellEnded (sites_of d.comps) (map external top.ports.items) ends → WellWired (wiring_of d.chans d.comps top.ports.items)
 well_wired parts top d ends n s w whole good e =
     let fit = comps_fit parts top d n s w in
-    let at : (c p : ℕ) → IsPort (sites_of d.comps.items) c p → (0 < chan_at (sites_of d.comps.items) c p) × (chan_at (sites_of d.comps.items) c p ≤ length d.chans.items) =
+    let at : (c p : ℕ) → IsPort (sites_of d.comps) c p → (0 < chan_at (sites_of d.comps) c p) × (chan_at (sites_of d.comps) c p ≤ length d.chans) =
     λ c p is. (fit.each c is.comp_from is.comp_to).1 (p - 1) (let a = is.port_from in let b = is.port_to in omega arith) in
-    let many : length (sites_of d.comps.items) ≡ length d.comps.items = length-map d.comps.items site_of in
+    let many : length (sites_of d.comps) ≡ length d.comps = length-map d.comps site_of in
     record {
       chan_from = λ c p is. (at c p is).0;
       chan_to = λ c p is. (at c p is).1;
@@ -115,7 +115,7 @@ ends_of chans comps ports ends len e = record {
     to zero c side h = (e.holds 1 c side (omega arith) h).is_port.comp_to
     to (suc k) c side h = (e.holds (suc k) c side (omega arith) h).is_port.comp_to
 
-pub ports_within : (parts : List Part) (top : Part) (d : Draft) → IsNet parts top d → HasPortChannels top → length top.ports.items ≤ length d.chans.items
+pub ports_within : (parts : List Part) (top : Part) (d : Draft) → IsNet parts top d → HasPortChannels top → length top.ports.items ≤ length d.chans
 ports_within parts top d n whole = let a = own_first parts top in let k = ap length n.chans_are in omega (arith, a, k, whole)
 
 -- ports of the same names and senses make the same wiring

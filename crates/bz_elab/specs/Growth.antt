@@ -106,14 +106,14 @@ AreLeaves parts top places (leaf path c ∷ stops) (f ∷ fs) = IsLeaf parts top
 -- the net grew by the channels and components of these stops
 pub record Grows (parts : List Part) (top : Part) (before : List Place) (old new : Draft) (stops : List Stop) : Type 0 where
   pub comps : List FlatComp
-  pub chans_are : new.chans.items ≡ old.chans.items ++ flat_map own_chans stops
-  pub comps_are : new.comps.items ≡ old.comps.items ++ comps
+  pub chans_are : new.chans ≡ old.chans ++ flat_map own_chans stops
+  pub comps_are : new.comps ≡ old.comps ++ comps
   pub leaves : AreLeaves parts top (before ++ flat_map own_places stops) stops comps
 
 -- the net grew by as much as these stops have
 pub record Counts (old new : Draft) (stops : List Stop) : Type 0 where
-  pub comps_are : length new.comps.items ≡ length old.comps.items + length (flat_map own_comps stops)
-  pub chans_are : length new.chans.items ≡ length old.chans.items + length (flat_map own_chans stops)
+  pub comps_are : length new.comps ≡ length old.comps + length (flat_map own_comps stops)
+  pub chans_are : length new.chans ≡ length old.chans + length (flat_map own_chans stops)
   pub ends_are : new.ends ≡ old.ends + length (flat_map own_ends stops)
 
 -- what lies below the copy of a part, with at most so many instances more on a path
@@ -122,7 +122,7 @@ below_copy parts path depth part = each_from 1 (visit parts path (walk parts dep
 
 abbrev pub Flattened : List Part → Part → List Level → ℕ → Draft → Draft → Type 0
 Flattened parts part levels depth old new =
-    (top : Part) (path : Path) (before : List Place) → copied parts top path ≡ Some part → length before ≡ length old.chans.items
+    (top : Part) (path : Path) (before : List Place) → copied parts top path ≡ Some part → length before ≡ length old.chans
     → CopyNumbers parts top before path levels → Grows parts top before old new (below_copy parts path depth part)
 
 abbrev pub Counted : List Part → Part → ℕ → Draft → Draft → Type 0
@@ -130,20 +130,20 @@ Counted parts part depth old new = (path : Path) → Counts old new (below_copy 
 
 -- a copy was entered: the channels of its part but for its ports were added
 pub record Entered (old new : Draft) (part : Part) (ports : ℕ) : Type 0 where
-  pub chans_are : new.chans.items ≡ old.chans.items ++ drop ports part.channels.items
-  pub comps_are : new.comps.items ≡ old.comps.items
+  pub chans_are : new.chans ≡ old.chans ++ drop ports part.channels.items
+  pub comps_are : new.comps ≡ old.comps
   pub ends_are : new.ends ≡ old.ends
 
 -- a component at this place was not added: for want of memory, for a fault, or since the net would be too big
 abbrev pub Refused : List Chan → Component → Role → Draft → Stop → ℕ → ℕ → ElabError → Type 0
 Refused own c role old stop n i e =
     (e ≡ Memory) ⊎ (((f : Fault) × (e ≡ error_at f n i) × HasFault own c role f)
-    ⊎ ((e ≡ TooBig) × IsTooMany (length old.comps.items) (length old.chans.items) old.ends (stop ∷ [])))
+    ⊎ ((e ≡ TooBig) × IsTooMany (length old.comps) (length old.chans) old.ends (stop ∷ [])))
 
 -- why the walk of the net of `top` ends at these stops
 abbrev pub EndsWalk : List Part → Part → Draft → List Stop → ElabError → Type 0
 EndsWalk parts top old stops Memory = ⊤
-EndsWalk parts top old stops TooBig = IsTooMany (length old.comps.items) (length old.chans.items) old.ends stops
+EndsWalk parts top old stops TooBig = IsTooMany (length old.comps) (length old.chans) old.ends stops
 EndsWalk parts top old stops e = AppliesTo parts top e
 
 abbrev pub Fails : List Part → Part → ℕ → Draft → ElabError → Type 0
@@ -153,13 +153,13 @@ Fails parts part depth old e =
 
 -- a draft within what a net may have
 pub record Within (d : Draft) : Type 0 where
-  pub comps_few : length d.comps.items ≤ most_comps
-  pub chans_few : length d.chans.items ≤ most_chans
+  pub comps_few : length d.comps ≤ most_comps
+  pub chans_few : length d.chans ≤ most_chans
   pub ends_few : d.ends ≤ most_ends
 
 -- the channels, components and ends of the net of `top`
 pub record IsNet (parts : List Part) (top : Part) (d : Draft) : Type 0 where
-  pub chans_are : d.chans.items ≡ flat_map own_chans (stops parts top)
-  pub comps_len : length d.comps.items ≡ length (flat_map own_comps (stops parts top))
+  pub chans_are : d.chans ≡ flat_map own_chans (stops parts top)
+  pub comps_len : length d.comps ≡ length (flat_map own_comps (stops parts top))
   pub ends_are : d.ends ≡ length (flat_map own_ends (stops parts top))
-  pub leaves : AreLeaves parts top (all_places parts top) (stops parts top) d.comps.items
+  pub leaves : AreLeaves parts top (all_places parts top) (stops parts top) d.comps

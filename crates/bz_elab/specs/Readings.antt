@@ -51,7 +51,7 @@ AreRead parts own (c ∷ cs) (x ∷ xs) = (IsItem parts own c x × AreRead parts
 
 -- what was read of a part: of its components before its first instance, then of the others
 abbrev pub told : Reading → List Item
-told r = map Leaf r.leaves.items ++ r.items.items
+told r = map Leaf r.leaves ++ r.items.items
 
 -- what was read of the parts of which P holds
 pub record AreReadings (parts : List Part) (P : ℕ → Type 0) (readings : List Reading) : Type 0 where
@@ -84,18 +84,18 @@ pub record LeafOn (levels : List Level) (named : FlatComp) (old new : Draft) : T
   pub on : added.chans.items ≡ map (net_number levels) named.chans.items
   pub kind_is : added.kind ≡ named.kind
   pub sizes_are : added.sizes ≡ named.sizes
-  pub chans_are : new.chans.items ≡ old.chans.items
-  pub comps_are : new.comps.items ≡ old.comps.items ++ added ∷ []
+  pub chans_are : new.chans ≡ old.chans
+  pub comps_are : new.comps ≡ old.comps ++ added ∷ []
   pub ends_are : new.ends ≡ old.ends + length added.chans.items
 
 -- the copy of a part was entered, its ports being on these channels of the copy above; `inside` are the copies from it up
 pub record CopyOn (levels : List Level) (ports : List ℕ) (part : Part) (old new : Draft) (inside : List Level) : Type 0 where
   pub level : Level
   pub inside_is : inside ≡ level ∷ levels
-  pub before_is : level.before ≡ length old.chans.items
+  pub before_is : level.before ≡ length old.chans
   pub ports_are : level.ports.now ≡ ports
   pub entered : Entered old new part (length part.ports.items)
 
 -- there is no place for one component more with so many ends
 abbrev pub IsFull : Draft → ℕ → Type 0
-IsFull d ends = (most_comps ≤ length d.comps.items) ⊎ (most_ends < d.ends + ends)
+IsFull d ends = (most_comps ≤ length d.comps) ⊎ (most_ends < d.ends + ends)

@@ -80,7 +80,7 @@ fn check_parts(
     ensures err { IfErr result (λ e. (e ≡ Memory) ⊎ RefusesPart parts.now part.now e) }
 {
     let is_big = is_too_big(part, total);
-    let (least, readings) = read_parts(alloc, parts, totals, marks)?;
+    let (least, readings) = read_parts(alloc, parts, totals, number, marks)?;
     match least {
         Some(found) => {
             if found.fault.order() < 8 {

@@ -30,7 +30,7 @@ pub fn elaborate(alloc: Global, parts: &Parts, top: &[u8]) -> Result<Flat, ElabE
     let draft = net_of(alloc, parts, read, number, part)?;
     let ends = wire(
         alloc,
-        draft.comps.as_slice(),
+        &draft.comps,
         part.ports.as_slice(),
         draft.chans.len() as u32,
     )?;

@@ -9,6 +9,7 @@ ghost use Rattle.bz_elab.specs.Seats.{ChansFit, CompsFit, WellEnded, WiringFault
 
 use crate::error::ElabError;
 use crate::flat::{Ends, FlatComp};
+use bz_arena::{Arena, Id};
 use bz_kind_table::is_passive;
 use bz_model::Port;
 use std::alloc::Global;
@@ -17,7 +18,7 @@ use std::alloc::Global;
 /// one at an external port.
 pub fn wire(
     alloc: Global,
-    comps: &[FlatComp],
+    comps: &Arena<FlatComp>,
     ports: &[Port],
     chans: u32,
 ) -> Result<Vec<Ends>, ElabError>
@@ -51,7 +52,7 @@ pub fn wire(
 }
 
 // The ends of each channel and the least channel with two of one sense, `u32::MAX` where there is none.
-fn table(alloc: Global, comps: &[FlatComp], chans: u32) -> Result<(Vec<Ends>, u32), ElabError>
+fn table(alloc: Global, comps: &Arena<FlatComp>, chans: u32) -> Result<(Vec<Ends>, u32), ElabError>
     requires { CompsFit chans (sites_of comps.now) }
     ensures ok { IfOk result (λ r. (length r.0.items ≡ chans) × Seated (sites_of comps.now) (Passed (length comps.now + 1) 0) r.0.items r.1) }
     ensures err { IfErr result (λ e. e ≡ Memory) }
@@ -64,7 +65,8 @@ fn table(alloc: Global, comps: &[FlatComp], chans: u32) -> Result<(Vec<Ends>, u3
     };
     let mut ends = vec![in alloc; none; chans as usize]?;
     let mut least = u32::MAX;
-    for (i, comp) in comps.iter().enumerate() {
+    for i in 0..comps.len() {
+        let comp = comps.get(Id::at(i));
         least = seat_comp(ends.as_mut_slice(), least, comp, i as u32 + 1);
     }
     Ok((ends, least))

@@ -18,6 +18,7 @@ use crate::error::{ElabError, Fault, Spot};
 use crate::reading::{Instance, Item, Reading};
 use crate::totals::{Total, is_bare};
 use crate::walk::{MOST_INSTANCES, find};
+use bz_arena::Arena;
 use bz_breeze::{Component, Part, Parts};
 use bz_model::Chan;
 use std::alloc::{AllocError, Global};
@@ -47,10 +48,12 @@ impl Found {
 }
 
 /// What was read of the marked parts, and the first fault in the order of refusals, at its least place, of their components.
+/// Leaves are placed for the part at `top` alone.
 pub fn read_parts(
     alloc: Global,
     parts: &Parts,
     totals: &[Option<Total>],
+    top: usize,
     marks: &[bool],
 ) -> Result<(Option<Found>, Vec<Reading>), ElabError>
     requires whole { All HasPortChannels parts.now }
@@ -65,11 +68,20 @@ pub fn read_parts(
     let mut readings = Vec::with_capacity(alloc, list.len())?;
     for (number, part) in list.iter().enumerate() {
         let mut reading = Reading {
-            leaves: Vec::new(alloc),
+            leaves: Arena::new(alloc),
             items: Vec::new(alloc),
         };
         if marks[number] {
-            least = read_part(alloc, parts, totals, number, part, least, &mut reading)?;
+            least = read_part(
+                alloc,
+                parts,
+                totals,
+                number,
+                part,
+                number == top,
+                least,
+                &mut reading,
+            )?;
         }
         readings.push(reading)?;
     }
@@ -83,6 +95,7 @@ fn read_part(
     totals: &[Option<Total>],
     number: usize,
     part: &Part,
+    is_top: bool,
     before: Option<Found>,
     reading: &mut Reading,
 ) -> Result<Option<Found>, ElabError>
@@ -99,7 +112,7 @@ fn read_part(
     for (place, component) in part.components.iter().enumerate() {
         match look(alloc, parts, totals, part.channels.as_slice(), component)? {
             Seen::Nothing => {}
-            Seen::Adds(item) => add_item(reading, item)?,
+            Seen::Adds(item) => add_item(reading, is_top, item)?,
             Seen::Wrong(fault) => {
                 let spot = Spot {
                     part: number,
@@ -112,15 +125,17 @@ fn read_part(
     Ok(least)
 }
 
-// One more component of a part.
-fn add_item(reading: &mut Reading, item: Item) -> Result<(), AllocError>
+// One more component of a part. A leaf of the top before its first instance is placed where it may stay.
+fn add_item(reading: &mut Reading, is_top: bool, item: Item) -> Result<(), AllocError>
     ensures { OnOk result (told reading.new ≡ told reading.old ++ item ∷ []) }
 {
     match item {
-        Item::Leaf(leaf) if reading.items.is_empty() => reading.leaves.push(leaf)?,
-        item => reading.items.push(item)?,
+        Item::Leaf(leaf) if is_top && reading.items.is_empty() => match reading.leaves.push(leaf) {
+            Ok(_) => Ok(()),
+            Err(_) => Err(AllocError),
+        },
+        item => Ok(reading.items.push(item)?),
     }
-    Ok(())
 }
 
 // Looks at a component.

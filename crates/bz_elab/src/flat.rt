@@ -7,7 +7,8 @@ ghost use Rattle.bz_elab.specs.Flats.{site_of, wiring_of};
 ghost use Rattle.bz_elab.specs.Wires.{WellWired, EndsOf};
 
 use crate::error::ElabError;
-use bz_model::{Chan, Kind, Port, dup_ports, number_of, numbered};
+use bz_arena::{Arena, Id};
+use bz_model::{Chan, Kind, Port, dup_chans, dup_ports, node_of, number_of, numbered};
 use std::alloc::{AllocError, Global};
 use std::marker::Model;
 
@@ -33,8 +34,8 @@ pub struct Ends {
 /// What a flat net is made of. Channel, component and port number k is the one at place k - 1, and port k is channel k.
 #[derive(Drop)]
 pub struct Pieces {
-    pub chans: Vec<Chan>,
-    pub comps: Vec<FlatComp>,
+    pub chans: Arena<Chan>,
+    pub comps: Arena<FlatComp>,
     pub ports: Vec<Port>,
     pub ends: Vec<Ends>,
 }
@@ -42,8 +43,8 @@ pub struct Pieces {
 /// The flat net of a part. Its channels, components and ports count from 1, and port k is channel k.
 #[derive(Drop)]
 pub struct Flat {
-    chans: Vec<Chan>,
-    comps: Vec<FlatComp>,
+    chans: Arena<Chan>,
+    comps: Arena<FlatComp>,
     ports: Vec<Port>,
     ends: Vec<Ends>,
 }
@@ -54,17 +55,17 @@ impl Model for Flat {
 
     ghost Value = { Plan };
 
-    ghost view = { λ f. record { wiring = wiring_of f.chans.items f.comps.items f.ports.items; ends = f.ends.items } };
+    ghost view = { λ f. record { wiring = wiring_of f.chans f.comps f.ports.items; ends = f.ends.items } };
 
-    ghost invariant = { λ f. WellWired (wiring_of f.chans.items f.comps.items f.ports.items) × EndsOf (wiring_of f.chans.items f.comps.items f.ports.items) f.ends.items };
+    ghost invariant = { λ f. WellWired (wiring_of f.chans f.comps f.ports.items) × EndsOf (wiring_of f.chans f.comps f.ports.items) f.ends.items };
 }
 
 impl Flat {
     // The net of these pieces.
     pub(crate) fn of(pieces: Pieces) -> Flat
-        requires wired { WellWired (wiring_of pieces.chans.items pieces.comps.items pieces.ports.items) }
-        requires ends_of { EndsOf (wiring_of pieces.chans.items pieces.comps.items pieces.ports.items) pieces.ends.items }
-        ensures wiring { result.wiring ≡ wiring_of pieces.chans.items pieces.comps.items pieces.ports.items }
+        requires wired { WellWired (wiring_of pieces.chans pieces.comps pieces.ports.items) }
+        requires ends_of { EndsOf (wiring_of pieces.chans pieces.comps pieces.ports.items) pieces.ends.items }
+        ensures wiring { result.wiring ≡ wiring_of pieces.chans pieces.comps pieces.ports.items }
         ensures ends { result.ends ≡ pieces.ends.items }
     {
         Flat {
@@ -101,7 +102,7 @@ impl Flat {
     pub fn chan(&self, chan: u32) -> Option<Chan>
         ensures { result ≡ channel self.now.wiring.chans chan }
     {
-        numbered(&self.chans, chan).copied()
+        node_of(&self.chans, chan).copied()
     }
 
     pub fn comp_count(&self) -> u32
@@ -114,7 +115,7 @@ impl Flat {
     pub fn comp(&self, comp: u32) -> Option<&FlatComp>
         ensures { option_map site_of (option_copied result) ≡ numbered self.now.wiring.sites comp }
     {
-        numbered(&self.comps, comp)
+        node_of(&self.comps, comp)
     }
 
     /// The components at the ends of a channel and their ports there, if there is such a channel.
@@ -129,7 +130,7 @@ impl Flat {
         ensures ok { IfOk result (λ f. f ≡ self.now) }
         ensures err { IfErr result (λ e. e ≡ ElabError.Memory) }
     {
-        let chans = Vec::from_slice(alloc, &self.chans)?;
+        let chans = dup_chans(alloc, &self.chans)?;
         let comps = dup_comps(alloc, &self.comps)?;
         let ports = dup_ports(alloc, &self.ports)?;
         let ends = Vec::from_slice(alloc, &self.ends)?;
@@ -143,10 +144,10 @@ impl Flat {
 
     /// What the net is made of.
     pub fn into_pieces(self) -> Pieces
-        ensures wiring { self.wiring ≡ wiring_of result.chans.items result.comps.items result.ports.items }
+        ensures wiring { self.wiring ≡ wiring_of result.chans result.comps result.ports.items }
         ensures ends { self.ends ≡ result.ends.items }
-        ensures wired { WellWired (wiring_of result.chans.items result.comps.items result.ports.items) }
-        ensures ends_of { EndsOf (wiring_of result.chans.items result.comps.items result.ports.items) result.ends.items }
+        ensures wired { WellWired (wiring_of result.chans result.comps result.ports.items) }
+        ensures ends_of { EndsOf (wiring_of result.chans result.comps result.ports.items) result.ends.items }
     {
         Pieces {
             chans: self.chans,
@@ -158,18 +159,23 @@ impl Flat {
 }
 
 /// The same components.
-pub fn dup_comps(alloc: Global, comps: &[FlatComp]) -> Result<Vec<FlatComp>, AllocError>
-    ensures { IfOk result (λ v. map site_of v.items ≡ map site_of comps.now) }
+pub fn dup_comps(alloc: Global, comps: &Arena<FlatComp>) -> Result<Arena<FlatComp>, AllocError>
+    ensures { IfOk result (λ same. map site_of same ≡ map site_of comps.now) }
 {
-    let mut same = Vec::new(alloc);
-    for comp in comps {
+    let mut same = Arena::new(alloc);
+    for place in 0..comps.len() {
+        let comp = comps.get(Id::at(place));
         let kind = comp.kind.dup()?;
         let chans = Vec::from_slice(alloc, &comp.chans)?;
-        same.push(FlatComp {
+        let copy = FlatComp {
             kind,
             sizes: comp.sizes,
             chans,
-        })?;
+        };
+        match same.push(copy) {
+            Ok(_) => {}
+            Err(_) => return Err(AllocError),
+        }
     }
     Ok(same)
 }

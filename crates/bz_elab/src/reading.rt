@@ -1,6 +1,7 @@
 //! The parts as they were read: what each component is, told once for all copies of its part.
 
 use crate::flat::FlatComp;
+use bz_arena::Arena;
 
 /// A component that adds something to the net, by the numbers that its part's channels have in that part.
 #[derive(Drop)]
@@ -20,8 +21,8 @@ pub struct Instance {
 /// The components of a part, in order, but for those that add nothing to the net.
 #[derive(Drop)]
 pub struct Reading {
-    /// Those before its first instance.
-    pub leaves: Vec<FlatComp>,
-    /// Those from its first instance on.
+    /// Of the top, those before its first instance.
+    pub leaves: Arena<FlatComp>,
+    /// All others.
     pub items: Vec<Item>,
 }

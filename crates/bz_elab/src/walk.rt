@@ -14,6 +14,7 @@ ghost use Rattle.bz_elab.specs.Growth.{net_number, FitsNet, Entered, Flattened, 
 use crate::error::ElabError;
 use crate::flat::FlatComp;
 use crate::reading::{Item, Reading};
+use bz_arena::{Arena, Id};
 use bz_breeze::{Part, Parts};
 use bz_model::Chan;
 use std::alloc::{AllocError, Global};
@@ -33,8 +34,8 @@ pub const MOST_INSTANCES: u32 = 64;
 /// The net so far, and how many ends its components have.
 #[derive(Drop)]
 pub struct Draft {
-    pub chans: Vec<Chan>,
-    pub comps: Vec<FlatComp>,
+    pub chans: Arena<Chan>,
+    pub comps: Arena<FlatComp>,
     pub ends: usize,
 }
 
@@ -58,33 +59,39 @@ pub fn find(parts: &Parts, name: &[u8]) -> Option<usize>
 fn push_chan(draft: &mut Draft, chan: Chan) -> Result<u32, ElabError>
     requires { Within draft.old }
     ensures within { Within draft.new }
-    ensures number { IfOk result (λ k. k ≡ length draft.old.chans.items + 1) }
-    ensures chans { OnOk result (draft.new.chans.items ≡ draft.old.chans.items ++ chan ∷ []) }
-    ensures comps { draft.new.comps.items ≡ draft.old.comps.items }
+    ensures number { IfOk result (λ k. k ≡ length draft.old.chans + 1) }
+    ensures chans { OnOk result (draft.new.chans ≡ draft.old.chans ++ chan ∷ []) }
+    ensures comps { draft.new.comps ≡ draft.old.comps }
     ensures ends { draft.new.ends ≡ draft.old.ends }
-    ensures err { IfErr result (λ e. (e ≡ Memory) ⊎ ((e ≡ TooBig) × (most_chans ≤ length draft.old.chans.items))) }
+    ensures err { IfErr result (λ e. (e ≡ Memory) ⊎ ((e ≡ TooBig) × (most_chans ≤ length draft.old.chans))) }
 {
     if draft.chans.len() >= MOST_CHANNELS {
         return Err(ElabError::TooBig);
     }
-    draft.chans.push(chan)?;
-    Ok(draft.chans.len() as u32)
+    match draft.chans.push(chan) {
+        Ok(_) => Ok(draft.chans.len() as u32),
+        Err(_) => Err(ElabError::Memory),
+    }
 }
 
 fn push_comp(draft: &mut Draft, comp: FlatComp) -> Result<(), ElabError>
     requires { Within draft.old }
     ensures within { Within draft.new }
-    ensures ok { OnOk result ((draft.new.comps.items ≡ draft.old.comps.items ++ comp ∷ []) × (draft.new.ends ≡ draft.old.ends + length comp.chans.items)) }
-    ensures chans { draft.new.chans.items ≡ draft.old.chans.items }
-    ensures err { IfErr result (λ e. (e ≡ Memory) ⊎ ((e ≡ TooBig) × ((most_comps ≤ length draft.old.comps.items) ⊎ (most_ends < draft.old.ends + length comp.chans.items)))) }
+    ensures ok { OnOk result ((draft.new.comps ≡ draft.old.comps ++ comp ∷ []) × (draft.new.ends ≡ draft.old.ends + length comp.chans.items)) }
+    ensures chans { draft.new.chans ≡ draft.old.chans }
+    ensures err { IfErr result (λ e. (e ≡ Memory) ⊎ ((e ≡ TooBig) × ((most_comps ≤ length draft.old.comps) ⊎ (most_ends < draft.old.ends + length comp.chans.items)))) }
 {
     if draft.comps.len() >= MOST_COMPONENTS || comp.chans.len() > MOST_ENDS - draft.ends {
         return Err(ElabError::TooBig);
     }
     let ends = draft.ends + comp.chans.len();
-    draft.comps.push(comp)?;
-    draft.ends = ends;
-    Ok(())
+    match draft.comps.push(comp) {
+        Ok(_) => {
+            draft.ends = ends;
+            Ok(())
+        }
+        Err(_) => Err(ElabError::Memory),
+    }
 }
 
 // The number in the net of a channel of a copy. A port is a channel of the copy above, whatever that is there.
@@ -131,7 +138,7 @@ fn enter(draft: &mut Draft, part: &Part, ports: usize) -> Result<(), ElabError>
     requires ports { ports ≤ length part.now.channels.items }
     ensures within { Within draft.new }
     ensures ok { OnOk result (Entered draft.old draft.new part.now ports) }
-    ensures err { IfErr result (λ e. (e ≡ Memory) ⊎ ((e ≡ TooBig) × (most_chans < length draft.old.chans.items + (length part.now.channels.items - ports)))) }
+    ensures err { IfErr result (λ e. (e ≡ Memory) ⊎ ((e ≡ TooBig) × (most_chans < length draft.old.chans + (length part.now.channels.items - ports)))) }
 {
     for i in ports..part.channels.len() {
         push_chan(draft, part.channels[i])?;
@@ -171,7 +178,7 @@ fn add_copy<'r>(
     requires draft { Within draft.old }
     ensures within { Within draft.new }
     ensures ok { IfOk result (λ v. CopyOn levels.now ports.now inner.now draft.old draft.new v.items) }
-    ensures err { IfErr result (λ e. (e ≡ Memory) ⊎ ((e ≡ TooBig) × (most_chans < length draft.old.chans.items + (length inner.now.channels.items - length inner.now.ports.items)))) }
+    ensures err { IfErr result (λ e. (e ≡ Memory) ⊎ ((e ≡ TooBig) × (most_chans < length draft.old.chans + (length inner.now.channels.items - length inner.now.ports.items)))) }
 {
     let before = draft.chans.len() as u32;
     enter(draft, inner, inner.ports.len())?;
@@ -196,7 +203,7 @@ fn flatten<'r>(
 ) -> Result<(), ElabError>
     requires whole { All HasPortChannels parts.now }
     requires part_is { slice_get parts.now number ≡ Some part.now }
-    requires levels { FitsNet levels.now (length part.now.channels.items) (length draft.old.chans.items) }
+    requires levels { FitsNet levels.now (length part.now.channels.items) (length draft.old.chans) }
     requires read { IsReadBelow parts.now number readings.now }
     requires short { IsShort parts.now part.now depth }
     requires draft { Within draft.old }
@@ -207,7 +214,8 @@ fn flatten<'r>(
     ensures early { IfErr result (λ e. rank e ≤ 10) }
 {
     let reading = &readings[number];
-    for leaf in &reading.leaves {
+    for place in 0..reading.leaves.len() {
+        let leaf = reading.leaves.get(Id::at(place));
         add_leaf(alloc, leaf, levels, draft)?;
     }
     for item in &reading.items {
@@ -236,18 +244,19 @@ fn flatten<'r>(
 }
 
 // How many ends components have, unless they or their ends are too many for a net.
-fn ends_of(comps: &[FlatComp]) -> Option<usize>
+fn ends_of(comps: &Arena<FlatComp>) -> Option<usize>
     ensures { IfSome result (λ n. (n ≡ ends_of comps.now) × (n ≤ most_ends) × (length comps.now ≤ most_comps)) }
 {
     if comps.len() > MOST_COMPONENTS {
         return None;
     }
     let mut ends = 0;
-    for comp in comps {
-        if comp.chans.len() > MOST_ENDS - ends {
+    for place in 0..comps.len() {
+        let more = comps.get(Id::at(place)).chans.len();
+        if more > MOST_ENDS - ends {
             return None;
         }
-        ends += comp.chans.len();
+        ends += more;
     }
     Some(ends)
 }
@@ -270,8 +279,8 @@ pub fn net_of(
     ensures early { IfErr result (λ e. rank e ≤ 10) }
 {
     let mut draft = Draft {
-        chans: Vec::new(alloc),
-        comps: Vec::new(alloc),
+        chans: Arena::new(alloc),
+        comps: Arena::new(alloc),
         ends: 0,
     };
     enter(&mut draft, part, 0)?;
@@ -288,16 +297,16 @@ pub fn net_of(
 
 // What was read of a part that has no instance, taken for the net's own, and how many ends these components have. None where
 // there is an instance, or too much for a net.
-fn own_leaves(readings: &mut Vec<Reading>, number: usize) -> Option<(Vec<FlatComp>, usize)>
+fn own_leaves(readings: &mut Vec<Reading>, number: usize) -> Option<(Arena<FlatComp>, usize)>
     requires { number < length readings.old.items }
-    ensures own { IfSome result (λ p. AreOwn readings.old.items number p.0.items p.1) }
+    ensures own { IfSome result (λ p. AreOwn readings.old.items number p.0 p.1) }
     ensures kept { IfNone result (readings.new.items ≡ readings.old.items) }
 {
     let top = &readings[number];
     if !top.items.is_empty() {
         return None;
     }
-    let ends = ends_of(top.leaves.as_slice())?;
+    let ends = ends_of(&top.leaves)?;
     Some((readings.swap_remove(number).leaves, ends))
 }
 
@@ -312,7 +321,7 @@ fn flatten_top(
 ) -> Result<(), ElabError>
     requires whole { All HasPortChannels parts.now }
     requires part_is { slice_get parts.now number ≡ Some part.now }
-    requires levels { FitsNet [] (length part.now.channels.items) (length draft.old.chans.items) }
+    requires levels { FitsNet [] (length part.now.channels.items) (length draft.old.chans) }
     requires read { IsReadBelow parts.now number readings.now }
     requires short { IsShort parts.now part.now most_instances }
     requires draft { Within draft.old }

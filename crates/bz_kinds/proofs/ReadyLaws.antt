@@ -20,6 +20,7 @@ use Rattle.bz_kinds.specs.declared.row.Plan.{Plan}
 use Rattle.bz_kinds.specs.declared.row.Plan.TheVariants.{InTurn, Together, Once, Cells, Signalled, Select, Indexed, OneByOne, Choice, Meeting, Decision, Bar}
 use Rattle.bz_kinds.specs.Row.{Due, is_open}
 use Rattle.bz_kinds.specs.Comp.{todo_of, IsAt, plan_due, places}
+use Rattle.bz_kinds.specs.Kept.{plan_of}
 use Rattle.bz_kinds.specs.Start.{IsShapeOf}
 use Rattle.bz_kinds.specs.declared.shape.Shape.{Shape}
 use Rattle.bz_kinds.specs.declared.row.Script.TheVariants.{Loop, While, Halt}
@@ -308,7 +309,7 @@ module _ (plan : Plan) (n left : ℕ) (w : List ℕ) (s : Store) (chans : List C
       alternates plan n left p (get_or w p 0) (due_of h) due ∙ ap not (sym (get_or-map is_open w p 0)) ∙ ap (λ (d : Component). not (open_at d p)) view
 
 -- as many ports as channels
-pub ports_count : (kind : Kind) (sizes : List ℕ) (chans ks : List Chan) (shape : Shape) → MeetsRow kind sizes chans → IsShapeOf kind sizes chans shape → ks ≡ chans → places shape.plan shape.legs ≡ suc (length ks)
+pub ports_count : (kind : Kind) (sizes : List ℕ) (chans ks : List Chan) (shape : Shape) → MeetsRow kind sizes chans → IsShapeOf kind sizes chans shape → ks ≡ chans → places (plan_of shape.plan) shape.legs ≡ suc (length ks)
 ports_count kind sizes chans ks shape meets is same =
     let ps = ports_of (row_of kind) sizes in
     let e : length chans ≡ length ps = sym (length-map chans (λ (k : Chan). k.kind)) ∙ ap length meets.kinds_are ∙ length-map ps (λ (r : PortRow). r.kind) in

@@ -33,14 +33,12 @@ mix_of mix.Choice = record { into = 1; leg = leg Nothing 1; answer = Nothing; ow
 mix_of mix.Mux = record { into = 0; leg = leg (Slot 0) 1; answer = Nothing; own = false }
 mix_of mix.Demux = record { into = 1; leg = leg Nothing 0; answer = Slot 0; own = false }
 mix_of mix.Arbiter = record { into = 1; leg = leg Nothing 1; answer = Nothing; own = true }
-mix_of (mix.Own it) = it.value
 
 abbrev pub meet_of : KeptMeet → Meet
 meet_of meet.Meeting = record { leg = None; answer = Nothing; gives = false }
 meet_of meet.PushMeeting = record { leg = None; answer = Slot 0; gives = true }
 meet_of meet.CallMeeting = record { leg = Some (leg Nothing 1); answer = Nothing; gives = false }
 meet_of meet.PullMeeting = record { leg = Some (leg Nothing 0); answer = Slot 0; gives = false }
-meet_of (meet.Own it) = it.value
 
 abbrev pub plan_of : KeptPlan → Plan
 plan_of (kept.InTurn it) = InTurn (row_of it)

@@ -13,12 +13,14 @@ ghost use Rattle.bz_kinds.specs.Moves.{AreEnabled};
 ghost use Rattle.bz_kinds.specs.Ready.{AreReady};
 ghost use Rattle.bz_kinds.specs.Start.{BeginsAt, IsAllDue, IsDueBut, AreMembersDue};
 ghost use Rattle.bz_kinds.specs.Kept.{plan_of};
+ghost use Rattle.bz_kinds.specs.KeptLists.{slots_of};
 ghost use Rattle.bz_kinds.specs.Comp.{IsAt, IsDue, IsFor, Goes, plan_due};
 
-use crate::kept::{KeptPlan, keep};
+use crate::kept::KeptPlan;
+use crate::kept_lists::{KeptChans, KeptSlots};
 use crate::move_iter::MoveIter;
 use crate::ports::{CLOSED, CLOSED_DUE, Ports};
-use crate::row::{DueMove, Plan};
+use crate::row::DueMove;
 use crate::sense::{move_at, sense_word};
 use crate::shape::shape_of;
 use crate::{
@@ -38,8 +40,8 @@ pub struct Comp {
     left: u32,
     ports: Ports,
     passive: u64,
-    slots: Vec<Value>,
-    chans: Vec<Chan>,
+    slots: KeptSlots,
+    chans: KeptChans,
 }
 
 impl Model for Comp {
@@ -56,12 +58,13 @@ impl Model for Comp {
 
     ghost use Rattle.bz_kinds.specs.Comp.{todo_of, IsAt, places};
     ghost use Rattle.bz_kinds.specs.Kept.{plan_of};
+    ghost use Rattle.bz_kinds.specs.KeptLists.{chans_of, slots_of};
     ghost use Rattle.bz_kinds.specs.Row.{is_open};
     ghost use Rattle.bz_kinds.specs.Ready.{IsSensed};
 
-    ghost view = { λ c. record { proc = record { todo = todo_of (plan_of c.plan) c.size c.left c.ports; store = c.slots.items }; chans = c.chans.items; open_ports = map is_open c.ports } };
+    ghost view = { λ c. record { proc = record { todo = todo_of (plan_of c.plan) c.size c.left c.ports; store = slots_of c.slots }; chans = chans_of c.chans; open_ports = map is_open c.ports } };
 
-    ghost invariant = { λ c. IsAt (plan_of c.plan) c.size c.left c.ports c.slots.items × ((c.size < 2 ^ 30) × IsSensed (plan_of c.plan) c.size 0 c.passive × (places (plan_of c.plan) c.size ≡ suc (length c.chans.items))) × ((bits : ℕ) × Sends c.chans.items bits (todo_of (plan_of c.plan) c.size c.left c.ports)) };
+    ghost invariant = { λ c. IsAt (plan_of c.plan) c.size c.left c.ports (slots_of c.slots) × ((c.size < 2 ^ 30) × IsSensed (plan_of c.plan) c.size 0 c.passive × (places (plan_of c.plan) c.size ≡ suc (length (chans_of c.chans)))) × ((bits : ℕ) × Sends (chans_of c.chans) bits (todo_of (plan_of c.plan) c.size c.left c.ports)) };
 }
 
 /// A component of this kind at its start, with arrays of these lengths, on these channels in the order of its ports.
@@ -71,14 +74,13 @@ pub fn start(alloc: Global, kind: &Kind, sizes: [u32; 2], chans: &[Chan]) -> Res
     ensures fitted { IfOk result (λ c. Fitted c) }
     ensures memory { IfErr result (λ e. e ≡ Memory) }
 {
-    let shape = shape_of(kind, sizes, chans)?;
+    let shape = shape_of(alloc, kind, sizes, chans)?;
     let ports = first_ports(alloc, &shape.plan, shape.legs)?;
-    let slots = vec![in alloc; 0; shape.slots as usize]?;
-    let chans = chans.to_vec(alloc)?;
-    let plan = keep(alloc, shape.plan)?;
-    let passive = sense_word(&plan, shape.legs, 0);
+    let slots = KeptSlots::new(alloc, shape.slots)?;
+    let chans = KeptChans::of(alloc, chans)?;
+    let passive = sense_word(&shape.plan, shape.legs, 0);
     Ok(Comp {
-        plan,
+        plan: shape.plan,
         size: shape.legs,
         left: 0,
         ports,
@@ -117,7 +119,7 @@ pub fn apply(comp: &mut Comp, port: u32, phase: Phase) -> (Move, Option<Value>)
         unreachable!()
     };
     let incoming = phase.incoming(due.mv);
-    let value = carried(&due, &comp.slots, incoming);
+    let value = carried(&due, comp.slots.get(), incoming);
     store(&mut comp.slots, due.into, incoming);
     advance(
         &comp.plan,
@@ -125,7 +127,7 @@ pub fn apply(comp: &mut Comp, port: u32, phase: Phase) -> (Move, Option<Value>)
         &mut comp.left,
         &mut comp.ports,
         port,
-        &comp.slots,
+        comp.slots.get(),
     );
     (due.mv, value)
 }
@@ -164,8 +166,8 @@ pub fn dup(alloc: Global, comp: &Comp) -> Result<Comp, KindError>
 {
     let plan = comp.plan.dup(alloc)?;
     let ports = comp.ports.dup(alloc)?;
-    let slots = comp.slots.to_vec(alloc)?;
-    let chans = comp.chans.to_vec(alloc)?;
+    let slots = comp.slots.dup(alloc)?;
+    let chans = comp.chans.dup(alloc)?;
     Ok(Comp {
         plan,
         size: comp.size,
@@ -178,30 +180,30 @@ pub fn dup(alloc: Global, comp: &Comp) -> Result<Comp, KindError>
 }
 
 // The ports of a plan at its start.
-fn first_ports(alloc: Global, plan: &Plan, legs: u32) -> Result<Ports, AllocError>
+fn first_ports(alloc: Global, plan: &KeptPlan, legs: u32) -> Result<Ports, AllocError>
     requires small { legs < 2 ^ 30 }
-    requires is_for { IsFor plan.now legs }
-    ensures { IfOk result (BeginsAt plan.now legs) }
+    requires is_for { IsFor (plan_of plan.now) legs }
+    ensures { IfOk result (BeginsAt (plan_of plan.now) legs) }
 {
     match plan {
-        Plan::InTurn(_) => first_only(alloc, legs as usize + 2),
-        Plan::Together(_) => first_only(alloc, legs as usize + 2),
-        Plan::Once(_) => first_only(alloc, legs as usize + 2),
-        Plan::Cells => from_first(alloc, legs as usize + 2),
-        Plan::Select(_) => first_only(alloc, legs as usize + 2),
-        Plan::Indexed(_) => first_only(alloc, legs as usize + 3),
-        Plan::OneByOne(script) => first_only(alloc, script::places(*script)),
-        Plan::Signalled => all_but(alloc, legs as usize + 3, 2),
-        Plan::Choice(mix) => {
-            let count = legs as usize + choice::actives(mix, legs) as usize + 1;
+        KeptPlan::InTurn(_) => first_only(alloc, legs as usize + 2),
+        KeptPlan::Together(_) => first_only(alloc, legs as usize + 2),
+        KeptPlan::Once(_) => first_only(alloc, legs as usize + 2),
+        KeptPlan::Cells => from_first(alloc, legs as usize + 2),
+        KeptPlan::Select(_) => first_only(alloc, legs as usize + 2),
+        KeptPlan::Indexed(_) => first_only(alloc, legs as usize + 3),
+        KeptPlan::OneByOne(script) => first_only(alloc, script::places(*script)),
+        KeptPlan::Signalled => all_but(alloc, legs as usize + 3, 2),
+        KeptPlan::Choice(mix) => {
+            let count = legs as usize + choice::actives(mix.get(), legs) as usize + 1;
             first_members(alloc, count, legs)
         }
-        Plan::Meeting(meet) => {
-            let count = legs as usize + meeting::actives(meet) as usize + 1;
+        KeptPlan::Meeting(meet) => {
+            let count = legs as usize + meeting::actives(meet.get()) as usize + 1;
             first_members(alloc, count, legs)
         }
-        Plan::Decision => first_only(alloc, 2 * legs as usize + 2),
-        Plan::Bar => first_members(alloc, 2 * legs as usize + 3, 2),
+        KeptPlan::Decision => first_only(alloc, 2 * legs as usize + 2),
+        KeptPlan::Bar => first_members(alloc, 2 * legs as usize + 3, 2),
     }
 }
 
@@ -257,19 +259,11 @@ fn carried(due: &DueMove<'_>, slots: &[Value], incoming: Option<Value>) -> Optio
 }
 
 // Puts a value that came in into its slot.
-fn store(slots: &mut [Value], slot: u32, value: Option<Value>)
-    ensures { slots.new ≡ stored slot value slots.old }
+fn store(slots: &mut KeptSlots, slot: u32, value: Option<Value>)
+    ensures { slots_of slots.new ≡ stored slot value (slots_of slots.old) }
 {
     if let Some(value) = value {
-        put(slots, slot, value);
-    }
-}
-
-fn put(slots: &mut [Value], slot: u32, value: Value)
-    ensures { slots.new ≡ slice_set slots.old slot value }
-{
-    if (slot as usize) < slots.len() {
-        slots[slot as usize] = value;
+        slots.put(slot, value);
     }
 }
 

@@ -3,7 +3,7 @@
 ghost use Rattle.std.specs.Prelude.{◌≡◌, IfOk};
 ghost use Rattle.bz_kinds.specs.Kept.{meet_of, mix_of, plan_of, row_of};
 
-use crate::row::{Meet, Mix, Plan, Row, Script};
+use crate::row::{Meet, Mix, Row, Script};
 use crate::shape::{
     ARBITER, CALL_MEETING, CALLS, CHOICE, DEMUX, FETCHES, MEETING, MUX, PULL_MEETING, PUSH_MEETING,
     PUSHES,
@@ -20,24 +20,22 @@ pub enum KeptRow {
     Own(Box<Row>),
 }
 
-/// A choice, kept in the same way.
-#[derive(Drop)]
+/// A choice by its name.
+#[derive(Clone, Copy)]
 pub enum KeptMix {
     Choice,
     Mux,
     Demux,
     Arbiter,
-    Own(Box<Mix>),
 }
 
-/// A meeting, kept in the same way.
-#[derive(Drop)]
+/// A meeting by its name.
+#[derive(Clone, Copy)]
 pub enum KeptMeet {
     Meeting,
     PushMeeting,
     CallMeeting,
     PullMeeting,
-    Own(Box<Meet>),
 }
 
 /// A plan as a component keeps it: small, since a net has many.
@@ -68,6 +66,21 @@ impl KeptRow {
             KeptRow::Own(row) => row,
         }
     }
+
+    /// The same row.
+    pub fn dup(&self, alloc: Global) -> Result<KeptRow, AllocError>
+        ensures { IfOk result (λ r. row_of r ≡ row_of self.now) }
+    {
+        match self {
+            KeptRow::Calls => Ok(KeptRow::Calls),
+            KeptRow::Pushes => Ok(KeptRow::Pushes),
+            KeptRow::Fetches => Ok(KeptRow::Fetches),
+            KeptRow::Own(row) => {
+                let own = Box::new(alloc, **row)?;
+                Ok(KeptRow::Own(own))
+            }
+        }
+    }
 }
 
 impl KeptMix {
@@ -79,7 +92,6 @@ impl KeptMix {
             KeptMix::Mux => &MUX,
             KeptMix::Demux => &DEMUX,
             KeptMix::Arbiter => &ARBITER,
-            KeptMix::Own(mix) => mix,
         }
     }
 }
@@ -93,99 +105,8 @@ impl KeptMeet {
             KeptMeet::PushMeeting => &PUSH_MEETING,
             KeptMeet::CallMeeting => &CALL_MEETING,
             KeptMeet::PullMeeting => &PULL_MEETING,
-            KeptMeet::Own(meet) => meet,
         }
     }
-}
-
-/// Keeps a plan: what it has in common with others by its name.
-pub fn keep(alloc: Global, plan: Plan) -> Result<KeptPlan, AllocError>
-    ensures { IfOk result (λ p. plan_of p ≡ plan) }
-{
-    match plan {
-        Plan::InTurn(row) => {
-            let row = keep_row(alloc, &row)?;
-            Ok(KeptPlan::InTurn(row))
-        }
-        Plan::Together(row) => {
-            let row = keep_row(alloc, &row)?;
-            Ok(KeptPlan::Together(row))
-        }
-        Plan::Once(row) => {
-            let row = keep_row(alloc, &row)?;
-            Ok(KeptPlan::Once(row))
-        }
-        Plan::Cells => Ok(KeptPlan::Cells),
-        Plan::Signalled => Ok(KeptPlan::Signalled),
-        Plan::Select(spans) => Ok(KeptPlan::Select(spans)),
-        Plan::Indexed(spans) => Ok(KeptPlan::Indexed(spans)),
-        Plan::OneByOne(script) => Ok(KeptPlan::OneByOne(script)),
-        Plan::Choice(mix) => {
-            let mix = keep_mix(alloc, &mix)?;
-            Ok(KeptPlan::Choice(mix))
-        }
-        Plan::Meeting(meet) => {
-            let meet = keep_meet(alloc, &meet)?;
-            Ok(KeptPlan::Meeting(meet))
-        }
-        Plan::Decision => Ok(KeptPlan::Decision),
-        Plan::Bar => Ok(KeptPlan::Bar),
-    }
-}
-
-// Rows that kinds have in common are kept by their names, and so are choices and meetings.
-fn keep_row(alloc: Global, row: &Row) -> Result<KeptRow, AllocError>
-    ensures { IfOk result (λ r. row_of r ≡ row.now) }
-{
-    if *row == CALLS {
-        return Ok(KeptRow::Calls);
-    }
-    if *row == PUSHES {
-        return Ok(KeptRow::Pushes);
-    }
-    if *row == FETCHES {
-        return Ok(KeptRow::Fetches);
-    }
-    let own = Box::new(alloc, *row)?;
-    Ok(KeptRow::Own(own))
-}
-
-fn keep_mix(alloc: Global, mix: &Mix) -> Result<KeptMix, AllocError>
-    ensures { IfOk result (λ m. mix_of m ≡ mix.now) }
-{
-    if *mix == CHOICE {
-        return Ok(KeptMix::Choice);
-    }
-    if *mix == MUX {
-        return Ok(KeptMix::Mux);
-    }
-    if *mix == DEMUX {
-        return Ok(KeptMix::Demux);
-    }
-    if *mix == ARBITER {
-        return Ok(KeptMix::Arbiter);
-    }
-    let own = Box::new(alloc, *mix)?;
-    Ok(KeptMix::Own(own))
-}
-
-fn keep_meet(alloc: Global, meet: &Meet) -> Result<KeptMeet, AllocError>
-    ensures { IfOk result (λ m. meet_of m ≡ meet.now) }
-{
-    if *meet == MEETING {
-        return Ok(KeptMeet::Meeting);
-    }
-    if *meet == PUSH_MEETING {
-        return Ok(KeptMeet::PushMeeting);
-    }
-    if *meet == CALL_MEETING {
-        return Ok(KeptMeet::CallMeeting);
-    }
-    if *meet == PULL_MEETING {
-        return Ok(KeptMeet::PullMeeting);
-    }
-    let own = Box::new(alloc, *meet)?;
-    Ok(KeptMeet::Own(own))
 }
 
 impl KeptPlan {
@@ -195,15 +116,15 @@ impl KeptPlan {
     {
         match self {
             KeptPlan::InTurn(row) => {
-                let row = keep_row(alloc, row.get())?;
+                let row = row.dup(alloc)?;
                 Ok(KeptPlan::InTurn(row))
             }
             KeptPlan::Together(row) => {
-                let row = keep_row(alloc, row.get())?;
+                let row = row.dup(alloc)?;
                 Ok(KeptPlan::Together(row))
             }
             KeptPlan::Once(row) => {
-                let row = keep_row(alloc, row.get())?;
+                let row = row.dup(alloc)?;
                 Ok(KeptPlan::Once(row))
             }
             KeptPlan::Cells => Ok(KeptPlan::Cells),
@@ -217,14 +138,8 @@ impl KeptPlan {
                 Ok(KeptPlan::Indexed(spans))
             }
             KeptPlan::OneByOne(script) => Ok(KeptPlan::OneByOne(*script)),
-            KeptPlan::Choice(mix) => {
-                let mix = keep_mix(alloc, mix.get())?;
-                Ok(KeptPlan::Choice(mix))
-            }
-            KeptPlan::Meeting(meet) => {
-                let meet = keep_meet(alloc, meet.get())?;
-                Ok(KeptPlan::Meeting(meet))
-            }
+            KeptPlan::Choice(mix) => Ok(KeptPlan::Choice(*mix)),
+            KeptPlan::Meeting(meet) => Ok(KeptPlan::Meeting(*meet)),
             KeptPlan::Decision => Ok(KeptPlan::Decision),
             KeptPlan::Bar => Ok(KeptPlan::Bar),
         }

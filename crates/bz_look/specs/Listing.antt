@@ -47,7 +47,7 @@ abbrev pub placed_chan : Survey → ℕ → Chan → Spot → List ℕ
 placed_chan s k chan at = chan_head k chan ++ (ends_text (map external s.net.ports.items) k (ends_in s.net.ends.items k) ++ chan_end s at)
 
 abbrev pub chan_line : Survey → ℕ → Spot → List ℕ
-chan_line s k at = placed_chan s k (chan_in s.net.chans.items k) at
+chan_line s k at = placed_chan s k (chan_in s.net.chans k) at
 
 -- an outer instance, in a path
 abbrev pub stepped : ℕ → List ℕ
@@ -77,10 +77,10 @@ abbrev pub instances_text : Survey → List ℕ
 instances_text s = count_line (codes "instances ") (length s.places.instances) ++ lines (instance_line s) 1 s.places.instances
 
 abbrev pub comps_text : Survey → List ℕ
-comps_text s = count_line (codes "components ") (length (map site_of s.net.comps.items)) ++ lines (comp_line s) 1 (map site_of s.net.comps.items)
+comps_text s = count_line (codes "components ") (length (map site_of s.net.comps)) ++ lines (comp_line s) 1 (map site_of s.net.comps)
 
 abbrev pub inside_text : Survey → List ℕ
 inside_text s = chans_text s ++ (instances_text s ++ comps_text s)
 
 abbrev pub paths_text : Survey → List ℕ → List ℕ
-paths_text s name = head_text name ++ (ports_text s.net.chans.items (map external s.net.ports.items) ++ inside_text s)
+paths_text s name = head_text name ++ (ports_text s.net.chans (map external s.net.ports.items) ++ inside_text s)

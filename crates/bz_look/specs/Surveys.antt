@@ -14,7 +14,7 @@ use Rattle.bz_places.specs.Views.{part_lines_of}
 use Rattle.bz_look.specs.declared.survey.Survey.{Survey}
 
 abbrev pub wiring_in : Survey → Wiring
-wiring_in s = wiring_of s.net.chans.items s.net.comps.items s.net.ports.items
+wiring_in s = wiring_of s.net.chans s.net.comps s.net.ports.items
 
 pub record IsSurvey (text name : List ℕ) (s : Survey) : Type 0 where
   pub forms : List Datum

@@ -14,6 +14,7 @@ ghost use Rattle.bz_commands.specs.Listing.{lines, ports_text};
 ghost use Rattle.bz_look.specs.Listing.{chan_end, chan_head, chan_line, comp_end, comp_line, comp_name, comps_text, count_line, end_text, ends_text, host_holds, inside_text, instance_head, instance_line, instances_text, paths_text, placed_chan, stepped};
 
 use crate::survey::Survey;
+use bz_arena::{Arena, Id};
 use bz_breeze::Part as PartRecord;
 use bz_commands::{carried_parts, put_head, put_ports};
 use bz_elab::{Ends, FlatComp};
@@ -31,7 +32,7 @@ pub(crate) fn put_paths<W: Write>(out: &mut W, name: &[u8], s: &Survey) -> Resul
 }
 
 fn put_body<W: Write>(out: &mut W, s: &Survey) -> Result<(), WriteFault>
-    ensures { Writes (W.contents out.old) (W.contents out.new) result (ports_text s.now.net.chans.items (map external s.now.net.ports.items) ++ inside_text s.now) }
+    ensures { Writes (W.contents out.old) (W.contents out.new) result (ports_text s.now.net.chans (map external s.now.net.ports.items) ++ inside_text s.now) }
 {
     put_ports(out, &s.net.chans, &s.net.ports)?;
     put_inside(out, s)
@@ -65,7 +66,7 @@ fn put_instances<W: Write>(out: &mut W, s: &Survey, places: &[Place]) -> Result<
     put_instance_lines(out, s, places)
 }
 
-fn put_comps<W: Write>(out: &mut W, s: &Survey, comps: &[FlatComp]) -> Result<(), WriteFault>
+fn put_comps<W: Write>(out: &mut W, s: &Survey, comps: &Arena<FlatComp>) -> Result<(), WriteFault>
     requires { length comps.now ≤ 1000000 }
     ensures { Writes (W.contents out.old) (W.contents out.new) result (count_line (codes "components ") (length (map site_of comps.now)) ++ lines (comp_line s.now) 1 (map site_of comps.now)) }
 {
@@ -106,15 +107,15 @@ fn put_chan_line<W: Write>(
 }
 
 // The channel at a place, one without width where there is none.
-fn chan_at(chans: &[Chan], place: usize) -> Chan
+fn chan_at(chans: &Arena<Chan>, place: usize) -> Chan
     ensures { result ≡ chan_in chans.now (place + 1) }
 {
-    match chans.get(place) {
-        Some(chan) => *chan,
-        None => Chan {
-            kind: ChanKind::Sync,
-            width: 0,
-        },
+    if place < chans.len() {
+        return *chans.get(Id::at(place));
+    }
+    Chan {
+        kind: ChanKind::Sync,
+        width: 0,
     }
 }
 
@@ -329,12 +330,16 @@ fn comp_name<'a>(parts: &'a [PartRecord], place: &Place) -> &'a [u8]
     }
 }
 
-fn put_comp_lines<W: Write>(out: &mut W, s: &Survey, comps: &[FlatComp]) -> Result<(), WriteFault>
+fn put_comp_lines<W: Write>(
+    out: &mut W,
+    s: &Survey,
+    comps: &Arena<FlatComp>,
+) -> Result<(), WriteFault>
     requires { length comps.now ≤ 1000000 }
     ensures { Writes (W.contents out.old) (W.contents out.new) result (lines (comp_line s.now) 1 (map site_of comps.now)) }
 {
-    for (i, comp) in comps.iter().enumerate() {
-        put_comp_line(out, s, i, comp)?;
+    for i in 0..comps.len() {
+        put_comp_line(out, s, i, comps.get(Id::at(i)))?;
     }
     Ok(())
 }

@@ -3,7 +3,7 @@
 ghost use Rattle.bz_commands.specs.Reading.{ReadsWithin};
 
 use bz_breeze::{Part as PartRecord, Parts};
-use bz_commands::{Fault, put_ports, read_input};
+use bz_commands::{Fault, put_port, read_input};
 use bz_lines::{Part, WriteFault, put_parts};
 use bz_model::Value;
 use bz_places::{PartLines, lines_of};
@@ -95,7 +95,12 @@ fn put_part<W: Write>(
         Part::Bytes(end),
     ];
     put_parts(out, &parts)?;
-    put_ports(out, &part.channels, &part.ports)
+    for (place, port) in part.ports.iter().enumerate() {
+        if let Some(chan) = part.channels.get(place) {
+            put_port(out, place, port, *chan)?;
+        }
+    }
+    Ok(())
 }
 
 fn put_counts<W: Write>(

@@ -15,6 +15,6 @@ pub struct Survey {
     /// Of each part, in the order of the text.
     pub lines: Vec<PartLines>,
 
-    ghost few: { length net.comps.items ≤ 1000000 },
-    ghost few_chans: { length net.chans.items ≤ 2000000 },
+    ghost few: { length net.comps ≤ 1000000 },
+    ghost few_chans: { length net.chans ≤ 2000000 },
 }

@@ -5,6 +5,7 @@ ghost use Rattle.std.specs.Option.{option_copied, option_map};
 ghost use Rattle.bz_model.specs.Names.{external, port_number, port_name, port_sense, channel, numbered};
 
 use crate::channel::Chan;
+use bz_arena::{Arena, Id};
 use bz_names::NameSet;
 use std::alloc::{AllocError, Global};
 use std::marker::Model;
@@ -20,7 +21,7 @@ pub struct Port {
 #[derive(Drop)]
 pub struct Names {
     ports: Vec<Port>,
-    chans: Vec<Chan>,
+    chans: Arena<Chan>,
     // The names of the ports in order, by which they are found.
     index: Option<NameSet>,
 }
@@ -31,16 +32,16 @@ impl Model for Names {
 
     ghost Value = { Outside };
 
-    ghost view = { λ n. record { ports = map external n.ports.items; chans = n.chans.items } };
+    ghost view = { λ n. record { ports = map external n.ports.items; chans = n.chans } };
 
     ghost invariant = { λ n. (length n.ports.items < 2 ^ 32) × IfSome n.index (λ names. names ≡ map (λ p. p.name.items) n.ports.items) };
 }
 
 impl Names {
     /// The names of a net with these external ports and channels.
-    pub fn new(ports: Vec<Port>, chans: Vec<Chan>) -> Names
+    pub fn new(ports: Vec<Port>, chans: Arena<Chan>) -> Names
         requires { length ports.items < 2 ^ 32 }
-        ensures { result ≡ record { ports = map external ports.items; chans = chans.items } }
+        ensures { result ≡ record { ports = map external ports.items; chans = chans } }
     {
         let index = index_of(*ports.allocator(), &ports);
         Names {
@@ -92,7 +93,7 @@ impl Names {
     pub fn chan(&self, chan: u32) -> Option<Chan>
         ensures { result ≡ channel self.now.chans chan }
     {
-        numbered(&self.chans, chan).copied()
+        node_of(&self.chans, chan).copied()
     }
 
     /// The same names.
@@ -100,7 +101,7 @@ impl Names {
         ensures { IfOk result (λ n. n ≡ self.now) }
     {
         let ports = dup_ports(alloc, &self.ports)?;
-        let chans = Vec::from_slice(alloc, &self.chans)?;
+        let chans = dup_chans(alloc, &self.chans)?;
         Ok(Names::new(ports, chans))
     }
 }
@@ -130,6 +131,20 @@ pub fn dup_ports(alloc: Global, ports: &[Port]) -> Result<Vec<Port>, AllocError>
             name,
             passive: port.passive,
         })?;
+    }
+    Ok(same)
+}
+
+/// The same channels.
+pub fn dup_chans(alloc: Global, chans: &Arena<Chan>) -> Result<Arena<Chan>, AllocError>
+    ensures { IfOk result (λ same. same ≡ chans.now) }
+{
+    let mut same = Arena::new(alloc);
+    for place in 0..chans.len() {
+        match same.push(*chans.get(Id::at(place))) {
+            Ok(_) => {}
+            Err(_) => return Err(AllocError),
+        }
     }
     Ok(same)
 }
@@ -166,4 +181,14 @@ pub fn numbered<T>(items: &[T], number: u32) -> Option<&T>
         return None;
     }
     items.get(number as usize - 1)
+}
+
+/// The node of this number, counted from 1.
+pub fn node_of<T>(nodes: &Arena<T>, number: u32) -> Option<&T>
+    ensures { option_copied result ≡ numbered nodes.now number }
+{
+    if number == 0 || number as usize > nodes.len() {
+        return None;
+    }
+    Some(nodes.get(Id::at(number as usize - 1)))
 }

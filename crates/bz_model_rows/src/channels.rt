@@ -1,5 +1,6 @@
 //! Channels and their phases, what an expression is worth, and ports by name.
 
+use bz_arena::Arena;
 use bz_model::{Chan, ChanKind, Expr, Move, Names, Phase, Port, Value, carries, fits};
 use std::alloc::{AllocError, Global};
 use std::test::Fail;
@@ -138,7 +139,14 @@ fn two_ports(alloc: Global) -> Result<Names, AllocError> {
             passive: false
         },
     ]?;
-    Ok(Names::new(ports, vec![in alloc; SYNC, PULL]?))
+    let mut chans = Arena::new(alloc);
+    for chan in [SYNC, PULL] {
+        match chans.push(chan) {
+            Ok(_) => {}
+            Err(_) => return Err(AllocError),
+        }
+    }
+    Ok(Names::new(ports, chans))
 }
 
 /// The name and the sense of a port, and its channel.

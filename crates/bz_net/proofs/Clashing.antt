@@ -1,5 +1,5 @@
 -- Where requests met: what each entry adds.
-use Rattle.std.proofs.Common.{◌≡◌, ◌≢◌, ◌⊎◌, ◌↔◌, inl, inr, ℕ, zero, suc, ◌-◌, ◌<◌, ◌≤◌, Bool, true, false, Option, Some, None, List, [], ◌∷◌, ◌++◌, length, get_or, slice_index_or, set, replicate, Contains, refl, sym, ap, subst, ◌∙◌, arith}
+use Rattle.std.proofs.Common.{◌≡◌, ◌≢◌, ◌⊎◌, ◌↔◌, inl, inr, ℕ, zero, suc, ◌-◌, ◌<◌, true, Option, List, [], ◌∷◌, ◌++◌, length, slice_index_or, set, replicate, Contains, refl, sym, ap, subst, ◌∙◌, arith}
 use Rattle.bz_model.specs.declared.channel.Phase.{Phase}
 use Rattle.bz_model.specs.declared.channel.Phase.TheVariants.{Idle}
 use Rattle.bz_model.specs.declared.event.Entry.{Entry}

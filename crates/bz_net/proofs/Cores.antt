@@ -1,5 +1,5 @@
 -- What a core keeps is kept by each step and by each host command.
-use Rattle.std.proofs.Common.{◌≡◌, ℕ, suc, ◌+◌, ◌-◌, ◌/◌, ◌<◌, ◌≤◌, ◌^◌, Bool, Option, None, List, [], ◌∷◌, ◌++◌, length, get_or, set, map, replicate, inl, inr, refl, sym, ap, subst, ◌∙◌, arith, length-append}
+use Rattle.std.proofs.Common.{◌≡◌, ℕ, suc, ◌+◌, ◌-◌, ◌/◌, ◌<◌, ◌≤◌, ◌^◌, Bool, Option, None, List, [], ◌∷◌, ◌++◌, length, get_or, map, replicate, inl, inr, sym, ap, subst, ◌∙◌, arith, length-append}
 use Rattle.std.proofs.lemmas.Bool.{cases_eq, cases_lt}
 use Rattle.std.proofs.lemmas.List.{map-set, length-map, get_or_append_left, get_or_past, get_or_push}
 use Rattle.bz_bits.specs.Row.{bit_of}
@@ -11,7 +11,7 @@ use Rattle.bz_model.specs.declared.event.Reply.{Reply}
 use Rattle.bz_model.specs.Phases.{phase_after}
 use Rattle.bz_model.specs.Heads.{Component, HasOneHead, Moves, Proc}
 use Rattle.bz_model.specs.Hosts.{host_after, refusal_at, HostStep}
-use Rattle.bz_model.specs.Nets.{Site, Wiring, State, Step, moved, proc_at, site_at, chan_in}
+use Rattle.bz_model.specs.Nets.{Site, Wiring, State, Step, moved, site_at, chan_in}
 use Rattle.bz_elab.specs.declared.flat.Ends.{Ends}
 use Rattle.bz_elab.specs.declared.flat.FlatComp.{FlatComp}
 use Rattle.bz_elab.specs.Flats.{site_of}

@@ -5,7 +5,7 @@ use Rattle.std.proofs.lemmas.List.{get_or_read}
 use Rattle.bz_model.specs.declared.channel.Move.{Move}
 use Rattle.bz_model.specs.declared.channel.Phase.{Phase}
 use Rattle.bz_model.specs.Heads.{Component, Head, Proc, CanMove, IsHeadOn, Moves}
-use Rattle.bz_model.specs.Nets.{Site, IsPort, Step, StepsAt, chan_at, moved, proc_at}
+use Rattle.bz_model.specs.Nets.{Site, IsPort, chan_at, moved, proc_at}
 use Rattle.bz_model.specs.Phases.{phase_after}
 use Rattle.bz_net.specs.Keeping.{phase_in, proc_of, no_comp, state_of}
 use Rattle.bz_net.specs.Due.{HasMove, TellsDue, Foresees}

@@ -1,5 +1,5 @@
 -- What a net keeps is kept by each event.
-use Rattle.std.proofs.Common.{◌≡◌, ◌↔◌, ℕ, ◌<◌, ◌≤◌, Option, List, [], ◌∷◌, ◌++◌, length, Contains, refl, sym, ap, subst, ◌∙◌, arith, length-append}
+use Rattle.std.proofs.Common.{◌≡◌, ℕ, ◌<◌, Option, List, [], ◌∷◌, ◌++◌, length, refl, subst, ◌∙◌, arith, length-append}
 use Rattle.bz_model.specs.declared.channel.Move.{Move}
 use Rattle.bz_model.specs.declared.event.Entry.{Entry}
 use Rattle.bz_model.specs.declared.event.Entry.TheVariants.{Fired, Host, Rested}

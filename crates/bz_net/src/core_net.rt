@@ -24,14 +24,27 @@ use std::alloc::{AllocError, Global};
 use std::marker::Model;
 
 /// A net in a state, and which components can move.
-#[derive(Drop)]
 pub(crate) struct Core {
     names: Names,
-    sites: Vec<FlatComp>,
+    sites: Arena<FlatComp>,
     ends: Vec<Ends>,
     nodes: Arena<Node>,
     phases: Vec<Phase>,
     ready: ReadySet,
+}
+
+// By hand, so that who lets a net go has one call to show and not all its parts.
+impl Drop for Core {
+    fn drop(self) {
+        let Core {
+            names: _,
+            sites: _,
+            ends: _,
+            nodes: _,
+            phases: _,
+            ready: _,
+        } = self;
+    }
 }
 
 impl Model for Core {
@@ -49,14 +62,14 @@ impl Model for Core {
     ghost use Rattle.bz_net.specs.Nodes.{comps_of, heres_of};
 
     ghost view = { λ n. record {
-      wiring = record { chans = n.names.chans; sites = map site_of n.sites.items; ports = n.names.ports };
+      wiring = record { chans = n.names.chans; sites = map site_of n.sites; ports = n.names.ports };
       state = state_of n.phases.items (comps_of n.nodes);
     } };
 
     ghost use Rattle.bz_net.specs.Core.{CoreSound};
 
     ghost invariant = { λ n. CoreSound
-        (record { chans = n.names.chans; sites = map site_of n.sites.items; ports = n.names.ports })
+        (record { chans = n.names.chans; sites = map site_of n.sites; ports = n.names.ports })
         n.phases.items (comps_of n.nodes) (heres_of n.nodes)
         n.ends.items n.ready.row };
 }

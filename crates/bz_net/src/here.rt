@@ -12,7 +12,7 @@ ghost use Rattle.bz_net.specs.Nodes.{comps_of, heres_of};
 ghost use Rattle.bz_net.specs.Told.{is_here, flag_of, Goes, NoneGoes, GoesFirst, IsTurning, Sighted, AreEnds, AllAreEnds, HasBit, PutEnd, Retold, Turned, StaysSighted, HostSighted};
 
 use crate::moves::reply_to;
-use crate::node::{Node, node_id};
+use crate::node::{Node, node_id, site_in};
 use bz_arena::Arena;
 use bz_bits::PortBits;
 use bz_elab::{Ends, FlatComp};
@@ -79,7 +79,13 @@ fn can_go(comp: &Comp, here: &PortBits, port: u32) -> bool
 }
 
 /// Whether a component has a step. The ports round `port` are looked at first.
-fn can_step(sites: &[FlatComp], phases: &[Phase], nodes: &Arena<Node>, comp: u32, port: u32) -> bool
+fn can_step(
+    sites: &Arena<FlatComp>,
+    phases: &[Phase],
+    nodes: &Arena<Node>,
+    comp: u32,
+    port: u32,
+) -> bool
     requires sighted { Sighted (map site_of sites.now) phases.now (comps_of nodes.now) (heres_of nodes.now) }
     requires from { 0 < comp }
     requires to { comp ≤ length sites.now }
@@ -93,7 +99,7 @@ fn can_step(sites: &[FlatComp], phases: &[Phase], nodes: &Arena<Node>, comp: u32
 
 /// The lowest port at which a component has a step.
 pub(crate) fn lowest_port(
-    sites: &[FlatComp],
+    sites: &Arena<FlatComp>,
     phases: &[Phase],
     nodes: &Arena<Node>,
     comp: u32,
@@ -112,7 +118,7 @@ pub(crate) fn lowest_port(
 /// Tells the ports at both ends of a channel of its phase.
 #[inline(always)]
 pub(crate) fn retell(
-    sites: &[FlatComp],
+    sites: &Arena<FlatComp>,
     nodes: &mut Arena<Node>,
     chan: u32,
     ends: Ends,
@@ -141,7 +147,7 @@ fn tell_end(nodes: &mut Arena<Node>, end: Option<u32>, port: u32, bit: bool)
 
 /// Looks again whether one component can move, round `port` first.
 fn refresh(
-    sites: &[FlatComp],
+    sites: &Arena<FlatComp>,
     phases: &[Phase],
     nodes: &Arena<Node>,
     ready: &mut ReadySet,
@@ -163,7 +169,7 @@ fn refresh(
 
 /// Looks again whether the components at both ends of a channel can move.
 fn refresh_ends(
-    sites: &[FlatComp],
+    sites: &Arena<FlatComp>,
     phases: &[Phase],
     nodes: &Arena<Node>,
     ready: &mut ReadySet,
@@ -186,7 +192,7 @@ fn refresh_ends(
 /// The components that can move.
 pub(crate) fn mark_all(
     alloc: Global,
-    sites: &[FlatComp],
+    sites: &Arena<FlatComp>,
     phases: &[Phase],
     nodes: &Arena<Node>,
 ) -> Result<ReadySet, AllocError>
@@ -206,7 +212,7 @@ pub(crate) fn mark_all(
 /// Answers the channel, the move and its value.
 #[inline(always)]
 pub(crate) fn move_comp(
-    sites: &[FlatComp],
+    sites: &Arena<FlatComp>,
     ends: &[Ends],
     nodes: &mut Arena<Node>,
     phases: &mut [Phase],
@@ -227,7 +233,7 @@ pub(crate) fn move_comp(
     ensures refreshed { RefreshedEnds (map site_of sites.now) (state_of phases.new (comps_of nodes.new))
         ready.old.row ready.new.row (ends_in ends.now result.0) }
 {
-    let chan = sites[comp as usize - 1].chans[port as usize - 1];
+    let chan = site_in(sites, comp).chans[port as usize - 1];
     let phase = phases[chan as usize - 1];
     let (mv, value) = bz_kinds::apply(&mut nodes.get_mut(node_id(comp)).comp, port, phase);
     let next = phase.after(mv, value);
@@ -241,7 +247,7 @@ pub(crate) fn move_comp(
 /// Makes a host command at an external port, tells both ends of its channel, and looks again whether the components there
 /// can move.
 pub(crate) fn command(
-    sites: &[FlatComp],
+    sites: &Arena<FlatComp>,
     ends: &[Ends],
     nodes: &mut Arena<Node>,
     phases: &mut [Phase],

@@ -12,7 +12,7 @@ ghost use Rattle.bz_net.specs.Sides.{answers};
 ghost use Rattle.bz_net.specs.Keeping.{state_of, Placed, ReadsChans};
 ghost use Rattle.bz_net.specs.Nodes.{comps_of};
 
-use crate::node::{Node, node_id};
+use crate::node::{Node, node_id, site_in};
 use crate::noted::Noted;
 use bz_arena::Arena;
 use bz_elab::{Ends, FlatComp};
@@ -21,14 +21,14 @@ use bz_model::{ChanKind, Kind, Move, Names, NetError, Phase, Reply, Value, Verb,
 use std::alloc::{AllocError, Global};
 
 /// The channel at a component's port.
-pub(crate) fn chan_of(sites: &[FlatComp], comp: u32, port: u32) -> Option<u32>
+pub(crate) fn chan_of(sites: &Arena<FlatComp>, comp: u32, port: u32) -> Option<u32>
     ensures { MatchOption result (IsPort (map site_of sites.now) comp port → ⊥)
         (λ k. IsPort (map site_of sites.now) comp port × (k ≡ chan_at (map site_of sites.now) comp port)) }
 {
     if comp == 0 || port == 0 || comp as usize > sites.len() {
         return None;
     }
-    let site = &sites[comp as usize - 1];
+    let site = site_in(sites, comp);
     if port as usize > site.chans.len() {
         return None;
     }
@@ -60,7 +60,7 @@ pub(crate) fn port_in(ends: &[Ends], chan: u32, passive: bool, comp: u32) -> Opt
 
 /// Whether a component has a step at a port.
 pub(crate) fn can_fire(
-    sites: &[FlatComp],
+    sites: &Arena<FlatComp>,
     nodes: &Arena<Node>,
     phases: &[Phase],
     comp: u32,
@@ -83,7 +83,7 @@ pub(crate) fn can_fire(
 
 /// The move that a component has at a port, whether or not it can be made.
 pub(crate) fn due_at(
-    sites: &[FlatComp],
+    sites: &Arena<FlatComp>,
     nodes: &Arena<Node>,
     phases: &[Phase],
     comp: u32,
@@ -102,7 +102,7 @@ pub(crate) fn due_at(
 /// of the component.
 pub(crate) fn foresee(
     alloc: Global,
-    sites: &[FlatComp],
+    sites: &Arena<FlatComp>,
     nodes: &Arena<Node>,
     phases: &[Phase],
     comp: u32,
@@ -134,7 +134,7 @@ fn is_mixer(kind: &Kind) -> bool
 }
 
 /// Whether a component's port is passive and its channel isn't idle.
-fn is_asked(sites: &[FlatComp], phases: &[Phase], comp: u32, port: u32) -> bool
+fn is_asked(sites: &Arena<FlatComp>, phases: &[Phase], comp: u32, port: u32) -> bool
     requires reads { ReadsChans (map site_of sites.now) phases.now }
     ensures { MatchBool result
         (IsAsked (map site_of sites.now) phases.now comp port)
@@ -143,7 +143,7 @@ fn is_asked(sites: &[FlatComp], phases: &[Phase], comp: u32, port: u32) -> bool
     match chan_of(sites, comp, port) {
         None => false,
         Some(chan) => {
-            let site = &sites[comp as usize - 1];
+            let site = site_in(sites, comp);
             is_passive(&site.kind, site.sizes, port)
                 && !matches!(phases[chan as usize - 1], Phase::Idle)
         }
@@ -151,7 +151,7 @@ fn is_asked(sites: &[FlatComp], phases: &[Phase], comp: u32, port: u32) -> bool
 }
 
 /// Whether two requests meet at a component.
-fn has_clash(sites: &[FlatComp], phases: &[Phase], comp: u32) -> bool
+fn has_clash(sites: &Arena<FlatComp>, phases: &[Phase], comp: u32) -> bool
     requires reads { ReadsChans (map site_of sites.now) phases.now }
     requires from { 0 < comp }
     requires to { comp ≤ length sites.now }
@@ -159,10 +159,10 @@ fn has_clash(sites: &[FlatComp], phases: &[Phase], comp: u32) -> bool
         (Clashes (map site_of sites.now) phases.now comp)
         (Clashes (map site_of sites.now) phases.now comp → ⊥) }
 {
-    if !is_mixer(&sites[comp as usize - 1].kind) {
+    if !is_mixer(&site_in(sites, comp).kind) {
         return false;
     }
-    let ports = sites[comp as usize - 1].chans.len() as u32;
+    let ports = site_in(sites, comp).chans.len() as u32;
     let mut found = 0;
     for i in 0..ports {
         if is_asked(sites, phases, comp, i + 1) {
@@ -176,7 +176,12 @@ fn has_clash(sites: &[FlatComp], phases: &[Phase], comp: u32) -> bool
 }
 
 /// Notes the component at the passive end of a channel, where two requests meet there.
-pub(crate) fn note_clash(sites: &[FlatComp], phases: &[Phase], noted: &mut Noted, end: Option<u32>)
+pub(crate) fn note_clash(
+    sites: &Arena<FlatComp>,
+    phases: &[Phase],
+    noted: &mut Noted,
+    end: Option<u32>,
+)
     requires reads { ReadsChans (map site_of sites.now) phases.now }
     requires end { IfSome end (λ c. (0 < c) × (c ≤ length sites.now)) }
     requires most { noted.old.most ≡ length sites.now }

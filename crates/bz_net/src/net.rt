@@ -28,12 +28,22 @@ use std::alloc::{AllocError, Global};
 use std::marker::Model;
 
 /// A net, its journal, and the components at which requests met.
-#[derive(Drop)]
 pub struct Net {
     core: Core,
     noted: Noted,
     journal: Vec<Entry>,
     limit: usize,
+}
+
+impl Drop for Net {
+    fn drop(self) {
+        let Net {
+            core: _,
+            noted: _,
+            journal: _,
+            limit: _,
+        } = self;
+    }
 }
 
 impl Model for Net {

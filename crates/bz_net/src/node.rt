@@ -1,6 +1,6 @@
 //! The nodes of a net: each component, with what it is told of its channels.
 
-ghost use Rattle.std.specs.Prelude.{◌≡◌, ◌≤◌, ◌<◌, ◌-◌, ◌+◌, ◌/◌, ℕ, length, map, All, IfOk, IfErr};
+ghost use Rattle.std.specs.Prelude.{◌≡◌, ◌≤◌, ◌<◌, ◌-◌, ◌+◌, ◌/◌, ℕ, length, map, slice_index_or, All, IfOk, IfErr};
 ghost use Rattle.bz_bits.specs.Row.{bit_of};
 ghost use Rattle.bz_elab.specs.Flats.{site_of};
 ghost use Rattle.bz_model.specs.Nets.{chan_in};
@@ -32,11 +32,21 @@ pub(crate) fn node_id(comp: u32) -> Id<Node>
     Id::at(comp as usize - 1)
 }
 
+/// The flat component of this number.
+#[inline(always)]
+pub(crate) fn site_in(sites: &Arena<FlatComp>, comp: u32) -> &FlatComp
+    requires from { 0 < comp }
+    requires to { comp ≤ length sites.now }
+    ensures { result.now ≡ slice_index_or sites.now (comp - 1) result.now }
+{
+    sites.get(Id::at(comp as usize - 1))
+}
+
 /// A node for each flat component: the component is at its start, and all bits are 0.
 pub(crate) fn start_all(
     alloc: Global,
-    chans: &[Chan],
-    sites: &[FlatComp],
+    chans: &Arena<Chan>,
+    sites: &Arena<FlatComp>,
 ) -> Result<Arena<Node>, NetError>
     requires { StartsWell chans.now (map site_of sites.now) }
     ensures started { IfOk result (λ nodes. Started chans.now (map site_of sites.now) (comps_of nodes) (length sites.now)) }
@@ -44,8 +54,9 @@ pub(crate) fn start_all(
     ensures err { IfErr result (λ e. e ≡ NetError.Memory) }
 {
     let mut nodes = Arena::new(alloc);
-    for site in sites {
-        let node = start_one(alloc, chans, site)?;
+    let mut own = Vec::new(alloc);
+    for place in 0..sites.len() {
+        let node = start_one(alloc, chans, sites.get(Id::at(place)), &mut own)?;
         match nodes.push(node) {
             Ok(_) => {}
             Err(_) => return Err(NetError::Memory),
@@ -69,7 +80,13 @@ pub(crate) fn dup_all(alloc: Global, nodes: &Arena<Node>) -> Result<Arena<Node>,
     Ok(same)
 }
 
-fn start_one(alloc: Global, chans: &[Chan], site: &FlatComp) -> Result<Node, NetError>
+// The channels of the component are gathered in `own`, whatever that held.
+fn start_one(
+    alloc: Global,
+    chans: &Arena<Chan>,
+    site: &FlatComp,
+    own: &mut Vec<Chan>,
+) -> Result<Node, NetError>
     requires chans { All (λ k. (0 < k) × (k ≤ length chans.now)) site.now.chans.items }
     requires meets { MeetsRow site.now.kind site.now.sizes (map (chan_in chans.now) site.now.chans.items) }
     ensures comp { IfOk result (λ node. node.comp ≡ start_of site.now.kind site.now.sizes (map (chan_in chans.now) site.now.chans.items)) }
@@ -77,9 +94,9 @@ fn start_one(alloc: Global, chans: &[Chan], site: &FlatComp) -> Result<Node, Net
     ensures none { IfOk result (λ node. (p : ℕ) → bit_of node.here p ≡ 0) }
     ensures err { IfErr result (λ e. e ≡ NetError.Memory) }
 {
-    let mut own = Vec::new(alloc);
+    own.clear();
     for chan in &site.chans {
-        match own.push(chans[*chan as usize - 1]) {
+        match own.push(*chans.get(Id::at(*chan as usize - 1))) {
             Ok(()) => {}
             Err(_) => return Err(NetError::Memory),
         }
@@ -87,7 +104,7 @@ fn start_one(alloc: Global, chans: &[Chan], site: &FlatComp) -> Result<Node, Net
     let Ok(here) = PortBits::new(alloc, site.chans.len() + 1) else {
         return Err(NetError::Memory);
     };
-    match bz_kinds::start(alloc, &site.kind, site.sizes, &own) {
+    match bz_kinds::start(alloc, &site.kind, site.sizes, own) {
         Ok(comp) => Ok(Node { here, comp }),
         Err(_) => Err(NetError::Memory),
     }

@@ -25,11 +25,20 @@ use std::marker::Model;
 
 /// A net with the components at which requests met, and how many entries are still let in. After its opening it takes no
 /// memory.
-#[derive(Drop)]
 pub struct Play {
     core: Core,
     noted: Noted,
     left: u32,
+}
+
+impl Drop for Play {
+    fn drop(self) {
+        let Play {
+            core: _,
+            noted: _,
+            left: _,
+        } = self;
+    }
 }
 
 impl Model for Play {

@@ -7,8 +7,9 @@ ghost use Rattle.bz_model.specs.Nets.{outside};
 ghost use Rattle.bz_elab.specs.Flats.{site_of};
 ghost use Rattle.bz_outline.specs.Lifelines.{chan_of, is_passive, lifeline_at};
 
+use bz_arena::Arena;
 use bz_elab::{Ends, Flat, FlatComp};
-use bz_model::{Chan, ChanKind, Names, numbered};
+use bz_model::{Chan, ChanKind, Names, node_of, numbered};
 use std::marker::Model;
 
 /// What stands on a line of its own: an external port, or a component, by its number.
@@ -22,7 +23,7 @@ pub enum Lifeline {
 #[derive(Drop)]
 pub struct Circuit {
     names: Names,
-    comps: Vec<FlatComp>,
+    comps: Arena<FlatComp>,
     ends: Vec<Ends>,
 }
 
@@ -32,9 +33,9 @@ impl Model for Circuit {
 
     ghost Value = { Plan };
 
-    ghost view = { λ c. record { wiring = record { chans = c.names.chans; sites = sites_of c.comps.items; ports = c.names.ports }; ends = c.ends.items } };
+    ghost view = { λ c. record { wiring = record { chans = c.names.chans; sites = sites_of c.comps; ports = c.names.ports }; ends = c.ends.items } };
 
-    ghost invariant = { λ c. length c.comps.items + 2 * length c.names.ports < 2 ^ 32 };
+    ghost invariant = { λ c. length c.comps + 2 * length c.names.ports < 2 ^ 32 };
 }
 
 impl Circuit {
@@ -76,7 +77,7 @@ impl Circuit {
     pub fn comp(&self, comp: u32) -> Option<&FlatComp>
         ensures { option_map site_of (option_copied result) ≡ numbered self.now.wiring.sites comp }
     {
-        numbered(&self.comps, comp)
+        node_of(&self.comps, comp)
     }
 
     /// The name of a port, if there is such a port.

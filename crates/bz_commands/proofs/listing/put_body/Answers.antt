@@ -13,4 +13,4 @@ returns-in_err-put_ports g c =
     rw p.1 (stops_before _ _ (ports_text c.args.chans.now (map external c.args.ports.now)) (comps_text (length c.args.chans.now) (map site_of c.args.comps.now)) c.in_err-put_ports.ensures)
 
 pub returns : goal.returns
-returns g c = writes_after _ _ _ _ (ports_text c.args.chans.now (map external c.args.ports.now)) (comps_text (length c.args.chans.now) (map site_of c.args.comps.now)) c.in_ok-put_ports.ensures c.put_tail.ensures
+returns g c = writes_after _ _ _ _ (ports_text c.args.chans.now (map external c.args.ports.now)) (comps_text (length c.args.chans.now) (map site_of c.args.comps.now)) c.in_ok-put_ports.ensures (rw c.len.ensures at c.put_tail.ensures)

@@ -8,7 +8,7 @@ use Rattle.bz_commands.proofs.listing.put_comps.Goals as goal
 pub returns-in_err-put_comp : goal.returns-in_err-put_comp
 returns-in_err-put_comp g c =
     let p = err_from_is_err_and c.from_residual.result c.from_residual.ensures.1 in
-    rw p.1 (stops_in_line comp_line site_of c.args.comps.now c.loop-place.place c.index-comps-place.result c.loop-place-test.true c.index-comps-place.is _ _ _ c.loop-place.invariant c.in_err-put_comp.ensures)
+    rw p.1 (stops_in_line comp_line site_of c.args.comps.now c.loop-place.place c.get.result.now (omega arith) (rw c.at.ensures at c.get.ensures) _ _ _ c.loop-place.invariant c.in_err-put_comp.ensures)
 
 pub loop-place-preserved : goal.loop-place-preserved
-loop-place-preserved g c = sent_line comp_line site_of c.args.comps.now c.loop-place.place c.index-comps-place.result c.loop-place-test.true c.index-comps-place.is _ _ _ c.loop-place.invariant c.in_ok-put_comp.ensures
+loop-place-preserved g c = sent_line comp_line site_of c.args.comps.now c.loop-place.place c.get.result.now (omega arith) (rw c.at.ensures at c.get.ensures) _ _ _ c.loop-place.invariant c.in_ok-put_comp.ensures

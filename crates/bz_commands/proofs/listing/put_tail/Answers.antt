@@ -10,7 +10,7 @@ use Rattle.bz_commands.proofs.listing.put_tail.Goals as goal
 pub returns-in_err-put_counts : goal.returns-in_err-put_counts
 returns-in_err-put_counts g c =
     let p = err_from_is_err_and c.from_residual.result c.from_residual.ensures.1 in
-    rw (p.1, length-map c.args.comps.now site_of) (stops_before _ _ (counts_text c.args.chans (length c.args.comps.now)) (lines comp_line 1 (map site_of c.args.comps.now)) c.in_err-put_counts.ensures)
+    rw (p.1, length-map c.args.comps.now site_of) (stops_before _ _ (counts_text c.args.chans (length c.args.comps.now)) (lines comp_line 1 (map site_of c.args.comps.now)) (rw c.len.ensures at c.in_err-put_counts.ensures))
 
 pub returns : goal.returns
-returns g c = rw (length-map c.args.comps.now site_of) (writes_after _ _ _ _ (counts_text c.args.chans (length c.args.comps.now)) (lines comp_line 1 (map site_of c.args.comps.now)) c.in_ok-put_counts.ensures c.put_comps.ensures)
+returns g c = rw (length-map c.args.comps.now site_of) (writes_after _ _ _ _ (counts_text c.args.chans (length c.args.comps.now)) (lines comp_line 1 (map site_of c.args.comps.now)) (rw c.len.ensures at c.in_ok-put_counts.ensures) c.put_comps.ensures)

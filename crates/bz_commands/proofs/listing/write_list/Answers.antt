@@ -15,4 +15,4 @@ returns-in_err-put_head g c =
 pub returns : goal.returns
 returns g c =
     let p = c.into_pieces-pieces.result in
-    rw c.into_pieces-pieces.ensures.wiring (writes_after _ _ _ _ (head_text c.args.name.now) (ports_text p.chans.items (map external p.ports.items) ++ comps_text (length p.chans.items) (map site_of p.comps.items)) c.in_ok-put_head.ensures (rw (c.deref.ensures.value, c.deref-2.ensures.value, c.deref-3.ensures.value) at c.put_body.ensures))
+    rw c.into_pieces-pieces.ensures.wiring (writes_after _ _ _ _ (head_text c.args.name.now) (ports_text p.chans (map external p.ports.items) ++ comps_text (length p.chans) (map site_of p.comps)) c.in_ok-put_head.ensures (rw c.deref.ensures.value at c.put_body.ensures))

@@ -53,16 +53,16 @@ returns-in_err-draft-clause-err c =
 pub wire-requires-clause-fit : goal.wire-requires-clause-fit
 wire-requires-clause-fit c =
     let draft = c.in_ok-draft.draft in
-    let n : c.len.result ≡ length draft.chans.items = omega arith in
-    rw (n, c.as_slice.ensures.value) (comps_fit c.args.parts.now c.index-list-number.result draft c.in_ok-draft.ensures.ok c.in_ok-read.ensures.sound c.in_ok-draft.ensures.within)
+    let n : c.len.result ≡ length draft.chans = omega arith in
+    rw n (comps_fit c.args.parts.now c.index-list-number.result draft c.in_ok-draft.ensures.ok c.in_ok-read.ensures.sound c.in_ok-draft.ensures.within)
 
 pub wire-requires-clause-ports_to : goal.wire-requires-clause-ports_to
 wire-requires-clause-ports_to c =
     let part = c.index-list-number.result in
     let draft = c.in_ok-draft.draft in
     let whole = subst (λ (p : Part). HasPortChannels p) (sym c.index-list-number.is) (c.list.ensures.fits c.in-Some.number part (let w = c.in-Some.ensures.within in omega (arith, w, ap length c.list.ensures.value))) in
-    let n : c.len.result ≡ length draft.chans.items = omega arith in
-    rw (n, c.as_slice-2.ensures.value) (ports_within c.args.parts.now part draft c.in_ok-draft.ensures.ok whole)
+    let n : c.len.result ≡ length draft.chans = omega arith in
+    rw (n, c.as_slice.ensures.value) (ports_within c.args.parts.now part draft c.in_ok-draft.ensures.ok whole)
 
 pub returns-in_err-ends-clause-err : goal.returns-in_err-ends-clause-err
 returns-in_err-ends-clause-err c =
@@ -70,7 +70,7 @@ returns-in_err-ends-clause-err c =
     let draft = c.in_ok-draft.draft in
     let read = part_read c.args.parts.now _ c.in-Some.number part c.list.ensures.value c.in-Some.ensures.within c.index-list-number.is in
     let p = err_from_is_err_and c.from_residual-in_err-ends.result c.from_residual-in_err-ends.ensures.1 in
-    let why = rw (c.as_slice.ensures.value, c.as_slice-2.ensures.value) at c.in_err-ends.ensures.err in
+    let why = rw c.as_slice.ensures.value at c.in_err-ends.ensures.err in
     rw (p.1, p.2) (refuses_named c.args.parts.now c.args.top.now part _ (sym c.in-Some.ensures.part ∙ read)
     (wire_refuses c.args.parts.now part draft _ c.in_ok-draft.ensures.ok c.in_ok-read.ensures.ok why))
 
@@ -80,31 +80,31 @@ of-requires-clause-wired c =
     let draft = c.in_ok-draft.draft in
     let whole = subst (λ (p : Part). HasPortChannels p) (sym c.index-list-number.is) (c.list.ensures.fits c.in-Some.number part (let w = c.in-Some.ensures.within in omega (arith, w, ap length c.list.ensures.value))) in
     let fit = subst (λ (p : Part). IsFit p) (sym c.index-list-number.is) (c.list.ensures.fit c.in-Some.number part (let w = c.in-Some.ensures.within in omega (arith, w, ap length c.list.ensures.value))) in
-    let ended = rw (c.as_slice.ensures.value, c.as_slice-2.ensures.value) at c.in_ok-ends.ensures.ok.1 in
-    let ports = rw c.as_slice-3.ensures.value at c.in_ok-ports.ensures in
-    subst (λ (w : Wiring). WellWired w) (sym (same_ports draft.chans.items draft.comps.items c.in_ok-ports.ports.items part.ports.items ports))
+    let ended = rw c.as_slice.ensures.value at c.in_ok-ends.ensures.ok.1 in
+    let ports = rw c.as_slice-2.ensures.value at c.in_ok-ports.ensures in
+    subst (λ (w : Wiring). WellWired w) (sym (same_ports draft.chans draft.comps c.in_ok-ports.ports.items part.ports.items ports))
     (well_wired c.args.parts.now part draft c.in_ok-ends.ends.items c.in_ok-draft.ensures.ok c.in_ok-read.ensures.sound c.in_ok-draft.ensures.within whole fit ended)
 
 pub of-requires-clause-ends_of : goal.of-requires-clause-ends_of
 of-requires-clause-ends_of c =
     let part = c.index-list-number.result in
     let draft = c.in_ok-draft.draft in
-    let ended = rw (c.as_slice.ensures.value, c.as_slice-2.ensures.value) at c.in_ok-ends.ensures.ok.1 in
-    let ports = rw c.as_slice-3.ensures.value at c.in_ok-ports.ensures in
-    let n : length c.in_ok-ends.ends.items ≡ length draft.chans.items = omega (arith, c.in_ok-ends.ensures.ok.0) in
-    subst (λ (w : Wiring). EndsOf w c.in_ok-ends.ends.items) (sym (same_ports draft.chans.items draft.comps.items c.in_ok-ports.ports.items part.ports.items ports))
-    (ends_of draft.chans.items draft.comps.items part.ports.items c.in_ok-ends.ends.items n ended)
+    let ended = rw c.as_slice.ensures.value at c.in_ok-ends.ensures.ok.1 in
+    let ports = rw c.as_slice-2.ensures.value at c.in_ok-ports.ensures in
+    let n : length c.in_ok-ends.ends.items ≡ length draft.chans = omega (arith, c.in_ok-ends.ensures.ok.0) in
+    subst (λ (w : Wiring). EndsOf w c.in_ok-ends.ends.items) (sym (same_ports draft.chans draft.comps c.in_ok-ports.ports.items part.ports.items ports))
+    (ends_of draft.chans draft.comps part.ports.items c.in_ok-ends.ends.items n ended)
 
 pub returns-clause-ok : goal.returns-clause-ok
 returns-clause-ok c =
     let part = c.index-list-number.result in
     let draft = c.in_ok-draft.draft in
     let read = part_read c.args.parts.now _ c.in-Some.number part c.list.ensures.value c.in-Some.ensures.within c.index-list-number.is in
-    let ports = rw c.as_slice-3.ensures.value at c.in_ok-ports.ensures in
+    let ports = rw c.as_slice-2.ensures.value at c.in_ok-ports.ensures in
     record {
       top = part;
       is_named = sym c.in-Some.ensures.part ∙ read;
-      wiring_is = c.of.ensures.wiring ∙ (same_ports draft.chans.items draft.comps.items c.in_ok-ports.ports.items part.ports.items ports ∙ net_is c.args.parts.now part draft c.in_ok-draft.ensures.ok);
+      wiring_is = c.of.ensures.wiring ∙ (same_ports draft.chans draft.comps c.in_ok-ports.ports.items part.ports.items ports ∙ net_is c.args.parts.now part draft c.in_ok-draft.ensures.ok);
       within = not_too_deep c.args.parts.now part c.in_ok-read.ensures.sound;
     }
 
@@ -113,6 +113,6 @@ returns-clause-fit c =
     let part = c.index-list-number.result in
     let draft = c.in_ok-draft.draft in
     let read = part_read c.args.parts.now _ c.in-Some.number part c.list.ensures.value c.in-Some.ensures.within c.index-list-number.is in
-    let ended = rw (c.as_slice.ensures.value, c.as_slice-2.ensures.value) at c.in_ok-ends.ensures.ok.1 in
+    let ended = rw c.as_slice.ensures.value at c.in_ok-ends.ensures.ok.1 in
     none_applies c.args.parts.now c.args.top.now part draft c.in_ok-ends.ends.items (sym c.in-Some.ensures.part ∙ read) c.in_ok-draft.ensures.ok c.in_ok-read.ensures.sound
     c.in_ok-draft.ensures.within ended

@@ -9,11 +9,11 @@ use Rattle.bz_elab.proofs.Sites.{here_at, fits_at}
 use Rattle.bz_elab.proofs.ends.table.Goals as goal
 
 pub seat_comp-least-requires-clause-few : goal.seat_comp-least-requires-clause-few
-seat_comp-least-requires-clause-few c = (fits_at c.args.comps.now c.args.chans c.loop-i.i c.index-comps-i.result c.requires (omega arith) c.index-comps-i.is).0
+seat_comp-least-requires-clause-few c = (fits_at c.args.comps.now c.args.chans c.loop-i.i c.get-comp.result.now c.requires (omega arith) (rw c.at.ensures at c.get-comp.ensures)).0
 
 pub seat_comp-least-requires-clause-within : goal.seat_comp-least-requires-clause-within
 seat_comp-least-requires-clause-within c =
-    let fit = (fits_at c.args.comps.now c.args.chans c.loop-i.i c.index-comps-i.result c.requires (omega arith) c.index-comps-i.is).1 in
+    let fit = (fits_at c.args.comps.now c.args.chans c.loop-i.i c.get-comp.result.now c.requires (omega arith) (rw c.at.ensures at c.get-comp.ensures)).1 in
     let n : length c.as_mut_slice.result.now ≡ c.args.chans = cc in
     rw n fit
 
@@ -21,7 +21,7 @@ pub loop-i-preserved : goal.loop-i-preserved
 loop-i-preserved c =
     let n = c.loop-i.ends in
     let d = c.seat_comp-least.new.ends in
-    let here = rw (← add-one) at (here_at c.args.comps.now c.loop-i.i c.index-comps-i.result (omega arith) c.index-comps-i.is) in
+    let here = rw (← add-one) at (here_at c.args.comps.now c.loop-i.i c.get-comp.result.now (omega arith) (rw c.at.ensures at c.get-comp.ensures)) in
     let back : take n.len (d ++ drop (length d) n.items) ≡ d = take_at _ _ _ (omega arith) in
     let before = rw c.as_mut_slice.ensures.value at c.seat_comp-least.ensures in
     rw back (record { len = cc; seated = passed_all _ _ _ _ _ _ here refl (before (sites_of c.args.comps.now) here c.loop-i.invariant.seated) })

@@ -11,40 +11,39 @@ use Rattle.bz_elab.proofs.Items.{reading_of, so_far_start, next_at, next_leaf, n
 use Rattle.bz_elab.proofs.walk.+flatten.Goals as goal
 use Rattle.bz_elab.proofs.walk.+flatten.Goals.{in-Leaf+in_ok-add_leaf-in-Leaf, in-Copy+else-depth-eq0+in_ok-inside-in-Copy+in_ok-flatten-in-Copy}
 
-pub loop-leaf-init : goal.loop-leaf-init
-loop-leaf-init t c =
+pub loop-place-init : goal.loop-place-init
+loop-place-init t c =
     let reading = c.index-readings-number.result in
     let read = reading_of c.args.parts.now c.args.number c.args.part.now c.args.readings.now reading c.requires.part_is c.requires.read c.index-readings-number.is in
-    let same = ap (λ fs. map Leaf fs ++ reading.items.items) c.deref-leaf-items.ensures.value in
-    (c.requires.draft, so_far_start c.args.parts.now c.args.part.now c.args.levels.now c.args.depth c.args.draft.now _ _ same read)
+    (c.requires.draft, so_far_start c.args.parts.now c.args.part.now c.args.levels.now c.args.depth c.args.draft.now _ _ refl read)
 
 pub add_leaf-requires-clause-chans : goal.add_leaf-requires-clause-chans
 add_leaf-requires-clause-chans t c =
-    let next = next_leaf c.args.parts.now c.args.part.now c.args.levels.now c.args.depth _ _ c.deref-leaf-items.result.now _ c.loop-leaf.leaf-index c.leaf-item.result c.requires.short c.loop-leaf.invariant.1 (omega (arith, c.loop-leaf-test.true)) c.leaf-item.is in
-    let few = c.loop-leaf.invariant.0.chans_few in
+    let next = next_leaf c.args.parts.now c.args.part.now c.args.levels.now c.args.depth _ _ c.index-readings-number.result.leaves _ c.loop-place.place c.get-leaf.result.now c.requires.short c.loop-place.invariant.1 (omega (arith, c.loop-place-test.true)) (rw c.at.ensures at c.get-leaf.ensures) in
+    let few = c.loop-place.invariant.0.chans_few in
     numbers_fit c.args.levels.now _ _ _ (upto_fits c.args.parts.now c.args.part.now c.args.levels.now c.args.depth _ _ next.at _ next.upto c.requires.levels) (omega (arith, few))
-    (leaf_within c.args.part.now.channels.items next.comp c.leaf-item.result next.item.1)
+    (leaf_within c.args.part.now.channels.items next.comp c.get-leaf.result.now next.item.1)
 
 pub add_leaf-requires-clause-draft : goal.add_leaf-requires-clause-draft
-add_leaf-requires-clause-draft t c = c.loop-leaf.invariant.0
+add_leaf-requires-clause-draft t c = c.loop-place.invariant.0
 
 pub returns-in_err-add_leaf-clause-err : goal.returns-in_err-add_leaf-clause-err
 returns-in_err-add_leaf-clause-err t c =
     let p = err_from_is_err_and c.from_residual.result c.from_residual.ensures.1 in
-    let next = next_leaf c.args.parts.now c.args.part.now c.args.levels.now c.args.depth _ _ c.deref-leaf-items.result.now _ c.loop-leaf.leaf-index c.leaf-item.result c.requires.short c.loop-leaf.invariant.1 (omega (arith, c.loop-leaf-test.true)) c.leaf-item.is in
+    let next = next_leaf c.args.parts.now c.args.part.now c.args.levels.now c.args.depth _ _ c.index-readings-number.result.leaves _ c.loop-place.place c.get-leaf.result.now c.requires.short c.loop-place.invariant.1 (omega (arith, c.loop-place-test.true)) (rw c.at.ensures at c.get-leaf.ensures) in
     rw (p.1, p.2) (leaf_fails c.args.parts.now c.args.part.now c.args.number c.args.depth next.at c.args.part.now.components.items next.comp _ _ _
-    c.requires.part_is refl next.lt next.is next.item.0 next.upto.counts (refused_leaf c.args.part.now.channels.items next.comp c.leaf-item.result c.loop-leaf.draft _ _ _ next.item.1 c.in_err-add_leaf.ensures.err))
+    c.requires.part_is refl next.lt next.is next.item.0 next.upto.counts (refused_leaf c.args.part.now.channels.items next.comp c.get-leaf.result.now c.loop-place.draft _ _ _ next.item.1 c.in_err-add_leaf.ensures.err))
 
-pub loop-leaf-preserved : goal.loop-leaf-preserved
-loop-leaf-preserved t c =
+pub loop-place-preserved : goal.loop-place-preserved
+loop-place-preserved t c =
     let parts = c.args.parts.now in
     let part = c.args.part.now in
-    let next = next_leaf parts part c.args.levels.now c.args.depth _ _ c.deref-leaf-items.result.now _ c.loop-leaf.leaf-index c.leaf-item.result c.requires.short c.loop-leaf.invariant.1 (omega (arith, c.loop-leaf-test.true)) c.leaf-item.is in
+    let next = next_leaf parts part c.args.levels.now c.args.depth _ _ c.index-readings-number.result.leaves _ c.loop-place.place c.get-leaf.result.now c.requires.short c.loop-place.invariant.1 (omega (arith, c.loop-place-test.true)) (rw c.at.ensures at c.get-leaf.ensures) in
     rw add-one (
       c.add_leaf.ensures.within,
       record {
         at = next.at + 1;
-        upto = upto_leaf parts part c.args.levels.now c.args.depth c.args.draft.now c.loop-leaf.draft c.add_leaf.new.draft next.at next.comp c.leaf-item.result next.lt next.is next.item.0 next.item.1
+        upto = upto_leaf parts part c.args.levels.now c.args.depth c.args.draft.now c.loop-place.draft c.add_leaf.new.draft next.at next.comp c.get-leaf.result.now next.lt next.is next.item.0 next.item.1
             c.in_ok-add_leaf.ensures.ok next.upto;
         rest = next.rest;
       },
@@ -53,8 +52,8 @@ loop-leaf-preserved t c =
 pub loop-item-init : goal.loop-item-init
 loop-item-init t c =
     let reading = c.index-readings-number.result in
-    let rest = no_leaf c.args.parts.now c.args.part.now c.args.levels.now c.args.depth c.args.draft.now c.loop-leaf.draft c.deref-leaf-items.result.now reading.items.items c.loop-leaf.leaf-index c.loop-leaf.invariant.1 (omega (arith, c.loop-leaf-test.false)) in
-    (c.loop-leaf.invariant.0, rw c.deref-item-items.ensures.value rest)
+    let rest = no_leaf c.args.parts.now c.args.part.now c.args.levels.now c.args.depth c.args.draft.now c.loop-place.draft c.index-readings-number.result.leaves reading.items.items c.loop-place.place c.loop-place.invariant.1 (omega (arith, c.loop-place-test.false)) in
+    (c.loop-place.invariant.0, rw c.deref-item-items.ensures.value rest)
 
 pub add_leaf-requires-in-Leaf-clause-chans : goal.add_leaf-requires-in-Leaf-clause-chans
 add_leaf-requires-in-Leaf-clause-chans t c =

@@ -8,7 +8,7 @@ loop-i-preserved c =
     let p = c.args.ports in
     let i = c.loop-i.i in
     let xs = c.args.part.now.channels.items in
-    let old = c.args.draft.now.chans.items in
+    let old = c.args.draft.now.chans in
     let added = c.in_ok-push_chan.ensures in
     let more = drop_push xs p i c.index.result.now c.loop-i.auto.i (omega arith) in
     record {

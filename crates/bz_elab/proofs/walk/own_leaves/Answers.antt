@@ -16,11 +16,11 @@ returns-clause-own c =
     let same : here ≡ there = same_some seen at in
     let empty : length there.items.items ≡ 0 = let e : there.items.len ≡ 0 = grind (arith, c.is_empty.ensures, c.if-not-is_empty.false) in omega (arith, e, there.items.ok.0) in
     let none : here.items.items ≡ [] = rw same (nil_from_length there.items.items empty) in
-    let found = rw c.as_slice.ensures.value at c.in_ok-ends.ensures in
+    let found = c.in_ok-ends.ensures in
     record {
       reading = here;
       stands = at;
-      all = ap (λ xs. map Leaf here.leaves.items ++ xs) none ∙ append-nil (map Leaf here.leaves.items);
+      all = ap (λ xs. map Leaf here.leaves ++ xs) none ∙ append-nil (map Leaf here.leaves);
       ends_are = rw same found.0;
       few = rw same found.2;
       few_ends = found.1;

@@ -1,13 +1,11 @@
-use Rattle.std.proofs.Common.{◌≡◌, ◌∙◌, ap, sym, subst, List, ℕ, length, Some, get_or, IsTrue}
-use Rattle.std.specs.Vec.{with_items}
-use Rattle.std.proofs.lemmas.List.{with_items_is}
+use Rattle.std.proofs.Common.{◌≡◌, ◌∙◌, ap, subst, List, ℕ, Some, get_or, IsTrue}
 use Rattle.bz_model.specs.Heads.{carried, Component}
-use Rattle.bz_model.specs.Terms.{stored}
 use Rattle.bz_model.specs.Phases.{may_move}
 use Rattle.bz_model.proofs.Fitting.{fits-move}
 use Rattle.bz_kinds.specs.Row.{Due, due_of, seen}
 use Rattle.bz_kinds.specs.Comp.{plan_due, Goes}
 use Rattle.bz_kinds.specs.Kept.{plan_of}
+use Rattle.bz_kinds.specs.KeptLists.{slots_of}
 use Rattle.bz_kinds.proofs.PlanLaws.{found-due, none-found, head-on-due, moves, turns, due-narrow, still-at, still-sends, one-head-on}
 use Rattle.bz_kinds.proofs.comp.apply.Goals as goal
 
@@ -26,28 +24,25 @@ carried-value-requires c =
 pub advance-requires-clause-place : goal.advance-requires-clause-place
 advance-requires-clause-place c =
     let found : plan_due (plan_of c.comp.inside.plan) c.comp.inside.size c.comp.inside.left c.args.port (get_or c.comp.inside.ports c.args.port 0) ≡ Some (seen c.in-Some.due) = found-due (plan_of c.comp.inside.plan) c.comp.inside.size c.comp.inside.left c.args.port _ _ _ c.in-Some.due c.due_at.ensures c.in-Some.is c.get.ensures in
-    let long : length c.store.new.slots ≡ c.comp.inside.slots.len = c.store.auto.slots ∙ ap length c.deref_mut.ensures.value ∙ sym c.comp.inside.slots.ok.0 in
-    let kept = with_items_is c.comp.inside.slots c.store.new.slots long ∙ c.store.ensures ∙ ap (λ (s : List ℕ). stored (seen c.in-Some.due).into c.incoming-incoming.result s) c.deref_mut.ensures.value in
-    still-at _ _ _ _ c.args.port (seen c.in-Some.due) c.args.phase c.incoming-incoming.result _ _ c.comp.invariant.0 found c.incoming-incoming.ensures (c.deref-2.ensures.value ∙ kept)
+    still-at _ _ _ _ c.args.port (seen c.in-Some.due) c.args.phase c.incoming-incoming.result _ _ c.comp.invariant.0 found c.incoming-incoming.ensures (c.get-3.ensures ∙ c.store.ensures)
 
 pub advance-requires-clause-due : goal.advance-requires-clause-due
 advance-requires-clause-due c = (seen c.in-Some.due, found-due (plan_of c.comp.inside.plan) c.comp.inside.size c.comp.inside.left c.args.port _ _ _ c.in-Some.due c.due_at.ensures c.in-Some.is c.get.ensures)
 
 -- the ports follow the move, where the values are those kept
-goes : (c : goal.After-advance) → Goes (plan_of c.comp.inside.plan) c.comp.inside.size c.comp.inside.left c.comp.inside.ports c.args.port c.advance.new.left c.advance.new.ports (with_items c.comp.inside.slots c.store.new.slots).items
-goes c = subst (λ (s : List ℕ). Goes (plan_of c.comp.inside.plan) c.comp.inside.size c.comp.inside.left c.comp.inside.ports c.args.port c.advance.new.left c.advance.new.ports s) c.deref-2.ensures.value c.advance.ensures
+goes : (c : goal.After-advance) → Goes (plan_of c.comp.inside.plan) c.comp.inside.size c.comp.inside.left c.comp.inside.ports c.args.port c.advance.new.left c.advance.new.ports (slots_of c.store.new.slots)
+goes c = rw c.get-3.ensures at c.advance.ensures
 
 pub returns-clause-moves : goal.returns-clause-moves
 returns-clause-moves c =
     let found : plan_due (plan_of c.comp.inside.plan) c.comp.inside.size c.comp.inside.left c.args.port (get_or c.comp.inside.ports c.args.port 0) ≡ Some (seen c.in-Some.due) = found-due (plan_of c.comp.inside.plan) c.comp.inside.size c.comp.inside.left c.args.port _ _ _ c.in-Some.due c.due_at.ensures c.in-Some.is c.get.ensures in
-    let long : length c.store.new.slots ≡ c.comp.inside.slots.len = c.store.auto.slots ∙ ap length c.deref_mut.ensures.value ∙ sym c.comp.inside.slots.ok.0 in
     let (h, on, ok) = c.requires in
     let due = head-on-due _ _ _ _ _ _ _ c.comp.view_is c.comp.invariant.0 c.args.port h on in
     let same : due_of h ≡ (seen c.in-Some.due) = cc in
     let may : IsTrue (may_move c.args.phase (seen c.in-Some.due).mv) = subst (λ (d : Due). IsTrue (may_move c.args.phase d.mv)) same ok in
     moves _ _ _ _ _ _ _ c.comp.view_is c.comp.invariant.0 c.args.port c.args.phase (seen c.in-Some.due) _ _ _ _ _ found may c.incoming-incoming.ensures
-    (c.carried-value.ensures ∙ ap (λ (s : List ℕ). carried (seen c.in-Some.due).mv (seen c.in-Some.due).gives s c.incoming-incoming.result) c.deref.ensures.value)
-    (with_items_is c.comp.inside.slots c.store.new.slots long ∙ c.store.ensures ∙ ap (λ (s : List ℕ). stored (seen c.in-Some.due).into c.incoming-incoming.result s) c.deref_mut.ensures.value)
+    (c.carried-value.ensures ∙ ap (λ (s : List ℕ). carried (seen c.in-Some.due).mv (seen c.in-Some.due).gives s c.incoming-incoming.result) c.get-2.ensures)
+    c.store.ensures
     (goes c)
 
 pub returns-clause-turns : goal.returns-clause-turns

@@ -15,7 +15,7 @@ use Rattle.bz_look.proofs.listing.put_body.Goals as goal
 pub returns-in_err-put_ports : goal.returns-in_err-put_ports
 returns-in_err-put_ports g c =
     let p = err_from_is_err_and c.from_residual.result c.from_residual.ensures.1 in
-    rw p.1 (stops_before _ _ (ports_text c.args.s.now.net.chans.items (map external c.args.s.now.net.ports.items)) (inside_text c.args.s.now) (rw (c.deref.ensures.value, c.deref-2.ensures.value) at c.in_err-put_ports.ensures))
+    rw p.1 (stops_before _ _ (ports_text c.args.s.now.net.chans (map external c.args.s.now.net.ports.items)) (inside_text c.args.s.now) (rw c.deref.ensures.value at c.in_err-put_ports.ensures))
 
 pub returns : goal.returns
-returns g c = writes_after _ _ _ _ (ports_text c.args.s.now.net.chans.items (map external c.args.s.now.net.ports.items)) (inside_text c.args.s.now) (rw (c.deref.ensures.value, c.deref-2.ensures.value) at c.in_ok-put_ports.ensures) c.put_inside.ensures
+returns g c = writes_after _ _ _ _ (ports_text c.args.s.now.net.chans (map external c.args.s.now.net.ports.items)) (inside_text c.args.s.now) (rw c.deref.ensures.value at c.in_ok-put_ports.ensures) c.put_inside.ensures

@@ -9,7 +9,7 @@ use Rattle.bz_look.proofs.listing.put_comp_lines.Goals as goal
 pub returns-in_err-put_comp_line : goal.returns-in_err-put_comp_line
 returns-in_err-put_comp_line g c =
     let p = err_from_is_err_and c.from_residual.result c.from_residual.ensures.1 in
-    rw p.1 (stops_in_line (comp_line c.args.s.now) site_of c.args.comps.now c.loop-i.i c.index-comps-i.result c.loop-i-test.true c.index-comps-i.is _ _ _ c.loop-i.invariant c.in_err-put_comp_line.ensures)
+    rw p.1 (stops_in_line (comp_line c.args.s.now) site_of c.args.comps.now c.loop-i.i c.get.result.now (omega arith) (rw c.at.ensures at c.get.ensures) _ _ _ c.loop-i.invariant c.in_err-put_comp_line.ensures)
 
 pub loop-i-preserved : goal.loop-i-preserved
-loop-i-preserved g c = sent_line (comp_line c.args.s.now) site_of c.args.comps.now c.loop-i.i c.index-comps-i.result c.loop-i-test.true c.index-comps-i.is _ _ _ c.loop-i.invariant c.in_ok-put_comp_line.ensures
+loop-i-preserved g c = sent_line (comp_line c.args.s.now) site_of c.args.comps.now c.loop-i.i c.get.result.now (omega arith) (rw c.at.ensures at c.get.ensures) _ _ _ c.loop-i.invariant c.in_ok-put_comp_line.ensures

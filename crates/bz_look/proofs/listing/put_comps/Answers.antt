@@ -16,7 +16,7 @@ use Rattle.bz_look.proofs.listing.put_comps.Goals as goal
 pub returns-in_err-put_count : goal.returns-in_err-put_count
 returns-in_err-put_count g c =
     let p = err_from_is_err_and c.from_residual.result c.from_residual.ensures.1 in
-    rw p.1 (stops_before _ _ (count_line (codes "components ") (length (map site_of c.args.comps.now))) (lines (comp_line c.args.s.now) 1 (map site_of c.args.comps.now)) (rw (← length-map c.args.comps.now site_of) at c.in_err-put_count.ensures))
+    rw p.1 (stops_before _ _ (count_line (codes "components ") (length (map site_of c.args.comps.now))) (lines (comp_line c.args.s.now) 1 (map site_of c.args.comps.now)) (rw (c.len.ensures ∙ sym (length-map c.args.comps.now site_of)) at c.in_err-put_count.ensures))
 
 pub returns : goal.returns
-returns g c = writes_after _ _ _ _ (count_line (codes "components ") (length (map site_of c.args.comps.now))) (lines (comp_line c.args.s.now) 1 (map site_of c.args.comps.now)) (rw (← length-map c.args.comps.now site_of) at c.in_ok-put_count.ensures) c.put_comp_lines.ensures
+returns g c = writes_after _ _ _ _ (count_line (codes "components ") (length (map site_of c.args.comps.now))) (lines (comp_line c.args.s.now) 1 (map site_of c.args.comps.now)) (rw (c.len.ensures ∙ sym (length-map c.args.comps.now site_of)) at c.in_ok-put_count.ensures) c.put_comp_lines.ensures

@@ -15,7 +15,7 @@ use Rattle.bz_look.proofs.listing.put_paths.Goals as goal
 pub returns-in_err-put_head : goal.returns-in_err-put_head
 returns-in_err-put_head g c =
     let p = err_from_is_err_and c.from_residual.result c.from_residual.ensures.1 in
-    rw p.1 (stops_before _ _ (head_text c.args.name.now) (ports_text c.args.s.now.net.chans.items (map external c.args.s.now.net.ports.items) ++ inside_text c.args.s.now) c.in_err-put_head.ensures)
+    rw p.1 (stops_before _ _ (head_text c.args.name.now) (ports_text c.args.s.now.net.chans (map external c.args.s.now.net.ports.items) ++ inside_text c.args.s.now) c.in_err-put_head.ensures)
 
 pub returns : goal.returns
-returns g c = writes_after _ _ _ _ (head_text c.args.name.now) (ports_text c.args.s.now.net.chans.items (map external c.args.s.now.net.ports.items) ++ inside_text c.args.s.now) c.in_ok-put_head.ensures c.put_body.ensures
+returns g c = writes_after _ _ _ _ (head_text c.args.name.now) (ports_text c.args.s.now.net.chans (map external c.args.s.now.net.ports.items) ++ inside_text c.args.s.now) c.in_ok-put_head.ensures c.put_body.ensures

@@ -19,4 +19,4 @@ returns-in_err-put_instances g c =
     rw p.1 (stops_before _ _ (instances_text c.args.s.now) (comps_text c.args.s.now) (rw c.instances.ensures at c.in_err-put_instances.ensures))
 
 pub returns : goal.returns
-returns g c = writes_after _ _ _ _ (instances_text c.args.s.now) (comps_text c.args.s.now) (rw c.instances.ensures at c.in_ok-put_instances.ensures) (rw c.deref.ensures.value at c.put_comps.ensures)
+returns g c = writes_after _ _ _ _ (instances_text c.args.s.now) (comps_text c.args.s.now) (rw c.instances.ensures at c.in_ok-put_instances.ensures) c.put_comps.ensures

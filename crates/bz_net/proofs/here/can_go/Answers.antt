@@ -1,4 +1,4 @@
-use Rattle.std.proofs.Common.{◌<◌, ◌/◌, arith}
+use Rattle.std.proofs.Common.{◌/◌, arith}
 use Rattle.bz_net.proofs.Telling.{is_one, word_goes}
 use Rattle.bz_net.proofs.here.can_go.Goals as goal
 

@@ -1,4 +1,3 @@
-use Rattle.std.proofs.Common.{map}
 use Rattle.bz_net.proofs.Noting.{noted_one}
 use Rattle.bz_net.proofs.moves.note_clash.Goals as goal
 

@@ -32,3 +32,13 @@ returns-in-Ok-close-clause-pooled g c =
       ledger = gathers.ledger;
       within = subst (λ n. sum closed.shares.items ≤ n) (sym c.requires.opening.1) gathers.within;
     }
+
+pub in_scope-crew-requires-clause-sessions : goal.in_scope-crew-requires-clause-sessions
+in_scope-crew-requires-clause-sessions g c _ _ k d lt =
+    let made = c.in-Ok.ensures in
+    ap (λ (s : SessionView). s.seat.table) (made.sessions.1 k d (omega (arith, made.sessions.0, lt)))
+
+pub in_scope-crew-requires-clause-workers : goal.in_scope-crew-requires-clause-workers
+in_scope-crew-requires-clause-workers g c _ _ k d lt =
+    let made = c.in-Ok.ensures in
+    ap (λ (w : WorkerView). w.seat.table) (made.workers.1 k d (omega (arith, made.workers.0, lt)))

@@ -14,30 +14,30 @@ use Rattle.bz_net.proofs.core_net.Core.command.Goals as goal
 pub command-requires-clause-sighted : goal.command-requires-clause-sighted
 command-requires-clause-sighted c =
     let n = c.self.inside in
-    rw (c.deref.ensures.value, c.deref_mut.ensures.value)
-    (core_sighted (record { chans = n.names.chans; sites = map site_of n.sites.items; ports = n.names.ports }) n.phases.items (comps_of n.nodes) (heres_of n.nodes) n.ends.items n.ready.row c.self.invariant)
+    rw c.deref_mut.ensures.value
+    (core_sighted (record { chans = n.names.chans; sites = map site_of n.sites; ports = n.names.ports }) n.phases.items (comps_of n.nodes) (heres_of n.nodes) n.ends.items n.ready.row c.self.invariant)
 
 pub command-requires-clause-stays : goal.command-requires-clause-stays
 command-requires-clause-stays c =
     let n = c.self.inside in
-    let w : Wiring = record { chans = n.names.chans; sites = map site_of n.sites.items; ports = n.names.ports } in
+    let w : Wiring = record { chans = n.names.chans; sites = map site_of n.sites; ports = n.names.ports } in
     let same : w ≡ c.args.self.now.wiring = ap (λ (v : Standing). v.wiring) c.self.view_is in
     let to : c.args.port ≤ length w.ports = subst (λ (v : Wiring). c.args.port ≤ length v.ports) (sym same) c.requires.to in
     let agreed : refusal_at w c.args.verb c.args.port c.args.value ≡ None = subst (λ (v : Wiring). refusal_at v c.args.verb c.args.port c.args.value ≡ None) (sym same) c.requires.agreed in
-    rw (c.deref.ensures.value, c.deref_mut.ensures.value)
+    rw c.deref_mut.ensures.value
     (core_host w n.phases.items (comps_of n.nodes) (heres_of n.nodes) n.ends.items n.ready.row c.self.invariant c.args.verb c.args.port c.args.value c.requires.from to agreed)
 
 pub invariant_of-self : goal.invariant_of-self
 invariant_of-self c =
     let n = c.self.inside in let d = c.command.new in let r = c.command.result in
-    let w : Wiring = record { chans = n.names.chans; sites = map site_of n.sites.items; ports = n.names.ports } in
+    let w : Wiring = record { chans = n.names.chans; sites = map site_of n.sites; ports = n.names.ports } in
     let same : w ≡ c.args.self.now.wiring = ap (λ (v : Standing). v.wiring) c.self.view_is in
     let to : c.args.port ≤ length w.ports = subst (λ (v : Wiring). c.args.port ≤ length v.ports) (sym same) c.requires.to in
     let agreed : refusal_at w c.args.verb c.args.port c.args.value ≡ None = subst (λ (v : Wiring). refusal_at v c.args.verb c.args.port c.args.value ≡ None) (sym same) c.requires.agreed in
     let told : Retold w.sites (heres_of n.nodes) (heres_of d.nodes) c.args.port (host_after c.args.verb c.args.value (phase_in n.phases.items c.args.port)) =
-    rw (c.deref.ensures.value, c.deref_mut.ensures.value) at c.command.ensures.told in
+    rw c.deref_mut.ensures.value at c.command.ensures.told in
     let does : CommandedAt w.sites n.ends.items (comps_of n.nodes) n.phases.items d.phases n.ready.row d.ready.row c.args.verb c.args.port c.args.value r =
-    rw (c.deref.ensures.value, c.deref-2.ensures.value, c.deref_mut.ensures.value) at c.command.ensures.commanded in
+    rw (c.deref.ensures.value, c.deref_mut.ensures.value) at c.command.ensures.commanded in
     let phases : take n.phases.len (d.phases ++ drop (length d.phases) n.phases.items) ≡ d.phases = take_at _ _ _ (omega arith) in
     rw (phases, c.command.ensures.comps)
     (core_commanded w n.phases.items (comps_of n.nodes) (heres_of n.nodes) n.ends.items n.ready.row c.self.invariant d.phases (heres_of d.nodes) d.ready.row c.args.verb c.args.port c.args.value r c.requires.from to agreed does told)
@@ -45,14 +45,14 @@ invariant_of-self c =
 pub returns-clause-step : goal.returns-clause-step
 returns-clause-step c =
     let n = c.self.inside in let d = c.command.new in let r = c.command.result in
-    let w : Wiring = record { chans = n.names.chans; sites = map site_of n.sites.items; ports = n.names.ports } in
+    let w : Wiring = record { chans = n.names.chans; sites = map site_of n.sites; ports = n.names.ports } in
     let same : w ≡ c.args.self.now.wiring = ap (λ (v : Standing). v.wiring) c.self.view_is in
     let to : c.args.port ≤ length w.ports = subst (λ (v : Wiring). c.args.port ≤ length v.ports) (sym same) c.requires.to in
     let agreed : refusal_at w c.args.verb c.args.port c.args.value ≡ None = subst (λ (v : Wiring). refusal_at v c.args.verb c.args.port c.args.value ≡ None) (sym same) c.requires.agreed in
     let told : Retold w.sites (heres_of n.nodes) (heres_of d.nodes) c.args.port (host_after c.args.verb c.args.value (phase_in n.phases.items c.args.port)) =
-    rw (c.deref.ensures.value, c.deref_mut.ensures.value) at c.command.ensures.told in
+    rw c.deref_mut.ensures.value at c.command.ensures.told in
     let does : CommandedAt w.sites n.ends.items (comps_of n.nodes) n.phases.items d.phases n.ready.row d.ready.row c.args.verb c.args.port c.args.value r =
-    rw (c.deref.ensures.value, c.deref-2.ensures.value, c.deref_mut.ensures.value) at c.command.ensures.commanded in
+    rw (c.deref.ensures.value, c.deref_mut.ensures.value) at c.command.ensures.commanded in
     let phases : take n.phases.len (d.phases ++ drop (length d.phases) n.phases.items) ≡ d.phases = take_at _ _ _ (omega arith) in
     let step : HostStep w (state_of n.phases.items (comps_of n.nodes)) c.args.verb c.args.port c.args.value r (state_of d.phases (comps_of n.nodes)) =
     core_host_step w n.phases.items (comps_of n.nodes) (heres_of n.nodes) n.ends.items n.ready.row c.self.invariant d.phases (heres_of d.nodes) d.ready.row c.args.verb c.args.port c.args.value r c.requires.from to agreed does told in
@@ -61,13 +61,13 @@ returns-clause-step c =
 pub command-requires-clause-are_ends : goal.command-requires-clause-are_ends
 command-requires-clause-are_ends c =
     let n = c.self.inside in
-    let w : Wiring = record { chans = n.names.chans; sites = map site_of n.sites.items; ports = n.names.ports } in
-    rw (c.deref.ensures.value, c.deref-2.ensures.value) (all_are_ends w n.ends.items c.self.invariant.ends_of)
+    let w : Wiring = record { chans = n.names.chans; sites = map site_of n.sites; ports = n.names.ports } in
+    rw c.deref.ensures.value (all_are_ends w n.ends.items c.self.invariant.ends_of)
 
 pub returns-clause-within : goal.returns-clause-within
 returns-clause-within c =
     let n = c.self.inside in
-    let w : Wiring = record { chans = n.names.chans; sites = map site_of n.sites.items; ports = n.names.ports } in
+    let w : Wiring = record { chans = n.names.chans; sites = map site_of n.sites; ports = n.names.ports } in
     let same : w ≡ c.args.self.now.wiring = ap (λ (v : Standing). v.wiring) c.self.view_is in
     let to : c.args.port ≤ length w.ports = subst (λ (v : Wiring). c.args.port ≤ length v.ports) (sym same) c.requires.to in
     subst (λ (v : Wiring). c.args.port ≤ length v.chans) same (let few = c.self.invariant.wired.ports_to in omega (arith, to, few))

@@ -4,19 +4,16 @@ use Rattle.bz_elab.specs.Flats.{site_of}
 use Rattle.bz_net.proofs.Cores.{core_placed}
 use Rattle.bz_net.specs.Core.{Standing}
 use Rattle.bz_net.specs.Due.{TellsDue}
-use Rattle.bz_net.specs.Keeping.{state_of}
 use Rattle.bz_net.specs.Nodes.{comps_of, heres_of}
 use Rattle.bz_net.proofs.core_net.Core.due.Goals as goal
 
 pub due_at-requires : goal.due_at-requires
 due_at-requires c =
     let n = c.self.inside in
-    let w : Wiring = record { chans = n.names.chans; sites = map site_of n.sites.items; ports = n.names.ports } in
-    rw (c.deref.ensures.value, c.deref-2.ensures.value) (core_placed w n.phases.items (comps_of n.nodes) (heres_of n.nodes) n.ends.items n.ready.row c.self.invariant)
+    let w : Wiring = record { chans = n.names.chans; sites = map site_of n.sites; ports = n.names.ports } in
+    rw c.deref.ensures.value (core_placed w n.phases.items (comps_of n.nodes) (heres_of n.nodes) n.ends.items n.ready.row c.self.invariant)
 
 pub returns : goal.returns
 returns c =
     let n = c.self.inside in
-    let told : TellsDue (map site_of n.sites.items) (state_of n.phases.items (comps_of n.nodes)) c.args.comp c.args.port c.due_at.result =
-    rw c.deref.ensures.value at c.due_at.ensures in
-    subst (λ (v : Standing). TellsDue v.wiring.sites v.state c.args.comp c.args.port c.due_at.result) c.self.view_is told
+    subst (λ (v : Standing). TellsDue v.wiring.sites v.state c.args.comp c.args.port c.due_at.result) c.self.view_is c.due_at.ensures

@@ -1,4 +1,4 @@
-use Rattle.std.proofs.Common.{◌≡◌, ◌<◌, ◌≤◌, ◌-◌, true, false, None, length, map, sym, ap, subst, arith}
+use Rattle.std.proofs.Common.{◌≤◌, ◌-◌, true, false, length, map, sym, ap, subst, arith}
 use Rattle.std.proofs.lemmas.List.{get_or_read}
 use Rattle.bz_elab.specs.declared.flat.Ends.{Ends}
 use Rattle.bz_model.specs.Nets.{Wiring}
@@ -12,7 +12,7 @@ use Rattle.bz_net.proofs.core_net.Core.ends.Goals as goal
 pub returns : goal.returns
 returns c =
     let n = c.self.inside in
-    let w : Wiring = record { chans = n.names.chans; sites = map site_of n.sites.items; ports = n.names.ports } in
+    let w : Wiring = record { chans = n.names.chans; sites = map site_of n.sites; ports = n.names.ports } in
     let of = c.self.invariant.ends_of in
     let len = of.ends_len in
     let to : c.args.chan ≤ length w.chans = subst (λ (v : Standing). c.args.chan ≤ length v.wiring.chans) (sym c.self.view_is) c.requires.to in

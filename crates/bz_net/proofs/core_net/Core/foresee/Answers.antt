@@ -8,5 +8,5 @@ use Rattle.bz_net.proofs.core_net.Core.foresee.Goals as goal
 pub foresee-requires : goal.foresee-requires
 foresee-requires c =
     let n = c.self.inside in
-    let w : Wiring = record { chans = n.names.chans; sites = map site_of n.sites.items; ports = n.names.ports } in
-    rw (c.deref.ensures.value, c.deref-2.ensures.value) (core_placed w n.phases.items (comps_of n.nodes) (heres_of n.nodes) n.ends.items n.ready.row c.self.invariant)
+    let w : Wiring = record { chans = n.names.chans; sites = map site_of n.sites; ports = n.names.ports } in
+    rw c.deref.ensures.value (core_placed w n.phases.items (comps_of n.nodes) (heres_of n.nodes) n.ends.items n.ready.row c.self.invariant)

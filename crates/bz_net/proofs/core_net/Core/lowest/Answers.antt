@@ -8,5 +8,5 @@ use Rattle.bz_net.proofs.core_net.Core.lowest.Goals as goal
 pub lowest_port-requires-clause-sighted : goal.lowest_port-requires-clause-sighted
 lowest_port-requires-clause-sighted c =
     let n = c.self.inside in
-    let w : Wiring = record { chans = n.names.chans; sites = map site_of n.sites.items; ports = n.names.ports } in
-    rw (c.deref.ensures.value, c.deref-2.ensures.value) (core_sighted w n.phases.items (comps_of n.nodes) (heres_of n.nodes) n.ends.items n.ready.row c.self.invariant)
+    let w : Wiring = record { chans = n.names.chans; sites = map site_of n.sites; ports = n.names.ports } in
+    rw c.deref.ensures.value (core_sighted w n.phases.items (comps_of n.nodes) (heres_of n.nodes) n.ends.items n.ready.row c.self.invariant)

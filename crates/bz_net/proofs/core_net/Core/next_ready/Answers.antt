@@ -12,6 +12,6 @@ use Rattle.bz_net.proofs.core_net.Core.next_ready.Goals as goal
 pub returns : goal.returns
 returns c =
     let n = c.self.inside in
-    let w : Wiring = record { chans = n.names.chans; sites = map site_of n.sites.items; ports = n.names.ports } in
+    let w : Wiring = record { chans = n.names.chans; sites = map site_of n.sites; ports = n.names.ports } in
     subst (λ (v : Standing). MatchOption c.next_from.result (Rest v.wiring.sites v.state) (IsNext (CanStep v.wiring.sites v.state) c.args.from)) c.self.view_is
     (next_ready w (state_of n.phases.items (comps_of n.nodes)) n.ready.row c.args.from c.next_from.result c.self.invariant.ready c.next_from.ensures)

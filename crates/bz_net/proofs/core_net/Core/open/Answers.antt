@@ -14,48 +14,48 @@ use Rattle.bz_net.proofs.core_net.Core.open.Goals as goal
 pub mark_all-requires-clause-sighted : goal.mark_all-requires-clause-sighted
 mark_all-requires-clause-sighted c =
     let p = c.into_pieces-pieces.result in
-    let w : Wiring = wiring_of p.chans.items p.comps.items p.ports.items in
+    let w : Wiring = wiring_of p.chans p.comps p.ports.items in
     let phases = c.in-Ok.phases.items in
     let comps = comps_of c.in_ok-nodes.nodes in
     let heres = heres_of c.in_ok-nodes.nodes in
     let idle : phases ≡ replicate (length w.chans) Idle = grind (arith, common_steps) in
-    let count = sym (length-map p.comps.items site_of) in
-    let begun : Started w.chans w.sites comps (length p.comps.items) = rw (c.deref.ensures.value, c.deref-2.ensures.value) at c.in_ok-nodes.ensures.started in
-    let blank : AreBlank w.sites heres (length p.comps.items) = rw c.deref-2.ensures.value at c.in_ok-nodes.ensures.blank in
+    let count = sym (length-map p.comps site_of) in
+    let begun : Started w.chans w.sites comps (length p.comps) = c.in_ok-nodes.ensures.started in
+    let blank : AreBlank w.sites heres (length p.comps) = c.in_ok-nodes.ensures.blank in
     let started = subst (Started w.chans w.sites comps) count begun in
     let blanks = subst (AreBlank w.sites heres) count blank in
-    rw (c.deref-3.ensures.value, c.deref-4.ensures.value)
+    rw c.deref.ensures.value
     (sighted_first w phases comps heres c.into_pieces-pieces.ensures.wired idle started blanks)
 
 pub invariant_of-result : goal.invariant_of-result
 invariant_of-result c =
     let p = c.into_pieces-pieces.result in
-    let w : Wiring = wiring_of p.chans.items p.comps.items p.ports.items in
+    let w : Wiring = wiring_of p.chans p.comps p.ports.items in
     let phases = c.in-Ok.phases.items in
     let comps = comps_of c.in_ok-nodes.nodes in
     let heres = heres_of c.in_ok-nodes.nodes in
     let idle : phases ≡ replicate (length w.chans) Idle = grind (arith, common_steps) in
-    let count = sym (length-map p.comps.items site_of) in
-    let begun : Started w.chans w.sites comps (length p.comps.items) = rw (c.deref.ensures.value, c.deref-2.ensures.value) at c.in_ok-nodes.ensures.started in
-    let blank : AreBlank w.sites heres (length p.comps.items) = rw c.deref-2.ensures.value at c.in_ok-nodes.ensures.blank in
+    let count = sym (length-map p.comps site_of) in
+    let begun : Started w.chans w.sites comps (length p.comps) = c.in_ok-nodes.ensures.started in
+    let blank : AreBlank w.sites heres (length p.comps) = c.in_ok-nodes.ensures.blank in
     let started = subst (Started w.chans w.sites comps) count begun in
     let blanks = subst (AreBlank w.sites heres) count blank in
-    let marks : MarksAll w.sites (state_of phases comps) c.in-Ok-mark_all.ready.row (length p.comps.items) = rw (c.deref-3.ensures.value, c.deref-4.ensures.value) at c.in-Ok-mark_all.ensures in
+    let marks : MarksAll w.sites (state_of phases comps) c.in-Ok-mark_all.ready.row (length p.comps) = rw c.deref.ensures.value at c.in-Ok-mark_all.ensures in
     rw c.new.ensures
     (core_first w phases comps heres c.into_pieces-pieces.ensures.wired idle started blanks p.ends.items c.in-Ok-mark_all.ready.row c.into_pieces-pieces.ensures.ends_of
-    (marks_ready w (state_of phases comps) c.in-Ok-mark_all.ready.row (length p.comps.items) count marks))
+    (marks_ready w (state_of phases comps) c.in-Ok-mark_all.ready.row (length p.comps) count marks))
 
 pub returns-clause-state : goal.returns-clause-state
 returns-clause-state c =
     let p = c.into_pieces-pieces.result in
-    let w : Wiring = wiring_of p.chans.items p.comps.items p.ports.items in
+    let w : Wiring = wiring_of p.chans p.comps p.ports.items in
     let phases = c.in-Ok.phases.items in
     let comps = comps_of c.in_ok-nodes.nodes in
     let heres = heres_of c.in_ok-nodes.nodes in
     let idle : phases ≡ replicate (length w.chans) Idle = grind (arith, common_steps) in
-    let count = sym (length-map p.comps.items site_of) in
-    let begun : Started w.chans w.sites comps (length p.comps.items) = rw (c.deref.ensures.value, c.deref-2.ensures.value) at c.in_ok-nodes.ensures.started in
-    let blank : AreBlank w.sites heres (length p.comps.items) = rw c.deref-2.ensures.value at c.in_ok-nodes.ensures.blank in
+    let count = sym (length-map p.comps site_of) in
+    let begun : Started w.chans w.sites comps (length p.comps) = c.in_ok-nodes.ensures.started in
+    let blank : AreBlank w.sites heres (length p.comps) = c.in_ok-nodes.ensures.blank in
     let started = subst (Started w.chans w.sites comps) count begun in
     let blanks = subst (AreBlank w.sites heres) count blank in
     let same : c.args.flat.wiring ≡ w = c.into_pieces-pieces.ensures.wiring in

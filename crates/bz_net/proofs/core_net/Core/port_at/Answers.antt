@@ -9,10 +9,10 @@ use Rattle.bz_net.proofs.Stands.{tells_port}
 use Rattle.bz_net.specs.Nodes.{comps_of}
 use Rattle.bz_net.proofs.core_net.Core.port_at.Goals as goal
 
-told : (c : goal.After-port_in) → TellsPort (map site_of c.self.inside.sites.items) c.args.chan (answers c.args.mv) c.args.comp c.port_in.result
+told : (c : goal.After-port_in) → TellsPort (map site_of c.self.inside.sites) c.args.chan (answers c.args.mv) c.args.comp c.port_in.result
 told c =
     let n = c.self.inside in
-    let w : Wiring = record { chans = n.names.chans; sites = map site_of n.sites.items; ports = n.names.ports } in
+    let w : Wiring = record { chans = n.names.chans; sites = map site_of n.sites; ports = n.names.ports } in
     tells_port w n.ends.items c.args.chan (answers c.args.mv) c.args.comp c.port_in.result c.self.invariant.wired c.self.invariant.ends_of
     (rw (c.deref.ensures.value, c.answers.ensures) at c.port_in.ensures)
 
@@ -22,6 +22,6 @@ returns-clause-end c = subst (λ (v : Standing). TellsPort v.wiring.sites c.args
 pub returns-clause-sole : goal.returns-clause-sole
 returns-clause-sole c =
     let n = c.self.inside in
-    let w : Wiring = record { chans = n.names.chans; sites = map site_of n.sites.items; ports = n.names.ports } in
+    let w : Wiring = record { chans = n.names.chans; sites = map site_of n.sites; ports = n.names.ports } in
     subst (λ (v : Standing). IsSolePort v.wiring.sites v.state c.args.comp c.args.chan c.args.mv c.port_in.result) c.self.view_is
     (sole_port w n.phases.items (comps_of n.nodes) c.args.comp c.args.chan c.args.mv c.port_in.result c.self.invariant.wired c.self.invariant.tied (told c))

@@ -1,4 +1,4 @@
-use Rattle.std.proofs.Common.{◌≡◌, ℕ, ◌<◌, ◌≤◌, length, sym}
+use Rattle.std.proofs.Common.{sym}
 use Rattle.bz_net.proofs.Hosts.{port_range}
 use Rattle.bz_net.proofs.core_net.Core.port_of.Goals as goal
 

@@ -1,4 +1,4 @@
-use Rattle.std.proofs.Common.{◌≡◌, ◌<◌, ◌≤◌, ◌++◌, [], ◌∷◌, length, sym, ap, ◌∙◌, subst, arith}
+use Rattle.std.proofs.Common.{◌<◌, ◌≤◌, ◌++◌, [], ◌∷◌, length, sym, ap, ◌∙◌, subst, arith}
 use Rattle.bz_model.specs.Nets.{Wiring, Step, StepsAt, chan_in}
 use Rattle.bz_model.specs.Widths.{FitsOn}
 use Rattle.bz_model.specs.declared.event.Entry.TheVariants.{Fired}

@@ -1,4 +1,4 @@
-use Rattle.std.proofs.Common.{◌≡◌, ◌<◌, ◌≤◌, ◌+◌, ◌-◌, None, length, refl, sym, ap, ◌∙◌, subst, arith}
+use Rattle.std.proofs.Common.{◌≡◌, ◌≤◌, ◌+◌, ◌-◌, None, length, sym, ap, ◌∙◌, subst, arith}
 use Rattle.bz_model.specs.declared.event.Entry.TheVariants.{Host}
 use Rattle.bz_model.specs.Hosts.{refusal_at}
 use Rattle.bz_model.specs.Nets.{Wiring}

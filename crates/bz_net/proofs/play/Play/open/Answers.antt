@@ -1,4 +1,4 @@
-use Rattle.std.proofs.Common.{◌≡◌, length, sym, ap, ◌∙◌}
+use Rattle.std.proofs.Common.{sym, ap, ◌∙◌}
 use Rattle.bz_model.specs.Nets.{opening}
 use Rattle.bz_net.proofs.Pieces.{told_opening}
 use Rattle.bz_net.proofs.play.Play.open.Goals as goal

@@ -1,5 +1,4 @@
-use Rattle.std.proofs.Common.{◌≡◌, ◌+◌, ◌-◌, ℕ, [], sym, subst, arith}
-use Rattle.std.specs.Prelude.{MatchOption}
+use Rattle.std.proofs.Common.{◌≡◌, ◌+◌, ◌-◌, ℕ, [], subst, arith}
 use Rattle.bz_model.specs.declared.event.Who.{Who}
 use Rattle.bz_model.specs.declared.event.Entry.{Entry}
 use Rattle.bz_model.specs.declared.event.Entry.TheVariants.{Fired, Host, Rested}

@@ -1,0 +1,110 @@
+//! The values and the channels of a component: few, which lie in it, or a list.
+
+ghost use Rattle.std.specs.Prelude.{◌≡◌, IfOk, replicate, slice_set};
+ghost use Rattle.bz_kinds.specs.KeptLists.{chans_of, slots_of};
+
+use bz_model::{Chan, Value};
+use std::alloc::{AllocError, Global};
+
+/// The values that a component keeps: two, as most do, or another number of them.
+#[derive(Drop)]
+pub enum KeptSlots {
+    Two([Value; 2]),
+    List(Vec<Value>),
+}
+
+/// The channels at a component's ports, in the order of these.
+#[derive(Drop)]
+pub enum KeptChans {
+    One(Chan),
+    Two(Chan, Chan),
+    Three(Chan, Chan, Chan),
+    List(Vec<Chan>),
+}
+
+impl KeptSlots {
+    /// So many zeros.
+    pub fn new(alloc: Global, count: u32) -> Result<KeptSlots, AllocError>
+        ensures { IfOk result (λ s. slots_of s ≡ replicate count 0) }
+    {
+        if count == 2 {
+            return Ok(KeptSlots::Two([0; 2]));
+        }
+        let list = vec![in alloc; 0; count as usize]?;
+        Ok(KeptSlots::List(list))
+    }
+
+    pub fn get(&self) -> &[Value]
+        ensures { result.now ≡ slots_of self.now }
+    {
+        match self {
+            KeptSlots::Two(two) => two,
+            KeptSlots::List(list) => list,
+        }
+    }
+
+    /// Puts a value into a slot, where there is such a slot.
+    pub fn put(&mut self, slot: u32, value: Value)
+        ensures { slots_of self.new ≡ slice_set (slots_of self.old) slot value }
+    {
+        match self {
+            KeptSlots::Two(two) => put(two, slot, value),
+            KeptSlots::List(list) => put(list, slot, value),
+        }
+    }
+
+    /// The same values.
+    pub fn dup(&self, alloc: Global) -> Result<KeptSlots, AllocError>
+        ensures { IfOk result (λ s. slots_of s ≡ slots_of self.now) }
+    {
+        match self {
+            KeptSlots::Two(two) => Ok(KeptSlots::Two(*two)),
+            KeptSlots::List(list) => {
+                let list = list.to_vec(alloc)?;
+                Ok(KeptSlots::List(list))
+            }
+        }
+    }
+}
+
+fn put(slots: &mut [Value], slot: u32, value: Value)
+    ensures { slots.new ≡ slice_set slots.old slot value }
+{
+    if (slot as usize) < slots.len() {
+        slots[slot as usize] = value;
+    }
+}
+
+impl KeptChans {
+    /// These channels.
+    pub fn of(alloc: Global, chans: &[Chan]) -> Result<KeptChans, AllocError>
+        ensures { IfOk result (λ k. chans_of k ≡ chans.now) }
+    {
+        match chans {
+            [one] => Ok(KeptChans::One(*one)),
+            [first, second] => Ok(KeptChans::Two(*first, *second)),
+            [first, second, third] => Ok(KeptChans::Three(*first, *second, *third)),
+            _ => {
+                let list = chans.to_vec(alloc)?;
+                Ok(KeptChans::List(list))
+            }
+        }
+    }
+
+    /// The same channels.
+    pub fn dup(&self, alloc: Global) -> Result<KeptChans, AllocError>
+        ensures { IfOk result (λ k. chans_of k ≡ chans_of self.now) }
+    {
+        match self {
+            KeptChans::One(one) => Ok(KeptChans::One(*one)),
+            KeptChans::Two(first, second) => Ok(KeptChans::Two(*first, *second)),
+            KeptChans::Three(first, second, third) => {
+                Ok(KeptChans::Three(*first, *second, *third))
+            }
+            KeptChans::List(list) => {
+                let list = list.to_vec(alloc)?;
+                Ok(KeptChans::List(list))
+            }
+        }
+    }
+}
