@@ -1,15 +1,18 @@
 -- Words of ports: what a mask and one bit leave of them.
-use Rattle.std.proofs.Common.{◌≡◌, ◌≢◌, ℕ, zero, suc, ◌+◌, ◌-◌, ◌*◌, ◌/◌, ◌%◌, ◌^◌, ◌<◌, ◌≤◌, Bool, true, false, not, ◌&&◌, ◌==◌, List, [], ◌∷◌, length, get_or, set, replicate, refl, sym, ap, ◌∙◌, subst, inl, inr, arith, min, max}
+use Rattle.std.proofs.Common.{◌≡◌, ◌≢◌, ℕ, zero, suc, ◌+◌, ◌-◌, ◌*◌, ◌/◌, ◌%◌, ◌^◌, ◌<◌, ◌≤◌, Bool, true, false, not, ◌&&◌, ◌==◌, List, [], ◌∷◌, length, get_or, set, take, drop, replicate, refl, sym, ap, ◌∙◌, subst, inl, inr, arith, min, max}
 use Rattle.std.specs.Prelude.{nat_le, nat_lt, if◌then◌else◌, bit_and, bit_or}
 use Rattle.std.specs.Int.{bit_at, from_bool, div_ceil}
 use Rattle.std.proofs.lemmas.Grind.{div_ceil_times}
-use Rattle.std.proofs.lemmas.Nat.Bits.{bit_at-zero, bit_at-lt}
-use Rattle.std.proofs.lemmas.List.{ext_get_or, length-set, length-replicate, get_or-replicate, get_or-set_same, get_or-set_other, get_or_past}
+use Rattle.std.proofs.lemmas.Nat.{one_shl}
+use Rattle.std.proofs.lemmas.Nat.Bits.{bit_at-zero, bit_at-lt, bit_at-pow_same, bit_at-pow_other}
+use Rattle.std.specs.List.{All}
+use Rattle.std.proofs.lemmas.List.Elements.{All-get_or}
+use Rattle.std.proofs.lemmas.List.{get_or-take, get_or-drop, length-take, length-drop, ext_get_or, length-set, length-replicate, get_or-replicate, get_or-set_same, get_or-set_other, get_or_past}
 use Rattle.std.proofs.lemmas.List.FromFn.{length-map-range_with_len, get_or-map-range_with_len}
 use Rattle.std.proofs.lemmas.Bool.{cases_eq, cases_lt, le-leb, lt-leb, lt-ltb, le-ltb}
 use Rattle.bz_bits.specs.declared.word.PortWord.{PortWord}
 use Rattle.bz_bits.specs.Row.{bit_of}
-use Rattle.bz_bits.specs.PortWords.{no_ports, number_in, number_at, numbers, AreNumbers, between, goes}
+use Rattle.bz_bits.specs.PortWords.{no_ports, number_in, number_at, numbers, AreNumbers, IsEven, between, goes}
 
 pub table : (d o p h : ℕ) → d < 2 → o < 2 → p < 2 → h < 2
     → (min d (max h (1 - (p + o) % 2)) == 1) ≡ goes (d == 1) (o == 1) (p == 1) (h == 1)
@@ -81,6 +84,29 @@ pub word_numbers : (ws : List PortWord) (n at i : ℕ) → AreNumbers ws n → i
 word_numbers ws n at i are lt =
     let p = 64 * at + i in let a : p / 64 ≡ at = omega arith in let b : p % 64 ≡ i = omega arith in
     sym (any-number ws n p are ∙ ap (λ (m : ℕ). number_in (get_or ws m no_ports) (p % 64)) a ∙ ap (number_in (get_or ws at no_ports)) b)
+
+-- a word behind the first that has no bit for a move that is due
+pub even_word : (f : PortWord) (rest : List PortWord) (n k : ℕ) → AreNumbers (f ∷ rest) n → 0 < k → (w : PortWord) → w ≡ get_or rest (k - 1) no_ports → w.due ≡ 0 → IsEven (numbers (f ∷ rest) n) k
+even_word f rest n zero are from w is none = absurd (omega arith)
+even_word f rest n (suc j) are from w is none =
+    let e : suc j - 1 ≡ j = omega arith in
+    record {
+      word = get_or rest j no_ports;
+      each = λ i lt. word_numbers (f ∷ rest) n (suc j) i are lt;
+      none_due = ap (λ (v : PortWord). v.due) (sym (is ∙ ap (λ (m : ℕ). get_or rest m no_ports) e)) ∙ none;
+    }
+
+-- the first m of the words from `at` on
+pub even_words : (f : PortWord) (rest : List PortWord) (n at b m : ℕ) → AreNumbers (f ∷ rest) n → 0 < at → b ≡ min (at - 1) (length rest)
+    → m ≤ length (drop b rest) → All (λ (w : PortWord). w.due ≡ 0) (take m (drop b rest)) → (k : ℕ) → at ≤ k → k < at + m → IsEven (numbers (f ∷ rest) n) k
+even_words f rest n at b m are from is within all k le lt =
+    let ws = drop b rest in let j = k - at in let jm : j < m = omega (arith, le, lt) in
+    let at_once : b ≡ at - 1 = omega (arith, is, within, length-drop b rest, jm) in
+    let there : b + j ≡ k - 1 = omega (arith, at_once, le, from) in
+    let none = All-get_or (λ (w : PortWord). w.due ≡ 0) (take m ws) j no_ports (omega (arith, jm, within, length-take m ws)) all in
+    even_word f rest n k are (omega (arith, from, le)) (get_or rest (k - 1) no_ports) refl
+    (ap (λ (i : ℕ). (get_or rest i no_ports).due) (sym there)
+    ∙ ap (λ (w : PortWord). w.due) (sym (get_or-take m ws j no_ports jm ∙ get_or-drop b rest j no_ports)) ∙ none)
 
 number_none : (p : ℕ) → number_in no_ports p ≡ 0
 number_none p = let z = bit_at-zero p in omega (arith, z)
@@ -180,6 +206,22 @@ and_yes : (b : Bool) (s x : ℕ) → (if b then s else x) ≡ (if b && true then
 and_yes true s x = refl
 and_yes false s x = refl
 
+-- the word whose only 1 is at a place
+pub one_place : (k i : ℕ) → k < 64 → (bit_at (1 * 2 ^ k % 2 ^ 64) i == 1) ≡ between k (k + 1) i
+one_place k i lt =
+    ap (λ (x : ℕ). bit_at x i == 1) (one_shl k 64 lt) ∙ elim (cases_eq i k) [
+      | inl e ↦ let b : between k (k + 1) i ≡ true = grind (arith, e) in
+          ap (λ (m : ℕ). bit_at (2 ^ k) m == 1) e ∙ ap (λ (x : ℕ). x == 1) (bit_at-pow_same k) ∙ sym b
+      | inr f ↦ ap (λ (x : ℕ). x == 1) (bit_at-pow_other k i f) ∙ sym (only k i f)
+    ]
+
+-- a port among all, and in its word
+pub in_word : (port i : ℕ) → between (port % 64) (port % 64 + 1) i ≡ between port (port + 1) (64 * (port / 64) + i)
+in_word port i =
+    let m = port % 64 in let p = 64 * (port / 64) + i in
+    ap (λ (b : Bool). b && nat_lt i (m + 1)) (leb_same m i port p (λ le. omega (arith, le)) (λ le. omega (arith, le)))
+    ∙ ap (λ (b : Bool). nat_le port p && b) (leb_same (suc i) (m + 1) (suc p) (port + 1) (λ le. omega (arith, le)) (λ le. omega (arith, le)))
+
 -- one more word is filled
 module _ (old ws : List PortWord) (from to at s : ℕ) (inv : (p : ℕ) → number_at ws p ≡ (if between from to p && nat_lt (p / 64) at then s else number_at old p)) where
   pub fill_step : (mask : ℕ) (w : PortWord) → at < length ws → ((i : ℕ) → i < 64 → (bit_at mask i == 1) ≡ between from to (64 * at + i))
@@ -249,7 +291,6 @@ module _ (ws vs : List ℕ) (port v : ℕ) (b : ℕ) (is : vs ≡ set ws (port /
         | inr f ↦ ap (λ (l : List ℕ). bit_of l k) is ∙ ap (λ (x : ℕ). bit_at x (k % 64)) (get_or-set_other ws (port / 64) (k / 64) v 0 f)
       ]
 
-pub mask_with : (v w m b n : ℕ) → ((i : ℕ) → i < 64 → bit_at v i ≡ (if bit_at m i == 1 then b else bit_at w i)) → ((i : ℕ) → i < 64 → (bit_at m i == 1) ≡ between n (n + 1) (64 * 0 + i)) → (u : ℕ) → w ≡ u → (i : ℕ) → i < 64 → bit_at v i ≡ (if between n (n + 1) i then b else bit_at u i)
+pub mask_with : (v w m b n : ℕ) → ((i : ℕ) → i < 64 → bit_at v i ≡ (if bit_at m i == 1 then b else bit_at w i)) → ((i : ℕ) → i < 64 → (bit_at m i == 1) ≡ between n (n + 1) i) → (u : ℕ) → w ≡ u → (i : ℕ) → i < 64 → bit_at v i ≡ (if between n (n + 1) i then b else bit_at u i)
 mask_with v w m b n bits masks u is i lt =
-    let e : 64 * 0 + i ≡ i = omega arith in
-    bits i lt ∙ ap (λ (c : Bool). if c then b else bit_at w i) (masks i lt ∙ ap (between n (n + 1)) e) ∙ ap (λ (x : ℕ). if between n (n + 1) i then b else bit_at x i) is
+    bits i lt ∙ ap (λ (c : Bool). if c then b else bit_at w i) (masks i lt) ∙ ap (λ (x : ℕ). if between n (n + 1) i then b else bit_at x i) is

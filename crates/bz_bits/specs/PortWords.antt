@@ -1,5 +1,5 @@
 -- Numbers from 0 to 3, each as one bit of two words.
-use Rattle.std.specs.Prelude.{◌≡◌, ◌==◌, ◌&&◌, ℕ, ◌+◌, ◌*◌, ◌/◌, ◌%◌, ◌^◌, ◌<◌, ◌≤◌, nat_le, nat_lt, Bool, true, false, List, map, length, slice_index_or, if◌then◌else◌}
+use Rattle.std.specs.Prelude.{◌≡◌, ◌==◌, ◌&&◌, ℕ, ◌+◌, ◌*◌, ◌/◌, ◌%◌, ◌^◌, ◌<◌, ◌≤◌, nat_le, nat_lt, Bool, true, false, List, map, length, slice_index, slice_index_or, if◌then◌else◌}
 use Rattle.std.specs.List.{range_with_len}
 use Rattle.std.specs.Int.{bit_at}
 use Rattle.bz_bits.specs.declared.word.PortWord.{PortWord}
@@ -24,6 +24,12 @@ pub record AreNumbers (words : List PortWord) (n : ℕ) : Type 0 where
   pub room : n ≤ 64 * length words
   pub small : n < 2 ^ 64
   pub clear : (p : ℕ) → n ≤ p → number_at words p ≡ 0
+
+-- word k of these numbers, of which none is odd
+pub record IsEven (numbers : List ℕ) (k : ℕ) : Type 0 where
+  pub word : PortWord
+  pub each : (i : ℕ) → i < 64 → number_in word i ≡ slice_index numbers (64 * k + i)
+  pub none_due : word.due ≡ 0
 
 -- whether p stands at `from` or after it, and before `to`
 abbrev pub between : ℕ → ℕ → ℕ → Bool

@@ -3,7 +3,7 @@ ghost use Rattle.std.specs.Prelude.{◌≡◌, ◌≢◌, ◌==◌, ◌+◌, ◌
 ghost use Rattle.std.specs.Int.{from_bool};
 ghost use Rattle.bz_bits.specs.Row.{bit_of};
 
-use crate::word::{places, with};
+use crate::word::{one_place, with};
 use std::alloc::{AllocError, Allocator, Global};
 use std::marker::Model;
 
@@ -66,10 +66,9 @@ impl<A: Allocator + Copy> PortBits<A> {
         ensures others { (k : ℕ) → k ≢ port → bit_of self.new k ≡ bit_of self.old k }
     {
         let at = port / 64;
-        let place = port % 64;
         let word = with(
             bits_at(&self.first, &self.more, at),
-            places(0, place, place + 1),
+            one_place(port % 64),
             bit,
         );
         put_bits(&mut self.first, &mut self.more, at, word);

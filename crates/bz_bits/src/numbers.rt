@@ -1,8 +1,8 @@
 //! The numbers of a component's ports, two bits each, of which the first 64 take no memory of their own.
-ghost use Rattle.std.specs.Prelude.{◌≡◌, ◌≢◌, ◌+◌, ◌*◌, ◌/◌, ◌<◌, ◌≤◌, ◌∷◌, ℕ, length, replicate, slice_index, slice_index_or, slice_set, if◌then◌else◌, IfOk};
-ghost use Rattle.bz_bits.specs.PortWords.{between, no_ports, number_at, number_in};
+ghost use Rattle.std.specs.Prelude.{◌≡◌, ◌≢◌, ◌+◌, ◌*◌, ◌/◌, ◌<◌, ◌≤◌, ◌∷◌, ℕ, length, replicate, slice_index, slice_index_or, slice_set, take, if◌then◌else◌, All, IfOk};
+ghost use Rattle.bz_bits.specs.PortWords.{between, no_ports, number_at, number_in, IsEven};
 
-use crate::word::{NO_PORTS, PortWord, places};
+use crate::word::{NO_PORTS, PortWord, one_place, places};
 use std::alloc::{AllocError, Allocator, Global};
 use std::marker::Model;
 
@@ -70,13 +70,23 @@ impl<A: Allocator + Copy> PortNumbers<A> {
         word_at(&self.first, &self.more, at)
     }
 
+    /// The first word from `at` on in which a port has an odd number; past the last word where there is none.
+    pub fn next_odd(&self, at: usize) -> usize
+        requires { 0 < at }
+        ensures from { at ≤ result }
+        ensures passed { (k : ℕ) → at ≤ k → k < result → IsEven self.now k }
+    {
+        let before = (at - 1).min(self.more.len());
+        at + count_even(&self.more[before..])
+    }
+
     /// Gives a port a number; nothing where there is no such port.
     pub fn set(&mut self, port: usize, number: u8)
         requires { number < 4 }
         ensures { self.new ≡ slice_set self.old port number }
     {
         if port < self.len {
-            fill(&mut self.first, &mut self.more, port, port + 1, number);
+            fill_one(&mut self.first, &mut self.more, port, number);
         }
     }
 
@@ -89,6 +99,15 @@ impl<A: Allocator + Copy> PortNumbers<A> {
     {
         fill(&mut self.first, &mut self.more, from, to, number);
     }
+}
+
+// How many words come before the first with an odd number.
+fn count_even(words: &[PortWord]) -> usize
+    ensures within { result ≤ length words.now }
+    ensures even { All (λ w. w.due ≡ 0) (take result words.now) }
+{
+    let found = words.iter().position(|word| word.due != 0);
+    found.unwrap_or(words.len())
 }
 
 // The word at a place, without ports where there is no such word.
@@ -113,6 +132,16 @@ fn put_word(first: &mut PortWord, more: &mut [PortWord], at: usize, word: PortWo
     } else if at <= more.len() {
         more[at - 1] = word;
     }
+}
+
+fn fill_one(first: &mut PortWord, more: &mut [PortWord], port: usize, number: u8)
+    requires number { number < 4 }
+    requires fits { port < 64 * length (first.old ∷ more.old) }
+    ensures { (p : ℕ) → number_at (first.new ∷ more.new) p ≡ (if between port (port + 1) p then number else number_at (first.old ∷ more.old) p) }
+{
+    let at = port / 64;
+    let word = word_at(first, more, at).filled(one_place(port % 64), number);
+    put_word(first, more, at, word);
 }
 
 fn fill(first: &mut PortWord, more: &mut [PortWord], from: usize, to: usize, number: u8)

@@ -50,6 +50,7 @@ impl<A: Allocator + Copy> SummedRow<A> {
         self.row.get(place)
     }
 
+    #[inline(always)]
     pub fn set(&mut self, place: usize, bit: bool)
         requires { place < length self.old }
         ensures { self.new ≡ slice_set self.old place bit }

@@ -57,6 +57,14 @@ pub(crate) fn with(word: u64, mask: u64, bit: bool) -> u64
     if bit { word | mask } else { word & !mask }
 }
 
+/// Of the 64 places of a word, one.
+pub(crate) fn one_place(place: usize) -> u64
+    requires { place < 64 }
+    ensures { (i : ℕ) → i < 64 → (bit_at result i == 1) ≡ between place (place + 1) i }
+{
+    1 << place
+}
+
 /// Of the 64 places of word `at`, those from `from` to before `to`.
 pub fn places(at: usize, from: usize, to: usize) -> u64
     requires { 64 * at < to }

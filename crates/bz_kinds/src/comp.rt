@@ -142,6 +142,7 @@ pub fn moves<'a>(comp: &'a Comp, phases: &'a [Phase]) -> MoveIter<'a>
 
 /// The ports of word `at`, from port 64 * at on, at which a component can move, a bit for each. `here` tells of each of
 /// them whether what a take or a got there waits for is on its channel.
+#[inline(always)]
 pub fn ready_word(comp: &Comp, at: u32, here: u64) -> u64
     requires { at < 2 ^ 26 }
     ensures ready { AreReady comp.now.proc at here result }
@@ -157,6 +158,17 @@ pub fn ready_word(comp: &Comp, at: u32, here: u64) -> u64
         sense_word(&comp.plan, comp.size, at)
     };
     word.ready(passive, here)
+}
+
+/// The first word from `at` on with a port at which a component has a move due; past the last word where there is none. At
+/// the ports of the words between it can't move, whatever is here.
+#[inline(always)]
+pub fn next_due(comp: &Comp, at: usize) -> usize
+    requires { 0 < at }
+    ensures from { at ≤ result }
+    ensures passed { (k here : ℕ) → at ≤ k → k < result → AreReady comp.now.proc k here 0 }
+{
+    comp.ports.next_due(at)
 }
 
 /// The same component in the same state.

@@ -62,6 +62,18 @@ allowed Taken Got false u e f = refl
 allowed (Replied v) Got true u e f = absurd (cc)
 allowed (Replied v) Got false u e f = refl
 
+-- at the ports of words at which nothing can go, whatever is here, it can't
+pub words_pass : (c : Component) (here : List ℕ) (from to : ℕ) → ((k h : ℕ) → from ≤ k → k < to → AreReady c.proc k h 0)
+    → ((q : ℕ) → q < 64 * from → CanGo c.proc q (flag_of here q) → ⊥) → (q : ℕ) → q < 64 * to → CanGo c.proc q (flag_of here q) → ⊥
+words_pass c here from to none before q lt can =
+    elim (cases_lt q (64 * from)) [
+      | inl low ↦ before q low can
+      | inr high ↦
+          let k = q / 64 in let i = q % 64 in let back : 64 * k + i ≡ q = omega arith in
+          let both = none k (get_or here k 0) (omega (arith, high)) (omega (arith, lt)) i (omega arith) in
+          absurd (false≢true (sym (ap (λ (x : ℕ). x == 1) (bit_at-zero i)) ∙ both.1 (subst (λ (r : ℕ). CanGo c.proc r (flag_of here q)) (sym back) can)))
+    ]
+
 -- so a component that is told rightly can move where its bits say
 module _ (sites : List Site) (phases : List Phase) (comps : List Component) (heres : List (List ℕ)) (sighted : Sighted sites phases comps heres) (c : ℕ) (turning : IsTurning (comp_at comps c)) where
   may : (p : ℕ) (port : IsPort sites c p) (h : Head) → IsHeadOn (comp_at comps c).proc p h → may_move (phase_in phases (chan_at sites c p)) h.move ≡ is_free h.move (flag_of (here_at heres c) p)

@@ -16,7 +16,7 @@ use crate::node::{Node, node_id, site_in};
 use bz_arena::Arena;
 use bz_bits::PortBits;
 use bz_elab::{Ends, FlatComp};
-use bz_kinds::{Comp, ready_word};
+use bz_kinds::{Comp, next_due, ready_word};
 use bz_model::{Move, Phase, Reply, Value, Verb};
 use bz_ready::ReadySet;
 use std::alloc::{AllocError, Global};
@@ -33,6 +33,7 @@ pub(crate) fn is_here(phase: Phase, passive: bool) -> bool
 }
 
 /// The lowest port at which a component can move by what it is told.
+#[inline(always)]
 pub(crate) fn lowest_of(comp: &Comp, here: &PortBits) -> Option<u32>
     requires room { length comp.now.chans < 64 * length here.now }
     requires few { length here.now ≤ 2 ^ 26 }
@@ -43,27 +44,35 @@ pub(crate) fn lowest_of(comp: &Comp, here: &PortBits) -> Option<u32>
     if word != 0 {
         return Some(word.trailing_zeros());
     }
+    if here.word_count() == 1 {
+        return None;
+    }
     lowest_far(comp, here)
 }
 
 // The same of the ports from 64 on, where there is none before.
+#[inline(never)]
 fn lowest_far(comp: &Comp, here: &PortBits) -> Option<u32>
     requires room { length comp.now.chans < 64 * length here.now }
     requires few { length here.now ≤ 2 ^ 26 }
     requires near { (p : ℕ) → p < 64 → CanGo comp.now.proc p (flag_of here.now p) → ⊥ }
     ensures { MatchOption result (NoneGoes comp.now here.now) (GoesFirst comp.now here.now) }
 {
-    for at in 1..here.word_count() as u32 {
-        let word = ready_word(comp, at, here.word(at as usize));
+    let end = here.word_count();
+    let mut at = next_due(comp, 1);
+    while at < end {
+        let word = ready_word(comp, at as u32, here.word(at));
         if word != 0 {
-            return Some(64 * at + word.trailing_zeros());
+            return Some(64 * at as u32 + word.trailing_zeros());
         }
+        at = next_due(comp, at + 1);
     }
     None
 }
 
 /// Whether a component can move by what it is told. The ports round `port` are looked at first: there it often can, and then
 /// no others are looked at.
+#[inline(always)]
 fn can_go(comp: &Comp, here: &PortBits, port: u32) -> bool
     requires room { length comp.now.chans < 64 * length here.now }
     requires few { length here.now ≤ 2 ^ 26 }
@@ -71,14 +80,17 @@ fn can_go(comp: &Comp, here: &PortBits, port: u32) -> bool
     ensures turning { IsTurning comp.now }
 {
     let at = port / 64;
-    let word = ready_word(comp, at, here.word(at as usize));
-    if word != 0 {
-        return true;
+    if at > 0 {
+        let word = ready_word(comp, at, here.word(at as usize));
+        if word != 0 {
+            return true;
+        }
     }
     lowest_of(comp, here).is_some()
 }
 
 /// Whether a component has a step. The ports round `port` are looked at first.
+#[inline(always)]
 fn can_step(
     sites: &Arena<FlatComp>,
     phases: &[Phase],
@@ -98,6 +110,7 @@ fn can_step(
 }
 
 /// The lowest port at which a component has a step.
+#[inline(always)]
 pub(crate) fn lowest_port(
     sites: &Arena<FlatComp>,
     phases: &[Phase],
@@ -146,6 +159,7 @@ fn tell_end(nodes: &mut Arena<Node>, end: Option<u32>, port: u32, bit: bool)
 }
 
 /// Looks again whether one component can move, round `port` first.
+#[inline(always)]
 fn refresh(
     sites: &Arena<FlatComp>,
     phases: &[Phase],
@@ -168,6 +182,7 @@ fn refresh(
 }
 
 /// Looks again whether the components at both ends of a channel can move.
+#[inline(always)]
 fn refresh_ends(
     sites: &Arena<FlatComp>,
     phases: &[Phase],

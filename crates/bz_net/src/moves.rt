@@ -151,6 +151,7 @@ fn is_asked(sites: &Arena<FlatComp>, phases: &[Phase], comp: u32, port: u32) -> 
 }
 
 /// Whether two requests meet at a component.
+#[inline(always)]
 fn has_clash(sites: &Arena<FlatComp>, phases: &[Phase], comp: u32) -> bool
     requires reads { ReadsChans (map site_of sites.now) phases.now }
     requires from { 0 < comp }
@@ -162,6 +163,20 @@ fn has_clash(sites: &Arena<FlatComp>, phases: &[Phase], comp: u32) -> bool
     if !is_mixer(&site_in(sites, comp).kind) {
         return false;
     }
+    is_asked_twice(sites, phases, comp)
+}
+
+// The same of a component at which requests may meet.
+#[inline(never)]
+fn is_asked_twice(sites: &Arena<FlatComp>, phases: &[Phase], comp: u32) -> bool
+    requires reads { ReadsChans (map site_of sites.now) phases.now }
+    requires from { 0 < comp }
+    requires to { comp ≤ length sites.now }
+    requires mixes { is_mixer (site_at (map site_of sites.now) comp).kind ≡ true }
+    ensures { MatchBool result
+        (Clashes (map site_of sites.now) phases.now comp)
+        (Clashes (map site_of sites.now) phases.now comp → ⊥) }
+{
     let ports = site_in(sites, comp).chans.len() as u32;
     let mut found = 0;
     for i in 0..ports {
@@ -176,6 +191,7 @@ fn has_clash(sites: &Arena<FlatComp>, phases: &[Phase], comp: u32) -> bool
 }
 
 /// Notes the component at the passive end of a channel, where two requests meet there.
+#[inline(always)]
 pub(crate) fn note_clash(
     sites: &Arena<FlatComp>,
     phases: &[Phase],

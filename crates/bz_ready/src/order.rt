@@ -47,6 +47,7 @@ impl<A: Allocator + Copy> Order<A> {
     }
 
     /// Where a number stands.
+    #[inline(always)]
     pub fn place(&self, number: u32) -> usize
         requires { number < length self.now }
         ensures held { result < length self.now }
@@ -56,6 +57,7 @@ impl<A: Allocator + Copy> Order<A> {
     }
 
     /// Exchanges the numbers at two places.
+    #[inline(always)]
     pub fn swap(&mut self, a: usize, b: usize)
         requires first_held { a < length self.old }
         requires second_held { b < length self.old }

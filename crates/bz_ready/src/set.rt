@@ -48,6 +48,7 @@ impl<A: Allocator + Copy> ReadySet<A> {
         self.row.get(number as usize)
     }
 
+    #[inline(always)]
     pub fn insert(&mut self, number: u32)
         requires { number < length self.old.row }
         ensures members { self.new.row ≡ slice_set self.old.row number true }
@@ -61,6 +62,7 @@ impl<A: Allocator + Copy> ReadySet<A> {
         }
     }
 
+    #[inline(always)]
     pub fn remove(&mut self, number: u32)
         requires { number < length self.old.row }
         ensures members { self.new.row ≡ slice_set self.old.row number false }

@@ -13,3 +13,7 @@ returns-then-word-ne0-clause-lowest c =
 pub lowest_far-requires-clause-near : goal.lowest_far-requires-clause-near
 lowest_far-requires-clause-near c q lt =
     word_passes c.args.comp.now c.args.here.now 0 c.ready_word-word.result c.word.result c.ready_word-word.type_inv c.ready_word-word.ensures.ready c.word.ensures c.if-word-ne0.false (λ r low. absurd (omega (arith, low))) q (omega (arith, lt))
+
+pub returns-then-word_count-eq1-clause-lowest : goal.returns-then-word_count-eq1-clause-lowest
+returns-then-word_count-eq1-clause-lowest c p le can =
+    word_passes c.args.comp.now c.args.here.now 0 c.ready_word-word.result c.word.result c.ready_word-word.type_inv c.ready_word-word.ensures.ready c.word.ensures c.if-word-ne0.false (λ r low. absurd (omega (arith, low))) p (let r = c.requires.room in let n = c.word_count.ensures in let one = c.if-word_count-eq1.true in omega (arith, le, r, n, one)) can

@@ -21,7 +21,7 @@ returns-clause-here g c =
     ∙ put_here ws (c.put_bits.new.first ∷ c.put_bits.new.more) port c.with-word.result (from_bool c.args.bit)
     (c.put_bits.ensures ∙ ap (λ (l : List ℕ). set (f ∷ l) (port / 64) c.with-word.result) c.deref_mut.ensures.value)
     (let view = ap length c.self.view_is in let r = c.requires in omega (arith, view, r))
-    (mask_with c.with-word.result c.bits_at.result c.places.result (from_bool c.args.bit) (port % 64) c.with-word.ensures c.places.ensures (get_or ws (port / 64) 0)
+    (mask_with c.with-word.result c.bits_at.result c.one_place.result (from_bool c.args.bit) (port % 64) c.with-word.ensures c.one_place.ensures (get_or ws (port / 64) 0)
     (c.bits_at.ensures ∙ ap (λ (l : List ℕ). get_or (f ∷ l) (port / 64) 0) c.deref.ensures.value))
 
 pub returns-clause-others : goal.returns-clause-others
@@ -32,6 +32,6 @@ returns-clause-others g c k ne =
     ∙ put_other ws (c.put_bits.new.first ∷ c.put_bits.new.more) port c.with-word.result (from_bool c.args.bit)
     (c.put_bits.ensures ∙ ap (λ (l : List ℕ). set (f ∷ l) (port / 64) c.with-word.result) c.deref_mut.ensures.value)
     (let view = ap length c.self.view_is in let r = c.requires in omega (arith, view, r))
-    (mask_with c.with-word.result c.bits_at.result c.places.result (from_bool c.args.bit) (port % 64) c.with-word.ensures c.places.ensures (get_or ws (port / 64) 0)
+    (mask_with c.with-word.result c.bits_at.result c.one_place.result (from_bool c.args.bit) (port % 64) c.with-word.ensures c.one_place.ensures (get_or ws (port / 64) 0)
     (c.bits_at.ensures ∙ ap (λ (l : List ℕ). get_or (f ∷ l) (port / 64) 0) c.deref.ensures.value)) k ne
     ∙ ap (λ (l : List ℕ). bit_of l k) c.self.view_is

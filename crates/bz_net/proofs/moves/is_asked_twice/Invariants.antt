@@ -1,7 +1,7 @@
 use Rattle.std.proofs.Common.{◌≡◌, ℕ, ◌<◌, ◌≤◌, map}
 use Rattle.bz_elab.specs.Flats.{site_of}
 use Rattle.bz_model.specs.Clashes.{IsAsked}
-use Rattle.bz_net.proofs.moves.has_clash.Given as goal
+use Rattle.bz_net.proofs.moves.is_asked_twice.Given as goal
 
 -- of the ports up to here the one found is the only one, if there is one
 abbrev pub invariant-loop-i : goal.invariant-loop-i
