@@ -184,9 +184,7 @@ fn add_copy<'r>(
     enter(draft, inner, inner.ports.len())?;
     let mut inside = Vec::with_capacity(alloc, levels.len() + 1)?;
     inside.push(Level { before, ports })?;
-    for level in levels {
-        inside.push(*level)?;
-    }
+    inside.extend_from_slice(levels)?;
     Ok(inside)
 }
 

@@ -9,7 +9,7 @@ returns-clause-ok c =
     let ports : c.len.result ≡ length c.args.inner.now.ports.items = omega arith in
     record {
       level = record { before = c.len-before.result; ports = c.args.ports };
-      inside_is = rw (c.in_ok-push.ensures.items, c.in_ok-inside.ensures.items, take_whole levels c.loop-level.level-index c.loop-level-test.false) at c.loop-level.invariant;
+      inside_is = rw (c.in_ok-push.ensures.items, c.in_ok-inside.ensures.items) at c.in_ok-extend_from_slice.ensures.items;
       before_is = omega (arith, c.len-before.ensures);
       ports_are = refl;
       entered = rw ports at c.in_ok-enter.ensures.ok;
