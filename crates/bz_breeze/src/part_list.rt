@@ -9,12 +9,22 @@ use bz_names::NameSet;
 use std::marker::Model;
 
 /// The parts of a netlist, in the order of the text. No two have one name.
-#[derive(Drop)]
 pub struct Parts {
     list: Vec<Part>,
     names: NameSet,
     /// Whether no name begins with a dollar sign, as those of kinds do.
     is_plain: bool,
+}
+
+// By hand, so that who lets one go has one call to show and not all its parts.
+impl Drop for Parts {
+    fn drop(self) {
+        let Parts {
+            list: _,
+            names: _,
+            is_plain: _,
+        } = self;
+    }
 }
 
 impl Model for Parts {

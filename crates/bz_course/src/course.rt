@@ -42,7 +42,6 @@ pub enum UndoError {
 }
 
 /// A net that is played by hand.
-#[derive(Drop)]
 pub struct Course {
     flat: Flat,
     net: Net,
@@ -50,6 +49,20 @@ pub struct Course {
     picker: Picker,
     marks: Vec<Mark>,
     limit: u32,
+}
+
+// By hand, so that who lets one go has one call to show and not all its parts.
+impl Drop for Course {
+    fn drop(self) {
+        let Course {
+            flat: _,
+            net: _,
+            next: _,
+            picker: _,
+            marks: _,
+            limit: _,
+        } = self;
+    }
 }
 
 impl Model for Course {

@@ -41,12 +41,23 @@ pub struct Pieces {
 }
 
 /// The flat net of a part. Its channels, components and ports count from 1, and port k is channel k.
-#[derive(Drop)]
 pub struct Flat {
     chans: Arena<Chan>,
     comps: Arena<FlatComp>,
     ports: Vec<Port>,
     ends: Vec<Ends>,
+}
+
+// By hand, so that who lets one go has one call to show and not all its parts.
+impl Drop for Flat {
+    fn drop(self) {
+        let Flat {
+            chans: _,
+            comps: _,
+            ports: _,
+            ends: _,
+        } = self;
+    }
 }
 
 impl Model for Flat {
@@ -149,11 +160,17 @@ impl Flat {
         ensures wired { WellWired (wiring_of result.chans result.comps result.ports.items) }
         ensures ends_of { EndsOf (wiring_of result.chans result.comps result.ports.items) result.ends.items }
     {
+        let Flat {
+            chans,
+            comps,
+            ports,
+            ends,
+        } = self;
         Pieces {
-            chans: self.chans,
-            comps: self.comps,
-            ports: self.ports,
-            ends: self.ends,
+            chans,
+            comps,
+            ports,
+            ends,
         }
     }
 }

@@ -18,12 +18,22 @@ pub struct Port {
 }
 
 /// The external ports and the channels of a net, each counted from 1. Port k is channel k.
-#[derive(Drop)]
 pub struct Names {
     ports: Vec<Port>,
     chans: Arena<Chan>,
     // The names of the ports in order, by which they are found.
     index: Option<NameSet>,
+}
+
+// By hand, so that who lets one go has one call to show and not all its parts.
+impl Drop for Names {
+    fn drop(self) {
+        let Names {
+            ports: _,
+            chans: _,
+            index: _,
+        } = self;
+    }
 }
 
 impl Model for Names {

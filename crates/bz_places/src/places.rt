@@ -23,11 +23,21 @@ use std::marker::Model;
 const MOST_INSTANCES: u32 = 64;
 
 /// Where the components, the channels and the instances of a net stand.
-#[derive(Drop)]
 pub struct Places {
     chans: Vec<Place>,
     comps: Vec<Place>,
     instances: Vec<Place>,
+}
+
+// By hand, so that who lets one go has one call to show and not all its parts.
+impl Drop for Places {
+    fn drop(self) {
+        let Places {
+            chans: _,
+            comps: _,
+            instances: _,
+        } = self;
+    }
 }
 
 impl Model for Places {
