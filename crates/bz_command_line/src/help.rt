@@ -1,7 +1,7 @@
 //! The texts of the help.
 
 /// What `--version` tells: the version, and the toolchain that the program is proved with.
-pub(crate) const VERSION: &str = "0.1.0\nrattle-kit-13b logic dac8208d650f15bf";
+pub(crate) const VERSION: &str = "0.1.0\nrattle-kit-13f logic dac8208d650f15bf";
 
 pub(crate) const RUN_USAGE: &str = "breezesim run [--journal N] --part P [WORDS]... < FILE";
 
