@@ -1,10 +1,10 @@
 -- Words of ports: what a mask and one bit leave of them.
-use Rattle.std.proofs.Common.{◌≡◌, ◌≢◌, ℕ, zero, suc, ◌+◌, ◌-◌, ◌*◌, ◌/◌, ◌%◌, ◌^◌, ◌<◌, ◌≤◌, Bool, true, false, not, ◌&&◌, ◌==◌, List, [], ◌∷◌, length, get_or, set, take, drop, replicate, refl, sym, ap, ◌∙◌, subst, inl, inr, arith, min, max}
-use Rattle.std.specs.Prelude.{nat_le, nat_lt, if◌then◌else◌, bit_and, bit_or}
-use Rattle.std.specs.Int.{bit_at, from_bool, div_ceil}
+use Rattle.std.proofs.Common.{◌≡◌, ◌≢◌, ◌⊎◌, ℕ, zero, suc, ◌+◌, ◌-◌, ◌*◌, ◌/◌, ◌%◌, ◌^◌, ◌<◌, ◌≤◌, Bool, true, false, not, ◌&&◌, ◌==◌, List, [], ◌∷◌, length, get_or, set, take, drop, replicate, refl, sym, ap, ◌∙◌, subst, inl, inr, arith, min, max}
+use Rattle.std.specs.Prelude.{nat_le, nat_lt, if◌then◌else◌}
+use Rattle.std.specs.Int.{bit_at, from_bool, div_ceil, trailing_zeros, w64}
 use Rattle.std.proofs.lemmas.Grind.{div_ceil_times}
 use Rattle.std.proofs.lemmas.Nat.{one_shl}
-use Rattle.std.proofs.lemmas.Nat.Bits.{bit_at-zero, bit_at-lt, bit_at-pow_same, bit_at-pow_other}
+use Rattle.std.proofs.lemmas.Nat.Bits.{bit_at-trailing_zeros, bit_at-zero, bit_at-lt, bit_at-pow_same, bit_at-pow_other}
 use Rattle.std.specs.List.{All}
 use Rattle.std.proofs.lemmas.List.Elements.{All-get_or}
 use Rattle.std.proofs.lemmas.List.{get_or-take, get_or-drop, length-take, length-drop, ext_get_or, length-set, length-replicate, get_or-replicate, get_or-set_same, get_or-set_other, get_or_past}
@@ -12,7 +12,7 @@ use Rattle.std.proofs.lemmas.List.FromFn.{length-map-range_with_len, get_or-map-
 use Rattle.std.proofs.lemmas.Bool.{cases_eq, cases_lt, le-leb, lt-leb, lt-ltb, le-ltb}
 use Rattle.bz_bits.specs.declared.word.PortWord.{PortWord}
 use Rattle.bz_bits.specs.Row.{bit_of}
-use Rattle.bz_bits.specs.PortWords.{no_ports, number_in, number_at, numbers, AreNumbers, IsEven, between, goes}
+use Rattle.bz_bits.specs.PortWords.{no_ports, number_in, number_at, numbers, AreNumbers, HasOdd, IsEven, between, goes}
 
 pub table : (d o p h : ℕ) → d < 2 → o < 2 → p < 2 → h < 2
     → (min d (max h (1 - (p + o) % 2)) == 1) ≡ goes (d == 1) (o == 1) (p == 1) (h == 1)
@@ -107,6 +107,40 @@ even_words f rest n at b m are from is within all k le lt =
     even_word f rest n k are (omega (arith, from, le)) (get_or rest (k - 1) no_ports) refl
     (ap (λ (i : ℕ). (get_or rest i no_ports).due) (sym there)
     ∙ ap (λ (w : PortWord). w.due) (sym (get_or-take m ws j no_ports jm ∙ get_or-drop b rest j no_ports)) ∙ none)
+
+-- a word with a bit for a move that is due has an odd number
+odd_of : (d o : ℕ) → d ≡ 1 → o < 2 → (d + 2 * o ≡ 1) ⊎ (d + 2 * o ≡ 3)
+odd_of d zero one lt = inl (omega (arith, one))
+odd_of d (suc zero) one lt = inr (omega (arith, one))
+odd_of d (suc (suc o)) one lt = absurd (omega (arith, lt))
+
+pos_of : (x : ℕ) → x ≢ 0 → 0 < x
+pos_of zero some = absurd (some refl)
+pos_of (suc x) some = omega arith
+
+has_odd : (ns : List ℕ) (k : ℕ) (w : PortWord) → ((i : ℕ) → i < 64 → number_in w i ≡ get_or ns (64 * k + i) 0) → w.due ≢ 0 → w.due < 2 ^ 64 → HasOdd ns k
+has_odd ns k w each some fits =
+    let t = trailing_zeros w64 w.due in let f = bit_at-trailing_zeros w64 w.due (pos_of w.due some) fits in let tl : t < 64 = f.0 in
+    record {
+      place = t;
+      within = tl;
+      odd = subst (λ (x : ℕ). (x ≡ 1) ⊎ (x ≡ 3)) (each t tl) (odd_of (bit_at w.due t) (bit_at w.opened t) f.1 (bit_at-lt w.opened t));
+    }
+
+-- so the search stops past all words, or at one that has
+pub stops_there : (f : PortWord) (rest : List PortWord) (n at b m : ℕ) → AreNumbers (f ∷ rest) n → 0 < at → b ≡ min (at - 1) (length rest)
+    → m ≤ length (drop b rest) → (m < length (drop b rest) → (get_or (drop b rest) m no_ports).due ≢ 0)
+    → (w : PortWord) → w ≡ get_or (f ∷ rest) (at + m) no_ports → w.due < 2 ^ 64 → (n ≤ 64 * (at + m)) ⊎ HasOdd (numbers (f ∷ rest) n) (at + m)
+stops_there f rest n at b m are from is within stops w word fits =
+    let ws = drop b rest in let all = f ∷ rest in
+    elim (cases_lt m (length ws)) [
+      | inl lt ↦
+          let at_once : b ≡ at - 1 = omega (arith, is, length-drop b rest, lt) in let next : suc (b + m) ≡ at + m = omega (arith, at_once, from) in
+          let found : get_or ws m no_ports ≡ w = get_or-drop b rest m no_ports ∙ ap (λ (k : ℕ). get_or all k no_ports) next ∙ sym word in
+          inr (has_odd (numbers all n) (at + m) w (λ i il. ap (λ (v : PortWord). number_in v i) word ∙ word_numbers all n (at + m) i are il)
+          (λ z. stops lt (ap (λ (v : PortWord). v.due) found ∙ z)) fits)
+      | inr past ↦ let long : length all ≡ suc (length rest) = refl in let room = are.room in inl (omega (arith, room, long, is, length-drop b rest, past, within, from))
+    ]
 
 number_none : (p : ℕ) → number_in no_ports p ≡ 0
 number_none p = let z = bit_at-zero p in omega (arith, z)

@@ -1,5 +1,5 @@
 -- Numbers from 0 to 3, each as one bit of two words.
-use Rattle.std.specs.Prelude.{◌≡◌, ◌==◌, ◌&&◌, ℕ, ◌+◌, ◌*◌, ◌/◌, ◌%◌, ◌^◌, ◌<◌, ◌≤◌, nat_le, nat_lt, Bool, true, false, List, map, length, slice_index, slice_index_or, if◌then◌else◌}
+use Rattle.std.specs.Prelude.{◌≡◌, ◌⊎◌, ◌&&◌, ℕ, ◌+◌, ◌*◌, ◌/◌, ◌%◌, ◌^◌, ◌<◌, ◌≤◌, nat_le, nat_lt, Bool, true, false, List, map, length, slice_index, slice_index_or}
 use Rattle.std.specs.List.{range_with_len}
 use Rattle.std.specs.Int.{bit_at}
 use Rattle.bz_bits.specs.declared.word.PortWord.{PortWord}
@@ -30,6 +30,12 @@ pub record IsEven (numbers : List ℕ) (k : ℕ) : Type 0 where
   pub word : PortWord
   pub each : (i : ℕ) → i < 64 → number_in word i ≡ slice_index numbers (64 * k + i)
   pub none_due : word.due ≡ 0
+
+-- a port of word k of these numbers has an odd one
+pub record HasOdd (numbers : List ℕ) (k : ℕ) : Type 0 where
+  pub place : ℕ
+  pub within : place < 64
+  pub odd : (slice_index numbers (64 * k + place) ≡ 1) ⊎ (slice_index numbers (64 * k + place) ≡ 3)
 
 -- whether p stands at `from` or after it, and before `to`
 abbrev pub between : ℕ → ℕ → ℕ → Bool

@@ -1,6 +1,6 @@
 //! The numbers of a component's ports, two bits each, of which the first 64 take no memory of their own.
-ghost use Rattle.std.specs.Prelude.{◌≡◌, ◌≢◌, ◌+◌, ◌*◌, ◌/◌, ◌<◌, ◌≤◌, ◌∷◌, ℕ, length, replicate, slice_index, slice_index_or, slice_set, take, if◌then◌else◌, All, IfOk};
-ghost use Rattle.bz_bits.specs.PortWords.{between, no_ports, number_at, number_in, IsEven};
+ghost use Rattle.std.specs.Prelude.{◌≡◌, ◌≢◌, ◌⊎◌, ◌+◌, ◌*◌, ◌/◌, ◌<◌, ◌≤◌, ◌∷◌, ℕ, length, replicate, slice_index, slice_index_or, slice_set, take, if◌then◌else◌, All, IfOk};
+ghost use Rattle.bz_bits.specs.PortWords.{between, no_ports, number_at, number_in, HasOdd, IsEven};
 
 use crate::word::{NO_PORTS, PortWord, one_place, places};
 use std::alloc::{AllocError, Allocator, Global};
@@ -75,9 +75,13 @@ impl<A: Allocator + Copy> PortNumbers<A> {
         requires { 0 < at }
         ensures from { at ≤ result }
         ensures passed { (k : ℕ) → at ≤ k → k < result → IsEven self.now k }
+        ensures stops { (length self.now ≤ 64 * result) ⊎ HasOdd self.now result }
     {
         let before = (at - 1).min(self.more.len());
-        at + count_even(&self.more[before..])
+        let next = at + count_even(&self.more[before..]);
+        // A look at the word's bits brings what their type says of them.
+        let _odd = odd_ports(word_at(&self.first, &self.more, next));
+        next
     }
 
     /// Gives a port a number; nothing where there is no such port.
@@ -101,10 +105,18 @@ impl<A: Allocator + Copy> PortNumbers<A> {
     }
 }
 
+// A bit for each port with an odd number.
+fn odd_ports(word: PortWord) -> u64
+    ensures { result ≡ word.due }
+{
+    word.due
+}
+
 // How many words come before the first with an odd number.
 fn count_even(words: &[PortWord]) -> usize
     ensures within { result ≤ length words.now }
     ensures even { All (λ w. w.due ≡ 0) (take result words.now) }
+    ensures stops { result < length words.now → (slice_index_or words.now result no_ports).due ≢ 0 }
 {
     let found = words.iter().position(|word| word.due != 0);
     found.unwrap_or(words.len())

@@ -1,13 +1,13 @@
 -- Which ports can move, by their bits.
-use Rattle.std.proofs.Common.{◌≡◌, ℕ, zero, suc, ◌+◌, ◌*◌, ◌<◌, ◌≤◌, ◌==◌, inl, inr, Bool, true, false, List, Option, Some, None, IsTrue, ◌↔◌, length, get_or, map, refl, sym, ap, subst, ◌∙◌, arith}
+use Rattle.std.proofs.Common.{◌≡◌, ◌⊎◌, ℕ, zero, suc, ◌+◌, ◌-◌, ◌^◌, ◌*◌, ◌<◌, ◌≤◌, ◌==◌, inl, inr, Bool, true, false, List, Option, Some, None, IsTrue, ◌↔◌, length, get_or, map, refl, sym, ap, subst, ◌∙◌, arith}
 use Rattle.std.specs.Prelude.{not, nat_lt, nat_le, ◌&&◌, if◌then◌else◌}
 use Rattle.std.specs.Option.{option_map}
 use Rattle.std.specs.Int.{bit_at}
 use Rattle.std.proofs.lemmas.List.{get_or_past}
-use Rattle.std.proofs.lemmas.Nat.Bits.{bit_at-lt, bit_at-zero}
+use Rattle.std.proofs.lemmas.Nat.Bits.{bit_at-lt, bit_at-zero, bit_at_ones}
 use Rattle.std.proofs.lemmas.Bool.{cases_lt, le-leb, lt-leb, lt-ltb, le-ltb, false≢true}
 use Rattle.bz_bits.specs.declared.word.PortWord.{PortWord}
-use Rattle.bz_bits.specs.PortWords.{number_in, between, goes}
+use Rattle.bz_bits.specs.PortWords.{number_in, between, goes, HasOdd, IsEven}
 use Rattle.bz_model.specs.declared.channel.Move.{Move}
 use Rattle.bz_model.specs.declared.channel.Chan.{Chan}
 use Rattle.bz_model.specs.Heads.{Head, IsHeadOn, Component, opens, open_at}
@@ -29,7 +29,7 @@ use Rattle.bz_model.specs.declared.kind.Kind.{Kind}
 use Rattle.bz_model.specs.Rows.{MeetsRow, PortRow, row_of, ports_of}
 use Rattle.std.proofs.lemmas.List.{length-map}
 use Rattle.bz_kinds.specs.Sense.{enclosing, behind, sense, move_by}
-use Rattle.bz_kinds.specs.Ready.{is_told, is_free, CanGo, IsSensed, AreReady}
+use Rattle.bz_kinds.specs.Ready.{is_told, is_free, CanGo, IsSensed, AreReady, NoneDue}
 use Rattle.bz_kinds.specs.Indexed as indexing
 use Rattle.bz_kinds.specs.Once as single
 use Rattle.bz_kinds.specs.Meeting as gathering
@@ -107,6 +107,15 @@ gate (Some false) (suc zero) (suc zero) false dl ql quiet = refl
 gate (Some passive) (suc (suc d)) q here dl ql quiet = absurd (omega arith)
 gate (Some passive) d (suc (suc q)) here dl ql quiet = absurd (omega arith)
 
+-- a move that is due can be made where what it waits for is here
+turning : (o : Option Bool) (x : ℕ) → (o ≡ None → x ≡ 0) → (x ≡ 1) ⊎ (x ≡ 3) → IsTrue (can_go (move_by o x) true)
+turning None x quiet (inl e) = absurd (let z = quiet refl in omega (arith, z, e))
+turning None x quiet (inr e) = absurd (let z = quiet refl in omega (arith, z, e))
+turning (Some true) x quiet (inl e) = subst (λ (y : ℕ). IsTrue (can_go (move_by (Some true) y) true)) (sym e) refl
+turning (Some true) x quiet (inr e) = subst (λ (y : ℕ). IsTrue (can_go (move_by (Some true) y) true)) (sym e) refl
+turning (Some false) x quiet (inl e) = subst (λ (y : ℕ). IsTrue (can_go (move_by (Some false) y) true)) (sym e) refl
+turning (Some false) x quiet (inr e) = subst (λ (y : ℕ). IsTrue (can_go (move_by (Some false) y) true)) (sym e) refl
+
 module _ (plan : Plan) (n left : ℕ) (w : List ℕ) (s : Store) (chans : List Chan) (c : Component) (view : record { proc = record { todo = todo_of plan n left w; store = s }; chans = chans; open_ports = map is_open w } ≡ c) (ok : IsAt plan n left w s) where
   abbrev next_at : ℕ → Option Move
   next_at p = option_map (λ (d : Due). d.mv) (plan_due plan n left p (get_or w p 0))
@@ -144,6 +153,30 @@ module _ (plan : Plan) (n left : ℕ) (w : List ℕ) (s : Store) (chans : List C
   pub none_due : (at here : ℕ) (ports : PortWord) → ports.due ≡ 0 → ((i : ℕ) → i < 64 → number_in ports i ≡ get_or w (64 * at + i) 0) → AreReady c.proc at here 0
   none_due at here ports none numbers =
       ready_by at here 0 ports numbers (λ i lt. ap (λ (b : ℕ). b == 1) (bit_at-zero i) ∙ sym (ap (λ (b : ℕ). goes (b == 1) (bit_at ports.opened i == 1) (is_told (sense plan n (64 * at + i))) (bit_at here i == 1)) (ap (λ (d : ℕ). bit_at d i) none ∙ bit_at-zero i)))
+
+  -- a word past all ports has none
+  past_all : (k : ℕ) → length w ≤ 64 * k → NoneDue c.proc k
+  past_all k past here =
+      let none : PortWord = record { due = 0; opened = 0 } in
+      none_due k here none refl (λ i lt. let z = bit_at-zero i in let q : get_or w (64 * k + i) 0 ≡ 0 = get_or_past w (64 * k + i) 0 (omega (arith, past)) in omega (arith, z, q))
+
+  -- at a port with an odd number a move is due
+  odd_goes : (p : ℕ) → (get_or w p 0 ≡ 1) ⊎ (get_or w p 0 ≡ 3) → CanGo c.proc p true
+  odd_goes p odd =
+      (goes_on p true (next_at p) refl).0
+      (subst (λ (o : Option Move). IsTrue (can_go o true)) (sym (due-move plan n left p (get_or w p 0))) (turning (sense plan n p) (get_or w p 0) (unsensed plan n left w s ok p) odd))
+
+  pub stops_at : (from to : ℕ) → ((k : ℕ) → from ≤ k → k < to → IsEven w k) → (length w ≤ 64 * to) ⊎ HasOdd w to → NoneDue c.proc to → (k : ℕ) → from ≤ k → NoneDue c.proc k
+  stops_at from to even (inl past) quiet k le here =
+      elim (cases_lt k to) [
+        | inl lt ↦ let e = even k le lt in none_due k here e.word e.none_due e.each
+        | inr ge ↦ past_all k (omega (arith, past, ge)) here
+      ]
+  stops_at from to even (inr has) quiet k le here =
+      let i = has.place in let all : ℕ = 2 ^ 64 - 1 in
+      let lit : (bit_at all i == 1) ≡ true = ap (λ (x : ℕ). x == 1) (bit_at_ones 64 i has.within) in
+      let seen = (quiet all i has.within).1 (subst (CanGo c.proc (64 * to + i)) (sym lit) (odd_goes (64 * to + i) has.odd)) in
+      absurd (false≢true (sym (ap (λ (x : ℕ). x == 1) (bit_at-zero i)) ∙ seen))
 
 -- the passive ports of a plan stand together
 no_and : (b : Bool) → (b && false) ≡ false

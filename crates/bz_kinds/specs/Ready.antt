@@ -30,3 +30,7 @@ CanGo c p here = (h : Head) × IsHeadOn c p h × IsTrue (is_free h.move here)
 -- bit i tells of port 64 * at + i whether a process can move there, and bit i of `here` whether what is waited for is here
 abbrev pub AreReady : Proc → ℕ → ℕ → ℕ → Type 0
 AreReady c at here word = (i : ℕ) → i < 64 → IsTrue (bit_at word i == 1) ↔ CanGo c (64 * at + i) (bit_at here i == 1)
+
+-- at no port of word k is a move due, so the process can't move there, whatever is here
+abbrev pub NoneDue : Proc → ℕ → Type 0
+NoneDue c k = (here : ℕ) → AreReady c k here 0

@@ -10,7 +10,7 @@ ghost use Rattle.bz_model.specs.Processes.{member, start_of};
 ghost use Rattle.bz_model.specs.Widths.{Fitted, FitsAt, HoldsAt};
 ghost use Rattle.bz_kinds.specs.Row.{seen};
 ghost use Rattle.bz_kinds.specs.Moves.{AreEnabled};
-ghost use Rattle.bz_kinds.specs.Ready.{AreReady};
+ghost use Rattle.bz_kinds.specs.Ready.{AreReady, NoneDue};
 ghost use Rattle.bz_kinds.specs.Start.{BeginsAt, IsAllDue, IsDueBut, AreMembersDue};
 ghost use Rattle.bz_kinds.specs.Kept.{plan_of};
 ghost use Rattle.bz_kinds.specs.KeptLists.{slots_of};
@@ -160,13 +160,13 @@ pub fn ready_word(comp: &Comp, at: u32, here: u64) -> u64
     word.ready(passive, here)
 }
 
-/// The first word from `at` on with a port at which a component has a move due; past the last word where there is none. At
-/// the ports of the words between it can't move, whatever is here.
+/// The first word from `at` on with a port at which a component has a move due; past the last word where there is none.
 #[inline(always)]
 pub fn next_due(comp: &Comp, at: usize) -> usize
     requires { 0 < at }
     ensures from { at ≤ result }
-    ensures passed { (k here : ℕ) → at ≤ k → k < result → AreReady comp.now.proc k here 0 }
+    ensures passed { (k : ℕ) → at ≤ k → k < result → NoneDue comp.now.proc k }
+    ensures stops { NoneDue comp.now.proc result → (k : ℕ) → at ≤ k → NoneDue comp.now.proc k }
 {
     comp.ports.next_due(at)
 }

@@ -14,7 +14,7 @@ use Rattle.bz_model.specs.Phases.{may_move, phase_after}
 use Rattle.bz_model.specs.Heads.{Proc, Component, Head, IsHeadOn, CanMove, HasOneHead, Moves, Turns, opens}
 use Rattle.bz_model.specs.Nets.{Site, Wiring, IsPort, StepsAt, site_at, chan_at, passive_at}
 use Rattle.bz_model.specs.Runs.{CanStep, IsLowest}
-use Rattle.bz_kinds.specs.Ready.{CanGo, AreReady, is_free}
+use Rattle.bz_kinds.specs.Ready.{CanGo, AreReady, NoneDue, is_free}
 use Rattle.bz_net.specs.Sides.{answers}
 use Rattle.bz_net.proofs.Sides.{sided-head}
 use Rattle.bz_net.specs.Keeping.{Tied, is_open, comp_at, no_comp, phase_in, state_of}
@@ -63,14 +63,14 @@ allowed (Replied v) Got true u e f = absurd (cc)
 allowed (Replied v) Got false u e f = refl
 
 -- at the ports of words at which nothing can go, whatever is here, it can't
-pub words_pass : (c : Component) (here : List ℕ) (from to : ℕ) → ((k h : ℕ) → from ≤ k → k < to → AreReady c.proc k h 0)
+pub words_pass : (c : Component) (here : List ℕ) (from to : ℕ) → ((k : ℕ) → from ≤ k → k < to → NoneDue c.proc k)
     → ((q : ℕ) → q < 64 * from → CanGo c.proc q (flag_of here q) → ⊥) → (q : ℕ) → q < 64 * to → CanGo c.proc q (flag_of here q) → ⊥
 words_pass c here from to none before q lt can =
     elim (cases_lt q (64 * from)) [
       | inl low ↦ before q low can
       | inr high ↦
           let k = q / 64 in let i = q % 64 in let back : 64 * k + i ≡ q = omega arith in
-          let both = none k (get_or here k 0) (omega (arith, high)) (omega (arith, lt)) i (omega arith) in
+          let both = none k (omega (arith, high)) (omega (arith, lt)) (get_or here k 0) i (omega arith) in
           absurd (false≢true (sym (ap (λ (x : ℕ). x == 1) (bit_at-zero i)) ∙ both.1 (subst (λ (r : ℕ). CanGo c.proc r (flag_of here q)) (sym back) can)))
     ]
 

@@ -1,9 +1,9 @@
-use Rattle.std.proofs.Common.{◌≡◌, ◌==◌, ◌<◌, refl, ◌∷◌, ◌+◌, ◌*◌, ℕ, List, length, get_or, set, ap, sym, subst, ◌∙◌, arith}
+use Rattle.std.proofs.Common.{◌==◌, ◌<◌, refl, ◌∷◌, ◌*◌, List, length, ap, ◌∙◌, arith}
 use Rattle.std.specs.Prelude.{if◌then◌else◌}
-use Rattle.std.specs.Int.{div_ceil, bit_at}
+use Rattle.std.specs.Int.{bit_at}
 use Rattle.std.proofs.lemmas.List.{length-set}
 use Rattle.bz_bits.specs.declared.word.PortWord.{PortWord}
-use Rattle.bz_bits.specs.PortWords.{between, no_ports, number_in, number_at}
+use Rattle.bz_bits.specs.PortWords.{number_in, number_at}
 use Rattle.bz_bits.proofs.Words.{fill_step, fill_end, fill_none, ceil_past, ceil_below}
 use Rattle.bz_bits.proofs.numbers.fill.Goals as goal
 

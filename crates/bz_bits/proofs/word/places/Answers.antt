@@ -1,4 +1,4 @@
-use Rattle.std.proofs.Common.{◌≡◌, ◌-◌, ◌*◌, ◌==◌, ◌&&◌, ℕ, Bool, sym, ap, ◌∙◌}
+use Rattle.std.proofs.Common.{◌*◌, ◌==◌, ◌&&◌, ℕ, Bool, ap, ◌∙◌}
 use Rattle.std.specs.Prelude.{not, nat_le}
 use Rattle.std.specs.Int.{bit_at, bit_not, w64}
 use Rattle.std.proofs.lemmas.Nat.Bits.{bit_at_not, bit_at-lt}

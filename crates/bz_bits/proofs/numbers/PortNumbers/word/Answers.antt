@@ -1,4 +1,4 @@
-use Rattle.std.proofs.Common.{◌∷◌, ◌+◌, ◌*◌, ℕ, List, get_or, sym, ap, ◌∙◌}
+use Rattle.std.proofs.Common.{◌∷◌, ◌+◌, ◌*◌, ℕ, List, get_or, ap, ◌∙◌}
 use Rattle.bz_bits.specs.declared.word.PortWord.{PortWord}
 use Rattle.bz_bits.specs.PortWords.{number_in, no_ports}
 use Rattle.bz_bits.proofs.Words.{word_numbers}
