@@ -15,6 +15,7 @@ pub mod Opening
 pub mod Hosts
 pub mod Playing
 pub mod Nodes
+pub mod Marks
 pub mod Telling
 pub mod Cores
 pub mod Foreseeing

@@ -1,6 +1,6 @@
 -- What every net keeps: its wiring, the tie of phases and components, the marks of those that can move, and the run that
 -- its journal tells.
-use Rattle.std.specs.Prelude.{◌≡◌, ◌≢◌, ℕ, suc, ◌-◌, ◌<◌, ◌≤◌, ◌^◌, Bool, true, false, Option, None, Some, List, [], length, map, slice_set, slice_index_or, Contains, ◌↔◌}
+use Rattle.std.specs.Prelude.{◌≡◌, ◌≢◌, ℕ, suc, ◌-◌, ◌<◌, ◌≤◌, ◌^◌, Bool, true, false, Option, Some, List, [], length, map, slice_set, slice_index_or, Contains, ◌↔◌}
 use Rattle.bz_model.specs.declared.channel.Phase.{Phase}
 use Rattle.bz_model.specs.declared.channel.Phase.TheVariants.{Idle, Taken, Broken}
 use Rattle.bz_model.specs.declared.channel.Chan.{Chan}

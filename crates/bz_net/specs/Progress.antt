@@ -15,7 +15,7 @@ use Rattle.bz_net.specs.declared.event.Piece.{Piece}
 use Rattle.bz_net.specs.declared.event.RestReply.{RestReply}
 use Rattle.bz_net.specs.declared.event.RestReply.TheVariants as asked
 use Rattle.bz_net.specs.declared.event.RunEnd.{RunEnd}
-use Rattle.bz_net.specs.declared.event.RunEnd.TheVariants.{Rest, Spent, Refused}
+use Rattle.bz_net.specs.declared.event.RunEnd.TheVariants.{Spent}
 use Rattle.bz_net.specs.Noted.{Notes}
 use Rattle.bz_net.specs.Running.{Plays, Ran}
 use Rattle.bz_net.specs.Simulation.{Simulation, Adds}

@@ -1,5 +1,5 @@
 -- What each component is told of its channels: whether what a take or a got at a port waits for is there.
-use Rattle.std.specs.Prelude.{◌≡◌, ◌≢◌, ◌==◌, ◌+◌, ◌*◌, ◌/◌, ◌-◌, ◌<◌, ◌≤◌, ◌^◌, ℕ, Bool, true, false, not, Option, Some, None, List, [], length, slice_index_or, slice_set, MatchOption, IfSome}
+use Rattle.std.specs.Prelude.{◌≡◌, ◌≢◌, ◌==◌, ◌+◌, ◌*◌, ◌/◌, ◌-◌, ◌<◌, ◌≤◌, ◌^◌, ℕ, Bool, false, not, Option, Some, List, [], length, slice_index_or, slice_set, MatchOption, IfSome}
 use Rattle.bz_bits.specs.Row.{bit_of}
 use Rattle.bz_model.specs.declared.channel.Phase.{Phase}
 use Rattle.bz_model.specs.declared.channel.Phase.TheVariants.{Idle, Asked, Taken, Replied, Broken}

@@ -13,6 +13,7 @@ ghost use Rattle.bz_net.specs.Noted.{NotedAt};
 ghost use Rattle.bz_net.specs.Sides.{answers};
 
 use crate::here::{command, lowest_port, mark_all, move_comp};
+use crate::kept_phases::Phases;
 use crate::moves::{answers, can_fire, due_at, foresee, note_clash, port_in, refusal_of};
 use crate::node::{Node, dup_all, start_all};
 use crate::noted::Noted;
@@ -29,7 +30,7 @@ pub(crate) struct Core {
     sites: Arena<FlatComp>,
     ends: Vec<Ends>,
     nodes: Arena<Node>,
-    phases: Vec<Phase>,
+    phases: Phases,
     ready: ReadySet,
 }
 
@@ -63,14 +64,14 @@ impl Model for Core {
 
     ghost view = { λ n. record {
       wiring = record { chans = n.names.chans; sites = map site_of n.sites; ports = n.names.ports };
-      state = state_of n.phases.items (comps_of n.nodes);
+      state = state_of n.phases (comps_of n.nodes);
     } };
 
     ghost use Rattle.bz_net.specs.Core.{CoreSound};
 
     ghost invariant = { λ n. CoreSound
         (record { chans = n.names.chans; sites = map site_of n.sites; ports = n.names.ports })
-        n.phases.items (comps_of n.nodes) (heres_of n.nodes)
+        n.phases (comps_of n.nodes) (heres_of n.nodes)
         n.ends.items n.ready.row };
 }
 
@@ -85,7 +86,7 @@ impl Core {
     {
         let pieces = flat.into_pieces();
         let nodes = start_all(alloc, &pieces.chans, &pieces.comps)?;
-        let phases = match vec![in alloc; Phase::Idle; pieces.chans.len()] {
+        let phases = match Phases::new(alloc, pieces.chans.len()) {
             Ok(phases) => phases,
             Err(_) => return Err(NetError::Memory),
         };
@@ -111,7 +112,7 @@ impl Core {
         let sites = dup_comps(alloc, &self.sites)?;
         let ends = Vec::from_slice(alloc, &self.ends)?;
         let nodes = dup_all(alloc, &self.nodes)?;
-        let phases = Vec::from_slice(alloc, &self.phases)?;
+        let phases = self.phases.dup(alloc)?;
         let ready = mark_all(alloc, &self.sites, &self.phases, &self.nodes)?;
         Ok(Core {
             names,
@@ -164,9 +165,11 @@ impl Core {
         ensures phase { result ≡ phase_at self.now.state chan }
         ensures kept { result ≢ Phase.Broken }
     {
-        match self.phases.get((chan as usize).saturating_sub(1)) {
-            Some(phase) => *phase,
-            None => Phase::Idle,
+        let place = (chan as usize).saturating_sub(1);
+        if place < self.phases.len() {
+            self.phases.get(place)
+        } else {
+            Phase::Idle
         }
     }
 

@@ -11,6 +11,7 @@ ghost use Rattle.bz_model.specs.Hosts.{host_after};
 ghost use Rattle.bz_net.specs.Nodes.{comps_of, heres_of};
 ghost use Rattle.bz_net.specs.Told.{is_here, flag_of, Goes, NoneGoes, GoesFirst, IsTurning, Sighted, AreEnds, AllAreEnds, HasBit, PutEnd, Retold, Turned, StaysSighted, HostSighted};
 
+use crate::kept_phases::Phases;
 use crate::moves::reply_to;
 use crate::node::{Node, node_id, site_in};
 use bz_arena::Arena;
@@ -93,7 +94,7 @@ fn can_go(comp: &Comp, here: &PortBits, port: u32) -> bool
 #[inline(always)]
 fn can_step(
     sites: &Arena<FlatComp>,
-    phases: &[Phase],
+    phases: &Phases,
     nodes: &Arena<Node>,
     comp: u32,
     port: u32,
@@ -113,7 +114,7 @@ fn can_step(
 #[inline(always)]
 pub(crate) fn lowest_port(
     sites: &Arena<FlatComp>,
-    phases: &[Phase],
+    phases: &Phases,
     nodes: &Arena<Node>,
     comp: u32,
 ) -> Option<u32>
@@ -162,7 +163,7 @@ fn tell_end(nodes: &mut Arena<Node>, end: Option<u32>, port: u32, bit: bool)
 #[inline(always)]
 fn refresh(
     sites: &Arena<FlatComp>,
-    phases: &[Phase],
+    phases: &Phases,
     nodes: &Arena<Node>,
     ready: &mut ReadySet,
     comp: u32,
@@ -185,7 +186,7 @@ fn refresh(
 #[inline(always)]
 fn refresh_ends(
     sites: &Arena<FlatComp>,
-    phases: &[Phase],
+    phases: &Phases,
     nodes: &Arena<Node>,
     ready: &mut ReadySet,
     ends: Ends,
@@ -208,7 +209,7 @@ fn refresh_ends(
 pub(crate) fn mark_all(
     alloc: Global,
     sites: &Arena<FlatComp>,
-    phases: &[Phase],
+    phases: &Phases,
     nodes: &Arena<Node>,
 ) -> Result<ReadySet, AllocError>
     requires sighted { Sighted (map site_of sites.now) phases.now (comps_of nodes.now) (heres_of nodes.now) }
@@ -230,7 +231,7 @@ pub(crate) fn move_comp(
     sites: &Arena<FlatComp>,
     ends: &[Ends],
     nodes: &mut Arena<Node>,
-    phases: &mut [Phase],
+    phases: &mut Phases,
     ready: &mut ReadySet,
     comp: u32,
     port: u32,
@@ -249,10 +250,10 @@ pub(crate) fn move_comp(
         ready.old.row ready.new.row (ends_in ends.now result.0) }
 {
     let chan = site_in(sites, comp).chans[port as usize - 1];
-    let phase = phases[chan as usize - 1];
+    let phase = phases.get(chan as usize - 1);
     let (mv, value) = bz_kinds::apply(&mut nodes.get_mut(node_id(comp)).comp, port, phase);
     let next = phase.after(mv, value);
-    phases[chan as usize - 1] = next;
+    phases.put(chan as usize - 1, next);
     let pair = ends[chan as usize - 1];
     retell(sites, nodes, chan, pair, next);
     refresh_ends(sites, phases, nodes, ready, pair);
@@ -265,7 +266,7 @@ pub(crate) fn command(
     sites: &Arena<FlatComp>,
     ends: &[Ends],
     nodes: &mut Arena<Node>,
-    phases: &mut [Phase],
+    phases: &mut Phases,
     ready: &mut ReadySet,
     verb: Verb,
     port: u32,
@@ -286,8 +287,9 @@ pub(crate) fn command(
     ensures comps { comps_of nodes.new ≡ comps_of nodes.old }
 {
     let place = port as usize - 1;
-    let (reply, after) = reply_to(verb, value, phases[place]);
-    phases[place] = after;
+    let phase = phases.get(place);
+    let (reply, after) = reply_to(verb, value, phase);
+    phases.put(place, after);
     let pair = ends[place];
     retell(sites, nodes, port, pair, after);
     refresh_ends(sites, phases, nodes, ready, pair);

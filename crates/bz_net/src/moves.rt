@@ -12,6 +12,7 @@ ghost use Rattle.bz_net.specs.Sides.{answers};
 ghost use Rattle.bz_net.specs.Keeping.{state_of, Placed, ReadsChans};
 ghost use Rattle.bz_net.specs.Nodes.{comps_of};
 
+use crate::kept_phases::Phases;
 use crate::node::{Node, node_id, site_in};
 use crate::noted::Noted;
 use bz_arena::Arena;
@@ -62,7 +63,7 @@ pub(crate) fn port_in(ends: &[Ends], chan: u32, passive: bool, comp: u32) -> Opt
 pub(crate) fn can_fire(
     sites: &Arena<FlatComp>,
     nodes: &Arena<Node>,
-    phases: &[Phase],
+    phases: &Phases,
     comp: u32,
     port: u32,
 ) -> bool
@@ -73,11 +74,10 @@ pub(crate) fn can_fire(
 {
     match chan_of(sites, comp, port) {
         None => false,
-        Some(chan) => bz_kinds::enabled(
-            &nodes.get(node_id(comp)).comp,
-            port,
-            phases[chan as usize - 1],
-        ),
+        Some(chan) => {
+            let phase = phases.get(chan as usize - 1);
+            bz_kinds::enabled(&nodes.get(node_id(comp)).comp, port, phase)
+        }
     }
 }
 
@@ -85,7 +85,7 @@ pub(crate) fn can_fire(
 pub(crate) fn due_at(
     sites: &Arena<FlatComp>,
     nodes: &Arena<Node>,
-    phases: &[Phase],
+    phases: &Phases,
     comp: u32,
     port: u32,
 ) -> Option<Move>
@@ -104,7 +104,7 @@ pub(crate) fn foresee(
     alloc: Global,
     sites: &Arena<FlatComp>,
     nodes: &Arena<Node>,
-    phases: &[Phase],
+    phases: &Phases,
     comp: u32,
     port: u32,
 ) -> Result<Option<(u32, Move, Option<Value>)>, AllocError>
@@ -115,7 +115,7 @@ pub(crate) fn foresee(
         return Ok(None);
     };
     let node = nodes.get(node_id(comp));
-    let phase = phases[chan as usize - 1];
+    let phase = phases.get(chan as usize - 1);
     if !bz_kinds::enabled(&node.comp, port, phase) {
         return Ok(None);
     }
@@ -134,7 +134,7 @@ fn is_mixer(kind: &Kind) -> bool
 }
 
 /// Whether a component's port is passive and its channel isn't idle.
-fn is_asked(sites: &Arena<FlatComp>, phases: &[Phase], comp: u32, port: u32) -> bool
+fn is_asked(sites: &Arena<FlatComp>, phases: &Phases, comp: u32, port: u32) -> bool
     requires reads { ReadsChans (map site_of sites.now) phases.now }
     ensures { MatchBool result
         (IsAsked (map site_of sites.now) phases.now comp port)
@@ -145,14 +145,14 @@ fn is_asked(sites: &Arena<FlatComp>, phases: &[Phase], comp: u32, port: u32) -> 
         Some(chan) => {
             let site = site_in(sites, comp);
             is_passive(&site.kind, site.sizes, port)
-                && !matches!(phases[chan as usize - 1], Phase::Idle)
+                && !matches!(phases.get(chan as usize - 1), Phase::Idle)
         }
     }
 }
 
 /// Whether two requests meet at a component.
 #[inline(always)]
-fn has_clash(sites: &Arena<FlatComp>, phases: &[Phase], comp: u32) -> bool
+fn has_clash(sites: &Arena<FlatComp>, phases: &Phases, comp: u32) -> bool
     requires reads { ReadsChans (map site_of sites.now) phases.now }
     requires from { 0 < comp }
     requires to { comp ≤ length sites.now }
@@ -168,7 +168,7 @@ fn has_clash(sites: &Arena<FlatComp>, phases: &[Phase], comp: u32) -> bool
 
 // The same of a component at which requests may meet.
 #[inline(never)]
-fn is_asked_twice(sites: &Arena<FlatComp>, phases: &[Phase], comp: u32) -> bool
+fn is_asked_twice(sites: &Arena<FlatComp>, phases: &Phases, comp: u32) -> bool
     requires reads { ReadsChans (map site_of sites.now) phases.now }
     requires from { 0 < comp }
     requires to { comp ≤ length sites.now }
@@ -194,7 +194,7 @@ fn is_asked_twice(sites: &Arena<FlatComp>, phases: &[Phase], comp: u32) -> bool
 #[inline(always)]
 pub(crate) fn note_clash(
     sites: &Arena<FlatComp>,
-    phases: &[Phase],
+    phases: &Phases,
     noted: &mut Noted,
     end: Option<u32>,
 )

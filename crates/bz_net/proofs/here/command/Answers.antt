@@ -29,12 +29,12 @@ refresh_ends-requires-clause-passive c = in_range c.args.sites.now c.args.ends.n
 pub refresh_ends-requires-clause-sighted : goal.refresh_ends-requires-clause-sighted
 refresh_ends-requires-clause-sighted c =
     let sites = map site_of c.args.sites.now in
-    let is : c.reply_to-reply.result.1 ≡ host_after c.args.verb c.args.value (phase_in c.args.phases.now c.args.port) = c.reply_to-reply.ensures.after in
-    rw c.retell.ensures.comps
+    let is : c.reply_to-reply.result.1 ≡ host_after c.args.verb c.args.value (phase_in c.args.phases.now c.args.port) = rw c.get-phase.ensures at c.reply_to-reply.ensures.after in
+    rw (c.put.ensures, c.retell.ensures.comps)
     (subst (λ (f : Phase). Sighted sites (set c.args.phases.now (c.args.port - 1) f) (comps_of c.args.nodes.now) (heres_of c.retell.new.nodes)) (sym is)
     (c.requires.stays (heres_of c.retell.new.nodes) (subst (λ (f : Phase). Retold sites (heres_of c.args.nodes.now) (heres_of c.retell.new.nodes) c.args.port f) is c.retell.ensures.told)))
 
 pub returns-clause-told : goal.returns-clause-told
 returns-clause-told c =
-    let is : c.reply_to-reply.result.1 ≡ host_after c.args.verb c.args.value (phase_in c.args.phases.now c.args.port) = c.reply_to-reply.ensures.after in
+    let is : c.reply_to-reply.result.1 ≡ host_after c.args.verb c.args.value (phase_in c.args.phases.now c.args.port) = rw c.get-phase.ensures at c.reply_to-reply.ensures.after in
     subst (λ (f : Phase). Retold (map site_of c.args.sites.now) (heres_of c.args.nodes.now) (heres_of c.retell.new.nodes) c.args.port f) is c.retell.ensures.told

@@ -51,8 +51,8 @@ refresh_ends-requires-clause-sighted c =
     let turned : Turned sites c.args.phases.now (comps_of nodes) (heres_of nodes) (set c.args.phases.now (k - 1) c.after-next.result) (comps_of c.retell.new.nodes) (heres_of c.retell.new.nodes) c.args.comp c.args.port k c.apply-mv.result.0 c.apply-mv.result.1 =
     subst (λ (l : List Component). Turned sites c.args.phases.now (comps_of nodes) (heres_of nodes) (set c.args.phases.now (k - 1) c.after-next.result) l (heres_of c.retell.new.nodes) c.args.comp c.args.port k c.apply-mv.result.0 c.apply-mv.result.1) (sym comps)
     (turned_by sites c.args.phases.now (comps_of nodes) (heres_of nodes) (heres_of c.retell.new.nodes) c.args.comp c.args.port k c.apply-mv.result.0 c.apply-mv.result.1 x.comp c.apply-mv.new.comp c.after-next.result
-    c.requires.steps c.requires.sighted.comps_len chan_is (comp_read nodes c.args.comp c.node_id.result x at is) c.apply-mv.ensures.moves c.apply-mv.ensures.turns c.apply-mv.ensures.one c.apply-mv.ensures.chans c.after-next.ensures told) in
-    c.requires.stays _ _ _ k c.apply-mv.result.0 c.apply-mv.result.1 turned
+    c.requires.steps c.requires.sighted.comps_len chan_is (comp_read nodes c.args.comp c.node_id.result x at is) (rw c.get-phase.ensures at c.apply-mv.ensures.moves) c.apply-mv.ensures.turns c.apply-mv.ensures.one c.apply-mv.ensures.chans (rw c.get-phase.ensures at c.after-next.ensures) told) in
+    rw c.put.ensures (c.requires.stays _ _ _ k c.apply-mv.result.0 c.apply-mv.result.1 turned)
 
 pub returns-clause-told : goal.returns-clause-told
 returns-clause-told c =
@@ -66,14 +66,14 @@ returns-clause-told c =
     let turned : Turned sites c.args.phases.now (comps_of nodes) (heres_of nodes) (set c.args.phases.now (k - 1) c.after-next.result) (comps_of c.retell.new.nodes) (heres_of c.retell.new.nodes) c.args.comp c.args.port k c.apply-mv.result.0 c.apply-mv.result.1 =
     subst (λ (l : List Component). Turned sites c.args.phases.now (comps_of nodes) (heres_of nodes) (set c.args.phases.now (k - 1) c.after-next.result) l (heres_of c.retell.new.nodes) c.args.comp c.args.port k c.apply-mv.result.0 c.apply-mv.result.1) (sym comps)
     (turned_by sites c.args.phases.now (comps_of nodes) (heres_of nodes) (heres_of c.retell.new.nodes) c.args.comp c.args.port k c.apply-mv.result.0 c.apply-mv.result.1 x.comp c.apply-mv.new.comp c.after-next.result
-    c.requires.steps c.requires.sighted.comps_len chan_is (comp_read nodes c.args.comp c.node_id.result x at is) c.apply-mv.ensures.moves c.apply-mv.ensures.turns c.apply-mv.ensures.one c.apply-mv.ensures.chans c.after-next.ensures told) in
-    turned
+    c.requires.steps c.requires.sighted.comps_len chan_is (comp_read nodes c.args.comp c.node_id.result x at is) (rw c.get-phase.ensures at c.apply-mv.ensures.moves) c.apply-mv.ensures.turns c.apply-mv.ensures.one c.apply-mv.ensures.chans (rw c.get-phase.ensures at c.after-next.ensures) told) in
+    rw c.put.ensures turned
 
 pub returns-clause-refreshed : goal.returns-clause-refreshed
 returns-clause-refreshed c = c.refresh_ends.ensures
 
-pub bounds-phases-chan : goal.bounds-phases-chan
-bounds-phases-chan c =
+pub put-requires : goal.put-requires
+put-requires c =
     let k = c.index-chan.result.now in
     let chan_is : k ≡ chan_at (map site_of c.args.sites.now) c.args.comp c.args.port = grind (arith, common_steps) in
     let from = c.requires.placed.chan_from c.args.comp c.args.port c.requires.steps.is_port in
@@ -94,3 +94,10 @@ retell-requires-clause-ends c =
     let chan_is : k ≡ chan_at (map site_of c.args.sites.now) c.args.comp c.args.port = grind (arith, common_steps) in
     let from = c.requires.placed.chan_from c.args.comp c.args.port c.requires.steps.is_port in
     c.requires.are_ends k (omega (arith, chan_is, from))
+
+pub overflow_sub-pair : goal.overflow_sub-pair
+overflow_sub-pair c =
+    let k = c.index-chan.result.now in
+    let chan_is : k ≡ chan_at (map site_of c.args.sites.now) c.args.comp c.args.port = grind (arith, common_steps) in
+    let from = c.requires.placed.chan_from c.args.comp c.args.port c.requires.steps.is_port in
+    omega (arith, chan_is, from)

@@ -12,7 +12,7 @@ returns-then-not-enabled c =
     let (port, on) = c.in-Some.ensures in
     not_foreseen (map site_of c.args.sites.now) c.args.phases.now (comps_of nodes) comp c.args.port x.comp c.requires.comps_len port
     (comp_read nodes comp c.node_id.result x c.node_id.ensures c.get-node.ensures) c.in-Some.chan on
-    (λ can. false≢true (sym c.if-not-enabled.true ∙ c.enabled.ensures.1 can))
+    (λ can. false≢true (sym c.if-not-enabled.true ∙ (rw c.get-phase.ensures at c.enabled.ensures).1 can))
 
 pub returns : goal.returns
 returns c =
@@ -22,5 +22,5 @@ returns c =
     foreseen (map site_of c.args.sites.now) c.args.phases.now (comps_of nodes) comp c.args.port x.comp c.requires.comps_len port
     (comp_read nodes comp c.node_id.result x c.node_id.ensures c.get-node.ensures) c.in-Some.chan on
     c.apply-mv.result.0 c.apply-mv.result.1 c.apply-mv.new.comp
-    (c.enabled.ensures.0 c.if-not-enabled.false)
-    (rw same at c.apply-mv.ensures.moves)
+    ((rw c.get-phase.ensures at c.enabled.ensures).0 c.if-not-enabled.false)
+    (rw (same, c.get-phase.ensures) at c.apply-mv.ensures.moves)

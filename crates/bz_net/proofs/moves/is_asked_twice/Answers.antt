@@ -1,5 +1,4 @@
 use Rattle.std.proofs.Common.{◌+◌, arith}
-use Rattle.std.proofs.lemmas.Grind.{common_steps}
 use Rattle.bz_net.proofs.moves.is_asked_twice.Goals as goal
 
 pub returns-then-found-gt0 : goal.returns-then-found-gt0

@@ -1,5 +1,4 @@
-use Rattle.std.proofs.Common.{◌≡◌, ◌<◌, ◌≤◌, ◌++◌, ℕ, length, take, drop, map, sym, subst, arith}
-use Rattle.std.proofs.lemmas.List.{take_at}
+use Rattle.std.proofs.Common.{◌<◌, ◌≤◌, ℕ, length, map, sym, subst}
 use Rattle.bz_model.specs.Nets.{Wiring, Step}
 use Rattle.bz_elab.specs.Flats.{site_of}
 use Rattle.bz_elab.specs.Wires.{ends_in}
@@ -14,76 +13,69 @@ use Rattle.bz_net.proofs.core_net.Core.fire.Goals as goal
 pub move_comp-requires-clause-sighted : goal.move_comp-requires-clause-sighted
 move_comp-requires-clause-sighted c =
     let n = c.self.inside in
-    rw c.deref_mut.ensures.value
-    (core_sighted (record { chans = n.names.chans; sites = map site_of n.sites; ports = n.names.ports }) n.phases.items (comps_of n.nodes) (heres_of n.nodes) n.ends.items n.ready.row c.self.invariant)
+    (core_sighted (record { chans = n.names.chans; sites = map site_of n.sites; ports = n.names.ports }) n.phases (comps_of n.nodes) (heres_of n.nodes) n.ends.items n.ready.row c.self.invariant)
 
 pub move_comp-requires-clause-stays : goal.move_comp-requires-clause-stays
 move_comp-requires-clause-stays c =
     let n = c.self.inside in
-    rw c.deref_mut.ensures.value
-    (core_stays (record { chans = n.names.chans; sites = map site_of n.sites; ports = n.names.ports }) n.phases.items (comps_of n.nodes) (heres_of n.nodes) n.ends.items n.ready.row c.self.invariant c.args.comp c.args.port)
+    (core_stays (record { chans = n.names.chans; sites = map site_of n.sites; ports = n.names.ports }) n.phases (comps_of n.nodes) (heres_of n.nodes) n.ends.items n.ready.row c.self.invariant c.args.comp c.args.port)
 
 pub invariant_of-self : goal.invariant_of-self
 invariant_of-self c =
     let n = c.self.inside in let d = c.move_comp.new in let r = c.move_comp.result in
     let w : Wiring = record { chans = n.names.chans; sites = map site_of n.sites; ports = n.names.ports } in
-    let told : Turned w.sites n.phases.items (comps_of n.nodes) (heres_of n.nodes) d.phases (comps_of d.nodes) (heres_of d.nodes) c.args.comp c.args.port r.0 r.1 r.2 =
-    rw c.deref_mut.ensures.value at c.move_comp.ensures.told in
+    let told : Turned w.sites n.phases (comps_of n.nodes) (heres_of n.nodes) d.phases (comps_of d.nodes) (heres_of d.nodes) c.args.comp c.args.port r.0 r.1 r.2 =
+    c.move_comp.ensures.told in
     let refreshed : RefreshedEnds w.sites (state_of d.phases (comps_of d.nodes)) n.ready.row d.ready.row (ends_in n.ends.items r.0) =
     rw c.deref.ensures.value at c.move_comp.ensures.refreshed in
-    let phases : take n.phases.len (d.phases ++ drop (length d.phases) n.phases.items) ≡ d.phases = take_at _ _ _ (omega arith) in
-    rw phases
-    (core_moved w n.phases.items (comps_of n.nodes) (heres_of n.nodes) n.ends.items n.ready.row c.self.invariant d.phases (comps_of d.nodes) (heres_of d.nodes) d.ready.row c.args.comp c.args.port r.0 r.1 r.2 told refreshed)
+    (core_moved w n.phases (comps_of n.nodes) (heres_of n.nodes) n.ends.items n.ready.row c.self.invariant d.phases (comps_of d.nodes) (heres_of d.nodes) d.ready.row c.args.comp c.args.port r.0 r.1 r.2 told refreshed)
 
 pub returns-clause-step : goal.returns-clause-step
 returns-clause-step c =
     let n = c.self.inside in let d = c.move_comp.new in let r = c.move_comp.result in
     let w : Wiring = record { chans = n.names.chans; sites = map site_of n.sites; ports = n.names.ports } in
-    let told : Turned w.sites n.phases.items (comps_of n.nodes) (heres_of n.nodes) d.phases (comps_of d.nodes) (heres_of d.nodes) c.args.comp c.args.port r.0 r.1 r.2 =
-    rw c.deref_mut.ensures.value at c.move_comp.ensures.told in
+    let told : Turned w.sites n.phases (comps_of n.nodes) (heres_of n.nodes) d.phases (comps_of d.nodes) (heres_of d.nodes) c.args.comp c.args.port r.0 r.1 r.2 =
+    c.move_comp.ensures.told in
     let refreshed : RefreshedEnds w.sites (state_of d.phases (comps_of d.nodes)) n.ready.row d.ready.row (ends_in n.ends.items r.0) =
     rw c.deref.ensures.value at c.move_comp.ensures.refreshed in
-    let phases : take n.phases.len (d.phases ++ drop (length d.phases) n.phases.items) ≡ d.phases = take_at _ _ _ (omega arith) in
-    let step : Step w.sites (state_of n.phases.items (comps_of n.nodes)) c.args.comp c.args.port r.0 r.1 r.2 (state_of d.phases (comps_of d.nodes)) =
-    core_step w n.phases.items (comps_of n.nodes) (heres_of n.nodes) n.ends.items n.ready.row c.self.invariant d.phases (comps_of d.nodes) (heres_of d.nodes) d.ready.row c.args.comp c.args.port r.0 r.1 r.2 told refreshed in
-    rw phases (subst (λ (v : Standing). Step v.wiring.sites v.state c.args.comp c.args.port r.0 r.1 r.2 (state_of d.phases (comps_of d.nodes))) c.self.view_is step)
+    let step : Step w.sites (state_of n.phases (comps_of n.nodes)) c.args.comp c.args.port r.0 r.1 r.2 (state_of d.phases (comps_of d.nodes)) =
+    core_step w n.phases (comps_of n.nodes) (heres_of n.nodes) n.ends.items n.ready.row c.self.invariant d.phases (comps_of d.nodes) (heres_of d.nodes) d.ready.row c.args.comp c.args.port r.0 r.1 r.2 told refreshed in
+    (subst (λ (v : Standing). Step v.wiring.sites v.state c.args.comp c.args.port r.0 r.1 r.2 (state_of d.phases (comps_of d.nodes))) c.self.view_is step)
 
 pub returns-clause-sole : goal.returns-clause-sole
 returns-clause-sole c j mw other next step =
     let n = c.self.inside in let d = c.move_comp.new in let r = c.move_comp.result in
     let w : Wiring = record { chans = n.names.chans; sites = map site_of n.sites; ports = n.names.ports } in
-    let told : Turned w.sites n.phases.items (comps_of n.nodes) (heres_of n.nodes) d.phases (comps_of d.nodes) (heres_of d.nodes) c.args.comp c.args.port r.0 r.1 r.2 =
-    rw c.deref_mut.ensures.value at c.move_comp.ensures.told in
+    let told : Turned w.sites n.phases (comps_of n.nodes) (heres_of n.nodes) d.phases (comps_of d.nodes) (heres_of d.nodes) c.args.comp c.args.port r.0 r.1 r.2 =
+    c.move_comp.ensures.told in
     let refreshed : RefreshedEnds w.sites (state_of d.phases (comps_of d.nodes)) n.ready.row d.ready.row (ends_in n.ends.items r.0) =
     rw c.deref.ensures.value at c.move_comp.ensures.refreshed in
-    let phases : take n.phases.len (d.phases ++ drop (length d.phases) n.phases.items) ≡ d.phases = take_at _ _ _ (omega arith) in
-    let back : Step w.sites (state_of n.phases.items (comps_of n.nodes)) c.args.comp c.args.port j mw other next =
+    let back : Step w.sites (state_of n.phases (comps_of n.nodes)) c.args.comp c.args.port j mw other next =
     subst (λ (v : Standing). Step v.wiring.sites v.state c.args.comp c.args.port j mw other next) (sym c.self.view_is) step in
-    let same = core_sole w n.phases.items (comps_of n.nodes) (heres_of n.nodes) n.ends.items n.ready.row c.self.invariant d.phases (comps_of d.nodes) (heres_of d.nodes) d.ready.row c.args.comp c.args.port r.0 r.1 r.2 told refreshed j mw other next back in
-    (same.chan, same.move, same.value_is, rw phases same.next_is)
+    let same = core_sole w n.phases (comps_of n.nodes) (heres_of n.nodes) n.ends.items n.ready.row c.self.invariant d.phases (comps_of d.nodes) (heres_of d.nodes) d.ready.row c.args.comp c.args.port r.0 r.1 r.2 told refreshed j mw other next back in
+    (same.chan, same.move, same.value_is, same.next_is)
 
 pub returns-clause-from : goal.returns-clause-from
 returns-clause-from c =
     let n = c.self.inside in let d = c.move_comp.new in let r = c.move_comp.result in
     let w : Wiring = record { chans = n.names.chans; sites = map site_of n.sites; ports = n.names.ports } in
-    let told : Turned w.sites n.phases.items (comps_of n.nodes) (heres_of n.nodes) d.phases (comps_of d.nodes) (heres_of d.nodes) c.args.comp c.args.port r.0 r.1 r.2 =
-    rw c.deref_mut.ensures.value at c.move_comp.ensures.told in
+    let told : Turned w.sites n.phases (comps_of n.nodes) (heres_of n.nodes) d.phases (comps_of d.nodes) (heres_of d.nodes) c.args.comp c.args.port r.0 r.1 r.2 =
+    c.move_comp.ensures.told in
     subst (λ (k : ℕ). 0 < k) (sym told.chan_is) (c.self.invariant.wired.chan_from c.args.comp c.args.port told.steps_at.is_port)
 
 pub returns-clause-to : goal.returns-clause-to
 returns-clause-to c =
     let n = c.self.inside in let d = c.move_comp.new in let r = c.move_comp.result in
     let w : Wiring = record { chans = n.names.chans; sites = map site_of n.sites; ports = n.names.ports } in
-    let told : Turned w.sites n.phases.items (comps_of n.nodes) (heres_of n.nodes) d.phases (comps_of d.nodes) (heres_of d.nodes) c.args.comp c.args.port r.0 r.1 r.2 =
-    rw c.deref_mut.ensures.value at c.move_comp.ensures.told in
+    let told : Turned w.sites n.phases (comps_of n.nodes) (heres_of n.nodes) d.phases (comps_of d.nodes) (heres_of d.nodes) c.args.comp c.args.port r.0 r.1 r.2 =
+    c.move_comp.ensures.told in
     subst (λ (v : Standing). r.0 ≤ length v.wiring.chans) c.self.view_is
     (subst (λ (k : ℕ). k ≤ length w.chans) (sym told.chan_is) (c.self.invariant.wired.chan_to c.args.comp c.args.port told.steps_at.is_port))
 
 pub move_comp-requires-clause-placed : goal.move_comp-requires-clause-placed
 move_comp-requires-clause-placed c =
     let n = c.self.inside in
-    rw c.deref_mut.ensures.value
-    (core_placed (record { chans = n.names.chans; sites = map site_of n.sites; ports = n.names.ports }) n.phases.items (comps_of n.nodes) (heres_of n.nodes) n.ends.items n.ready.row c.self.invariant)
+    (core_placed (record { chans = n.names.chans; sites = map site_of n.sites; ports = n.names.ports }) n.phases (comps_of n.nodes) (heres_of n.nodes) n.ends.items n.ready.row c.self.invariant)
 
 pub move_comp-requires-clause-are_ends : goal.move_comp-requires-clause-are_ends
 move_comp-requires-clause-are_ends c =

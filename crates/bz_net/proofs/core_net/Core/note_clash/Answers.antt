@@ -15,7 +15,7 @@ pub note_clash-requires-clause-reads : goal.note_clash-requires-clause-reads
 note_clash-requires-clause-reads c =
     let n = c.self.inside in
     let w : Wiring = record { chans = n.names.chans; sites = map site_of n.sites; ports = n.names.ports } in
-    rw c.deref.ensures.value (core_reads w n.phases.items (comps_of n.nodes) (heres_of n.nodes) n.ends.items n.ready.row c.self.invariant)
+    (core_reads w n.phases (comps_of n.nodes) (heres_of n.nodes) n.ends.items n.ready.row c.self.invariant)
 
 pub note_clash-requires-clause-end : goal.note_clash-requires-clause-end
 note_clash-requires-clause-end c =
@@ -36,10 +36,10 @@ returns c =
     let len = c.self.invariant.ends_of.ends_len in
     let from = c.requires.from in
     let pair_is : c.index-pair.result.now ≡ ends_in n.ends.items c.args.chan = get_or_read n.ends.items (c.args.chan - 1) c.index-pair.result.now (omega (arith, to, same, len, from)) c.index-pair.ensures no_ends in
-    let noted : NotedEnd w.sites n.phases.items c.args.noted.now c.note_clash.new.noted c.index-pair.result.now.passive = rw c.deref.ensures.value at c.note_clash.ensures in
-    let here : NotedEnd w.sites n.phases.items c.args.noted.now c.note_clash.new.noted (end_at n.ends.items c.args.chan true) = subst (λ (p : Ends). NotedEnd w.sites n.phases.items c.args.noted.now c.note_clash.new.noted (at_side p true)) pair_is noted in
+    let noted : NotedEnd w.sites n.phases c.args.noted.now c.note_clash.new.noted c.index-pair.result.now.passive = c.note_clash.ensures in
+    let here : NotedEnd w.sites n.phases c.args.noted.now c.note_clash.new.noted (end_at n.ends.items c.args.chan true) = subst (λ (p : Ends). NotedEnd w.sites n.phases c.args.noted.now c.note_clash.new.noted (at_side p true)) pair_is noted in
     subst (λ (v : Standing). NotedAt v.wiring.sites v.state.phases c.args.noted.now c.note_clash.new.noted c.args.chan) c.self.view_is
-    (noted_at w n.ends.items n.phases.items c.args.noted.now c.note_clash.new.noted c.args.chan c.self.invariant.ends_of c.requires.from here)
+    (noted_at w n.ends.items n.phases c.args.noted.now c.note_clash.new.noted c.args.chan c.self.invariant.ends_of c.requires.from here)
 
 pub note_clash-requires-clause-most : goal.note_clash-requires-clause-most
 note_clash-requires-clause-most c =

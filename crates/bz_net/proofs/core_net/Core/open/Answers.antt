@@ -15,7 +15,7 @@ pub mark_all-requires-clause-sighted : goal.mark_all-requires-clause-sighted
 mark_all-requires-clause-sighted c =
     let p = c.into_pieces-pieces.result in
     let w : Wiring = wiring_of p.chans p.comps p.ports.items in
-    let phases = c.in-Ok.phases.items in
+    let phases = c.in-Ok.phases in
     let comps = comps_of c.in_ok-nodes.nodes in
     let heres = heres_of c.in_ok-nodes.nodes in
     let idle : phases ≡ replicate (length w.chans) Idle = grind (arith, common_steps) in
@@ -24,14 +24,13 @@ mark_all-requires-clause-sighted c =
     let blank : AreBlank w.sites heres (length p.comps) = c.in_ok-nodes.ensures.blank in
     let started = subst (Started w.chans w.sites comps) count begun in
     let blanks = subst (AreBlank w.sites heres) count blank in
-    rw c.deref.ensures.value
     (sighted_first w phases comps heres c.into_pieces-pieces.ensures.wired idle started blanks)
 
 pub invariant_of-result : goal.invariant_of-result
 invariant_of-result c =
     let p = c.into_pieces-pieces.result in
     let w : Wiring = wiring_of p.chans p.comps p.ports.items in
-    let phases = c.in-Ok.phases.items in
+    let phases = c.in-Ok.phases in
     let comps = comps_of c.in_ok-nodes.nodes in
     let heres = heres_of c.in_ok-nodes.nodes in
     let idle : phases ≡ replicate (length w.chans) Idle = grind (arith, common_steps) in
@@ -40,8 +39,8 @@ invariant_of-result c =
     let blank : AreBlank w.sites heres (length p.comps) = c.in_ok-nodes.ensures.blank in
     let started = subst (Started w.chans w.sites comps) count begun in
     let blanks = subst (AreBlank w.sites heres) count blank in
-    let marks : MarksAll w.sites (state_of phases comps) c.in-Ok-mark_all.ready.row (length p.comps) = rw c.deref.ensures.value at c.in-Ok-mark_all.ensures in
-    rw c.new.ensures
+    let marks : MarksAll w.sites (state_of phases comps) c.in-Ok-mark_all.ready.row (length p.comps) = c.in-Ok-mark_all.ensures in
+    rw c.new-2.ensures
     (core_first w phases comps heres c.into_pieces-pieces.ensures.wired idle started blanks p.ends.items c.in-Ok-mark_all.ready.row c.into_pieces-pieces.ensures.ends_of
     (marks_ready w (state_of phases comps) c.in-Ok-mark_all.ready.row (length p.comps) count marks))
 
@@ -49,7 +48,7 @@ pub returns-clause-state : goal.returns-clause-state
 returns-clause-state c =
     let p = c.into_pieces-pieces.result in
     let w : Wiring = wiring_of p.chans p.comps p.ports.items in
-    let phases = c.in-Ok.phases.items in
+    let phases = c.in-Ok.phases in
     let comps = comps_of c.in_ok-nodes.nodes in
     let heres = heres_of c.in_ok-nodes.nodes in
     let idle : phases ≡ replicate (length w.chans) Idle = grind (arith, common_steps) in
@@ -62,7 +61,7 @@ returns-clause-state c =
     ap (λ f. state_of f comps) idle ∙ state_opening w comps started ∙ ap opening (sym same)
 
 pub returns-clause-wired : goal.returns-clause-wired
-returns-clause-wired c = rw c.new.ensures c.into_pieces-pieces.ensures.wired
+returns-clause-wired c = rw c.new-2.ensures c.into_pieces-pieces.ensures.wired
 
 pub returns-clause-wiring : goal.returns-clause-wiring
-returns-clause-wiring c = rw c.new.ensures (sym c.into_pieces-pieces.ensures.wiring)
+returns-clause-wiring c = rw c.new-2.ensures (sym c.into_pieces-pieces.ensures.wiring)

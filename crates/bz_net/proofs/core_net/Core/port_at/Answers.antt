@@ -24,4 +24,4 @@ returns-clause-sole c =
     let n = c.self.inside in
     let w : Wiring = record { chans = n.names.chans; sites = map site_of n.sites; ports = n.names.ports } in
     subst (λ (v : Standing). IsSolePort v.wiring.sites v.state c.args.comp c.args.chan c.args.mv c.port_in.result) c.self.view_is
-    (sole_port w n.phases.items (comps_of n.nodes) c.args.comp c.args.chan c.args.mv c.port_in.result c.self.invariant.wired c.self.invariant.tied (told c))
+    (sole_port w n.phases (comps_of n.nodes) c.args.comp c.args.chan c.args.mv c.port_in.result c.self.invariant.wired c.self.invariant.tied (told c))

@@ -1,0 +1,41 @@
+-- What is read of marks and values, and written to them, as the phases that they tell show it.
+use Rattle.std.proofs.Common.{◌≡◌, ◌<◌, ℕ, zero, suc, List, [], ◌∷◌, length, replicate, get_or, set, refl, ap, ◌∙◌, arith}
+use Rattle.bz_model.specs.declared.channel.Phase.{Phase}
+use Rattle.bz_model.specs.declared.channel.Phase.TheVariants.{Idle}
+use Rattle.bz_net.specs.declared.kept_phases.Mark.{Mark}
+use Rattle.bz_net.specs.declared.kept_phases.Mark.TheVariants as mark
+use Rattle.bz_net.specs.KeptPhases.{phase_of, phases_of}
+
+pub length_phases : (ms : List Mark) (vs : List ℕ) → length vs ≡ length ms → length (phases_of ms vs) ≡ length ms
+length_phases [] vs same = refl
+length_phases (m ∷ ms) [] same = absurd (omega arith)
+length_phases (m ∷ ms) (v ∷ vs) same = ap suc (length_phases ms vs (omega arith))
+
+pub idle_phases : (n : ℕ) (vs : List ℕ) → length vs ≡ n → phases_of (replicate n mark.Idle) vs ≡ replicate n Idle
+idle_phases zero vs same = refl
+idle_phases (suc n) [] same = absurd (omega arith)
+idle_phases (suc n) (v ∷ vs) same = ap (λ l. Idle ∷ l) (idle_phases n vs (omega arith))
+
+-- a mark and the value beside it were read
+pub phase_read : (ms : List Mark) (vs : List ℕ) (i : ℕ) (m : Mark) (v : ℕ) → length vs ≡ length ms → i < length ms → m ≡ get_or ms i m → v ≡ get_or vs i v
+    → phase_of m v ≡ get_or (phases_of ms vs) i Idle
+phase_read [] vs i m v same lt is on = absurd (omega arith)
+phase_read (a ∷ ms) [] i m v same lt is on = absurd (omega arith)
+phase_read (a ∷ ms) (b ∷ vs) zero m v same lt is on = ap (λ (x : Mark). phase_of x v) is ∙ ap (phase_of a) on
+phase_read (a ∷ ms) (b ∷ vs) (suc i) m v same lt is on = phase_read ms vs i m v (omega arith) (omega arith) is on
+
+-- a mark was put, whose phase has no value
+pub mark_put : (ms : List Mark) (vs : List ℕ) (i : ℕ) (m : Mark) (f : Phase) → length vs ≡ length ms → ((v : ℕ) → phase_of m v ≡ f)
+    → phases_of (set ms i m) vs ≡ set (phases_of ms vs) i f
+mark_put [] vs i m f same tells = refl
+mark_put (a ∷ ms) [] i m f same tells = absurd (omega arith)
+mark_put (a ∷ ms) (b ∷ vs) zero m f same tells = ap (λ (x : Phase). x ∷ phases_of ms vs) (tells b)
+mark_put (a ∷ ms) (b ∷ vs) (suc i) m f same tells = ap (λ l. phase_of a b ∷ l) (mark_put ms vs i m f (omega arith) tells)
+
+-- a mark was put, and its value
+pub both_put : (ms : List Mark) (vs : List ℕ) (i : ℕ) (m : Mark) (v : ℕ) (f : Phase) → length vs ≡ length ms → phase_of m v ≡ f
+    → phases_of (set ms i m) (set vs i v) ≡ set (phases_of ms vs) i f
+both_put [] vs i m v f same tells = refl
+both_put (a ∷ ms) [] i m v f same tells = absurd (omega arith)
+both_put (a ∷ ms) (b ∷ vs) zero m v f same tells = ap (λ (x : Phase). x ∷ phases_of ms vs) tells
+both_put (a ∷ ms) (b ∷ vs) (suc i) m v f same tells = ap (λ l. phase_of a b ∷ l) (both_put ms vs i m v f (omega arith) tells)

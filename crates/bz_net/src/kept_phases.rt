@@ -1,0 +1,132 @@
+//! The phases of a net's channels, in little room: a mark for each channel, and the values in a row of their own.
+
+ghost use Rattle.std.specs.Prelude.{◌≡◌, ◌<◌, IfOk, length, replicate, slice_index_or, slice_set};
+ghost use Rattle.bz_model.specs.declared.channel.Phase.TheVariants.{Idle};
+ghost use Rattle.bz_net.specs.KeptPhases.{phase_of, MarksPhase};
+
+use bz_model::{Phase, Value};
+use std::alloc::{AllocError, Global};
+use std::marker::Model;
+
+/// How far a handshake has come, and whether a value rides on its channel.
+#[derive(Clone, Copy)]
+pub(crate) enum Mark {
+    Idle,
+    Asked,
+    AskedWith,
+    Taken,
+    Replied,
+    RepliedWith,
+    Broken,
+}
+
+/// A phase for each channel, seen as their list. A value is kept in its place, and left there once its phase is over.
+pub(crate) struct Phases {
+    marks: Vec<Mark>,
+    values: Vec<Value>,
+}
+
+impl Drop for Phases {
+    fn drop(self) {
+        let Phases {
+            marks: _,
+            values: _,
+        } = self;
+    }
+}
+
+impl Model for Phases {
+    ghost use Rattle.std.specs.Prelude.{◌≡◌, List, length};
+    ghost use Rattle.bz_model.specs.declared.channel.Phase.{Phase};
+    ghost use Rattle.bz_net.specs.KeptPhases.{phases_of};
+
+    ghost Value = { List Phase };
+
+    ghost view = { λ p. phases_of p.marks.items p.values.items };
+
+    ghost invariant = { λ p. length p.values.items ≡ length p.marks.items };
+}
+
+impl Phases {
+    /// All channels idle.
+    #[tactic(auto, using(crate::proofs::Marks::idle_phases))]
+    pub(crate) fn new(alloc: Global, count: usize) -> Result<Phases, AllocError>
+        ensures { IfOk result (λ p. p ≡ replicate count Idle) }
+    {
+        let marks = vec![in alloc; Mark::Idle; count]?;
+        let values = vec![in alloc; 0; count]?;
+        Ok(Phases { marks, values })
+    }
+
+    /// The same phases.
+    pub(crate) fn dup(&self, alloc: Global) -> Result<Phases, AllocError>
+        ensures { IfOk result (λ p. p ≡ self.now) }
+    {
+        let marks = Vec::from_slice(alloc, &self.marks)?;
+        let values = Vec::from_slice(alloc, &self.values)?;
+        Ok(Phases { marks, values })
+    }
+
+    #[tactic(auto, using(crate::proofs::Marks::length_phases))]
+    pub(crate) fn len(&self) -> usize
+        ensures { result ≡ length self.now }
+    {
+        self.marks.len()
+    }
+
+    /// The phase in a place, counted from 0.
+    #[inline(always)]
+    #[tactic(auto, using(crate::proofs::Marks::length_phases, crate::proofs::Marks::phase_read))]
+    pub(crate) fn get(&self, place: usize) -> Phase
+        requires { place < length self.now }
+        ensures { result ≡ slice_index_or self.now place Idle }
+    {
+        phase_of(self.marks[place], &self.values[place])
+    }
+
+    /// Puts a phase into a place, counted from 0.
+    #[inline(always)]
+    #[tactic(auto, using(crate::proofs::Marks::length_phases, crate::proofs::Marks::mark_put, crate::proofs::Marks::both_put))]
+    pub(crate) fn put(&mut self, place: usize, phase: Phase)
+        requires { place < length self.old }
+        ensures { self.new ≡ slice_set self.old place phase }
+    {
+        let (mark, value) = mark_of(phase);
+        self.marks[place] = mark;
+        if let Some(value) = value {
+            self.values[place] = value;
+        }
+    }
+}
+
+// The phase that a mark tells, by the value beside it. That is read only where one rides.
+#[inline(always)]
+fn phase_of(mark: Mark, value: &Value) -> Phase
+    ensures { result ≡ phase_of mark value.now }
+{
+    match mark {
+        Mark::Idle => Phase::Idle,
+        Mark::Asked => Phase::Asked(None),
+        Mark::AskedWith => Phase::Asked(Some(*value)),
+        Mark::Taken => Phase::Taken,
+        Mark::Replied => Phase::Replied(None),
+        Mark::RepliedWith => Phase::Replied(Some(*value)),
+        Mark::Broken => Phase::Broken,
+    }
+}
+
+// The mark of a phase, and the value that it holds.
+#[inline(always)]
+fn mark_of(phase: Phase) -> (Mark, Option<Value>)
+    ensures { MarksPhase phase result.0 result.1 }
+{
+    match phase {
+        Phase::Idle => (Mark::Idle, None),
+        Phase::Asked(None) => (Mark::Asked, None),
+        Phase::Asked(Some(value)) => (Mark::AskedWith, Some(value)),
+        Phase::Taken => (Mark::Taken, None),
+        Phase::Replied(None) => (Mark::Replied, None),
+        Phase::Replied(Some(value)) => (Mark::RepliedWith, Some(value)),
+        Phase::Broken => (Mark::Broken, None),
+    }
+}
