@@ -397,3 +397,15 @@ own_whole parts n part readings comps ends empty mid new at read short own no_ch
     let own_ends = own.ends_are in
     let (grown, counted) = own_grown parts part most_instances mid mid new comps [] short chans (entered.comps_are ∙ no_comps) all (omega (arith, count, own_ends, mid_ends, no_ends)) start in
     whole_net parts part empty mid new no_chans no_comps no_ends entered grown counted
+
+drop_more : {X : Type 0} (xs : List X) (k : ℕ) → drop (suc k) xs ≡ drop 1 (drop k xs)
+drop_more [] zero = refl
+drop_more [] (suc k) = refl
+drop_more (x ∷ xs) zero = refl
+drop_more (x ∷ xs) (suc k) = drop_more xs k
+
+-- what is alike from one place on is alike from the next on
+pub same_above : {X : Type 0} (xs ys : List X) (depth : ℕ) → 0 < depth → drop (depth - 1) xs ≡ drop (depth - 1) ys → drop depth xs ≡ drop depth ys
+same_above {X = X} xs ys depth pos e =
+    let is : suc (depth - 1) ≡ depth = omega arith in
+    subst (λ (n : ℕ). drop n xs ≡ drop n ys) is (drop_more xs (depth - 1) ∙ ap (λ (l : List X). drop 1 l) e ∙ sym (drop_more ys (depth - 1)))

@@ -1,5 +1,5 @@
 -- The net as far as the walk has come.
-use Rattle.std.specs.Prelude.{◌≡◌, ℕ, zero, suc, ◌+◌, ◌-◌, ◌<◌, ◌≤◌, ⊤, ◌⊎◌, IsTrue, Some, List, [], ◌∷◌, ◌++◌, length, map, drop, slice_get, slice_index_or, nat_le, if◌then◌else◌}
+use Rattle.std.specs.Prelude.{◌≡◌, ℕ, ◌+◌, ◌-◌, ◌<◌, ◌≤◌, ⊤, ◌⊎◌, IsTrue, Some, List, [], ◌∷◌, ◌++◌, length, map, drop, slice_get, slice_index_or, nat_le, if◌then◌else◌}
 use Rattle.std.specs.List.{flat_map, All}
 use Rattle.bz_model.specs.declared.channel.Chan.{Chan}
 use Rattle.bz_model.specs.declared.kind.Kind.{Kind}

@@ -1,6 +1,6 @@
 //! One component of a part: what it is, and whether its entries are what its kind or its part asks for.
 
-ghost use Rattle.std.specs.Prelude.{◌≡◌, ◌<◌, ◌≤◌, ◌⊎◌, ◌↔◌, ◌+◌, ℕ, length, map, not, count_by, slice_get, slice_index_or, IsTrue, IfOk, IfErr};
+ghost use Rattle.std.specs.Prelude.{◌≡◌, ◌<◌, ◌≤◌, ◌⊎◌, ◌↔◌, ◌+◌, ℕ, length, map, not, count_by, slice_get, slice_index_or, IsTrue, IfOk, IfErr, OnOk};
 ghost use Rattle.std.specs.List.{All};
 ghost use Rattle.std.specs.Option.{option_copied};
 ghost use Rattle.bz_model.specs.Rows.{row_of};
@@ -21,7 +21,13 @@ use bz_model::{Chan, ChanKind, Kind, MAX_MEMBERS};
 use std::alloc::{AllocError, Global};
 
 /// A component that is no instance, by the numbers that its part's channels have in that part.
-pub fn leaf_of(alloc: Global, channels: &[Chan], component: &Component) -> Result<FlatComp, Fault>
+/// The channels at its ports are gathered in `carried`, whatever that held.
+pub fn leaf_of(
+    alloc: Global,
+    channels: &[Chan],
+    component: &Component,
+    carried: &mut Vec<Chan>,
+) -> Result<FlatComp, Fault>
     ensures ok { IfOk result (IsFlat channels.now component.now) }
     ensures err { IfErr result (λ f. (f ≡ fault.Memory) ⊎ HasFault channels.now component.now (leaf_role component.now) f) }
     ensures first { IfErr result (NoneBefore channels.now component.now (leaf_role component.now)) }
@@ -40,7 +46,7 @@ pub fn leaf_of(alloc: Global, channels: &[Chan], component: &Component) -> Resul
     }
     let sizes = sizes_of(entries);
     let chans = arranged(alloc, &kind, channels, entries)?;
-    let carried = carried(alloc, channels, chans.as_slice())?;
+    gather(channels, chans.as_slice(), carried)?;
     if !kinds_are(&kind, sizes, carried.as_slice()) {
         return Err(Fault::KindMismatch);
     }
@@ -50,12 +56,14 @@ pub fn leaf_of(alloc: Global, channels: &[Chan], component: &Component) -> Resul
     Ok(FlatComp { kind, sizes, chans })
 }
 
-/// The channels that an instance's entries name, by their numbers in the part that it is a component of.
+/// The channels that an instance's entries name, by their numbers in the part that it is a component of. The channels
+/// themselves are gathered in `carried`, whatever that held.
 pub fn instance_of(
     alloc: Global,
     channels: &[Chan],
     component: &Component,
     inner: &Part,
+    carried: &mut Vec<Chan>,
 ) -> Result<Vec<u32>, Fault>
     requires { HasPortChannels inner.now }
     ensures ok { IfOk result (λ v. (v.items ≡ flattened component.now.entries.items) × IsSoundInstance channels.now component.now inner.now) }
@@ -69,7 +77,7 @@ pub fn instance_of(
     if !are_channels(named.as_slice(), channels.len()) {
         return Err(Fault::BadChannel);
     }
-    let carried = carried(alloc, channels, named.as_slice())?;
+    gather(channels, named.as_slice(), carried)?;
     let asked = &inner.channels[..inner.ports.len()];
     if !have_kinds(carried.as_slice(), asked) {
         return Err(Fault::KindMismatch);
@@ -335,16 +343,16 @@ fn names_channels(entry: &Slot, count: usize) -> bool
     }
 }
 
-// The channels of these numbers.
-fn carried(alloc: Global, channels: &[Chan], numbers: &[u32]) -> Result<Vec<Chan>, AllocError>
+// Gathers the channels of these numbers, whatever was gathered before.
+fn gather(channels: &[Chan], numbers: &[u32], carried: &mut Vec<Chan>) -> Result<(), AllocError>
     requires { All (IsChannel channels.now) numbers.now }
-    ensures { IfOk result (λ v. v.items ≡ map (chan_in channels.now) numbers.now) }
+    ensures { OnOk result (carried.new.items ≡ map (chan_in channels.now) numbers.now) }
 {
-    let mut carried = Vec::with_capacity(alloc, numbers.len())?;
+    carried.clear();
     for number in numbers {
         carried.push(channels[*number as usize - 1])?;
     }
-    Ok(carried)
+    Ok(())
 }
 
 // Whether channels are of the same kinds as others, in order.

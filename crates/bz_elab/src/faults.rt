@@ -109,8 +109,16 @@ fn read_part(
     ensures err { IfErr result (λ e. e ≡ Memory) }
 {
     let mut least = before;
+    let mut carried = Vec::new(alloc);
     for (place, component) in part.components.iter().enumerate() {
-        match look(alloc, parts, totals, part.channels.as_slice(), component)? {
+        match look(
+            alloc,
+            parts,
+            totals,
+            part.channels.as_slice(),
+            component,
+            &mut carried,
+        )? {
             Seen::Nothing => {}
             Seen::Adds(item) => add_item(reading, is_top, item)?,
             Seen::Wrong(fault) => {
@@ -138,13 +146,14 @@ fn add_item(reading: &mut Reading, is_top: bool, item: Item) -> Result<(), Alloc
     }
 }
 
-// Looks at a component.
+// Looks at a component. The channels at its ports are gathered in `carried`, whatever that held.
 fn look(
     alloc: Global,
     parts: &Parts,
     totals: &[Option<Total>],
     channels: &[Chan],
     component: &Component,
+    carried: &mut Vec<Chan>,
 ) -> Result<Seen, ElabError>
     requires whole { All HasPortChannels parts.now }
     requires totals { AreTotals parts.now totals.now }
@@ -152,11 +161,17 @@ fn look(
     ensures err { IfErr result (λ e. e ≡ Memory) }
 {
     let fault = match find(parts, component.name.as_slice()) {
-        None => match leaf_of(alloc, channels, component) {
+        None => match leaf_of(alloc, channels, component, carried) {
             Ok(leaf) => return Ok(Seen::Adds(Item::Leaf(leaf))),
             Err(fault) => fault,
         },
-        Some(inner) => match instance_of(alloc, channels, component, &parts.list()[inner]) {
+        Some(inner) => match instance_of(
+            alloc,
+            channels,
+            component,
+            &parts.list()[inner],
+            carried,
+        ) {
             Ok(chans) => return Ok(seen_copy(parts, totals, inner, chans)),
             Err(fault) => fault,
         },

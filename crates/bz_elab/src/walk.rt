@@ -1,6 +1,6 @@
 //! The walk of a part's copies, by which its net is made.
 
-ghost use Rattle.std.specs.Prelude.{◌≡◌, ◌<◌, ◌≤◌, ◌+◌, ◌-◌, ◌^◌, ◌++◌, ◌∷◌, [], ◌⊎◌, ℕ, List, Some, length, map, slice_get, option_and_then, slice_index_or, IfOk, IfErr, IfSome, IfNone, OnOk};
+ghost use Rattle.std.specs.Prelude.{◌≡◌, ◌<◌, ◌≤◌, ◌+◌, ◌-◌, ◌^◌, ◌++◌, ◌∷◌, [], ◌⊎◌, ℕ, List, Some, length, map, drop, slice_get, option_and_then, slice_index_or, IfOk, IfErr, IfSome, IfNone, OnOk};
 ghost use Rattle.std.specs.List.{All};
 ghost use Rattle.bz_elab.specs.declared.error.ElabError.TheVariants.{Memory, TooBig};
 ghost use Rattle.bz_elab.specs.Paths.{named, most_instances};
@@ -165,48 +165,62 @@ fn add_leaf(
     push_comp(draft, FlatComp { kind, sizes, chans })
 }
 
-// Adds the channels of an instance's copy, whose entries name these channels of the copy above; answers the copies from
-// this one up.
+// The copies from one up, where there may be `depth` more below it: those in the places from `depth` on.
+fn from_depth<'l, 'r>(levels: &'l [Level<'r>], depth: u32) -> &'l [Level<'r>]
+    requires { depth ≤ length levels.now }
+    ensures { result.now ≡ drop depth levels.now }
+{
+    &levels[depth as usize..]
+}
+
+// Adds the channels of an instance's copy, whose entries name these channels of the copy above, and puts it in front of the
+// copies from that one up.
 fn add_copy<'r>(
-    alloc: Global,
     ports: &'r [u32],
     inner: &Part,
-    levels: &[Level<'r>],
+    levels: &mut [Level<'r>],
+    depth: u32,
     draft: &mut Draft,
-) -> Result<Vec<Level<'r>>, ElabError>
+) -> Result<(), ElabError>
     requires inner { HasPortChannels inner.now }
+    requires deeper { 0 < depth }
+    requires room { depth ≤ length levels.old }
     requires draft { Within draft.old }
     ensures within { Within draft.new }
-    ensures ok { IfOk result (λ v. CopyOn levels.now ports.now inner.now draft.old draft.new v.items) }
+    ensures ok { OnOk result (CopyOn (drop depth levels.old) ports.now inner.now draft.old draft.new (drop (depth - 1) levels.new)) }
+    ensures above { OnOk result (drop depth levels.new ≡ drop depth levels.old) }
+    ensures long { OnOk result (length levels.new ≡ length levels.old) }
     ensures err { IfErr result (λ e. (e ≡ Memory) ⊎ ((e ≡ TooBig) × (most_chans < length draft.old.chans + (length inner.now.channels.items - length inner.now.ports.items)))) }
 {
     let before = draft.chans.len() as u32;
     enter(draft, inner, inner.ports.len())?;
-    let mut inside = Vec::with_capacity(alloc, levels.len() + 1)?;
-    inside.push(Level { before, ports })?;
-    inside.extend_from_slice(levels)?;
-    Ok(inside)
+    levels[depth as usize - 1] = Level { before, ports };
+    Ok(())
 }
 
-// Adds the copies and leaves below a part's copy, `levels` being that copy and those above it but for the top's.
+// Adds the copies and leaves below a part's copy. In the places of `levels` from `depth` on stand that copy and those above it
+// but for the top's, and before them there is room for those below.
 fn flatten<'r>(
     alloc: Global,
     parts: &Parts,
     readings: &'r [Reading],
     number: usize,
     part: &Part,
-    levels: &[Level<'r>],
+    levels: &mut [Level<'r>],
     depth: u32,
     draft: &mut Draft,
 ) -> Result<(), ElabError>
     requires whole { All HasPortChannels parts.now }
     requires part_is { slice_get parts.now number ≡ Some part.now }
-    requires levels { FitsNet levels.now (length part.now.channels.items) (length draft.old.chans) }
+    requires levels { FitsNet (drop depth levels.old) (length part.now.channels.items) (length draft.old.chans) }
+    requires room { depth ≤ length levels.old }
     requires read { IsReadBelow parts.now number readings.now }
     requires short { IsShort parts.now part.now depth }
     requires draft { Within draft.old }
     ensures within { Within draft.new }
-    ensures ok { OnOk result (Flattened parts.now part.now levels.now depth draft.old draft.new) }
+    ensures above { OnOk result (drop depth levels.new ≡ drop depth levels.old) }
+    ensures long { OnOk result (length levels.new ≡ length levels.old) }
+    ensures ok { OnOk result (Flattened parts.now part.now (drop depth levels.old) depth draft.old draft.new) }
     ensures counted { OnOk result (Counted parts.now part.now depth draft.old draft.new) }
     ensures err { IfErr result (Fails parts.now part.now depth draft.old) }
     ensures early { IfErr result (λ e. rank e ≤ 10) }
@@ -214,24 +228,24 @@ fn flatten<'r>(
     let reading = &readings[number];
     for place in 0..reading.leaves.len() {
         let leaf = reading.leaves.get(Id::at(place));
-        add_leaf(alloc, leaf, levels, draft)?;
+        add_leaf(alloc, leaf, from_depth(levels, depth), draft)?;
     }
     for item in &reading.items {
         match item {
-            Item::Leaf(named) => add_leaf(alloc, named, levels, draft)?,
+            Item::Leaf(named) => add_leaf(alloc, named, from_depth(levels, depth), draft)?,
             Item::Copy(instance) => {
                 if depth == 0 {
                     return Err(ElabError::TooDeep);
                 }
                 let inner = &parts.list()[instance.part];
-                let inside = add_copy(alloc, instance.chans.as_slice(), inner, levels, draft)?;
+                add_copy(instance.chans.as_slice(), inner, levels, depth, draft)?;
                 flatten(
                     alloc,
                     parts,
                     readings,
                     instance.part,
                     inner,
-                    inside.as_slice(),
+                    levels,
                     depth - 1,
                     draft,
                 )?;
@@ -329,13 +343,18 @@ fn flatten_top(
     ensures err { IfErr result (Fails parts.now part.now most_instances draft.old) }
     ensures early { IfErr result (λ e. rank e ≤ 10) }
 {
+    let none = Level {
+        before: 0,
+        ports: &[],
+    };
+    let mut levels = [none; MOST_INSTANCES as usize];
     flatten(
         alloc,
         parts,
         readings,
         number,
         part,
-        &[],
+        &mut levels,
         MOST_INSTANCES,
         draft,
     )

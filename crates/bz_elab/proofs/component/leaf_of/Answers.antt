@@ -29,8 +29,8 @@ arranged-requires c =
     let tells = tells_named (IsChannel c.args.channels.now) _ _ (rw c.as_slice-entries.ensures.value at c.name_channels.ensures) in
     rw c.as_slice-entries.ensures.value (tells.0 c.if-not-name_channels.false)
 
-pub carried-requires : goal.carried-requires
-carried-requires c =
+pub gather-requires : goal.gather-requires
+gather-requires c =
     let entries = c.args.component.now.entries.items in
     let tells = tells_named (IsChannel c.args.channels.now) _ _ (rw c.as_slice-entries.ensures.value at c.name_channels.ensures) in
     let chans = rw c.as_slice-entries.ensures.value at c.in_ok-chans.ensures in
@@ -40,7 +40,7 @@ pub returns-then-not-kinds_are-clause-err : goal.returns-then-not-kinds_are-clau
 returns-then-not-kinds_are-clause-err c =
     let role = role_kind c.args.component.now c.in_ok-kind.kind (rw (c.as_slice.ensures.value, c.as_slice-2.ensures.value) at c.in_ok-kind.ensures.ok) in
     let chans = rw c.as_slice-entries.ensures.value at c.in_ok-chans.ensures in
-    let carried = rw (c.as_slice-3.ensures.value, chans) at c.in_ok-carried.ensures in
+    let carried = rw (c.as_slice-3.ensures.value, chans) at c.in_ok-gather.ensures in
     let sizes = rw c.as_slice-entries.ensures.value at c.sizes_of-sizes.ensures in
     let tells = rw (c.as_slice-4.ensures.value, carried, sizes) at c.kinds_are.ensures in
     leaf_fault c.args.channels.now c.args.component.now _ fault.KindMismatch role (λ kinds. not_both _ (tells.1 kinds) c.if-not-kinds_are.true)
@@ -49,7 +49,7 @@ pub returns-then-not-widths_fit-clause-err : goal.returns-then-not-widths_fit-cl
 returns-then-not-widths_fit-clause-err c =
     let role = role_kind c.args.component.now c.in_ok-kind.kind (rw (c.as_slice.ensures.value, c.as_slice-2.ensures.value) at c.in_ok-kind.ensures.ok) in
     let chans = rw c.as_slice-entries.ensures.value at c.in_ok-chans.ensures in
-    let carried = rw (c.as_slice-3.ensures.value, chans) at c.in_ok-carried.ensures in
+    let carried = rw (c.as_slice-3.ensures.value, chans) at c.in_ok-gather.ensures in
     let tells = rw (c.as_slice-5.ensures.value, carried) at c.widths_fit.ensures in
     leaf_fault c.args.channels.now c.args.component.now _ fault.WidthMismatch role (λ widths. not_both _ (tells.1 widths) c.if-not-widths_fit.true)
 
@@ -59,7 +59,7 @@ returns-clause-ok c =
     let fits = rw c.as_slice-entries.ensures.value at c.fits_ports.ensures in
     let within = tells_named (IsChannel c.args.channels.now) _ _ (rw c.as_slice-entries.ensures.value at c.name_channels.ensures) in
     let chans = rw c.as_slice-entries.ensures.value at c.in_ok-chans.ensures in
-    let carried = rw (c.as_slice-3.ensures.value, chans) at c.in_ok-carried.ensures in
+    let carried = rw (c.as_slice-3.ensures.value, chans) at c.in_ok-gather.ensures in
     let sizes = rw c.as_slice-entries.ensures.value at c.sizes_of-sizes.ensures in
     let kinds = rw (c.as_slice-4.ensures.value, carried, sizes) at c.kinds_are.ensures in
     let widths = rw (c.as_slice-5.ensures.value, carried) at c.widths_fit.ensures in
@@ -108,7 +108,7 @@ returns-then-not-widths_fit-clause-first c =
     let fits = rw c.as_slice-entries.ensures.value at c.fits_ports.ensures in
     let within = tells_named (IsChannel c.args.channels.now) _ _ (rw c.as_slice-entries.ensures.value at c.name_channels.ensures) in
     let chans = rw c.as_slice-entries.ensures.value at c.in_ok-chans.ensures in
-    let carried = rw (c.as_slice-3.ensures.value, chans) at c.in_ok-carried.ensures in
+    let carried = rw (c.as_slice-3.ensures.value, chans) at c.in_ok-gather.ensures in
     let sizes = rw c.as_slice-entries.ensures.value at c.sizes_of-sizes.ensures in
     let kinds = rw (c.as_slice-4.ensures.value, carried, sizes) at c.kinds_are.ensures in
     by_kind c.args.channels.now c.args.component.now _ fault.WidthMismatch role

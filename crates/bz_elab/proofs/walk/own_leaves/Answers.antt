@@ -1,4 +1,4 @@
-use Rattle.std.proofs.Common.{arith, ◌≡◌, [], ◌++◌, Some, length, map, slice_get, refl, sym, ◌∙◌, ap}
+use Rattle.std.proofs.Common.{arith, ◌≡◌, [], ◌++◌, Some, length, map, slice_get, refl, ◌∙◌, ap}
 use Rattle.std.proofs.lemmas.List.{append-nil, nil_from_length}
 use Rattle.std.proofs.lemmas.Option.{slice_get_read}
 use Rattle.bz_elab.specs.declared.reading.Item.TheVariants.{Leaf}
