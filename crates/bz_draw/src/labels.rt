@@ -4,7 +4,7 @@ use bz_arena::Arena;
 use bz_breeze::{Component, Part as PartRecord};
 use bz_elab::FlatComp;
 use bz_lines::{Part, WriteFault, put_parts};
-use bz_model::{Chan, Kind, Param, Source, Value, low_bits, node_of};
+use bz_model::{Chan, Kind, Param, Value, low_bits, node_of};
 use bz_places::Place;
 use std::alloc::{AllocError, Global};
 use std::io::Write;
@@ -89,13 +89,17 @@ fn detail(
         | Kind::BinaryFunc { .. }
         | Kind::Case(_)
         | Kind::CaseFetch(_) => put_parts(&mut text, &[Part::Name(word)])?,
-        Kind::BinaryFuncConstR { right, .. } => {
-            let constant = match right.source {
-                Source::Given(value) => low_bits(value, right.width),
-                Source::Kept(_) => 0,
-            };
-            put_parts(&mut text, &[Part::Name(word), Part::Value(Some(constant))])?;
-        }
+        Kind::BinaryFuncConstR {
+            right_width,
+            right,
+            ..
+        } => put_parts(
+            &mut text,
+            &[
+                Part::Name(word),
+                Part::Value(Some(low_bits(*right, *right_width))),
+            ],
+        )?,
         Kind::Slice(low) => put_parts(&mut text, &[Part::Bytes(b"from bit "), Part::Number(*low)])?,
         Kind::Constant(value) => put_parts(
             &mut text,

@@ -2,8 +2,6 @@
 use Rattle.std.specs.Prelude.{if◌then◌else◌, ℕ, ◌%◌, ◌^◌, ◌&&◌, nat_le, Bool, true, false, bytes_eq, Option, Some, None, List, [], ◌∷◌, codes, find, filter_map, slice_get, Result, Ok, Err}
 use Rattle.std.specs.Option.{option_map, option_and_then}
 use Rattle.bz_model.specs.Limits.{max_width}
-use Rattle.bz_model.specs.declared.expr.Operand.{Operand}
-use Rattle.bz_model.specs.declared.expr.Source.TheVariants.{Given}
 use Rattle.bz_model.specs.declared.operation.UnaryOp.{UnaryOp}
 use Rattle.bz_model.specs.declared.operation.UnaryOp.TheVariants.{Negate, Invert}
 use Rattle.bz_model.specs.declared.operation.BinaryOp.{BinaryOp}
@@ -160,17 +158,14 @@ unary_by params = option_map (λ op. UnaryFunc op (flag params 0)) (option_and_t
 abbrev pub binary_by : List Param → Option Kind
 binary_by params = option_map (λ op. BinaryFunc op (flag params 1) (flag params 2)) (option_and_then binary_named (text params 0))
 
--- an operand of this width, with this value
-abbrev pub given : Option ℕ → Option ℕ → Bool → Option Operand
-given (Some width) (Some value) signed =
-    if nat_le 1 width && nat_le width max_width
-    then Some (record { source = Given value; width = width; signed = signed })
-    else None
-given width value signed = None
+-- a width that an operand may have, and its value
+abbrev pub given : Option ℕ → Option ℕ → Option (ℕ × ℕ)
+given (Some width) (Some value) = if nat_le 1 width && nat_le width max_width then Some (width, value) else None
+given width value = None
 
 abbrev pub const_by : List Param → Option Kind
 const_by params =
-    option_and_then (λ op. option_map (λ right. BinaryFuncConstR op (flag params 1) right) (given (number params 2) (number params 3) (flag params 2)))
+    option_and_then (λ op. option_map (λ right. BinaryFuncConstR op (flag params 1) (flag params 2) right.0 right.1) (given (number params 2) (number params 3)))
     (option_and_then binary_named (text params 0))
 
 abbrev pub slice_by : List Param → Option Kind

@@ -8,7 +8,7 @@ ghost use Rattle.bz_kind_table.specs.Naming.{named, kind_by, kind_with, text, nu
 
 use crate::error::KindError;
 use crate::specification::specification;
-use bz_model::{BinaryOp, Kind, MAX_WIDTH, Operand, Param, Source, UnaryOp};
+use bz_model::{BinaryOp, Kind, MAX_WIDTH, Param, UnaryOp};
 use std::alloc::{AllocError, Global};
 
 /// The names of kinds.
@@ -343,12 +343,14 @@ fn binary_func_const(params: &[Param]) -> Option<Kind>
     let Some(op) = binary_named(text) else {
         return None;
     };
-    let Some(right) = given(number(params, 2), number(params, 3), flag(params, 2)) else {
+    let Some((right_width, right)) = given(number(params, 2), number(params, 3)) else {
         return None;
     };
     Some(Kind::BinaryFuncConstR {
         op,
         left_signed: flag(params, 1),
+        right_signed: flag(params, 2),
+        right_width,
         right,
     })
 }
@@ -362,9 +364,9 @@ fn slice(params: &[Param]) -> Option<Kind>
     }
 }
 
-// A second operand of this width and value.
-fn given(width: Option<u128>, value: Option<u128>, signed: bool) -> Option<Operand>
-    ensures { result ≡ given width value signed }
+// The width and the value of a second operand.
+fn given(width: Option<u128>, value: Option<u128>) -> Option<(u32, u128)>
+    ensures { result ≡ given width value }
 {
     let Some(width) = width else {
         return None;
@@ -375,11 +377,7 @@ fn given(width: Option<u128>, value: Option<u128>, signed: bool) -> Option<Opera
     if width < 1 || width > MAX_WIDTH as u128 {
         return None;
     }
-    Some(Operand {
-        source: Source::Given(value),
-        width: width as u32,
-        signed,
-    })
+    Some((width as u32, value))
 }
 
 fn unary_named(text: &[u8]) -> Option<UnaryOp>

@@ -26,7 +26,6 @@ abbrev pub row_of : KeptRow → Row
 row_of row.Calls = record { into = 1; legs = Each (leg Nothing 1); answer = Nothing }
 row_of row.Pushes = record { into = 0; legs = Each (leg (Slot 0) 1); answer = Nothing }
 row_of row.Fetches = record { into = 1; legs = Two (leg Nothing 0) (leg (Slot 0) 1); answer = Nothing }
-row_of (row.Own it) = it.value
 
 abbrev pub mix_of : KeptMix → Mix
 mix_of mix.Choice = record { into = 1; leg = leg Nothing 1; answer = Nothing; own = false }
@@ -42,7 +41,9 @@ meet_of meet.PullMeeting = record { leg = Some (leg Nothing 0); answer = Slot 0;
 
 abbrev pub plan_of : KeptPlan → Plan
 plan_of (kept.InTurn it) = InTurn (row_of it)
+plan_of (kept.OwnInTurn row) = InTurn row.value
 plan_of (kept.Together it) = Together (row_of it)
+plan_of (kept.OwnTogether row) = Together row.value
 plan_of (kept.Once it) = Once (row_of it)
 plan_of kept.Cells = Cells
 plan_of kept.Signalled = Signalled

@@ -3,6 +3,7 @@ use Rattle.std.specs.Prelude.{ℕ, List, [], ◌∷◌}
 use Rattle.bz_model.specs.declared.channel.Chan.{Chan}
 use Rattle.bz_kinds.specs.declared.kept_lists.KeptSlots.{KeptSlots}
 use Rattle.bz_kinds.specs.declared.kept_lists.KeptSlots.TheVariants as slots
+use Rattle.bz_kinds.specs.declared.kept_lists.KeptChan.{KeptChan}
 use Rattle.bz_kinds.specs.declared.kept_lists.KeptChans.{KeptChans}
 use Rattle.bz_kinds.specs.declared.kept_lists.KeptChans.TheVariants as chans
 
@@ -10,8 +11,11 @@ abbrev pub slots_of : KeptSlots → List ℕ
 slots_of (slots.Two two) = two
 slots_of (slots.List list) = list.items
 
+abbrev pub chan_of : KeptChan → Chan
+chan_of k = record { kind = k.kind; width = k.width }
+
 abbrev pub chans_of : KeptChans → List Chan
-chans_of (chans.One one) = one ∷ []
-chans_of (chans.Two first second) = first ∷ second ∷ []
-chans_of (chans.Three first second third) = first ∷ second ∷ third ∷ []
-chans_of (chans.List list) = list.items
+chans_of (chans.One one) = chan_of one ∷ []
+chans_of (chans.Two first second) = chan_of first ∷ chan_of second ∷ []
+chans_of (chans.Three first second third) = chan_of first ∷ chan_of second ∷ chan_of third ∷ []
+chans_of (chans.List list) = list.value.items

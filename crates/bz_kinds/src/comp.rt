@@ -32,14 +32,15 @@ use bz_model::{Chan, Kind, Move, Phase, Value};
 use std::alloc::{AllocError, Global};
 use std::marker::Model;
 
-/// A component in a state, seen as its process, its channels and the ports that its own moves have opened.
+/// A component in a state, seen as its process, its channels and the ports that its own moves have opened. What tells whether it
+/// can move stands in front, so that a look at it reads little memory.
 #[derive(Drop)]
 pub struct Comp {
+    passive: u64,
+    ports: Ports,
     plan: KeptPlan,
     size: u32,
     left: u32,
-    ports: Ports,
-    passive: u64,
     slots: KeptSlots,
     chans: KeptChans,
 }
@@ -199,7 +200,9 @@ fn first_ports(alloc: Global, plan: &KeptPlan, legs: u32) -> Result<Ports, Alloc
 {
     match plan {
         KeptPlan::InTurn(_) => first_only(alloc, legs as usize + 2),
+        KeptPlan::OwnInTurn(_) => first_only(alloc, legs as usize + 2),
         KeptPlan::Together(_) => first_only(alloc, legs as usize + 2),
+        KeptPlan::OwnTogether(_) => first_only(alloc, legs as usize + 2),
         KeptPlan::Once(_) => first_only(alloc, legs as usize + 2),
         KeptPlan::Cells => from_first(alloc, legs as usize + 2),
         KeptPlan::Select(_) => first_only(alloc, legs as usize + 2),
@@ -291,7 +294,9 @@ pub(crate) fn due_at(
 {
     match plan {
         KeptPlan::InTurn(row) => enclosed::due(row.get(), port, number),
+        KeptPlan::OwnInTurn(row) => enclosed::due(row, port, number),
         KeptPlan::Together(row) => enclosed::due(row.get(), port, number),
+        KeptPlan::OwnTogether(row) => enclosed::due(row, port, number),
         KeptPlan::Once(row) => enclosed::due(row.get(), port, number),
         KeptPlan::Cells => cells::due(port, number),
         KeptPlan::Select(_) => enclosed::due(&select::ROW, port, number),
@@ -321,7 +326,9 @@ fn advance(
 {
     match plan {
         KeptPlan::InTurn(_) => in_turn::step(ports, left, size, port),
+        KeptPlan::OwnInTurn(_) => in_turn::step(ports, left, size, port),
         KeptPlan::Together(_) => together::step(ports, left, size, port),
+        KeptPlan::OwnTogether(_) => together::step(ports, left, size, port),
         KeptPlan::Once(_) => once::step(ports, left, size, port),
         KeptPlan::Cells => cells::step(ports, size, port),
         KeptPlan::Select(spans) => select::step(spans, ports, left, size, port, slots),

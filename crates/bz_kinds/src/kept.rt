@@ -11,13 +11,12 @@ use crate::shape::{
 use bz_model::Spans;
 use std::alloc::{AllocError, Global};
 
-/// A row as a component keeps it: one that kinds have in common, by its name, or one of its own.
-#[derive(Drop)]
+/// A row that kinds have in common, by its name.
+#[derive(Clone, Copy)]
 pub enum KeptRow {
     Calls,
     Pushes,
     Fetches,
-    Own(Box<Row>),
 }
 
 /// A choice by its name.
@@ -38,11 +37,13 @@ pub enum KeptMeet {
     PullMeeting,
 }
 
-/// A plan as a component keeps it: small, since a net has many.
+/// A plan as a component keeps it: small, since a net has many. A row that no other kind has stands in a block of its own.
 #[derive(Drop)]
 pub enum KeptPlan {
     InTurn(KeptRow),
+    OwnInTurn(Box<Row>),
     Together(KeptRow),
+    OwnTogether(Box<Row>),
     Once(KeptRow),
     Cells,
     Signalled,
@@ -63,22 +64,6 @@ impl KeptRow {
             KeptRow::Calls => &CALLS,
             KeptRow::Pushes => &PUSHES,
             KeptRow::Fetches => &FETCHES,
-            KeptRow::Own(row) => row,
-        }
-    }
-
-    /// The same row.
-    pub fn dup(&self, alloc: Global) -> Result<KeptRow, AllocError>
-        ensures { IfOk result (λ r. row_of r ≡ row_of self.now) }
-    {
-        match self {
-            KeptRow::Calls => Ok(KeptRow::Calls),
-            KeptRow::Pushes => Ok(KeptRow::Pushes),
-            KeptRow::Fetches => Ok(KeptRow::Fetches),
-            KeptRow::Own(row) => {
-                let own = Box::new(alloc, **row)?;
-                Ok(KeptRow::Own(own))
-            }
         }
     }
 }
@@ -115,18 +100,17 @@ impl KeptPlan {
         ensures { IfOk result (λ p. plan_of p ≡ plan_of self.now) }
     {
         match self {
-            KeptPlan::InTurn(row) => {
-                let row = row.dup(alloc)?;
-                Ok(KeptPlan::InTurn(row))
+            KeptPlan::InTurn(row) => Ok(KeptPlan::InTurn(*row)),
+            KeptPlan::OwnInTurn(row) => {
+                let own = Box::new(alloc, **row)?;
+                Ok(KeptPlan::OwnInTurn(own))
             }
-            KeptPlan::Together(row) => {
-                let row = row.dup(alloc)?;
-                Ok(KeptPlan::Together(row))
+            KeptPlan::Together(row) => Ok(KeptPlan::Together(*row)),
+            KeptPlan::OwnTogether(row) => {
+                let own = Box::new(alloc, **row)?;
+                Ok(KeptPlan::OwnTogether(own))
             }
-            KeptPlan::Once(row) => {
-                let row = row.dup(alloc)?;
-                Ok(KeptPlan::Once(row))
-            }
+            KeptPlan::Once(row) => Ok(KeptPlan::Once(*row)),
             KeptPlan::Cells => Ok(KeptPlan::Cells),
             KeptPlan::Signalled => Ok(KeptPlan::Signalled),
             KeptPlan::Select(spans) => {

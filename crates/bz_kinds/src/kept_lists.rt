@@ -1,9 +1,9 @@
 //! The values and the channels of a component: few, which lie in it, or a list.
 
-ghost use Rattle.std.specs.Prelude.{◌≡◌, IfOk, replicate, slice_set};
-ghost use Rattle.bz_kinds.specs.KeptLists.{chans_of, slots_of};
+ghost use Rattle.std.specs.Prelude.{◌≡◌, IfOk, IfSome, replicate, slice_set};
+ghost use Rattle.bz_kinds.specs.KeptLists.{chan_of, chans_of, slots_of};
 
-use bz_model::{Chan, Value};
+use bz_model::{Chan, ChanKind, Value};
 use std::alloc::{AllocError, Global};
 
 /// The values that a component keeps: two, as most do, or another number of them.
@@ -13,13 +13,20 @@ pub enum KeptSlots {
     List(Vec<Value>),
 }
 
-/// The channels at a component's ports, in the order of these.
+/// A channel in two bytes. A width that needs more has none.
+#[derive(Clone, Copy)]
+pub struct KeptChan {
+    kind: ChanKind,
+    width: u8,
+}
+
+/// The channels at a component's ports, in the order of these: few, as most have, or a list.
 #[derive(Drop)]
 pub enum KeptChans {
-    One(Chan),
-    Two(Chan, Chan),
-    Three(Chan, Chan, Chan),
-    List(Vec<Chan>),
+    One(KeptChan),
+    Two(KeptChan, KeptChan),
+    Three(KeptChan, KeptChan, KeptChan),
+    List(Box<Vec<Chan>>),
 }
 
 impl KeptSlots {
@@ -75,17 +82,45 @@ fn put(slots: &mut [Value], slot: u32, value: Value)
     }
 }
 
+impl KeptChan {
+    fn of(chan: Chan) -> Option<KeptChan>
+        ensures { IfSome result (λ k. chan_of k ≡ chan) }
+    {
+        if chan.width > u8::MAX as u32 {
+            return None;
+        }
+        Some(KeptChan {
+            kind: chan.kind,
+            width: chan.width as u8,
+        })
+    }
+}
+
+// Channels of which there are few.
+fn few(chans: &[Chan]) -> Option<KeptChans>
+    ensures { IfSome result (λ k. chans_of k ≡ chans.now) }
+{
+    match chans {
+        [one] => Some(KeptChans::One(KeptChan::of(*one)?)),
+        [first, second] => Some(KeptChans::Two(KeptChan::of(*first)?, KeptChan::of(*second)?)),
+        [first, second, third] => Some(KeptChans::Three(
+            KeptChan::of(*first)?,
+            KeptChan::of(*second)?,
+            KeptChan::of(*third)?,
+        )),
+        _ => None,
+    }
+}
+
 impl KeptChans {
     /// These channels.
     pub fn of(alloc: Global, chans: &[Chan]) -> Result<KeptChans, AllocError>
         ensures { IfOk result (λ k. chans_of k ≡ chans.now) }
     {
-        match chans {
-            [one] => Ok(KeptChans::One(*one)),
-            [first, second] => Ok(KeptChans::Two(*first, *second)),
-            [first, second, third] => Ok(KeptChans::Three(*first, *second, *third)),
-            _ => {
-                let list = chans.to_vec(alloc)?;
+        match few(chans) {
+            Some(few) => Ok(few),
+            None => {
+                let list = Box::new(alloc, chans.to_vec(alloc)?)?;
                 Ok(KeptChans::List(list))
             }
         }
@@ -102,7 +137,7 @@ impl KeptChans {
                 Ok(KeptChans::Three(*first, *second, *third))
             }
             KeptChans::List(list) => {
-                let list = list.to_vec(alloc)?;
+                let list = Box::new(alloc, list.to_vec(alloc)?)?;
                 Ok(KeptChans::List(list))
             }
         }
