@@ -3,3 +3,4 @@ pub mod Replays
 pub mod Busyness
 pub mod Going
 pub mod Answered
+pub mod Picked

@@ -3,7 +3,8 @@ use Rattle.std.specs.Prelude.{◌≡◌, ℕ, ◌+◌, ◌-◌, ◌<◌, ◌≤�
 use Rattle.bz_model.specs.declared.event.Entry.{Entry}
 use Rattle.bz_model.specs.declared.event.Who.TheVariants.{Worker}
 use Rattle.bz_model.specs.declared.event.Entry.TheVariants.{Fired, Host, Rested}
-use Rattle.bz_net.specs.Replies.{IsFiring, IsLowestFiring}
+use Rattle.bz_model.specs.declared.event.NetError.{NetError}
+use Rattle.bz_net.specs.Replies.{IsFiring, IsLowestFiring, RefusesFire, RefusesLowest}
 use Rattle.bz_net.specs.Simulation.{Simulation}
 use Rattle.bz_course.specs.declared.course.Mark.{Mark}
 use Rattle.bz_course.specs.declared.picker.Picker.{Picker}
@@ -36,6 +37,10 @@ pub record IsMark (course : Played) (command : List ℕ) (mark : Mark) : Type 0 
   pub next : mark.next ≡ course.next
   pub picker : mark.picker ≡ course.picker
 
+-- a command that added an entry left a mark of how all was before it
+abbrev pub IsMarked : Played → List ℕ → Played → Type 0
+IsMarked old command new = (mark : Mark) × IsMark old command mark × (new.marks ≡ old.marks ++ mark ∷ [])
+
 -- a command that added entries left a mark of how all was before it, and any other one none
 pub record Marked (old : Played) (command : List ℕ) (new : Played) : Type 0 where
   pub mark : Mark
@@ -57,3 +62,7 @@ pub record IsBack (old : Played) (count : ℕ) (mark : Mark) (new : Played) : Ty
 abbrev pub IsFiringOf : Simulation → ℕ → Option ℕ → Entry → Type 0
 IsFiringOf net c None entry = IsLowestFiring net (Worker 1) c entry
 IsFiringOf net c (Some p) entry = IsFiring (Worker 1) c p entry
+
+abbrev pub RefusesFiringOf : Simulation → ℕ → Option ℕ → NetError → Type 0
+RefusesFiringOf net c None e = RefusesLowest net c e
+RefusesFiringOf net c (Some p) e = RefusesFire net c p e

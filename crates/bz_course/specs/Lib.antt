@@ -2,4 +2,5 @@ pub mod Offers
 pub mod HostOffers
 pub mod Waiting
 pub mod Replaying
+pub mod Picking
 pub mod Courses

@@ -1,19 +1,21 @@
 //! A net that is played by hand, and how to go back in it.
 
-ghost use Rattle.std.specs.Prelude.{◌≡◌, ◌≢◌, ◌<◌, ◌≤◌, ℕ, [], ◌∷◌, length, IfOk, IfErr, OnOk, OnErr};
+ghost use Rattle.std.specs.Prelude.{◌≡◌, ◌≢◌, ◌<◌, ◌≤◌, [], ◌∷◌, length, IfOk, IfErr, OnOk, OnErr};
 ghost use Rattle.bz_model.specs.declared.event.Who.TheVariants as who;
 ghost use Rattle.bz_net.specs.Running.{Ran};
-ghost use Rattle.bz_net.specs.Replies.{Replies};
+ghost use Rattle.bz_net.specs.Replies.{Replies, RefusesCommand};
 ghost use Rattle.bz_net.specs.Simulation.{Adds, IsOpened};
-ghost use Rattle.bz_course.specs.Courses.{IsBack, IsFiringOf, IsMark, Marked, added, goes_on};
+ghost use Rattle.bz_course.specs.Courses.{IsBack, IsFiringOf, IsMark, IsMarked, Marked, RefusesFiringOf, added, goes_on};
+ghost use Rattle.bz_course.specs.Picking.{RanByChance, begun};
 ghost use Rattle.bz_course.specs.declared.course.Mark.{Mark};
 ghost use Rattle.bz_model.specs.declared.event.Entry.{Entry};
 
+use crate::chance::run_by_chance;
 use crate::picker::Picker;
 use crate::replaying::replay;
 use bz_elab::Flat;
 use bz_model::{Entry, HostCmd, NetError, Reply, Who};
-use bz_net::{Answer, Event, Net, RestReply, RunEnd};
+use bz_net::{Answer, Event, Net, RunEnd};
 use std::alloc::{AllocError, Global};
 use std::marker::Model;
 
@@ -87,6 +89,7 @@ impl Course {
         requires most { limit ≤ 16777216 }
         ensures opened { IfOk result (λ c. IsOpened flat.wiring limit c.net) }
         ensures next { IfOk result (λ c. c.next ≡ 1) }
+        ensures picker { IfOk result (λ c. (c.picker.seed ≡ 0) × (c.picker.state ≡ begun 0)) }
         ensures marks { IfOk result (λ c. c.marks ≡ []) }
         ensures err { IfErr result (λ e. e ≡ NetError.Memory) }
     {
@@ -187,12 +190,15 @@ impl Course {
         ensures ran { IfOk result (Ran self.old.net self.new.net (who.Worker 1) self.old.next fuel) }
         ensures next { IfOk result (λ end. self.new.next ≡ goes_on self.old.next (added self.old self.new)) }
         ensures marked { IfOk result (λ end. Marked self.old command.now self.new) }
+        ensures picker { self.new.picker ≡ self.old.picker }
+        ensures err { OnErr result (self.new ≡ self.old) }
     {
         let mark = self.mark(alloc, command)?;
+        self.marks.reserve(1)?;
         let end = self.net.run(WORKER, self.next, fuel);
         self.next = goes_on(self.next, &self.net.journal()[mark.entries..]);
         if self.net.journal().len() > mark.entries {
-            self.marks.push(mark)?;
+            self.marks.push(mark).unwrap();
         }
         Ok(end)
     }
@@ -206,20 +212,21 @@ impl Course {
         port: Option<u32>,
     ) -> Result<(), NetError>
         ensures fired { OnOk result ((entry : Entry) × Adds self.old.net entry self.new.net × IsFiringOf self.old.net comp port entry) }
+        ensures marked { OnOk result (IsMarked self.old command.now self.new) }
         ensures next { self.new.next ≡ self.old.next }
-        ensures cause { IfErr result (λ e. e ≢ NetError.Memory → (self.new.net ≡ self.old.net) × (self.new.marks ≡ self.old.marks)) }
+        ensures picker { self.new.picker ≡ self.old.picker }
+        ensures cause { IfErr result (λ e. e ≢ NetError.Memory → RefusesFiringOf self.old.net comp port e) }
+        ensures err { OnErr result (self.new ≡ self.old) }
     {
-        let Ok(mark) = self.mark(alloc, command) else {
+        let (Ok(mark), Ok(())) = (self.mark(alloc, command), self.marks.reserve(1)) else {
             return Err(NetError::Memory);
         };
         match port {
             None => self.net.fire(WORKER, comp)?,
             Some(port) => self.net.fire_move(WORKER, comp, port)?,
         };
-        match self.marks.push(mark) {
-            Ok(()) => Ok(()),
-            Err(_) => Err(NetError::Memory),
-        }
+        self.marks.push(mark).unwrap();
+        Ok(())
     }
 
     /// Makes a command of the host.
@@ -230,10 +237,14 @@ impl Course {
         cmd: &HostCmd,
     ) -> Result<Reply, NetError>
         ensures replies { IfOk result (Replies self.old.net self.new.net (who.Host 1) cmd.now.verb cmd.now.port.items cmd.now.value) }
+        ensures marked { OnOk result (IsMarked self.old command.now self.new) }
         ensures next { self.new.next ≡ self.old.next }
-        ensures cause { IfErr result (λ e. e ≢ NetError.Memory → (self.new.net ≡ self.old.net) × (self.new.marks ≡ self.old.marks)) }
+        ensures picker { self.new.picker ≡ self.old.picker }
+        ensures cause { IfErr result (λ e. e ≢ NetError.Memory
+            → RefusesCommand self.old.net cmd.now.verb cmd.now.port.items cmd.now.value e) }
+        ensures err { OnErr result (self.new ≡ self.old) }
     {
-        let Ok(mark) = self.mark(alloc, command) else {
+        let (Ok(mark), Ok(())) = (self.mark(alloc, command), self.marks.reserve(1)) else {
             return Err(NetError::Memory);
         };
         let reply = match self.net.serve(HOST, Event::Host(cmd)) {
@@ -241,16 +252,16 @@ impl Course {
             Ok(_) => unreachable!(),
             Err(error) => return Err(error),
         };
-        match self.marks.push(mark) {
-            Ok(()) => Ok(reply),
-            Err(_) => Err(NetError::Memory),
-        }
+        self.marks.push(mark).unwrap();
+        Ok(reply)
     }
 
     /// Begins the picking anew.
     pub fn seed(&mut self, seed: u64)
         ensures net { self.new.net ≡ self.old.net }
         ensures next { self.new.next ≡ self.old.next }
+        ensures seed { self.new.picker.seed ≡ seed }
+        ensures picker { self.new.picker.state ≡ begun seed }
         ensures marks { self.new.marks ≡ self.old.marks }
     {
         self.picker = Picker::new(seed);
@@ -263,112 +274,20 @@ impl Course {
         command: &[u8],
         count: u64,
     ) -> Result<RunEnd, AllocError>
+        ensures ran { IfOk result (RanByChance self.old.net self.new.net (who.Worker 1) count self.old.picker.state self.new.picker.state) }
+        ensures marked { IfOk result (λ end. Marked self.old command.now self.new) }
         ensures next { self.new.next ≡ self.old.next }
-        ensures wiring { self.new.net.wiring ≡ self.old.net.wiring }
+        ensures seed { self.new.picker.seed ≡ self.old.picker.seed }
+        ensures err { OnErr result (self.new ≡ self.old) }
     {
         let mark = self.mark(alloc, command)?;
-        let end = fire_picked(&self.flat, &mut self.net, &mut self.picker, count);
+        self.marks.reserve(1)?;
+        let end = run_by_chance(&self.flat, &mut self.net, WORKER, &mut self.picker, count);
         if self.net.journal().len() > mark.entries {
-            self.marks.push(mark)?;
+            self.marks.push(mark).unwrap();
         }
         Ok(end)
     }
-}
-
-// Fires up to `count` moves that are picked by chance.
-fn fire_picked(flat: &Flat, net: &mut Net, picker: &mut Picker, count: u64) -> RunEnd
-    ensures wiring { net.new.wiring ≡ net.old.wiring }
-    ensures limit { net.new.limit ≡ net.old.limit }
-{
-    for fired in 0..count {
-        let comps = ready_count(net);
-        if comps == 0 {
-            return end_at_rest(net, fired);
-        }
-        let comp = ready_at(net, picker.pick(comps));
-        let ports = port_count(flat, comp);
-        let moves = move_count(net, comp, ports);
-        if moves == 0 {
-            return RunEnd::Spent(fired);
-        }
-        let port = move_at(net, comp, ports, picker.pick(moves));
-        match net.fire_move(WORKER, comp, port) {
-            Ok(_) => {}
-            Err(error) => return RunEnd::Refused(fired, error),
-        }
-    }
-    RunEnd::Spent(count)
-}
-
-// Notes that no component can move, after so many firings.
-fn end_at_rest(net: &mut Net, fired: u64) -> RunEnd
-    ensures wiring { net.new.wiring ≡ net.old.wiring }
-    ensures limit { net.new.limit ≡ net.old.limit }
-{
-    match net.rest(WORKER) {
-        Ok(RestReply::Rest) => RunEnd::Rest(fired),
-        Ok(RestReply::Ready(_)) => RunEnd::Spent(fired),
-        Err(error) => RunEnd::Refused(fired, error),
-    }
-}
-
-// How many ports a component has.
-fn port_count(flat: &Flat, comp: u32) -> u32 {
-    match flat.comp(comp) {
-        Some(site) => u32::try_from(site.chans.len()).unwrap_or(u32::MAX),
-        None => 0,
-    }
-}
-
-// How many components can move.
-fn ready_count(net: &Net) -> u32 {
-    let mut count = 0u32;
-    let mut from = 1u32;
-    for _ in 0..u32::MAX {
-        let Some(comp) = net.next_ready(from) else {
-            break;
-        };
-        if comp < from || comp == u32::MAX {
-            break;
-        }
-        count = count.saturating_add(1);
-        from = comp + 1;
-    }
-    count
-}
-
-// The component that can move with so many of these before it.
-fn ready_at(net: &Net, place: u32) -> u32 {
-    let mut from = 1u32;
-    for _ in 0..place {
-        from = net.next_ready(from).unwrap_or(0).saturating_add(1);
-    }
-    net.next_ready(from).unwrap_or(0)
-}
-
-// At how many of its ports a component can move.
-fn move_count(net: &Net, comp: u32, ports: u32) -> u32 {
-    let mut count = 0u32;
-    for place in 0..ports {
-        if net.can_fire(comp, place + 1) {
-            count = count.saturating_add(1);
-        }
-    }
-    count
-}
-
-// The port at which a component can move with so many of these before it.
-fn move_at(net: &Net, comp: u32, ports: u32, at: u32) -> u32 {
-    let mut left = at;
-    for place in 0..ports {
-        if net.can_fire(comp, place + 1) {
-            if left == 0 {
-                return place + 1;
-            }
-            left -= 1;
-        }
-    }
-    0
 }
 
 // From which component on a run looks next, after these entries of one that looked from `from` on.

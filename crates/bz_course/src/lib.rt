@@ -2,6 +2,7 @@
 #![tactic(auto)]
 
 mod busy;
+mod chance;
 mod course;
 mod host_offers;
 mod offers;

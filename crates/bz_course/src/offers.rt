@@ -32,7 +32,7 @@ pub fn offers_of(alloc: Global, flat: &Flat, net: &Net) -> Result<Vec<Offer>, Al
 }
 
 // How many ports a component has, 0 where there is no such component.
-fn port_count(flat: &Flat, comp: u32) -> u32
+pub(crate) fn port_count(flat: &Flat, comp: u32) -> u32
     requires { 0 < comp }
     ensures { result ≡ length (site_at flat.now.wiring.sites comp).chans }
 {

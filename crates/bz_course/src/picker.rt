@@ -1,6 +1,7 @@
 //! Picking by chance.
 
-ghost use Rattle.std.specs.Prelude.{◌<◌};
+ghost use Rattle.std.specs.Prelude.{◌≡◌, ◌<◌, ◌%◌};
+ghost use Rattle.bz_course.specs.Picking.{after, begun, drawn};
 
 use rand_core::utils::NextWord;
 use rand_pcg::Pcg32;
@@ -17,7 +18,10 @@ pub struct Picker {
 
 impl Picker {
     /// Begins the picking of a seed.
-    pub fn new(seed: u64) -> Picker {
+    pub fn new(seed: u64) -> Picker
+        ensures seed { result.seed ≡ seed }
+        ensures state { result.state ≡ begun seed }
+    {
         Picker {
             seed,
             state: Pcg32::new(seed, STREAM).state(),
@@ -27,7 +31,10 @@ impl Picker {
     /// One of so many numbers from 0 on.
     pub fn pick(&mut self, count: u32) -> u32
         requires { 0 < count }
-        ensures { result < count }
+        ensures picked { result ≡ drawn self.old.state % count }
+        ensures within { result < count }
+        ensures state { self.new.state ≡ after self.old.state }
+        ensures seed { self.new.seed ≡ self.old.seed }
     {
         let mut words = Pcg32::from_state(self.state, STREAM);
         let high = words.next_word();

@@ -71,10 +71,11 @@ const CHARTED: [(&str, &str, LineRange); 9] = [
 ];
 
 /// Sessions by hand, the netlists on which they are played, and the statuses with which they end.
-const EXPLORED: [(&str, &str, u8); 4] = [
+const EXPLORED: [(&str, &str, u8); 5] = [
     ("buffer", "buffer", 0),
     ("arbiter_tree", "arbiter_tree", 0),
     ("cross", "cross", 0),
+    ("dice", "arbiter_tree", 0),
     ("mistakes", "buffer", 2),
 ];
 

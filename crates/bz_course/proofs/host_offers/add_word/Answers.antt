@@ -1,6 +1,3 @@
-use Rattle.std.proofs.Common.{◌≡◌, ◌+◌, ◌-◌, ℕ, Some, refl, sym, subst, arith}
-use Rattle.bz_model.specs.Hosts.{port_is_passive}
-use Rattle.bz_course.specs.HostOffers.{HostOffersUpTo, IsSoleAnswer}
 use Rattle.bz_course.proofs.Answered.{word_one}
 use Rattle.bz_course.proofs.host_offers.add_word.Goals as goal
 

@@ -1,6 +1,4 @@
-use Rattle.std.proofs.Common.{refl, sym, subst}
-use Rattle.bz_net.specs.Due.{Foresees}
-use Rattle.bz_course.specs.Offers.{OffersUpTo}
+use Rattle.std.proofs.Common.{refl}
 use Rattle.bz_course.proofs.Offering.{offers_none, offers_one}
 use Rattle.bz_course.proofs.offers.add_port.Goals as goal
 

@@ -1,4 +1,4 @@
-use Rattle.std.proofs.Common.{◌≡◌, ◌<◌, ◌^◌, Some, None, length, ap, sym, subst, ◌∙◌, arith}
+use Rattle.std.proofs.Common.{Some, None, length, ap, ◌∙◌, arith}
 use Rattle.bz_model.specs.Nets.{Site}
 use Rattle.bz_elab.specs.Flats.{site_of}
 use Rattle.bz_course.proofs.Going.{site_told}

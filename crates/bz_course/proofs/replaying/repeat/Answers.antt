@@ -1,9 +1,5 @@
 use Rattle.std.proofs.Common.{subst}
-use Rattle.bz_model.specs.declared.event.Entry.{Entry}
-use Rattle.bz_net.specs.declared.event.RestReply.{RestReply}
-use Rattle.bz_net.specs.Resting.{TellsRest}
-use Rattle.bz_model.specs.declared.event.Entry.TheVariants.{Rested}
-use Rattle.bz_course.specs.Replaying.{CanFollow, Repeats}
+use Rattle.bz_course.specs.Replaying.{CanFollow}
 use Rattle.bz_course.proofs.Replays.{not_ready}
 use Rattle.bz_course.proofs.replaying.repeat.Goals as goal
 

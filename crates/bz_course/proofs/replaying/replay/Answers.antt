@@ -1,9 +1,9 @@
-use Rattle.std.proofs.Common.{◌≡◌, ◌++◌, [], ◌∷◌, List, take, drop, get_or, subst, sym, ◌∙◌, ap}
-use Rattle.std.proofs.lemmas.List.{take-append-drop, take_more}
+use Rattle.std.proofs.Common.{List, take, subst, sym}
+use Rattle.std.proofs.lemmas.List.{take_more}
 use Rattle.std.proofs.lemmas.Result.{err_from_is_err_and}
 use Rattle.bz_model.specs.declared.event.Entry.{Entry}
-use Rattle.bz_course.specs.Replaying.{IsReplayed, IsRun}
-use Rattle.bz_course.proofs.Replays.{can_follow, memory_wants, replayed_more, run_at}
+use Rattle.bz_course.specs.Replaying.{IsReplayed}
+use Rattle.bz_course.proofs.Replays.{memory_wants, replayed_more, run_at}
 use Rattle.bz_course.proofs.replaying.replay.Goals as goal
 
 pub repeat-requires : goal.repeat-requires

@@ -2,14 +2,14 @@ use Rattle.std.proofs.Common.{◌++◌, [], ◌∷◌, length, ap, ◌∙◌, ar
 use Rattle.bz_course.specs.Courses.{Played}
 use Rattle.bz_course.proofs.course.Course.run.Goals as goal
 
-pub returns-in_ok-push-clause-marked : goal.returns-in_ok-push-clause-marked
-returns-in_ok-push-clause-marked c =
+pub returns-then-journal-mark-clause-marked : goal.returns-then-journal-mark-clause-marked
+returns-then-journal-mark-clause-marked c =
     let mark = c.in_ok-mark.mark in let is = c.in_ok-mark.ensures in
     let long = c.if-journal-mark.true in let same = ap length c.journal-2.ensures.entries in let was = is.entries in
     record {
       mark = mark;
       is = is;
-      grew = λ lt. c.in_ok-push.ensures.items ∙ ap (λ (v : Played). v.marks ++ mark ∷ []) c.self.view_is;
+      grew = λ lt. rw (c.push.ensures.items, c.unwrap.ensures) (ap (λ xs. xs ++ mark ∷ []) c.reserve.ensures.items ∙ ap (λ (v : Played). v.marks ++ mark ∷ []) c.self.view_is);
       stayed = λ le. absurd (omega (arith, long, same, was, le));
     }
 
@@ -21,5 +21,5 @@ returns-else-journal-mark-clause-marked c =
       mark = mark;
       is = is;
       grew = λ lt. absurd (omega (arith, short, same, was, lt));
-      stayed = λ le. ap (λ (v : Played). v.marks) c.self.view_is;
+      stayed = λ le. c.reserve.ensures.items ∙ ap (λ (v : Played). v.marks) c.self.view_is;
     }

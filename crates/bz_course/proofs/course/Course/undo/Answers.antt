@@ -1,8 +1,8 @@
-use Rattle.std.proofs.Common.{rules, ◌≡◌, ◌≤◌, ◌-◌, List, length, take, get_or, ap, refl, sym, subst, ◌∙◌, arith}
+use Rattle.std.proofs.Common.{rules, List, take, refl, sym, subst}
 use Rattle.bz_model.specs.declared.event.Entry.{Entry}
 use Rattle.bz_model.specs.Nets.{Wiring}
 use Rattle.bz_course.specs.Courses.{Played, IsBack}
-use Rattle.bz_course.specs.Replaying.{IsReplayed, IsRun}
+use Rattle.bz_course.specs.Replaying.{IsRun}
 use Rattle.bz_course.proofs.Going.{back}
 use Rattle.bz_course.proofs.Replays.{take_runs}
 use Rattle.bz_course.proofs.course.Course.undo.Goals as goal
