@@ -273,36 +273,76 @@ fn refused(rt: &HostRuntime, name: &str) -> Result<(), Fail> {
 }
 
 fn main(rt: HostRuntime) -> Result<(), Fail> {
-    for name in PLAYED {
-        played(&rt, name)?;
-    }
-    for name in SHARED {
-        shared(&rt, &rt, name)?;
-    }
-    for name in PLAYED {
-        checked(&rt, name)?;
-    }
-    for name in LISTED {
-        listed(&rt, name)?;
-    }
-    for name in PLACED {
-        placed(&rt, name)?;
-    }
-    for name in PLACED {
-        drawn(&rt, name)?;
-    }
-    for name in PARTED {
-        parted(&rt, name)?;
-    }
-    for (name, part, lines) in CHARTED {
-        charted(&rt, name, part, lines)?;
-    }
-    for (name, netlist, status) in EXPLORED {
-        explored(&rt, name, netlist, status)?;
-    }
-    for name in REFUSED {
-        refused(&rt, name)?;
-    }
+    play_all(&rt)?;
+    share_all(&rt, &rt)?;
+    check_all(&rt)?;
+    list_all(&rt)?;
+    look_at_all(&rt)?;
+    chart_all(&rt)?;
+    explore_all(&rt)?;
+    refuse_all(&rt)?;
     explained(&rt)?;
     explained_faults(&rt)
+}
+
+fn play_all(rt: &HostRuntime) -> Result<(), Fail> {
+    for name in PLAYED {
+        played(rt, name)?;
+    }
+    Ok(())
+}
+
+fn share_all<T: Threads + Wait + Sync>(rt: &HostRuntime, threads: &T) -> Result<(), Fail> {
+    for name in SHARED {
+        shared(rt, threads, name)?;
+    }
+    Ok(())
+}
+
+fn check_all(rt: &HostRuntime) -> Result<(), Fail> {
+    for name in PLAYED {
+        checked(rt, name)?;
+    }
+    Ok(())
+}
+
+fn list_all(rt: &HostRuntime) -> Result<(), Fail> {
+    for name in LISTED {
+        listed(rt, name)?;
+    }
+    Ok(())
+}
+
+fn look_at_all(rt: &HostRuntime) -> Result<(), Fail> {
+    for name in PLACED {
+        placed(rt, name)?;
+    }
+    for name in PLACED {
+        drawn(rt, name)?;
+    }
+    for name in PARTED {
+        parted(rt, name)?;
+    }
+    Ok(())
+}
+
+fn chart_all(rt: &HostRuntime) -> Result<(), Fail> {
+    for (name, part, lines) in CHARTED {
+        charted(rt, name, part, lines)?;
+    }
+    Ok(())
+}
+
+fn explore_all(rt: &HostRuntime) -> Result<(), Fail> {
+    for (name, netlist, status) in EXPLORED {
+        explored(rt, name, netlist, status)?;
+    }
+    Ok(())
+}
+
+fn refuse_all(rt: &HostRuntime) -> Result<(), Fail> {
+    for name in REFUSED {
+        refused(rt, name)?;
+    }
+    Ok(())
 }
