@@ -8,4 +8,6 @@ mod input;
 #[cfg(test)]
 mod memory;
 #[cfg(test)]
+mod pools;
+#[cfg(test)]
 mod streams;

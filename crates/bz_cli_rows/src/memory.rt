@@ -1,10 +1,10 @@
 //! Memory that is used up once the net is open, or before it.
 
-use bz_cli::PoolOptions;
-use bz_commands::run_cmd;
+use crate::pools::{Pooled, pool};
+use bz_commands::{Fault, run_cmd};
+use bz_playing::blocks::{MOST_BLOCKS, take_all, take_most};
 use bz_playing::check;
 use bz_playing::netlists::TWO;
-use bz_showing::{Pooled, pool};
 use std::alloc::{AllocError, Global};
 use std::io;
 use std::io::Write;
@@ -53,16 +53,9 @@ impl Write for Reader {
 }
 
 // Takes blocks of memory, untouched, until the heap refuses even a small one.
-fn take_all(alloc: Global) -> Result<Vec<Vec<u8>>, AllocError> {
-    let mut blocks = Vec::with_capacity(alloc, 262_144)?;
-    let mut size = 1usize << 46;
-    for _ in 0..262_144 {
-        match Vec::<u8>::with_capacity(alloc, size) {
-            Ok(block) => blocks.push(block)?,
-            Err(_) if size < 65_536 => break,
-            Err(_) => size /= 2,
-        }
-    }
+fn take_large(alloc: Global) -> Result<Vec<Vec<u8>>, AllocError> {
+    let mut blocks = Vec::with_capacity(alloc, MOST_BLOCKS)?;
+    take_all(alloc, 1 << 46, 65_536, &mut blocks)?;
     Ok(blocks)
 }
 
@@ -71,7 +64,7 @@ fn take_all(alloc: Global) -> Result<Vec<Vec<u8>>, AllocError> {
 fn plays_without_memory(rt: HostRuntime) -> Result<(), Fail> {
     let alloc = rt.alloc();
     let left = Vec::<u8>::with_capacity(alloc, 1 << 25)?;
-    let blocks = take_all(alloc)?;
+    let blocks = take_large(alloc)?;
     drop(left);
     let mut output = Reader {
         place: 0,
@@ -89,33 +82,14 @@ fn plays_without_memory(rt: HostRuntime) -> Result<(), Fail> {
     Ok(())
 }
 
-/// Two buffers side by side, with a session for each.
-const BOTH: [&str; 10] = [
-    "offer:activate",
-    "accept:i1",
-    "answer:i1:5",
-    "accept:o1",
-    "answer:o1",
-    "/",
-    "accept:i2",
-    "answer:i2:7",
-    "accept:o2",
-    "answer:o2",
-];
-
 // A pool that finds so much memory and no more.
 fn pool_with<R: Threads + Wait + Sync>(rt: &R, alloc: Global, room: usize) -> Result<Pooled, Fail> {
-    let options = PoolOptions {
-        workers: 3,
-        fuel: 1000,
-        journal: 1000,
-    };
     let left = Vec::<u8>::with_capacity(alloc, room)?;
-    let blocks = take_all(alloc)?;
+    let blocks = take_large(alloc)?;
     drop(left);
-    let played = pool(rt, alloc, TWO, "two", options, &BOTH);
+    let played = pool(rt, alloc);
     drop(blocks);
-    played
+    Ok(played)
 }
 
 // Whether the pool was played; where it was, all agrees, and else it told what it lacked.
@@ -166,5 +140,65 @@ fn pools_with_little_memory(rt: HostRuntime) -> Result<(), Fail> {
     }
     assert!(rt; last);
     assert!(rt; refused > 9, "{refused}");
+    Ok(())
+}
+
+/// More budgets, of 16 bytes more each, than the pool lacks here.
+const MOST_BUDGETS: usize = 20_000;
+
+/// What came of a pool.
+#[derive(Clone, Copy)]
+enum Told {
+    /// It lacked memory, and wrote nothing.
+    Lack,
+    /// It had all that it takes before its threads.
+    Whole,
+    Other,
+}
+
+// Plays a pool with so many bytes of memory. Where a thread is what is wanting it is as good as played.
+fn pool_within<R: Threads + Wait + Sync>(
+    rt: &R,
+    alloc: Global,
+    bytes: usize,
+    rest: &mut Vec<Vec<u8>>,
+) -> Result<Told, Fail> {
+    let left = Vec::<u8>::with_capacity(alloc, bytes)?;
+    take_all(alloc, 1 << 20, 16, rest)?;
+    drop(left);
+    let pooled = pool(rt, alloc);
+    rest.clear();
+    Ok(match pooled.answer {
+        Ok(_) | Err(Fault::NoThread) => Told::Whole,
+        Err(Fault::Memory) if pooled.text.is_empty() => Told::Lack,
+        Err(_) => Told::Other,
+    })
+}
+
+// How often the pool lacked memory before it had enough; None where it told something else.
+fn first_enough<R: Threads + Wait + Sync>(
+    rt: &R,
+    alloc: Global,
+    rest: &mut Vec<Vec<u8>>,
+) -> Result<Option<usize>, Fail> {
+    for budget in 0..MOST_BUDGETS {
+        match pool_within(rt, alloc, 16 * budget, rest)? {
+            Told::Lack => {}
+            Told::Whole => return Ok(Some(budget)),
+            Told::Other => return Ok(None),
+        }
+    }
+    Ok(None)
+}
+
+// With no memory, with 16 bytes, and so on, until there is enough: before that F3 is told and nothing is written.
+#[test]
+fn pools_refused_at_each_growth(rt: HostRuntime) -> Result<(), Fail> {
+    let alloc = rt.alloc();
+    let mut rest = Vec::with_capacity(alloc, MOST_BLOCKS)?;
+    let most = take_most(alloc)?;
+    let enough = first_enough(&rt, alloc, &mut rest);
+    drop(most);
+    assert!(rt; enough?.is_some_and(|budget| budget > 50));
     Ok(())
 }

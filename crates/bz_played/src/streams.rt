@@ -1,9 +1,10 @@
 //! Readers and writers that fail at each call.
 
-use crate::cases::Case;
+use crate::cases::WORDS;
 use crate::sink::Sink;
 use crate::tally::Tally;
 use bz_commands::Fault;
+use bz_playing::netlists::BUFFER;
 use bz_playing::{Task, answer};
 use std::alloc::Global;
 use std::io;
@@ -34,94 +35,68 @@ impl Read for Source<'_> {
     }
 }
 
-/// Lists each part, plays the words on it, in pieces too, and checks the text behind `trace`: with a reader that fails at its first
-/// call, at its second, and so on, F1 is told and nothing was written; with a writer that does, or takes no byte there, F2, and a front
-/// of the text.
-pub fn streams(rt: &HostRuntime, case: &Case<'_, '_>, tally: &mut Tally<'_>) -> Result<(), Fail> {
-    let mut behind = Vec::from_slice(rt.alloc(), case.netlist)?;
-    behind.extend_from_slice(case.other)?;
-    for part in &case.parts {
-        streams_of(rt, case, part, behind.as_slice(), tally)?;
+/// Lists the buffer, plays words on it, in pieces too, and checks a trace: with a reader that fails at its first call, at its second,
+/// and so on, F1 is told and nothing was written; with a writer that does, or takes no byte there, F2, and a front of the text.
+pub fn play(rt: &HostRuntime) -> Result<(), Fail> {
+    let begun = format!(in rt.alloc(); "{BUFFER}trace 1\nh1 offer activate done\n")?;
+    let mut tally = Tally::new();
+    for (task, input) in [
+        (Task::List("buffer"), BUFFER),
+        (Task::Run("buffer", &WORDS), BUFFER),
+        (Task::RunInPieces("buffer", &WORDS), BUFFER),
+        (Task::Check("buffer"), begun.as_str()),
+    ] {
+        let input = input.as_bytes();
+        let whole = whole_of(rt.alloc(), task, input)?;
+        fail_reads(rt.alloc(), task, input, whole.as_slice(), &mut tally)?;
+        fail_writes(rt.alloc(), task, input, false, whole.as_slice(), &mut tally)?;
+        fail_writes(rt.alloc(), task, input, true, whole.as_slice(), &mut tally)?;
     }
-    Ok(())
+    tally.tell(rt, "streams")
 }
 
-fn streams_of(
-    rt: &HostRuntime,
-    case: &Case<'_, '_>,
-    part: &str,
-    behind: &[u8],
-    tally: &mut Tally<'_>,
-) -> Result<(), Fail> {
-    let words = case.words.as_slice();
-    stream(rt, case, Task::List(part), case.netlist, tally)?;
-    stream(rt, case, Task::Run(part, words), case.netlist, tally)?;
-    stream(
-        rt,
-        case,
-        Task::RunInPieces(part, words),
-        case.netlist,
-        tally,
-    )?;
-    stream(rt, case, Task::Check(part), behind, tally)
+// What the command writes where nothing fails.
+fn whole_of(alloc: Global, task: Task<'_>, input: &[u8]) -> Result<Vec<u8>, Fail> {
+    let mut whole = Vec::new(alloc);
+    match answer(alloc, task, &mut &*input, &mut whole) {
+        Ok(_) => Ok(whole),
+        Err(_) => Err(Fail::from("the command fails where nothing else does")),
+    }
 }
 
-fn stream(
-    rt: &HostRuntime,
-    case: &Case<'_, '_>,
+fn fail_reads(
+    alloc: Global,
     task: Task<'_>,
     input: &[u8],
-    tally: &mut Tally<'_>,
+    whole: &[u8],
+    tally: &mut Tally,
 ) -> Result<(), Fail> {
-    let mut whole = Vec::new(rt.alloc());
-    if answer(rt.alloc(), task, &mut &*input, &mut whole).is_err() {
-        return Err(
-            case.item
-                .malformed("the command fails where nothing else does"),
-        );
-    }
     for reads in 0..MOST {
-        let (told, is_right) = read_until(rt.alloc(), task, input, reads, whole.as_slice())?;
-        if !count(rt, case, told, is_right, "F1 Read", tally)? {
+        let (told, is_right) = read_until(alloc, task, input, reads, whole)?;
+        tally.count(is_right && (told.is_empty() || told.as_str() == "F1 Read"));
+        if told.is_empty() {
             break;
         }
     }
-    for fails in [false, true] {
-        for writes in 0..MOST {
-            let (told, is_right) = write_until(
-                rt.alloc(),
-                task,
-                input,
-                writes,
-                fails,
-                whole.as_slice(),
-            )?;
-            if !count(rt, case, told, is_right, "F2 Write", tally)? {
-                break;
-            }
-        }
-    }
     Ok(())
 }
 
-// Counts a case, and answers whether there is another: what is told is nothing or the fault.
-fn count(
-    rt: &HostRuntime,
-    case: &Case<'_, '_>,
-    told: String,
-    is_right: bool,
-    fault: &str,
-    tally: &mut Tally<'_>,
-) -> Result<bool, Fail> {
-    let differs = if !is_right {
-        Some("something else was written".to_string(rt.alloc())?)
-    } else if told.is_empty() || told.as_str() == fault {
-        None
-    } else {
-        Some(format!(in rt.alloc(); "`{told}` in place of `{fault}`")?)
-    };
-    tally.count(rt, case.name, differs)?;
-    Ok(!told.is_empty())
+fn fail_writes(
+    alloc: Global,
+    task: Task<'_>,
+    input: &[u8],
+    fails: bool,
+    whole: &[u8],
+    tally: &mut Tally,
+) -> Result<(), Fail> {
+    for writes in 0..MOST {
+        let (told, is_right) = write_until(alloc, task, input, writes, fails, whole)?;
+        tally.count(is_right && (told.is_empty() || told.as_str() == "F2 Write"));
+        if told.is_empty() {
+            break;
+        }
+    }
+    Ok(())
 }
 
 // The fault where the reader fails after so many calls, and whether nothing was written, or else the whole.

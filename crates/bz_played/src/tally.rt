@@ -1,46 +1,49 @@
-//! How many cases a file has, and how many of them give something else than it says.
+//! How many cases there are, and how many of them give something else than is wanted.
 
 use std::test::Fail;
 
-/// The cases of a file that were played.
-#[derive(Drop)]
-pub struct Tally<'a> {
-    file: &'a str,
+/// The cases that were played.
+#[derive(Clone, Copy)]
+pub struct Tally {
     cases: u32,
     wrong: u32,
+    /// The number of the first case that is wrong, or 0.
+    first: u32,
 }
 
-impl<'a> Tally<'a> {
-    pub fn new(file: &'a str) -> Tally<'a> {
+impl Tally {
+    pub fn new() -> Tally {
         Tally {
-            file,
             cases: 0,
             wrong: 0,
+            first: 0,
         }
     }
 
-    /// Counts a case, and tells what differs in it, if anything does.
-    pub fn count(
-        &mut self,
-        rt: &HostRuntime,
-        name: &str,
-        differs: Option<String>,
-    ) -> Result<(), Fail> {
+    /// Counts a case.
+    pub fn count(&mut self, is_right: bool) {
         self.cases = self.cases.saturating_add(1);
-        if let Some(what) = differs {
+        if !is_right {
             self.wrong = self.wrong.saturating_add(1);
-            println!(rt; "{}: {name}: {what}", self.file)?;
+            if self.first == 0 {
+                self.first = self.cases;
+            }
         }
-        Ok(())
     }
 
-    /// Tells how many there were.
-    pub fn tell(&self, rt: &HostRuntime) -> Result<(), Fail> {
-        let Tally { file, cases, wrong } = self;
-        if *wrong == 0 {
-            println!(rt; "{file}: {cases} cases, all as written")?;
+    /// Tells how many cases there were, and which was the first that is wrong.
+    pub fn tell(self, rt: &HostRuntime, name: &str) -> Result<(), Fail> {
+        let Tally {
+            cases,
+            wrong,
+            first,
+        } = self;
+        if wrong == 0 {
+            println!(rt; "{name}: {cases} cases, all as written")?;
         } else {
-            println!(rt; "{file}: {cases} cases, {wrong} NOT as written")?;
+            println!(rt;
+                "{name}: {cases} cases, {wrong} NOT as written, and the first is case {first}"
+            )?;
         }
         Ok(())
     }

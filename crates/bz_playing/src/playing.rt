@@ -1,10 +1,10 @@
-//! Words played on a netlist, nets listed, and traces checked: what was written, the fault line, and the exit status.
+//! Words played on a netlist, and traces checked: what was written, the fault line, and the exit status.
 
 ghost use Rattle.std.specs.Prelude.{◌<◌, ◌≤◌};
 
 use crate::calls::{run, serve_host};
 use crate::nets::net_of;
-use crate::tasks::{check_over, list_over, pieces_over, run_over};
+use crate::tasks::{check_over, pieces_over, run_over};
 use bz_commands::{Fault, write_out};
 use bz_model::{Cmd, NetError};
 use bz_net::{Event, Net, RunEnd};
@@ -105,14 +105,6 @@ fn event(net: &mut Net, cmd: &Cmd) -> Result<(), NetError> {
     }
 }
 
-/// Lists a part of the netlist.
-pub fn list(alloc: Global, netlist: &[u8], part: &str) -> Result<Outcome, Fail> {
-    let mut input = netlist;
-    let mut text = Vec::new(alloc);
-    let result = list_over(alloc, part, &mut input, &mut text);
-    gathered(alloc, text, result)
-}
-
 /// Checks a trace behind a netlist.
 pub fn check(alloc: Global, netlist: &str, part: &str, trace: &[u8]) -> Result<Outcome, Fail> {
     let mut bytes = Vec::from_slice(alloc, netlist.as_bytes())?;
@@ -130,8 +122,8 @@ pub fn check(alloc: Global, netlist: &str, part: &str, trace: &[u8]) -> Result<O
     }
 }
 
-/// What a command wrote, with its answer.
-pub fn gathered(alloc: Global, text: Vec<u8>, answer: Result<(), Fault>) -> Result<Outcome, Fail> {
+// What a command wrote, with its answer.
+fn gathered(alloc: Global, text: Vec<u8>, answer: Result<(), Fault>) -> Result<Outcome, Fail> {
     match answer {
         Ok(()) => Ok(Outcome {
             text,

@@ -8,7 +8,7 @@ use std::alloc::Global;
 use std::io::{Read, Write};
 
 /// A command on a part of a netlist.
-#[derive(Clone, Copy, Debug)]
+#[derive(Clone, Copy)]
 pub enum Task<'a> {
     List(&'a str),
     /// Plays words, with a journal of a thousand entries.
@@ -37,8 +37,8 @@ pub fn answer<R: Read, W: Write>(
     }
 }
 
-/// Lists a part.
-pub(crate) fn list_over<R: Read, W: Write>(
+// Lists a part.
+fn list_over<R: Read, W: Write>(
     alloc: Global,
     part: &str,
     input: &mut R,

@@ -1,9 +1,7 @@
-//! Worked examples that are no data: with inputs that are counted out, with readers and writers that fail, and of what is told by
-//! values and not by bytes. Nothing stands on this crate.
+//! Worked examples that the program can't be asked for: with readers and writers that fail, and of what is told by values and not by
+//! bytes. Nothing stands on this crate.
 #![tactic(auto)]
 
-#[cfg(test)]
-mod arrays;
 #[cfg(test)]
 mod flats;
 #[cfg(test)]
@@ -16,5 +14,3 @@ mod records;
 mod shapes;
 #[cfg(test)]
 mod streams;
-#[cfg(test)]
-mod trees;

@@ -1,0 +1,84 @@
+"""Netlists of `tests/program`, and what is told of them, worked out by hand."""
+
+# A variable of 8 bits: its list, with places too, its parts, and the trace of a write.
+CELL = b"""(breeze-part "cell" (ports (port "w" passive input) (port "r" passive output))
+ (channels (push 8) (pull 8))
+ (components (component "$BrzVariable" (8 1 "v" "") (1 (2)))))
+"""
+CELL_LIST = b"""part cell
+port 1 w passive push 8
+port 2 r passive pull 8
+channels 2
+components 1
+component 1 Variable 1 2
+"""
+CELL_PATHS = b"""part cell
+port 1 w passive push 8
+port 2 r passive pull 8
+channels 2
+channel 1 push 8 host 1.1 at cell 1 line 2
+channel 2 pull 8 host 1.2 at cell 2 line 2
+instances 0
+components 1
+component 1 Variable 1 2 at cell 1 line 3
+"""
+CELL_PARTS = b"""part cell line 1 top
+port 1 w passive push 8
+port 2 r passive pull 8
+channels 2
+components 1
+instances 0
+"""
+CELL_TRACE = b"""trace 2
+h1 offer w 1 done
+w1 fire 1 take 1 1
+w1 fire 1 reply 1
+w1 rest
+"""
+
+# A list that is open, and what is told of it with --explain.
+OPEN = b'(breeze-part "cell"\n'
+OPEN_NOTES = b"""breezesim: S3 UnclosedList 0
+breezesim: note: at line 1, column 1
+breezesim: note: 1 | (breeze-part "cell"
+breezesim: note:   | ^ this parenthesis opens a list
+breezesim: note: found: the netlist ends before the list does
+breezesim: note: wanted: a closing parenthesis for each opening one
+"""
+
+# A loop round a Continue, which never rests.
+SPIN = b"""(breeze-part "spin" (ports (sync-port "a" passive)) (channels (sync) (sync))
+ (components (component "$BrzLoop" () (1 2)) (component "$BrzContinue" () (2))))
+"""
+
+# A part with an instance of a part.
+NESTED = b"""(breeze-part "top" (ports (sync-port "a" passive)) (channels (sync)) (components (component "inner" () (1))))
+(breeze-part "inner" (ports (sync-port "a" passive)) (channels (sync)) (components (component "$BrzContinue" () (1))))
+"""
+
+# A part with 3,000 Continues on ports of their own, and another part for each of them.
+COUNT = 3000
+
+
+def repeated(form):
+    """The texts with each number from 1 on."""
+    return "".join(form.replace("#", str(number)) for number in range(1, COUNT + 1))
+
+
+BIG = "".join(
+    [
+        '(breeze-part "big" (ports',
+        repeated(' (sync-port "p#" passive)'),
+        ") (channels",
+        repeated(" (sync)"),
+        ") (components",
+        repeated(' (component "$BrzContinue" () (#))'),
+        "))\n",
+        repeated('(breeze-part "q#")\n'),
+    ]
+).encode()
+
+
+def big_trace(count):
+    """So many requests at the ports of the big part."""
+    return b"trace 2\n" + b"".join(b"h1 offer p%d done\n" % number for number in range(1, count + 1))
