@@ -1,7 +1,7 @@
 -- The faults of one component, as the code passes them on.
 use Rattle.std.specs.Prelude.{ℕ}
-use Rattle.bz_kind_table.specs.declared.error.KindError.{KindError}
-use Rattle.bz_kind_table.specs.declared.error.KindError.TheVariants as kind
+use Rattle.bz_model.specs.declared.error.KindError.{KindError}
+use Rattle.bz_model.specs.declared.error.KindError.TheVariants as kind
 use Rattle.bz_elab.specs.declared.error.ElabError.{ElabError}
 use Rattle.bz_elab.specs.declared.error.ElabError.TheVariants.{UnknownComponent, BadParameter, PortCount, BadChannel, KindMismatch, WidthMismatch, Memory}
 use Rattle.bz_elab.specs.declared.error.Fault.{Fault}

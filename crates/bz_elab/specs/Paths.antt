@@ -11,8 +11,8 @@ use Rattle.bz_model.specs.Names.{external}
 use Rattle.bz_model.specs.Nets.{Site, Wiring}
 use Rattle.bz_breeze.specs.declared.part.Part.{Part}
 use Rattle.bz_breeze.specs.declared.part.Component.{Component}
-use Rattle.bz_kind_table.specs.declared.error.KindError.{KindError}
-use Rattle.bz_kind_table.specs.declared.error.KindError.TheVariants.{BadParameter}
+use Rattle.bz_model.specs.declared.error.KindError.{KindError}
+use Rattle.bz_model.specs.declared.error.KindError.TheVariants.{BadParameter}
 use Rattle.bz_kind_table.specs.Naming.{kind_with}
 use Rattle.bz_elab.specs.Entries.{flattened, sizes_of, arranged}
 

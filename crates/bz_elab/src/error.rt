@@ -1,13 +1,13 @@
 //! Why a part has no net.
 
 ghost use Rattle.std.specs.Prelude.{◌≡◌};
-ghost use Rattle.bz_kind_table.specs.declared.error.KindError.{KindError};
+ghost use Rattle.bz_model.specs.declared.error.KindError.{KindError};
 ghost use Rattle.bz_elab.specs.declared.error.ElabError.TheVariants.{Memory};
 ghost use Rattle.bz_elab.specs.declared.error.Fault.TheVariants as fault;
 ghost use Rattle.bz_elab.specs.Faults.{fault_of, error_at};
 ghost use Rattle.bz_elab.specs.Order.{order};
 
-use bz_kind_table::KindError;
+use bz_model::KindError;
 use std::alloc::{AllocError, AllocFailed};
 use thiserror::Error;
 

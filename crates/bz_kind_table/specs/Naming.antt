@@ -13,8 +13,8 @@ use Rattle.bz_model.specs.declared.kind.Param.TheVariants.{Num, Flag, Word}
 use Rattle.bz_kind_table.specs.Texts.{specification}
 use Rattle.bz_kind_table.specs.declared.naming.Name.{Name}
 use Rattle.bz_kind_table.specs.declared.naming.Name.TheVariants as name
-use Rattle.bz_kind_table.specs.declared.error.KindError.{KindError}
-use Rattle.bz_kind_table.specs.declared.error.KindError.TheVariants.{UnknownComponent, BadParameter}
+use Rattle.bz_model.specs.declared.error.KindError.{KindError}
+use Rattle.bz_model.specs.declared.error.KindError.TheVariants.{UnknownComponent, BadParameter}
 
 -- the names of kinds have `$Brz` in front
 abbrev pub name_of : Name → List ℕ

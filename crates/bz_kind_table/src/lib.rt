@@ -1,13 +1,11 @@
 //! The kinds of component by name and parameters, the row of ports of each, and what meets a row.
 #![tactic(auto)]
 
-mod error;
 mod naming;
 mod specification;
 mod table;
 mod word;
 
-pub use error::KindError;
 pub use naming::kind_of;
-pub use table::{PortRow, is_passive, kinds_are, port_table, sizes_fit, width, widths_fit};
+pub use table::{PortRow, is_passive, kinds_are, port_table, sizes_fit, widths_fit};
 pub use word::kind_word;

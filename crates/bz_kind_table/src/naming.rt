@@ -2,13 +2,12 @@
 
 ghost use Rattle.std.specs.Prelude.{◌≡◌, ◌⊎◌, ◌%◌, ◌^◌, bytes_eq, IfOk, IfErr, Ok, Err};
 ghost use Rattle.bz_model.specs.declared.kind.Kind.TheVariants.{Adapt};
-ghost use Rattle.bz_kind_table.specs.declared.error.KindError.TheVariants.{Memory};
+ghost use Rattle.bz_model.specs.declared.error.KindError.TheVariants.{Memory};
 ghost use Rattle.std.specs.Option.{option_copied};
 ghost use Rattle.bz_kind_table.specs.Naming.{named, kind_by, kind_with, text, number, flag, given_flag, case_by, case_fetch_by, variable_by, false_variable_by, reads_whole, last_text, constant_by, unary_by, binary_by, const_by, slice_by, given, unary_named, binary_named};
 
-use crate::error::KindError;
 use crate::specification::specification;
-use bz_model::{BinaryOp, Kind, MAX_WIDTH, Param, UnaryOp};
+use bz_model::{BinaryOp, Kind, KindError, MAX_WIDTH, Param, UnaryOp};
 use std::alloc::{AllocError, Global};
 
 /// The names of kinds.

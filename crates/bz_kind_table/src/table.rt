@@ -1,12 +1,12 @@
 //! The ports of each kind.
 
-ghost use Rattle.std.specs.Prelude.{◌≡◌, ◌+◌, ◌*◌, ◌==◌, nat_le, ◌↔◌, ℕ, List, [], map, suc, IsTrue, All, slice_index_or};
+ghost use Rattle.std.specs.Prelude.{◌≡◌, ◌+◌, ◌*◌, ◌==◌, nat_le, ◌↔◌, ℕ, List, [], map, IsTrue, All, slice_index_or};
 ghost use Rattle.std.specs.List.{list_all};
 ghost use Rattle.bz_model.specs.declared.channel.ChanKind.TheVariants.{Sync};
 ghost use Rattle.bz_model.specs.Rows.{row_of, ports_of, is_passive, active_port, fits_sizes, has_sizes, asks_sizes, is_wide, least_width, has_bit, asks_widths, has_widths, width};
 ghost use Rattle.bz_kind_table.specs.Table.{seen, count_of, others_of, are_equal};
 
-use bz_model::{Chan, ChanKind, Kind, MAX_MEMBERS, MAX_WIDTH};
+use bz_model::{Chan, ChanKind, Kind, MAX_MEMBERS, MAX_WIDTH, width};
 
 /// A port of a kind: its name, what its channel carries, whether it is the passive end, and whether it is an array of ports.
 #[derive(Clone, Copy, Debug, PartialEq, Eq)]
@@ -536,16 +536,6 @@ fn all_carry(chans: &[Chan], kind: ChanKind) -> bool
     ensures { IsTrue result ↔ All (λ c. c.kind ≡ kind) chans.now }
 {
     chans.iter().all(|chan| chan.kind == kind)
-}
-
-/// The width of the channel at a place, counted from 0.
-pub fn width(chans: &[Chan], place: usize) -> u32
-    ensures { result ≡ width chans.now (suc place) }
-{
-    match chans.get(place) {
-        Some(chan) => chan.width,
-        None => 0,
-    }
 }
 
 fn have_one_width(chans: &[Chan]) -> bool

@@ -2,7 +2,7 @@
 
 ghost use Rattle.std.specs.Prelude.{◌≡◌, ◌≤◌, ◌-◌, ◌^◌, ◌<◌, ◌↔◌, not, ℕ, Some, IsTrue, IfSome, IfOk, IfErr, length, slice_index, slice_set, replicate};
 ghost use Rattle.std.specs.Option.{option_map};
-ghost use Rattle.bz_kind_table.specs.declared.error.KindError.TheVariants.{Memory};
+ghost use Rattle.bz_model.specs.declared.error.KindError.TheVariants.{Memory};
 ghost use Rattle.bz_model.specs.Heads.{Head, IsHeadOn, CanMove, Moves, Turns, HasOneHead, carried, opens, open_at};
 ghost use Rattle.bz_model.specs.Terms.{stored, IsNarrow};
 ghost use Rattle.bz_model.specs.Rows.{MeetsRow};
@@ -27,8 +27,7 @@ use crate::{
     bar, cells, choice, decision, enclosed, in_turn, indexed, meeting, once, script, select,
     signalled, together,
 };
-use bz_kind_table::KindError;
-use bz_model::{Chan, Kind, Move, Phase, Value};
+use bz_model::{Chan, Kind, KindError, Move, Phase, Value};
 use std::alloc::{AllocError, Global};
 use std::marker::Model;
 

@@ -17,7 +17,7 @@ use crate::node::{Node, node_id, site_in};
 use crate::noted::Noted;
 use bz_arena::Arena;
 use bz_elab::{Ends, FlatComp};
-use bz_kinds::is_passive;
+use bz_kind_table::is_passive;
 use bz_model::{ChanKind, Kind, Move, Names, NetError, Phase, Reply, Value, Verb, fits};
 use std::alloc::{AllocError, Global};
 

@@ -1,7 +1,7 @@
 //! Why a component cannot be made.
 
 ghost use Rattle.std.specs.Prelude.{◌≡◌};
-ghost use Rattle.bz_kind_table.specs.declared.error.KindError.TheVariants.{Memory};
+ghost use Rattle.bz_model.specs.declared.error.KindError.TheVariants.{Memory};
 
 use std::alloc::{AllocError, AllocFailed};
 use thiserror::Error;
