@@ -3,7 +3,7 @@
 ghost use Rattle.std.specs.Prelude.{◌≡◌, ◌<◌, ◌≤◌, ◌-◌, length, IfOk};
 ghost use Rattle.bz_course.specs.Waiting.{AreBusy};
 
-use bz_elab::Flat;
+use bz_flat::Flat;
 use bz_model::Phase;
 use bz_net::Net;
 use std::alloc::{AllocError, Global};

@@ -9,7 +9,7 @@ ghost use Rattle.bz_course.specs.Picking.{after, drawn, HasMembers, IsPickedEntr
 
 use crate::offers::port_count;
 use crate::picker::Picker;
-use bz_elab::Flat;
+use bz_flat::Flat;
 use bz_model::{Entry, NetError, Who};
 use bz_net::{Net, RunEnd};
 

@@ -13,7 +13,7 @@ ghost use Rattle.bz_model.specs.declared.event.Entry.{Entry};
 use crate::chance::run_by_chance;
 use crate::picker::Picker;
 use crate::replaying::replay;
-use bz_elab::Flat;
+use bz_flat::Flat;
 use bz_model::{Entry, HostCmd, NetError, Reply, Who};
 use bz_net::{Answer, Event, Net, RunEnd};
 use std::alloc::{AllocError, Global};

@@ -4,7 +4,7 @@ ghost use Rattle.std.specs.Prelude.{◌≡◌, ◌<◌, ◌≤◌, ◌+◌, ◌-
 ghost use Rattle.bz_model.specs.Hosts.{port_is_passive};
 ghost use Rattle.bz_course.specs.HostOffers.{HostOffers, HostOffersUpTo, IsSoleAnswer, begins, ends};
 
-use bz_elab::Flat;
+use bz_flat::Flat;
 use bz_model::Verb;
 use bz_net::Net;
 use std::alloc::{AllocError, Global};

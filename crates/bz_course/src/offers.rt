@@ -4,7 +4,7 @@ ghost use Rattle.std.specs.Prelude.{◌≡◌, ◌<◌, ◌≤◌, ◌+◌, leng
 ghost use Rattle.bz_model.specs.Nets.{site_at};
 ghost use Rattle.bz_course.specs.Offers.{Offers, OffersUpTo};
 
-use bz_elab::Flat;
+use bz_flat::Flat;
 use bz_model::{Move, Value};
 use bz_net::Net;
 use std::alloc::{AllocError, Global};

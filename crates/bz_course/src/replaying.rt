@@ -4,7 +4,7 @@ ghost use Rattle.std.specs.Prelude.{◌≡◌, ◌<◌, ◌≤◌, length, OnOk,
 ghost use Rattle.bz_net.specs.Replies.{RefusesEntry};
 ghost use Rattle.bz_course.specs.Replaying.{CanFollow, IsReplayed, IsRun, Repeats};
 
-use bz_elab::Flat;
+use bz_flat::Flat;
 use bz_model::{Entry, NetError};
 use bz_net::{Net, RestReply};
 use std::alloc::Global;

@@ -3,8 +3,8 @@ use Rattle.std.proofs.Common.{◌≡◌, ℕ, zero, suc, ◌+◌, ◌<◌, ◌�
 use Rattle.std.specs.List.{flat_map}
 use Rattle.std.proofs.lemmas.Bool.Decides.{eqb_tells}
 use Rattle.bz_breeze.specs.declared.part.Part.{Part}
-use Rattle.bz_elab.specs.declared.error.ElabError.{ElabError}
-use Rattle.bz_elab.specs.declared.error.ElabError.TheVariants.{NoPart, Recursive, TooDeep, UnknownComponent, BadParameter, PortCount, BadChannel, TooBig, KindMismatch, WidthMismatch, TwoEnds, LooseEnd, PortSense, Memory}
+use Rattle.bz_flat.specs.declared.error.ElabError.{ElabError}
+use Rattle.bz_flat.specs.declared.error.ElabError.TheVariants.{NoPart, Recursive, TooDeep, UnknownComponent, BadParameter, PortCount, BadChannel, TooBig, KindMismatch, WidthMismatch, TwoEnds, LooseEnd, PortSense, Memory}
 use Rattle.bz_elab.specs.declared.error.Fault.{Fault}
 use Rattle.bz_elab.specs.declared.error.Fault.TheVariants as fault
 use Rattle.bz_elab.specs.declared.faults.Found.{Found}
@@ -12,10 +12,10 @@ use Rattle.bz_elab.specs.declared.totals.Total.{Total}
 use Rattle.bz_elab.specs.Faults.{error_at}
 use Rattle.bz_elab.specs.Paths.{Path, named, component, inner, copied, role, stops, net, own_chans, most_instances}
 use Rattle.bz_elab.specs.Refusals.{FaultAt, IsRecursive, IsTooDeep, IsTooMany, AppliesTo, Applies, own_comps, own_ends, most_ends}
-use Rattle.bz_elab.specs.Wires.{most_comps, most_chans}
+use Rattle.bz_flat.specs.Wires.{most_comps, most_chans}
 use Rattle.bz_model.specs.Names.{external}
 use Rattle.bz_elab.specs.declared.walk.Draft.{Draft}
-use Rattle.bz_elab.specs.Flats.{sites_of}
+use Rattle.bz_flat.specs.Flats.{sites_of}
 use Rattle.bz_elab.specs.Seats.{WiringFault}
 use Rattle.bz_elab.specs.Growth.{below_copy, IsNet, IsSound, IsSoundBelow}
 use Rattle.bz_elab.proofs.Wiring.{net_is}

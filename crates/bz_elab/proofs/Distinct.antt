@@ -7,9 +7,9 @@ use Rattle.std.proofs.lemmas.Slice.Eq.{bytes_eq-Decides}
 use Rattle.std.proofs.lemmas.List.{append_cancel_right}
 use Rattle.bz_breeze.specs.declared.part.Part.{Part}
 use Rattle.bz_breeze.specs.declared.part.Component.{Component}
-use Rattle.bz_elab.specs.declared.flat.FlatComp.{FlatComp}
+use Rattle.bz_flat.specs.declared.flat.FlatComp.{FlatComp}
 use Rattle.bz_elab.specs.Entries.{arranged}
-use Rattle.bz_elab.specs.Flats.{site_of}
+use Rattle.bz_flat.specs.Flats.{site_of}
 use Rattle.bz_elab.specs.Paths.{Path, Place, Stop, copy, leaf, named, each_from, visit, walk, stops, own_places, places_from, all_places, joined, is_place, one_more, number_in, leaf_site, own_sites, leaf_role, kind_in, most_instances, chans_at}
 use Rattle.bz_elab.specs.Growth.{IsNumber, AreNumbers, IsLeaf, AreLeaves}
 use Rattle.bz_elab.specs.Walks.{Has, Differ}

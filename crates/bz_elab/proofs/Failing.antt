@@ -4,15 +4,15 @@ use Rattle.bz_breeze.specs.declared.part.Part.{Part}
 use Rattle.bz_breeze.specs.declared.part.Component.{Component}
 use Rattle.std.specs.List.{flat_map}
 use Rattle.std.proofs.lemmas.List.{append-nil}
-use Rattle.bz_elab.specs.declared.error.ElabError.{ElabError}
-use Rattle.bz_elab.specs.declared.error.ElabError.TheVariants.{TooBig, TooDeep, Memory}
+use Rattle.bz_flat.specs.declared.error.ElabError.{ElabError}
+use Rattle.bz_flat.specs.declared.error.ElabError.TheVariants.{TooBig, TooDeep, Memory}
 use Rattle.bz_elab.specs.declared.error.Fault.{Fault}
 use Rattle.bz_elab.specs.declared.error.Fault.TheVariants as fault
 use Rattle.bz_elab.specs.declared.walk.Draft.{Draft}
 use Rattle.bz_elab.specs.Faults.{error_at}
 use Rattle.bz_elab.specs.Paths.{Path, Role, instance, Stop, copy, leaf, named, component, copied, role, role_by, leaf_role, each_from, visit, walk, stops, own_chans, most_instances}
 use Rattle.bz_elab.specs.Refusals.{HasFault, At, IsTooMany, AppliesTo}
-use Rattle.bz_elab.specs.Wires.{most_chans}
+use Rattle.bz_flat.specs.Wires.{most_chans}
 use Rattle.bz_elab.specs.Growth.{EndsWalk, Fails, Refused, Counts, Entered, below_copy}
 use Rattle.bz_elab.proofs.Counting.{each_from-split, too_many, ends_up, counts_then, counts_copy}
 use Rattle.bz_elab.proofs.Growing.{copied_inner, component_at}

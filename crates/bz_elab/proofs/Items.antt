@@ -6,9 +6,9 @@ use Rattle.std.proofs.lemmas.Option.{slice_get_read, slice_get_within}
 use Rattle.bz_model.specs.declared.channel.Chan.{Chan}
 use Rattle.bz_breeze.specs.declared.part.Part.{Part}
 use Rattle.bz_breeze.specs.declared.part.Component.{Component}
-use Rattle.bz_elab.specs.declared.error.ElabError.{ElabError}
-use Rattle.bz_elab.specs.declared.error.ElabError.TheVariants.{TooBig, Memory}
-use Rattle.bz_elab.specs.declared.flat.FlatComp.{FlatComp}
+use Rattle.bz_flat.specs.declared.error.ElabError.{ElabError}
+use Rattle.bz_flat.specs.declared.error.ElabError.TheVariants.{TooBig, Memory}
+use Rattle.bz_flat.specs.declared.flat.FlatComp.{FlatComp}
 use Rattle.bz_elab.specs.declared.walk.Draft.{Draft}
 use Rattle.bz_elab.specs.declared.walk.Level.{Level}
 use Rattle.bz_elab.specs.declared.reading.Instance.{Instance}
@@ -16,7 +16,7 @@ use Rattle.bz_elab.specs.declared.reading.Item.{Item}
 use Rattle.bz_elab.specs.declared.reading.Item.TheVariants.{Leaf}
 use Rattle.bz_elab.specs.declared.reading.Reading.{Reading}
 use Rattle.bz_elab.specs.Entries.{flattened}
-use Rattle.bz_elab.specs.Wires.{most_chans}
+use Rattle.bz_flat.specs.Wires.{most_chans}
 use Rattle.bz_elab.specs.Paths.{Path, Place, copy, leaf, instance, leaf_role, chans_of_copy, own_places, named, component, inner, most_instances, copied, each_from, visit, walk, own_chans}
 use Rattle.bz_elab.specs.Refusals.{IsChannel}
 use Rattle.bz_elab.specs.Numbers.{number_named, inner_number, number_at, is_marked}

@@ -6,7 +6,7 @@ use Rattle.bz_breeze.specs.declared.part.Part.{Part}
 use Rattle.bz_breeze.specs.declared.part.Component.{Component}
 use Rattle.bz_elab.specs.declared.error.Fault.{Fault}
 use Rattle.bz_elab.specs.declared.error.Fault.TheVariants as fault
-use Rattle.bz_elab.specs.declared.error.ElabError.{ElabError}
+use Rattle.bz_flat.specs.declared.error.ElabError.{ElabError}
 use Rattle.bz_elab.specs.declared.faults.Found.{Found}
 use Rattle.bz_elab.specs.Faults.{error_at}
 use Rattle.bz_elab.specs.Paths.{Stop, Role, instance, of_kind, misfit, unknown, component, role}

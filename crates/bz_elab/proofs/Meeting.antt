@@ -11,9 +11,9 @@ use Rattle.bz_model.specs.Rows.{MeetsRow}
 use Rattle.bz_model.specs.Nets.{Site, chan_in}
 use Rattle.bz_breeze.specs.declared.part.Part.{Part}
 use Rattle.bz_breeze.specs.declared.part.Component.{Component}
-use Rattle.bz_elab.specs.declared.flat.FlatComp.{FlatComp}
+use Rattle.bz_flat.specs.declared.flat.FlatComp.{FlatComp}
 use Rattle.bz_elab.specs.Entries.{flattened, arranged}
-use Rattle.bz_elab.specs.Flats.{site_of}
+use Rattle.bz_flat.specs.Flats.{site_of}
 use Rattle.bz_elab.specs.Paths.{Path, Place, Role, of_kind, Stop, copy, leaf, named, component, inner, copied, joined, role, role_by, each_from, visit, walk, stops, own_chans, own_places, places_from, ports_at, most_instances, chans_of_copy}
 use Rattle.bz_elab.specs.Refusals.{IsChannel, actuals_of, formals_of, own_ends}
 use Rattle.bz_elab.specs.Seats.{ChansFit}

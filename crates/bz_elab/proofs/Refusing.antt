@@ -4,16 +4,16 @@ use Rattle.bz_model.specs.Names.{External, external}
 use Rattle.bz_model.specs.Nets.{Site, chan_at, passive_at}
 use Rattle.bz_model.specs.Hosts.{port_is_passive}
 use Rattle.bz_breeze.specs.declared.part.Part.{Part}
-use Rattle.bz_elab.specs.declared.error.ElabError.{ElabError}
-use Rattle.bz_elab.specs.declared.error.ElabError.TheVariants.{NoPart, Recursive, TooDeep, UnknownComponent, BadParameter, PortCount, BadChannel, TooBig, KindMismatch, WidthMismatch, TwoEnds, LooseEnd, PortSense, Memory}
+use Rattle.bz_flat.specs.declared.error.ElabError.{ElabError}
+use Rattle.bz_flat.specs.declared.error.ElabError.TheVariants.{NoPart, Recursive, TooDeep, UnknownComponent, BadParameter, PortCount, BadChannel, TooBig, KindMismatch, WidthMismatch, TwoEnds, LooseEnd, PortSense, Memory}
 use Rattle.bz_elab.specs.declared.error.Fault.{Fault}
 use Rattle.bz_elab.specs.declared.error.Fault.TheVariants as fault
-use Rattle.bz_elab.specs.declared.flat.Ends.{Ends}
+use Rattle.bz_flat.specs.declared.flat.Ends.{Ends}
 use Rattle.bz_elab.specs.declared.walk.Draft.{Draft}
-use Rattle.bz_elab.specs.Flats.{sites_of}
+use Rattle.bz_flat.specs.Flats.{sites_of}
 use Rattle.bz_elab.specs.Paths.{Path, named, inner, copied, role, stops, net, most_instances}
 use Rattle.bz_elab.specs.Refusals.{FaultAt, IsRecursive, IsTooMany, AppliesTo, Applies}
-use Rattle.bz_elab.specs.Wires.{HasTwo, IsLoose, IsMisused}
+use Rattle.bz_flat.specs.Wires.{HasTwo, IsLoose, IsMisused}
 use Rattle.bz_elab.specs.Seats.{WellEnded}
 use Rattle.bz_elab.specs.Growth.{IsNet, IsSoundBelow, Within}
 use Rattle.bz_elab.proofs.Roles.{sound_has_none}

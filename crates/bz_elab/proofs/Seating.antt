@@ -1,11 +1,11 @@
 -- The table of ends, as far as a pass over the components has come.
 use Rattle.std.proofs.Common.{◌≡◌, ◌≢◌, ℕ, zero, suc, min, ◌+◌, ◌-◌, ◌<◌, ◌≤◌, ◌^◌, Bool, true, false, not, Option, None, Some, List, length, ◌⊎◌, inl, inr, refl, sym, ◌∙◌, ap, subst, arith, get_or, replicate, add-one, is_some, if◌then◌else◌}
 use Rattle.std.proofs.lemmas.Bool.Decides.{eqb_tells, leb_tells}
-use Rattle.bz_elab.specs.declared.flat.Ends.{Ends}
+use Rattle.bz_flat.specs.declared.flat.Ends.{Ends}
 use Rattle.bz_model.specs.Names.{External}
 use Rattle.bz_model.specs.Hosts.{port_is_passive}
 use Rattle.bz_model.specs.Nets.{Site, IsPort, site_at, chan_at, passive_at}
-use Rattle.bz_elab.specs.Wires.{IsEnd, HasTwo, at_side, no_ends, end_at, end_port_at}
+use Rattle.bz_flat.specs.Wires.{IsEnd, HasTwo, at_side, no_ends, end_at, end_port_at}
 use Rattle.bz_elab.specs.Seats.{Seated, Seats, Passed, IsHere, CompsFit, WellEnded}
 use Rattle.bz_model.specs.Rows.{is_passive}
 

@@ -1,9 +1,9 @@
 -- The components of a net, as sites.
 use Rattle.std.proofs.Common.{◌≡◌, ℕ, zero, suc, ◌-◌, ◌<◌, ◌^◌, List, [], ◌∷◌, length, map, sym, ap, subst, arith, get_or}
 use Rattle.std.proofs.lemmas.List.{length-map}
-use Rattle.bz_elab.specs.declared.flat.FlatComp.{FlatComp}
+use Rattle.bz_flat.specs.declared.flat.FlatComp.{FlatComp}
 use Rattle.bz_model.specs.Nets.{Site}
-use Rattle.bz_elab.specs.Flats.{site_of, sites_of}
+use Rattle.bz_flat.specs.Flats.{site_of, sites_of}
 use Rattle.bz_elab.specs.Seats.{IsHere, ChansFit, CompsFit}
 
 pub get_or-map : {X Y : Type 0} (f : X → Y) (xs : List X) (i : ℕ) (x : X) (d : Y) → i < length xs → x ≡ get_or xs i x → get_or (map f xs) i d ≡ f x

@@ -11,7 +11,7 @@ use Rattle.bz_breeze.specs.declared.part.Slot.{Slot}
 use Rattle.bz_elab.specs.Entries.{flattened, named_in}
 use Rattle.bz_elab.specs.Paths.{Path, Stop, copy, leaf, named, component, inner, copied, each_from, visit, walk, own_chans}
 use Rattle.bz_elab.specs.Refusals.{own_comps, own_ends, most_ends}
-use Rattle.bz_elab.specs.Wires.{most_comps, most_chans}
+use Rattle.bz_flat.specs.Wires.{most_comps, most_chans}
 use Rattle.bz_elab.specs.Growth.{IsBare, IsShort, below_copy}
 use Rattle.bz_elab.specs.Totals.{Capped, Brings, IsSmall, IsTotal, IsDeeper, AreTotals, TellsBare, total_at}
 use Rattle.bz_elab.proofs.Counting.{each_from-push, length-more}

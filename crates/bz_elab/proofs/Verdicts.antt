@@ -3,14 +3,14 @@ use Rattle.std.proofs.Common.{◌≡◌, ◌≢◌, ℕ, zero, suc, ◌+◌, ◌
 use Rattle.std.proofs.lemmas.Bool.Decides.{leb_tells}
 use Rattle.std.specs.Bool.{beq}
 use Rattle.std.proofs.lemmas.List.{length-map}
-use Rattle.bz_elab.specs.declared.flat.FlatComp.{FlatComp}
+use Rattle.bz_flat.specs.declared.flat.FlatComp.{FlatComp}
 use Rattle.bz_model.specs.declared.names.Port.{Port}
-use Rattle.bz_elab.specs.declared.flat.Ends.{Ends}
+use Rattle.bz_flat.specs.declared.flat.Ends.{Ends}
 use Rattle.bz_model.specs.Names.{External, external}
 use Rattle.bz_model.specs.Hosts.{port_is_passive}
 use Rattle.bz_model.specs.Nets.{Site}
-use Rattle.bz_elab.specs.Flats.{sites_of}
-use Rattle.bz_elab.specs.Wires.{IsEnd, HasEnd, HasTwo, end_at, no_ends, IsLoose, IsMisused}
+use Rattle.bz_flat.specs.Flats.{sites_of}
+use Rattle.bz_flat.specs.Wires.{IsEnd, HasEnd, HasTwo, end_at, no_ends, IsLoose, IsMisused}
 use Rattle.bz_elab.specs.Seats.{Seated, Passed, CompsFit, IsLeast}
 use Rattle.bz_elab.proofs.Seating.{found, both}
 use Rattle.bz_elab.proofs.Sites.{get_or-map}

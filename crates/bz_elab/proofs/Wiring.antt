@@ -11,13 +11,13 @@ use Rattle.bz_model.specs.Names.{External, external}
 use Rattle.bz_model.specs.Nets.{Site, IsPort, no_site, site_at, chan_at, chan_in}
 use Rattle.bz_breeze.specs.declared.part.Part.{Part}
 use Rattle.bz_breeze.specs.Parts.{IsFit}
-use Rattle.bz_elab.specs.declared.flat.Ends.{Ends}
-use Rattle.bz_elab.specs.declared.flat.FlatComp.{FlatComp}
+use Rattle.bz_flat.specs.declared.flat.Ends.{Ends}
+use Rattle.bz_flat.specs.declared.flat.FlatComp.{FlatComp}
 use Rattle.bz_elab.specs.declared.walk.Draft.{Draft}
-use Rattle.bz_elab.specs.Flats.{site_of, sites_of, wiring_of}
+use Rattle.bz_flat.specs.Flats.{site_of, sites_of, wiring_of}
 use Rattle.bz_elab.specs.Paths.{stops, net, all_places, own_chans, most_instances}
 use Rattle.bz_elab.specs.Refusals.{HasPortChannels, IsTooDeep}
-use Rattle.bz_elab.specs.Wires.{WellWired, EndsOf, end_at}
+use Rattle.bz_flat.specs.Wires.{WellWired, EndsOf, end_at}
 use Rattle.bz_elab.specs.Seats.{CompsFit, WellEnded}
 use Rattle.bz_elab.specs.Growth.{IsNet, IsSoundBelow, Within, below_copy}
 use Rattle.bz_elab.proofs.Distinct.{places_are_different, sites_are}

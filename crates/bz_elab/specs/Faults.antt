@@ -2,8 +2,8 @@
 use Rattle.std.specs.Prelude.{ℕ}
 use Rattle.bz_model.specs.declared.error.KindError.{KindError}
 use Rattle.bz_model.specs.declared.error.KindError.TheVariants as kind
-use Rattle.bz_elab.specs.declared.error.ElabError.{ElabError}
-use Rattle.bz_elab.specs.declared.error.ElabError.TheVariants.{UnknownComponent, BadParameter, PortCount, BadChannel, KindMismatch, WidthMismatch, Memory}
+use Rattle.bz_flat.specs.declared.error.ElabError.{ElabError}
+use Rattle.bz_flat.specs.declared.error.ElabError.TheVariants.{UnknownComponent, BadParameter, PortCount, BadChannel, KindMismatch, WidthMismatch, Memory}
 use Rattle.bz_elab.specs.declared.error.Fault.{Fault}
 use Rattle.bz_elab.specs.declared.error.Fault.TheVariants as fault
 

@@ -6,17 +6,17 @@ use Rattle.bz_model.specs.declared.kind.Kind.{Kind}
 use Rattle.bz_model.specs.Rows.{row_of, ports_of, has_widths}
 use Rattle.bz_breeze.specs.declared.part.Part.{Part}
 use Rattle.bz_breeze.specs.declared.part.Component.{Component}
-use Rattle.bz_elab.specs.declared.error.ElabError.{ElabError}
-use Rattle.bz_elab.specs.declared.error.ElabError.TheVariants.{TooBig, Memory}
+use Rattle.bz_flat.specs.declared.error.ElabError.{ElabError}
+use Rattle.bz_flat.specs.declared.error.ElabError.TheVariants.{TooBig, Memory}
 use Rattle.bz_elab.specs.declared.error.Fault.{Fault}
-use Rattle.bz_elab.specs.declared.flat.FlatComp.{FlatComp}
+use Rattle.bz_flat.specs.declared.flat.FlatComp.{FlatComp}
 use Rattle.bz_elab.specs.declared.walk.Draft.{Draft}
 use Rattle.bz_elab.specs.declared.walk.Level.{Level}
 use Rattle.bz_elab.specs.Faults.{error_at}
 use Rattle.bz_elab.specs.Entries.{flattened, sizes_of, arranged, FitsPorts}
 use Rattle.bz_elab.specs.Paths.{Path, Place, Role, instance, of_kind, Stop, copy, leaf, component, copied, joined, role, leaf_role, each_from, visit, walk, own_chans, own_places, stops, all_places, most_instances, chans_at}
 use Rattle.bz_elab.specs.Refusals.{IsChannel, kinds_of, widths_of, chans_of, actuals_of, formals_of, own_comps, own_ends, most_ends, IsTooMany, HasFault, AppliesTo}
-use Rattle.bz_elab.specs.Wires.{most_comps, most_chans}
+use Rattle.bz_flat.specs.Wires.{most_comps, most_chans}
 
 -- What one component has to be.
 

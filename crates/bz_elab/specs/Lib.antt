@@ -1,5 +1,3 @@
-pub mod Flats
-pub mod Wires
 pub mod Seats
 pub mod Entries
 pub mod Paths

@@ -3,7 +3,7 @@ use Rattle.std.specs.Prelude.{◌≡◌, ℕ, ◌+◌, ◌<◌, ◌≤◌, ◌�
 use Rattle.bz_model.specs.declared.channel.Chan.{Chan}
 use Rattle.bz_breeze.specs.declared.part.Part.{Part}
 use Rattle.bz_breeze.specs.declared.part.Component.{Component}
-use Rattle.bz_elab.specs.declared.flat.FlatComp.{FlatComp}
+use Rattle.bz_flat.specs.declared.flat.FlatComp.{FlatComp}
 use Rattle.bz_elab.specs.declared.walk.Draft.{Draft}
 use Rattle.bz_elab.specs.declared.walk.Level.{Level}
 use Rattle.bz_elab.specs.declared.reading.Item.{Item}
@@ -13,7 +13,7 @@ use Rattle.bz_elab.specs.declared.reading.Reading.{Reading}
 use Rattle.bz_elab.specs.Entries.{flattened}
 use Rattle.bz_elab.specs.Paths.{Path, named}
 use Rattle.bz_elab.specs.Refusals.{most_ends}
-use Rattle.bz_elab.specs.Wires.{most_comps}
+use Rattle.bz_flat.specs.Wires.{most_comps}
 use Rattle.bz_elab.specs.Numbers.{number_named, IsReached}
 use Rattle.bz_elab.specs.Growth.{IsFlat, IsSoundInstance, IsShort, IsBare, net_number, Entered, below_copy}
 

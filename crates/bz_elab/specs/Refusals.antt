@@ -9,13 +9,13 @@ use Rattle.bz_model.specs.Nets.{Wiring, chan_in}
 use Rattle.bz_breeze.specs.declared.part.Part.{Part}
 use Rattle.bz_breeze.specs.declared.part.Component.{Component}
 use Rattle.bz_breeze.specs.declared.part.Slot.{Slot}
-use Rattle.bz_elab.specs.declared.error.ElabError.{ElabError}
-use Rattle.bz_elab.specs.declared.error.ElabError.TheVariants.{NoPart, Recursive, TooDeep, UnknownComponent, BadParameter, PortCount, BadChannel, TooBig, KindMismatch, WidthMismatch, TwoEnds, LooseEnd, PortSense, Memory}
+use Rattle.bz_flat.specs.declared.error.ElabError.{ElabError}
+use Rattle.bz_flat.specs.declared.error.ElabError.TheVariants.{NoPart, Recursive, TooDeep, UnknownComponent, BadParameter, PortCount, BadChannel, TooBig, KindMismatch, WidthMismatch, TwoEnds, LooseEnd, PortSense, Memory}
 use Rattle.bz_elab.specs.declared.error.Fault.{Fault}
 use Rattle.bz_elab.specs.declared.error.Fault.TheVariants as fault
 use Rattle.bz_elab.specs.Entries.{flattened, sizes_of, arranged, FitsPorts}
 use Rattle.bz_elab.specs.Paths.{Path, Role, instance, of_kind, misfit, unknown, Stop, copy, leaf, named, component, copied, role, stops, own_chans, net, most_instances}
-use Rattle.bz_elab.specs.Wires.{HasTwo, IsLoose, IsMisused, most_comps, most_chans}
+use Rattle.bz_flat.specs.Wires.{HasTwo, IsLoose, IsMisused, most_comps, most_chans}
 
 -- One component of a part, by the channels of that part.
 

@@ -3,10 +3,10 @@ use Rattle.std.specs.Prelude.{◌≡◌, ◌≢◌, ℕ, ◌-◌, ◌<◌, ◌�
 use Rattle.bz_model.specs.Names.{External}
 use Rattle.bz_model.specs.Nets.{Site, IsPort, site_at, chan_at, passive_at}
 use Rattle.bz_model.specs.Hosts.{port_is_passive}
-use Rattle.bz_elab.specs.declared.flat.Ends.{Ends}
-use Rattle.bz_elab.specs.declared.error.ElabError.{ElabError}
-use Rattle.bz_elab.specs.declared.error.ElabError.TheVariants.{TwoEnds, LooseEnd, PortSense, Memory}
-use Rattle.bz_elab.specs.Wires.{IsEnd, HasEnd, HasTwo, IsLoose, IsMisused, IsFoundAt, end_at, end_port_at, most_comps}
+use Rattle.bz_flat.specs.declared.flat.Ends.{Ends}
+use Rattle.bz_flat.specs.declared.error.ElabError.{ElabError}
+use Rattle.bz_flat.specs.declared.error.ElabError.TheVariants.{TwoEnds, LooseEnd, PortSense, Memory}
+use Rattle.bz_flat.specs.Wires.{IsEnd, HasEnd, HasTwo, IsLoose, IsMisused, IsFoundAt, end_at, end_port_at, most_comps}
 
 -- the least number of which P holds
 pub record IsLeast (P : ℕ → Type 0) (k : ℕ) : Type 0 where

@@ -5,7 +5,7 @@ use Rattle.bz_breeze.specs.declared.part.Part.{Part}
 use Rattle.bz_elab.specs.declared.totals.Total.{Total}
 use Rattle.bz_elab.specs.Paths.{Path, Stop, copied, own_chans}
 use Rattle.bz_elab.specs.Refusals.{own_comps, own_ends, most_ends}
-use Rattle.bz_elab.specs.Wires.{most_comps, most_chans}
+use Rattle.bz_flat.specs.Wires.{most_comps, most_chans}
 use Rattle.bz_elab.specs.Growth.{below_copy}
 
 -- t is n, or both are more than a net may have

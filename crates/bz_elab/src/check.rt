@@ -2,7 +2,7 @@
 
 ghost use Rattle.std.specs.Prelude.{◌≡◌, ◌≤◌, ◌⊎◌, true, false, List, Some, slice_get, IfOk, IfErr, OnOk};
 ghost use Rattle.std.specs.List.{All};
-ghost use Rattle.bz_elab.specs.declared.error.ElabError.TheVariants.{Memory};
+ghost use Rattle.bz_flat.specs.declared.error.ElabError.TheVariants.{Memory};
 ghost use Rattle.bz_breeze.specs.declared.part.Part.{Part};
 ghost use Rattle.bz_elab.specs.Paths.{stops, most_instances};
 ghost use Rattle.bz_elab.specs.Refusals.{HasPortChannels, IsTooMany};
@@ -12,13 +12,13 @@ ghost use Rattle.bz_elab.specs.Numbers.{IsFirstPlace, IsReached, Marks};
 ghost use Rattle.bz_elab.specs.Readings.{IsReadBelow};
 ghost use Rattle.bz_elab.specs.Totals.{IsTotal, IsSmall, AreTotals};
 
-use crate::error::ElabError;
 use crate::faults::read_parts;
 use crate::reach::{first_recursive, reached};
 use crate::reading::Reading;
 use crate::totals::{Total, capped, total_of};
 use crate::walk::{MOST_CHANNELS, MOST_COMPONENTS, MOST_ENDS, MOST_INSTANCES};
 use bz_breeze::{Part, Parts};
+use bz_flat::ElabError;
 use std::alloc::Global;
 
 /// Finds the first refusal of a part and all that it reaches, by what can be told without making the net; answers what was

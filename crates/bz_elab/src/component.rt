@@ -14,8 +14,8 @@ ghost use Rattle.bz_elab.specs.Growth.{IsFlat, IsSoundInstance};
 ghost use Rattle.bz_elab.specs.Order.{NoneBefore};
 
 use crate::error::Fault;
-use crate::flat::FlatComp;
 use bz_breeze::{Component, Part, Slot};
+use bz_flat::FlatComp;
 use bz_kind_table::{PortRow, kind_of, kinds_are, port_table, sizes_fit, widths_fit};
 use bz_model::{Chan, ChanKind, Kind, MAX_MEMBERS};
 use std::alloc::{AllocError, Global};

@@ -1,17 +1,16 @@
 //! The flat net of a part, by its name.
 
 ghost use Rattle.std.specs.Prelude.{◌≡◌, ◌⊎◌, IfOk, IfErr};
-ghost use Rattle.bz_elab.specs.declared.error.ElabError.{ElabError};
-ghost use Rattle.bz_elab.specs.declared.error.ElabError.TheVariants.{Memory};
+ghost use Rattle.bz_flat.specs.declared.error.ElabError.{ElabError};
+ghost use Rattle.bz_flat.specs.declared.error.ElabError.TheVariants.{Memory};
 ghost use Rattle.bz_elab.specs.Order.{Refuses};
 ghost use Rattle.bz_elab.specs.Refusals.{Applies, Elaborated};
 
 use crate::check::check;
 use crate::ends::wire;
-use crate::error::ElabError;
-use crate::flat::{Flat, Pieces};
 use crate::walk::{find, net_of};
 use bz_breeze::Parts;
+use bz_flat::{ElabError, Flat, Pieces};
 use bz_model::dup_ports;
 use std::alloc::Global;
 

@@ -3,13 +3,12 @@
 ghost use Rattle.std.specs.Prelude.{◌≡◌, ◌<◌, ◌≤◌, ◌+◌, ◌-◌, ◌^◌, ℕ, List, length, map, slice_index_or, IfOk, IfErr};
 ghost use Rattle.bz_model.specs.Names.{external};
 ghost use Rattle.bz_model.specs.Nets.{Site};
-ghost use Rattle.bz_elab.specs.declared.error.ElabError.TheVariants.{Memory};
-ghost use Rattle.bz_elab.specs.Flats.{site_of, sites_of};
+ghost use Rattle.bz_flat.specs.declared.error.ElabError.TheVariants.{Memory};
+ghost use Rattle.bz_flat.specs.Flats.{site_of, sites_of};
 ghost use Rattle.bz_elab.specs.Seats.{ChansFit, CompsFit, WellEnded, WiringFault, Seats, Seated, IsHere, Passed};
 
-use crate::error::ElabError;
-use crate::flat::{Ends, FlatComp};
 use bz_arena::{Arena, Id};
+use bz_flat::{ElabError, Ends, FlatComp};
 use bz_kind_table::is_passive;
 use bz_model::Port;
 use std::alloc::Global;

@@ -2,7 +2,7 @@
 
 ghost use Rattle.std.specs.Prelude.{◌≡◌, ◌<◌, ◌⊎◌, ℕ, true, None, Some, [], ◌∷◌, ◌++◌, length, slice_get, IfOk, IfErr, OnOk};
 ghost use Rattle.std.specs.List.{All};
-ghost use Rattle.bz_elab.specs.declared.error.ElabError.TheVariants.{Memory};
+ghost use Rattle.bz_flat.specs.declared.error.ElabError.TheVariants.{Memory};
 ghost use Rattle.bz_elab.specs.declared.error.Fault.TheVariants as fault;
 ghost use Rattle.bz_elab.specs.Faults.{error_at};
 ghost use Rattle.bz_elab.specs.Paths.{component};
@@ -14,12 +14,13 @@ ghost use Rattle.bz_elab.specs.Readings.{AreRead, AreReadings, told};
 ghost use Rattle.bz_elab.specs.Totals.{AreTotals};
 
 use crate::component::{instance_of, leaf_of};
-use crate::error::{ElabError, Fault, Spot};
+use crate::error::{Fault, Spot};
 use crate::reading::{Instance, Item, Reading};
 use crate::totals::{Total, is_bare};
 use crate::walk::{MOST_INSTANCES, find};
 use bz_arena::Arena;
 use bz_breeze::{Component, Part, Parts};
+use bz_flat::ElabError;
 use bz_model::Chan;
 use std::alloc::{AllocError, Global};
 

@@ -7,7 +7,6 @@ mod elaboration;
 mod ends;
 mod error;
 mod faults;
-mod flat;
 mod laws;
 mod rank;
 mod reach;
@@ -15,7 +14,6 @@ mod reading;
 mod totals;
 mod walk;
 
+pub use bz_flat::{ElabError, Flat, FlatComp};
 pub use elaboration::elaborate;
-pub use error::ElabError;
-pub use flat::{Ends, Flat, FlatComp, Pieces, dup_comps};
 pub use laws::{leaves_are_met, places_differ, stops_rise};

@@ -1,7 +1,7 @@
 //! The parts as they were read: what each component is, told once for all copies of its part.
 
-use crate::flat::FlatComp;
 use bz_arena::Arena;
+use bz_flat::FlatComp;
 
 /// A component that adds something to the net, by the numbers that its part's channels have in that part.
 #[derive(Drop)]

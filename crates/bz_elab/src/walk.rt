@@ -2,20 +2,19 @@
 
 ghost use Rattle.std.specs.Prelude.{◌≡◌, ◌<◌, ◌≤◌, ◌+◌, ◌-◌, ◌^◌, ◌++◌, ◌∷◌, [], ◌⊎◌, ℕ, List, Some, length, map, drop, slice_get, option_and_then, slice_index_or, IfOk, IfErr, IfSome, IfNone, OnOk};
 ghost use Rattle.std.specs.List.{All};
-ghost use Rattle.bz_elab.specs.declared.error.ElabError.TheVariants.{Memory, TooBig};
+ghost use Rattle.bz_flat.specs.declared.error.ElabError.TheVariants.{Memory, TooBig};
 ghost use Rattle.bz_elab.specs.Paths.{named, most_instances};
 ghost use Rattle.bz_elab.specs.Refusals.{AppliesTo, HasPortChannels, most_ends};
 ghost use Rattle.bz_elab.specs.Numbers.{number_named};
 ghost use Rattle.bz_elab.specs.Order.{rank};
 ghost use Rattle.bz_elab.specs.Readings.{LeafOn, CopyOn, IsFull, IsReadBelow, AreOwn, ends_of};
-ghost use Rattle.bz_elab.specs.Wires.{most_comps, most_chans};
+ghost use Rattle.bz_flat.specs.Wires.{most_comps, most_chans};
 ghost use Rattle.bz_elab.specs.Growth.{net_number, FitsNet, Entered, Flattened, Counted, Fails, IsNet, IsShort, Within};
 
-use crate::error::ElabError;
-use crate::flat::FlatComp;
 use crate::reading::{Item, Reading};
 use bz_arena::{Arena, Id};
 use bz_breeze::{Part, Parts};
+use bz_flat::{ElabError, FlatComp};
 use bz_model::Chan;
 use std::alloc::{AllocError, Global};
 

@@ -9,7 +9,7 @@ use Rattle.bz_model.specs.Nets.{Site, Wiring, State, Step, IsPort, chan_at, pass
 use Rattle.bz_model.specs.Hosts.{host_after}
 use Rattle.bz_model.specs.Runs.{Follows, Run}
 use Rattle.bz_model.specs.Clashes.{phase_of, IsAsked, Clashes, ClashesIn}
-use Rattle.bz_elab.specs.Wires.{WellWired}
+use Rattle.bz_flat.specs.Wires.{WellWired}
 use Rattle.bz_net.specs.Noted.{Notes, HoldsPassive, NotedAt}
 use Rattle.std.proofs.lemmas.Bool.{cases_eq}
 use Rattle.bz_model.specs.declared.channel.Move.{Move}

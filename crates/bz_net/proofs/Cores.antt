@@ -12,10 +12,10 @@ use Rattle.bz_model.specs.Phases.{phase_after}
 use Rattle.bz_model.specs.Heads.{Component, HasOneHead, Moves, Proc}
 use Rattle.bz_model.specs.Hosts.{host_after, refusal_at, HostStep}
 use Rattle.bz_model.specs.Nets.{Site, Wiring, State, Step, moved, site_at, chan_in}
-use Rattle.bz_elab.specs.declared.flat.Ends.{Ends}
-use Rattle.bz_elab.specs.declared.flat.FlatComp.{FlatComp}
-use Rattle.bz_elab.specs.Flats.{site_of}
-use Rattle.bz_elab.specs.Wires.{WellWired, EndsOf, ends_in}
+use Rattle.bz_flat.specs.declared.flat.Ends.{Ends}
+use Rattle.bz_flat.specs.declared.flat.FlatComp.{FlatComp}
+use Rattle.bz_flat.specs.Flats.{site_of}
+use Rattle.bz_flat.specs.Wires.{WellWired, EndsOf, ends_in}
 use Rattle.bz_net.specs.Keeping.{Tied, Placed, ReadsChans, RefreshedEnds, CommandedAt, MarksReady, Started, proc_of, state_of, phase_in}
 use Rattle.bz_net.specs.Told.{Told, AreBlank, HasChans, Turned, Retold, Sighted, StaysSighted, HostSighted, here_at}
 use Rattle.bz_net.specs.Core.{CoreSound}

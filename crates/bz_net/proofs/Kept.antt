@@ -13,7 +13,7 @@ use Rattle.bz_model.specs.declared.event.NetError.TheVariants.{UnknownPort, Wron
 use Rattle.bz_model.specs.Runs.{CanStep, Rest}
 use Rattle.bz_net.specs.Simulation.{Simulation}
 use Rattle.bz_net.specs.Replies.{RefusesEntry, RefusesFire, RefusesLowest}
-use Rattle.bz_elab.specs.Wires.{WellWired}
+use Rattle.bz_flat.specs.Wires.{WellWired}
 use Rattle.bz_net.specs.Keeping.{Keeps}
 use Rattle.bz_net.specs.Noted.{Notes, NotedAt}
 use Rattle.bz_net.proofs.Clashing.{clashed_fired, clashed_commanded, clashed_rested, clashed_opening}

@@ -28,7 +28,7 @@ use Rattle.bz_model.specs.Widths.{Carries, FitsChan, Holds}
 use Rattle.bz_model.specs.Entries.{HasLine, HasWho, IsCarried, IsGiven, IsPhase, IsReply, IsValue, carries}
 use Rattle.bz_model.proofs.Fitting.{small-here}
 use Rattle.bz_model.proofs.Starts.{both-true, widest}
-use Rattle.bz_elab.specs.Wires.{WellWired}
+use Rattle.bz_flat.specs.Wires.{WellWired}
 use Rattle.bz_net.proofs.Fitting.{Fits, carries_step, command_fits, fits_follows, fits_in, fits_opening, own_at, own_chans}
 
 -- ---- a port is the one of its name

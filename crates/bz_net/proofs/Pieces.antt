@@ -9,7 +9,7 @@ use Rattle.bz_model.specs.declared.event.Who.{Who}
 use Rattle.bz_model.specs.Nets.{Wiring, State, Step, opening}
 use Rattle.bz_model.specs.Hosts.{HostStep}
 use Rattle.bz_model.specs.Runs.{Follows, Rest}
-use Rattle.bz_elab.specs.Wires.{WellWired}
+use Rattle.bz_flat.specs.Wires.{WellWired}
 use Rattle.bz_net.specs.declared.event.RunEnd.TheVariants as ended
 use Rattle.bz_net.specs.Noted.{Notes, NotedAt}
 use Rattle.bz_net.specs.Progress.{Progress, IsToldBy, LeadsOn, Enters, RunsInto, with_journal}

@@ -13,7 +13,7 @@ use Rattle.bz_model.specs.Nets.{Wiring, State, opening, outside}
 use Rattle.bz_model.specs.Plays.{Commands, Firings, Rests, PlaysWord, PlaysWords, PlaysAll, Stops, StopsWord}
 use Rattle.bz_model.specs.Runs.{Run}
 use Rattle.bz_model.specs.Entries.{HasLine, HasWho, IsHost, IsWho}
-use Rattle.bz_elab.specs.Wires.{WellWired}
+use Rattle.bz_flat.specs.Wires.{WellWired}
 use Rattle.bz_net.proofs.Lines.{run_has_lines}
 
 -- a run by hosts and workers that are in range

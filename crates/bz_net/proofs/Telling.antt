@@ -23,8 +23,8 @@ use Rattle.bz_net.proofs.Hosts.{tied_command, side_from}
 use Rattle.bz_model.specs.declared.event.Verb.{Verb}
 use Rattle.bz_model.specs.Hosts.{host_after, refusal_at}
 use Rattle.bz_net.specs.Told.{is_here, here_at, flag_of, Told, Retold, Goes, NoneGoes, GoesFirst, IsTurning, HasChans, Sighted, AreEnds, AllAreEnds, PutAt, PutEnd, HasBit, Turned, StaysSighted, HostSighted}
-use Rattle.bz_elab.specs.declared.flat.Ends.{Ends}
-use Rattle.bz_elab.specs.Wires.{WellWired, EndsOf, IsEnd, at_side, port_of_side, end_at, ends_in}
+use Rattle.bz_flat.specs.declared.flat.Ends.{Ends}
+use Rattle.bz_flat.specs.Wires.{WellWired, EndsOf, IsEnd, at_side, port_of_side, end_at, ends_in}
 
 -- a move of a port's side, that turns its port, is allowed exactly where it waits for nothing or what it waits for is here
 pub allowed : (phase : Phase) (mv : Move) (passive : Bool) → phase ≢ Broken → answers mv ≡ passive → opens mv ≡ not (is_open phase passive) → may_move phase mv ≡ is_free mv (is_here phase passive)

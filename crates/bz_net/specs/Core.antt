@@ -4,8 +4,8 @@ use Rattle.bz_model.specs.declared.channel.Move.{Move}
 use Rattle.bz_model.specs.declared.channel.Phase.{Phase}
 use Rattle.bz_model.specs.Heads.{Component}
 use Rattle.bz_model.specs.Nets.{Wiring, State, Step}
-use Rattle.bz_elab.specs.declared.flat.Ends.{Ends}
-use Rattle.bz_elab.specs.Wires.{WellWired, EndsOf}
+use Rattle.bz_flat.specs.declared.flat.Ends.{Ends}
+use Rattle.bz_flat.specs.Wires.{WellWired, EndsOf}
 use Rattle.bz_net.specs.Keeping.{Tied, MarksReady, state_of}
 use Rattle.bz_net.specs.Told.{Told, HasChans, here_at}
 

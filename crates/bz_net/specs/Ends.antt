@@ -4,8 +4,8 @@ use Rattle.bz_model.specs.declared.event.Entry.{Entry}
 use Rattle.bz_model.specs.declared.event.Entry.TheVariants.{Fired, Host, Rested}
 use Rattle.bz_model.specs.declared.channel.Move.{Move}
 use Rattle.bz_model.specs.Nets.{Site, State, Step, Wiring}
-use Rattle.bz_elab.specs.declared.flat.Ends.{Ends}
-use Rattle.bz_elab.specs.Wires.{IsEnd, HasEnd, IsFoundAt, end_at}
+use Rattle.bz_flat.specs.declared.flat.Ends.{Ends}
+use Rattle.bz_flat.specs.Wires.{IsEnd, HasEnd, IsFoundAt, end_at}
 
 -- a component whose port holds this end of channel k, or none where no port does
 abbrev pub StandsAt : List Site → ℕ → Bool → Option ℕ → Type 0

@@ -7,7 +7,7 @@ use Rattle.bz_model.specs.declared.channel.Chan.{Chan}
 use Rattle.bz_model.specs.declared.event.Entry.{Entry}
 use Rattle.bz_model.specs.declared.event.Verb.{Verb}
 use Rattle.bz_model.specs.declared.event.Reply.{Reply}
-use Rattle.bz_elab.specs.declared.flat.Ends.{Ends}
+use Rattle.bz_flat.specs.declared.flat.Ends.{Ends}
 use Rattle.bz_model.specs.Heads.{Proc, Component, open_at}
 use Rattle.bz_net.specs.Sides.{Sided}
 use Rattle.bz_model.specs.Nets.{Site, Wiring, State, IsPort, no_proc, site_at, chan_at, chan_in, passive_at, opening}
@@ -15,7 +15,7 @@ use Rattle.bz_model.specs.Hosts.{reply_to, host_after}
 use Rattle.bz_model.specs.Runs.{CanStep, Run}
 use Rattle.bz_model.specs.Rows.{MeetsRow}
 use Rattle.bz_model.specs.Processes.{start_of}
-use Rattle.bz_elab.specs.Wires.{WellWired, at_side, ends_in}
+use Rattle.bz_flat.specs.Wires.{WellWired, at_side, ends_in}
 use Rattle.bz_model.specs.Clashes.{ClashesIn}
 use Rattle.bz_net.specs.Noted.{Notes}
 

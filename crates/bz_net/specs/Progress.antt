@@ -10,7 +10,7 @@ use Rattle.bz_model.specs.Nets.{Wiring, State, opening}
 use Rattle.bz_model.specs.Hosts.{refusal_at}
 use Rattle.bz_model.specs.Runs.{CanStep, IsNext, Run}
 use Rattle.bz_model.specs.Clashes.{ClashesIn}
-use Rattle.bz_elab.specs.Wires.{WellWired}
+use Rattle.bz_flat.specs.Wires.{WellWired}
 use Rattle.bz_net.specs.declared.event.Piece.{Piece}
 use Rattle.bz_net.specs.declared.event.RestReply.{RestReply}
 use Rattle.bz_net.specs.declared.event.RestReply.TheVariants as asked

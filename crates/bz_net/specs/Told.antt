@@ -10,8 +10,8 @@ use Rattle.bz_model.specs.Nets.{Site, Wiring, IsPort, StepsAt, site_at, chan_at,
 use Rattle.bz_kinds.specs.Ready.{CanGo}
 use Rattle.bz_net.specs.Keeping.{phase_in, comp_at, is_open, state_of}
 use Rattle.bz_net.specs.Sides.{Sided}
-use Rattle.bz_elab.specs.declared.flat.Ends.{Ends}
-use Rattle.bz_elab.specs.Wires.{IsEnd, at_side, port_of_side, ends_in}
+use Rattle.bz_flat.specs.declared.flat.Ends.{Ends}
+use Rattle.bz_flat.specs.Wires.{IsEnd, at_side, port_of_side, ends_in}
 
 -- whether what a passive port waits for, or an active one, is on a channel in this phase
 abbrev pub is_here : Phase → Bool → Bool

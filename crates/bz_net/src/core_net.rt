@@ -5,7 +5,7 @@ ghost use Rattle.bz_model.specs.Hosts.{HostStep, command_refusal, refusal_at};
 ghost use Rattle.bz_model.specs.Names.{NamesDiffer, port_number};
 ghost use Rattle.bz_model.specs.Nets.{Step, StepsAt, opening, outside, phase_at};
 ghost use Rattle.bz_model.specs.Runs.{CanStep, IsLowest, IsNext, Rest};
-ghost use Rattle.bz_elab.specs.Wires.{WellWired};
+ghost use Rattle.bz_flat.specs.Wires.{WellWired};
 ghost use Rattle.bz_net.specs.Core.{IsSole};
 ghost use Rattle.bz_net.specs.Due.{Foresees, TellsDue};
 ghost use Rattle.bz_net.specs.Ends.{TellsEnds, TellsPort, IsSolePort};
@@ -18,7 +18,7 @@ use crate::moves::{answers, can_fire, due_at, foresee, note_clash, port_in, refu
 use crate::node::{Node, dup_all, start_all};
 use crate::noted::Noted;
 use bz_arena::Arena;
-use bz_elab::{Ends, Flat, FlatComp, dup_comps};
+use bz_flat::{Ends, Flat, FlatComp, dup_comps};
 use bz_model::{Move, Names, NetError, Phase, Reply, Value, Verb};
 use bz_ready::ReadySet;
 use std::alloc::{AllocError, Global};
@@ -58,7 +58,7 @@ impl Model for Core {
     ghost coded = { Prim.hlevel (codes, term_code) };
 
     ghost use Rattle.std.specs.Prelude.{map};
-    ghost use Rattle.bz_elab.specs.Flats.{site_of};
+    ghost use Rattle.bz_flat.specs.Flats.{site_of};
     ghost use Rattle.bz_net.specs.Keeping.{state_of};
     ghost use Rattle.bz_net.specs.Nodes.{comps_of, heres_of};
 

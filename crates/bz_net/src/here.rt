@@ -2,8 +2,8 @@
 
 ghost use Rattle.std.specs.Prelude.{◌≡◌, ◌≤◌, ◌<◌, ◌*◌, ◌^◌, ℕ, suc, length, map, MatchOption, MatchBool, IfSome, IfOk};
 ghost use Rattle.bz_model.specs.Nets.{StepsAt};
-ghost use Rattle.bz_elab.specs.Wires.{StandsIn, ends_in};
-ghost use Rattle.bz_elab.specs.Flats.{site_of};
+ghost use Rattle.bz_flat.specs.Wires.{StandsIn, ends_in};
+ghost use Rattle.bz_flat.specs.Flats.{site_of};
 ghost use Rattle.bz_kinds.specs.Ready.{CanGo};
 ghost use Rattle.bz_model.specs.Runs.{CanStep, IsLowest};
 ghost use Rattle.bz_net.specs.Keeping.{state_of, Placed, Refreshed, RefreshedEnds, MarksAll, CommandedAt, phase_in};
@@ -16,7 +16,7 @@ use crate::moves::reply_to;
 use crate::node::{Node, node_id, site_in};
 use bz_arena::Arena;
 use bz_bits::PortBits;
-use bz_elab::{Ends, FlatComp};
+use bz_flat::{Ends, FlatComp};
 use bz_kinds::{Comp, next_due, ready_word};
 use bz_model::{Move, Phase, Reply, Value, Verb};
 use bz_ready::ReadySet;

@@ -10,7 +10,7 @@ ghost use Rattle.bz_model.specs.Entries.{HasLine, HasWho};
 ghost use Rattle.bz_model.specs.Nets.{Wiring, State, chan_in, opening, outside, phase_at};
 ghost use Rattle.bz_model.specs.Runs.{Run};
 ghost use Rattle.bz_model.specs.Widths.{FitsChan};
-ghost use Rattle.bz_elab.specs.Wires.{WellWired};
+ghost use Rattle.bz_flat.specs.Wires.{WellWired};
 
 /// In each state that a run of a net leads to, a channel holds a value exactly where one is carried, and one that fits.
 pub fn states_fit()

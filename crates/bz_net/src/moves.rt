@@ -3,7 +3,7 @@
 ghost use Rattle.std.specs.Prelude.{true, ◌≡◌, ◌≤◌, ◌<◌, ◌^◌, ℕ, suc, length, map, [], MatchOption, MatchBool, IfOk, IfSome};
 ghost use Rattle.bz_model.specs.Nets.{IsPort, StepsAt, chan_at, site_at};
 ghost use Rattle.bz_model.specs.Hosts.{reply_to, host_after, fits_side, received, refusal_at};
-ghost use Rattle.bz_elab.specs.Flats.{site_of};
+ghost use Rattle.bz_flat.specs.Flats.{site_of};
 ghost use Rattle.bz_model.specs.Clashes.{is_mixer, IsAsked, Clashes};
 ghost use Rattle.bz_net.specs.Noted.{NotedEnd};
 ghost use Rattle.bz_net.specs.Due.{Foresees, TellsDue};
@@ -16,7 +16,7 @@ use crate::kept_phases::Phases;
 use crate::node::{Node, node_id, site_in};
 use crate::noted::Noted;
 use bz_arena::Arena;
-use bz_elab::{Ends, FlatComp};
+use bz_flat::{Ends, FlatComp};
 use bz_kind_table::is_passive;
 use bz_model::{ChanKind, Kind, Move, Names, NetError, Phase, Reply, Value, Verb, fits};
 use std::alloc::{AllocError, Global};

@@ -2,7 +2,7 @@
 
 ghost use Rattle.std.specs.Prelude.{◌≡◌, ◌≤◌, ◌<◌, ◌-◌, ◌+◌, ◌/◌, ℕ, length, map, slice_index_or, All, IfOk, IfErr};
 ghost use Rattle.bz_bits.specs.Row.{bit_of};
-ghost use Rattle.bz_elab.specs.Flats.{site_of};
+ghost use Rattle.bz_flat.specs.Flats.{site_of};
 ghost use Rattle.bz_model.specs.Nets.{chan_in};
 ghost use Rattle.bz_model.specs.Processes.{start_of};
 ghost use Rattle.bz_model.specs.Rows.{MeetsRow};
@@ -12,7 +12,7 @@ ghost use Rattle.bz_net.specs.Told.{AreBlank};
 
 use bz_arena::{Arena, Id};
 use bz_bits::PortBits;
-use bz_elab::FlatComp;
+use bz_flat::FlatComp;
 use bz_kinds::Comp;
 use bz_model::{Chan, NetError};
 use std::alloc::{AllocError, Global};

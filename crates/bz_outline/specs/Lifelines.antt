@@ -11,9 +11,9 @@ use Rattle.bz_model.specs.declared.event.Reply.TheVariants as told
 use Rattle.bz_model.specs.declared.event.Entry.{Entry}
 use Rattle.bz_model.specs.declared.event.Entry.TheVariants as entry
 use Rattle.bz_model.specs.Names.{channel, numbered, port_sense}
-use Rattle.bz_elab.specs.declared.flat.Ends.{Ends}
-use Rattle.bz_elab.specs.Flats.{Plan}
-use Rattle.bz_elab.specs.Wires.{at_side}
+use Rattle.bz_flat.specs.declared.flat.Ends.{Ends}
+use Rattle.bz_flat.specs.Flats.{Plan}
+use Rattle.bz_flat.specs.Wires.{at_side}
 use Rattle.bz_outline.specs.declared.circuit.Lifeline.{Lifeline}
 use Rattle.bz_outline.specs.declared.circuit.Lifeline.TheVariants.{Port, Comp}
 use Rattle.bz_outline.specs.declared.event.Step.{Step}

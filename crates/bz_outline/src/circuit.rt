@@ -4,11 +4,11 @@ ghost use Rattle.std.specs.Prelude.{◌≡◌, ◌+◌, ◌*◌, ◌<◌, ◌^�
 ghost use Rattle.std.specs.Option.{option_copied, option_map};
 ghost use Rattle.bz_model.specs.Names.{numbered, port_name};
 ghost use Rattle.bz_model.specs.Nets.{outside};
-ghost use Rattle.bz_elab.specs.Flats.{site_of};
+ghost use Rattle.bz_flat.specs.Flats.{site_of};
 ghost use Rattle.bz_outline.specs.Lifelines.{chan_of, is_passive, lifeline_at};
 
 use bz_arena::Arena;
-use bz_elab::{Ends, Flat, FlatComp};
+use bz_flat::{Ends, Flat, FlatComp};
 use bz_model::{Chan, ChanKind, Names, node_of, numbered};
 use std::marker::Model;
 
@@ -29,7 +29,7 @@ pub struct Circuit {
 
 impl Model for Circuit {
     ghost use Rattle.std.specs.Prelude.{◌+◌, ◌*◌, ◌<◌, ◌^◌, length};
-    ghost use Rattle.bz_elab.specs.Flats.{Plan, sites_of};
+    ghost use Rattle.bz_flat.specs.Flats.{Plan, sites_of};
 
     ghost Value = { Plan };
 

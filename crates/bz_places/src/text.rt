@@ -2,7 +2,7 @@
 
 ghost use Rattle.std.specs.Prelude.{◌≡◌, ◌++◌, decimal};
 ghost use Rattle.std.specs.List.{flat_map};
-ghost use Rattle.bz_elab.specs.Flats.{site_of};
+ghost use Rattle.bz_flat.specs.Flats.{site_of};
 ghost use Rattle.bz_lines.specs.Writing.{Writes};
 ghost use Rattle.bz_places.specs.Texts.{at_text, comp_head, record_text, in_text, path_text, placed_comp_text, slashed, spaced};
 ghost use Rattle.bz_places.specs.Views.{spot_of, standing_of, standing_at, line_in, chan_standing, comp_standing};
@@ -10,7 +10,7 @@ ghost use Rattle.bz_places.specs.Views.{spot_of, standing_of, standing_at, line_
 use crate::lines::PartLines;
 use crate::place::Place;
 use bz_breeze::Parts;
-use bz_elab::FlatComp;
+use bz_flat::FlatComp;
 use bz_kind_table::kind_word;
 use bz_lines::{Part, WriteFault, put_parts};
 use bz_model::{Kind, Value};

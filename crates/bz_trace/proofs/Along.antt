@@ -16,7 +16,7 @@ use Rattle.bz_net.specs.Simulation.{Adds}
 use Rattle.bz_lines.specs.declared.text.TheConstants.{MAX_ENTRIES}
 use Rattle.bz_lines.specs.declared.text.Version.{Version}
 use Rattle.bz_model.specs.Entries.{HasLine, HasWho, IsNumber32, told}
-use Rattle.bz_elab.specs.Wires.{WellWired}
+use Rattle.bz_flat.specs.Wires.{WellWired}
 use Rattle.bz_net.proofs.Lines.{run_has_lines}
 use Rattle.bz_lines.specs.Reading.{line_at}
 use Rattle.bz_lines.specs.Texts.{lines, clash_lines, first_line, Trace, HasText, IsBad, ClashesFrom, OtherFrom, spelling}

@@ -9,7 +9,7 @@ use Rattle.bz_model.specs.Nets.{Site, Wiring, State, opening}
 use Rattle.bz_model.specs.Runs.{Run, Follows}
 use Rattle.bz_model.specs.Clashes.{phase_of, Clashes, ClashesIn, AreClashed}
 use Rattle.bz_model.specs.Entries.{IsNumber32, told}
-use Rattle.bz_elab.specs.Wires.{WellWired}
+use Rattle.bz_flat.specs.Wires.{WellWired}
 use Rattle.bz_net.proofs.Clashing.{after_entry, follows_phases, same_clashes}
 use Rattle.bz_lines.specs.declared.text.Version.{Version}
 use Rattle.bz_lines.specs.declared.text.Version.TheVariants.{One, Two}

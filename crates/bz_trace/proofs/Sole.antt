@@ -6,7 +6,7 @@ use Rattle.bz_model.specs.declared.event.Entry.{Entry}
 use Rattle.bz_model.specs.Nets.{Wiring, State, opening, outside}
 use Rattle.bz_model.specs.Runs.{Run, Follows}
 use Rattle.bz_model.specs.Entries.{HasLine, HasWho, told}
-use Rattle.bz_elab.specs.Wires.{WellWired}
+use Rattle.bz_flat.specs.Wires.{WellWired}
 use Rattle.bz_net.proofs.Lines.{run_has_lines}
 use Rattle.bz_lines.specs.declared.text.Version.{Version}
 use Rattle.bz_lines.specs.Texts.{lines, Trace, HasText, IsBad, spelling, Spells, Outcome, entries_are, bad_line}

@@ -3,14 +3,14 @@
 ghost use Rattle.std.specs.Prelude.{◌≡◌, ◌≢◌, ◌⊎◌, [], ◌++◌, List};
 ghost use Rattle.bz_model.specs.declared.event.Entry.{Entry};
 ghost use Rattle.bz_model.specs.Nets.{outside};
-ghost use Rattle.bz_elab.specs.Wires.{WellWired};
+ghost use Rattle.bz_flat.specs.Wires.{WellWired};
 ghost use Rattle.bz_net.specs.Progress.{IsToldBy};
 ghost use Rattle.bz_model.specs.Limits.{max_entries};
 ghost use Rattle.bz_lines.specs.Texts.{first_line};
 ghost use Rattle.bz_trace.specs.Verdicts.{AreDue, CountsRun, FirstDiffers, Judges, JudgesBy};
 
 use crate::following::play_on;
-use bz_elab::Flat;
+use bz_flat::Flat;
 use bz_lines::{
     Counts, LineNames, MAX_ENTRIES, Version, clash_at, line_at, other_line, version_at,
 };

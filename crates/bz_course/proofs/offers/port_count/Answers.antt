@@ -1,6 +1,6 @@
 use Rattle.std.proofs.Common.{Some, None, length, ap, ◌∙◌, arith}
 use Rattle.bz_model.specs.Nets.{Site}
-use Rattle.bz_elab.specs.Flats.{site_of}
+use Rattle.bz_flat.specs.Flats.{site_of}
 use Rattle.bz_course.proofs.Going.{site_told}
 use Rattle.bz_course.proofs.offers.port_count.Goals as goal
 

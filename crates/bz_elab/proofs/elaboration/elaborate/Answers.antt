@@ -5,7 +5,7 @@ use Rattle.bz_breeze.specs.declared.part.Part.{Part}
 use Rattle.bz_breeze.specs.Parts.{IsFit}
 use Rattle.bz_model.specs.Nets.{Wiring}
 use Rattle.bz_elab.specs.Refusals.{HasPortChannels}
-use Rattle.bz_elab.specs.Wires.{WellWired, EndsOf}
+use Rattle.bz_flat.specs.Wires.{WellWired, EndsOf}
 use Rattle.bz_elab.proofs.Numbering.{named_first}
 use Rattle.bz_elab.proofs.Checking.{refuses_no_part, refuses_named, wire_refuses, walk_refuses}
 use Rattle.bz_elab.proofs.Refusing.{none_applies}

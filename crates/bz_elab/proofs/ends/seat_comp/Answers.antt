@@ -1,5 +1,5 @@
 use Rattle.std.proofs.Common.{arith, ◌≡◌, inl, inr, length, subst, ◌∙◌}
-use Rattle.bz_elab.specs.Flats.{site_of}
+use Rattle.bz_flat.specs.Flats.{site_of}
 use Rattle.bz_elab.specs.Seats.{Seated, Passed}
 use Rattle.bz_elab.proofs.Seating.{end_here, seated_next}
 use Rattle.bz_elab.proofs.ends.seat_comp.Goals as goal

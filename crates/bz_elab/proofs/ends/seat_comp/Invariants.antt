@@ -1,6 +1,6 @@
 use Rattle.std.proofs.Common.{List}
 use Rattle.bz_model.specs.Nets.{Site}
-use Rattle.bz_elab.specs.Flats.{site_of}
+use Rattle.bz_flat.specs.Flats.{site_of}
 use Rattle.bz_elab.specs.Seats.{Seated, IsHere, Passed}
 use Rattle.bz_elab.proofs.ends.seat_comp.Given as goal
 

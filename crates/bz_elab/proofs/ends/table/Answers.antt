@@ -1,8 +1,8 @@
 use Rattle.std.proofs.Common.{arith, ◌≡◌, ◌+◌, ◌++◌, length, add-one, take, drop, subst, refl, replicate, ap, ◌∙◌}
 use Rattle.std.proofs.lemmas.List.{take_at, length-replicate}
 use Rattle.std.proofs.lemmas.Grind.{common_steps}
-use Rattle.bz_elab.specs.Wires.{no_ends}
-use Rattle.bz_elab.specs.Flats.{sites_of}
+use Rattle.bz_flat.specs.Wires.{no_ends}
+use Rattle.bz_flat.specs.Flats.{sites_of}
 use Rattle.bz_elab.specs.Seats.{Seated, Passed}
 use Rattle.bz_elab.proofs.Seating.{passed_all, seated_none}
 use Rattle.bz_elab.proofs.Sites.{here_at, fits_at}

@@ -1,5 +1,5 @@
 use Rattle.std.proofs.Common.{◌≡◌, ◌+◌, length}
-use Rattle.bz_elab.specs.Flats.{sites_of}
+use Rattle.bz_flat.specs.Flats.{sites_of}
 use Rattle.bz_elab.specs.Seats.{Seated, Passed}
 use Rattle.bz_elab.proofs.ends.table.Given as goal
 

@@ -1,7 +1,7 @@
 use Rattle.std.proofs.Common.{◌≡◌, ◌<◌, ◌≤◌, ℕ, length, is_some, true, false, not, None, map}
 use Rattle.bz_model.specs.Names.{external}
 use Rattle.bz_model.specs.Hosts.{port_is_passive}
-use Rattle.bz_elab.specs.Wires.{end_at}
+use Rattle.bz_flat.specs.Wires.{end_at}
 use Rattle.bz_elab.proofs.ends.wire.Given as goal
 
 abbrev pub invariant-loop-k : goal.invariant-loop-k

@@ -1,6 +1,6 @@
 use Rattle.std.proofs.Common.{◌≡◌, ◌-◌, map, set, true, false, refl, sym, subst}
-use Rattle.bz_elab.specs.Flats.{site_of}
-use Rattle.bz_elab.specs.Wires.{ends_in}
+use Rattle.bz_flat.specs.Flats.{site_of}
+use Rattle.bz_flat.specs.Wires.{ends_in}
 use Rattle.bz_model.specs.declared.channel.Phase.{Phase}
 use Rattle.bz_model.specs.Hosts.{host_after}
 use Rattle.bz_net.specs.Keeping.{phase_in}

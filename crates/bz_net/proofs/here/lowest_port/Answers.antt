@@ -1,6 +1,6 @@
 use Rattle.std.proofs.Common.{◌≤◌, map, sym, subst}
 use Rattle.std.proofs.lemmas.List.{length-map}
-use Rattle.bz_elab.specs.Flats.{site_of}
+use Rattle.bz_flat.specs.Flats.{site_of}
 use Rattle.bz_net.specs.Nodes.{comps_of, heres_of}
 use Rattle.bz_net.proofs.Nodes.{comp_read, bits_read}
 use Rattle.bz_net.proofs.Telling.{lowest_read, room_read, few_read}

@@ -1,5 +1,5 @@
 use Rattle.std.proofs.Common.{map}
-use Rattle.bz_elab.specs.Flats.{site_of}
+use Rattle.bz_flat.specs.Flats.{site_of}
 use Rattle.bz_net.specs.Keeping.{state_of, MarksAll}
 use Rattle.bz_net.specs.Nodes.{comps_of}
 use Rattle.bz_net.proofs.here.mark_all.Given as goal

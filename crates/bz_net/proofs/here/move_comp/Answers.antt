@@ -2,8 +2,8 @@ use Rattle.std.proofs.Common.{◌≡◌, ◌-◌, ℕ, List, map, set, true, fal
 use Rattle.std.proofs.lemmas.Grind.{common_steps}
 use Rattle.bz_model.specs.Heads.{Component}
 use Rattle.bz_model.specs.Nets.{chan_at}
-use Rattle.bz_elab.specs.Flats.{site_of}
-use Rattle.bz_elab.specs.Wires.{ends_in}
+use Rattle.bz_flat.specs.Flats.{site_of}
+use Rattle.bz_flat.specs.Wires.{ends_in}
 use Rattle.bz_net.specs.Nodes.{comps_of, heres_of}
 use Rattle.bz_net.specs.Told.{Turned, Retold}
 use Rattle.bz_net.proofs.Nodes.{comp_read, comps_changed, heres_stay}

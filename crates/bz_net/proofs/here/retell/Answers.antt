@@ -1,5 +1,5 @@
 use Rattle.std.proofs.Common.{Bool, map, subst}
-use Rattle.bz_elab.specs.Flats.{site_of}
+use Rattle.bz_flat.specs.Flats.{site_of}
 use Rattle.bz_net.specs.Told.{PutEnd, is_here}
 use Rattle.std.proofs.Common.{true, false}
 use Rattle.bz_net.proofs.Telling.{retold, still_bit}

@@ -1,5 +1,5 @@
 use Rattle.std.proofs.Common.{map}
-use Rattle.bz_elab.specs.Flats.{site_of}
+use Rattle.bz_flat.specs.Flats.{site_of}
 use Rattle.bz_net.specs.Nodes.{comps_of}
 use Rattle.bz_net.proofs.Nodes.{comp_read, fires}
 use Rattle.bz_net.proofs.moves.can_fire.Goals as goal

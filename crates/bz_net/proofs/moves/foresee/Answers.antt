@@ -1,6 +1,6 @@
 use Rattle.std.proofs.Common.{map, sym, ◌∙◌}
 use Rattle.std.proofs.lemmas.Bool.{false≢true}
-use Rattle.bz_elab.specs.Flats.{site_of}
+use Rattle.bz_flat.specs.Flats.{site_of}
 use Rattle.bz_net.specs.Nodes.{comps_of}
 use Rattle.bz_net.proofs.Nodes.{comp_read}
 use Rattle.bz_net.proofs.Foreseeing.{foreseen, not_foreseen}

@@ -1,6 +1,6 @@
 use Rattle.std.proofs.Common.{map, sym, ap, ◌∷◌, [], ◌∙◌, arith}
 use Rattle.std.proofs.lemmas.List.{map-append}
-use Rattle.bz_elab.specs.Flats.{site_of}
+use Rattle.bz_flat.specs.Flats.{site_of}
 use Rattle.bz_net.proofs.Opening.{chans_here, row_here, site_here, start_comp, started_more}
 use Rattle.bz_net.specs.Nodes.{comp_of, here_of, comps_of, heres_of}
 use Rattle.bz_net.proofs.Cores.{blank_more}

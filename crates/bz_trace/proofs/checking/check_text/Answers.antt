@@ -1,5 +1,5 @@
 use Rattle.std.proofs.Common.{refl, subst, inl}
-use Rattle.bz_elab.specs.Wires.{WellWired}
+use Rattle.bz_flat.specs.Wires.{WellWired}
 use Rattle.bz_trace.proofs.Along.{counts_run, judged, judges}
 use Rattle.bz_trace.proofs.checking.check_text.Goals as goal
 

@@ -1,7 +1,7 @@
 use Rattle.std.proofs.Common.{◌≡◌, ◌≤◌, None, length, map, sym, ap, subst, arith}
 use Rattle.bz_model.specs.Nets.{Wiring}
 use Rattle.bz_model.specs.Hosts.{HostStep, refusal_at, host_after}
-use Rattle.bz_elab.specs.Flats.{site_of}
+use Rattle.bz_flat.specs.Flats.{site_of}
 use Rattle.bz_net.specs.Core.{Standing}
 use Rattle.bz_net.specs.Keeping.{CommandedAt, phase_in, state_of}
 use Rattle.bz_net.specs.Told.{Retold}

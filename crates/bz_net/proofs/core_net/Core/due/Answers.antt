@@ -1,6 +1,6 @@
 use Rattle.std.proofs.Common.{map, subst}
 use Rattle.bz_model.specs.Nets.{Wiring}
-use Rattle.bz_elab.specs.Flats.{site_of}
+use Rattle.bz_flat.specs.Flats.{site_of}
 use Rattle.bz_net.proofs.Cores.{core_placed}
 use Rattle.bz_net.specs.Core.{Standing}
 use Rattle.bz_net.specs.Due.{TellsDue}

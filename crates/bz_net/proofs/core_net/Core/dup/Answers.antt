@@ -1,7 +1,7 @@
 use Rattle.std.proofs.Common.{length, map, sym, ap, ◌∙◌}
 use Rattle.std.proofs.lemmas.List.{length-map}
 use Rattle.bz_model.specs.Nets.{Wiring}
-use Rattle.bz_elab.specs.Flats.{site_of}
+use Rattle.bz_flat.specs.Flats.{site_of}
 use Rattle.bz_net.specs.Keeping.{MarksAll, state_of}
 use Rattle.bz_net.proofs.Cores.{core_same, core_sighted}
 use Rattle.bz_net.proofs.Opening.{marks_ready}

@@ -1,9 +1,9 @@
 use Rattle.std.proofs.Common.{◌≤◌, ◌-◌, true, false, length, map, sym, ap, subst, arith}
 use Rattle.std.proofs.lemmas.List.{get_or_read}
-use Rattle.bz_elab.specs.declared.flat.Ends.{Ends}
+use Rattle.bz_flat.specs.declared.flat.Ends.{Ends}
 use Rattle.bz_model.specs.Nets.{Wiring}
-use Rattle.bz_elab.specs.Wires.{no_ends}
-use Rattle.bz_elab.specs.Flats.{site_of}
+use Rattle.bz_flat.specs.Wires.{no_ends}
+use Rattle.bz_flat.specs.Flats.{site_of}
 use Rattle.bz_net.specs.Core.{Standing}
 use Rattle.bz_net.specs.Ends.{StandsAt}
 use Rattle.bz_net.proofs.Stands.{stands_at}

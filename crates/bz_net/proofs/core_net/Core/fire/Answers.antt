@@ -1,7 +1,7 @@
 use Rattle.std.proofs.Common.{◌<◌, ◌≤◌, ℕ, length, map, sym, subst}
 use Rattle.bz_model.specs.Nets.{Wiring, Step}
-use Rattle.bz_elab.specs.Flats.{site_of}
-use Rattle.bz_elab.specs.Wires.{ends_in}
+use Rattle.bz_flat.specs.Flats.{site_of}
+use Rattle.bz_flat.specs.Wires.{ends_in}
 use Rattle.bz_net.specs.Core.{Standing}
 use Rattle.bz_net.specs.Keeping.{RefreshedEnds, state_of}
 use Rattle.bz_net.specs.Told.{Turned}

@@ -2,7 +2,7 @@ use Rattle.std.proofs.Common.{map, subst}
 use Rattle.std.specs.Prelude.{MatchOption}
 use Rattle.bz_model.specs.Nets.{Wiring}
 use Rattle.bz_model.specs.Runs.{CanStep, IsNext, Rest}
-use Rattle.bz_elab.specs.Flats.{site_of}
+use Rattle.bz_flat.specs.Flats.{site_of}
 use Rattle.bz_net.specs.Core.{Standing}
 use Rattle.bz_net.specs.Keeping.{state_of}
 use Rattle.bz_net.proofs.Readiness.{next_ready}

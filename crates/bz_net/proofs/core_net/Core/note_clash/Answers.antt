@@ -1,9 +1,9 @@
 use Rattle.std.proofs.Common.{◌≡◌, ◌-◌, true, length, map, sym, ap, subst, arith, ◌∙◌}
 use Rattle.std.proofs.lemmas.List.{get_or_read, length-map}
-use Rattle.bz_elab.specs.declared.flat.Ends.{Ends}
-use Rattle.bz_elab.specs.Wires.{end_at, ends_in, no_ends, at_side}
+use Rattle.bz_flat.specs.declared.flat.Ends.{Ends}
+use Rattle.bz_flat.specs.Wires.{end_at, ends_in, no_ends, at_side}
 use Rattle.bz_model.specs.Nets.{Wiring}
-use Rattle.bz_elab.specs.Flats.{site_of}
+use Rattle.bz_flat.specs.Flats.{site_of}
 use Rattle.bz_net.specs.Core.{Standing}
 use Rattle.bz_net.specs.Noted.{NotedEnd, NotedAt}
 use Rattle.bz_net.proofs.Cores.{core_reads}

@@ -3,7 +3,7 @@ use Rattle.std.proofs.lemmas.List.{length-map}
 use Rattle.std.proofs.lemmas.Grind.{common_steps}
 use Rattle.bz_model.specs.Nets.{Wiring, opening}
 use Rattle.bz_model.specs.declared.channel.Phase.TheVariants.{Idle}
-use Rattle.bz_elab.specs.Flats.{site_of, wiring_of}
+use Rattle.bz_flat.specs.Flats.{site_of, wiring_of}
 use Rattle.bz_net.specs.Keeping.{state_of, Started, MarksAll}
 use Rattle.bz_net.specs.Nodes.{comps_of, heres_of}
 use Rattle.bz_net.specs.Told.{AreBlank}

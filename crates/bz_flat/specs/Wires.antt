@@ -5,7 +5,7 @@ use Rattle.bz_model.specs.Limits.{max_width}
 use Rattle.bz_model.specs.Rows.{MeetsRow}
 use Rattle.bz_model.specs.Nets.{Site, Wiring, IsPort, site_at, chan_at, passive_at, chan_in}
 use Rattle.bz_model.specs.Hosts.{port_is_passive}
-use Rattle.bz_elab.specs.declared.flat.Ends.{Ends}
+use Rattle.bz_flat.specs.declared.flat.Ends.{Ends}
 
 -- port p of component c holds the end of channel k of this sense, passive where `side` is true
 pub record IsEnd (sites : List Site) (k : ℕ) (side : Bool) (c p : ℕ) : Type 0 where

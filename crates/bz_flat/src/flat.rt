@@ -3,8 +3,8 @@
 ghost use Rattle.std.specs.Prelude.{◌≡◌, ◌<◌, ◌^◌, length, map, IfOk, IfErr};
 ghost use Rattle.std.specs.Option.{option_copied, option_map};
 ghost use Rattle.bz_model.specs.Names.{NamesDiffer, external, port_number, channel, numbered};
-ghost use Rattle.bz_elab.specs.Flats.{site_of, wiring_of};
-ghost use Rattle.bz_elab.specs.Wires.{WellWired, EndsOf};
+ghost use Rattle.bz_flat.specs.Flats.{site_of, wiring_of};
+ghost use Rattle.bz_flat.specs.Wires.{WellWired, EndsOf};
 
 use crate::error::ElabError;
 use bz_arena::{Arena, Id};
@@ -61,8 +61,8 @@ impl Drop for Flat {
 }
 
 impl Model for Flat {
-    ghost use Rattle.bz_elab.specs.Flats.{Plan, wiring_of};
-    ghost use Rattle.bz_elab.specs.Wires.{WellWired, EndsOf};
+    ghost use Rattle.bz_flat.specs.Flats.{Plan, wiring_of};
+    ghost use Rattle.bz_flat.specs.Wires.{WellWired, EndsOf};
 
     ghost Value = { Plan };
 
@@ -72,8 +72,8 @@ impl Model for Flat {
 }
 
 impl Flat {
-    // The net of these pieces.
-    pub(crate) fn of(pieces: Pieces) -> Flat
+    /// The net of these pieces.
+    pub fn of(pieces: Pieces) -> Flat
         requires wired { WellWired (wiring_of pieces.chans pieces.comps pieces.ports.items) }
         requires ends_of { EndsOf (wiring_of pieces.chans pieces.comps pieces.ports.items) pieces.ends.items }
         ensures wiring { result.wiring ≡ wiring_of pieces.chans pieces.comps pieces.ports.items }

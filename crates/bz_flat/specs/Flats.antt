@@ -4,8 +4,8 @@ use Rattle.bz_model.specs.declared.channel.Chan.{Chan}
 use Rattle.bz_model.specs.declared.names.Port.{Port}
 use Rattle.bz_model.specs.Names.{external}
 use Rattle.bz_model.specs.Nets.{Site, Wiring}
-use Rattle.bz_elab.specs.declared.flat.FlatComp.{FlatComp}
-use Rattle.bz_elab.specs.declared.flat.Ends.{Ends}
+use Rattle.bz_flat.specs.declared.flat.FlatComp.{FlatComp}
+use Rattle.bz_flat.specs.declared.flat.Ends.{Ends}
 
 -- the wiring, and the components with their ports at the two ends of each channel
 pub record Plan : Type 0 where

@@ -1,7 +1,7 @@
 use Rattle.std.proofs.Common.{◌≡◌, ◌∙◌, ap, arith}
-use Rattle.bz_elab.specs.Flats.{site_of}
+use Rattle.bz_flat.specs.Flats.{site_of}
 use Rattle.bz_model.proofs.Copies.{copied_more}
-use Rattle.bz_elab.proofs.flat.dup_comps.Goals as goal
+use Rattle.bz_flat.proofs.flat.dup_comps.Goals as goal
 
 pub loop-place-preserved : goal.loop-place-preserved
 loop-place-preserved c =

@@ -1,0 +1,8 @@
+//! The flat net of a part: its channels, components, external ports and the ends of each channel; or why there is none.
+#![tactic(auto)]
+
+mod error;
+mod flat;
+
+pub use error::ElabError;
+pub use flat::{Ends, Flat, FlatComp, Pieces, dup_comps};
