@@ -11,7 +11,7 @@ ghost use Rattle.bz_chart.specs.Pieces.{line_count};
 use crate::fault::ChartFault;
 use crate::range::{LineRange, piece_of};
 use bz_commands::{Fault, flat_of, read_input, split_trace};
-use bz_elab::Flat;
+use bz_flat::Flat;
 use bz_lifelines::{Origins, draw};
 use bz_outline::Circuit;
 use bz_trace::{Part, Verdict, WriteFault, check, put_parts};

@@ -5,12 +5,12 @@ ghost use Rattle.std.specs.List.{flat_map};
 ghost use Rattle.bz_model.specs.Names.{external};
 ghost use Rattle.bz_model.specs.Nets.{chan_in};
 ghost use Rattle.bz_model.specs.Traces.{value_text};
-ghost use Rattle.bz_elab.specs.Flats.{site_of};
+ghost use Rattle.bz_flat.specs.Flats.{site_of};
 ghost use Rattle.bz_lines.specs.Writing.{Writes};
 ghost use Rattle.bz_commands.specs.Listing.{sense_text, carried_text, port_line, ports_text, spaced, comp_head, comp_line, lines, head_text, counts_text, comps_text, list_text};
 
 use bz_arena::{Arena, Id};
-use bz_elab::{Flat, FlatComp};
+use bz_flat::{Flat, FlatComp};
 use bz_kind_table::kind_word;
 use bz_model::{Chan, ChanKind, Kind, Port, Value};
 use bz_trace::{Part, WriteFault, put_parts};

@@ -9,7 +9,8 @@ ghost use Rattle.bz_commands.specs.Opening.{Denotes, NamesParts, Opens, RefusesN
 
 use crate::fault::Fault;
 use bz_breeze::{BreezeError, Part, Parts};
-use bz_elab::{ElabError, Flat, elaborate};
+use bz_elab::elaborate;
+use bz_flat::{ElabError, Flat};
 use bz_net::Net;
 use bz_sexpr::SexprError;
 use std::alloc::Global;

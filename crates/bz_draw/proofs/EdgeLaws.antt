@@ -6,8 +6,8 @@ use Rattle.std.proofs.lemmas.List.Elements.{All-nil, All-cons, Contains-append_l
 use Rattle.std.proofs.lemmas.Bool.Decides.{eqb_tells}
 use Rattle.bz_model.specs.Names.{External}
 use Rattle.bz_model.specs.Nets.{Wiring}
-use Rattle.bz_elab.specs.declared.flat.Ends.{Ends}
-use Rattle.bz_elab.specs.Wires.{EndsOf, WellWired, ends_in, no_ends}
+use Rattle.bz_flat.specs.declared.flat.Ends.{Ends}
+use Rattle.bz_flat.specs.Wires.{EndsOf, WellWired, ends_in, no_ends}
 use Rattle.bz_look.specs.Listing.{host_holds}
 use Rattle.bz_draw.specs.declared.drawing.Tip.{Tip}
 use Rattle.bz_draw.specs.declared.drawing.Tip.TheVariants.{Port, Comp, Folded}

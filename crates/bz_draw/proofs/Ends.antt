@@ -3,8 +3,8 @@ use Rattle.std.proofs.Common.{◌≡◌, ℕ, zero, suc, ◌<◌, ◌≤◌, Boo
 use Rattle.bz_model.specs.Names.{External}
 use Rattle.bz_model.specs.Nets.{Wiring, passive_at, chan_at}
 use Rattle.bz_model.specs.Hosts.{port_is_passive}
-use Rattle.bz_elab.specs.declared.flat.Ends.{Ends}
-use Rattle.bz_elab.specs.Wires.{IsEnd, EndsOf, WellWired, end_at, end_port_at}
+use Rattle.bz_flat.specs.declared.flat.Ends.{Ends}
+use Rattle.bz_flat.specs.Wires.{IsEnd, EndsOf, WellWired, end_at, end_port_at}
 use Rattle.bz_look.specs.Listing.{host_holds}
 use Rattle.bz_draw.specs.declared.drawing.Tip.{Tip}
 use Rattle.bz_draw.specs.declared.drawing.Tip.TheVariants.{Port}

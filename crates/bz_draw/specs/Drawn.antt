@@ -4,7 +4,7 @@ use Rattle.std.specs.List.Sorted.{IsPermutation}
 use Rattle.std.specs.List.{All, Contains}
 use Rattle.bz_model.specs.Nets.{Wiring}
 use Rattle.bz_model.specs.Hosts.{port_is_passive}
-use Rattle.bz_elab.specs.Wires.{IsEnd}
+use Rattle.bz_flat.specs.Wires.{IsEnd}
 use Rattle.bz_draw.specs.declared.drawing.Tip.{Tip}
 use Rattle.bz_draw.specs.declared.drawing.Tip.TheVariants.{Port, Comp, Folded}
 use Rattle.bz_draw.specs.declared.drawing.Edge.{Edge}

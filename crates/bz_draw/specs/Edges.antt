@@ -2,7 +2,7 @@
 use Rattle.std.specs.Prelude.{ℕ, suc, Bool, true, false, ◌==◌, Option, None, Some, List, [], ◌∷◌, if◌then◌else◌}
 use Rattle.std.specs.List.{cons_option}
 use Rattle.bz_model.specs.Names.{External}
-use Rattle.bz_elab.specs.declared.flat.Ends.{Ends}
+use Rattle.bz_flat.specs.declared.flat.Ends.{Ends}
 use Rattle.bz_look.specs.Listing.{host_holds}
 use Rattle.bz_draw.specs.declared.drawing.Tip.{Tip}
 use Rattle.bz_draw.specs.declared.drawing.Tip.TheVariants.{Port, Comp, Folded}

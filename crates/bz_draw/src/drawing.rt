@@ -1,7 +1,7 @@
 //! What is drawn of a net.
 
 ghost use Rattle.std.specs.Prelude.{◌≡◌, ◌+◌, ◌<◌, ◌≤◌, length, map, is_none, IfOk};
-ghost use Rattle.bz_elab.specs.Wires.{EndsOf, WellWired};
+ghost use Rattle.bz_flat.specs.Wires.{EndsOf, WellWired};
 ghost use Rattle.bz_look.specs.Surveys.{wiring_in};
 ghost use Rattle.bz_draw.specs.Drawn.{AreEdges, AreNodes, box_of};
 

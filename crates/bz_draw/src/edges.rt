@@ -2,13 +2,13 @@
 
 ghost use Rattle.std.specs.Prelude.{◌≡◌, ◌+◌, ◌<◌, ◌≤◌, ◌^◌, length, map, IfOk};
 ghost use Rattle.bz_model.specs.Names.{external};
-ghost use Rattle.bz_elab.specs.Wires.{EndsOf, WellWired};
+ghost use Rattle.bz_flat.specs.Wires.{EndsOf, WellWired};
 ghost use Rattle.bz_look.specs.Surveys.{wiring_in};
 ghost use Rattle.bz_draw.specs.Drawn.{AreEdges, box_of, drawn_at};
 ghost use Rattle.bz_draw.specs.Edges.{edge_at, edges_from, is_within, tip_at};
 
 use crate::drawing::{Edge, Tip};
-use bz_elab::Ends;
+use bz_flat::Ends;
 use bz_look::{Survey, host_holds};
 use bz_model::Port;
 use std::alloc::{AllocError, Global};

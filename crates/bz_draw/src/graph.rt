@@ -3,7 +3,7 @@
 use crate::drawing::{Drawing, Edge, Tip};
 use crate::labels::put_name;
 use crate::nodes::{is_wide, put_count, put_nodes, put_steps, row_name};
-use bz_elab::FlatComp;
+use bz_flat::FlatComp;
 use bz_lines::{Part, WriteFault, put_parts};
 use bz_look::Survey;
 use bz_model::{Chan, ChanKind, Value, node_of};

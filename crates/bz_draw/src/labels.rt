@@ -2,7 +2,7 @@
 
 use bz_arena::Arena;
 use bz_breeze::{Component, Part as PartRecord};
-use bz_elab::FlatComp;
+use bz_flat::FlatComp;
 use bz_lines::{Part, WriteFault, put_parts};
 use bz_model::{Chan, Kind, Param, Value, low_bits, node_of};
 use bz_places::Place;

@@ -2,7 +2,7 @@
 
 use crate::drawing::Drawing;
 use crate::labels::{put_detail, put_name, written_at};
-use bz_elab::FlatComp;
+use bz_flat::FlatComp;
 use bz_kind_table::{PortRow, kind_word, port_table};
 use bz_lines::{Part, WriteFault, put_parts};
 use bz_look::Survey;

@@ -11,7 +11,7 @@ use crate::seat::Head;
 use crate::site::{Netlist, Site};
 use crate::source::put_place;
 use bz_breeze::Parts;
-use bz_elab::ElabError;
+use bz_flat::ElabError;
 use bz_lines::Part;
 use bz_model::Value;
 use bz_notes::{Draft, Nearest};

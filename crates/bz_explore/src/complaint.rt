@@ -5,7 +5,7 @@ use crate::naming::{
 };
 use crate::text::{add, add_bytes, add_count};
 use bz_course::Course;
-use bz_elab::{Flat, FlatComp};
+use bz_flat::{Flat, FlatComp};
 use bz_lines::Part;
 use bz_model::{ChanKind, HostCmd, NetError, Value, Verb};
 use bz_net::Net;

@@ -7,7 +7,7 @@ use crate::naming::{
 use crate::origins::Origins;
 use crate::text::{add, add_bytes, add_count, fill};
 use bz_course::{Course, HostOffer, Offer, answered_words, offers_of};
-use bz_elab::{Flat, FlatComp};
+use bz_flat::{Flat, FlatComp};
 use bz_lines::Part;
 use bz_model::{ChanKind, Entry, Kind, Move, Phase, Value, Verb};
 use bz_net::Net;

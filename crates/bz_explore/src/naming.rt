@@ -2,7 +2,7 @@
 
 use crate::text::{add, add_bytes};
 use bz_course::Course;
-use bz_elab::{Flat, FlatComp};
+use bz_flat::{Flat, FlatComp};
 use bz_kind_table::{kind_word, port_table};
 use bz_lines::Part;
 use bz_model::{Chan, ChanKind, Move, Phase, Reply, Value, Verb};

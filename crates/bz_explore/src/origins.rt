@@ -3,7 +3,7 @@
 use crate::text::{add, add_bytes};
 use bz_breeze::Parts;
 use bz_commands::Fault;
-use bz_elab::FlatComp;
+use bz_flat::FlatComp;
 use bz_lines::Part;
 use bz_places::{PartLines, Place, Places, comp_standing, lines_of, put_comp, put_path};
 use std::alloc::{AllocError, Global};

@@ -5,7 +5,7 @@ use crate::looking::add_host_word;
 use crate::naming::{add_comp, add_phase, chan_at, phase_of, port_name, port_of};
 use crate::text::{add, add_bytes, fill};
 use bz_course::{Course, busy_chans};
-use bz_elab::{Ends, Flat, FlatComp};
+use bz_flat::{Ends, Flat, FlatComp};
 use bz_kind_table::is_passive;
 use bz_lines::Part;
 use bz_model::{Kind, Move, Phase, Value, Verb};

@@ -1,7 +1,7 @@
 //! Where the components of a net stand in its text.
 
 use bz_breeze::Parts;
-use bz_elab::FlatComp;
+use bz_flat::FlatComp;
 use bz_lines::NameForm;
 use bz_places::{PartLines, Places, comp_standing, lines_of, put_comp};
 use std::alloc::{AllocError, Global};

@@ -8,9 +8,9 @@ use Rattle.bz_model.specs.Nets.{Site, chan_in}
 use Rattle.bz_model.specs.Traces.{name_form}
 use Rattle.bz_breeze.specs.declared.part.Part.{Part}
 use Rattle.bz_elab.specs.Paths.{component}
-use Rattle.bz_elab.specs.Flats.{site_of}
-use Rattle.bz_elab.specs.declared.flat.Ends.{Ends}
-use Rattle.bz_elab.specs.Wires.{ends_in}
+use Rattle.bz_flat.specs.Flats.{site_of}
+use Rattle.bz_flat.specs.declared.flat.Ends.{Ends}
+use Rattle.bz_flat.specs.Wires.{ends_in}
 use Rattle.bz_places.specs.Found.{Spot}
 use Rattle.bz_places.specs.Texts.{at_text, placed_comp_text}
 use Rattle.bz_places.specs.Views.{chan_standing, comp_standing}

@@ -6,8 +6,8 @@ use Rattle.bz_breeze.specs.Records.{part_record}
 use Rattle.bz_breeze.specs.Parts.{parts}
 use Rattle.bz_model.specs.Nets.{Wiring}
 use Rattle.bz_elab.specs.Refusals.{Elaborated}
-use Rattle.bz_elab.specs.Flats.{wiring_of}
-use Rattle.bz_elab.specs.Wires.{WellWired, EndsOf}
+use Rattle.bz_flat.specs.Flats.{wiring_of}
+use Rattle.bz_flat.specs.Wires.{WellWired, EndsOf}
 use Rattle.bz_places.specs.Found.{Locates}
 use Rattle.bz_places.specs.Lines.{lines_in}
 use Rattle.bz_places.specs.Views.{part_lines_of}

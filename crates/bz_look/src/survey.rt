@@ -3,7 +3,7 @@
 ghost use Rattle.std.specs.Prelude.{◌≤◌, length};
 
 use bz_breeze::Parts;
-use bz_elab::Pieces;
+use bz_flat::Pieces;
 use bz_places::{PartLines, Places};
 
 /// The net of a part, and where everything in it stands.

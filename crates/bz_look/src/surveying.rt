@@ -6,7 +6,8 @@ ghost use Rattle.bz_look.specs.Surveys.{IsSurvey};
 
 use crate::survey::Survey;
 use bz_commands::{Fault, in_part};
-use bz_elab::{ElabError, elaborate};
+use bz_elab::elaborate;
+use bz_flat::ElabError;
 use bz_places::{Places, lines_of};
 use std::alloc::Global;
 

@@ -1,10 +1,8 @@
 //! Components that are played by tables. What is called here promises nothing, so a table is proved at once, whatever its length.
 
-use bz_kinds::{
-    Comp, KindError, PortRow, apply, dup, enabled, is_passive, kind_of, kinds_are, moves, next,
-    port_table, sizes_fit, start, widths_fit,
-};
-use bz_model::{Chan, ChanKind, Kind, Move, Param, Phase, Value};
+use bz_kind_table::{PortRow, is_passive, kind_of, kinds_are, port_table, sizes_fit, widths_fit};
+use bz_kinds::{Comp, apply, dup, enabled, moves, next, start};
+use bz_model::{Chan, ChanKind, Kind, KindError, Move, Param, Phase, Value};
 use std::alloc::{AllocError, Global};
 use std::process::Abort;
 use std::test::Fail;

@@ -2,7 +2,7 @@
 
 ghost use Rattle.std.specs.Prelude.{◌<◌, ◌≤◌};
 
-use bz_elab::Flat;
+use bz_flat::Flat;
 use bz_net::{Net, Play};
 use std::alloc::Global;
 use std::test::Fail;

@@ -1,6 +1,6 @@
 //! What a flat net tells of its channels, components and ends.
 
-use bz_elab::Flat;
+use bz_flat::Flat;
 use bz_playing::flat_of;
 use bz_playing::netlists::TWO;
 use std::alloc::Global;

@@ -1,6 +1,6 @@
 use Rattle.std.proofs.Common.{map, take}
 use Rattle.std.specs.Io.KnownBytes.{Appends}
-use Rattle.bz_elab.specs.Flats.{site_of}
+use Rattle.bz_flat.specs.Flats.{site_of}
 use Rattle.bz_places.specs.Views.{spot_of}
 use Rattle.bz_commands.specs.Listing.{lines}
 use Rattle.bz_look.specs.Listing.{chan_line}

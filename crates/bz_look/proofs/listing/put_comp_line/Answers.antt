@@ -1,7 +1,7 @@
 use Rattle.std.proofs.Common.{sym, subst, rules, List, ℕ, ◌+◌}
 use Rattle.std.specs.Io.KnownBytes.{Appends}
 use Rattle.bz_lines.specs.Writing.{Writes}
-use Rattle.bz_elab.specs.Flats.{site_of}
+use Rattle.bz_flat.specs.Flats.{site_of}
 use Rattle.bz_places.specs.Views.{spot_of}
 use Rattle.bz_look.proofs.Lines.{comp_line_is, comp_line_none}
 use Rattle.bz_look.proofs.listing.put_comp_line.Goals as goal

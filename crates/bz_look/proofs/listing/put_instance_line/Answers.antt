@@ -4,8 +4,8 @@ use Rattle.std.proofs.lemmas.List.{length-map}
 use Rattle.std.proofs.lemmas.Result.{err_from_is_err_and}
 use Rattle.bz_model.specs.Names.{external}
 use Rattle.bz_model.specs.Traces.{name_form}
-use Rattle.bz_elab.specs.Flats.{site_of}
-use Rattle.bz_elab.specs.Wires.{ends_in}
+use Rattle.bz_flat.specs.Flats.{site_of}
+use Rattle.bz_flat.specs.Wires.{ends_in}
 use Rattle.bz_lines.proofs.Sent.{stops_before, writes_after}
 use Rattle.bz_places.specs.Texts.{at_text, placed_comp_text}
 use Rattle.bz_places.specs.Views.{chan_standing, comp_standing, spot_of, standing_of}
