@@ -1,0 +1,220 @@
+//! The options of the commands, and their words.
+
+use clap::builder::ValueParser;
+use clap::{Arg, ArgAction};
+use std::alloc::{AllocError, Global};
+
+/// The longest journal that may be asked for, in entries.
+pub const MAX_JOURNAL: u32 = 16_777_216;
+
+/// The most workers of a pool.
+pub const MAX_WORKERS: u8 = 8;
+
+/// How an option stands on the command line.
+#[derive(Clone, Copy)]
+enum Name {
+    /// By a long name, as `--netlist`.
+    Long(&'static str),
+    /// By a long name and a letter, as `--part` and `-p`.
+    Short(&'static str, char),
+    /// By its place alone, and any number of times.
+    Words,
+}
+
+/// An option of a command, or its words.
+#[derive(Clone, Copy)]
+pub(crate) struct Opt {
+    /// What the program asks for it by.
+    id: &'static str,
+    name: Name,
+    /// What the help calls its value: nothing for a flag.
+    value: &'static [&'static str],
+    help: &'static str,
+    action: ArgAction,
+    parser: ValueParser<'static>,
+    /// Its value where it is not given, if there is one.
+    default: &'static [&'static str],
+    /// The options in whose place it must stand.
+    unless: &'static [&'static str],
+    /// The options that it can't stand beside.
+    conflicts: &'static [&'static str],
+    takes_hyphens: bool,
+    is_required: bool,
+    is_global: bool,
+}
+
+/// An option with a text.
+const TEXT: Opt = Opt {
+    id: "",
+    name: Name::Words,
+    value: &["FILE"],
+    help: "",
+    action: ArgAction::Set,
+    parser: ValueParser::String,
+    default: &[],
+    unless: &[],
+    conflicts: &[],
+    takes_hyphens: true,
+    is_required: false,
+    is_global: false,
+};
+
+/// An option with a number.
+const NUMBER: Opt = Opt {
+    value: &["N"],
+    takes_hyphens: false,
+    ..TEXT
+};
+
+/// An option with no value.
+const FLAG: Opt = Opt {
+    value: &[],
+    action: ArgAction::SetTrue,
+    parser: ValueParser::Bool,
+    takes_hyphens: false,
+    ..TEXT
+};
+
+pub(crate) const EXPLAIN: Opt = Opt {
+    id: "explain",
+    name: Name::Long("explain"),
+    help: "Tells behind a fault's line where it stands, what was found and what was wanted",
+    is_global: true,
+    ..FLAG
+};
+
+pub(crate) const PART: Opt = Opt {
+    id: "part",
+    name: Name::Short("part", 'p'),
+    value: &["P"],
+    help: "The part whose net is opened",
+    unless: &["part-form"],
+    ..TEXT
+};
+
+pub(crate) const PART_FORM: Opt = Opt {
+    id: "part-form",
+    name: Name::Long("part-form"),
+    value: &["F"],
+    help: "The same part, its name in name form: %ff is the byte 255",
+    conflicts: &["part"],
+    ..TEXT
+};
+
+pub(crate) const NETLIST: Opt = Opt {
+    id: "netlist",
+    name: Name::Long("netlist"),
+    help: "Reads FILE in place of standard input",
+    ..TEXT
+};
+
+pub(crate) const REQUIRED_NETLIST: Opt = Opt {
+    is_required: true,
+    ..NETLIST
+};
+
+pub(crate) const WORD_FILE: Opt = Opt {
+    id: "word-file",
+    name: Name::Long("words"),
+    help: "Takes the words from FILE: between blanks and lines, without what follows a #",
+    conflicts: &["words"],
+    ..TEXT
+};
+
+pub(crate) const PATHS: Opt = Opt {
+    id: "paths",
+    name: Name::Long("paths"),
+    help: "Tells of each channel, instance and component where it stands in the text",
+    ..FLAG
+};
+
+pub(crate) const DEPTH: Opt = Opt {
+    id: "depth",
+    name: Name::Long("depth"),
+    help: "Draws instances within N others as boxes; else as deep as at most 300 nodes allow",
+    parser: ValueParser::Signed(0, 4_294_967_295),
+    ..NUMBER
+};
+
+pub(crate) const JOURNAL: Opt = Opt {
+    id: "journal",
+    name: Name::Long("journal"),
+    help: "The most entries of the journal",
+    parser: ValueParser::Signed(1, MAX_JOURNAL as i64),
+    default: &["1000000"],
+    ..NUMBER
+};
+
+pub(crate) const WORKERS: Opt = Opt {
+    id: "workers",
+    name: Name::Long("workers"),
+    help: "How many workers fire, from 1 to 8",
+    parser: ValueParser::Signed(1, MAX_WORKERS as i64),
+    default: &["2"],
+    ..NUMBER
+};
+
+pub(crate) const FUEL: Opt = Opt {
+    id: "fuel",
+    name: Name::Long("fuel"),
+    help: "The most firings of all workers together",
+    parser: ValueParser::Unsigned(0, u64::MAX),
+    default: &["1000000"],
+    ..NUMBER
+};
+
+pub(crate) const FROM: Opt = Opt {
+    id: "from",
+    name: Name::Long("from"),
+    value: &["L"],
+    help: "The first line of the trace that is drawn; line 1 names its version",
+    parser: ValueParser::Unsigned(0, u64::MAX),
+    ..NUMBER
+};
+
+pub(crate) const TO: Opt = Opt {
+    id: "to",
+    name: Name::Long("to"),
+    help: "The last line that is drawn",
+    ..FROM
+};
+
+pub(crate) const WORDS: Opt = Opt {
+    id: "words",
+    name: Name::Words,
+    value: &["WORDS"],
+    help: "offer:P[:V], collect:P, accept:P, answer:P[:V], watch:P, run:N",
+    action: ArgAction::Append,
+    takes_hyphens: false,
+    ..TEXT
+};
+
+pub(crate) const SESSIONS: Opt = Opt {
+    help: "offer:P[:V], collect:P, accept:P, answer:P[:V], watch:P; a / begins the next session",
+    ..WORDS
+};
+
+// An argument that stands where the option says.
+fn begun<'a>(alloc: Global, option: &Opt) -> Arg<'a> {
+    let arg = Arg::new(alloc, option.id);
+    match option.name {
+        Name::Long(long) => arg.long(long),
+        Name::Short(long, short) => arg.long(long).short(short),
+        Name::Words => arg.num_args(0..),
+    }
+}
+
+/// The argument that the parser of the command line takes for an option.
+pub(crate) fn arg_of<'a>(alloc: Global, option: &Opt) -> Result<Arg<'a>, AllocError> {
+    begun(alloc, option)
+        .value_names(option.value)
+        .help(option.help)
+        .action(option.action)
+        .value_parser(option.parser)
+        .default_values(option.default)
+        .allow_hyphen_values(option.takes_hyphens)
+        .required(option.is_required)
+        .global(option.is_global)
+        .required_unless_present_any(option.unless)?
+        .conflicts_with_all(option.conflicts)
+}
