@@ -1,14 +1,13 @@
 //! The program with its commands.
 
 use crate::help::{
-    CHART_USAGE, CHECK_STATUSES, CHECK_USAGE, DRAW_USAGE, EXPLORE_LINES, EXPLORE_USAGE, LIST_USAGE,
-    PARTS_USAGE, POOL_USAGE, POOL_WORDS, RUN_USAGE, RUN_WORDS, VERSION,
+    ALL_COMMANDS, CHART, CHECK, DRAW, EXPLORE, LIST, PARTS, POOL, PROGRAM, RUN, VERSION,
 };
 use crate::options::{
     DEPTH, EXPLAIN, FROM, FUEL, JOURNAL, NETLIST, Opt, PART, PART_FORM, PATHS, REQUIRED_NETLIST,
     SESSIONS, TO, WORD_FILE, WORDS, WORKERS, arg_of,
 };
-use clap::{Arg, Command};
+use clap::{Arg, ArgGroup, Command};
 use std::alloc::{AllocError, Global};
 
 /// A command of the program.
@@ -16,70 +15,75 @@ use std::alloc::{AllocError, Global};
 struct Sub {
     name: &'static str,
     about: &'static str,
-    usage: &'static str,
-    /// What stands behind the options in its help, if anything.
+    /// What stands behind the options in its help.
     after: &'static str,
+    /// Options of which one must be given, and no other with it.
+    one_of: &'static [&'static str],
     options: &'static [Opt],
 }
 
+/// The options that name a part.
+const PARTS_NAMED: &[&str] = &["part", "part-form"];
+
+/// The commands, in the order of the help.
 const SUBS: [Sub; 8] = [
     Sub {
-        name: "list",
-        about: "Lists the ports and components of a part's net, of the netlist on standard input",
-        usage: LIST_USAGE,
-        after: "",
-        options: &[PART, PART_FORM, NETLIST, PATHS],
-    },
-    Sub {
-        name: "chart",
-        about: "Draws the trace behind the netlist on standard input, where it is that of a run of a part's net, as SVG",
-        usage: CHART_USAGE,
-        after: "",
-        options: &[PART, PART_FORM, NETLIST, FROM, TO],
-    },
-    Sub {
-        name: "check",
-        about: "Tells whether the trace behind the netlist on standard input is that of a run of a part's net",
-        usage: CHECK_USAGE,
-        after: CHECK_STATUSES,
-        options: &[PART, PART_FORM, NETLIST],
-    },
-    Sub {
-        name: "draw",
-        about: "Draws a part's net, of the netlist on standard input, as a graph for Graphviz",
-        usage: DRAW_USAGE,
-        after: "",
-        options: &[PART, PART_FORM, NETLIST, DEPTH],
+        name: "run",
+        about: "Play words on a part's net, and write the trace",
+        after: RUN,
+        one_of: PARTS_NAMED,
+        options: &[PART, PART_FORM, NETLIST, JOURNAL, WORD_FILE, WORDS],
     },
     Sub {
         name: "explore",
-        about: "Plays a part's net by hand, by the lines of standard input, each with its answer",
-        usage: EXPLORE_USAGE,
-        after: EXPLORE_LINES,
+        about: "Play a part's net by hand: each line of standard input has its answer",
+        after: EXPLORE,
+        one_of: PARTS_NAMED,
         options: &[PART, PART_FORM, REQUIRED_NETLIST],
     },
     Sub {
+        name: "check",
+        about: "Tell whether a trace is that of a run of a part's net",
+        after: CHECK,
+        one_of: PARTS_NAMED,
+        options: &[PART, PART_FORM, NETLIST],
+    },
+    Sub {
+        name: "list",
+        about: "List the ports and components of a part's net",
+        after: LIST,
+        one_of: PARTS_NAMED,
+        options: &[PART, PART_FORM, NETLIST, PATHS],
+    },
+    Sub {
         name: "parts",
-        about: "Lists the parts of the netlist on standard input, and which of them are on top",
-        usage: PARTS_USAGE,
-        after: "",
+        about: "List the parts of a netlist, and which of them are on top",
+        after: PARTS,
+        one_of: &[],
         options: &[NETLIST],
     },
     Sub {
+        name: "draw",
+        about: "Draw a part's net as a graph for Graphviz",
+        after: DRAW,
+        one_of: PARTS_NAMED,
+        options: &[PART, PART_FORM, NETLIST, DEPTH],
+    },
+    Sub {
+        name: "chart",
+        about: "Draw a trace as SVG, where it is that of a run of a part's net",
+        after: CHART,
+        one_of: PARTS_NAMED,
+        options: &[PART, PART_FORM, NETLIST, FROM, TO],
+    },
+    Sub {
         name: "pool",
-        about: "Plays the words of sessions beside workers, each on a thread of its own, and writes the trace",
-        usage: POOL_USAGE,
-        after: POOL_WORDS,
+        about: "Play words of several sessions beside workers, each on a thread, and write the trace",
+        after: POOL,
+        one_of: PARTS_NAMED,
         options: &[
             PART, PART_FORM, NETLIST, WORKERS, FUEL, JOURNAL, WORD_FILE, SESSIONS,
         ],
-    },
-    Sub {
-        name: "run",
-        about: "Plays the words on a part of the netlist on standard input, and writes the trace",
-        usage: RUN_USAGE,
-        after: RUN_WORDS,
-        options: &[PART, PART_FORM, NETLIST, JOURNAL, WORD_FILE, WORDS],
     },
 ];
 
@@ -101,13 +105,25 @@ fn push_arg<'a>(
     Ok(())
 }
 
-fn command_of<'a>(alloc: Global, sub: &Sub) -> Result<Command<'a>, AllocError> {
-    let args = args_of(alloc, sub.options)?;
+// The group of the options of which a command takes one. With none in it nothing is required.
+fn group_of<'a>(alloc: Global, sub: &Sub) -> Result<ArgGroup<'a>, AllocError> {
+    ArgGroup::new(alloc, "one")
+        .required(!sub.one_of.is_empty())
+        .args(sub.one_of)
+}
+
+// A command without its arguments.
+fn begun<'a>(alloc: Global, sub: &Sub) -> Result<Command<'a>, AllocError> {
+    let group = group_of(alloc, sub)?;
     Command::new(alloc, sub.name)
         .about(sub.about)
-        .override_usage(sub.usage)
         .after_help(sub.after)
-        .args(args)
+        .group(group)
+}
+
+fn command_of<'a>(alloc: Global, sub: &Sub) -> Result<Command<'a>, AllocError> {
+    let args = args_of(alloc, sub.options)?;
+    begun(alloc, sub)?.args(args)
 }
 
 // The commands of the program.
@@ -131,9 +147,8 @@ fn push_command<'a>(
 fn program<'a>(alloc: Global) -> Result<Command<'a>, AllocError> {
     let explain = arg_of(alloc, &EXPLAIN)?;
     Command::new(alloc, "breezesim")
-        .about(
-            "A simulator of Breeze handshake circuits, proved in what it plays, lists and refuses",
-        )
+        .about(PROGRAM)
+        .after_help(ALL_COMMANDS)
         .version(VERSION)
         .subcommand_required(true)
         .arg(explain)
@@ -142,13 +157,5 @@ fn program<'a>(alloc: Global) -> Result<Command<'a>, AllocError> {
 /// The program with its commands.
 pub fn command_line<'a>(alloc: Global) -> Result<Command<'a>, AllocError> {
     let commands = commands(alloc)?;
-    with_commands(program(alloc), commands)
-}
-
-// The program with these commands.
-fn with_commands<'a>(
-    program: Result<Command<'a>, AllocError>,
-    commands: Vec<Command<'a>>,
-) -> Result<Command<'a>, AllocError> {
-    program?.subcommands(commands)
+    program(alloc)?.subcommands(commands)
 }

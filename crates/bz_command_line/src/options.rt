@@ -34,8 +34,6 @@ pub(crate) struct Opt {
     parser: ValueParser<'static>,
     /// Its value where it is not given, if there is one.
     default: &'static [&'static str],
-    /// The options in whose place it must stand.
-    unless: &'static [&'static str],
     /// The options that it can't stand beside.
     conflicts: &'static [&'static str],
     takes_hyphens: bool,
@@ -52,7 +50,6 @@ const TEXT: Opt = Opt {
     action: ArgAction::Set,
     parser: ValueParser::String,
     default: &[],
-    unless: &[],
     conflicts: &[],
     takes_hyphens: true,
     is_required: false,
@@ -78,7 +75,7 @@ const FLAG: Opt = Opt {
 pub(crate) const EXPLAIN: Opt = Opt {
     id: "explain",
     name: Name::Long("explain"),
-    help: "Tells behind a fault's line where it stands, what was found and what was wanted",
+    help: "After a fault, print where it is, what was found and what was expected",
     is_global: true,
     ..FLAG
 };
@@ -87,8 +84,7 @@ pub(crate) const PART: Opt = Opt {
     id: "part",
     name: Name::Short("part", 'p'),
     value: &["P"],
-    help: "The part whose net is opened",
-    unless: &["part-form"],
+    help: "The part to open",
     ..TEXT
 };
 
@@ -96,7 +92,7 @@ pub(crate) const PART_FORM: Opt = Opt {
     id: "part-form",
     name: Name::Long("part-form"),
     value: &["F"],
-    help: "The same part, its name in name form: %ff is the byte 255",
+    help: "The part to open, its name in name form, where %ff is the byte 255",
     conflicts: &["part"],
     ..TEXT
 };
@@ -104,11 +100,12 @@ pub(crate) const PART_FORM: Opt = Opt {
 pub(crate) const NETLIST: Opt = Opt {
     id: "netlist",
     name: Name::Long("netlist"),
-    help: "Reads FILE in place of standard input",
+    help: "Read FILE in place of standard input",
     ..TEXT
 };
 
 pub(crate) const REQUIRED_NETLIST: Opt = Opt {
+    help: "Read the netlist from FILE",
     is_required: true,
     ..NETLIST
 };
@@ -116,7 +113,7 @@ pub(crate) const REQUIRED_NETLIST: Opt = Opt {
 pub(crate) const WORD_FILE: Opt = Opt {
     id: "word-file",
     name: Name::Long("words"),
-    help: "Takes the words from FILE: between blanks and lines, without what follows a #",
+    help: "Read the words from FILE, separated by white space; # starts a comment",
     conflicts: &["words"],
     ..TEXT
 };
@@ -124,14 +121,14 @@ pub(crate) const WORD_FILE: Opt = Opt {
 pub(crate) const PATHS: Opt = Opt {
     id: "paths",
     name: Name::Long("paths"),
-    help: "Tells of each channel, instance and component where it stands in the text",
+    help: "List each channel, instance and component with its place in the text",
     ..FLAG
 };
 
 pub(crate) const DEPTH: Opt = Opt {
     id: "depth",
     name: Name::Long("depth"),
-    help: "Draws instances within N others as boxes; else as deep as at most 300 nodes allow",
+    help: "Draw each instance within N others as one box, N from 0 to 4294967295",
     parser: ValueParser::Signed(0, 4_294_967_295),
     ..NUMBER
 };
@@ -139,7 +136,7 @@ pub(crate) const DEPTH: Opt = Opt {
 pub(crate) const JOURNAL: Opt = Opt {
     id: "journal",
     name: Name::Long("journal"),
-    help: "The most entries of the journal",
+    help: "The most entries of the journal, from 1 to 16777216",
     parser: ValueParser::Signed(1, MAX_JOURNAL as i64),
     default: &["1000000"],
     ..NUMBER
@@ -148,7 +145,7 @@ pub(crate) const JOURNAL: Opt = Opt {
 pub(crate) const WORKERS: Opt = Opt {
     id: "workers",
     name: Name::Long("workers"),
-    help: "How many workers fire, from 1 to 8",
+    help: "The number of workers, each on a thread of its own, from 1 to 8",
     parser: ValueParser::Signed(1, MAX_WORKERS as i64),
     default: &["2"],
     ..NUMBER
@@ -157,7 +154,7 @@ pub(crate) const WORKERS: Opt = Opt {
 pub(crate) const FUEL: Opt = Opt {
     id: "fuel",
     name: Name::Long("fuel"),
-    help: "The most firings of all workers together",
+    help: "The most firings of all workers together, from 0 to 18446744073709551615",
     parser: ValueParser::Unsigned(0, u64::MAX),
     default: &["1000000"],
     ..NUMBER
@@ -167,7 +164,7 @@ pub(crate) const FROM: Opt = Opt {
     id: "from",
     name: Name::Long("from"),
     value: &["L"],
-    help: "The first line of the trace that is drawn; line 1 names its version",
+    help: "The first line of the trace to draw; 2 by default, and in place of a smaller L",
     parser: ValueParser::Unsigned(0, u64::MAX),
     ..NUMBER
 };
@@ -175,7 +172,7 @@ pub(crate) const FROM: Opt = Opt {
 pub(crate) const TO: Opt = Opt {
     id: "to",
     name: Name::Long("to"),
-    help: "The last line that is drawn",
+    help: "The last line to draw; by default the last of the trace",
     ..FROM
 };
 
@@ -183,14 +180,14 @@ pub(crate) const WORDS: Opt = Opt {
     id: "words",
     name: Name::Words,
     value: &["WORDS"],
-    help: "offer:P[:V], collect:P, accept:P, answer:P[:V], watch:P, run:N",
+    help: "offer:P[:V], collect:P, accept:P, answer:P[:V], watch:P or run:N, each as told below",
     action: ArgAction::Append,
     takes_hyphens: false,
     ..TEXT
 };
 
 pub(crate) const SESSIONS: Opt = Opt {
-    help: "offer:P[:V], collect:P, accept:P, answer:P[:V], watch:P; a / begins the next session",
+    help: "offer:P[:V], collect:P, accept:P, answer:P[:V] or watch:P; a / begins the next session",
     ..WORDS
 };
 
@@ -215,6 +212,5 @@ pub(crate) fn arg_of<'a>(alloc: Global, option: &Opt) -> Result<Arg<'a>, AllocEr
         .allow_hyphen_values(option.takes_hyphens)
         .required(option.is_required)
         .global(option.is_global)
-        .required_unless_present_any(option.unless)?
         .conflicts_with_all(option.conflicts)
 }
