@@ -10,6 +10,15 @@ pub const MAX_JOURNAL: u32 = 16_777_216;
 /// The most workers of a pool.
 pub const MAX_WORKERS: u8 = 8;
 
+/// The most entries of the journal where none is asked for: what `JOURNAL` has as its default.
+pub(crate) const JOURNAL_BY_DEFAULT: u32 = 1_000_000;
+
+/// The workers of a pool where no number is asked for: what `WORKERS` has as its default.
+pub(crate) const WORKERS_BY_DEFAULT: u8 = 2;
+
+/// The most firings of a pool where none is asked for: what `FUEL` has as its default.
+pub(crate) const FUEL_BY_DEFAULT: u64 = 1_000_000;
+
 /// How an option stands on the command line.
 #[derive(Clone, Copy)]
 enum Name {
