@@ -7,14 +7,12 @@ use crate::options::{
     DEPTH, EXPLAIN, FROM, FUEL, JOURNAL, NETLIST, Opt, PART, PART_FORM, PATHS, REQUIRED_NETLIST,
     SESSIONS, TO, WORD_FILE, WORDS, WORKERS, arg_of,
 };
-use crate::request::CommandName;
 use clap::{Arg, ArgGroup, Command};
 use std::alloc::{AllocError, Global};
 
 /// A command of the program.
 #[derive(Clone, Copy)]
 struct Sub {
-    command: CommandName,
     name: &'static str,
     about: &'static str,
     /// What stands behind the options in its help.
@@ -30,7 +28,6 @@ const PARTS_NAMED: &[&str] = &["part", "part-form"];
 /// The commands, in the order of the help.
 const SUBS: [Sub; 8] = [
     Sub {
-        command: CommandName::Run,
         name: "run",
         about: "Play words on a part's net, and write the trace",
         after: RUN,
@@ -38,7 +35,6 @@ const SUBS: [Sub; 8] = [
         options: &[PART, PART_FORM, NETLIST, JOURNAL, WORD_FILE, WORDS],
     },
     Sub {
-        command: CommandName::Explore,
         name: "explore",
         about: "Play a part's net by hand: each line of standard input has its answer",
         after: EXPLORE,
@@ -46,7 +42,6 @@ const SUBS: [Sub; 8] = [
         options: &[PART, PART_FORM, REQUIRED_NETLIST],
     },
     Sub {
-        command: CommandName::Check,
         name: "check",
         about: "Tell whether a trace is that of a run of a part's net",
         after: CHECK,
@@ -54,7 +49,6 @@ const SUBS: [Sub; 8] = [
         options: &[PART, PART_FORM, NETLIST],
     },
     Sub {
-        command: CommandName::List,
         name: "list",
         about: "List the ports and components of a part's net",
         after: LIST,
@@ -62,7 +56,6 @@ const SUBS: [Sub; 8] = [
         options: &[PART, PART_FORM, NETLIST, PATHS],
     },
     Sub {
-        command: CommandName::Parts,
         name: "parts",
         about: "List the parts of a netlist, and which of them are on top",
         after: PARTS,
@@ -70,7 +63,6 @@ const SUBS: [Sub; 8] = [
         options: &[NETLIST],
     },
     Sub {
-        command: CommandName::Draw,
         name: "draw",
         about: "Draw a part's net as a graph for Graphviz",
         after: DRAW,
@@ -78,7 +70,6 @@ const SUBS: [Sub; 8] = [
         options: &[PART, PART_FORM, NETLIST, DEPTH],
     },
     Sub {
-        command: CommandName::Chart,
         name: "chart",
         about: "Draw a trace as SVG, where it is that of a run of a part's net",
         after: CHART,
@@ -86,7 +77,6 @@ const SUBS: [Sub; 8] = [
         options: &[PART, PART_FORM, NETLIST, FROM, TO],
     },
     Sub {
-        command: CommandName::Pool,
         name: "pool",
         about: "Play words of several sessions beside workers, each on a thread, and write the trace",
         after: POOL,
@@ -96,16 +86,6 @@ const SUBS: [Sub; 8] = [
         ],
     },
 ];
-
-/// The command of a name.
-pub(crate) fn command_named(name: &str) -> Option<CommandName> {
-    for sub in &SUBS {
-        if sub.name == name {
-            return Some(sub.command);
-        }
-    }
-    None
-}
 
 // The arguments of options.
 fn args_of<'a>(alloc: Global, options: &[Opt]) -> Result<Vec<Arg<'a>>, AllocError> {
@@ -146,10 +126,9 @@ fn command_of<'a>(alloc: Global, sub: &Sub) -> Result<Command<'a>, AllocError> {
     begun(alloc, sub)?.args(args)
 }
 
-// The commands of the program.
-fn commands<'a>(alloc: Global) -> Result<Vec<Command<'a>>, AllocError> {
+fn commands_of<'a>(alloc: Global, subs: &[Sub]) -> Result<Vec<Command<'a>>, AllocError> {
     let mut commands = Vec::new(alloc);
-    for sub in &SUBS {
+    for sub in subs {
         push_command(&mut commands, command_of(alloc, sub))?;
     }
     Ok(commands)
@@ -176,6 +155,6 @@ fn program<'a>(alloc: Global) -> Result<Command<'a>, AllocError> {
 
 /// The program with its commands.
 pub fn command_line<'a>(alloc: Global) -> Result<Command<'a>, AllocError> {
-    let commands = commands(alloc)?;
+    let commands = commands_of(alloc, &SUBS)?;
     program(alloc)?.subcommands(commands)
 }

@@ -1,13 +1,13 @@
 //! What the command line asks for.
 
-use crate::commands::{command_line, command_named};
+use crate::commands::command_line;
 use crate::options::{FUEL_BY_DEFAULT, JOURNAL_BY_DEFAULT, WORKERS_BY_DEFAULT};
 use clap::error::ErrorKind;
 use clap::{ArgMatches, Error};
 use std::alloc::{AllocError, Global};
 
 /// A command of the program.
-#[derive(Clone, Copy, Debug, PartialEq, Eq)]
+#[derive(Clone, Copy)]
 pub enum CommandName {
     Run,
     Explore,
@@ -20,7 +20,7 @@ pub enum CommandName {
 }
 
 /// How a part is named.
-#[derive(Clone, Copy, Debug, PartialEq, Eq)]
+#[derive(Clone, Copy)]
 pub enum PartName<'a> {
     /// By its name. It is empty for a command that opens no part.
     Text(&'a str),
@@ -29,7 +29,7 @@ pub enum PartName<'a> {
 }
 
 /// A command and its options. One that the command doesn't take has its default.
-#[derive(Clone, Copy, Debug, PartialEq, Eq)]
+#[derive(Clone, Copy)]
 pub struct Options<'a> {
     pub command: CommandName,
     pub part: PartName<'a>,
@@ -82,6 +82,20 @@ fn request_in<'a>(
         options: options_in(command, matches),
         words,
     }))
+}
+
+fn command_named(name: &str) -> Option<CommandName> {
+    match name {
+        "run" => Some(CommandName::Run),
+        "explore" => Some(CommandName::Explore),
+        "check" => Some(CommandName::Check),
+        "list" => Some(CommandName::List),
+        "parts" => Some(CommandName::Parts),
+        "draw" => Some(CommandName::Draw),
+        "chart" => Some(CommandName::Chart),
+        "pool" => Some(CommandName::Pool),
+        _ => None,
+    }
 }
 
 // The command that is named, and what stands behind its name.
