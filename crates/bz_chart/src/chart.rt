@@ -54,7 +54,7 @@ fn chart_text<W: Write>(
         Ok(drawing) => drawing,
         Err(fault) => return Err(fault),
     };
-    match write_out(output, drawing.as_bytes()) {
+    match write_out(output, drawing.as_slice()) {
         Ok(()) => Ok(()),
         Err(WriteFault) => Err(ChartFault::Command(Fault::Write)),
     }
@@ -66,7 +66,7 @@ fn draw_text(
     part: &[u8],
     range: LineRange,
     text: &[u8],
-) -> Result<String, ChartFault>
+) -> Result<Vec<u8>, ChartFault>
     requires { length text.now ≤ input_limit }
     ensures { Draws text.now part.now range result }
 {
@@ -94,7 +94,7 @@ fn draw_piece(
     flat: Flat,
     netlist: &[u8],
     trace: &[u8],
-) -> Result<String, ChartFault>
+) -> Result<Vec<u8>, ChartFault>
     requires { length trace.now ≤ input_limit }
     ensures { DrawsPiece range trace.now result }
 {

@@ -5,12 +5,13 @@ ghost use Rattle.std.specs.Prelude.{◌≤◌};
 ghost use Rattle.bz_outline.specs.Layout.{HasRoom, IsClear};
 
 use crate::lanes::Side;
-use crate::scene::{Scene, TOP, colour};
+use crate::scene::TOP;
+use crate::svg::{DARK, PULL, PUSH, Pen};
 use bz_model::ChanKind;
-use std::alloc::AllocError;
+use bz_outline::Layout;
 
 /// A request or a reply that has left.
-#[derive(Clone, Copy, Debug)]
+#[derive(Clone, Copy)]
 pub(crate) struct Sent {
     /// How many left before it.
     pub order: u64,
@@ -30,102 +31,96 @@ pub(crate) struct Sent {
     ghost lane_is_one: { lane ≤ 5 },
 }
 
-/// Draws it, in on this row, or down to the end where it has not come in.
-pub(crate) fn put_arrow(
-    out: &mut String,
-    scene: Scene<'_>,
-    sent: Sent,
-    row: Option<u32>,
-) -> Result<(), AllocError> {
-    let to = scene.layout.column(sent.to);
-    let lane = sent.heading.other().from(to, 12 + 4 * u64::from(sent.lane));
-    put_start(out, scene, sent, lane)?;
-    match row {
-        Some(row) => put_way_in(out, sent, to, scene.layout.row(row)),
-        None => put_waiting(out, sent, lane, scene.layout.bottom()),
+/// The colour of a channel.
+pub(crate) fn colour(kind: ChanKind) -> &'static str {
+    match kind {
+        ChanKind::Sync => DARK,
+        ChanKind::Push => PUSH,
+        ChanKind::Pull => PULL,
     }
 }
 
-// From the row on which it left, or from the top, to its lane.
-fn put_start(out: &mut String, scene: Scene<'_>, sent: Sent, lane: u64) -> Result<(), AllocError> {
+/// Draws it, in on this row, or down to the end where it has not come in.
+pub(crate) fn put_arrow(pen: &mut Pen, layout: Layout, sent: Sent, row: Option<u32>) {
+    let to = layout.column(sent.to);
+    let lane = sent.heading.other().from(to, 12 + 4 * u64::from(sent.lane));
     match sent.row {
-        Some(row) => {
-            let y = scene.layout.row(row);
-            let start = start_of(scene, sent);
-            write!(out, "<path d=\"M{start} {y}H{lane}")
-        }
-        None => write!(out, "<path d=\"M{lane} {TOP}"),
+        Some(row) => pen.put(
+            "<path d=\"M% %H%",
+            &[start_of(layout, sent), layout.row(row), lane],
+            "",
+        ),
+        None => pen.put("<path d=\"M% %", &[lane, TOP], ""),
+    }
+    match row {
+        Some(row) => put_way_in(pen, sent, to, layout.row(row)),
+        None => put_waiting(pen, sent, lane, layout.bottom()),
     }
 }
 
 // Where it leaves. One that comes in at the lifeline that it left goes round by the right.
-fn start_of(scene: Scene<'_>, sent: Sent) -> u64 {
+fn start_of(layout: Layout, sent: Sent) -> u64 {
     match sent.from {
-        Some(from) if from != sent.to => sent.heading.from(scene.layout.column(from), 4),
-        _ => scene.layout.column(sent.to) + 4,
+        Some(from) if from != sent.to => sent.heading.from(layout.column(from), 4),
+        _ => layout.column(sent.to) + 4,
     }
 }
 
-fn put_way_in(out: &mut String, sent: Sent, to: u64, y: u64) -> Result<(), AllocError>
+fn put_way_in(pen: &mut Pen, sent: Sent, to: u64, y: u64)
     requires right { HasRoom 64 to }
     requires below { IsClear y }
 {
     let back = sent.heading.other();
-    let end = back.from(to, if sent.is_request { 10 } else { 5 });
-    write!(out, "V{y}H{end}")?;
-    put_style(out, sent)?;
-    let colour = colour(sent.kind);
-    if sent.is_request {
-        let tip = back.from(to, 4);
-        let wing = match sent.heading {
-            Side::Left => "8",
-            Side::Right => "-8",
-        };
-        writeln!(
-            out,
-            "<path d=\"M{tip} {y}l{wing} -4v8z\" fill=\"{colour}\"/>"
-        )
+    let (end, tip, rise) = if sent.is_request {
+        (10, 4, 0)
     } else {
-        let wing = back.from(to, 11);
-        let top = y - 4;
-        let (over, under) = match sent.heading {
-            Side::Left => ("-7", "7"),
-            Side::Right => ("7", "-7"),
-        };
-        let width = if sent.carries { 2u8 } else { 1 };
-        writeln!(
-            out,
-            "<path d=\"M{wing} {top}l{over} 4l{under} 4\" fill=\"none\" stroke=\"{colour}\" stroke-width=\"{width}\"/>"
-        )
+        (5, 11, 4)
+    };
+    let width = if sent.carries { 2 } else { 1 };
+    pen.put("V%H%", &[y, back.from(to, end)], "");
+    put_style(pen, sent);
+    pen.put(
+        head_form(sent),
+        &[back.from(to, tip), y - rise, width],
+        colour(sent.kind),
+    );
+}
+
+// The head of an arrow: filled at a request, open at a reply.
+fn head_form(sent: Sent) -> &'static str {
+    match (sent.is_request, sent.heading) {
+        (true, Side::Left) => "<path d=\"M% %l8 -4v8z\" fill=\"$\"/>\n",
+        (true, Side::Right) => "<path d=\"M% %l-8 -4v8z\" fill=\"$\"/>\n",
+        (false, Side::Left) => {
+            "<path d=\"M% %l-7 4l7 4\" fill=\"none\" stroke=\"$\" stroke-width=\"%\"/>\n"
+        }
+        (false, Side::Right) => {
+            "<path d=\"M% %l7 4l-7 4\" fill=\"none\" stroke=\"$\" stroke-width=\"%\"/>\n"
+        }
     }
 }
 
 // Down its lane to the end, with an open head.
-fn put_waiting(out: &mut String, sent: Sent, lane: u64, bottom: u64) -> Result<(), AllocError>
+fn put_waiting(pen: &mut Pen, sent: Sent, lane: u64, bottom: u64)
     requires right { IsClear lane }
     requires below { IsClear bottom }
 {
-    write!(out, "V{bottom}")?;
-    put_style(out, sent)?;
-    let colour = colour(sent.kind);
-    let (left, top) = (lane - 3, bottom - 6);
-    writeln!(
-        out,
-        "<path d=\"M{left} {top}l3 6l3 -6\" fill=\"none\" stroke=\"{colour}\"/>"
-    )
+    pen.put("V%", &[bottom], "");
+    put_style(pen, sent);
+    pen.put(
+        "<path d=\"M% %l3 6l3 -6\" fill=\"none\" stroke=\"$\"/>\n",
+        &[lane - 3, bottom - 6],
+        colour(sent.kind),
+    );
 }
 
 // The end of a path: thick where a value rides, dashed where it is a reply.
-fn put_style(out: &mut String, sent: Sent) -> Result<(), AllocError> {
-    let colour = colour(sent.kind);
-    let width = if sent.carries { 3u8 } else { 1 };
-    let dashes = if sent.is_request {
-        ""
+fn put_style(pen: &mut Pen, sent: Sent) {
+    let form = if sent.is_request {
+        "\" fill=\"none\" stroke=\"$\" stroke-width=\"%\"/>\n"
     } else {
-        " stroke-dasharray=\"5 3\""
+        "\" fill=\"none\" stroke=\"$\" stroke-width=\"%\" stroke-dasharray=\"5 3\"/>\n"
     };
-    writeln!(
-        out,
-        "\" fill=\"none\" stroke=\"{colour}\" stroke-width=\"{width}\"{dashes}/>"
-    )
+    let width = if sent.carries { 3 } else { 1 };
+    pen.put(form, &[width], colour(sent.kind));
 }

@@ -1,53 +1,134 @@
 //! Which lifelines a chart shows, from left to right.
 
-ghost use Rattle.std.specs.Prelude.{◌≤◌, ◌<◌, ◌+◌, ◌*◌, ◌^◌, length, vec_len, IfOk, OnOk};
-
+use crate::rows::shown;
+use crate::scene::Chart;
 use bz_model::{Port, numbered};
-use bz_outline::{Circuit, Event, Lifeline, Line};
+use bz_outline::{Circuit, Event, Lifeline, read_line};
 use std::alloc::{AllocError, Global};
 
-/// Which lifelines take part in some lines of a trace.
+/// The least letters that a line of the trace has room for.
+const LEAST_LETTERS: u32 = 8;
+
+/// The lifelines that are shown, in order, and the place of each among them, from 0.
 #[derive(Drop)]
-struct Used {
-    ports: Vec<bool>,
-    comps: Vec<bool>,
+pub(crate) struct Columns {
+    // of each port, and then of each component
+    places: Vec<Option<u32>>,
+    ports: u32,
+    shown: Vec<Lifeline>,
+    letters: u32,
 }
 
-impl Used {
-    fn new(alloc: Global, circuit: &Circuit) -> Result<Used, AllocError> {
-        Ok(Used {
-            ports: vec![in alloc; false; circuit.names().ports().len()]?,
-            comps: vec![in alloc; false; circuit.comp_count() as usize]?,
-        })
-    }
-
-    fn has(&self, lifeline: Lifeline) -> bool {
-        let mark = match lifeline {
-            Lifeline::Port(port) => numbered(&self.ports, port),
-            Lifeline::Comp(comp) => numbered(&self.comps, comp),
+impl Columns {
+    /// Those on which something moves in these lines, and those at the other end of a channel on which something moves there:
+    /// passive ports, components, active ports, each by number.
+    pub fn of(alloc: Global, chart: Chart<'_>) -> Result<Columns, AllocError> {
+        let ports = chart.circuit.names().ports().len();
+        let count = ports.saturating_add(chart.circuit.comp_count() as usize);
+        let mut columns = Columns {
+            places: vec![in alloc; None; count]?,
+            ports: u32::try_from(ports).unwrap_or(u32::MAX),
+            shown: Vec::new(alloc),
+            letters: LEAST_LETTERS,
         };
-        mark.copied().unwrap_or(false)
+        columns.mark_lines(chart);
+        match columns.put_in_order(chart.circuit) {
+            Ok(()) => Ok(columns),
+            Err(fault) => Err(fault),
+        }
     }
 
-    fn note(&mut self, event: Event) {
+    /// From left to right.
+    pub fn shown(&self) -> &[Lifeline] {
+        &self.shown
+    }
+
+    pub fn count(&self) -> u32 {
+        u32::try_from(self.shown.len()).unwrap_or(u32::MAX)
+    }
+
+    /// How many letters the longest of the lines has.
+    pub fn letters(&self) -> u32 {
+        self.letters
+    }
+
+    /// The place of a lifeline, from 0, where it is shown.
+    pub fn place(&self, lifeline: Lifeline) -> Option<u32> {
+        numbered(&self.places, self.number(lifeline))
+            .copied()
+            .flatten()
+    }
+
+    // The number of a lifeline among all, from 1.
+    fn number(&self, lifeline: Lifeline) -> u32 {
+        match lifeline {
+            Lifeline::Port(port) => port,
+            Lifeline::Comp(comp) => comp.saturating_add(self.ports),
+        }
+    }
+
+    fn mark_lines(&mut self, chart: Chart<'_>) {
+        let piece = chart.piece;
+        let texts = chart.trace.split_inclusive(|byte| *byte == b'\n');
+        for (number, text) in (piece.first..=piece.last()).zip(texts.skip(piece.first - 1)) {
+            if let Some(line) = read_line(chart.circuit, chart.names, number, text) {
+                self.letters = self.letters.max(shown(&line).letters());
+                self.mark_event(line.event);
+            }
+        }
+    }
+
+    // Whoever takes part is in the first column for now.
+    fn mark_event(&mut self, event: Event) {
         match event {
             Event::Moved(step) => {
-                self.mark(step.maker);
-                self.mark(step.other);
+                self.set(step.maker, 0);
+                self.set(step.other, 0);
             }
             Event::Watched { port, .. } | Event::Refused { port, .. } => {
-                self.mark(Lifeline::Port(port))
+                self.set(Lifeline::Port(port), 0)
             }
             Event::Rested => {}
-            Event::Clashed { comp } => self.mark(Lifeline::Comp(comp)),
+            Event::Clashed { comp } => self.set(Lifeline::Comp(comp), 0),
         }
     }
 
-    fn mark(&mut self, lifeline: Lifeline) {
-        match lifeline {
-            Lifeline::Port(port) => set(&mut self.ports, port, true),
-            Lifeline::Comp(comp) => set(&mut self.comps, comp, true),
+    fn set(&mut self, lifeline: Lifeline, place: u32) {
+        let number = self.number(lifeline);
+        set(&mut self.places, number, Some(place));
+    }
+
+    // Puts those that take part in columns of their own.
+    fn put_in_order(&mut self, circuit: &Circuit) -> Result<(), AllocError> {
+        self.put_ports(circuit.names().ports(), true)?;
+        self.put_comps(circuit.comp_count())?;
+        self.put_ports(circuit.names().ports(), false)
+    }
+
+    // The ports of one sense, by number.
+    fn put_ports(&mut self, ports: &[Port], passive: bool) -> Result<(), AllocError> {
+        for (number, port) in (1..=self.ports).zip(ports) {
+            if port.passive == passive {
+                self.put(Lifeline::Port(number))?;
+            }
         }
+        Ok(())
+    }
+
+    fn put_comps(&mut self, count: u32) -> Result<(), AllocError> {
+        for number in 1..=count {
+            self.put(Lifeline::Comp(number))?;
+        }
+        Ok(())
+    }
+
+    // Puts it in the next column, where it takes part.
+    fn put(&mut self, lifeline: Lifeline) -> Result<(), AllocError> {
+        if self.place(lifeline).is_some() {
+            self.set(lifeline, self.count());
+            self.shown.push(lifeline)?;
+        }
+        Ok(())
     }
 }
 
@@ -58,95 +139,4 @@ pub(crate) fn set<T: Drop>(items: &mut [T], number: u32, value: T) {
             *item = value;
         }
     }
-}
-
-/// The lifelines that are shown, in order, and the place of each among them, from 0.
-#[derive(Drop)]
-pub(crate) struct Columns {
-    shown: Vec<Lifeline>,
-    of_ports: Vec<Option<u32>>,
-    of_comps: Vec<Option<u32>>,
-
-    ghost few: { length shown.items < 2 ^ 32 },
-}
-
-impl Columns {
-    /// Those on which something moves in these lines, and those at the other end of a channel on which something moves there:
-    /// passive ports, components, active ports, each by number.
-    pub fn of(alloc: Global, circuit: &Circuit, lines: &[Line<'_>]) -> Result<Columns, AllocError> {
-        let mut used = Used::new(alloc, circuit)?;
-        for line in lines {
-            used.note(line.event);
-        }
-        let all = in_order(alloc, circuit.names().ports(), circuit.comp_count())?;
-        let shown = all
-            .iter()
-            .copied()
-            .filter(|lifeline| used.has(*lifeline))
-            .collect(alloc)?;
-        Columns::placed(alloc, circuit, shown)
-    }
-
-    fn placed(alloc: Global, circuit: &Circuit, shown: Vec<Lifeline>) -> Result<Columns, AllocError>
-        requires { vec_len shown < 2 ^ 32 }
-    {
-        let mut of_ports = vec![in alloc; None; circuit.names().ports().len()]?;
-        let mut of_comps = vec![in alloc; None; circuit.comp_count() as usize]?;
-        for (place, lifeline) in shown.iter().enumerate() {
-            match lifeline {
-                Lifeline::Port(port) => set(&mut of_ports, *port, Some(place as u32)),
-                Lifeline::Comp(comp) => set(&mut of_comps, *comp, Some(place as u32)),
-            }
-        }
-        Ok(Columns {
-            shown,
-            of_ports,
-            of_comps,
-        })
-    }
-
-    /// From left to right.
-    pub fn shown(&self) -> &[Lifeline] {
-        &self.shown
-    }
-
-    pub fn count(&self) -> u32 {
-        self.shown.len() as u32
-    }
-
-    /// The place of a lifeline, from 0, where it is shown.
-    pub fn place(&self, lifeline: Lifeline) -> Option<u32> {
-        let place = match lifeline {
-            Lifeline::Port(port) => numbered(&self.of_ports, port),
-            Lifeline::Comp(comp) => numbered(&self.of_comps, comp),
-        };
-        place.copied().flatten()
-    }
-}
-
-// All lifelines of a net: passive ports, components, active ports.
-fn in_order(alloc: Global, ports: &[Port], comps: u32) -> Result<Vec<Lifeline>, AllocError>
-    requires { length ports.now < 2 ^ 32 }
-    ensures { IfOk result (λ all. vec_len all ≤ comps + 2 * length ports.now) }
-{
-    let mut all = Vec::new(alloc);
-    push_ports(&mut all, ports, true)?;
-    for comp in 0..comps {
-        all.push(Lifeline::Comp(comp + 1))?;
-    }
-    push_ports(&mut all, ports, false)?;
-    Ok(all)
-}
-
-// The ports of one sense, by number.
-fn push_ports(all: &mut Vec<Lifeline>, ports: &[Port], passive: bool) -> Result<(), AllocError>
-    requires { length ports.now < 2 ^ 32 }
-    ensures { OnOk result (vec_len all.new ≤ vec_len all.old + length ports.now) }
-{
-    for (place, port) in ports.iter().enumerate() {
-        if port.passive == passive {
-            all.push(Lifeline::Port(place as u32 + 1))?;
-        }
-    }
-    Ok(())
 }

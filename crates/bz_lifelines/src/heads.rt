@@ -2,234 +2,199 @@
 
 ghost use Rattle.bz_outline.specs.Layout.{HasRoom, IsClear};
 
-use crate::origins::Origins;
-use crate::scene::Scene;
-use crate::svg::{DARK, MIDDLE, MIDDLE_BOLD, MIDDLE_LARGE, WHITE, put_rect, put_text};
-use crate::words::{Cut, first_line, letters};
+use crate::scene::{Chart, Scene};
+use crate::svg::{MIDDLE, MIDDLE_BOLD, Pen, RECT, put_text};
+use crate::words::{Cut, first_line};
 use bz_kind_table::kind_word;
-use bz_lines::NameForm;
-use bz_model::{Chan, ChanKind};
+use bz_lines::Part;
+use bz_model::{ChanKind, Value};
 use bz_outline::{Circuit, Lifeline};
-use std::alloc::{AllocError, Global};
 
 /// How many letters of a port's name are shown.
-const MOST_NAME: u32 = 10;
+const MOST_NAME: usize = 10;
 
-/// The head of a lifeline.
-#[derive(Drop)]
-struct Head {
-    is_port: bool,
-    /// A port's name, or a component's number.
-    name: String,
-    /// What a port carries, or the first line of a component's kind.
-    first: String,
-    /// The rest of its kind.
-    second: String,
-    /// What is told where the head is pointed at.
-    title: Vec<u8>,
-    /// The instance whose copy it is in.
-    instance: Option<usize>,
-}
-
-impl Head {
-    fn name(&self) -> Cut<'_> {
-        Cut {
-            text: self.name.as_bytes(),
-            most: if self.is_port { MOST_NAME } else { u32::MAX },
+/// Brackets over neighbours in one copy of a part, and then the heads.
+pub(crate) fn put_heads(pen: &mut Pen, scene: Scene<'_>) {
+    put_brackets(pen, scene);
+    for (column, lifeline) in (0..scene.layout.columns).zip(scene.columns.shown()) {
+        let x = scene.layout.column(column);
+        match *lifeline {
+            Lifeline::Port(port) => put_port(pen, scene.chart, x, port),
+            Lifeline::Comp(comp) => put_comp(pen, scene.chart, x, comp),
         }
     }
 }
 
-/// The heads of the lifelines that are shown.
-#[derive(Drop)]
-pub(crate) struct Heads {
-    heads: Vec<Head>,
+/// The names again, in a band that begins at `y`.
+pub(crate) fn put_names(pen: &mut Pen, scene: Scene<'_>, y: u64)
+    requires { IsClear y }
+{
+    for (column, lifeline) in (0..scene.layout.columns).zip(scene.columns.shown()) {
+        let name = name_of(pen, scene.chart.circuit, *lifeline);
+        let below = below_name(pen, scene.chart.circuit, *lifeline);
+        let name = Cut {
+            text: name.as_slice(),
+            most: most_letters(*lifeline),
+        };
+        put_again(
+            pen,
+            scene.layout.column(column),
+            y,
+            name,
+            Cut::whole(&below),
+        );
+    }
 }
 
-impl Heads {
-    pub fn of(
-        alloc: Global,
-        circuit: &Circuit,
-        origins: &Origins,
-        shown: &[Lifeline],
-    ) -> Result<Heads, AllocError> {
-        let mut heads = Vec::new(alloc);
-        for lifeline in shown {
-            let head = match lifeline {
-                Lifeline::Port(port) => port_head(alloc, circuit, *port)?,
-                Lifeline::Comp(comp) => comp_head(alloc, circuit, origins, *comp)?,
-            };
-            heads.push(head)?;
+fn put_brackets(pen: &mut Pen, scene: Scene<'_>) {
+    let mut first = 0;
+    let mut before = None;
+    for column in 0..scene.layout.columns {
+        let instance = instance_at(scene, column);
+        if instance != before {
+            first = column;
+            before = instance;
         }
-        Ok(Heads { heads })
-    }
-
-    /// Brackets over neighbours in one copy, and then the heads.
-    pub fn put(
-        &self,
-        alloc: Global,
-        out: &mut String,
-        scene: Scene<'_>,
-        origins: &Origins,
-    ) -> Result<(), AllocError> {
-        self.put_brackets(alloc, out, scene, origins)?;
-        for (column, head) in (0..scene.layout.columns).zip(&self.heads) {
-            put_head(out, scene.layout.column(column), head)?;
-        }
-        Ok(())
-    }
-
-    fn put_brackets(
-        &self,
-        alloc: Global,
-        out: &mut String,
-        scene: Scene<'_>,
-        origins: &Origins,
-    ) -> Result<(), AllocError> {
-        let mut first = 0;
-        for column in 0..scene.layout.columns {
-            let instance = self.instance_at(column);
-            if column > 0 && self.instance_at(column - 1) != instance {
-                first = column;
-            }
-            if let Some(position) = instance {
-                if self.instance_at(column.saturating_add(1)) != instance {
-                    let name = origins.instance_name(alloc, position)?;
-                    put_bracket(out, scene, first, column, name.as_bytes())?;
-                }
+        if let Some(position) = instance {
+            if instance_at(scene, column.saturating_add(1)) != instance {
+                let name = scene
+                    .chart
+                    .origins
+                    .instance_name(scene.chart.part, position)
+                    .unwrap_or(b"");
+                let name = pen.spell(&[
+                    Part::Number(position as Value),
+                    Part::Bytes(b" "),
+                    Part::Name(name),
+                ]);
+                put_bracket(pen, scene, first, column, name.as_slice());
             }
         }
-        Ok(())
-    }
-
-    fn instance_at(&self, column: u32) -> Option<usize> {
-        self.heads.get(column as usize)?.instance
-    }
-
-    /// The names again, in a band that begins at `y`.
-    pub fn put_again(&self, out: &mut String, scene: Scene<'_>, y: u64) -> Result<(), AllocError>
-        requires { IsClear y }
-    {
-        for (column, head) in (0..scene.layout.columns).zip(&self.heads) {
-            put_again(out, scene.layout.column(column), y, head)?;
-        }
-        Ok(())
     }
 }
 
-fn port_head(alloc: Global, circuit: &Circuit, port: u32) -> Result<Head, AllocError> {
-    let name = NameForm(circuit.name(port).unwrap_or(b""));
-    let name = format!(in alloc; "{name}")?;
-    let first = carried(alloc, circuit.chan(port))?;
-    let sense = if circuit.is_passive(port) {
-        "passive"
-    } else {
-        "active"
-    };
-    let title = format!(in alloc; "port {port} {name} {sense} {first}")?;
-    Ok(Head {
-        is_port: true,
-        name,
-        first,
-        second: String::new(alloc),
-        title: Vec::from_slice(alloc, title.as_bytes())?,
-        instance: None,
-    })
-}
-
-fn comp_head(
-    alloc: Global,
-    circuit: &Circuit,
-    origins: &Origins,
-    number: u32,
-) -> Result<Head, AllocError> {
-    let (word, title): (&[u8], Vec<u8>) = match circuit.comp(number) {
-        Some(comp) => (kind_word(&comp.kind), origins.line(alloc, number, comp)?),
-        None => (b"", Vec::new(alloc)),
-    };
-    let (first, second) = word.split_at(first_line(word));
-    Ok(Head {
-        is_port: false,
-        name: format!(in alloc; "{number}")?,
-        first: text_of(alloc, first)?,
-        second: text_of(alloc, second)?,
-        title,
-        instance: origins.instance(number),
-    })
-}
-
-// What a channel carries, and its width where it has one.
-fn carried(alloc: Global, chan: Chan) -> Result<String, AllocError> {
-    let width = chan.width;
-    match chan.kind {
-        ChanKind::Sync => String::from_str(alloc, "sync"),
-        ChanKind::Push => format!(in alloc; "push {width}"),
-        ChanKind::Pull => format!(in alloc; "pull {width}"),
+// The instance whose copy the lifeline of a column is in.
+fn instance_at(scene: Scene<'_>, column: u32) -> Option<usize> {
+    match scene.columns.shown().get(column as usize) {
+        Some(Lifeline::Comp(comp)) => scene.chart.origins.instance(*comp),
+        _ => None,
     }
-}
-
-fn text_of(alloc: Global, word: &[u8]) -> Result<String, AllocError> {
-    let word = Cut::whole(word);
-    format!(in alloc; "{word}")
 }
 
 // A bracket from one column to another, under its name.
-fn put_bracket(
-    out: &mut String,
-    scene: Scene<'_>,
-    first: u32,
-    last: u32,
-    name: &[u8],
-) -> Result<(), AllocError> {
+fn put_bracket(pen: &mut Pen, scene: Scene<'_>, first: u32, last: u32, name: &[u8]) {
     let left = scene.layout.column(first) - 32;
     let right = scene.layout.column(last) + 32;
     let name = Cut {
         text: name,
-        most: u32::try_from(right.saturating_sub(left) / 6).unwrap_or(u32::MAX),
+        most: (right.saturating_sub(left) / 6) as usize,
     };
-    writeln!(
-        out,
-        "<path d=\"M{left} 44v-4H{right}v4\" fill=\"none\" stroke=\"{DARK}\"/>"
-    )?;
-    put_text(out, (left + right) / 2, 36, MIDDLE, &name)
+    pen.put(
+        "<path d=\"M% 44v-4H%v4\" fill=\"none\" stroke=\"#222222\"/>\n",
+        &[left, right],
+        "",
+    );
+    put_text(pen, (left + right) / 2, 36, MIDDLE, name);
 }
 
-fn put_head(out: &mut String, x: u64, head: &Head) -> Result<(), AllocError>
-    requires { HasRoom 64 x }
-{
-    let title = Cut::whole(head.title.as_slice());
-    writeln!(out, "<g>\n<title>{title}</title>")?;
-    if head.is_port {
-        put_port(out, x, head)?;
-    } else {
-        put_text(out, x, 58, MIDDLE_LARGE, &head.name())?;
-        put_text(out, x, 71, MIDDLE, &head.first)?;
-        if !head.second.is_empty() {
-            put_text(out, x, 83, MIDDLE, &head.second)?;
-        }
+// A port's name, or a component's number.
+fn name_of(pen: &mut Pen, circuit: &Circuit, lifeline: Lifeline) -> Vec<u8> {
+    let part = match lifeline {
+        Lifeline::Port(port) => Part::Name(circuit.name(port).unwrap_or(b"")),
+        Lifeline::Comp(comp) => Part::Number(Value::from(comp)),
+    };
+    pen.spell(&[part])
+}
+
+// How many letters of it are shown.
+fn most_letters(lifeline: Lifeline) -> usize {
+    match lifeline {
+        Lifeline::Port(_) => MOST_NAME,
+        Lifeline::Comp(_) => usize::MAX,
     }
-    writeln!(out, "</g>")
 }
 
-fn put_port(out: &mut String, x: u64, head: &Head) -> Result<(), AllocError>
+// What a port carries, and its width where it has one; or the first line of a component's kind.
+fn below_name(pen: &mut Pen, circuit: &Circuit, lifeline: Lifeline) -> Vec<u8> {
+    let (word, width): (&[u8], Option<u32>) = match lifeline {
+        Lifeline::Port(port) => {
+            let chan = circuit.chan(port);
+            match chan.kind {
+                ChanKind::Sync => (b"sync", None),
+                ChanKind::Push => (b"push", Some(chan.width)),
+                ChanKind::Pull => (b"pull", Some(chan.width)),
+            }
+        }
+        Lifeline::Comp(comp) => (kind_lines(circuit, comp).0, None),
+    };
+    pen.spell(&[Part::Bytes(word), Part::Value(width.map(Value::from))])
+}
+
+// The two lines of a component's kind.
+fn kind_lines(circuit: &Circuit, comp: u32) -> (&[u8], &[u8]) {
+    let word = match circuit.comp(comp) {
+        Some(comp) => kind_word(&comp.kind),
+        None => b"",
+    };
+    word.split_at(first_line(word))
+}
+
+fn put_port(pen: &mut Pen, chart: Chart<'_>, x: u64, port: u32)
     requires { HasRoom 64 x }
 {
-    let left = x - 34;
-    writeln!(
-        out,
-        "<rect x=\"{left}\" y=\"50\" width=\"68\" height=\"32\" fill=\"none\" stroke=\"{DARK}\"/>"
-    )?;
-    put_text(out, x, 63, MIDDLE_BOLD, &head.name())?;
-    put_text(out, x, 76, MIDDLE, &head.first)
+    let name = name_of(pen, chart.circuit, Lifeline::Port(port));
+    let carried = below_name(pen, chart.circuit, Lifeline::Port(port));
+    let sense = if chart.circuit.is_passive(port) {
+        "passive"
+    } else {
+        "active"
+    };
+    pen.put("<g>\n<title>port % ", &[u64::from(port)], "");
+    pen.put_word(Cut::whole(name.as_slice()));
+    pen.put(" $ ", &[], sense);
+    pen.put_word(Cut::whole(carried.as_slice()));
+    pen.put(
+        "</title>\n<rect x=\"%\" y=\"50\" width=\"68\" height=\"32\" fill=\"none\" stroke=\"#222222\"/>\n",
+        &[x - 34],
+        "",
+    );
+    let name = Cut {
+        text: name.as_slice(),
+        most: MOST_NAME,
+    };
+    put_text(pen, x, 63, MIDDLE_BOLD, name);
+    put_text(pen, x, 76, MIDDLE, Cut::whole(carried.as_slice()));
+    pen.put("</g>\n", &[], "");
+}
+
+fn put_comp(pen: &mut Pen, chart: Chart<'_>, x: u64, number: u32) {
+    pen.put("<g>\n<title>", &[], "");
+    if let Some(comp) = chart.circuit.comp(number) {
+        chart.origins.put_line(pen, number, comp);
+    }
+    pen.put(
+        "</title>\n<text x=\"%\" y=\"58\" text-anchor=\"middle\" font-size=\"12\" font-weight=\"bold\">%</text>\n",
+        &[x, u64::from(number)],
+        "",
+    );
+    let (first, second) = kind_lines(chart.circuit, number);
+    put_text(pen, x, 71, MIDDLE, Cut::whole(first));
+    if !second.is_empty() {
+        put_text(pen, x, 83, MIDDLE, Cut::whole(second));
+    }
+    pen.put("</g>\n", &[], "");
 }
 
 // The name and what stands below it, on white.
-fn put_again(out: &mut String, x: u64, y: u64, head: &Head) -> Result<(), AllocError>
+fn put_again(pen: &mut Pen, x: u64, y: u64, name: Cut<'_>, below: Cut<'_>)
     requires { IsClear y }
 {
-    let most = head.name().letters().max(letters(head.first.as_str()));
-    let width = 6 * u64::from(most) + 4;
-    put_rect(out, x.saturating_sub(width / 2), y + 3, width, 26, WHITE)?;
-    put_text(out, x, y + 13, MIDDLE_BOLD, &head.name())?;
-    put_text(out, x, y + 25, MIDDLE, &head.first)
+    let width = 6 * u64::from(name.letters().max(below.letters())) + 4;
+    pen.put(
+        RECT,
+        &[x.saturating_sub(width / 2), y + 3, width, 26],
+        "#ffffff",
+    );
+    put_text(pen, x, y + 13, MIDDLE_BOLD, name);
+    put_text(pen, x, y + 25, MIDDLE, below);
 }

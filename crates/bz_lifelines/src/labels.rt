@@ -3,24 +3,17 @@
 ghost use Rattle.bz_outline.specs.Layout.{IsClear};
 
 use crate::lanes::Side;
-use crate::svg::WHITE;
+use crate::svg::Pen;
 use crate::words::{Cut, letters};
+use bz_lines::Part;
 use bz_model::{Phase, Value};
 use bz_outline::Denial;
-use std::alloc::{AllocError, Global};
 
 /// How many digits a value has at most where all of them are shown at an arrow.
 const MOST_DIGITS: usize = 8;
 
 /// A word that begins at `x`, or ends there where it stands at the left, on a line at `y`.
-pub(crate) fn put_label(
-    out: &mut String,
-    x: u64,
-    y: u64,
-    side: Side,
-    text: &str,
-    colour: &str,
-) -> Result<(), AllocError>
+pub(crate) fn put_label(pen: &mut Pen, x: u64, y: u64, side: Side, text: &[u8], colour: &str)
     requires right { IsClear x }
     requires below { IsClear y }
 {
@@ -29,16 +22,13 @@ pub(crate) fn put_label(
         Side::Left => x.saturating_sub(width),
         Side::Right => x,
     };
-    let top = y - 11;
-    writeln!(
-        out,
-        "<rect x=\"{left}\" y=\"{top}\" width=\"{width}\" height=\"9\" fill=\"{WHITE}\" fill-opacity=\"0.8\"/>"
-    )?;
-    let (left, base) = (left + 1, y - 2);
-    writeln!(
-        out,
-        "<text x=\"{left}\" y=\"{base}\" fill=\"{colour}\">{text}</text>"
-    )
+    pen.put(
+        "<rect x=\"%\" y=\"%\" width=\"%\" height=\"9\" fill=\"#ffffff\" fill-opacity=\"0.8\"/>\n<text x=\"%\" y=\"%\" fill=\"$\">",
+        &[left, y - 11, width, left + 1, y - 2],
+        colour,
+    );
+    pen.put_word(Cut::whole(text));
+    pen.put("</text>\n", &[], "");
 }
 
 /// The word of a trace for how a host is told no.
@@ -62,20 +52,28 @@ pub(crate) fn phase_word(phase: Phase) -> &'static str {
 }
 
 /// A channel, and the value that rides on it.
-pub(crate) fn channel_label(
-    alloc: Global,
-    chan: u32,
-    value: Option<Value>,
-) -> Result<String, AllocError> {
-    let Some(value) = value else {
-        return format!(in alloc; "{chan}");
-    };
-    let digits = format!(in alloc; "{value}")?;
-    if digits.len() <= MOST_DIGITS {
-        return format!(in alloc; "{chan} = {digits}");
+pub(crate) fn channel_label(pen: &mut Pen, chan: u32, value: Option<Value>) -> Vec<u8> {
+    match value {
+        Some(value) => {
+            let digits = pen.spell(&[Part::Number(value)]);
+            value_label(pen, chan, digits.as_slice())
+        }
+        None => pen.spell(&[Part::Number(Value::from(chan))]),
     }
-    let digits = digits.as_bytes();
-    let first = Cut::whole(&digits[..3]);
-    let last = Cut::whole(&digits[digits.len() - 3..]);
-    format!(in alloc; "{chan} = {first}…{last}")
+}
+
+// Of a value that is long the first digits are shown, and the last.
+fn value_label(pen: &mut Pen, chan: u32, digits: &[u8]) -> Vec<u8> {
+    let (first, dots, last): (&[u8], &str, &[u8]) = if digits.len() <= MOST_DIGITS {
+        (digits, "", b"")
+    } else {
+        (&digits[..3], "…", &digits[digits.len() - 3..])
+    };
+    pen.spell(&[
+        Part::Number(Value::from(chan)),
+        Part::Bytes(b" = "),
+        Part::Bytes(first),
+        Part::Bytes(dots.as_bytes()),
+        Part::Bytes(last),
+    ])
 }

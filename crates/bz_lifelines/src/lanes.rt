@@ -3,10 +3,10 @@
 ghost use Rattle.std.specs.Prelude.{◌≤◌, ◌<◌, ◌+◌, ◌-◌, ◌^◌, IfSome};
 
 /// The greatest lane, which those share that find no other one free.
-pub(crate) const LAST_LANE: u32 = 5;
+const LAST_LANE: u32 = 5;
 
 /// A side of a lifeline, or the way to it.
-#[derive(Clone, Copy, Debug, PartialEq, Eq)]
+#[derive(Clone, Copy)]
 pub(crate) enum Side {
     Left,
     Right,
@@ -35,7 +35,7 @@ impl Side {
 }
 
 /// How many are in each lane of one side.
-#[derive(Clone, Copy, Debug, PartialEq, Eq)]
+#[derive(Clone, Copy)]
 pub(crate) struct Lanes {
     counts: [u32; 6],
 }

@@ -1,63 +1,41 @@
 //! Where requests meet: at a Call, CallMux or CallDemux that has one of them when another comes.
 
-use crate::columns::set;
-use bz_model::{Kind, Move, numbered};
-use bz_outline::{Circuit, Event, Lifeline};
-use std::alloc::{AllocError, Global};
+use bz_model::{Kind, Move};
+use bz_outline::Circuit;
 
-/// How many handshakes each component is in with callers, and whether it was told that some met there.
-#[derive(Drop)]
-pub(crate) struct Meetings {
-    callers: Vec<u32>,
-    told: Vec<bool>,
+/// How many handshakes a component is in with callers, and whether it was told that some met there.
+#[derive(Clone, Copy)]
+pub(crate) struct Meeting {
+    callers: u32,
+    is_told: bool,
 }
 
-impl Meetings {
-    pub fn new(alloc: Global, circuit: &Circuit) -> Result<Meetings, AllocError> {
-        let count = circuit.comp_count() as usize;
-        Ok(Meetings {
-            callers: vec![in alloc; 0; count]?,
-            told: vec![in alloc; false; count]?,
-        })
-    }
+impl Meeting {
+    pub const NONE: Meeting = Meeting {
+        callers: 0,
+        is_told: false,
+    };
 
-    /// Goes on by an event: the component at which requests meet now, and have not before.
-    pub fn note(&mut self, circuit: &Circuit, event: Event) -> Option<u32> {
-        let Event::Moved(step) = event else {
-            return None;
-        };
-        let Some(Lifeline::Comp(comp)) = circuit.end(step.chan, false) else {
-            return None;
-        };
-        if !is_shared(circuit, comp) {
-            return None;
-        }
-        let callers = numbered(&self.callers, comp).copied().unwrap_or(0);
-        match step.mv {
+    /// Goes on by a move of a caller: whether requests meet now, and have not before.
+    pub fn note(&mut self, mv: Move) -> bool {
+        match mv {
             Move::Ask => {
-                set(&mut self.callers, comp, callers.saturating_add(1));
-                self.tell(comp, callers)
+                let meets = self.callers > 0 && !self.is_told;
+                self.callers = self.callers.saturating_add(1);
+                self.is_told = self.is_told || meets;
+                meets
             }
             Move::Got => {
-                set(&mut self.callers, comp, callers.saturating_sub(1));
-                None
+                self.callers = self.callers.saturating_sub(1);
+                false
             }
-            Move::Take | Move::Reply => None,
+            Move::Take | Move::Reply => false,
         }
-    }
-
-    // A further request has come beside these callers.
-    fn tell(&mut self, comp: u32, callers: u32) -> Option<u32> {
-        let told = numbered(&self.told, comp).copied().unwrap_or(true);
-        if callers == 0 || told {
-            return None;
-        }
-        set(&mut self.told, comp, true);
-        Some(comp)
     }
 }
 
-fn is_shared(circuit: &Circuit, comp: u32) -> bool {
+/// Whether requests can meet at a component.
+pub(crate) fn is_shared(circuit: &Circuit, comp: u32) -> bool {
     match circuit.comp(comp) {
         Some(comp) => matches!(comp.kind, Kind::Call | Kind::CallMux | Kind::CallDemux),
         None => false,

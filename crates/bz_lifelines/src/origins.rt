@@ -1,9 +1,11 @@
 //! Where the components of a net stand in its text.
 
+use crate::svg::Pen;
+use crate::words::Cut;
 use bz_breeze::Parts;
-use bz_flat::FlatComp;
-use bz_lines::NameForm;
-use bz_places::{PartLines, Places, comp_standing, lines_of, put_comp};
+use bz_elab::FlatComp;
+use bz_places::{PartLines, Places, PlacesError, comp_standing, lines_of, put_comp};
+use bz_sexpr::Forms;
 use std::alloc::{AllocError, Global};
 
 /// The parts of a netlist with their lines, and the places of the net of one of them.
@@ -12,40 +14,27 @@ pub struct Origins {
     parts: Parts,
     lines: Vec<PartLines>,
     places: Places,
-    top: Vec<u8>,
 }
 
 impl Origins {
     /// Reads them; `None` where memory is refused. The netlist is one whose part has a net.
     pub fn read(alloc: Global, part: &[u8], netlist: &[u8]) -> Option<Origins> {
-        let forest = bz_sexpr::read_forest(alloc, netlist).ok()?;
-        let lines = lines_of(alloc, netlist, forest.forms()).ok()?;
-        let parts = bz_breeze::parts_of(alloc, forest.forms()).ok()?;
-        let places = Places::of(alloc, &parts, part).ok()?;
-        let top = Vec::from_slice(alloc, part).ok()?;
-        Some(Origins {
-            parts,
-            lines,
-            places,
-            top,
-        })
+        match bz_sexpr::read_forest(alloc, netlist) {
+            Ok(forest) => origins_of(alloc, part, netlist, forest.forms()),
+            Err(_) => None,
+        }
     }
 
-    /// The line of a component, with the place where it stands.
-    pub(crate) fn line(
-        &self,
-        alloc: Global,
-        number: u32,
-        comp: &FlatComp,
-    ) -> Result<Vec<u8>, AllocError> {
-        let mut line = Vec::new(alloc);
+    /// Writes the line of a component, with the place where it stands.
+    pub(crate) fn put_line(&self, pen: &mut Pen, number: u32, comp: &FlatComp) {
         if let Some(place) = self.places.comp(number) {
             let standing = comp_standing(&self.parts, self.lines.as_slice(), place);
+            let mut line = Vec::new(pen.alloc());
             if put_comp(&mut line, number, comp, standing).is_err() {
-                return Err(AllocError);
+                pen.fail();
             }
+            pen.put_word(Cut::whole(line.as_slice()));
         }
-        Ok(line)
     }
 
     /// The position of the instance in the top part whose copy a component is in, where it is in one.
@@ -54,21 +43,33 @@ impl Origins {
         place.path.first().copied()
     }
 
-    /// That position, and the part that it is an instance of.
-    pub(crate) fn instance_name(
-        &self,
-        alloc: Global,
-        position: usize,
-    ) -> Result<String, AllocError> {
-        let name = self.part_at(position).unwrap_or(b"");
-        let name = NameForm(name);
-        format!(in alloc; "{position} {name}")
-    }
-
-    fn part_at(&self, position: usize) -> Option<&[u8]> {
-        let top = self.parts.find(self.top.as_slice())?;
-        let place = position.checked_sub(1)?;
-        let component = top.components.get(place)?;
+    /// The part that the instance at a position of this part is one of.
+    pub(crate) fn instance_name(&self, part: &[u8], position: usize) -> Option<&[u8]> {
+        let top = self.parts.find(part)?;
+        let component = top.components.get(position.checked_sub(1)?)?;
         Some(component.name.as_slice())
+    }
+}
+
+fn origins_of(alloc: Global, part: &[u8], netlist: &[u8], forms: Forms<'_>) -> Option<Origins> {
+    let lines = lines_of(alloc, netlist, forms);
+    match bz_breeze::parts_of(alloc, forms) {
+        Ok(parts) => placed(lines, Places::of(alloc, &parts, part), parts),
+        Err(_) => None,
+    }
+}
+
+fn placed(
+    lines: Result<Vec<PartLines>, AllocError>,
+    places: Result<Places, PlacesError>,
+    parts: Parts,
+) -> Option<Origins> {
+    match (lines, places) {
+        (Ok(lines), Ok(places)) => Some(Origins {
+            parts,
+            lines,
+            places,
+        }),
+        _ => None,
     }
 }

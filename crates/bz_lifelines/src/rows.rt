@@ -1,12 +1,11 @@
 //! The lines of the trace, each on a row.
 
-use crate::svg::{AT_END, HOST_LINE, LINE, NUMBER, put_rect, put_text};
+use crate::svg::{HOST_LINE, LINE, Pen, RECT, put_text};
 use crate::words::Cut;
 use bz_outline::{Event, Layout, Line};
-use std::alloc::AllocError;
 
 /// How many letters of a line are shown.
-const MOST_LETTERS: u32 = 60;
+const MOST_LETTERS: usize = 60;
 
 pub(crate) const RESTING: &str = "#d8d8d8";
 
@@ -20,34 +19,25 @@ pub(crate) fn shown<'a>(line: &Line<'a>) -> Cut<'a> {
     }
 }
 
-pub(crate) fn put_rows(
-    out: &mut String,
-    layout: Layout,
-    lines: &[Line<'_>],
-) -> Result<(), AllocError> {
-    for (place, line) in (0..layout.rows).zip(lines) {
-        put_row(out, layout, place, line)?;
-    }
-    Ok(())
-}
-
-fn put_row(
-    out: &mut String,
-    layout: Layout,
-    place: u32,
-    line: &Line<'_>,
-) -> Result<(), AllocError> {
-    let y = layout.row(place);
-    let right = layout.right();
-    if line.event == Event::Rested {
-        put_rect(out, 4, y - 8, right, 16, RESTING)?;
+pub(crate) fn put_row(pen: &mut Pen, layout: Layout, place: u32, line: &Line<'_>) {
+    let (right, y) = (layout.right(), layout.row(place));
+    if matches!(line.event, Event::Rested) {
+        pen.put(RECT, &[4, y - 8, right, 16], RESTING);
         if layout.columns > 0 {
-            put_text(out, right, y + 4, AT_END, &"rest")?;
+            pen.put(
+                "<text x=\"%\" y=\"%\" text-anchor=\"end\">rest</text>\n",
+                &[right, y + 4],
+                "",
+            );
         }
     } else if place % 2 == 1 {
-        put_rect(out, 4, y - 8, right, 16, ODD)?;
+        pen.put(RECT, &[4, y - 8, right, 16], ODD);
     }
+    pen.put(
+        "<text x=\"%\" y=\"%\" text-anchor=\"end\" fill=\"#666666\">%</text>\n",
+        &[layout.numbers(), y + 4, line.number as u64],
+        "",
+    );
     let set = if line.by_host { HOST_LINE } else { LINE };
-    put_text(out, layout.numbers(), y + 4, NUMBER, &line.number)?;
-    put_text(out, layout.numbers() + 8, y + 4, set, &shown(line))
+    put_text(pen, layout.numbers() + 8, y + 4, set, shown(line));
 }

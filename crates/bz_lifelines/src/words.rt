@@ -1,14 +1,12 @@
 //! Words of a chart, by the letters that are shown of them.
 
-ghost use Rattle.std.specs.Prelude.{◌≡◌, ◌≤◌, length, min};
-
-use std::fmt;
+ghost use Rattle.std.specs.Prelude.{◌≤◌, length};
 
 /// ASCII letters, of which at most so many are shown: of longer ones the last that is shown is an ellipsis.
-#[derive(Clone, Copy, Debug)]
+#[derive(Clone, Copy)]
 pub(crate) struct Cut<'a> {
     pub text: &'a [u8],
-    pub most: u32,
+    pub most: usize,
 }
 
 impl<'a> Cut<'a> {
@@ -16,41 +14,14 @@ impl<'a> Cut<'a> {
     pub fn whole(text: &'a [u8]) -> Cut<'a> {
         Cut {
             text,
-            most: u32::MAX,
+            most: usize::MAX,
         }
     }
 
     /// How many letters are shown.
-    pub fn letters(&self) -> u32
-        ensures { result ≡ min (length self.now.text.now) self.now.most }
-    {
-        self.text.len().min(self.most as usize) as u32
+    pub fn letters(self) -> u32 {
+        u32::try_from(self.text.len().min(self.most)).unwrap_or(u32::MAX)
     }
-}
-
-impl fmt::Display for Cut<'_> {
-    fn fmt<W: fmt::Write>(&self, f: &mut fmt::Formatter<W>) -> fmt::Result {
-        let most = self.most as usize;
-        if self.text.len() <= most {
-            return show(self.text, f);
-        }
-        show(&self.text[..most.saturating_sub(1)], f)?;
-        f.write_str("…")
-    }
-}
-
-// Letters, where those that XML takes for its own are written by name.
-fn show<W: fmt::Write>(letters: &[u8], f: &mut fmt::Formatter<W>) -> fmt::Result {
-    for letter in letters {
-        match letter {
-            b'&' => f.write_str("&amp;")?,
-            b'<' => f.write_str("&lt;")?,
-            b'>' => f.write_str("&gt;")?,
-            b'"' => f.write_str("&quot;")?,
-            _ => f.write_char(char::from(*letter))?,
-        }
-    }
-    Ok(())
 }
 
 /// How many letters of a kind's name stand in the first of two lines: whole words, as many as go into 10 letters, and one at
@@ -60,22 +31,26 @@ pub(crate) fn first_line(kind: &[u8]) -> usize
 {
     let mut end = 0;
     for place in 1..kind.len() {
-        if kind[place].is_ascii_uppercase() {
-            if end > 0 && place > 10 {
-                return end;
-            }
+        if kind[place].is_ascii_uppercase() && (end == 0 || place <= 10) {
             end = place;
         }
     }
     if end > 0 && kind.len() > 10 {
-        return end;
+        end
+    } else {
+        kind.len()
     }
-    kind.len()
 }
 
-/// How many letters a text has.
-pub(crate) fn letters(text: &str) -> u32 {
-    u32::try_from(text.chars().count()).unwrap_or(u32::MAX)
+/// How many letters a text in UTF-8 has.
+pub(crate) fn letters(text: &[u8]) -> u32 {
+    let mut count = 0u32;
+    for byte in text {
+        if byte & 0xc0 != 0x80 {
+            count = count.saturating_add(1);
+        }
+    }
+    count
 }
 
 /// How many digits a number has.
