@@ -1,64 +1,54 @@
-//! What was played, told in the lines of the trace.
+//! What was played, and what was taken back.
 
-use crate::complaint::{Complaint, Trouble};
-use crate::text::{add, add_bytes};
-use bz_lines::{Part, put_entries};
-use bz_model::{Entry, NetError, Value};
-use bz_net::{Net, RunEnd};
-use std::alloc::AllocError;
+use crate::piece::Piece;
+use crate::text::Text;
+use bz_course::Course;
+use bz_lines::put_entries;
+use bz_model::Entry;
+use bz_net::Net;
 
 /// The most lines that are told of one command.
 const MOST_LINES: usize = 40;
 
 /// Adds the lines of the entries behind the first `before`.
-pub(crate) fn add_added(net: &Net, before: usize, text: &mut Vec<u8>) -> Result<(), AllocError> {
+pub(crate) fn put_added(net: &Net, before: usize, text: &mut Text) {
     let entries = net.journal().get(before..).unwrap_or(&[]);
-    if entries.len() <= MOST_LINES {
-        return add_entries(net, entries, text);
-    }
-    let half = MOST_LINES / 2;
-    add_entries(net, entries.get(..half).unwrap_or(&[]), text)?;
-    add(
-        text,
-        &[
-            Part::Bytes(b".. "),
-            Part::Number((entries.len() - MOST_LINES) as Value),
-            Part::Bytes(b" lines more\n"),
-        ],
-    )?;
-    let rest = entries.get(entries.len() - half..).unwrap_or(&[]);
-    add_entries(net, rest, text)
-}
-
-fn add_entries(net: &Net, entries: &[Entry], text: &mut Vec<u8>) -> Result<(), AllocError> {
-    match put_entries(text, net.names(), entries) {
-        Ok(()) => Ok(()),
-        Err(_) => Err(AllocError),
-    }
-}
-
-/// Adds the lines of firings, and how many they were.
-pub(crate) fn add_fired(
-    net: &Net,
-    before: usize,
-    end: RunEnd,
-    text: &mut Vec<u8>,
-) -> Result<(), Trouble> {
-    add_added(net, before, text)?;
-    let fired = match end {
-        RunEnd::Rest(fired) | RunEnd::Spent(fired) => fired,
-        RunEnd::Refused(_, NetError::Memory) => return Err(Trouble::Memory),
-        RunEnd::Refused(_, _) => return Err(Trouble::Bad(Complaint::Full)),
-    };
-    add(
-        text,
-        &[Part::Number(Value::from(fired)), Part::Bytes(b" fired, ")],
-    )?;
-    let rests: &[u8] = if net.next_ready(1).is_none() {
-        b"at rest\n"
+    let more = entries.len().saturating_sub(MOST_LINES);
+    if more == 0 {
+        put_lines(net, entries, text);
     } else {
-        b"not at rest\n"
+        let half = MOST_LINES / 2;
+        put_lines(net, entries.get(..half).unwrap_or(&[]), text);
+        text.say(".. % lines more\n", &[Piece::Long(more as u64)]);
+        put_lines(net, entries.get(half + more..).unwrap_or(&[]), text);
+    }
+}
+
+fn put_lines(net: &Net, entries: &[Entry], text: &mut Text) {
+    let written = put_entries(&mut text.bytes, net.names(), entries);
+    text.keep(written);
+}
+
+/// Adds how many firings there were, and whether any more can be.
+pub(crate) fn put_fired(net: &Net, fired: u64, text: &mut Text) {
+    let not = if net.next_ready(1).is_none() {
+        ""
+    } else {
+        "not "
     };
-    add_bytes(text, rests)?;
-    Ok(())
+    text.say(
+        "% fired, %at rest\n",
+        &[Piece::Long(fired), Piece::Text(not)],
+    );
+}
+
+/// Adds the last commands, which are to be taken back.
+pub(crate) fn put_undone(course: &Course, count: usize, text: &mut Text) {
+    let mut upto = course.net().journal().len();
+    for mark in course.marks().iter().rev().take(count) {
+        let command = Piece::Bytes(mark.command.as_slice());
+        let lines = Piece::Count(upto.saturating_sub(mark.entries), "line");
+        text.say("undone: % (%)\n", &[command, lines]);
+        upto = mark.entries;
+    }
 }

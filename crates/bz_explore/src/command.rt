@@ -1,35 +1,97 @@
 //! Lines as commands.
 
-use crate::text::{add, add_bytes};
-use bz_lines::Part;
-use bz_model::{Cmd, HostCmd};
+use crate::piece::Piece;
+use crate::text::Text;
 use std::alloc::{AllocError, Global};
 
-/// What a line asks for that is none of the host's words.
-#[derive(Clone, Copy, Debug)]
-pub(crate) enum Command {
+/// The commands, each with its line of the list that `help` shows.
+const COMMANDS: [(Name, &str); 14] = [
+    (
+        Name::Moves,
+        "moves           what can come next: the moves of components, and the host's words that would be done",
+    ),
+    (
+        Name::Fire,
+        "fire C [P]      make the move of component C at port P; without P at its lowest port that can",
+    ),
+    (
+        Name::Run,
+        "run [N]         fire up to N times, going on where the last run ended; without N until rest",
+    ),
+    (
+        Name::Random,
+        "random N        fire N moves picked by the seed",
+    ),
+    (Name::Seed, "seed N          begin the picking anew"),
+    (
+        Name::Host,
+        "offer:P[:V] collect:P accept:P answer:P[:V] watch:P
+                what the host does at port P, as in `run`",
+    ),
+    (
+        Name::Expect,
+        "expect REPLY    compare the host's last reply; a difference makes the status 1",
+    ),
+    (
+        Name::Waits,
+        "waits           who holds each channel that is not idle, and for whom each component waits",
+    ),
+    (
+        Name::State,
+        "state [C]       how far it is; of component C its place, its ports and what is due there",
+    ),
+    (
+        Name::Undo,
+        "undo [N]        take back the last N commands that moved something; without N one",
+    ),
+    (Name::Trace, "trace FILE      write the trace so far"),
+    (Name::Help, "help            this list"),
+    (
+        Name::Quit,
+        "quit            leave, as the end of the input does",
+    ),
+    (Name::Comment, "# begins a comment"),
+];
+
+/// The name of a command.
+#[derive(Clone, Copy)]
+enum Name {
+    Moves,
+    Fire,
+    Run,
+    Random,
+    Seed,
+    Host,
+    Expect,
+    Waits,
+    State,
+    Undo,
+    Trace,
+    Help,
+    Quit,
+    Comment,
+}
+
+/// What a line asks for.
+#[derive(Clone, Copy)]
+pub(crate) enum Command<'w> {
+    Nothing,
+    Moves,
     Fire { comp: u64, port: Option<u64> },
     Run(Option<u64>),
     Random(u64),
     Seed(u64),
-    Moves,
+    Expect,
     Waits,
     State(Option<u64>),
     Undo(u64),
-    Expect,
-    Trace,
+    Trace(&'w str),
     Help,
     Quit,
-}
-
-/// What was read of a line.
-#[derive(Debug, Drop)]
-pub(crate) enum Read {
-    Nothing,
-    Host(HostCmd),
-    Command(Command),
-    /// A word of the host without a port; how it is written with one.
-    NoPort(Vec<u8>),
+    /// Something that the host does, if this is a word for it.
+    Host(&'w str),
+    /// A word of the host without its port; what may be the port.
+    NoPort(&'w str, &'w str),
     Unknown,
 }
 
@@ -39,54 +101,39 @@ pub(crate) fn words_of<'l>(alloc: Global, line: &'l str) -> Result<Vec<&'l str>,
         Some((words, _)) => words,
         None => line,
     };
-    let mut words = Vec::new(alloc);
-    for word in before.split_whitespace() {
-        words.push(word)?;
-    }
-    Ok(words)
+    before.split_whitespace().collect(alloc)
 }
 
 /// The words with a blank between.
-pub(crate) fn joined(alloc: Global, words: &[&str]) -> Result<Vec<u8>, AllocError> {
-    let mut text = Vec::new(alloc);
+pub(crate) fn joined(alloc: Global, words: &[&str]) -> Result<String, AllocError> {
+    let mut text = String::new(alloc);
     for word in words {
         if !text.is_empty() {
-            add_bytes(&mut text, b" ")?;
+            text.push(' ')?;
         }
-        add_bytes(&mut text, word.as_bytes())?;
+        text.push_str(word)?;
     }
     Ok(text)
 }
 
+/// Adds the list of commands.
+pub(crate) fn put_help(text: &mut Text) {
+    for (_, line) in &COMMANDS {
+        text.say("%\n", &[Piece::Text(line)]);
+    }
+}
+
 /// The command that words ask for.
-pub(crate) fn read_command(alloc: Global, words: &[&str]) -> Result<Read, AllocError> {
-    match words.split_first() {
-        Some((head, rest)) => read_headed(alloc, head, rest),
-        None => Ok(Read::Nothing),
-    }
-}
-
-// The command of a first word and of what follows it.
-fn read_headed<'w>(alloc: Global, head: &'w str, rest: &[&'w str]) -> Result<Read, AllocError> {
-    if is_verb(head) {
-        return without_port(alloc, head, rest);
-    }
-    match plain_command(head, rest) {
-        Some(command) => Ok(Read::Command(command)),
-        None if rest.is_empty() => host_word(alloc, head),
-        None => Ok(Read::Unknown),
-    }
-}
-
-fn without_port<'w>(alloc: Global, verb: &'w str, rest: &[&'w str]) -> Result<Read, AllocError> {
-    Ok(Read::NoPort(with_port(alloc, verb, rest)?))
-}
-
-fn host_word(alloc: Global, word: &str) -> Result<Read, AllocError> {
-    match bz_words::command(alloc, word) {
-        Ok(Some(Cmd::Host(command))) => Ok(Read::Host(command)),
-        Ok(_) => Ok(Read::Unknown),
-        Err(e) => Err(e),
+pub(crate) fn command_of<'w>(words: &[&'w str]) -> Command<'w> {
+    match words {
+        [] => Command::Nothing,
+        [verb] if is_verb(verb) => Command::NoPort(verb, "P"),
+        [verb, port, ..] if is_verb(verb) => Command::NoPort(verb, port),
+        [head, rest @ ..] => match (named(head, rest), rest) {
+            (Some(command), _) => command,
+            (None, []) => Command::Host(head),
+            (None, _) => Command::Unknown,
+        },
     }
 }
 
@@ -94,67 +141,41 @@ fn is_verb(word: &str) -> bool {
     matches!(word, "offer" | "collect" | "accept" | "answer" | "watch")
 }
 
-// A word of the host as it is written with a port: the one that was given behind it, or any.
-fn with_port<'w>(alloc: Global, verb: &'w str, rest: &[&'w str]) -> Result<Vec<u8>, AllocError> {
-    let port = rest.first().copied().unwrap_or("P");
-    let mut text = Vec::new(alloc);
-    add(
-        &mut text,
-        &[
-            Part::Bytes(verb.as_bytes()),
-            Part::Bytes(b":"),
-            Part::Bytes(port.as_bytes()),
-        ],
-    )?;
-    Ok(text)
-}
-
-// The command of a word that is none of the host's, and of what follows it.
-fn plain_command(head: &str, rest: &[&str]) -> Option<Command> {
-    match head {
-        "fire" => fire_command(rest),
-        "run" => at_most_one(rest).map(Command::Run),
-        "random" => one(rest).map(Command::Random),
-        "seed" => one(rest).map(Command::Seed),
-        "state" => at_most_one(rest).map(Command::State),
-        "undo" => at_most_one(rest).map(|count| Command::Undo(count.unwrap_or(1))),
-        "expect" if !rest.is_empty() => Some(Command::Expect),
-        "trace" if rest.len() == 1 => Some(Command::Trace),
-        _ if rest.is_empty() => lone_command(head),
+// The command of this name with what follows it, if it is one.
+fn named<'w>(head: &str, rest: &[&'w str]) -> Option<Command<'w>> {
+    let name = name_of(head)?;
+    match (name, rest) {
+        (Name::Expect, [_, ..]) => Some(Command::Expect),
+        (Name::Trace, [path]) => Some(Command::Trace(path)),
+        (_, []) => with_numbers(name, None, None),
+        (_, [first]) => with_numbers(name, Some(number(first)?), None),
+        (_, [first, second]) => with_numbers(name, Some(number(first)?), Some(number(second)?)),
         _ => None,
     }
 }
 
-fn lone_command(head: &str) -> Option<Command> {
-    match head {
-        "moves" => Some(Command::Moves),
-        "waits" => Some(Command::Waits),
-        "help" => Some(Command::Help),
-        "quit" => Some(Command::Quit),
-        _ => None,
+fn name_of(head: &str) -> Option<Name> {
+    for (name, line) in &COMMANDS {
+        if line.split_whitespace().next() == Some(head) {
+            return Some(*name);
+        }
     }
+    None
 }
 
-fn fire_command(rest: &[&str]) -> Option<Command> {
-    let (comp, rest) = rest.split_first()?;
-    let comp = number(comp)?;
-    let port = at_most_one(rest)?;
-    Some(Command::Fire { comp, port })
-}
-
-// The number that is the only word.
-fn one(words: &[&str]) -> Option<u64> {
-    match words {
-        [word] => number(word),
-        _ => None,
-    }
-}
-
-// The number that is the only word, or that there is none.
-fn at_most_one(words: &[&str]) -> Option<Option<u64>> {
-    match words {
-        [] => Some(None),
-        [word] => number(word).map(Some),
+// The command of this name with numbers, where as many belong to it.
+fn with_numbers<'w>(name: Name, first: Option<u64>, second: Option<u64>) -> Option<Command<'w>> {
+    match (name, first, second) {
+        (Name::Moves, None, None) => Some(Command::Moves),
+        (Name::Fire, Some(comp), port) => Some(Command::Fire { comp, port }),
+        (Name::Run, fuel, None) => Some(Command::Run(fuel)),
+        (Name::Random, Some(count), None) => Some(Command::Random(count)),
+        (Name::Seed, Some(seed), None) => Some(Command::Seed(seed)),
+        (Name::Waits, None, None) => Some(Command::Waits),
+        (Name::State, comp, None) => Some(Command::State(comp)),
+        (Name::Undo, count, None) => Some(Command::Undo(count.unwrap_or(1))),
+        (Name::Help, None, None) => Some(Command::Help),
+        (Name::Quit, None, None) => Some(Command::Quit),
         _ => None,
     }
 }

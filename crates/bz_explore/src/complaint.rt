@@ -1,27 +1,25 @@
 //! What is told of a line that can't be followed.
 
-use crate::naming::{
-    add_comp, add_phase, add_port, chan_at, chan_of, move_word, phase_of, port_of, verb_word,
-};
-use crate::text::{add, add_bytes, add_count};
+use crate::naming::{chan_at, chan_of, comp, phase_of, port, port_count};
+use crate::piece::{Piece, chan_word, move_word, verb_word};
+use crate::text::Text;
 use bz_course::Course;
-use bz_flat::{Flat, FlatComp};
-use bz_lines::Part;
-use bz_model::{ChanKind, HostCmd, NetError, Value, Verb};
+use bz_elab::{Flat, FlatComp};
+use bz_model::{HostCmd, NetError, Value, low_bits, numbered};
 use bz_net::Net;
-use std::alloc::AllocError;
 
 /// The most ports that are told by name.
 const MOST_PORTS: usize = 10;
 
 /// Why a line can't be followed.
-#[derive(Debug, Drop)]
-pub(crate) enum Complaint {
-    /// It is no command.
-    Unknown,
-    NoPort(Vec<u8>),
+#[derive(Clone, Copy)]
+pub(crate) enum Complaint<'c> {
+    /// What was typed is no command.
+    Unknown(&'c [u8]),
+    /// A word of the host has no port; what may be the port.
+    NoPort(&'c str, &'c str),
     /// The net refuses the host's command.
-    Refused { error: NetError, cmd: HostCmd },
+    Refused(NetError, &'c HostCmd),
     /// The journal is full.
     Full,
     NoComponent(u64),
@@ -34,273 +32,142 @@ pub(crate) enum Complaint {
     /// There is no reply to compare.
     NoReply,
     /// The file of a trace can't be written.
-    Unwritable(Vec<u8>),
-}
-
-/// Why a line has no answer.
-#[derive(Debug, Drop)]
-pub(crate) enum Trouble {
-    Bad(Complaint),
-    Memory,
-}
-
-impl From<AllocError> for Trouble {
-    fn from(_e: AllocError) -> Trouble {
-        Trouble::Memory
-    }
-}
-
-impl<T: Drop> From<std::alloc::AllocFailed<T>> for Trouble {
-    fn from(_e: std::alloc::AllocFailed<T>) -> Trouble {
-        Trouble::Memory
-    }
+    Unwritable(&'c str),
 }
 
 /// Adds what is told, up to the end of the line.
-pub(crate) fn add_complaint(
-    text: &mut Vec<u8>,
-    course: &Course,
-    typed: &[u8],
-    complaint: &Complaint,
-) -> Result<(), AllocError> {
+pub(crate) fn put_complaint(text: &mut Text, course: &Course, complaint: Complaint<'_>) {
     match complaint {
-        Complaint::Unknown => {
-            add_bytes(text, b"`")?;
-            add_shown(text, typed)?;
-            add_bytes(text, b"` is no command; `help` tells them")?;
-        }
-        Complaint::NoPort(form) => {
-            add_bytes(text, b"a port follows its word after a colon, as in ")?;
-            add_shown(text, form.as_slice())?;
-        }
-        Complaint::Refused { error, cmd } => add_refusal(text, course.flat(), *error, cmd)?,
-        Complaint::Stuck { comp, port } => add_stuck(text, course, *comp, *port)?,
-        Complaint::NoReply => add_bytes(
-            text,
-            b"there is no reply to compare: the last command was none of the host's",
-        )?,
+        Complaint::Unknown(typed) => text.say(
+            "`%` is no command; `help` tells them\n",
+            &[Piece::Shown(typed)],
+        ),
+        Complaint::NoPort(verb, port) => text.say(
+            "a port follows its word after a colon, as in %:%\n",
+            &[Piece::Shown(verb.as_bytes()), Piece::Shown(port.as_bytes())],
+        ),
+        Complaint::Refused(error, cmd) => put_refusal(text, course.flat(), error, cmd),
+        Complaint::Stuck { comp, port } => put_stuck(text, course, comp, port),
+        Complaint::NoReply => text.put(
+            "there is no reply to compare: the last command was none of the host's\n",
+        ),
         Complaint::Unwritable(path) => {
-            add_shown(text, path.as_slice())?;
-            add_bytes(text, b" can't be written")?;
+            text.say("% can't be written\n", &[Piece::Shown(path.as_bytes())])
         }
-        counted => add_counted(text, course, counted)?,
+        counted => put_counted(text, course, counted),
     }
-    add_bytes(text, b"\n")
 }
 
 // Adds what is told of one of the complaints that tell how much there is.
-fn add_counted(
-    text: &mut Vec<u8>,
-    course: &Course,
-    complaint: &Complaint,
-) -> Result<(), AllocError> {
+fn put_counted(text: &mut Text, course: &Course, complaint: Complaint<'_>) {
     let flat = course.flat();
     match complaint {
-        Complaint::Full => add(
-            text,
-            &[
-                Part::Bytes(b"N7 JournalFull: the trace holds "),
-                Part::Number(Value::from(course.limit())),
-                Part::Bytes(b" lines; `undo` makes room"),
-            ],
+        Complaint::Full => text.say(
+            "N7 JournalFull: the trace holds % lines; `undo` makes room\n",
+            &[Piece::Number(course.limit())],
         ),
-        Complaint::NoComponent(number) => add(
-            text,
-            &[
-                Part::Bytes(b"there is no component "),
-                Part::Number(Value::from(*number)),
-                Part::Bytes(b": the last is "),
-                Part::Number(Value::from(flat.comp_count())),
-            ],
+        Complaint::NoComponent(number) => text.say(
+            "there is no component %: the last is %\n",
+            &[Piece::Long(number), Piece::Number(flat.comp_count())],
         ),
-        Complaint::FewPorts(comp) => {
-            add_comp(text, flat, *comp)?;
-            add_bytes(text, b" has ")?;
-            add_count(text, port_number(flat, *comp), b"port")
+        Complaint::FewPorts(number) => {
+            let ports = match flat.comp(number) {
+                Some(site) => site.chans.len(),
+                None => 0,
+            };
+            text.say(
+                "% has %\n",
+                &[comp(flat, number), Piece::Count(ports, "port")],
+            );
         }
         Complaint::TooFew => {
             let commands = course.marks().len();
-            let verb: &[u8] = if commands == 1 { b"is " } else { b"are " };
-            add(text, &[Part::Bytes(b"there "), Part::Bytes(verb)])?;
-            add_count(text, commands, b"command")?;
-            add_bytes(text, b" to undo")
+            let verb = if commands == 1 { "is" } else { "are" };
+            text.say(
+                "there % % to undo\n",
+                &[Piece::Text(verb), Piece::Count(commands, "command")],
+            );
         }
-        _ => Ok(()),
-    }
-}
-
-// Adds what was typed, where each byte that is no printable ASCII is a `?`.
-pub(crate) fn add_shown(text: &mut Vec<u8>, bytes: &[u8]) -> Result<(), AllocError> {
-    for byte in bytes {
-        let shown = if (32..=126).contains(byte) {
-            *byte
-        } else {
-            b'?'
-        };
-        add_bytes(text, &[shown])?;
-    }
-    Ok(())
-}
-
-fn port_number(flat: &Flat, comp: u32) -> usize {
-    match flat.comp(comp) {
-        Some(site) => site.chans.len(),
-        None => 0,
+        _ => {}
     }
 }
 
 // Why the net refuses a command of the host.
-fn add_refusal(
-    text: &mut Vec<u8>,
-    flat: &Flat,
-    error: NetError,
-    cmd: &HostCmd,
-) -> Result<(), AllocError> {
-    let name = cmd.port.as_slice();
-    let number = flat.port(name).unwrap_or(0);
+fn put_refusal(text: &mut Text, flat: &Flat, error: NetError, cmd: &HostCmd) {
+    let name = Piece::Name(cmd.port.as_slice());
+    let verb = Piece::Text(verb_word(cmd.verb));
+    let number = flat.port(cmd.port.as_slice()).unwrap_or(0);
     let chan = chan_of(flat, number);
     match error {
-        NetError::UnknownPort => add_unknown(text, flat, name),
-        NetError::WrongSide => add_wrong_side(text, flat, number, name),
-        NetError::ValueMissing => add(
-            text,
+        NetError::UnknownPort => put_unknown(text, flat, cmd.port.as_slice()),
+        NetError::WrongSide => text.say(
+            "N2 WrongSide: port % is %\n",
+            &[name, Piece::Text(side_of(flat, number))],
+        ),
+        NetError::ValueMissing => text.say(
+            "N3 ValueMissing: % needs a value below 2^%, as in %:%:0\n",
+            &[verb, Piece::Number(chan.width), verb, name],
+        ),
+        NetError::ValueUnwanted => text.say(
+            "N4 ValueUnwanted: % takes no value at port %, which is a % port\n",
+            &[verb, name, Piece::Text(chan_word(chan.kind))],
+        ),
+        NetError::TooLarge => text.say(
+            "N5 TooLarge: % is too large: port % has %, and the greatest value is %\n",
             &[
-                Part::Bytes(b"N3 ValueMissing: "),
-                Part::Bytes(verb_word(cmd.verb)),
-                Part::Bytes(b" needs a value below 2^"),
-                Part::Number(Value::from(chan.width)),
-                Part::Bytes(b", as in "),
-                Part::Bytes(verb_word(cmd.verb)),
-                Part::Bytes(b":"),
-                Part::Name(name),
-                Part::Bytes(b":0"),
+                Piece::Value(cmd.value.unwrap_or(0)),
+                name,
+                Piece::Count(chan.width as usize, "bit"),
+                Piece::Value(low_bits(Value::MAX, chan.width)),
             ],
         ),
-        NetError::ValueUnwanted => add_unwanted(text, cmd.verb, name, chan.kind),
-        NetError::TooLarge => add(
-            text,
-            &[
-                Part::Bytes(b"N5 TooLarge: "),
-                Part::Number(cmd.value.unwrap_or(0)),
-                Part::Bytes(b" is too large: port "),
-                Part::Name(name),
-                Part::Bytes(b" has "),
-                Part::Number(Value::from(chan.width)),
-                Part::Bytes(if chan.width == 1 { b" bit" } else { b" bits" }),
-                Part::Bytes(b", and the greatest value is "),
-                Part::Number(bz_model::low_bits(Value::MAX, chan.width)),
-            ],
-        ),
-        _ => Ok(()),
+        _ => text.put("\n"),
     }
 }
 
 // No port has the name; the ports that there are.
-fn add_unknown(text: &mut Vec<u8>, flat: &Flat, name: &[u8]) -> Result<(), AllocError> {
-    add(
-        text,
-        &[
-            Part::Bytes(b"N1 UnknownPort: no port is called "),
-            Part::Name(name),
-            Part::Bytes(b"; the ports are"),
-        ],
-    )?;
+fn put_unknown(text: &mut Text, flat: &Flat, name: &[u8]) {
+    text.say(
+        "N1 UnknownPort: no port is called %; the ports are",
+        &[Piece::Name(name)],
+    );
     let ports = flat.ports();
     for port in ports.iter().take(MOST_PORTS) {
-        add(text, &[Part::Bytes(b" "), Part::Name(port.name.as_slice())])?;
+        text.say(" %", &[Piece::Name(port.name.as_slice())]);
     }
-    if ports.len() > MOST_PORTS {
-        let more = ports.len() - MOST_PORTS;
-        add(
-            text,
-            &[
-                Part::Bytes(b" and "),
-                Part::Number(more as Value),
-                Part::Bytes(b" more"),
-            ],
-        )?;
+    let more = ports.len().saturating_sub(MOST_PORTS);
+    if more > 0 {
+        text.say(" and % more", &[Piece::Long(more as u64)]);
     }
-    Ok(())
+    text.put("\n");
 }
 
-fn add_wrong_side(
-    text: &mut Vec<u8>,
-    flat: &Flat,
-    number: u32,
-    name: &[u8],
-) -> Result<(), AllocError> {
-    let passive = match bz_model::numbered(flat.ports(), number) {
-        Some(port) => port.passive,
-        None => false,
-    };
-    let words: &[u8] = if passive {
-        b" is passive: the words for it are offer and collect"
-    } else {
-        b" is active: the words for it are accept and answer"
-    };
-    add(
-        text,
-        &[
-            Part::Bytes(b"N2 WrongSide: port "),
-            Part::Name(name),
-            Part::Bytes(words),
-        ],
-    )
-}
-
-fn add_unwanted(
-    text: &mut Vec<u8>,
-    verb: Verb,
-    name: &[u8],
-    kind: ChanKind,
-) -> Result<(), AllocError> {
-    let kind: &[u8] = match kind {
-        ChanKind::Sync => b"sync",
-        ChanKind::Push => b"push",
-        ChanKind::Pull => b"pull",
-    };
-    add(
-        text,
-        &[
-            Part::Bytes(b"N4 ValueUnwanted: "),
-            Part::Bytes(verb_word(verb)),
-            Part::Bytes(b" takes no value at port "),
-            Part::Name(name),
-            Part::Bytes(b", which is a "),
-            Part::Bytes(kind),
-            Part::Bytes(b" port"),
-        ],
-    )
+fn side_of(flat: &Flat, port: u32) -> &'static str {
+    match numbered(flat.ports(), port) {
+        Some(port) if port.passive => "passive: the words for it are offer and collect",
+        _ => "active: the words for it are accept and answer",
+    }
 }
 
 // Why a component can't move at a port, or at any.
-fn add_stuck(
-    text: &mut Vec<u8>,
-    course: &Course,
-    comp: u32,
-    port: Option<u32>,
-) -> Result<(), AllocError> {
-    let Some(site) = course.flat().comp(comp) else {
-        return Ok(());
+fn put_stuck(text: &mut Text, course: &Course, number: u32, port: Option<u32>) {
+    let Some(site) = course.flat().comp(number) else {
+        return;
     };
-    add_comp(text, course.flat(), comp)?;
-    add_bytes(text, b" can't move")?;
-    match port {
-        None => match first_due(course.net(), comp, site) {
-            None => add_bytes(text, b": nothing is due"),
-            Some(port) => add_due(text, course, site, comp, port),
-        },
-        Some(port) => {
-            add_bytes(text, b" there")?;
-            add_due(text, course, site, comp, port)
+    text.say("% can't move", &[comp(course.flat(), number)]);
+    match (port, first_due(course.net(), number, site)) {
+        (Some(port), _) => {
+            text.put(" there");
+            put_due(text, course, site, number, port);
         }
+        (None, Some(port)) => put_due(text, course, site, number, port),
+        (None, None) => text.put(": nothing is due\n"),
     }
 }
 
 // The first port at which a move is due.
 fn first_due(net: &Net, comp: u32, site: &FlatComp) -> Option<u32> {
-    for place in 0..site.chans.len() {
-        let port = port_of(place);
+    for port in 1..=port_count(site) {
         if net.due(comp, port).is_some() {
             return Some(port);
         }
@@ -309,35 +176,19 @@ fn first_due(net: &Net, comp: u32, site: &FlatComp) -> Option<u32> {
 }
 
 // What is due at a port, and the phase of its channel.
-fn add_due(
-    text: &mut Vec<u8>,
-    course: &Course,
-    site: &FlatComp,
-    comp: u32,
-    port: u32,
-) -> Result<(), AllocError> {
-    let (Some(mv), Some(chan)) = (course.net().due(comp, port), chan_at(site, port)) else {
-        add_bytes(text, b": nothing is due at ")?;
-        return add_port(text, site, port);
-    };
-    add(
-        text,
-        &[
-            Part::Bytes(b": "),
-            Part::Bytes(move_word(mv)),
-            Part::Bytes(b" "),
-            Part::Number(Value::from(chan)),
-            Part::Bytes(b" is due at "),
-        ],
-    )?;
-    add_port(text, site, port)?;
-    add(
-        text,
-        &[
-            Part::Bytes(b", and channel "),
-            Part::Number(Value::from(chan)),
-            Part::Bytes(b" is "),
-        ],
-    )?;
-    add_phase(text, phase_of(course, chan))
+fn put_due(text: &mut Text, course: &Course, site: &FlatComp, comp: u32, at: u32) {
+    let chan = chan_at(site, at);
+    match course.net().due(comp, at) {
+        None => text.say(": nothing is due at %\n", &[port(site, at)]),
+        Some(mv) => text.say(
+            ": % % is due at %, and channel % is %\n",
+            &[
+                Piece::Text(move_word(mv)),
+                Piece::Number(chan),
+                port(site, at),
+                Piece::Number(chan),
+                Piece::Phase(phase_of(course, chan)),
+            ],
+        ),
+    }
 }

@@ -5,12 +5,14 @@ ghost use Rattle.bz_commands.specs.Reading.{ReadsWithin};
 ghost use Rattle.bz_explore.specs.Statuses.{status_of};
 
 use crate::origins::Origins;
+use crate::piece::Piece;
 use crate::session::{Goes, Session};
-use crate::text::{add, add_bytes, add_count};
+use crate::text::Text;
 use bz_commands::{Fault, flat_of, read_input};
 use bz_course::Course;
-use bz_lines::{Part, WriteFault, put_parts};
-use std::alloc::{AllocError, Global};
+use bz_elab::Flat;
+use bz_lines::{Part, put_parts};
+use std::alloc::Global;
 use std::io::{BufRead, Read, Write};
 
 /// The most entries of the journal.
@@ -46,6 +48,14 @@ impl Ending {
             Ending::Bad => 2,
         }
     }
+
+    /// This end, where something went wrong already, else the other.
+    pub(crate) fn or(self, other: Ending) -> Ending {
+        match self {
+            Ending::Well => other,
+            worse => worse,
+        }
+    }
 }
 
 /// Opens the net of a part of the netlist that a reader gives, and follows the lines of another, each with its answer. At a
@@ -66,6 +76,7 @@ pub fn explore_cmd<R: Read, L: BufRead, W: Write, S: Shelf>(
     explore_text(alloc, part, text.as_slice(), prompts, lines, shelf, output)
 }
 
+// Opens the net of a part of the text.
 fn explore_text<L: BufRead, W: Write, S: Shelf>(
     alloc: Global,
     part: &[u8],
@@ -75,136 +86,131 @@ fn explore_text<L: BufRead, W: Write, S: Shelf>(
     shelf: &mut S,
     output: &mut W,
 ) -> Result<Ending, Fault> {
-    let mut session = begin(alloc, part, text)?;
-    play(alloc, part, &mut session, prompts, lines, shelf, output)
+    let flat = flat_of(alloc, part, text)?;
+    match Course::open(alloc, flat, JOURNAL) {
+        Ok(mut course) => explore_net(
+            alloc,
+            part,
+            text,
+            &mut course,
+            prompts,
+            lines,
+            shelf,
+            output,
+        ),
+        Err(_) => Err(Fault::Memory),
+    }
+}
+
+fn explore_net<L: BufRead, W: Write, S: Shelf>(
+    alloc: Global,
+    part: &[u8],
+    text: &[u8],
+    course: &mut Course,
+    prompts: bool,
+    lines: &mut L,
+    shelf: &mut S,
+    output: &mut W,
+) -> Result<Ending, Fault> {
+    match Origins::read(alloc, part, text) {
+        Ok(origins) => {
+            let mut session = Session {
+                course,
+                origins: &origins,
+                line: None,
+                reply: None,
+                ending: Ending::Well,
+            };
+            play(alloc, part, &mut session, prompts, lines, shelf, output)
+        }
+        Err(fault) => Err(fault),
+    }
 }
 
 // Follows the lines, behind a greeting at a prompt.
 fn play<L: BufRead, W: Write, S: Shelf>(
     alloc: Global,
     part: &[u8],
-    session: &mut Session,
+    session: &mut Session<'_>,
     prompts: bool,
     lines: &mut L,
     shelf: &mut S,
     output: &mut W,
 ) -> Result<Ending, Fault> {
     if prompts {
-        greet(alloc, part, session, output)?;
+        greet(alloc, part, session.course.flat(), output)?;
     }
     for number in 1..u64::MAX {
-        let number = if prompts { None } else { Some(number) };
-        if follow_line(alloc, session, number, lines, shelf, output)? == Goes::Out {
+        session.line = if prompts { None } else { Some(number) };
+        if follow_line(alloc, session, lines, shelf, output)? == Goes::Out {
             break;
         }
     }
-    Ok(end_of(session))
+    Ok(session.ending)
 }
 
-// Follows a line, which has a number where there is no prompt.
+// Follows a line, behind a prompt where it has no number.
 fn follow_line<L: BufRead, W: Write, S: Shelf>(
     alloc: Global,
-    session: &mut Session,
-    number: Option<u64>,
+    session: &mut Session<'_>,
     lines: &mut L,
     shelf: &mut S,
     output: &mut W,
 ) -> Result<Goes, Fault> {
-    if number.is_none() {
+    if session.line.is_none() {
         tell(output, b"> ")?;
     }
-    let line = next_line(alloc, lines)?;
-    answer(alloc, session, line.as_slice(), number, shelf, output)
-}
-
-// The next line with its end; nothing at the end of all lines.
-fn next_line<L: BufRead>(alloc: Global, lines: &mut L) -> Result<Vec<u8>, Fault> {
     let mut line = Vec::new(alloc);
     match lines.read_until(b'\n', &mut line) {
-        Ok(_) => Ok(line),
+        Ok(_) => answer(alloc, session, line.as_slice(), shelf, output),
         Err(_) => Err(Fault::Read),
     }
 }
 
+// Writes the answer of a line; the empty one is the end of all lines.
 fn answer<W: Write, S: Shelf>(
     alloc: Global,
-    session: &mut Session,
+    session: &mut Session<'_>,
     line: &[u8],
-    number: Option<u64>,
     shelf: &mut S,
     output: &mut W,
 ) -> Result<Goes, Fault> {
     if line.is_empty() {
         return Ok(Goes::Out);
     }
-    let mut answer = Vec::new(alloc);
-    let goes = session.answer_line(alloc, shelf, line, number, &mut answer)?;
-    tell(output, answer.as_slice())?;
+    let mut text = Text::new(alloc);
+    let goes = session.answer(alloc, shelf, line, &mut text);
+    tell_text(output, &text)?;
     Ok(goes)
 }
 
-// The net at its opening.
-fn begin(alloc: Global, part: &[u8], text: &[u8]) -> Result<Session, Fault> {
-    let flat = flat_of(alloc, part, text)?;
-    let origins = Origins::read(alloc, part, text)?;
-    let Ok(course) = Course::open(alloc, flat, JOURNAL) else {
-        return Err(Fault::Memory);
-    };
-    Ok(Session {
-        course,
-        origins,
-        reply: None,
-        bad: false,
-        differed: false,
-    })
-}
-
-fn greet<W: Write>(
-    alloc: Global,
-    part: &[u8],
-    session: &Session,
-    output: &mut W,
-) -> Result<(), Fault> {
-    let greeting = greeting(alloc, part, session)?;
-    tell(output, greeting.as_slice())?;
-    Ok(())
-}
-
-fn greeting(alloc: Global, part: &[u8], session: &Session) -> Result<Vec<u8>, AllocError> {
-    let flat = session.course.flat();
-    let mut text = Vec::new(alloc);
-    add(
-        &mut text,
+fn greet<W: Write>(alloc: Global, part: &[u8], flat: &Flat, output: &mut W) -> Result<(), Fault> {
+    let mut text = Text::new(alloc);
+    text.say(
+        "breezesim: %: %, %, %; `help` tells the commands\n",
         &[
-            Part::Bytes(b"breezesim: "),
-            Part::Name(part),
-            Part::Bytes(b": "),
+            Piece::Name(part),
+            Piece::Count(flat.comp_count() as usize, "component"),
+            Piece::Count(flat.chan_count() as usize, "channel"),
+            Piece::Count(flat.ports().len(), "port"),
         ],
-    )?;
-    add_count(&mut text, flat.comp_count() as usize, b"component")?;
-    add_bytes(&mut text, b", ")?;
-    add_count(&mut text, flat.chan_count() as usize, b"channel")?;
-    add_bytes(&mut text, b", ")?;
-    add_count(&mut text, flat.ports().len(), b"port")?;
-    add_bytes(&mut text, b"; `help` tells the commands\n")?;
-    Ok(text)
+    );
+    tell_text(output, &text)
 }
 
-// Writes a text, so that it is read at once.
-fn tell<W: Write>(output: &mut W, text: &[u8]) -> Result<(), WriteFault> {
-    put_parts(output, &[Part::Bytes(text)])?;
-    match output.flush() {
-        Ok(()) => Ok(()),
-        Err(_) => Err(WriteFault),
+// Writes a text, if none of it was lost.
+fn tell_text<W: Write>(output: &mut W, text: &Text) -> Result<(), Fault> {
+    match text.whole() {
+        Ok(bytes) => tell(output, bytes),
+        Err(_) => Err(Fault::Memory),
     }
 }
 
-fn end_of(session: &Session) -> Ending {
-    if session.bad {
-        Ending::Bad
-    } else if session.differed {
-        Ending::Differed
-    } else {
-        Ending::Well
+// Writes bytes, so that they are read at once.
+fn tell<W: Write>(output: &mut W, bytes: &[u8]) -> Result<(), Fault> {
+    put_parts(output, &[Part::Bytes(bytes)])?;
+    match output.flush() {
+        Ok(()) => Ok(()),
+        Err(_) => Err(Fault::Write),
     }
 }

@@ -2,14 +2,14 @@
 #![tactic(auto)]
 
 mod answers;
-mod circles;
 mod command;
 mod complaint;
+mod cycles;
 mod explored;
-mod help;
 mod looking;
 mod naming;
 mod origins;
+mod piece;
 mod saving;
 mod session;
 mod text;

@@ -1,12 +1,12 @@
 //! Where the components of a net stand in the text.
 
-use crate::text::{add, add_bytes};
+use crate::piece::Piece;
+use crate::text::Text;
 use bz_breeze::Parts;
 use bz_commands::Fault;
-use bz_flat::FlatComp;
-use bz_lines::Part;
-use bz_places::{PartLines, Place, Places, comp_standing, lines_of, put_comp, put_path};
-use std::alloc::{AllocError, Global};
+use bz_elab::FlatComp;
+use bz_places::{PartLines, Places, comp_standing, lines_of, put_comp, put_path};
+use std::alloc::Global;
 
 /// The parts of a text, and where everything in the net of one of them stands.
 #[derive(Drop)]
@@ -33,41 +33,34 @@ impl Origins {
     }
 
     /// Adds the line of a component, with the place where it stands.
-    pub fn add_line(
-        &self,
-        text: &mut Vec<u8>,
-        number: u32,
-        comp: &FlatComp,
-    ) -> Result<(), AllocError> {
-        let Some(place) = self.places.comp(number) else {
-            return Ok(());
-        };
-        let standing = comp_standing(&self.parts, self.lines.as_slice(), place);
-        match put_comp(text, number, comp, standing) {
-            Ok(()) => add_bytes(text, b"\n"),
-            Err(_) => Err(AllocError),
+    pub fn put_line(&self, text: &mut Text, number: u32, comp: &FlatComp) {
+        if let Some(place) = self.places.comp(number) {
+            let standing = comp_standing(&self.parts, self.lines.as_slice(), place);
+            let written = put_comp(&mut text.bytes, number, comp, standing);
+            text.keep(written);
+            text.put("\n");
         }
     }
 
-    /// The place of a component that is in an instance.
-    pub fn inner_place(&self, number: u32) -> Option<&Place> {
-        let place = self.places.comp(number)?;
-        if place.path.is_empty() {
-            return None;
+    /// Adds the instance that a component is in, and the name of the part that it is one of, where it is in one.
+    pub fn put_instance(&self, comp: u32, text: &mut Text) {
+        match self.places.comp(comp) {
+            Some(place) if !place.path.is_empty() => {
+                text.fill(54);
+                text.put("in ");
+                let written = put_path(&mut text.bytes, place.path.as_slice());
+                text.keep(written);
+                text.say(" %", &[Piece::Name(self.name_of(place.part))]);
+            }
+            _ => {}
         }
-        Some(place)
     }
 
-    /// Adds the instance of a place, and the name of the part that it is one of.
-    pub fn add_instance(&self, text: &mut Vec<u8>, place: &Place) -> Result<(), AllocError> {
-        add_bytes(text, b"in ")?;
-        if put_path(text, place.path.as_slice()).is_err() {
-            return Err(AllocError);
-        }
-        let name: &[u8] = match self.parts.list().get(place.part) {
+    // The name of the part at a place of the text.
+    fn name_of(&self, part: usize) -> &[u8] {
+        match self.parts.list().get(part) {
             Some(part) => part.name.as_slice(),
             None => b"",
-        };
-        add(text, &[Part::Bytes(b" "), Part::Name(name)])
+        }
     }
 }

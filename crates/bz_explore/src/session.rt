@@ -1,39 +1,38 @@
 //! A session: a net that is played line by line.
 
-use crate::answers::{add_added, add_fired};
-use crate::command::{Command, Read, joined, read_command, words_of};
-use crate::complaint::{Complaint, Trouble, add_complaint, add_shown};
-use crate::explored::Shelf;
-use crate::help::HELP;
-use crate::looking::{add_moves, add_state, add_totals};
-use crate::naming::add_reply;
+use crate::answers::{put_added, put_fired, put_undone};
+use crate::command::{Command, command_of, joined, put_help, words_of};
+use crate::complaint::{Complaint, put_complaint};
+use crate::explored::{Ending, Shelf};
+use crate::looking::{put_moves, put_state, put_totals};
+use crate::naming::port_count;
 use crate::origins::Origins;
+use crate::piece::Piece;
 use crate::saving::save;
-use crate::text::{add, add_bytes, add_count};
-use crate::waits::add_waits;
+use crate::text::Text;
+use crate::waits::put_waits;
 use bz_course::Course;
-use bz_lines::Part;
-use bz_model::{HostCmd, NetError, Reply, Value};
+use bz_model::{Cmd, HostCmd, NetError, Reply};
+use bz_net::{Net, RunEnd};
 use std::alloc::{AllocError, Global};
 
 /// A net that is played line by line, and how it went so far.
 #[derive(Drop)]
-pub(crate) struct Session {
-    pub course: Course,
-    pub origins: Origins,
+pub(crate) struct Session<'s> {
+    pub course: &'s mut Course,
+    pub origins: &'s Origins,
+    /// The number of the line, where it is not typed at a prompt.
+    pub line: Option<u64>,
     /// What the host was told last, where nothing was played since.
     pub reply: Option<Reply>,
-    /// Whether a line could not be followed.
-    pub bad: bool,
-    /// Whether a reply was not the expected one.
-    pub differed: bool,
+    pub ending: Ending,
 }
 
 /// A line: its words, and these with a blank between.
 #[derive(Drop)]
 pub(crate) struct Typed<'l> {
     words: Vec<&'l str>,
-    text: Vec<u8>,
+    text: String,
 }
 
 impl<'l> Typed<'l> {
@@ -45,25 +44,27 @@ impl<'l> Typed<'l> {
 }
 
 /// Whether the session goes on.
-#[derive(Clone, Copy, Debug, PartialEq, Eq)]
+#[derive(Clone, Copy, PartialEq, Eq)]
 pub(crate) enum Goes {
     On,
     Out,
 }
 
-impl Session {
-    /// Adds the answer of a line, which is told by its number where it is not typed at a prompt.
-    pub fn answer_line<S: Shelf>(
+impl<'s> Session<'s> {
+    /// Adds the answer of a line.
+    pub fn answer<S: Shelf>(
         &mut self,
         alloc: Global,
         shelf: &mut S,
         line: &[u8],
-        number: Option<u64>,
-        text: &mut Vec<u8>,
-    ) -> Result<Goes, AllocError> {
+        text: &mut Text,
+    ) -> Goes {
         match str::from_utf8(line) {
-            Ok(line) => self.answer_text(alloc, shelf, line, number, text),
-            Err(_) => self.complain(&Complaint::Unknown, line.trim_ascii(), number, text),
+            Ok(line) => self.answer_text(alloc, shelf, line, text),
+            Err(_) => {
+                self.complain(Complaint::Unknown(line.trim_ascii()), text);
+                Goes::On
+            }
         }
     }
 
@@ -72,343 +73,260 @@ impl Session {
         alloc: Global,
         shelf: &mut S,
         line: &str,
-        number: Option<u64>,
-        text: &mut Vec<u8>,
-    ) -> Result<Goes, AllocError> {
-        let typed = Typed::of(alloc, line)?;
-        self.answer_typed(alloc, shelf, &typed, number, text)
-    }
-
-    fn answer_typed<S: Shelf>(
-        &mut self,
-        alloc: Global,
-        shelf: &mut S,
-        typed: &Typed<'_>,
-        number: Option<u64>,
-        text: &mut Vec<u8>,
-    ) -> Result<Goes, AllocError> {
-        let answered = self.answer_words(alloc, shelf, typed, text);
-        self.settle(answered, typed.text.as_slice(), number, text)
-    }
-
-    // Adds why a line has no answer, where it has none.
-    fn settle(
-        &mut self,
-        answered: Result<Goes, Trouble>,
-        typed: &[u8],
-        number: Option<u64>,
-        text: &mut Vec<u8>,
-    ) -> Result<Goes, AllocError> {
-        match answered {
-            Ok(goes) => Ok(goes),
-            Err(Trouble::Memory) => Err(AllocError),
-            Err(Trouble::Bad(complaint)) => self.complain(&complaint, typed, number, text),
+        text: &mut Text,
+    ) -> Goes {
+        match Typed::of(alloc, line) {
+            Ok(typed) => self.answer_words(
+                alloc,
+                shelf,
+                typed.words.as_slice(),
+                typed.text.as_str(),
+                text,
+            ),
+            Err(_) => {
+                text.lose();
+                Goes::On
+            }
         }
     }
 
-    // Adds the answer of the words of a line.
+    // Adds the answer of words, which `typed` has with a blank between.
     fn answer_words<S: Shelf>(
         &mut self,
         alloc: Global,
         shelf: &mut S,
-        typed: &Typed<'_>,
-        text: &mut Vec<u8>,
-    ) -> Result<Goes, Trouble> {
-        match read_command(alloc, typed.words.as_slice()) {
-            Ok(read) => self.answer_read(alloc, shelf, read, typed, text),
-            Err(_) => Err(Trouble::Memory),
+        words: &[&str],
+        typed: &str,
+        text: &mut Text,
+    ) -> Goes {
+        match command_of(words) {
+            Command::Quit => return Goes::Out,
+            Command::Trace(path) => self.trace(shelf, path, text),
+            Command::Fire { comp, port } => self.fire(alloc, typed, comp, port, text),
+            Command::Run(fuel) => self.run(alloc, typed, fuel.unwrap_or(u64::MAX), text),
+            Command::Random(count) => self.random(alloc, typed, count, text),
+            Command::Seed(seed) => self.seed(seed, text),
+            Command::Undo(count) => self.undo(alloc, count, text),
+            Command::Expect => self.expect(alloc, typed, text),
+            Command::Host(word) => self.word(alloc, typed, word, text),
+            Command::NoPort(verb, port) => self.complain(Complaint::NoPort(verb, port), text),
+            Command::Unknown => self.complain(Complaint::Unknown(typed.as_bytes()), text),
+            command => self.show(alloc, command, text),
         }
+        Goes::On
     }
 
-    fn answer_read<S: Shelf>(
-        &mut self,
-        alloc: Global,
-        shelf: &mut S,
-        read: Read,
-        typed: &Typed<'_>,
-        text: &mut Vec<u8>,
-    ) -> Result<Goes, Trouble> {
-        match read {
-            Read::Nothing => Ok(Goes::On),
-            Read::Host(cmd) => self.host(alloc, typed.text.as_slice(), cmd, text),
-            Read::Command(command) => self.follow(alloc, shelf, command, typed, text),
-            Read::NoPort(form) => Err(Trouble::Bad(Complaint::NoPort(form))),
-            Read::Unknown => Err(Trouble::Bad(Complaint::Unknown)),
+    // Adds what a command shows that changes nothing.
+    fn show(&mut self, alloc: Global, command: Command<'_>, text: &mut Text) {
+        match command {
+            Command::Moves => put_moves(alloc, self.course, self.origins, text),
+            Command::Waits => put_waits(alloc, self.course, text),
+            Command::State(None) => put_totals(self.course, text),
+            Command::State(Some(comp)) => self.state(comp, text),
+            Command::Help => put_help(text),
+            _ => {}
         }
     }
 
     // Adds why a line can't be followed.
-    fn complain(
-        &mut self,
-        complaint: &Complaint,
-        typed: &[u8],
-        number: Option<u64>,
-        text: &mut Vec<u8>,
-    ) -> Result<Goes, AllocError> {
-        self.bad = true;
-        add_bytes(text, b"error: ")?;
-        if let Some(number) = number {
-            add(
-                text,
-                &[
-                    Part::Bytes(b"line "),
-                    Part::Number(Value::from(number)),
-                    Part::Bytes(b": "),
-                ],
-            )?;
+    fn complain(&mut self, complaint: Complaint<'_>, text: &mut Text) {
+        self.ending = Ending::Bad;
+        match self.line {
+            Some(line) => text.say("error: line %: ", &[Piece::Long(line)]),
+            None => text.put("error: "),
         }
-        add_complaint(text, &self.course, typed, complaint)?;
-        Ok(Goes::On)
+        put_complaint(text, self.course, complaint);
     }
 
-    // Adds the answer of a command.
-    fn follow<S: Shelf>(
-        &mut self,
-        alloc: Global,
-        shelf: &mut S,
-        command: Command,
-        typed: &Typed<'_>,
-        text: &mut Vec<u8>,
-    ) -> Result<Goes, Trouble> {
-        let line = typed.text.as_slice();
-        let words = typed.words.as_slice();
-        match command {
-            Command::Fire { comp, port } => self.fire(alloc, line, comp, port, text),
-            Command::Run(fuel) => self.run(alloc, line, fuel.unwrap_or(u64::MAX), text),
-            Command::Random(count) => self.random(alloc, line, count, text),
-            Command::Seed(seed) => self.seed(seed, text),
-            Command::Undo(count) => self.undo(alloc, count, text),
-            Command::Moves => self.moves(alloc, text),
-            Command::Waits => self.waits(alloc, text),
-            Command::State(comp) => self.state(comp, text),
-            Command::Expect => self.expect(alloc, words, text),
-            Command::Trace => self.trace(alloc, shelf, words, text),
-            Command::Help => help(text),
-            Command::Quit => Ok(Goes::Out),
+    fn state(&mut self, comp: u64, text: &mut Text) {
+        match comp_number(self.course, comp) {
+            Some(comp) => put_state(self.course, self.origins, comp, text),
+            None => self.complain(Complaint::NoComponent(comp), text),
         }
     }
 
-    fn moves(&self, alloc: Global, text: &mut Vec<u8>) -> Result<Goes, Trouble> {
-        add_moves(alloc, &self.course, &self.origins, text)?;
-        Ok(Goes::On)
-    }
-
-    fn waits(&self, alloc: Global, text: &mut Vec<u8>) -> Result<Goes, Trouble> {
-        add_waits(alloc, &self.course, text)?;
-        Ok(Goes::On)
-    }
-
-    fn state(&self, comp: Option<u64>, text: &mut Vec<u8>) -> Result<Goes, Trouble> {
-        match comp {
-            None => add_totals(&self.course, text)?,
-            Some(comp) => {
-                let comp = self.comp_number(comp)?;
-                add_state(&self.course, &self.origins, comp, text)?;
-            }
+    // Follows a word of the host, if it is one.
+    fn word(&mut self, alloc: Global, typed: &str, word: &str, text: &mut Text) {
+        match bz_words::command(alloc, word) {
+            Ok(Some(Cmd::Host(cmd))) => self.host(alloc, typed, &cmd, text),
+            Ok(_) => self.complain(Complaint::Unknown(typed.as_bytes()), text),
+            Err(_) => text.lose(),
         }
-        Ok(Goes::On)
     }
 
-    // The component of this number.
-    fn comp_number(&self, comp: u64) -> Result<u32, Trouble> {
-        if comp == 0 || comp > u64::from(self.course.flat().comp_count()) {
-            return Err(Trouble::Bad(Complaint::NoComponent(comp)));
-        }
-        Ok(comp as u32)
-    }
-
-    fn host(
-        &mut self,
-        alloc: Global,
-        typed: &[u8],
-        cmd: HostCmd,
-        text: &mut Vec<u8>,
-    ) -> Result<Goes, Trouble> {
-        let before = self.course.net().journal().len();
-        match self.course.command(alloc, typed, &cmd) {
+    fn host(&mut self, alloc: Global, typed: &str, cmd: &HostCmd, text: &mut Text) {
+        let before = self.entries();
+        match self.course.command(alloc, typed.as_bytes(), cmd) {
             Ok(reply) => {
                 self.reply = Some(reply);
-                self.added(before, text)
+                put_added(self.course.net(), before, text);
             }
-            Err(NetError::Memory) => Err(Trouble::Memory),
-            Err(NetError::JournalFull) => Err(Trouble::Bad(Complaint::Full)),
-            Err(error) => Err(Trouble::Bad(Complaint::Refused { error, cmd })),
+            Err(error) => self.refuse(error, Complaint::Refused(error, cmd), text),
         }
     }
 
-    fn fire(
+    fn fire(&mut self, alloc: Global, typed: &str, comp: u64, port: Option<u64>, text: &mut Text) {
+        match site_of(self.course, comp, port) {
+            Ok((comp, port)) => self.fire_at(alloc, typed, comp, port, text),
+            Err(complaint) => self.complain(complaint, text),
+        }
+    }
+
+    fn fire_at(
         &mut self,
         alloc: Global,
-        typed: &[u8],
-        comp: u64,
-        port: Option<u64>,
-        text: &mut Vec<u8>,
-    ) -> Result<Goes, Trouble> {
-        let comp = self.comp_number(comp)?;
-        let port = match port {
-            None => None,
-            Some(port) => Some(self.port_number(comp, port)?),
-        };
-        let before = self.course.net().journal().len();
-        match self.course.fire(alloc, typed, comp, port) {
+        typed: &str,
+        comp: u32,
+        port: Option<u32>,
+        text: &mut Text,
+    ) {
+        let before = self.entries();
+        match self.course.fire(alloc, typed.as_bytes(), comp, port) {
             Ok(()) => {
                 self.reply = None;
-                self.added(before, text)
+                put_added(self.course.net(), before, text);
             }
-            Err(NetError::Memory) => Err(Trouble::Memory),
-            Err(NetError::JournalFull) => Err(Trouble::Bad(Complaint::Full)),
-            Err(_) => Err(Trouble::Bad(Complaint::Stuck { comp, port })),
+            Err(error) => self.refuse(error, Complaint::Stuck { comp, port }, text),
         }
     }
 
-    // Adds the lines of the entries from this place on.
-    fn added(&self, before: usize, text: &mut Vec<u8>) -> Result<Goes, Trouble> {
-        add_added(self.course.net(), before, text)?;
-        Ok(Goes::On)
-    }
-
-    // The port of this number of a component.
-    fn port_number(&self, comp: u32, port: u64) -> Result<u32, Trouble> {
-        let count = match self.course.flat().comp(comp) {
-            Some(site) => site.chans.len(),
-            None => 0,
-        };
-        if port == 0 || port > count as u64 {
-            return Err(Trouble::Bad(Complaint::FewPorts(comp)));
-        }
-        match u32::try_from(port) {
-            Ok(port) => Ok(port),
-            Err(_) => Err(Trouble::Bad(Complaint::FewPorts(comp))),
+    // Adds why a command is refused: for want of memory or room, or as the complaint says.
+    fn refuse(&mut self, error: NetError, complaint: Complaint<'_>, text: &mut Text) {
+        match error {
+            NetError::Memory => text.lose(),
+            NetError::JournalFull => self.complain(Complaint::Full, text),
+            _ => self.complain(complaint, text),
         }
     }
 
-    fn run(
-        &mut self,
-        alloc: Global,
-        typed: &[u8],
-        fuel: u64,
-        text: &mut Vec<u8>,
-    ) -> Result<Goes, Trouble> {
-        let before = self.course.net().journal().len();
-        let end = self.course.run(alloc, typed, fuel)?;
+    fn run(&mut self, alloc: Global, typed: &str, fuel: u64, text: &mut Text) {
+        let before = self.entries();
+        match self.course.run(alloc, typed.as_bytes(), fuel) {
+            Ok(end) => self.fired(before, end, text),
+            Err(_) => text.lose(),
+        }
+    }
+
+    fn random(&mut self, alloc: Global, typed: &str, count: u64, text: &mut Text) {
+        let before = self.entries();
+        match self.course.random(alloc, typed.as_bytes(), count) {
+            Ok(end) => self.fired(before, end, text),
+            Err(_) => text.lose(),
+        }
+    }
+
+    // Adds what was fired behind the first `before` entries, and how it ended.
+    fn fired(&mut self, before: usize, end: RunEnd, text: &mut Text) {
         self.reply = None;
-        add_fired(self.course.net(), before, end, text)?;
-        Ok(Goes::On)
+        put_added(self.course.net(), before, text);
+        match end {
+            RunEnd::Rest(fired) | RunEnd::Spent(fired) => {
+                put_fired(self.course.net(), fired, text);
+            }
+            RunEnd::Refused(_, error) => self.refuse(error, Complaint::Full, text),
+        }
     }
 
-    fn random(
-        &mut self,
-        alloc: Global,
-        typed: &[u8],
-        count: u64,
-        text: &mut Vec<u8>,
-    ) -> Result<Goes, Trouble> {
-        let before = self.course.net().journal().len();
-        let end = self.course.random(alloc, typed, count)?;
-        self.reply = None;
-        add_fired(self.course.net(), before, end, text)?;
-        Ok(Goes::On)
-    }
-
-    fn seed(&mut self, seed: u64, text: &mut Vec<u8>) -> Result<Goes, Trouble> {
+    fn seed(&mut self, seed: u64, text: &mut Text) {
         self.course.seed(seed);
-        add(
-            text,
-            &[
-                Part::Bytes(b"seed "),
-                Part::Number(Value::from(seed)),
-                Part::Bytes(b"\n"),
-            ],
-        )?;
-        Ok(Goes::On)
+        text.say("seed %\n", &[Piece::Long(seed)]);
     }
 
-    fn undo(&mut self, alloc: Global, count: u64, text: &mut Vec<u8>) -> Result<Goes, Trouble> {
-        let marks = self.course.marks();
-        if count > marks.len() as u64 {
-            return Err(Trouble::Bad(Complaint::TooFew));
+    fn undo(&mut self, alloc: Global, count: u64, text: &mut Text) {
+        if count > self.course.marks().len() as u64 {
+            self.complain(Complaint::TooFew, text);
+        } else {
+            put_undone(self.course, count as usize, text);
+            if count > 0 && self.course.undo(alloc, count as usize).is_err() {
+                text.lose();
+            }
+            self.reply = None;
         }
-        let mut told = Vec::new(alloc);
-        let mut upto = self.course.net().journal().len();
-        for mark in marks.iter().rev().take(count as usize) {
-            add(
-                &mut told,
-                &[
-                    Part::Bytes(b"undone: "),
-                    Part::Bytes(mark.command.as_slice()),
-                    Part::Bytes(b" ("),
-                ],
-            )?;
-            add_count(&mut told, upto.saturating_sub(mark.entries), b"line")?;
-            add_bytes(&mut told, b")\n")?;
-            upto = mark.entries;
-        }
-        if count > 0 && self.course.undo(alloc, count as usize).is_err() {
-            return Err(Trouble::Memory);
-        }
-        self.reply = None;
-        add_bytes(text, told.as_slice())?;
-        Ok(Goes::On)
     }
 
-    fn expect(
-        &mut self,
-        alloc: Global,
-        words: &[&str],
-        text: &mut Vec<u8>,
-    ) -> Result<Goes, Trouble> {
-        let Some(reply) = self.reply else {
-            return Err(Trouble::Bad(Complaint::NoReply));
+    fn expect(&mut self, alloc: Global, typed: &str, text: &mut Text) {
+        match self.reply {
+            Some(reply) => {
+                let mut had = Text::new(alloc);
+                had.say("%", &[Piece::Reply(reply)]);
+                self.compare(typed, &had, text);
+            }
+            None => self.complain(Complaint::NoReply, text),
+        }
+    }
+
+    // Compares the reply with the one that is typed behind `expect`.
+    fn compare(&mut self, typed: &str, had: &Text, text: &mut Text) {
+        let wanted: &[u8] = match typed.split_once(' ') {
+            Some((_, reply)) => reply.as_bytes(),
+            None => b"",
         };
-        let wanted = joined(alloc, words.get(1..).unwrap_or(&[]))?;
-        let mut had = Vec::new(alloc);
-        add_reply(&mut had, reply)?;
-        if had.as_slice() == wanted.as_slice() {
-            add_bytes(text, b"as expected\n")?;
-            return Ok(Goes::On);
+        match had.whole() {
+            Ok(had) if had == wanted => text.put("as expected\n"),
+            Ok(had) => {
+                self.ending = self.ending.or(Ending::Differed);
+                text.say(
+                    "differs: expected %, had %\n",
+                    &[Piece::Shown(wanted), Piece::Bytes(had)],
+                );
+            }
+            Err(_) => text.lose(),
         }
-        self.differed = true;
-        add_bytes(text, b"differs: expected ")?;
-        add_shown(text, wanted.as_slice())?;
-        add(
-            text,
-            &[
-                Part::Bytes(b", had "),
-                Part::Bytes(had.as_slice()),
-                Part::Bytes(b"\n"),
-            ],
-        )?;
-        Ok(Goes::On)
     }
 
-    fn trace<S: Shelf>(
-        &self,
-        alloc: Global,
-        shelf: &mut S,
-        words: &[&str],
-        text: &mut Vec<u8>,
-    ) -> Result<Goes, Trouble> {
-        let path = words.get(1).copied().unwrap_or("");
+    fn trace<S: Shelf>(&mut self, shelf: &mut S, path: &str, text: &mut Text) {
         let net = self.course.net();
-        let is_written = match shelf.create(path) {
-            Some(mut file) => save(net, &mut file).is_ok(),
-            None => false,
-        };
-        if !is_written {
-            let path = Vec::from_slice(alloc, path.as_bytes())?;
-            return Err(Trouble::Bad(Complaint::Unwritable(path)));
+        if is_saved(shelf, path, net) {
+            let lines = net.journal().len().saturating_add(net.clashes().len());
+            text.say(
+                "wrote %: %\n",
+                &[
+                    Piece::Shown(path.as_bytes()),
+                    Piece::Count(lines.saturating_add(1), "line"),
+                ],
+            );
+        } else {
+            self.complain(Complaint::Unwritable(path), text);
         }
-        add_bytes(text, b"wrote ")?;
-        add_shown(text, path.as_bytes())?;
-        add_bytes(text, b": ")?;
-        let lines = net.journal().len().saturating_add(net.clashes().len());
-        add_count(text, lines.saturating_add(1), b"line")?;
-        add_bytes(text, b"\n")?;
-        Ok(Goes::On)
+    }
+
+    // How many entries the journal has.
+    fn entries(&self) -> usize {
+        self.course.net().journal().len()
     }
 }
 
-fn help(text: &mut Vec<u8>) -> Result<Goes, Trouble> {
-    add_bytes(text, HELP.as_bytes())?;
-    Ok(Goes::On)
+// Whether the trace could be written.
+fn is_saved<S: Shelf>(shelf: &mut S, path: &str, net: &Net) -> bool {
+    match shelf.create(path) {
+        Some(mut file) => save(net, &mut file).is_ok(),
+        None => false,
+    }
+}
+
+// The component of this number, if there is one.
+fn comp_number(course: &Course, comp: u64) -> Option<u32> {
+    match u32::try_from(comp) {
+        Ok(number) if number > 0 && number <= course.flat().comp_count() => Some(number),
+        _ => None,
+    }
+}
+
+// The component and the port of these numbers.
+fn site_of(
+    course: &Course,
+    comp: u64,
+    port: Option<u64>,
+) -> Result<(u32, Option<u32>), Complaint<'static>> {
+    let Some(number) = comp_number(course, comp) else {
+        return Err(Complaint::NoComponent(comp));
+    };
+    match (port, course.flat().comp(number)) {
+        (None, _) => Ok((number, None)),
+        (Some(port), Some(site)) => match u32::try_from(port) {
+            Ok(port) if port > 0 && port <= port_count(site) => Ok((number, Some(port))),
+            _ => Err(Complaint::FewPorts(number)),
+        },
+        (Some(_), None) => Err(Complaint::FewPorts(number)),
+    }
 }

@@ -1,42 +1,84 @@
 //! Text that is put together before it goes out.
 
-use bz_lines::{Part, put_parts};
-use std::alloc::AllocError;
+use crate::piece::{Piece, put_piece};
+use bz_lines::{Part, WriteFault, put_parts};
+use std::alloc::{AllocError, Global};
 
-/// Adds parts behind a text.
-pub(crate) fn add(text: &mut Vec<u8>, parts: &[Part<'_>]) -> Result<(), AllocError> {
-    match put_parts(text, parts) {
-        Ok(()) => Ok(()),
-        // a text in memory is refused for memory alone
-        Err(_) => Err(AllocError),
+/// The most blanks between two columns.
+const BLANKS: &[u8] = b"                                                            ";
+
+/// A text that keeps its fault: where memory is refused a part of it is lost, and `whole` answers so.
+#[derive(Drop)]
+pub(crate) struct Text {
+    pub bytes: Vec<u8>,
+    is_short: bool,
+}
+
+impl Text {
+    pub fn new(alloc: Global) -> Text {
+        Text {
+            bytes: Vec::new(alloc),
+            is_short: false,
+        }
     }
-}
 
-/// Adds bytes.
-pub(crate) fn add_bytes(text: &mut Vec<u8>, bytes: &[u8]) -> Result<(), AllocError> {
-    add(text, &[Part::Bytes(bytes)])
-}
-
-/// Fills the line that begins at `start` with blanks up to a column, with two of them at least.
-pub(crate) fn fill(text: &mut Vec<u8>, start: usize, column: usize) -> Result<(), AllocError> {
-    add_bytes(text, b"  ")?;
-    let width = text.len().saturating_sub(start);
-    for _ in width..column {
-        add_bytes(text, b" ")?;
+    /// The bytes, where none were lost.
+    pub fn whole(&self) -> Result<&[u8], AllocError> {
+        if self.is_short {
+            Err(AllocError)
+        } else {
+            Ok(self.bytes.as_slice())
+        }
     }
-    Ok(())
-}
 
-/// Adds a count of things, as `1 line` and `2 lines`.
-pub(crate) fn add_count(text: &mut Vec<u8>, count: usize, thing: &[u8]) -> Result<(), AllocError> {
-    let end: &[u8] = if count == 1 { b"" } else { b"s" };
-    add(
-        text,
-        &[
-            Part::Number(count as u128),
-            Part::Bytes(b" "),
-            Part::Bytes(thing),
-            Part::Bytes(end),
-        ],
-    )
+    /// Notes that a part of the text is lost.
+    pub fn lose(&mut self) {
+        self.is_short = true;
+    }
+
+    /// Notes whether a part was written; a text in memory is refused for memory alone.
+    pub fn keep(&mut self, written: Result<(), WriteFault>) {
+        if written.is_err() {
+            self.is_short = true;
+        }
+    }
+
+    pub fn put_parts(&mut self, parts: &[Part<'_>]) {
+        let written = put_parts(&mut self.bytes, parts);
+        self.keep(written);
+    }
+
+    pub fn put(&mut self, words: &str) {
+        self.put_parts(&[Part::Bytes(words.as_bytes())]);
+    }
+
+    /// Adds a form in which each `%` stands for the next of the pieces.
+    pub fn say(&mut self, form: &str, pieces: &[Piece<'_>]) {
+        let mut rest = pieces.iter();
+        for words in form.split('%') {
+            self.put(words);
+            if let Some(piece) = rest.next() {
+                put_piece(self, *piece);
+            }
+        }
+    }
+
+    /// Fills the last line with blanks up to a column, with two of them at least.
+    pub fn fill(&mut self, column: usize) {
+        let count = column.saturating_sub(self.width()).max(2);
+        let blanks = BLANKS.get(..count).unwrap_or(BLANKS);
+        self.put_parts(&[Part::Bytes(blanks)]);
+    }
+
+    // How many bytes the last line has.
+    fn width(&self) -> usize {
+        let mut width = 0usize;
+        for byte in self.bytes.iter().rev() {
+            if *byte == b'\n' {
+                break;
+            }
+            width = width.saturating_add(1);
+        }
+        width
+    }
 }

@@ -1,15 +1,13 @@
 //! Who holds each channel, and for whom each component waits.
 
-use crate::circles::circles;
-use crate::looking::add_host_word;
-use crate::naming::{add_comp, add_phase, chan_at, phase_of, port_name, port_of};
-use crate::text::{add, add_bytes, fill};
+use crate::cycles::cycles;
+use crate::naming::{chan_at, comp, host_word, phase_of, port_count, port_name};
+use crate::piece::Piece;
+use crate::text::Text;
 use bz_course::{Course, busy_chans};
 use bz_flat::{Ends, Flat, FlatComp};
 use bz_kind_table::is_passive;
-use bz_lines::Part;
-use bz_model::{Kind, Move, Phase, Value, Verb};
-use bz_net::Net;
+use bz_model::{Kind, Move, Phase, Verb};
 use std::alloc::{AllocError, Global};
 
 /// The column of what holds a channel, and of what is waited for.
@@ -18,25 +16,41 @@ const COLUMN: usize = 26;
 /// Who waits for whom, and how many do.
 #[derive(Drop)]
 struct Waiting {
-    /// From who waits to whom it waits for.
+    /// From who waits to whom it waits for, by who waits.
     links: Vec<(u32, u32)>,
     waiting: u32,
     ready: u32,
     idle: u32,
 }
 
-/// Adds who holds each channel that is not idle, for whom each component waits, the circles among these, and how many there
+/// What a component does while nothing else moves.
+#[derive(Clone, Copy)]
+enum Standing {
+    /// It can move.
+    Ready,
+    /// It can't make the moves of this sort that are due.
+    Waits(Move),
+    /// It has nothing left to do, and owes an acknowledgement on this channel.
+    Ended(u32),
+    Idle,
+}
+
+/// What has to come first on a channel: from the component that stands at the other end, or from the host.
+#[derive(Clone, Copy)]
+struct Wanted {
+    from: Option<u32>,
+    /// What the component has to do there.
+    deed: &'static str,
+    /// What the host has to do there.
+    verb: Verb,
+}
+
+/// Adds who holds each channel that is not idle, for whom each component waits, the cycles among these, and how many there
 /// are.
-pub(crate) fn add_waits(
-    alloc: Global,
-    course: &Course,
-    text: &mut Vec<u8>,
-) -> Result<(), AllocError> {
-    let flat = course.flat();
-    let net = course.net();
-    let busy = busy_chans(alloc, flat, net)?;
-    for chan in &busy {
-        add_holder(course, *chan, text)?;
+pub(crate) fn put_waits(alloc: Global, course: &Course, text: &mut Text) {
+    match busy_chans(alloc, course.flat(), course.net()) {
+        Ok(chans) => put_holders(course, chans.as_slice(), text),
+        Err(_) => text.lose(),
     }
     let mut all = Waiting {
         links: Vec::new(alloc),
@@ -44,40 +58,68 @@ pub(crate) fn add_waits(
         ready: 0,
         idle: 0,
     };
-    for place in 0..flat.comp_count() {
-        add_waiter(course, place + 1, &mut all, text)?;
-    }
-    let found = circles(alloc, flat.comp_count() as usize, all.links.as_slice())?;
-    for circle in &found {
-        add_circle(flat, circle.as_slice(), text)?;
-    }
-    add_counts(&all, text)
+    put_waiters(course, &mut all, text);
+    put_waiting(alloc, course.flat(), &all, text);
 }
 
-fn add_counts(all: &Waiting, text: &mut Vec<u8>) -> Result<(), AllocError> {
-    add(
-        text,
+fn put_waiting(alloc: Global, flat: &Flat, all: &Waiting, text: &mut Text) {
+    if put_cycles(alloc, flat, all.links.as_slice(), text).is_err() {
+        text.lose();
+    }
+    text.say(
+        "% wait, % can move, % idle\n",
         &[
-            Part::Number(Value::from(all.waiting)),
-            Part::Bytes(b" wait, "),
-            Part::Number(Value::from(all.ready)),
-            Part::Bytes(b" can move, "),
-            Part::Number(Value::from(all.idle)),
-            Part::Bytes(b" idle\n"),
+            Piece::Number(all.waiting),
+            Piece::Number(all.ready),
+            Piece::Number(all.idle),
         ],
-    )
+    );
 }
 
-fn add_circle(flat: &Flat, circle: &[u32], text: &mut Vec<u8>) -> Result<(), AllocError> {
-    add_bytes(text, b"circle ")?;
-    for comp in circle {
-        add_comp(text, flat, *comp)?;
-        add_bytes(text, b" -> ")?;
+fn put_cycles(
+    alloc: Global,
+    flat: &Flat,
+    links: &[(u32, u32)],
+    text: &mut Text,
+) -> Result<(), AllocError> {
+    for cycle in &cycles(alloc, flat.comp_count() as usize, links)? {
+        put_cycle(flat, cycle.as_slice(), text);
     }
-    if let Some(first) = circle.first() {
-        add_comp(text, flat, *first)?;
+    Ok(())
+}
+
+fn put_cycle(flat: &Flat, cycle: &[u32], text: &mut Text) {
+    text.put("circle ");
+    for member in cycle {
+        text.say("% -> ", &[comp(flat, *member)]);
     }
-    add_bytes(text, b"\n")
+    let first = cycle.first().copied().unwrap_or(0);
+    text.say("%\n", &[comp(flat, first)]);
+}
+
+fn put_holders(course: &Course, chans: &[u32], text: &mut Text) {
+    for chan in chans {
+        put_holder(course, *chan, text);
+    }
+}
+
+// The phase of a channel, and who holds it.
+fn put_holder(course: &Course, chan: u32, text: &mut Text) {
+    let flat = course.flat();
+    let phase = phase_of(course, chan);
+    let ends = ends_of(flat, chan);
+    let active = end(flat, ends.active, chan);
+    let passive = end(flat, ends.passive, chan);
+    text.say("channel %", &[Piece::Number(chan)]);
+    text.fill(13);
+    text.say("%", &[Piece::Phase(phase)]);
+    text.fill(COLUMN);
+    let (form, pieces) = match phase {
+        Phase::Asked(_) => ("% has not taken the request of %\n", [passive, active]),
+        Phase::Replied(_) => ("% has not got the reply of %\n", [active, passive]),
+        _ => ("% has not replied to %\n", [passive, active]),
+    };
+    text.say(form, &pieces);
 }
 
 fn ends_of(flat: &Flat, chan: u32) -> Ends {
@@ -90,105 +132,71 @@ fn ends_of(flat: &Flat, chan: u32) -> Ends {
 }
 
 // Who stands at an end of a channel: a component, or the host at the port.
-fn add_end(text: &mut Vec<u8>, flat: &Flat, end: Option<u32>, chan: u32) -> Result<(), AllocError> {
-    match end {
-        Some(comp) => add_comp(text, flat, comp),
-        None => add(
-            text,
-            &[
-                Part::Bytes(b"the host at "),
-                Part::Name(port_name(flat, chan)),
-            ],
-        ),
+fn end(flat: &Flat, number: Option<u32>, chan: u32) -> Piece<'_> {
+    match number {
+        Some(number) => comp(flat, number),
+        None => Piece::Host(port_name(flat, chan)),
     }
 }
 
-// The phase of a channel, and who holds it.
-fn add_holder(course: &Course, chan: u32, text: &mut Vec<u8>) -> Result<(), AllocError> {
-    let flat = course.flat();
-    let start = text.len();
-    let phase = phase_of(course, chan);
-    let ends = ends_of(flat, chan);
-    add(
-        text,
-        &[Part::Bytes(b"channel "), Part::Number(Value::from(chan))],
-    )?;
-    fill(text, start, 13)?;
-    add_phase(text, phase)?;
-    fill(text, start, COLUMN)?;
-    let (first, words, second): (Option<u32>, &[u8], Option<u32>) = match phase {
-        Phase::Asked(_) => (ends.passive, b" has not taken the request of ", ends.active),
-        Phase::Replied(_) => (ends.active, b" has not got the reply of ", ends.passive),
-        _ => (ends.passive, b" has not replied to ", ends.active),
-    };
-    add_end(text, flat, first, chan)?;
-    add_bytes(text, words)?;
-    add_end(text, flat, second, chan)?;
-    add_bytes(text, b"\n")
+fn put_waiters(course: &Course, all: &mut Waiting, text: &mut Text) {
+    for number in 1..=course.flat().comp_count() {
+        if let Some(site) = course.flat().comp(number) {
+            put_waiter(course, number, site, all, text);
+        }
+    }
 }
 
 // For whom a component waits, where it can't move.
-fn add_waiter(
-    course: &Course,
-    comp: u32,
-    all: &mut Waiting,
-    text: &mut Vec<u8>,
-) -> Result<(), AllocError> {
-    let flat = course.flat();
-    let net = course.net();
-    if net.is_ready(comp) {
-        all.ready = all.ready.saturating_add(1);
-        return Ok(());
-    }
-    let Some(site) = flat.comp(comp) else {
-        return Ok(());
-    };
-    let owed = owed_chan(course, site);
-    let told = if has_due(net, comp, site, Move::Got) {
-        add_due_moves(course, comp, site, Move::Got, all, text)?;
-        true
-    } else {
-        match owed {
-            None => false,
-            Some(_) if has_due(net, comp, site, Move::Take) => {
-                add_due_moves(course, comp, site, Move::Take, all, text)?;
-                true
-            }
-            Some(chan) => {
-                add_ended(flat, comp, chan, text)?;
-                true
-            }
+fn put_waiter(course: &Course, number: u32, site: &FlatComp, all: &mut Waiting, text: &mut Text) {
+    match standing_of(course, number, site) {
+        Standing::Ready => all.ready = all.ready.saturating_add(1),
+        Standing::Idle => all.idle = all.idle.saturating_add(1),
+        Standing::Waits(mv) => {
+            all.waiting = all.waiting.saturating_add(1);
+            put_due_moves(course, number, site, mv, all, text);
         }
-    };
-    if told {
-        all.waiting = all.waiting.saturating_add(1);
-    } else {
-        all.idle = all.idle.saturating_add(1);
+        Standing::Ended(chan) => {
+            all.waiting = all.waiting.saturating_add(1);
+            text.say("ended %", &[comp(course.flat(), number)]);
+            text.fill(COLUMN);
+            text.say("and never replies on %\n", &[Piece::Number(chan)]);
+        }
     }
-    Ok(())
+}
+
+fn standing_of(course: &Course, number: u32, site: &FlatComp) -> Standing {
+    if course.net().is_ready(number) {
+        Standing::Ready
+    } else if count_due(course, number, site, Move::Got) > 0 {
+        Standing::Waits(Move::Got)
+    } else {
+        match owed_chan(course, site) {
+            None => Standing::Idle,
+            Some(_) if count_due(course, number, site, Move::Take) > 0 => {
+                Standing::Waits(Move::Take)
+            }
+            Some(chan) => Standing::Ended(chan),
+        }
+    }
 }
 
 // The first channel whose request a component has taken and not replied to.
 fn owed_chan(course: &Course, site: &FlatComp) -> Option<u32> {
-    for (place, chan) in site.chans.iter().enumerate() {
-        let port = port_of(place);
-        if is_passive(&site.kind, site.sizes, port) && phase_of(course, *chan) == Phase::Taken {
-            return Some(*chan);
+    for port in 1..=port_count(site) {
+        let chan = chan_at(site, port);
+        if is_passive(&site.kind, site.sizes, port) && phase_of(course, chan) == Phase::Taken {
+            return Some(chan);
         }
     }
     None
 }
 
-// Whether such a move is due at some port.
-fn has_due(net: &Net, comp: u32, site: &FlatComp, mv: Move) -> bool {
-    count_due(net, comp, site, mv) > 0
-}
-
 // At how many ports such a move is due.
-fn count_due(net: &Net, comp: u32, site: &FlatComp, mv: Move) -> u32 {
+fn count_due(course: &Course, number: u32, site: &FlatComp, mv: Move) -> u32 {
     let mut count = 0u32;
-    for place in 0..site.chans.len() {
-        if net.due(comp, port_of(place)) == Some(mv) {
+    for port in 1..=port_count(site) {
+        if course.net().due(number, port) == Some(mv) {
             count = count.saturating_add(1);
         }
     }
@@ -196,87 +204,69 @@ fn count_due(net: &Net, comp: u32, site: &FlatComp, mv: Move) -> u32 {
 }
 
 // A line for each port at which such a move is due. Where one of them is enough, all but the first begin with `or`.
-fn add_due_moves(
+fn put_due_moves(
     course: &Course,
-    comp: u32,
+    number: u32,
     site: &FlatComp,
     mv: Move,
     all: &mut Waiting,
-    text: &mut Vec<u8>,
-) -> Result<(), AllocError> {
-    let flat = course.flat();
-    let net = course.net();
+    text: &mut Text,
+) {
     let one_is_enough = mv == Move::Take
         && matches!(site.kind, Kind::DecisionWait)
-        && count_due(net, comp, site, mv) > 1;
-    let mut is_first = true;
-    for place in 0..site.chans.len() {
-        let port = port_of(place);
-        if net.due(comp, port) != Some(mv) {
-            continue;
-        }
-        let chan = chan_at(site, port).unwrap_or(0);
-        let start = text.len();
-        if is_first || !one_is_enough {
-            add_bytes(text, b"wait ")?;
-            add_comp(text, flat, comp)?;
-        } else {
-            add_bytes(text, b"  or")?;
-        }
-        is_first = false;
-        fill(text, start, COLUMN)?;
-        let other = add_wanted(course, mv, chan, text)?;
-        if let Some(other) = other {
+        && count_due(course, number, site, mv) > 1;
+    let mut is_or = false;
+    for port in 1..=port_count(site) {
+        if course.net().due(number, port) == Some(mv) {
+            let chan = chan_at(site, port);
+            let wanted = wanted(course, mv, chan);
+            put_wait(course.flat(), number, is_or, text);
+            put_wanted(course.flat(), wanted, chan, text);
             if !one_is_enough {
-                all.links.push((comp, other))?;
+                add_link(all, number, wanted.from, text);
             }
+            is_or = one_is_enough;
         }
     }
-    Ok(())
 }
 
-// What has to come first on a channel, and from whom; the component that it has to come from.
-fn add_wanted(
-    course: &Course,
-    mv: Move,
-    chan: u32,
-    text: &mut Vec<u8>,
-) -> Result<Option<u32>, AllocError> {
-    let flat = course.flat();
-    let ends = ends_of(flat, chan);
-    let asked = matches!(phase_of(course, chan), Phase::Asked(_));
-    let (other, words, verb): (Option<u32>, &[u8], Verb) = match mv {
-        Move::Got if asked => (ends.passive, b" to take ", Verb::Accept),
-        Move::Got => (ends.passive, b" to reply on ", Verb::Answer),
-        _ => (ends.active, b" to ask on ", Verb::Offer),
+fn add_link(all: &mut Waiting, number: u32, from: Option<u32>, text: &mut Text) {
+    if let Some(from) = from {
+        if all.links.push((number, from)).is_err() {
+            text.lose();
+        }
+    }
+}
+
+fn put_wait(flat: &Flat, number: u32, is_or: bool, text: &mut Text) {
+    if is_or {
+        text.put("  or");
+    } else {
+        text.say("wait %", &[comp(flat, number)]);
+    }
+    text.fill(COLUMN);
+}
+
+fn wanted(course: &Course, mv: Move, chan: u32) -> Wanted {
+    let ends = ends_of(course.flat(), chan);
+    let (from, deed, verb) = match (mv, phase_of(course, chan)) {
+        (Move::Got, Phase::Asked(_)) => (ends.passive, "take", Verb::Accept),
+        (Move::Got, _) => (ends.passive, "reply on", Verb::Answer),
+        _ => (ends.active, "ask on", Verb::Offer),
     };
-    add_bytes(text, b"for ")?;
-    match other {
-        Some(comp) => {
-            add_comp(text, flat, comp)?;
-            add(text, &[Part::Bytes(words), Part::Number(Value::from(chan))])?;
-        }
-        None => {
-            add_bytes(text, b"the host: ")?;
-            add_host_word(text, flat, verb, chan)?;
-        }
-    }
-    add_bytes(text, b"\n")?;
-    Ok(other)
+    Wanted { from, deed, verb }
 }
 
-// A component that has come to its end, and will never reply.
-fn add_ended(flat: &Flat, comp: u32, chan: u32, text: &mut Vec<u8>) -> Result<(), AllocError> {
-    let start = text.len();
-    add_bytes(text, b"ended ")?;
-    add_comp(text, flat, comp)?;
-    fill(text, start, COLUMN)?;
-    add(
-        text,
-        &[
-            Part::Bytes(b"and never replies on "),
-            Part::Number(Value::from(chan)),
-            Part::Bytes(b"\n"),
-        ],
-    )
+fn put_wanted(flat: &Flat, wanted: Wanted, chan: u32, text: &mut Text) {
+    match wanted.from {
+        Some(number) => text.say(
+            "for % to % %\n",
+            &[
+                comp(flat, number),
+                Piece::Text(wanted.deed),
+                Piece::Number(chan),
+            ],
+        ),
+        None => text.say("for the host: %\n", &[host_word(flat, wanted.verb, chan)]),
+    }
 }
