@@ -4,7 +4,7 @@ use crate::naming::{chan_at, chan_of, comp, phase_of, port, port_count};
 use crate::piece::{Piece, chan_word, move_word, verb_word};
 use crate::text::Text;
 use bz_course::Course;
-use bz_elab::{Flat, FlatComp};
+use bz_flat::{Flat, FlatComp};
 use bz_model::{HostCmd, NetError, Value, low_bits, numbered};
 use bz_net::Net;
 

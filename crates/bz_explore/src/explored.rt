@@ -10,7 +10,7 @@ use crate::session::{Goes, Session};
 use crate::text::Text;
 use bz_commands::{Fault, flat_of, read_input};
 use bz_course::Course;
-use bz_elab::Flat;
+use bz_flat::Flat;
 use bz_lines::{Part, put_parts};
 use std::alloc::Global;
 use std::io::{BufRead, Read, Write};

@@ -5,7 +5,7 @@ use crate::origins::Origins;
 use crate::piece::{Piece, move_word};
 use crate::text::Text;
 use bz_course::{Course, HostOffer, Offer, answered_words, offers_of};
-use bz_elab::{Flat, FlatComp};
+use bz_flat::{Flat, FlatComp};
 use bz_model::{Entry, Kind, Move, Phase, Value};
 use std::alloc::Global;
 

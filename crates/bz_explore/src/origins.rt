@@ -4,7 +4,7 @@ use crate::piece::Piece;
 use crate::text::Text;
 use bz_breeze::Parts;
 use bz_commands::Fault;
-use bz_elab::FlatComp;
+use bz_flat::FlatComp;
 use bz_places::{PartLines, Places, comp_standing, lines_of, put_comp, put_path};
 use std::alloc::Global;
 
