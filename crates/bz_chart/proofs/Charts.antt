@@ -5,9 +5,9 @@ use Rattle.std.specs.Io.KnownBytes.{Keeps}
 use Rattle.bz_model.specs.Nets.{Wiring}
 use Rattle.bz_trace.specs.declared.checking.Verdict.TheVariants as verdict
 use Rattle.bz_trace.specs.Verdicts.{Judges}
-use Rattle.bz_commands.specs.declared.fault.Fault.TheVariants as fault
+use Rattle.bz_input.specs.declared.fault.Fault.TheVariants as fault
 use Rattle.bz_commands.specs.Checking.{Splits}
-use Rattle.bz_commands.specs.Opening.{Denotes}
+use Rattle.bz_input.specs.Opening.{Denotes}
 use Rattle.bz_chart.specs.declared.range.LineRange.{LineRange}
 use Rattle.bz_chart.specs.declared.fault.ChartFault.{ChartFault}
 use Rattle.bz_chart.specs.declared.fault.ChartFault.TheVariants.{Command, NotRun, NotTrace, Piece}

@@ -5,12 +5,12 @@ use Rattle.bz_model.specs.Nets.{Wiring}
 use Rattle.bz_trace.specs.declared.checking.Verdict.{Verdict}
 use Rattle.bz_trace.specs.declared.checking.Verdict.TheVariants as verdict
 use Rattle.bz_trace.specs.Verdicts.{Judges}
-use Rattle.bz_commands.specs.declared.fault.Fault.{Fault}
-use Rattle.bz_commands.specs.declared.fault.Fault.TheVariants.{Write, Memory}
+use Rattle.bz_input.specs.declared.fault.Fault.{Fault}
+use Rattle.bz_input.specs.declared.fault.Fault.TheVariants.{Write, Memory}
 use Rattle.bz_commands.specs.Checking.{RefusesNetlist, Splits}
-use Rattle.bz_commands.specs.Opening.{Denotes}
-use Rattle.bz_commands.specs.Running.{AppendsSome}
-use Rattle.bz_commands.specs.Statuses as command
+use Rattle.bz_input.specs.Opening.{Denotes}
+use Rattle.bz_input.specs.Stopping.{AppendsSome}
+use Rattle.bz_input.specs.Statuses as command
 use Rattle.bz_chart.specs.declared.range.LineRange.{LineRange}
 use Rattle.bz_chart.specs.declared.fault.ChartFault.{ChartFault}
 use Rattle.bz_chart.specs.declared.fault.ChartFault.TheVariants.{Command, NotRun, NotTrace, Piece}

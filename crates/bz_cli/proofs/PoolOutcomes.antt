@@ -25,14 +25,14 @@ use Rattle.bz_words.specs.declared.words.SessionError.{SessionError}
 use Rattle.bz_words.specs.declared.words.SessionError.TheVariants as session
 use Rattle.bz_words.specs.Words.{Spell}
 use Rattle.bz_session.specs.declared.playing.End.{End}
-use Rattle.bz_commands.specs.declared.fault.Fault.{Fault}
-use Rattle.bz_commands.specs.declared.fault.Fault.TheVariants.{Write}
-use Rattle.bz_commands.specs.Limits.{input_limit}
-use Rattle.bz_commands.specs.Opening.{Denotes}
+use Rattle.bz_input.specs.declared.fault.Fault.{Fault}
+use Rattle.bz_input.specs.declared.fault.Fault.TheVariants.{Write}
+use Rattle.bz_input.specs.Limits.{input_limit}
+use Rattle.bz_input.specs.Opening.{Denotes}
 use Rattle.bz_commands.proofs.Checks.{keeps_same}
 use Rattle.bz_cli.specs.Pooling.{IsAgreed, IsFirstRefused, IsOfPool, Pooled, Pools, PoolsText, RefusesSessions, WritesClosed, fault_for}
-use Rattle.bz_commands.specs.Running.{AppendsSome}
-use Rattle.bz_commands.specs.Statuses.{of_words}
+use Rattle.bz_input.specs.Stopping.{AppendsSome}
+use Rattle.bz_input.specs.Statuses.{of_words}
 use Rattle.bz_cli.specs.Faults.{of_pool}
 
 -- what was played on the net, and the text that goes out of it

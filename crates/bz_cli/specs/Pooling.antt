@@ -19,11 +19,11 @@ use Rattle.bz_words.specs.Words.{Spell}
 use Rattle.bz_session.specs.declared.playing.End.{End}
 use Rattle.bz_session.specs.declared.playing.End.TheVariants as end
 use Rattle.bz_words.specs.declared.words.SessionError.TheVariants as session
-use Rattle.bz_commands.specs.Limits.{input_limit}
-use Rattle.bz_commands.specs.Opening.{Denotes, RefusesNet}
-use Rattle.bz_commands.specs.Running.{AppendsSome, StopsAtInput}
-use Rattle.bz_commands.specs.declared.fault.Fault.{Fault}
-use Rattle.bz_commands.specs.declared.fault.Fault.TheVariants.{Word, Ended, Discord, NoThread, Write, Memory}
+use Rattle.bz_input.specs.Limits.{input_limit}
+use Rattle.bz_input.specs.Opening.{Denotes, RefusesNet}
+use Rattle.bz_input.specs.Stopping.{AppendsSome, StopsAtInput}
+use Rattle.bz_input.specs.declared.fault.Fault.{Fault}
+use Rattle.bz_input.specs.declared.fault.Fault.TheVariants.{Word, Ended, Discord, NoThread, Write, Memory}
 
 abbrev pub RefusesSessions : List (List ℕ) → Fault → Type 0
 RefusesSessions words (Word at) = IsFirstUnfit words at

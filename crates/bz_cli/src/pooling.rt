@@ -10,9 +10,10 @@ ghost use Rattle.bz_words.specs.Limits.{max_sessions};
 ghost use Rattle.bz_words.specs.Words.{Spell, texts};
 ghost use Rattle.bz_cli.specs.Faults.{of_pool};
 ghost use Rattle.bz_cli.specs.Pooling.{IsAgreed, IsFirstRefused, fault_for, refusal_of, who_at, Pools, PoolsText, RefusesSessions, WritesClosed};
-ghost use Rattle.bz_commands.specs.Reading.{ReadsWithin};
+ghost use Rattle.bz_input.specs.Reading.{ReadsWithin};
 
-use bz_commands::{Fault, open_net, read_input, write_out};
+use bz_commands::{open_net, write_out};
+use bz_input::{Fault, read_input};
 use bz_locked::CloseError;
 use bz_model::{HostCmd, NetError, Who};
 use bz_net::Net;

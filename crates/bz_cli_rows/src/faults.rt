@@ -1,6 +1,6 @@
 //! The lines of faults of words and of the input.
 
-use bz_commands::InputFault;
+use bz_input::InputFault;
 use bz_session::SessionError;
 use std::test::Fail;
 

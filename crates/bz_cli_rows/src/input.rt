@@ -1,6 +1,6 @@
 //! The input, up to its limit.
 
-use bz_commands::{InputFault, read_input};
+use bz_input::{InputFault, read_input};
 use std::io;
 use std::io::Read;
 use std::test::Fail;

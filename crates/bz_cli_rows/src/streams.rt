@@ -1,6 +1,7 @@
 //! Readers and writers that fail, and inputs at the limit, on each command.
 
-use bz_commands::{Fault, check_cmd, list_cmd, run_cmd};
+use bz_commands::{check_cmd, run_cmd};
+use bz_input::{Fault, list_cmd};
 use bz_playing::netlists::BUFFER;
 use std::alloc::Global;
 use std::io;

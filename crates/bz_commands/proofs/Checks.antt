@@ -7,9 +7,9 @@ use Rattle.bz_lines.specs.declared.tally.Counts.{Counts}
 use Rattle.bz_trace.specs.declared.checking.Verdict.{Verdict}
 use Rattle.bz_trace.specs.declared.checking.Verdict.TheVariants as verdict
 use Rattle.bz_trace.specs.Verdicts.{CountsRun, Judges}
-use Rattle.bz_commands.specs.declared.fault.Fault.{Fault}
-use Rattle.bz_commands.specs.declared.fault.Fault.TheVariants as fault
-use Rattle.bz_commands.specs.Opening.{Denotes, RefusesNet}
+use Rattle.bz_input.specs.declared.fault.Fault.{Fault}
+use Rattle.bz_input.specs.declared.fault.Fault.TheVariants as fault
+use Rattle.bz_input.specs.Opening.{Denotes, RefusesNet}
 use Rattle.bz_commands.specs.Checking.{ChecksText, Said, Splits, verdict_text}
 
 pub refused : (text part netlist trace : List ℕ) (old new : Option (List ℕ)) (e : Fault) → Splits text netlist trace → RefusesNet netlist part e → Keeps old new → ChecksText text part old new (Err e)

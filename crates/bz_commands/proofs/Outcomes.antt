@@ -4,17 +4,15 @@ use Rattle.std.specs.Prelude.{IfSome}
 use Rattle.std.specs.Io.KnownBytes.{Appends}
 use Rattle.bz_model.specs.declared.event.NetError.{NetError}
 use Rattle.bz_model.specs.declared.event.NetError.TheVariants as net
-use Rattle.bz_commands.specs.declared.fault.Fault.{Fault}
+use Rattle.bz_input.specs.declared.fault.Fault.{Fault}
 use Rattle.bz_words.specs.Words.{command_of}
-use Rattle.bz_commands.specs.declared.fault.Fault.TheVariants.{Memory, Write}
+use Rattle.bz_input.specs.declared.fault.Fault.TheVariants.{Memory, Write}
 use Rattle.bz_model.specs.declared.event.Cmd.{Cmd}
 use Rattle.bz_commands.specs.declared.playing.Stop.{Stop}
 use Rattle.bz_model.specs.Nets.{Wiring}
-use Rattle.bz_commands.specs.Running.{AppendsSome, AreCommands, Played, PlaysNet, PlaysText, Runs, fault_for}
-use Rattle.bz_commands.specs.Limits.{input_limit}
-use Rattle.bz_commands.specs.Listed.{Lists, ListsText}
-use Rattle.bz_commands.specs.Listing.{list_text}
-use Rattle.bz_commands.specs.Opening.{Denotes}
+use Rattle.bz_commands.specs.Running.{AreCommands, Played, PlaysNet, PlaysText, Runs, fault_for}
+use Rattle.bz_input.specs.Stopping.{AppendsSome}
+use Rattle.bz_input.specs.Limits.{input_limit}
 
 -- the fault of a play that stopped
 pub told : (A : Type 0) (w : Wiring) (limit : ℕ) (cmds : List Cmd) (old new : Option (List ℕ)) (word : ℕ) (e : NetError) → Played w limit cmds (Some (record { word = word; error = e })) (Appends old new) → PlaysNet {E = A} w limit cmds old new (Err (fault_for word e))
@@ -47,12 +45,3 @@ pub runs_on : {A : Type 0} (known : Option (List ℕ)) (items : List ℕ) (words
 runs_on None items words part limit cmds old new answer whole fits are plays = tt
 runs_on (Some xs) items words part limit cmds old new answer whole fits are plays =
     inr (cmds, are, inr (subst (λ text. (length text ≤ input_limit) × PlaysText text part limit cmds old new answer) whole (fits, plays)))
-
-pub lists_on : {A : Type 0} (known : Option (List ℕ)) (items part : List ℕ) (old new : Option (List ℕ)) (answer : Result A Fault) → IfSome known (λ xs. items ≡ xs) → length items ≤ input_limit → ListsText items part old new answer → IfSome known (λ text. Lists text part old new answer)
-lists_on None items part old new answer whole fits lists = tt
-lists_on (Some xs) items part old new answer whole fits lists =
-    inr (subst (λ text. (length text ≤ input_limit) × ListsText text part old new answer) whole (fits, lists))
-
--- the writer failed
-pub list_cut_short : (A : Type 0) (text part : List ℕ) (w : Wiring) (old new : Option (List ℕ)) (fault : Fault) → fault ≡ Write → Denotes text part w → AppendsSome old new (list_text part w) → ListsText {E = A} text part old new (Err fault)
-list_cut_short A text part w old new fault is denotes out = rw is (inr (w, denotes, out))

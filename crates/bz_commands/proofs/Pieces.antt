@@ -29,10 +29,11 @@ use Rattle.bz_net.specs.Simulation.{Simulation}
 use Rattle.bz_commands.specs.declared.pending.Pending.{Pending}
 use Rattle.bz_commands.specs.Playing.{Playing, PlaysOne, StopsOne}
 use Rattle.bz_commands.specs.declared.playing.Stop.{Stop}
-use Rattle.bz_commands.specs.Running.{AppendsSome, Played}
+use Rattle.bz_commands.specs.Running.{Played}
+use Rattle.bz_input.specs.Stopping.{AppendsSome}
 use Rattle.bz_commands.specs.Sending.{GoesOut, IsSent, PlaysOut, PutsOut, SentUp}
 use Rattle.bz_commands.proofs.Played.{plays_on, stops_there}
-use Rattle.bz_commands.proofs.Spelt.{all_of, some_front}
+use Rattle.bz_input.proofs.Written.{all_of, some_front}
 
 -- all of a text went out, whatever a flush answered
 pub puts_all : {A E : Type 0} (r : Result A E) (old new : Option (List ℕ)) (text : List ℕ) → Appends old new text → PutsOut old new r text

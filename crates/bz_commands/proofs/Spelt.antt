@@ -1,12 +1,10 @@
--- Words spelt and bytes written, one after another.
-use Rattle.std.proofs.Common.{◌≡◌, ◌<◌, ◌≤◌, ◌+◌, ℕ, suc, Bor, Option, None, Some, List, [], ◌∷◌, ◌++◌, length, map, take, drop, get_or, refl, sym, ap, ◌∙◌, append-nil, arith}
+-- Words spelt, one after another.
+use Rattle.std.proofs.Common.{◌≡◌, ◌<◌, ◌≤◌, ◌+◌, ℕ, suc, Bor, List, [], ◌∷◌, ◌++◌, length, map, take, drop, get_or, refl, sym, ap, ◌∙◌, arith}
 use Rattle.std.proofs.Math.Seq.{drop-cons}
 use Rattle.std.proofs.lemmas.List.{length-map, length-take-le, map-append, take-append-drop}
-use Rattle.std.specs.Io.KnownBytes.{Appends, Keeps}
 use Rattle.bz_model.specs.declared.event.Cmd.{Cmd}
-use Rattle.bz_lines.specs.Writing.{AppendsFront}
 use Rattle.bz_words.specs.Words.{Command, IsWord, command_of, texts}
-use Rattle.bz_commands.specs.Running.{AppendsSome, AreCommands, IsBadAt}
+use Rattle.bz_commands.specs.Running.{AreCommands, IsBadAt}
 use Rattle.bz_words.proofs.Sessions.{texts_more}
 
 pub AreCommands-push : (words : List (List ℕ)) (cs : List Command) (word : List ℕ) (c : Command) → AreCommands words cs → IsWord word c → AreCommands (words ++ word ∷ []) (cs ++ c ∷ [])
@@ -33,15 +31,3 @@ module _ (words : List (Bor (List ℕ))) (i : ℕ) (d : Bor (List ℕ)) (cmds : 
     spelt = are;
     none = none;
   }
-
-pub some_front : (old new : Option (List ℕ)) (text : List ℕ) → AppendsFront old new text → AppendsSome old new text
-some_front old new text (front, rest, is, left, went) = (front, rest, is, went)
-
-pub all_of : (old new : Option (List ℕ)) (text : List ℕ) → Appends old new text → AppendsSome old new text
-all_of old new text went = (text, [], sym (append-nil text), went)
-
-pub appends_keeps : (old mid new : Option (List ℕ)) (text : List ℕ) → Appends old mid text → Keeps mid new → Appends old new text
-appends_keeps None mid new text a k = tt
-appends_keeps (Some xs) None new text a k = absurd a
-appends_keeps (Some xs) (Some ys) None text a k = absurd k
-appends_keeps (Some xs) (Some ys) (Some zs) text a k = k ∙ a

@@ -8,10 +8,10 @@ use Rattle.bz_lines.specs.declared.text.Version.TheVariants.{One, Two}
 use Rattle.bz_trace.specs.declared.checking.Verdict.{Verdict}
 use Rattle.bz_trace.specs.declared.checking.Verdict.TheVariants as verdict
 use Rattle.bz_trace.specs.Verdicts.{CountsRun, Judges}
-use Rattle.bz_commands.specs.declared.fault.Fault.{Fault}
-use Rattle.bz_commands.specs.declared.fault.Fault.TheVariants.{Read, Write, Memory}
-use Rattle.bz_commands.specs.Opening.{Denotes, RefusesNet}
-use Rattle.bz_commands.specs.Running.{AppendsSome}
+use Rattle.bz_input.specs.declared.fault.Fault.{Fault}
+use Rattle.bz_input.specs.declared.fault.Fault.TheVariants.{Read, Write, Memory}
+use Rattle.bz_input.specs.Opening.{Denotes, RefusesNet}
+use Rattle.bz_input.specs.Stopping.{AppendsSome}
 
 abbrev pub version_words : Version → List ℕ
 version_words One = codes "trace 1"

@@ -1,10 +1,5 @@
-pub mod Limits
-pub mod Reading
-pub mod Statuses
 pub mod Opening
 pub mod Playing
 pub mod Running
-pub mod Listing
-pub mod Listed
 pub mod Checking
 pub mod Sending

@@ -8,12 +8,13 @@ use Rattle.bz_model.specs.declared.event.NetError.TheVariants as net
 use Rattle.bz_model.specs.Nets.{Wiring}
 use Rattle.bz_model.specs.Plays.{PlaysAll, Stops}
 use Rattle.bz_model.specs.Traces.{IsTrace}
-use Rattle.bz_commands.specs.declared.fault.Fault.{Fault}
-use Rattle.bz_commands.specs.declared.fault.Fault.TheVariants.{Word, Event, Read, Write, Memory}
+use Rattle.bz_input.specs.declared.fault.Fault.{Fault}
+use Rattle.bz_input.specs.declared.fault.Fault.TheVariants.{Word, Event, Write, Memory}
 use Rattle.bz_commands.specs.declared.playing.Stop.{Stop}
-use Rattle.bz_commands.specs.Limits.{input_limit}
+use Rattle.bz_input.specs.Limits.{input_limit}
+use Rattle.bz_input.specs.Stopping.{AppendsSome, StopsAtInput}
 use Rattle.bz_words.specs.Words.{Command, IsWord, command_of}
-use Rattle.bz_commands.specs.Opening.{Denotes, RefusesNet}
+use Rattle.bz_input.specs.Opening.{Denotes, RefusesNet}
 
 -- each word spells a command
 abbrev pub AreCommands : List (List ℕ) → List Command → Type 0
@@ -56,10 +57,6 @@ abbrev pub IsPlayed : Wiring → ℕ → List Cmd → Option Stop → List Entry
 IsPlayed w limit cmds None entries = PlaysAll w cmds entries
 IsPlayed w limit cmds (Some stop) entries = Stops w limit cmds stop.word stop.error entries
 
--- a front of the text went out, or all of it
-abbrev pub AppendsSome : Option (List ℕ) → Option (List ℕ) → List ℕ → Type 0
-AppendsSome old new text = (front rest : List ℕ) × (text ≡ front ++ rest) × Appends old new front
-
 -- The trace of what the commands play on a net went out as `Out` says.
 pub record Played (w : Wiring) (limit : ℕ) (cmds : List Cmd) (stop : Option Stop) (Out : List ℕ → Type 0) : Type 0 where
   pub entries : List Entry
@@ -89,15 +86,6 @@ PlaysText text part limit cmds old new answer =
 -- The words are refused, and nothing went out.
 abbrev pub StopsAtWords : {E : Type 0} → List (List ℕ) → Option (List ℕ) → Option (List ℕ) → Result E Fault → Type 0
 StopsAtWords words old new answer = IsErrAnd answer (λ fault. RefusesWords words fault × Keeps old new)
-
-abbrev pub IsOfInput : Fault → Type 0
-IsOfInput Read = ⊤
-IsOfInput Memory = ⊤
-IsOfInput fault = ⊥
-
--- The reader failed or gave more than the limit, or there was no memory for what it gave; and nothing went out.
-abbrev pub StopsAtInput : {E : Type 0} → Option (List ℕ) → Option (List ℕ) → Result E Fault → Type 0
-StopsAtInput old new answer = IsErrAnd answer (λ fault. IsOfInput fault × Keeps old new)
 
 -- The command `run`: the words are refused; or they spell commands, and the input is not taken, or they are played on it.
 abbrev pub Runs : {E : Type 0} → List ℕ → List (List ℕ) → List ℕ → ℕ → Option (List ℕ) → Option (List ℕ) → Result E Fault → Type 0

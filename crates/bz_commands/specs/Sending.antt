@@ -9,7 +9,8 @@ use Rattle.bz_net.specs.Progress.{Progress, IsToldBy, LeadsOn, with_journal}
 use Rattle.bz_net.specs.Simulation.{Simulation}
 use Rattle.bz_commands.specs.declared.pending.Pending.{Pending}
 use Rattle.bz_commands.specs.declared.playing.Stop.{Stop}
-use Rattle.bz_commands.specs.Running.{AppendsSome, IsPlayed}
+use Rattle.bz_commands.specs.Running.{IsPlayed}
+use Rattle.bz_input.specs.Stopping.{AppendsSome}
 
 -- Of these entries of a play, all but those that are held have their lines in the writer since `start`. Where it failed, a
 -- front of the lines went out.

@@ -4,12 +4,10 @@ ghost use Rattle.std.specs.Prelude.{◌≡◌, ◌<◌, ◌++◌, MatchBool, OnO
 ghost use Rattle.std.specs.Io.KnownBytes.{Appends};
 ghost use Rattle.bz_lines.specs.Writing.{Writes};
 ghost use Rattle.bz_commands.specs.Checking.{BeginsLine, BeginsTrace, BeginsWith, ChecksText, EndsLine, IsTraceAt, Splits, is_run, run_text, verdict_text};
-ghost use Rattle.bz_commands.specs.Reading.{ReadsWithin};
-ghost use Rattle.bz_commands.specs.Running.{AppendsSome};
+ghost use Rattle.bz_input.specs.Reading.{ReadsWithin};
+ghost use Rattle.bz_input.specs.Stopping.{AppendsSome};
 
-use crate::fault::Fault;
-use crate::input::read_input;
-use crate::open::flat_of;
+use bz_input::{Fault, flat_of, read_input};
 use bz_lines::strip;
 use bz_model::Value;
 use bz_trace::{Counts, Part, Verdict, WriteFault, check_and_count, put_parts};

@@ -4,15 +4,14 @@ ghost use Rattle.std.specs.Prelude.{◌≡◌, ◌≢◌, ◌<◌, ◌≤◌, []
 ghost use Rattle.std.specs.Io.KnownBytes.{Appends};
 ghost use Rattle.bz_model.specs.Traces.{trace_text};
 ghost use Rattle.bz_net.specs.Progress.{IsToldBy};
-ghost use Rattle.bz_commands.specs.Reading.{ReadsWithin};
+ghost use Rattle.bz_input.specs.Reading.{ReadsWithin};
 ghost use Rattle.bz_words.specs.Words.{command_of, texts};
-ghost use Rattle.bz_commands.specs.Running.{AppendsSome, AreCommands, PlaysNet, PlaysText, RefusesWords, Runs, fault_of};
+ghost use Rattle.bz_commands.specs.Running.{AreCommands, PlaysNet, PlaysText, RefusesWords, Runs, fault_of};
+ghost use Rattle.bz_input.specs.Stopping.{AppendsSome};
 
-use crate::fault::Fault;
-use crate::input::read_input;
-use crate::open::flat_of_input;
 use crate::pending::Pending;
 use crate::playing::{Stop, play_out};
+use bz_input::{Fault, flat_of_input, read_input};
 use bz_model::{Cmd, Entry, Names, NetError};
 use bz_net::Play;
 use bz_trace::{WriteFault, write_trace};

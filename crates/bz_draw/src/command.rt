@@ -1,10 +1,10 @@
 //! The command `draw`.
 
-ghost use Rattle.bz_commands.specs.Reading.{ReadsWithin};
+ghost use Rattle.bz_input.specs.Reading.{ReadsWithin};
 
 use crate::drawing::drawing_of;
 use crate::graph::put_graph;
-use bz_commands::{Fault, read_input};
+use bz_input::{Fault, read_input};
 use bz_lines::{Part, put_parts};
 use bz_look::survey_of;
 use std::alloc::Global;

@@ -8,7 +8,7 @@ use crate::site::Netlist;
 use crate::text_faults::explain_text;
 use crate::word_faults::explain_word;
 use bz_breeze::{BreezeError, parts_of};
-use bz_commands::Fault;
+use bz_input::Fault;
 use bz_model::Who;
 use bz_notes::Draft;
 use bz_sexpr::{Forms, SexprError, read_forest};

@@ -1,10 +1,10 @@
 -- What comes of a command, from what was read and written.
 use Rattle.std.proofs.Common.{◌≡◌, ◌≤◌, ℕ, Option, None, Some, Result, Err, List, length, inr, subst}
 use Rattle.std.specs.Prelude.{IfSome}
-use Rattle.bz_commands.specs.declared.fault.Fault.{Fault}
-use Rattle.bz_commands.specs.declared.fault.Fault.TheVariants.{Write}
-use Rattle.bz_commands.specs.Limits.{input_limit}
-use Rattle.bz_commands.specs.Running.{AppendsSome}
+use Rattle.bz_input.specs.declared.fault.Fault.{Fault}
+use Rattle.bz_input.specs.declared.fault.Fault.TheVariants.{Write}
+use Rattle.bz_input.specs.Limits.{input_limit}
+use Rattle.bz_input.specs.Stopping.{AppendsSome}
 use Rattle.bz_look.specs.declared.survey.Survey.{Survey}
 use Rattle.bz_look.specs.Surveys.{IsSurvey}
 use Rattle.bz_look.specs.Listing.{paths_text}

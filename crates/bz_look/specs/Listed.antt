@@ -1,11 +1,11 @@
 -- What the command `list --paths` reads and writes.
 use Rattle.std.specs.Prelude.{ℕ, ◌≤◌, ◌⊎◌, List, length, Option, Result, Ok, Err, IsErrAnd}
 use Rattle.std.specs.Io.KnownBytes.{Appends, Keeps}
-use Rattle.bz_commands.specs.declared.fault.Fault.{Fault}
-use Rattle.bz_commands.specs.declared.fault.Fault.TheVariants.{Write}
-use Rattle.bz_commands.specs.Limits.{input_limit}
-use Rattle.bz_commands.specs.Opening.{RefusesNet}
-use Rattle.bz_commands.specs.Running.{AppendsSome, StopsAtInput}
+use Rattle.bz_input.specs.declared.fault.Fault.{Fault}
+use Rattle.bz_input.specs.declared.fault.Fault.TheVariants.{Write}
+use Rattle.bz_input.specs.Limits.{input_limit}
+use Rattle.bz_input.specs.Opening.{RefusesNet}
+use Rattle.bz_input.specs.Stopping.{AppendsSome, StopsAtInput}
 use Rattle.bz_look.specs.declared.survey.Survey.{Survey}
 use Rattle.bz_look.specs.Surveys.{IsSurvey}
 use Rattle.bz_look.specs.Listing.{paths_text}

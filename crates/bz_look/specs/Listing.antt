@@ -14,7 +14,7 @@ use Rattle.bz_flat.specs.Wires.{ends_in}
 use Rattle.bz_places.specs.Found.{Spot}
 use Rattle.bz_places.specs.Texts.{at_text, placed_comp_text}
 use Rattle.bz_places.specs.Views.{chan_standing, comp_standing}
-use Rattle.bz_commands.specs.Listing.{carried_text, head_text, lines, ports_text}
+use Rattle.bz_input.specs.Listing.{carried_text, head_text, lines, ports_text}
 use Rattle.bz_look.specs.declared.survey.Survey.{Survey}
 
 -- whether the host holds the end of channel k of this sense: the one that the port's component does not

@@ -1,9 +1,9 @@
 //! The command `parts`: the parts of a netlist, each with its ports and how much it has.
 
-ghost use Rattle.bz_commands.specs.Reading.{ReadsWithin};
+ghost use Rattle.bz_input.specs.Reading.{ReadsWithin};
 
 use bz_breeze::{Part as PartRecord, Parts};
-use bz_commands::{Fault, put_port, read_input};
+use bz_input::{Fault, put_port, read_input};
 use bz_lines::{Part, WriteFault, put_parts};
 use bz_model::Value;
 use bz_places::{PartLines, lines_of};

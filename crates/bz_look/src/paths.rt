@@ -2,15 +2,15 @@
 
 ghost use Rattle.std.specs.Prelude.{◌≡◌, OnOk, OnErr, IfSome};
 ghost use Rattle.std.specs.Io.KnownBytes.{Appends};
-ghost use Rattle.bz_commands.specs.Reading.{ReadsWithin};
-ghost use Rattle.bz_commands.specs.Running.{AppendsSome};
+ghost use Rattle.bz_input.specs.Reading.{ReadsWithin};
+ghost use Rattle.bz_input.specs.Stopping.{AppendsSome};
 ghost use Rattle.bz_look.specs.Listing.{paths_text};
 ghost use Rattle.bz_look.specs.Listed.{Lists, ListsPaths};
 
 use crate::listing::put_paths;
 use crate::survey::Survey;
 use crate::surveying::survey_of;
-use bz_commands::{Fault, read_input};
+use bz_input::{Fault, read_input};
 use bz_lines::WriteFault;
 use std::alloc::Global;
 use std::io::{Read, Write};

@@ -1,12 +1,12 @@
 //! A fault and its notes on their way to the writer.
 
 ghost use Rattle.std.specs.Prelude.{◌≡◌};
-ghost use Rattle.bz_commands.specs.Statuses.{status_of};
+ghost use Rattle.bz_input.specs.Statuses.{status_of};
 ghost use Rattle.bz_notes.specs.Notes.{HasNotes};
 
 use crate::draft::Draft;
 use crate::notes::put_notes;
-use bz_commands::Fault;
+use bz_input::Fault;
 use bz_lines::WriteFault;
 use std::alloc::Global;
 use std::io::Write;

@@ -3,7 +3,8 @@
 
 ghost use Rattle.std.specs.Prelude.{◌<◌, ◌≤◌};
 
-use bz_commands::{Fault, check_cmd, list_cmd, run_cmd, run_in_pieces};
+use bz_commands::{check_cmd, run_cmd, run_in_pieces};
+use bz_input::{Fault, list_cmd};
 use std::alloc::Global;
 use std::io::{Read, Write};
 

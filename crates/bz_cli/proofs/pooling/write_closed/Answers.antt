@@ -1,7 +1,7 @@
 use Rattle.std.proofs.Common.{refl, vec_len}
 use Rattle.std.proofs.lemmas.Result.{err_from_is_err_and}
 use Rattle.std.specs.Io.KnownBytes.{Appends}
-use Rattle.bz_commands.specs.Running.{AppendsSome}
+use Rattle.bz_input.specs.Stopping.{AppendsSome}
 use Rattle.bz_cli.proofs.PoolOutcomes.{cut_short, first_told, pooled_so}
 use Rattle.bz_cli.proofs.pooling.write_closed.Goals as goal
 

@@ -1,7 +1,8 @@
 use Rattle.std.proofs.Common.{◌≡◌, None, Some}
 use Rattle.std.proofs.lemmas.Result.{err_from_is_err_and}
 use Rattle.std.specs.Io.KnownBytes.{Appends}
-use Rattle.bz_commands.specs.Running.{AppendsSome, stop_of}
+use Rattle.bz_commands.specs.Running.{stop_of}
+use Rattle.bz_input.specs.Stopping.{AppendsSome}
 use Rattle.bz_commands.proofs.Outcomes.{cut_short, fault_wants, told}
 use Rattle.bz_commands.proofs.Pieces.{played_out}
 use Rattle.bz_commands.proofs.run.play_net.Goals as goal

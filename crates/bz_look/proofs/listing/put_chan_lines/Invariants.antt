@@ -2,7 +2,7 @@ use Rattle.std.proofs.Common.{map, take}
 use Rattle.std.specs.Io.KnownBytes.{Appends}
 use Rattle.bz_flat.specs.Flats.{site_of}
 use Rattle.bz_places.specs.Views.{spot_of}
-use Rattle.bz_commands.specs.Listing.{lines}
+use Rattle.bz_input.specs.Listing.{lines}
 use Rattle.bz_look.specs.Listing.{chan_line}
 use Rattle.bz_look.proofs.listing.put_chan_lines.Given as goal
 

@@ -3,7 +3,7 @@ use Rattle.std.proofs.lemmas.Result.{err_from_is_err_and}
 use Rattle.bz_flat.specs.Flats.{site_of}
 use Rattle.bz_places.specs.Views.{spot_of}
 use Rattle.bz_look.specs.Listing.{instance_line}
-use Rattle.bz_commands.proofs.Lines.{sent_line, stops_in_line}
+use Rattle.bz_input.proofs.Lines.{sent_line, stops_in_line}
 use Rattle.bz_look.proofs.listing.put_instance_lines.Goals as goal
 
 pub returns-in_err-put_instance_line : goal.returns-in_err-put_instance_line

@@ -1,4 +1,4 @@
-use Rattle.bz_commands.proofs.Spelt.{all_of, appends_keeps}
+use Rattle.bz_input.proofs.Written.{all_of, appends_keeps}
 use Rattle.bz_look.specs.Listing.{paths_text}
 use Rattle.bz_look.proofs.paths.write_out.Goals as goal
 

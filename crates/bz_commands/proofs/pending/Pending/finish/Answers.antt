@@ -3,7 +3,7 @@ use Rattle.std.proofs.lemmas.Result.{err_from_is_err_and}
 use Rattle.bz_model.specs.Traces.{trace_text}
 use Rattle.bz_commands.specs.Sending.{SentUp}
 use Rattle.bz_commands.proofs.Pieces.{all_sent, puts_all, some_of_trace}
-use Rattle.bz_commands.proofs.Spelt.{appends_keeps, some_front}
+use Rattle.bz_input.proofs.Written.{appends_keeps, some_front}
 use Rattle.bz_commands.proofs.pending.Pending.finish.Goals as goal
 
 pub returns-then-self : goal.returns-then-self

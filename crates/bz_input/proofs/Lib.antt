@@ -1,0 +1,5 @@
+pub mod Taken
+pub mod Written
+pub mod Outcomes
+pub mod Opened
+pub mod Lines

@@ -1,0 +1,14 @@
+//! What each command begins with: the input, the net that it denotes, the faults and their statuses; and the command `list`.
+#![tactic(auto)]
+
+mod fault;
+mod input;
+mod list;
+mod listing;
+mod open;
+
+pub use fault::Fault;
+pub use input::{INPUT_LIMIT, InputFault, read_input};
+pub use list::list_cmd;
+pub use listing::{carried_parts, put_head, put_port, put_ports};
+pub use open::{flat_of, flat_of_input, in_part};
