@@ -1,4 +1,3 @@
-pub mod Finding
 pub mod Reading
 pub mod Heads
 pub mod Least

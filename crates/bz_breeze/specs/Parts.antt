@@ -1,19 +1,16 @@
 -- The parts of a netlist: the records that the data name, or the first fault in the text.
-use Rattle.std.specs.Prelude.{ℕ, Bool, false, ◌==◌, ◌-◌, ◌≤◌, nat_lt, length, map, find, position, List, [], ◌∷◌, ◌++◌, Option, Some, None, Result, Ok, Err, if◌then◌else◌, bytes_eq, codes}
+use Rattle.std.specs.Prelude.{ℕ, ◌-◌, nat_lt, length, map, List, [], ◌∷◌, ◌++◌, Option, Some, None, Result, Ok, Err, if◌then◌else◌, bytes_eq, codes}
 use Rattle.std.specs.Option.{option_and_then}
-use Rattle.std.specs.List.{AllByRecursion}
-use Rattle.bz_model.specs.Names.{External, NamesDiffer, external}
-use Rattle.bz_model.specs.Limits.{max_width}
+use Rattle.bz_model.specs.Names.{External}
 use Rattle.bz_model.specs.declared.channel.Chan.{Chan}
 use Rattle.bz_sexpr.specs.Data.{Datum, leaf, items, text, symbol, span_of}
 use Rattle.bz_sexpr.specs.declared.datum.Span.{Span}
 use Rattle.bz_sexpr.specs.Views.{list_of}
-use Rattle.bz_breeze.specs.Records.{ComponentRecord, PartRecord}
+use Rattle.bz_records.specs.Records.{ComponentRecord, PartRecord}
 use Rattle.bz_breeze.specs.Turns.{inside, if_read, in_turn, FaultAt}
 use Rattle.bz_breeze.specs.Forms.{is_among, ports, channels, components}
 use Rattle.bz_breeze.specs.Faults.{Fault}
 use Rattle.bz_breeze.specs.declared.error.Code.TheVariants.{BadForm, DoublePart}
-use Rattle.bz_breeze.specs.declared.part.Part.{Part}
 
 -- the lists of a part that have come so far
 pub record Lists : Type 0 where
@@ -98,25 +95,3 @@ part before d = listed_part before d (part_items d)
 
 abbrev pub parts : List Datum → Result (List PartRecord) Fault
 parts = in_turn part []
-
--- each port of a part has its channel
-abbrev pub HasPortChannels : Part → Type 0
-HasPortChannels p = length p.ports.items ≤ length p.channels.items
-
--- no two ports of a part have one name, and no channel is wider than the greatest width
-pub record IsFit (p : Part) : Type 0 where
-  pub names_differ : NamesDiffer (map external p.ports.items)
-  pub narrow : AllByRecursion (λ c. c.width ≤ max_width) p.channels.items
-
--- a name begins with a dollar sign
-abbrev pub has_dollar : List ℕ → Bool
-has_dollar [] = false
-has_dollar (b ∷ name) = b == 36
-
--- the number of the part of a name, counted from 0
-abbrev pub number_named : List Part → List ℕ → Option ℕ
-number_named list name = position (λ p. bytes_eq name p.name.items) list
-
--- the part of a name
-abbrev pub part_named : List Part → List ℕ → Option Part
-part_named list name = find (λ p. bytes_eq name p.name.items) list

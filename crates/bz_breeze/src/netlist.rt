@@ -5,19 +5,19 @@ ghost use Rattle.std.specs.Option.{option_map};
 ghost use Rattle.bz_sexpr.specs.Order.{AreInOrder};
 ghost use Rattle.bz_sexpr.specs.Forms.{form_view, forms_view};
 ghost use Rattle.bz_sexpr.specs.Views.{datum_view};
-ghost use Rattle.bz_breeze.specs.Records.{part_record};
+ghost use Rattle.bz_records.specs.Records.{part_record};
 ghost use Rattle.bz_breeze.specs.Faults.{Fault, HasFault, Tells, fault_of, fault_in};
 ghost use Rattle.bz_breeze.specs.Shapes.{AreParts};
 ghost use Rattle.bz_breeze.specs.Places.{IsFault, IsLeast};
 ghost use Rattle.bz_breeze.specs.Views.{lists_view};
-ghost use Rattle.bz_breeze.specs.Parts.{ports_form, channels_form, components_form, headed_form, form, finished, part_of, named_part, after_head, part_items, parts, HasPortChannels};
+ghost use Rattle.bz_breeze.specs.Parts.{ports_form, channels_form, components_form, headed_form, form, finished, part_of, named_part, after_head, part_items, parts};
+ghost use Rattle.bz_records.specs.Parts.{HasPortChannels};
 
 use crate::error::{BreezeError, Code, Place, Refusal};
 use crate::forms::{channels, components, headed, inside, ports};
-use crate::part::{Component, Part};
-use crate::part_list::Parts;
 use bz_model::{Chan, Port};
 use bz_names::NameSet;
+use bz_records::{Component, Part, Parts};
 use bz_sexpr::{Datum, Form, Forms, Leaf, Shape, Span};
 use std::alloc::Global;
 

@@ -6,10 +6,10 @@ use crate::kind_names::KIND_NAMES;
 use crate::kind_words::{put_kind, put_params_wanted, put_row, put_widths_wanted};
 use crate::seat::Head;
 use crate::site::Site;
-use bz_breeze::{Part as PartRecord, Slot};
 use bz_lines::Part;
 use bz_model::{Chan, ChanKind, Param, Value};
 use bz_notes::{Draft, Nearest};
+use bz_records::{Part as PartRecord, Slot};
 use std::alloc::AllocError;
 
 /// The most of several things that a note lists.

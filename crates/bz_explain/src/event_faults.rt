@@ -4,10 +4,10 @@ use crate::asked::{Asked, Words};
 use crate::component_faults::{MOST_LISTED, put_nearest};
 use crate::datum::put_count;
 use crate::net_faults::put_more;
-use bz_breeze::{Part as PartRecord, Parts};
 use bz_lines::Part;
 use bz_model::{Chan, ChanKind, Cmd, HostCmd, NetError, Value, Verb};
 use bz_notes::{Draft, Nearest};
+use bz_records::{Part as PartRecord, Parts};
 use bz_words::command;
 use std::alloc::{AllocError, Global};
 

@@ -1,10 +1,10 @@
 //! The ports of a component beside its entries.
 
-use bz_breeze::{Component, Slot};
 use bz_kind_table::{PortRow, port_table};
 use bz_lines::Part;
 use bz_model::{Chan, ChanKind, Kind, Value};
 use bz_notes::Draft;
+use bz_records::{Component, Slot};
 use std::alloc::{AllocError, Global};
 
 /// A port of a component, and the number of the channel that its entry names.

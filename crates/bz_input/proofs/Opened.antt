@@ -3,7 +3,7 @@ use Rattle.std.proofs.Common.{◌≡◌, ℕ, List, Result, Ok, Err}
 use Rattle.std.specs.Prelude.{IfOk, IfErr}
 use Rattle.bz_model.specs.Nets.{Wiring}
 use Rattle.bz_elab.specs.Refusals.{Elaborated}
-use Rattle.bz_breeze.specs.declared.part.Part.{Part}
+use Rattle.bz_records.specs.declared.part.Part.{Part}
 use Rattle.bz_input.specs.declared.fault.Fault.{Fault}
 use Rattle.bz_input.specs.declared.fault.Fault.TheVariants as fault
 use Rattle.bz_input.specs.Opening.{Denotes, NamesParts, RefusesNet, RefusesPart, RefusesText}

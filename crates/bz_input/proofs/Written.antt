@@ -1,5 +1,5 @@
 -- Bytes written, one after another.
-use Rattle.std.proofs.Common.{◌≡◌, ℕ, Option, None, Some, List, [], ◌++◌, sym, ◌∙◌, append-nil}
+use Rattle.std.proofs.Common.{ℕ, Option, None, Some, List, [], sym, ◌∙◌, append-nil}
 use Rattle.std.specs.Io.KnownBytes.{Appends, Keeps}
 use Rattle.bz_lines.specs.Writing.{AppendsFront}
 use Rattle.bz_input.specs.Stopping.{AppendsSome}

@@ -4,8 +4,8 @@ use Rattle.std.specs.Option.{option_map}
 use Rattle.bz_sexpr.specs.Data.{Datum}
 use Rattle.bz_sexpr.specs.Spelling.{Outcome, data_are, ComesTo}
 use Rattle.bz_sexpr.specs.Views.{outcome_of}
-use Rattle.bz_breeze.specs.declared.part.Part.{Part}
-use Rattle.bz_breeze.specs.Records.{part_record}
+use Rattle.bz_records.specs.declared.part.Part.{Part}
+use Rattle.bz_records.specs.Records.{part_record}
 use Rattle.bz_breeze.specs.Parts.{parts}
 use Rattle.bz_breeze.specs.Faults.{Tells, fault_of}
 use Rattle.bz_breeze.specs.Places.{IsLeast}

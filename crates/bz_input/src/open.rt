@@ -8,8 +8,9 @@ ghost use Rattle.bz_elab.specs.Refusals.{Elaborated};
 ghost use Rattle.bz_input.specs.Opening.{Denotes, NamesParts, RefusesNet, RefusesPart, RefusesText, name_told, part_in};
 
 use crate::fault::Fault;
-use bz_breeze::{BreezeError, Part, Parts};
+use bz_breeze::BreezeError;
 use bz_elab::{ElabError, Flat, elaborate};
+use bz_records::{Part, Parts};
 use bz_sexpr::SexprError;
 use std::alloc::Global;
 

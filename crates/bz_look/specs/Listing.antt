@@ -6,7 +6,7 @@ use Rattle.bz_model.specs.declared.channel.Chan.{Chan}
 use Rattle.bz_model.specs.Names.{External, external, numbered, port_sense}
 use Rattle.bz_model.specs.Nets.{Site, chan_in}
 use Rattle.bz_model.specs.Traces.{name_form}
-use Rattle.bz_breeze.specs.declared.part.Part.{Part}
+use Rattle.bz_records.specs.declared.part.Part.{Part}
 use Rattle.bz_elab.specs.Paths.{component}
 use Rattle.bz_flat.specs.Flats.{site_of}
 use Rattle.bz_flat.specs.declared.flat.Ends.{Ends}

@@ -2,7 +2,7 @@
 use Rattle.std.specs.Prelude.{◌≡◌, ℕ, List, map, Ok}
 use Rattle.bz_sexpr.specs.Data.{Datum}
 use Rattle.bz_sexpr.specs.Spelling.{data_are, ComesTo}
-use Rattle.bz_breeze.specs.Records.{part_record}
+use Rattle.bz_records.specs.Records.{part_record}
 use Rattle.bz_breeze.specs.Parts.{parts}
 use Rattle.bz_model.specs.Nets.{Wiring}
 use Rattle.bz_elab.specs.Refusals.{Elaborated}

@@ -2,11 +2,11 @@
 
 ghost use Rattle.bz_input.specs.Reading.{ReadsWithin};
 
-use bz_breeze::{Part as PartRecord, Parts};
 use bz_input::{Fault, put_port, read_input};
 use bz_lines::{Part, WriteFault, put_parts};
 use bz_model::Value;
 use bz_places::{PartLines, lines_of};
+use bz_records::{Part as PartRecord, Parts};
 use std::alloc::{AllocError, Global};
 use std::io::{Read, Write};
 

@@ -5,8 +5,8 @@ use Rattle.std.specs.Option.{option_map}
 use Rattle.std.proofs.lemmas.List.{reverse-append, map-append, append-nil}
 use Rattle.std.proofs.lemmas.List.Elements.{filter_map-append}
 use Rattle.std.proofs.lemmas.Grind.{flat_map-append}
-use Rattle.bz_breeze.specs.declared.part.Part.{Part}
-use Rattle.bz_breeze.specs.declared.part.Component.{Component}
+use Rattle.bz_records.specs.declared.part.Part.{Part}
+use Rattle.bz_records.specs.declared.part.Component.{Component}
 use Rattle.bz_elab.specs.Paths as net
 use Rattle.bz_elab.specs.Paths.{each_from, most_instances, named}
 use Rattle.bz_elab.specs.Numbers.{number_named}

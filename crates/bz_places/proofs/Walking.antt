@@ -5,8 +5,8 @@ use Rattle.std.proofs.lemmas.Bool.Decides.{eqb_tells}
 use Rattle.std.proofs.lemmas.Option.{slice_get_read}
 use Rattle.std.proofs.lemmas.List.Elements.{All-head, All-tail, filter_map-append}
 use Rattle.std.proofs.lemmas.List.{take_more, length-take, length-map, length-set, append-nil, map-append, get_or-set_other}
-use Rattle.bz_breeze.specs.declared.part.Part.{Part}
-use Rattle.bz_breeze.specs.declared.part.Component.{Component}
+use Rattle.bz_records.specs.declared.part.Part.{Part}
+use Rattle.bz_records.specs.declared.part.Component.{Component}
 use Rattle.bz_elab.specs.Paths.{each_from, most_instances}
 use Rattle.bz_elab.specs.Numbers.{number_named, inner_number, number_at}
 use Rattle.bz_elab.proofs.Counting.{each_from-push}

@@ -1,8 +1,8 @@
 -- What stands in a net, and where: what a walk of a part's copies finds, each with its place in the text.
 use Rattle.std.specs.Prelude.{◌≡◌, ℕ, zero, suc, ◌-◌, ◌<◌, Option, None, Some, List, [], ◌∷◌, ◌++◌, length, slice_get}
 use Rattle.std.specs.List.{filter_map}
-use Rattle.bz_breeze.specs.declared.part.Part.{Part}
-use Rattle.bz_breeze.specs.declared.part.Component.{Component}
+use Rattle.bz_records.specs.declared.part.Part.{Part}
+use Rattle.bz_records.specs.declared.part.Component.{Component}
 use Rattle.bz_elab.specs.Paths.{each_from, most_instances}
 use Rattle.bz_elab.specs.Numbers.{number_named, number_at}
 use Rattle.bz_places.specs.declared.error.PlacesError.{PlacesError}

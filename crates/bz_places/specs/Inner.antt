@@ -3,7 +3,7 @@ use Rattle.std.specs.Prelude.{◌≡◌, ℕ, ◌≤◌, Bool, true, false, Opti
 use Rattle.std.specs.List.{All}
 use Rattle.std.specs.declared.alloc.Global.{Global}
 use Rattle.std.specs.declared.vec.Vec.{Vec}
-use Rattle.bz_breeze.specs.declared.part.Part.{Part}
+use Rattle.bz_records.specs.declared.part.Part.{Part}
 use Rattle.bz_elab.specs.Numbers.{number_named}
 use Rattle.bz_places.specs.Found.{found_in}
 

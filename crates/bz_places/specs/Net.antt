@@ -2,7 +2,7 @@
 use Rattle.std.specs.Prelude.{◌≡◌, ℕ, Option, Some, List, [], ◌∷◌, map, reverse, slice_get, option_and_then}
 use Rattle.std.specs.List.{flat_map}
 use Rattle.std.specs.Option.{option_map}
-use Rattle.bz_breeze.specs.declared.part.Part.{Part}
+use Rattle.bz_records.specs.declared.part.Part.{Part}
 use Rattle.bz_elab.specs.Paths as net
 use Rattle.bz_places.specs.Found.{Spot, Located}
 

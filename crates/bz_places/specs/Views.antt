@@ -5,7 +5,7 @@ use Rattle.std.specs.declared.vec.Vec.{Vec}
 use Rattle.bz_places.specs.declared.place.Place.{Place}
 use Rattle.bz_places.specs.declared.place.Find as code
 use Rattle.bz_places.specs.declared.place.Find.TheVariants as code_find
-use Rattle.bz_breeze.specs.declared.part.Part.{Part}
+use Rattle.bz_records.specs.declared.part.Part.{Part}
 use Rattle.bz_places.specs.declared.lines.PartLines.{PartLines}
 use Rattle.bz_places.specs.declared.text.Standing as code_standing
 use Rattle.bz_places.specs.Lines.{LinesOfPart}

@@ -4,7 +4,7 @@ ghost use Rattle.std.specs.Prelude.{◌≡◌, ◌<◌, length, IfOk};
 ghost use Rattle.std.specs.Bool.{OnTrue};
 ghost use Rattle.bz_places.specs.Inner.{AreInner, AreBare, BringsNothing, is_marked};
 
-use bz_breeze::Part;
+use bz_records::Part;
 use std::alloc::{AllocError, Global};
 
 /// As many rounds as a path may have instances, and one more.

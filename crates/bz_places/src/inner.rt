@@ -4,7 +4,7 @@ ghost use Rattle.std.specs.Prelude.{◌≡◌, IfOk};
 ghost use Rattle.bz_elab.specs.Numbers.{number_named};
 ghost use Rattle.bz_places.specs.Inner.{AreInner, inner_of};
 
-use bz_breeze::{Part, Parts};
+use bz_records::{Part, Parts};
 use std::alloc::{AllocError, Global};
 
 /// The number of the part of a name, counted from 0.

@@ -14,8 +14,8 @@ use crate::error::PlacesError;
 use crate::inner::{inner_numbers, number_of};
 use crate::place::{Find, Place};
 use crate::walk::{Ground, add_channels, descend};
-use bz_breeze::Parts;
 use bz_model::numbered;
+use bz_records::Parts;
 use std::alloc::{AllocError, Global};
 use std::marker::Model;
 

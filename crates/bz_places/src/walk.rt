@@ -8,7 +8,7 @@ ghost use Rattle.bz_places.specs.Views.{Finds, Settled};
 
 use crate::error::PlacesError;
 use crate::place::{Find, inside, place_at};
-use bz_breeze::Part;
+use bz_records::Part;
 use std::alloc::{AllocError, Global};
 
 /// What the walk goes by: the parts, the instances among their components, and the parts that are known to be bare.

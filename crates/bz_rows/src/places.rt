@@ -1,10 +1,10 @@
 //! The places of a net, asked for one by one.
 
-use bz_breeze::Parts;
 use bz_places::{
     LineCounter, PartLines, Place, Places, PlacesError, chan_standing, comp_standing, lines_of,
     put_path, put_standing,
 };
+use bz_records::Parts;
 use std::alloc::{AllocError, Global};
 use std::test::Fail;
 

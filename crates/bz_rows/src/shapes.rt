@@ -1,6 +1,7 @@
 //! What each form of a part says, with the names that a compiler writes.
 
-use bz_breeze::{BreezeError, Part, Parts, parts};
+use bz_breeze::{BreezeError, parts};
+use bz_records::{Part, Parts};
 use bz_sexpr::read;
 use std::alloc::Global;
 use std::test::Fail;

@@ -1,8 +1,8 @@
 //! Readers and writers that fail, and want of memory.
 
 use bz_input::Fault;
-use bz_playing::{Task, answer, run_over};
 use bz_playing::netlists::BUFFER;
+use bz_playing::{Task, answer, run_over};
 use std::io;
 use std::io::{Read, Write};
 use std::test::Fail;

@@ -5,8 +5,8 @@ use Rattle.std.proofs.lemmas.Slice.Eq.{bytes_eq-Decides}
 use Rattle.std.proofs.lemmas.List.Folds.{find_at}
 use Rattle.std.proofs.lemmas.Option.{slice_get_past}
 use Rattle.std.specs.List.{position_or_len}
-use Rattle.bz_breeze.specs.declared.part.Part.{Part}
-use Rattle.bz_breeze.specs.Parts.{has_dollar}
+use Rattle.bz_records.specs.declared.part.Part.{Part}
+use Rattle.bz_records.specs.Parts.{has_dollar}
 
 module _ {X : Type 0} (p : X → Bool) (xs : List X) where
   -- the first element that passes stands at the place that is found

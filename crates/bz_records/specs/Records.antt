@@ -4,10 +4,10 @@ use Rattle.bz_model.specs.Names.{External, external}
 use Rattle.bz_model.specs.declared.channel.Chan.{Chan}
 use Rattle.bz_model.specs.declared.kind.Param.{Param}
 use Rattle.bz_model.specs.declared.kind.Param.TheVariants.{Num, Flag, Word}
-use Rattle.bz_breeze.specs.declared.part.Part.{Part}
-use Rattle.bz_breeze.specs.declared.part.Component.{Component}
-use Rattle.bz_breeze.specs.declared.part.Slot.{Slot}
-use Rattle.bz_breeze.specs.declared.part.Slot.TheVariants.{One, Many}
+use Rattle.bz_records.specs.declared.part.Part.{Part}
+use Rattle.bz_records.specs.declared.part.Component.{Component}
+use Rattle.bz_records.specs.declared.part.Slot.{Slot}
+use Rattle.bz_records.specs.declared.part.Slot.TheVariants.{One, Many}
 
 pub data ParamRecord : Type 0 where
   num : ℕ → ParamRecord

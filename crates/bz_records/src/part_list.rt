@@ -2,7 +2,7 @@
 
 ghost use Rattle.std.specs.Prelude.{◌≡◌, ◌↔◌, map, All, false, IsTrue};
 ghost use Rattle.std.specs.Option.{option_copied};
-ghost use Rattle.bz_breeze.specs.Parts.{number_named, part_named, has_dollar, HasPortChannels, IsFit};
+ghost use Rattle.bz_records.specs.Parts.{number_named, part_named, has_dollar, HasPortChannels, IsFit};
 
 use crate::part::Part;
 use bz_names::NameSet;
@@ -29,8 +29,8 @@ impl Drop for Parts {
 
 impl Model for Parts {
     ghost use Rattle.std.specs.Prelude.{◌≡◌, List, map, All, false, IsTrue};
-    ghost use Rattle.bz_breeze.specs.declared.part.Part.{Part};
-    ghost use Rattle.bz_breeze.specs.Parts.{has_dollar, HasPortChannels, IsFit};
+    ghost use Rattle.bz_records.specs.declared.part.Part.{Part};
+    ghost use Rattle.bz_records.specs.Parts.{has_dollar, HasPortChannels, IsFit};
 
     ghost Value = { List Part };
 
@@ -59,7 +59,7 @@ fn are_plain(list: &[Part]) -> bool
 
 impl Parts {
     /// The parts of a list, with their names.
-    pub(crate) fn new(list: Vec<Part>, names: NameSet) -> Parts
+    pub fn new(list: Vec<Part>, names: NameSet) -> Parts
         requires names { names ≡ map (λ p. p.name.items) list.items }
         requires fits { All HasPortChannels list.items }
         requires fit { All IsFit list.items }

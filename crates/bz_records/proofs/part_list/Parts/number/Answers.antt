@@ -1,7 +1,7 @@
 use Rattle.std.proofs.Common.{◌∙◌, ap, sym, bytes_eq, position}
 use Rattle.bz_names.proofs.Names.{position-map}
-use Rattle.bz_breeze.proofs.Finding.{none_plain}
-use Rattle.bz_breeze.proofs.part_list.Parts.number.Goals as goal
+use Rattle.bz_records.proofs.Finding.{none_plain}
+use Rattle.bz_records.proofs.part_list.Parts.number.Goals as goal
 
 pub returns-then-has_dollar : goal.returns-then-has_dollar
 returns-then-has_dollar c =

@@ -2,8 +2,8 @@ use Rattle.std.proofs.Common.{◌≡◌, None, Some, ◌∙◌, sym, arith, byte
 use Rattle.std.proofs.lemmas.Grind.{common_steps}
 use Rattle.std.proofs.lemmas.Option.{gets}
 use Rattle.std.specs.Option.{option_copied}
-use Rattle.bz_breeze.proofs.Finding.{find-at_place, find-no_place}
-use Rattle.bz_breeze.proofs.part_list.Parts.find.Goals as goal
+use Rattle.bz_records.proofs.Finding.{find-at_place, find-no_place}
+use Rattle.bz_records.proofs.part_list.Parts.find.Goals as goal
 
 pub returns-in_err-place : goal.returns-in_err-place
 returns-in_err-place c =
