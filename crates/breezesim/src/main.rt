@@ -8,9 +8,9 @@ use bz_command_line::{
     ArgsFault, BAD_COMMAND_LINE, CommandName, Options, Request, request_of, split_words,
     tell_error, words_of,
 };
-use bz_commands::Fault;
 use bz_explain::{Asked, Words, explain};
 use bz_explore::explore_cmd;
+use bz_input::Fault;
 use bz_notes::{Keeping, tell};
 use bz_program::{
     Given, chart, check, draw, list, netlist_in, part_named, parts, pool, run, text_of,

@@ -2,16 +2,17 @@
 
 ghost use Rattle.std.specs.Prelude.{◌≡◌, ◌≤◌, length, IfSome, OnOk, OnErr};
 ghost use Rattle.std.specs.Io.KnownBytes.{Appends};
-ghost use Rattle.bz_commands.specs.Limits.{input_limit};
-ghost use Rattle.bz_commands.specs.Reading.{ReadsWithin};
-ghost use Rattle.bz_commands.specs.Running.{AppendsSome};
+ghost use Rattle.bz_input.specs.Limits.{input_limit};
+ghost use Rattle.bz_input.specs.Reading.{ReadsWithin};
+ghost use Rattle.bz_input.specs.Stopping.{AppendsSome};
 ghost use Rattle.bz_chart.specs.Charting.{Charts, Draws, DrawsPiece};
 ghost use Rattle.bz_chart.specs.Pieces.{line_count};
 
 use crate::fault::ChartFault;
 use crate::range::{LineRange, piece_of};
-use bz_commands::{Fault, flat_of, read_input, split_trace};
+use bz_commands::split_trace;
 use bz_flat::Flat;
+use bz_input::{Fault, flat_of, read_input};
 use bz_lifelines::{Origins, draw};
 use bz_outline::Circuit;
 use bz_trace::{Part, Verdict, WriteFault, check, put_parts};

@@ -1,7 +1,8 @@
 //! Memory that is used up once the net is open, or before it.
 
 use crate::pools::{Pooled, pool};
-use bz_commands::{Fault, run_cmd};
+use bz_commands::run_cmd;
+use bz_input::Fault;
 use bz_playing::blocks::{MOST_BLOCKS, take_all, take_most};
 use bz_playing::check;
 use bz_playing::netlists::TWO;

@@ -1,7 +1,7 @@
 //! Sessions played beside workers.
 
 use bz_cli::{PoolOptions, pool_cmd};
-use bz_commands::Fault;
+use bz_input::Fault;
 use bz_playing::netlists::TWO;
 use bz_session::End;
 use std::alloc::Global;

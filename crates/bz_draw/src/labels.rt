@@ -1,11 +1,11 @@
 //! Texts in labels.
 
 use bz_arena::Arena;
-use bz_breeze::{Component, Part as PartRecord};
 use bz_flat::FlatComp;
 use bz_lines::{Part, WriteFault, put_parts};
 use bz_model::{Chan, Kind, Param, Value, low_bits, node_of};
 use bz_places::Place;
+use bz_records::{Component, Part as PartRecord};
 use std::alloc::{AllocError, Global};
 use std::io::Write;
 

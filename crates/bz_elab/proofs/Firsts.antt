@@ -4,7 +4,7 @@ use Rattle.std.specs.List.{All}
 use Rattle.bz_model.specs.declared.channel.Chan.{Chan}
 use Rattle.bz_model.specs.declared.kind.Kind.{Kind}
 use Rattle.bz_model.specs.Rows.{row_of, ports_of}
-use Rattle.bz_breeze.specs.declared.part.Component.{Component}
+use Rattle.bz_records.specs.declared.part.Component.{Component}
 use Rattle.bz_model.specs.declared.error.KindError.{KindError}
 use Rattle.bz_model.specs.declared.error.KindError.TheVariants as kind
 use Rattle.bz_kind_table.specs.Naming.{kind_with}

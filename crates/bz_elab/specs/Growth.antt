@@ -4,8 +4,8 @@ use Rattle.std.specs.List.{flat_map, All}
 use Rattle.bz_model.specs.declared.channel.Chan.{Chan}
 use Rattle.bz_model.specs.declared.kind.Kind.{Kind}
 use Rattle.bz_model.specs.Rows.{row_of, ports_of, has_widths}
-use Rattle.bz_breeze.specs.declared.part.Part.{Part}
-use Rattle.bz_breeze.specs.declared.part.Component.{Component}
+use Rattle.bz_records.specs.declared.part.Part.{Part}
+use Rattle.bz_records.specs.declared.part.Component.{Component}
 use Rattle.bz_flat.specs.declared.error.ElabError.{ElabError}
 use Rattle.bz_flat.specs.declared.error.ElabError.TheVariants.{TooBig, Memory}
 use Rattle.bz_elab.specs.declared.error.Fault.{Fault}

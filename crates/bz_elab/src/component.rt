@@ -14,10 +14,10 @@ ghost use Rattle.bz_elab.specs.Growth.{IsFlat, IsSoundInstance};
 ghost use Rattle.bz_elab.specs.Order.{NoneBefore};
 
 use crate::error::Fault;
-use bz_breeze::{Component, Part, Slot};
 use bz_flat::FlatComp;
 use bz_kind_table::{PortRow, kind_of, kinds_are, port_table, sizes_fit, widths_fit};
 use bz_model::{Chan, ChanKind, Kind, MAX_MEMBERS};
+use bz_records::{Component, Part, Slot};
 use std::alloc::{AllocError, Global};
 
 /// A component that is no instance, by the numbers that its part's channels have in that part.

@@ -19,9 +19,9 @@ use crate::reading::{Instance, Item, Reading};
 use crate::totals::{Total, is_bare};
 use crate::walk::{MOST_INSTANCES, find};
 use bz_arena::Arena;
-use bz_breeze::{Component, Part, Parts};
 use bz_flat::ElabError;
 use bz_model::Chan;
+use bz_records::{Component, Part, Parts};
 use std::alloc::{AllocError, Global};
 
 /// A fault, and the component that has it.

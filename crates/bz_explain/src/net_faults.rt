@@ -10,12 +10,12 @@ use crate::end_faults::{explain_loose, explain_sense, explain_two};
 use crate::seat::Head;
 use crate::site::{Netlist, Site};
 use crate::source::put_place;
-use bz_breeze::Parts;
 use bz_flat::ElabError;
 use bz_lines::Part;
 use bz_model::Value;
 use bz_notes::{Draft, Nearest};
 use bz_places::{Places, PlacesError};
+use bz_records::Parts;
 use std::alloc::AllocError;
 
 /// The notes of a part that has no net.

@@ -3,12 +3,12 @@
 use crate::joined::chan_at;
 use crate::seat::{Head, part_form};
 use crate::source::{put_place, put_spot};
-use bz_breeze::{Component, Part as PartRecord, Parts, Slot};
 use bz_kind_table::kind_of;
 use bz_lines::Part;
 use bz_model::{Chan, Kind, KindError, Port, Value};
 use bz_notes::{Draft, spot_of};
 use bz_places::Place;
+use bz_records::{Component, Part as PartRecord, Parts, Slot};
 use bz_sexpr::Forms;
 use std::alloc::{AllocError, Global};
 

@@ -1,16 +1,16 @@
 //! The command `explore`, over any readers and writers.
 
 ghost use Rattle.std.specs.Prelude.{◌≡◌};
-ghost use Rattle.bz_commands.specs.Reading.{ReadsWithin};
+ghost use Rattle.bz_input.specs.Reading.{ReadsWithin};
 ghost use Rattle.bz_explore.specs.Statuses.{status_of};
 
 use crate::origins::Origins;
 use crate::piece::Piece;
 use crate::session::{Goes, Session};
 use crate::text::Text;
-use bz_commands::{Fault, flat_of, read_input};
 use bz_course::Course;
 use bz_flat::Flat;
+use bz_input::{Fault, flat_of, read_input};
 use bz_lines::{Part, put_parts};
 use std::alloc::Global;
 use std::io::{BufRead, Read, Write};

@@ -2,10 +2,10 @@
 
 use crate::piece::Piece;
 use crate::text::Text;
-use bz_breeze::Parts;
-use bz_commands::Fault;
 use bz_flat::FlatComp;
+use bz_input::Fault;
 use bz_places::{PartLines, Places, comp_standing, lines_of, put_comp, put_path};
+use bz_records::Parts;
 use std::alloc::Global;
 
 /// The parts of a text, and where everything in the net of one of them stands.

@@ -9,8 +9,8 @@ use Rattle.bz_records.specs.Records.{part_record}
 use Rattle.bz_breeze.specs.Parts.{parts}
 use Rattle.bz_breeze.specs.Faults.{Tells, fault_of}
 use Rattle.bz_breeze.specs.Places.{IsLeast}
-use Rattle.bz_elab.specs.declared.error.ElabError.{ElabError}
-use Rattle.bz_elab.specs.declared.error.ElabError.TheVariants.{Recursive, UnknownComponent, BadParameter, PortCount, BadChannel, KindMismatch, WidthMismatch}
+use Rattle.bz_flat.specs.declared.error.ElabError.{ElabError}
+use Rattle.bz_flat.specs.declared.error.ElabError.TheVariants.{Recursive, UnknownComponent, BadParameter, PortCount, BadChannel, KindMismatch, WidthMismatch}
 use Rattle.bz_elab.specs.Refusals.{Elaborated}
 use Rattle.bz_elab.specs.Order.{Refuses}
 use Rattle.bz_model.specs.Nets.{Wiring}

@@ -6,7 +6,7 @@ ghost use Rattle.bz_input.specs.Statuses.{of_input, of_part, of_text, of_words, 
 
 use crate::input::InputFault;
 use bz_breeze::{BreezeError, Place};
-use bz_elab::ElabError;
+use bz_flat::ElabError;
 use bz_lines::{NameForm, WriteFault};
 use bz_model::{NetError, Who};
 use bz_sexpr::SexprError;

@@ -11,7 +11,7 @@ use crate::fault::Fault;
 use crate::input::read_input;
 use crate::listing::write_list;
 use crate::open::flat_of_input;
-use bz_elab::Flat;
+use bz_flat::Flat;
 use bz_lines::WriteFault;
 use std::alloc::Global;
 use std::io::{Read, Write};

@@ -9,7 +9,8 @@ ghost use Rattle.bz_input.specs.Opening.{Denotes, NamesParts, RefusesNet, Refuse
 
 use crate::fault::Fault;
 use bz_breeze::BreezeError;
-use bz_elab::{ElabError, Flat, elaborate};
+use bz_elab::elaborate;
+use bz_flat::{ElabError, Flat};
 use bz_records::{Part, Parts};
 use bz_sexpr::SexprError;
 use std::alloc::Global;

@@ -2,9 +2,9 @@
 
 use crate::svg::Pen;
 use crate::words::Cut;
-use bz_breeze::Parts;
 use bz_flat::FlatComp;
 use bz_places::{PartLines, Places, PlacesError, comp_standing, lines_of, put_comp};
+use bz_records::Parts;
 use bz_sexpr::Forms;
 use std::alloc::{AllocError, Global};
 

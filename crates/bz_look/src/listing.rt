@@ -10,17 +10,17 @@ ghost use Rattle.bz_flat.specs.Wires.{ends_in};
 ghost use Rattle.bz_lines.specs.Writing.{Writes};
 ghost use Rattle.bz_places.specs.Texts.{at_text, placed_comp_text};
 ghost use Rattle.bz_places.specs.Views.{comp_standing, spot_of, standing_of};
-ghost use Rattle.bz_commands.specs.Listing.{lines, ports_text};
+ghost use Rattle.bz_input.specs.Listing.{lines, ports_text};
 ghost use Rattle.bz_look.specs.Listing.{chan_end, chan_head, chan_line, comp_end, comp_line, comp_name, comps_text, count_line, end_text, ends_text, host_holds, inside_text, instance_head, instance_line, instances_text, paths_text, placed_chan, stepped};
 
 use crate::survey::Survey;
 use bz_arena::{Arena, Id};
-use bz_breeze::Part as PartRecord;
-use bz_commands::{carried_parts, put_head, put_ports};
 use bz_flat::{Ends, FlatComp};
+use bz_input::{carried_parts, put_head, put_ports};
 use bz_lines::{Part, WriteFault, put_parts};
 use bz_model::{Chan, ChanKind, Port, Value};
 use bz_places::{Place, Standing, chan_standing, comp_standing, put_comp, put_standing};
+use bz_records::Part as PartRecord;
 use std::io::Write;
 
 /// Writes the text of a survey, under the name of its part.

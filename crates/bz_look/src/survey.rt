@@ -2,9 +2,9 @@
 
 ghost use Rattle.std.specs.Prelude.{◌≤◌, length};
 
-use bz_breeze::Parts;
 use bz_flat::Pieces;
 use bz_places::{PartLines, Places};
+use bz_records::Parts;
 
 /// The net of a part, and where everything in it stands.
 pub struct Survey {

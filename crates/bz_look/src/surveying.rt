@@ -1,13 +1,13 @@
 //! From a netlist to the survey of a part.
 
 ghost use Rattle.std.specs.Prelude.{IfOk, IfErr};
-ghost use Rattle.bz_commands.specs.Opening.{RefusesNet};
+ghost use Rattle.bz_input.specs.Opening.{RefusesNet};
 ghost use Rattle.bz_look.specs.Surveys.{IsSurvey};
 
 use crate::survey::Survey;
-use bz_commands::{Fault, in_part};
 use bz_elab::elaborate;
 use bz_flat::ElabError;
+use bz_input::{Fault, in_part};
 use bz_places::{Places, lines_of};
 use std::alloc::Global;
 

@@ -9,11 +9,11 @@ ghost use Rattle.bz_places.specs.Views.{spot_of, standing_of, standing_at, line_
 
 use crate::lines::PartLines;
 use crate::place::Place;
-use bz_breeze::Parts;
 use bz_flat::FlatComp;
 use bz_kind_table::kind_word;
 use bz_lines::{Part, WriteFault, put_parts};
 use bz_model::{Kind, Value};
+use bz_records::Parts;
 use std::io::Write;
 
 /// Where a record stands, as a text tells it.

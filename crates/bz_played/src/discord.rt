@@ -1,8 +1,8 @@
 //! The notes of a fault that no input brings about.
 
 use crate::tally::Tally;
-use bz_commands::Fault;
 use bz_explain::{Asked, Words, explain};
+use bz_input::Fault;
 use bz_model::Who;
 use std::fs;
 use std::test::Fail;

@@ -3,7 +3,7 @@
 use crate::cases::{CASES, Case};
 use crate::sink::Sink;
 use crate::tally::Tally;
-use bz_commands::Fault;
+use bz_input::Fault;
 use bz_playing::blocks::{MOST_BLOCKS, take_all, take_most};
 use bz_playing::{Outcome, Task, answer};
 use std::alloc::{AllocError, Global};

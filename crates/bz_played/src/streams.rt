@@ -3,7 +3,7 @@
 use crate::cases::WORDS;
 use crate::sink::Sink;
 use crate::tally::Tally;
-use bz_commands::Fault;
+use bz_input::Fault;
 use bz_playing::netlists::BUFFER;
 use bz_playing::{Task, answer};
 use std::alloc::Global;

@@ -1,7 +1,8 @@
 //! What a command is given beside its input.
 
 use bz_command_line::{CommandName, Options, PartName};
-use bz_commands::{read_input, split_trace};
+use bz_commands::split_trace;
+use bz_input::read_input;
 use std::alloc::{AllocError, Global};
 use std::io::Read;
 

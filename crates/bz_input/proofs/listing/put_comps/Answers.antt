@@ -1,6 +1,6 @@
 use Rattle.std.proofs.Common.{map, arith}
 use Rattle.std.proofs.lemmas.Result.{err_from_is_err_and}
-use Rattle.bz_elab.specs.Flats.{site_of}
+use Rattle.bz_flat.specs.Flats.{site_of}
 use Rattle.bz_input.specs.Listing.{comp_line}
 use Rattle.bz_input.proofs.Lines.{sent_line, stops_in_line}
 use Rattle.bz_input.proofs.listing.put_comps.Goals as goal

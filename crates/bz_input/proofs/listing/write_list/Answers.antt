@@ -3,7 +3,7 @@ use Rattle.std.specs.List.{flat_map}
 use Rattle.std.proofs.lemmas.Result.{err_from_is_err_and}
 use Rattle.bz_lines.proofs.Sent.{stops_before, writes_after}
 use Rattle.bz_model.specs.Names.{external}
-use Rattle.bz_elab.specs.Flats.{site_of}
+use Rattle.bz_flat.specs.Flats.{site_of}
 use Rattle.bz_input.specs.Listing.{head_text, ports_text, comps_text}
 use Rattle.bz_input.proofs.listing.write_list.Goals as goal
 
