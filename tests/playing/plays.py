@@ -1,4 +1,4 @@
-"""Items whose words are played by `run` or `pool`. Each maker yields the cases of an item: functions that answer what differs."""
+"""Items whose words are played by `run` or `pool`. Each maker yields an item's cases: functions that answer what differs."""
 
 import re
 from functools import partial
@@ -60,8 +60,8 @@ def checked(case, program, part, trace):
 
 
 def replies(case, program):
-    """A table of operations: in the netlist `{COLUMN}`, `{op}` and `{sign}` stand for what a row says, and port `out` replies with
-    the result, once each port that is named is answered with the value of its column."""
+    """A table of operations. In the netlist `{COLUMN}`, `{op}` and `{sign}` stand for what a row says. Port `out` replies with the
+    result, once each port that is named is answered with the value of its column."""
     head, *rows = case.other.decode().splitlines()
     names, operations = (half.split() for half in case.item.halves(head))
     for line in rows:
