@@ -60,8 +60,8 @@ def checked(case, program, part, trace):
 
 
 def replies(case, program):
-    """A table of operations. In the netlist `{COLUMN}`, `{op}` and `{sign}` stand for what a row says. Port `out` replies with the
-    result, once each port that is named is answered with the value of its column."""
+    """A table of operations. In the netlist `{COLUMN}`, `{op}` and `{sign}` stand for what a row says. Port `out` replies with
+    the result, once each port that is named is answered with the value of its column."""
     head, *rows = case.other.decode().splitlines()
     names, operations = (half.split() for half in case.item.halves(head))
     for line in rows:
