@@ -114,7 +114,10 @@ pub fn pool<T: Threads + Wait + Sync, R: Read, W: Write, E: Write>(
         fuel: given.options.fuel,
         journal: given.options.journal,
     };
-    if !are_in_bounds(options) {
+    if options.workers == 0 || options.workers > MAX_WORKERS {
+        return Ok(BAD_COMMAND_LINE);
+    }
+    if options.journal == 0 || options.journal > MAX_JOURNAL {
         return Ok(BAD_COMMAND_LINE);
     }
     let ends = pool_cmd(
@@ -128,12 +131,6 @@ pub fn pool<T: Threads + Wait + Sync, R: Read, W: Write, E: Write>(
     )?;
     note_ends(ends.as_slice(), errors);
     Ok(DONE)
-}
-
-// Whether a pool may have so many workers and so long a journal.
-fn are_in_bounds(options: PoolOptions) -> bool {
-    let has_workers = options.workers > 0 && options.workers <= MAX_WORKERS;
-    has_workers && options.journal > 0 && options.journal <= MAX_JOURNAL
 }
 
 fn note_ends<E: Write>(ends: &[End], errors: &mut E) {
