@@ -10,6 +10,10 @@ use crate::svg::{DARK, PULL, PUSH, Pen};
 use bz_model::ChanKind;
 use bz_outline::Layout;
 
+const START: &str = "<path d=\"M% %H%";
+
+const OPEN_HEAD: &str = "<path d=\"M% %l3 6l3 -6\" fill=\"none\" stroke=\"$\"/>\n";
+
 /// A request or a reply that has left.
 #[derive(Clone, Copy)]
 pub(crate) struct Sent {
@@ -45,11 +49,7 @@ pub(crate) fn put_arrow(pen: &mut Pen, layout: Layout, sent: Sent, row: Option<u
     let to = layout.column(sent.to);
     let lane = sent.heading.other().from(to, 12 + 4 * u64::from(sent.lane));
     match sent.row {
-        Some(row) => pen.put(
-            "<path d=\"M% %H%",
-            &[start_of(layout, sent), layout.row(row), lane],
-            "",
-        ),
+        Some(row) => pen.put(START, &[start_of(layout, sent), layout.row(row), lane], ""),
         None => pen.put("<path d=\"M% %", &[lane, TOP], ""),
     }
     match row {
@@ -107,11 +107,7 @@ fn put_waiting(pen: &mut Pen, sent: Sent, lane: u64, bottom: u64)
 {
     pen.put("V%", &[bottom], "");
     put_style(pen, sent);
-    pen.put(
-        "<path d=\"M% %l3 6l3 -6\" fill=\"none\" stroke=\"$\"/>\n",
-        &[lane - 3, bottom - 6],
-        colour(sent.kind),
-    );
+    pen.put(OPEN_HEAD, &[lane - 3, bottom - 6], colour(sent.kind));
 }
 
 // The end of a path: thick where a value rides, dashed where it is a reply.

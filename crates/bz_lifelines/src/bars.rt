@@ -4,6 +4,10 @@ use crate::scene::TOP;
 use crate::svg::Pen;
 use bz_outline::Layout;
 
+const BAR: &str = "<path d=\"M% %h8V%h-8z\" fill=\"#ffffff\"/>\n<path d=\"M% %V%$";
+
+const BAR_END: &str = "V%$\" fill=\"none\" stroke=\"#222222\" stroke-width=\"1\"/>\n";
+
 /// What a lifeline holds: requests taken and not yet replied to, and at a port whose host is the caller, the requests offered
 /// and not yet collected.
 #[derive(Clone, Copy)]
@@ -52,15 +56,7 @@ impl Held {
             Some(row) => (layout.row(row), "h-8"),
             None => (layout.bottom(), ""),
         };
-        pen.put(
-            "<path d=\"M% %h8V%h-8z\" fill=\"#ffffff\"/>\n<path d=\"M% %V%$",
-            &[x, top, bottom, x, bottom, top],
-            over,
-        );
-        pen.put(
-            "V%$\" fill=\"none\" stroke=\"#222222\" stroke-width=\"1\"/>\n",
-            &[bottom],
-            under,
-        );
+        pen.put(BAR, &[x, top, bottom, x, bottom, top], over);
+        pen.put(BAR_END, &[bottom], under);
     }
 }

@@ -3,7 +3,7 @@
 use crate::rows::shown;
 use crate::scene::Chart;
 use bz_model::{Port, numbered};
-use bz_outline::{Circuit, Event, Lifeline, read_line};
+use bz_outline::{Event, Lifeline, read_line};
 use std::alloc::{AllocError, Global};
 
 /// The least letters that a line of the trace has room for.
@@ -15,8 +15,12 @@ pub(crate) struct Columns {
     // of each port, and then of each component
     places: Vec<Option<u32>>,
     ports: u32,
-    shown: Vec<Lifeline>,
-    letters: u32,
+    /// From left to right.
+    pub shown: Vec<Lifeline>,
+    /// How many letters the longest of the lines has.
+    pub letters: u32,
+    // whether memory was refused
+    is_short: bool,
 }
 
 impl Columns {
@@ -30,26 +34,21 @@ impl Columns {
             ports: u32::try_from(ports).unwrap_or(u32::MAX),
             shown: Vec::new(alloc),
             letters: LEAST_LETTERS,
+            is_short: false,
         };
         columns.mark_lines(chart);
-        match columns.put_in_order(chart.circuit) {
-            Ok(()) => Ok(columns),
-            Err(fault) => Err(fault),
+        columns.put_ports(chart.circuit.names().ports(), true);
+        columns.put_comps(chart.circuit.comp_count());
+        columns.put_ports(chart.circuit.names().ports(), false);
+        if columns.is_short {
+            Err(AllocError)
+        } else {
+            Ok(columns)
         }
-    }
-
-    /// From left to right.
-    pub fn shown(&self) -> &[Lifeline] {
-        &self.shown
     }
 
     pub fn count(&self) -> u32 {
         u32::try_from(self.shown.len()).unwrap_or(u32::MAX)
-    }
-
-    /// How many letters the longest of the lines has.
-    pub fn letters(&self) -> u32 {
-        self.letters
     }
 
     /// The place of a lifeline, from 0, where it is shown.
@@ -98,37 +97,29 @@ impl Columns {
         set(&mut self.places, number, Some(place));
     }
 
-    // Puts those that take part in columns of their own.
-    fn put_in_order(&mut self, circuit: &Circuit) -> Result<(), AllocError> {
-        self.put_ports(circuit.names().ports(), true)?;
-        self.put_comps(circuit.comp_count())?;
-        self.put_ports(circuit.names().ports(), false)
-    }
-
     // The ports of one sense, by number.
-    fn put_ports(&mut self, ports: &[Port], passive: bool) -> Result<(), AllocError> {
+    fn put_ports(&mut self, ports: &[Port], passive: bool) {
         for (number, port) in (1..=self.ports).zip(ports) {
             if port.passive == passive {
-                self.put(Lifeline::Port(number))?;
+                self.put(Lifeline::Port(number));
             }
         }
-        Ok(())
     }
 
-    fn put_comps(&mut self, count: u32) -> Result<(), AllocError> {
+    fn put_comps(&mut self, count: u32) {
         for number in 1..=count {
-            self.put(Lifeline::Comp(number))?;
+            self.put(Lifeline::Comp(number));
         }
-        Ok(())
     }
 
     // Puts it in the next column, where it takes part.
-    fn put(&mut self, lifeline: Lifeline) -> Result<(), AllocError> {
+    fn put(&mut self, lifeline: Lifeline) {
         if self.place(lifeline).is_some() {
             self.set(lifeline, self.count());
-            self.shown.push(lifeline)?;
+            if self.shown.push(lifeline).is_err() {
+                self.is_short = true;
+            }
         }
-        Ok(())
     }
 }
 

@@ -12,6 +12,10 @@ use bz_lines::{LineNames, Part};
 use bz_outline::{Circuit, Layout, Piece};
 use std::alloc::{AllocError, Global};
 
+const TITLE: &str = ": lines % to % of the trace";
+
+const LIFELINE: &str = "<path d=\"M% %V%\" stroke=\"#999999\" stroke-width=\"1\"/>\n";
+
 /// How many letters of the part's name the title shows.
 const MOST_PART: usize = 40;
 
@@ -45,10 +49,6 @@ pub fn draw(
         trace,
         piece,
     };
-    draw_chart(alloc, chart)
-}
-
-fn draw_chart(alloc: Global, chart: Chart<'_>) -> Result<Vec<u8>, AllocError> {
     match Columns::of(alloc, chart) {
         Ok(columns) => draw_columns(alloc, chart, &columns),
         Err(fault) => Err(fault),
@@ -69,23 +69,14 @@ fn draw_flow(
     flow: &mut Flow,
 ) -> Result<Vec<u8>, AllocError> {
     let part = pen.spell(&[Part::Name(chart.part)]);
-    let part = Cut {
-        text: part.as_slice(),
-        most: MOST_PART,
-    };
-    let layout = layout_of(chart.piece, columns, part);
-    flow.follow(Scene {
+    let part = Cut::new(part.as_slice(), MOST_PART);
+    let mut scene = Scene {
         chart,
         columns,
-        layout,
-    });
-    let signs = sign_count(flow.shows_clash());
-    let layout = Layout { signs, ..layout };
-    let scene = Scene {
-        chart,
-        columns,
-        layout,
+        layout: layout_of(chart.piece, columns, part),
     };
+    flow.follow(scene);
+    scene.layout.signs = sign_count(flow.shows_clash());
     put_all(&mut pen, scene, part, flow);
     pen.end()
 }
@@ -97,7 +88,7 @@ fn layout_of(piece: Piece, columns: &Columns, part: Cut<'_>) -> Layout {
         rows: piece.rows,
         columns: columns.count(),
         digits: digits(piece.last()),
-        letters: columns.letters(),
+        letters: columns.letters,
         title: (part.letters().saturating_add(TITLE_LETTERS)).saturating_add(numbers),
         signs: sign_count(false),
     }
@@ -105,7 +96,7 @@ fn layout_of(piece: Piece, columns: &Columns, part: Cut<'_>) -> Layout {
 
 fn put_all(pen: &mut Pen, scene: Scene<'_>, part: Cut<'_>, flow: &Flow) {
     put_frame(pen, scene, part);
-    pen.add(flow.rows());
+    pen.add(&flow.rows);
     put_lifelines(pen, scene.layout);
     put_heads(pen, scene);
     flow.put(pen, scene.layout);
@@ -125,20 +116,12 @@ fn put_frame(pen: &mut Pen, scene: Scene<'_>, part: Cut<'_>) {
 
 fn put_title(pen: &mut Pen, piece: Piece, part: Cut<'_>) {
     pen.put_word(part);
-    pen.put(
-        ": lines % to % of the trace",
-        &[piece.first as u64, piece.last() as u64],
-        "",
-    );
+    pen.put(TITLE, &[piece.first as u64, piece.last() as u64], "");
 }
 
 fn put_lifelines(pen: &mut Pen, layout: Layout) {
     for column in 0..layout.columns {
-        pen.put(
-            "<path d=\"M% %V%\" stroke=\"#999999\" stroke-width=\"1\"/>\n",
-            &[layout.column(column), TOP, layout.bottom()],
-            "",
-        );
+        pen.put(LIFELINE, &[layout.column(column), TOP, layout.bottom()], "");
     }
 }
 

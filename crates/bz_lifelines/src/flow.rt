@@ -1,7 +1,5 @@
 //! What goes on between the lifelines, line by line.
 
-ghost use Rattle.std.specs.Prelude.{◌≤◌, IfSome};
-
 use crate::arrows::{Sent, colour, put_arrow};
 use crate::bars::Held;
 use crate::columns::set;
@@ -11,8 +9,8 @@ use crate::meetings::{Meeting, is_shared};
 use crate::rows::put_row;
 use crate::scene::{Chart, Scene};
 use crate::svg::{DARK, Pen, RED, put_circle, put_cross, put_triangle};
-use bz_model::{Move, Phase, numbered};
-use bz_outline::{Denial, Event, Layout, Lifeline, Piece, Step, read_line};
+use bz_model::{Move, numbered};
+use bz_outline::{Event, Layout, Lifeline, Piece, Step, read_line};
 use std::alloc::{AllocError, Global};
 
 /// What a lifeline that is shown is in.
@@ -24,22 +22,19 @@ struct State {
     meeting: Meeting,
 }
 
-impl State {
-    const NEW: State = State {
-        left: Lanes::FREE,
-        right: Lanes::FREE,
-        held: Held::NONE,
-        meeting: Meeting::NONE,
-    };
+#[derive(Clone, Copy)]
+enum Mark {
+    Circle,
+    Cross,
+    Triangle,
 }
 
-/// What is told by a sign on a lifeline.
+/// A mark on a lifeline, and a word at its outer side.
 #[derive(Clone, Copy)]
-enum Told {
-    Watched(Phase),
-    Refused(Denial),
-    Met,
-    Clashed,
+struct Sign {
+    lifeline: Lifeline,
+    mark: Mark,
+    word: &'static str,
 }
 
 /// What is under way, and what is drawn of it: rows, bars, arrows and signs, words, and over all of them the triangles.
@@ -52,7 +47,7 @@ pub(crate) struct Flow {
     states: Vec<State>,
     // the columns that have taken something, in the order of the first time
     order: Vec<u32>,
-    rows: Pen,
+    pub rows: Pen,
     bars: Pen,
     arrows: Pen,
     labels: Pen,
@@ -62,7 +57,13 @@ pub(crate) struct Flow {
 impl Flow {
     pub fn new(alloc: Global, chart: Chart<'_>, columns: u32) -> Result<Flow, AllocError> {
         let sent = vec![in alloc; None; chart.circuit.chan_count()];
-        match (sent, vec![in alloc; State::NEW; columns as usize]) {
+        let state = State {
+            left: Lanes::FREE,
+            right: Lanes::FREE,
+            held: Held::NONE,
+            meeting: Meeting::NONE,
+        };
+        match (sent, vec![in alloc; state; columns as usize]) {
             (Ok(sent), Ok(states)) => Ok(Flow {
                 sent,
                 count: 0,
@@ -98,10 +99,6 @@ impl Flow {
         !self.triangles.is_empty()
     }
 
-    pub fn rows(&self) -> &Pen {
-        &self.rows
-    }
-
     /// Writes all that was drawn between the lifelines, and what is still under way.
     pub fn put(&self, pen: &mut Pen, layout: Layout) {
         pen.add(&self.bars);
@@ -117,16 +114,11 @@ impl Flow {
 
     // Goes on by an event, and draws what it shows on this row. Before the first row nothing is drawn.
     fn note(&mut self, scene: Scene<'_>, event: Event, row: Option<u32>) {
-        match event {
-            Event::Moved(step) => self.go_on(scene, step, row),
-            Event::Watched { port, phase } => {
-                self.tell(scene, Lifeline::Port(port), row, Told::Watched(phase))
-            }
-            Event::Refused { port, denial } => {
-                self.tell(scene, Lifeline::Port(port), row, Told::Refused(denial))
-            }
-            Event::Clashed { comp } => self.tell(scene, Lifeline::Comp(comp), row, Told::Clashed),
-            Event::Rested => {}
+        if let Event::Moved(step) = event {
+            self.go_on(scene, step, row);
+        }
+        if let Some(sign) = sign_of(event) {
+            self.put_sign(scene, row, sign);
         }
     }
 
@@ -143,7 +135,7 @@ impl Flow {
     fn hold(&mut self, scene: Scene<'_>, step: Step, row: Option<u32>) {
         if let Some(column) = scene.columns.place(step.maker) {
             if let Some(state) = self.states.get_mut(column as usize) {
-                match (is_caller(scene, step), step.mv) {
+                match (is_caller(scene, step.maker), step.mv) {
                     (true, Move::Ask) | (false, Move::Take) => {
                         if state.held.begin(row) && self.order.push(column).is_err() {
                             self.bars.fail();
@@ -152,9 +144,8 @@ impl Flow {
                     (true, Move::Got) | (false, Move::Reply) => {
                         state.held.end();
                         if row.is_some() && !state.held.is_open() {
-                            state
-                                .held
-                                .put_bar(&mut self.bars, scene.layout, column, row);
+                            let layout = scene.layout;
+                            state.held.put_bar(&mut self.bars, layout, column, row);
                         }
                     }
                     _ => {}
@@ -169,7 +160,7 @@ impl Flow {
             if let Some(column) = scene.columns.place(Lifeline::Comp(comp)) {
                 if let Some(state) = self.states.get_mut(column as usize) {
                     if is_shared(scene.chart.circuit, comp) && state.meeting.note(step.mv) {
-                        self.tell(scene, Lifeline::Comp(comp), row, Told::Met);
+                        self.put_sign(scene, row, met_at(comp, ""));
                     }
                 }
             }
@@ -189,7 +180,10 @@ impl Flow {
                 from,
                 to,
                 heading,
-                lane: self.take_lane(to, heading.other()),
+                lane: match self.lanes(to, heading.other()) {
+                    Some(lanes) => lanes.take(),
+                    None => 0,
+                },
                 is_request: matches!(step.mv, Move::Ask),
                 carries: step.value.is_some(),
                 kind: scene.chart.circuit.chan(step.chan).kind,
@@ -197,58 +191,57 @@ impl Flow {
             self.count = self.count.saturating_add(1);
             set(&mut self.sent, step.chan, Some(sent));
             if let (Some(from), Some(row)) = (from, row) {
-                let side = if from == to { Side::Right } else { heading };
-                self.put_channel(scene, step, from, side, row);
+                self.put_channel(scene.layout, step, sent, from, row);
             }
         }
     }
 
     // Names the channel, and the value, beside the lifeline that it leaves.
-    fn put_channel(&mut self, scene: Scene<'_>, step: Step, from: u32, side: Side, row: u32) {
+    fn put_channel(&mut self, layout: Layout, step: Step, sent: Sent, from: u32, row: u32) {
         let text = channel_label(&mut self.labels, step.chan, step.value);
-        let gap = match self.greatest_lane(from, side) {
-            None => 8,
-            Some(lane) => 16 + 4 * u64::from(lane),
+        let side = if from == sent.to {
+            Side::Right
+        } else {
+            sent.heading
         };
-        put_label(
-            &mut self.labels,
-            side.from(scene.layout.column(from), gap),
-            scene.layout.row(row),
-            side,
-            text.as_slice(),
-            colour(scene.chart.circuit.chan(step.chan).kind),
-        );
+        let gap = match self.lanes(from, side) {
+            Some(lanes) => lanes.room(),
+            None => 8,
+        };
+        let start = side.from(layout.column(from), gap);
+        let (y, colour) = (layout.row(row), colour(sent.kind));
+        put_label(&mut self.labels, start, y, side, text.as_slice(), colour);
     }
 
     fn bring_in(&mut self, layout: Layout, chan: u32, row: Option<u32>) {
         if let Some(sent) = numbered(&self.sent, chan).copied().flatten() {
             set(&mut self.sent, chan, None);
-            self.leave_lane(sent.to, sent.heading.other(), sent.lane);
+            if let Some(lanes) = self.lanes(sent.to, sent.heading.other()) {
+                lanes.leave(sent.lane);
+            }
             if row.is_some() {
                 put_arrow(&mut self.arrows, layout, sent, row);
             }
         }
     }
 
-    // Draws a sign on a lifeline, with a word beside it.
-    fn tell(&mut self, scene: Scene<'_>, lifeline: Lifeline, row: Option<u32>, told: Told) {
-        if let (Some(row), Some(column)) = (row, scene.columns.place(lifeline)) {
+    fn put_sign(&mut self, scene: Scene<'_>, row: Option<u32>, sign: Sign) {
+        if let (Some(row), Some(column)) = (row, scene.columns.place(sign.lifeline)) {
             let (x, y) = (scene.layout.column(column), scene.layout.row(row));
-            let (word, colour, gap) = match told {
-                Told::Watched(phase) => (phase_word(phase), DARK, 6),
-                Told::Refused(denial) => (denial_word(denial), RED, 6),
-                Told::Met => ("", RED, 8),
-                Told::Clashed => ("clash", RED, 8),
+            let (gap, colour) = match sign.mark {
+                Mark::Circle => (6, DARK),
+                Mark::Cross => (6, RED),
+                Mark::Triangle => (8, RED),
             };
-            match told {
-                Told::Watched(_) => put_circle(&mut self.arrows, x, y),
-                Told::Refused(_) => put_cross(&mut self.arrows, x, y),
-                Told::Met | Told::Clashed => put_triangle(&mut self.triangles, x, y),
+            match sign.mark {
+                Mark::Circle => put_circle(&mut self.arrows, x, y),
+                Mark::Cross => put_cross(&mut self.arrows, x, y),
+                Mark::Triangle => put_triangle(&mut self.triangles, x, y),
             }
-            if !word.is_empty() {
-                let side = outer_side(scene, lifeline);
-                let x = side.from(x, gap);
-                put_label(&mut self.labels, x, y + 6, side, word.as_bytes(), colour);
+            if !sign.word.is_empty() {
+                let (pen, side) = (&mut self.labels, outer_side(scene, sign.lifeline));
+                let (start, text) = (side.from(x, gap), sign.word.as_bytes());
+                put_label(pen, start, y + 6, side, text, colour);
             }
         }
     }
@@ -270,33 +263,39 @@ impl Flow {
         Ok(waiting)
     }
 
-    fn take_lane(&mut self, column: u32, side: Side) -> u32
-        ensures { result ≤ 5 }
-    {
-        match (self.states.get_mut(column as usize), side) {
-            (Some(state), Side::Left) => state.left.take(),
-            (Some(state), Side::Right) => state.right.take(),
-            (None, _) => 0,
+    // The lanes on one side of a column.
+    fn lanes(&mut self, column: u32, side: Side) -> Option<&mut Lanes> {
+        let state = self.states.get_mut(column as usize)?;
+        match side {
+            Side::Left => Some(&mut state.left),
+            Side::Right => Some(&mut state.right),
         }
     }
+}
 
-    fn leave_lane(&mut self, column: u32, side: Side, lane: u32)
-        requires { lane ≤ 5 }
-    {
-        match (self.states.get_mut(column as usize), side) {
-            (Some(state), Side::Left) => state.left.leave(lane),
-            (Some(state), Side::Right) => state.right.leave(lane),
-            (None, _) => {}
-        }
+// What an event that is no move is shown by.
+fn sign_of(event: Event) -> Option<Sign> {
+    match event {
+        Event::Watched { port, phase } => Some(Sign {
+            lifeline: Lifeline::Port(port),
+            mark: Mark::Circle,
+            word: phase_word(phase),
+        }),
+        Event::Refused { port, denial } => Some(Sign {
+            lifeline: Lifeline::Port(port),
+            mark: Mark::Cross,
+            word: denial_word(denial),
+        }),
+        Event::Clashed { comp } => Some(met_at(comp, "clash")),
+        Event::Moved(_) | Event::Rested => None,
     }
+}
 
-    fn greatest_lane(&self, column: u32, side: Side) -> Option<u32>
-        ensures { IfSome result (λ lane. lane ≤ 5) }
-    {
-        match (self.states.get(column as usize)?, side) {
-            (state, Side::Left) => state.left.greatest(),
-            (state, Side::Right) => state.right.greatest(),
-        }
+fn met_at(comp: u32, word: &'static str) -> Sign {
+    Sign {
+        lifeline: Lifeline::Comp(comp),
+        mark: Mark::Triangle,
+        word,
     }
 }
 
@@ -305,9 +304,9 @@ fn row_of(piece: Piece, number: usize) -> Option<u32> {
     u32::try_from(number.checked_sub(piece.first)?).ok()
 }
 
-// Whether the lifeline that moves is a port whose host is the caller.
-fn is_caller(scene: Scene<'_>, step: Step) -> bool {
-    match step.maker {
+// Whether a lifeline is a port whose host is the caller.
+fn is_caller(scene: Scene<'_>, lifeline: Lifeline) -> bool {
+    match lifeline {
         Lifeline::Port(port) => scene.chart.circuit.is_passive(port),
         Lifeline::Comp(_) => false,
     }
@@ -315,9 +314,10 @@ fn is_caller(scene: Scene<'_>, step: Step) -> bool {
 
 // The outer side of a port, and the right one of a component.
 fn outer_side(scene: Scene<'_>, lifeline: Lifeline) -> Side {
-    match lifeline {
-        Lifeline::Port(port) if scene.chart.circuit.is_passive(port) => Side::Left,
-        _ => Side::Right,
+    if is_caller(scene, lifeline) {
+        Side::Left
+    } else {
+        Side::Right
     }
 }
 

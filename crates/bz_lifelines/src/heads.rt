@@ -10,13 +10,21 @@ use bz_lines::Part;
 use bz_model::{ChanKind, Value};
 use bz_outline::{Circuit, Lifeline};
 
+const BRACKET: &str = "<path d=\"M% 44v-4H%v4\" fill=\"none\" stroke=\"#222222\"/>\n";
+
+const PORT: &str =
+    "</title>\n<rect x=\"%\" y=\"50\" width=\"68\" height=\"32\" fill=\"none\" stroke=\"#222222\"/>\n";
+
+const COMP: &str =
+    "</title>\n<text x=\"%\" y=\"58\" text-anchor=\"middle\" font-size=\"12\" font-weight=\"bold\">%</text>\n";
+
 /// How many letters of a port's name are shown.
 const MOST_NAME: usize = 10;
 
 /// Brackets over neighbours in one copy of a part, and then the heads.
 pub(crate) fn put_heads(pen: &mut Pen, scene: Scene<'_>) {
     put_brackets(pen, scene);
-    for (column, lifeline) in (0..scene.layout.columns).zip(scene.columns.shown()) {
+    for (column, lifeline) in (0..scene.layout.columns).zip(&scene.columns.shown) {
         let x = scene.layout.column(column);
         match *lifeline {
             Lifeline::Port(port) => put_port(pen, scene.chart, x, port),
@@ -29,20 +37,12 @@ pub(crate) fn put_heads(pen: &mut Pen, scene: Scene<'_>) {
 pub(crate) fn put_names(pen: &mut Pen, scene: Scene<'_>, y: u64)
     requires { IsClear y }
 {
-    for (column, lifeline) in (0..scene.layout.columns).zip(scene.columns.shown()) {
+    for (column, lifeline) in (0..scene.layout.columns).zip(&scene.columns.shown) {
         let name = name_of(pen, scene.chart.circuit, *lifeline);
         let below = below_name(pen, scene.chart.circuit, *lifeline);
-        let name = Cut {
-            text: name.as_slice(),
-            most: most_letters(*lifeline),
-        };
-        put_again(
-            pen,
-            scene.layout.column(column),
-            y,
-            name,
-            Cut::whole(&below),
-        );
+        let name = Cut::new(name.as_slice(), most_letters(*lifeline));
+        let x = scene.layout.column(column);
+        put_again(pen, x, y, name, Cut::whole(below.as_slice()));
     }
 }
 
@@ -57,17 +57,9 @@ fn put_brackets(pen: &mut Pen, scene: Scene<'_>) {
         }
         if let Some(position) = instance {
             if instance_at(scene, column.saturating_add(1)) != instance {
-                let name = scene
-                    .chart
-                    .origins
-                    .instance_name(scene.chart.part, position)
-                    .unwrap_or(b"");
-                let name = pen.spell(&[
-                    Part::Number(position as Value),
-                    Part::Bytes(b" "),
-                    Part::Name(name),
-                ]);
-                put_bracket(pen, scene, first, column, name.as_slice());
+                let left = scene.layout.column(first) - 32;
+                let right = scene.layout.column(column) + 32;
+                put_bracket(pen, scene.chart, left, right, position);
             }
         }
     }
@@ -75,26 +67,32 @@ fn put_brackets(pen: &mut Pen, scene: Scene<'_>) {
 
 // The instance whose copy the lifeline of a column is in.
 fn instance_at(scene: Scene<'_>, column: u32) -> Option<usize> {
-    match scene.columns.shown().get(column as usize) {
+    match scene.columns.shown.get(column as usize) {
         Some(Lifeline::Comp(comp)) => scene.chart.origins.instance(*comp),
         _ => None,
     }
 }
 
-// A bracket from one column to another, under its name.
-fn put_bracket(pen: &mut Pen, scene: Scene<'_>, first: u32, last: u32, name: &[u8]) {
-    let left = scene.layout.column(first) - 32;
-    let right = scene.layout.column(last) + 32;
-    let name = Cut {
-        text: name,
-        most: (right.saturating_sub(left) / 6) as usize,
-    };
-    pen.put(
-        "<path d=\"M% 44v-4H%v4\" fill=\"none\" stroke=\"#222222\"/>\n",
-        &[left, right],
-        "",
+// A bracket from left to right, under the name of an instance.
+fn put_bracket(pen: &mut Pen, chart: Chart<'_>, left: u64, right: u64, position: usize)
+    requires left { IsClear left }
+    requires right { IsClear right }
+{
+    let part = chart.origins.instance_name(chart.part, position);
+    let name = pen.spell(&[
+        Part::Number(position as Value),
+        Part::Bytes(b" "),
+        Part::Name(part.unwrap_or(b"")),
+    ]);
+    let most = (right.saturating_sub(left) / 6) as usize;
+    pen.put(BRACKET, &[left, right], "");
+    put_text(
+        pen,
+        (left + right) / 2,
+        36,
+        MIDDLE,
+        Cut::new(name.as_slice(), most),
     );
-    put_text(pen, (left + right) / 2, 36, MIDDLE, name);
 }
 
 // A port's name, or a component's number.
@@ -153,16 +151,14 @@ fn put_port(pen: &mut Pen, chart: Chart<'_>, x: u64, port: u32)
     pen.put_word(Cut::whole(name.as_slice()));
     pen.put(" $ ", &[], sense);
     pen.put_word(Cut::whole(carried.as_slice()));
-    pen.put(
-        "</title>\n<rect x=\"%\" y=\"50\" width=\"68\" height=\"32\" fill=\"none\" stroke=\"#222222\"/>\n",
-        &[x - 34],
-        "",
+    pen.put(PORT, &[x - 34], "");
+    put_text(
+        pen,
+        x,
+        63,
+        MIDDLE_BOLD,
+        Cut::new(name.as_slice(), MOST_NAME),
     );
-    let name = Cut {
-        text: name.as_slice(),
-        most: MOST_NAME,
-    };
-    put_text(pen, x, 63, MIDDLE_BOLD, name);
     put_text(pen, x, 76, MIDDLE, Cut::whole(carried.as_slice()));
     pen.put("</g>\n", &[], "");
 }
@@ -172,11 +168,7 @@ fn put_comp(pen: &mut Pen, chart: Chart<'_>, x: u64, number: u32) {
     if let Some(comp) = chart.circuit.comp(number) {
         chart.origins.put_line(pen, number, comp);
     }
-    pen.put(
-        "</title>\n<text x=\"%\" y=\"58\" text-anchor=\"middle\" font-size=\"12\" font-weight=\"bold\">%</text>\n",
-        &[x, u64::from(number)],
-        "",
-    );
+    pen.put(COMP, &[x, u64::from(number)], "");
     let (first, second) = kind_lines(chart.circuit, number);
     put_text(pen, x, 71, MIDDLE, Cut::whole(first));
     if !second.is_empty() {

@@ -9,6 +9,9 @@ use bz_lines::Part;
 use bz_model::{Phase, Value};
 use bz_outline::Denial;
 
+const LABEL: &str =
+    "<rect x=\"%\" y=\"%\" width=\"%\" height=\"9\" fill=\"#ffffff\" fill-opacity=\"0.8\"/>\n<text x=\"%\" y=\"%\" fill=\"$\">";
+
 /// How many digits a value has at most where all of them are shown at an arrow.
 const MOST_DIGITS: usize = 8;
 
@@ -22,11 +25,7 @@ pub(crate) fn put_label(pen: &mut Pen, x: u64, y: u64, side: Side, text: &[u8], 
         Side::Left => x.saturating_sub(width),
         Side::Right => x,
     };
-    pen.put(
-        "<rect x=\"%\" y=\"%\" width=\"%\" height=\"9\" fill=\"#ffffff\" fill-opacity=\"0.8\"/>\n<text x=\"%\" y=\"%\" fill=\"$\">",
-        &[left, y - 11, width, left + 1, y - 2],
-        colour,
-    );
+    pen.put(LABEL, &[left, y - 11, width, left + 1, y - 2], colour);
     pen.put_word(Cut::whole(text));
     pen.put("</text>\n", &[], "");
 }

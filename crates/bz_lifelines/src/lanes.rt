@@ -1,6 +1,6 @@
 //! The lanes beside a lifeline, in which requests and replies wait until they come in.
 
-ghost use Rattle.std.specs.Prelude.{◌≤◌, ◌<◌, ◌+◌, ◌-◌, ◌^◌, IfSome};
+ghost use Rattle.std.specs.Prelude.{◌≤◌, ◌<◌, ◌+◌, ◌-◌, ◌^◌};
 
 /// The greatest lane, which those share that find no other one free.
 const LAST_LANE: u32 = 5;
@@ -47,20 +47,13 @@ impl Lanes {
     pub fn take(&mut self) -> u32
         ensures { result ≤ 5 }
     {
-        let lane = self.least_free();
-        let count = &mut self.counts[lane as usize];
-        *count = count.saturating_add(1);
-        lane
-    }
-
-    fn least_free(&self) -> u32
-        ensures { result ≤ 5 }
-    {
         for lane in 0..LAST_LANE {
             if self.counts[lane as usize] == 0 {
+                self.counts[lane as usize] = 1;
                 return lane;
             }
         }
+        self.counts[5] = self.counts[5].saturating_add(1);
         LAST_LANE
     }
 
@@ -71,16 +64,17 @@ impl Lanes {
         *count = count.saturating_sub(1);
     }
 
-    /// The greatest lane in use.
-    pub fn greatest(&self) -> Option<u32>
-        ensures { IfSome result (λ lane. lane ≤ 5) }
+    /// How far from the lifeline there is room beside those in use.
+    pub fn room(&self) -> u64
+        ensures low { 8 ≤ result }
+        ensures high { result ≤ 36 }
     {
-        let mut greatest = None;
+        let mut room = 8;
         for lane in 0..=LAST_LANE {
             if self.counts[lane as usize] > 0 {
-                greatest = Some(lane);
+                room = 16 + 4 * u64::from(lane);
             }
         }
-        greatest
+        room
     }
 }

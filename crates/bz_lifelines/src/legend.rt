@@ -6,6 +6,22 @@ use crate::rows::RESTING;
 use crate::svg::{DARK, PULL, PUSH, Pen, RECT, put_circle, put_cross, put_triangle};
 use bz_outline::Layout;
 
+const MEANING: &str = "<text x=\"%\" y=\"%\">$</text>\n";
+
+const CHANNEL: &str = "<text x=\"%\" y=\"%\">4 = 7</text>\n";
+
+const BAR: &str =
+    "<rect x=\"%\" y=\"%\" width=\"32\" height=\"8\" fill=\"#ffffff\" stroke=\"#222222\"/>\n";
+
+const WAITING: &str =
+    "<path d=\"M% %H%v8\" fill=\"none\" stroke=\"$\"/><path d=\"M% %l3 6l3 -6\" fill=\"none\" stroke=\"$\"/>\n";
+
+const REQUEST: &str =
+    "<path d=\"M% %H%\" stroke=\"$\" stroke-width=\"%\"/><path d=\"M% %l-8 -4v8z\" fill=\"$\"/>\n";
+
+const REPLY: &str =
+    "<path d=\"M% %H%\" stroke=\"$\" stroke-width=\"%\" stroke-dasharray=\"5 3\"/><path d=\"M% %l-7 4l7 4\" fill=\"none\" stroke=\"$\"/>\n";
+
 /// A sign that the legend explains.
 #[derive(Clone, Copy)]
 enum Sign {
@@ -45,11 +61,7 @@ pub(crate) fn put_legend(pen: &mut Pen, layout: Layout) {
     for (place, (sign, meaning)) in (0..layout.signs).zip(&SIGNS) {
         let (x, y) = (layout.sign_column(place), layout.sign_row(place));
         put_sign(pen, *sign, x, y);
-        pen.put(
-            "<text x=\"%\" y=\"%\">$</text>\n",
-            &[x + 48, y + 4],
-            meaning,
-        );
+        pen.put(MEANING, &[x + 48, y + 4], meaning);
     }
 }
 
@@ -58,45 +70,16 @@ fn put_sign(pen: &mut Pen, sign: Sign, x: u64, y: u64)
     requires below { HasRoom 12 y }
 {
     match sign {
-        Sign::Channel => pen.put("<text x=\"%\" y=\"%\">4 = 7</text>\n", &[x + 5, y + 4], ""),
-        Sign::Request => put_request(pen, x, y, DARK, 1),
-        Sign::Push => put_request(pen, x, y, PUSH, 3),
-        Sign::Reply => put_reply(pen, x, y, DARK, 1),
-        Sign::Pull => put_reply(pen, x, y, PULL, 3),
-        Sign::Bar => pen.put(
-            "<rect x=\"%\" y=\"%\" width=\"32\" height=\"8\" fill=\"#ffffff\" stroke=\"#222222\"/>\n",
-            &[x + 4, y - 4],
-            "",
-        ),
-        Sign::Waiting => pen.put(
-            "<path d=\"M% %H%v8\" fill=\"none\" stroke=\"$\"/><path d=\"M% %l3 6l3 -6\" fill=\"none\" stroke=\"$\"/>\n",
-            &[x, y - 4, x + 24, x + 21, y],
-            DARK,
-        ),
+        Sign::Channel => pen.put(CHANNEL, &[x + 5, y + 4], ""),
+        Sign::Request => pen.put(REQUEST, &[x, y, x + 32, 1, x + 40, y], DARK),
+        Sign::Push => pen.put(REQUEST, &[x, y, x + 32, 3, x + 40, y], PUSH),
+        Sign::Reply => pen.put(REPLY, &[x + 1, y, x + 40, 1, x + 7, y - 4], DARK),
+        Sign::Pull => pen.put(REPLY, &[x + 1, y, x + 40, 3, x + 7, y - 4], PULL),
+        Sign::Bar => pen.put(BAR, &[x + 4, y - 4], ""),
+        Sign::Waiting => pen.put(WAITING, &[x, y - 4, x + 24, x + 21, y], DARK),
         Sign::Rest => pen.put(RECT, &[x, y - 6, 40, 12], RESTING),
         Sign::Watch => put_circle(pen, x + 20, y),
         Sign::Refusal => put_cross(pen, x + 20, y),
         Sign::Clash => put_triangle(pen, x + 20, y),
     }
-}
-
-fn put_request(pen: &mut Pen, x: u64, y: u64, colour: &str, width: u64)
-    requires { HasRoom 12 x }
-{
-    pen.put(
-        "<path d=\"M% %H%\" stroke=\"$\" stroke-width=\"%\"/><path d=\"M% %l-8 -4v8z\" fill=\"$\"/>\n",
-        &[x, y, x + 32, width, x + 40, y],
-        colour,
-    );
-}
-
-fn put_reply(pen: &mut Pen, x: u64, y: u64, colour: &str, width: u64)
-    requires right { HasRoom 12 x }
-    requires below { HasRoom 12 y }
-{
-    pen.put(
-        "<path d=\"M% %H%\" stroke=\"$\" stroke-width=\"%\" stroke-dasharray=\"5 3\"/><path d=\"M% %l-7 4l7 4\" fill=\"none\" stroke=\"$\"/>\n",
-        &[x + 1, y, x + 40, width, x + 7, y - 4],
-        colour,
-    );
 }

@@ -4,6 +4,10 @@ use crate::svg::{HOST_LINE, LINE, Pen, RECT, put_text};
 use crate::words::Cut;
 use bz_outline::{Event, Layout, Line};
 
+const REST: &str = "<text x=\"%\" y=\"%\" text-anchor=\"end\">rest</text>\n";
+
+const NUMBER: &str = "<text x=\"%\" y=\"%\" text-anchor=\"end\" fill=\"#666666\">%</text>\n";
+
 /// How many letters of a line are shown.
 const MOST_LETTERS: usize = 60;
 
@@ -13,10 +17,7 @@ const ODD: &str = "#f4f4f4";
 
 /// The part of a line that is shown.
 pub(crate) fn shown<'a>(line: &Line<'a>) -> Cut<'a> {
-    Cut {
-        text: line.text,
-        most: MOST_LETTERS,
-    }
+    Cut::new(line.text, MOST_LETTERS)
 }
 
 pub(crate) fn put_row(pen: &mut Pen, layout: Layout, place: u32, line: &Line<'_>) {
@@ -24,20 +25,12 @@ pub(crate) fn put_row(pen: &mut Pen, layout: Layout, place: u32, line: &Line<'_>
     if matches!(line.event, Event::Rested) {
         pen.put(RECT, &[4, y - 8, right, 16], RESTING);
         if layout.columns > 0 {
-            pen.put(
-                "<text x=\"%\" y=\"%\" text-anchor=\"end\">rest</text>\n",
-                &[right, y + 4],
-                "",
-            );
+            pen.put(REST, &[right, y + 4], "");
         }
     } else if place % 2 == 1 {
         pen.put(RECT, &[4, y - 8, right, 16], ODD);
     }
-    pen.put(
-        "<text x=\"%\" y=\"%\" text-anchor=\"end\" fill=\"#666666\">%</text>\n",
-        &[layout.numbers(), y + 4, line.number as u64],
-        "",
-    );
+    pen.put(NUMBER, &[layout.numbers(), y + 4, line.number as u64], "");
     let set = if line.by_host { HOST_LINE } else { LINE };
     put_text(pen, layout.numbers() + 8, y + 4, set, shown(line));
 }

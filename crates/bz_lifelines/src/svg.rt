@@ -7,6 +7,12 @@ use bz_lines::{Part, put_parts};
 use bz_model::Value;
 use std::alloc::{AllocError, Global};
 
+const CROSS: &str = "<path d=\"M% %l8 8m0 -8l-8 8\" stroke=\"$\" stroke-width=\"2\"/>\n";
+
+const TRIANGLE: &str = "<path d=\"M% %l6 12h-12z\" fill=\"$\" stroke=\"#222222\"/>\n";
+
+const CIRCLE: &str = "<circle cx=\"%\" cy=\"%\" r=\"4\" fill=\"#ffffff\" stroke=\"$\"/>\n";
+
 pub(crate) const DARK: &str = "#222222";
 
 pub(crate) const RED: &str = "#c00000";
@@ -74,16 +80,14 @@ impl Pen {
 
     /// Writes a form: for each `%` the next number, and for each `$` the text.
     pub fn put(&mut self, form: &str, numbers: &[u64], text: &str) {
-        let mut numbers = numbers;
-        for piece in form
-            .as_bytes()
-            .split_inclusive(|byte| matches!(byte, b'%' | b'$'))
-        {
-            match (piece, numbers) {
-                ([before @ .., b'%'], [number, rest @ ..]) => {
+        let form = form.as_bytes();
+        let mut left = numbers;
+        for piece in form.split_inclusive(|byte| matches!(byte, b'%' | b'$')) {
+            match (piece, left) {
+                ([before @ .., b'%'], [number, others @ ..]) => {
                     self.put_bytes(before);
                     self.put_number(*number);
-                    numbers = rest;
+                    left = others;
                 }
                 ([before @ .., b'$'], _) => self.put_both(before, text.as_bytes()),
                 _ => self.put_bytes(piece),
@@ -153,29 +157,17 @@ pub(crate) fn put_cross(pen: &mut Pen, x: u64, y: u64)
     requires right { IsClear x }
     requires below { IsClear y }
 {
-    pen.put(
-        "<path d=\"M% %l8 8m0 -8l-8 8\" stroke=\"$\" stroke-width=\"2\"/>\n",
-        &[x - 4, y - 4],
-        RED,
-    );
+    pen.put(CROSS, &[x - 4, y - 4], RED);
 }
 
 /// A triangle of 12 by 12 with its middle here.
 pub(crate) fn put_triangle(pen: &mut Pen, x: u64, y: u64)
     requires { IsClear y }
 {
-    pen.put(
-        "<path d=\"M% %l6 12h-12z\" fill=\"$\" stroke=\"#222222\"/>\n",
-        &[x, y - 6],
-        RED,
-    );
+    pen.put(TRIANGLE, &[x, y - 6], RED);
 }
 
 /// A circle of radius 4 with its middle here.
 pub(crate) fn put_circle(pen: &mut Pen, x: u64, y: u64) {
-    pen.put(
-        "<circle cx=\"%\" cy=\"%\" r=\"4\" fill=\"#ffffff\" stroke=\"$\"/>\n",
-        &[x, y],
-        DARK,
-    );
+    pen.put(CIRCLE, &[x, y], DARK);
 }

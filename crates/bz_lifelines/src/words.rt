@@ -10,12 +10,13 @@ pub(crate) struct Cut<'a> {
 }
 
 impl<'a> Cut<'a> {
+    pub fn new(text: &'a [u8], most: usize) -> Cut<'a> {
+        Cut { text, most }
+    }
+
     /// All of them.
     pub fn whole(text: &'a [u8]) -> Cut<'a> {
-        Cut {
-            text,
-            most: usize::MAX,
-        }
+        Cut::new(text, usize::MAX)
     }
 
     /// How many letters are shown.
