@@ -23,11 +23,13 @@ const MOST_PART: usize = 40;
 const TITLE_LETTERS: u32 = 25;
 
 const HEAD: &str = "<?xml version=\"1.0\" encoding=\"UTF-8\"?>
-<svg xmlns=\"http://www.w3.org/2000/svg\" version=\"1.1\" width=\"%\" height=\"%\" viewBox=\"0 0 % %\" font-family=\"DejaVu Sans Mono, Liberation Mono, Courier New, monospace\" font-size=\"10\">
+<svg xmlns=\"http://www.w3.org/2000/svg\" version=\"1.1\" width=\"%\" height=\"%\" viewBox=\"0 0 % %\" \
+font-family=\"DejaVu Sans Mono, Liberation Mono, Courier New, monospace\" font-size=\"10\">
 <title>";
 
 const DESCRIPTION: &str = "</title>
-<desc>A lifeline for each external port that is used, for passive ports on the left and active ports on the right, and for each component that takes part, by number. Time goes down, a line of the trace on each row.</desc>
+<desc>A lifeline for each external port that is used, for passive ports on the left and active ports on the right, \
+and for each component that takes part, by number. Time goes down, a line of the trace on each row.</desc>
 <rect width=\"%\" height=\"%\" fill=\"#ffffff\"/>
 <text x=\"8\" y=\"17\" font-size=\"12\" font-weight=\"bold\">";
 

@@ -19,8 +19,8 @@ const WAITING: &str =
 const REQUEST: &str =
     "<path d=\"M% %H%\" stroke=\"$\" stroke-width=\"%\"/><path d=\"M% %l-8 -4v8z\" fill=\"$\"/>\n";
 
-const REPLY: &str =
-    "<path d=\"M% %H%\" stroke=\"$\" stroke-width=\"%\" stroke-dasharray=\"5 3\"/><path d=\"M% %l-7 4l7 4\" fill=\"none\" stroke=\"$\"/>\n";
+const REPLY: &str = "<path d=\"M% %H%\" stroke=\"$\" stroke-width=\"%\" stroke-dasharray=\"5 3\"/>\
+<path d=\"M% %l-7 4l7 4\" fill=\"none\" stroke=\"$\"/>\n";
 
 /// A sign that the legend explains.
 #[derive(Clone, Copy)]
