@@ -1,206 +1,306 @@
 //! Components that are at fault.
 
-use crate::datum::put_count;
 use crate::joined::{Joined, join_ports};
 use crate::kind_names::KIND_NAMES;
 use crate::kind_words::{put_kind, put_params_wanted, put_row, put_widths_wanted};
 use crate::seat::Head;
 use crate::site::Site;
-use bz_lines::Part;
-use bz_model::{Chan, ChanKind, Param, Value};
-use bz_notes::{Draft, Nearest};
-use bz_records::{Part as PartRecord, Slot};
-use std::alloc::AllocError;
+use bz_breeze::{Part as PartRecord, Parts, Slot};
+use bz_model::{Chan, ChanKind, Kind, Param, Port};
+use bz_notes::{Arg, Draft};
+use std::alloc::{AllocError, Global};
 
 /// The most of several things that a note lists.
-pub(crate) const MOST_LISTED: usize = 10;
+const MOST_LISTED: usize = 10;
 
-/// A component whose name is unknown.
-pub(crate) fn explain_unknown(draft: &mut Draft, site: Site<'_>) -> Result<(), AllocError> {
-    let name = site.component.name.as_slice();
-    draft.found(&[Part::Bytes(b"the name "), Part::Name(name)])?;
-    draft.wanted_text("a part of this text, or a kind, whose name has $Brz in front")?;
-    let mut nearest = Nearest::to(name);
-    for part in site.netlist.parts.list() {
-        nearest = nearest.look(draft.alloc(), part.name.as_slice())?;
-    }
-    for kind in KIND_NAMES {
-        nearest = nearest.look(draft.alloc(), kind.as_bytes())?;
-    }
-    put_nearest(draft, nearest)
+/// Tells the nearest name.
+pub(crate) const NEAREST: &str = "help: the nearest name is %";
+
+/// What of a component's entries does not fit its kind or part.
+#[derive(Clone, Copy, PartialEq, Eq)]
+pub(crate) enum Aspect {
+    /// How many there are.
+    Count,
+    /// The kind of a channel.
+    Kind,
+    /// The width of a channel.
+    Width,
 }
 
-/// Tells the nearest name, where one is near enough.
-pub(crate) fn put_nearest(draft: &mut Draft, nearest: Nearest<'_, '_>) -> Result<(), AllocError> {
-    match nearest.found() {
-        Some(name) => draft.help(&[Part::Bytes(b"the nearest name is "), Part::Name(name)]),
-        None => Ok(()),
+/// The names of the parts.
+pub(crate) fn part_names(alloc: Global, parts: &Parts) -> Result<Vec<&[u8]>, AllocError> {
+    let mut names = Vec::new(alloc);
+    for part in parts.list() {
+        names.push(part.name.as_slice())?;
     }
+    Ok(names)
+}
+
+/// The names of ports.
+pub(crate) fn port_names(alloc: Global, ports: &[Port]) -> Result<Vec<&[u8]>, AllocError> {
+    let mut names = Vec::new(alloc);
+    for port in ports {
+        names.push(port.name.as_slice())?;
+    }
+    Ok(names)
+}
+
+/// A component whose name is unknown.
+pub(crate) fn explain_unknown(draft: &mut Draft, site: Site<'_>) {
+    let name = site.component.name.as_slice();
+    let names = draft.gathered(known_names(draft.alloc(), site.netlist.parts));
+    draft.say("found: the name %", &[Arg::Name(name)]);
+    draft.say(
+        "wanted: a part of this text, or a kind, whose name has $Brz in front",
+        &[],
+    );
+    draft.say_nearest(NEAREST, name, &names);
+}
+
+// The names of the parts, and behind these those of the kinds.
+fn known_names(alloc: Global, parts: &Parts) -> Result<Vec<&[u8]>, AllocError> {
+    let mut names = part_names(alloc, parts)?;
+    for kind in &KIND_NAMES {
+        names.push(kind.as_bytes())?;
+    }
+    Ok(names)
 }
 
 /// A component whose kind does not take its parameters.
-pub(crate) fn explain_params(draft: &mut Draft, site: Site<'_>) -> Result<(), AllocError> {
-    draft.put_text("found: the parameters (")?;
-    for (place, param) in site.component.params.iter().enumerate() {
-        if place == MOST_LISTED {
-            draft.put_text(" ..")?;
-            break;
-        }
-        if place > 0 {
-            draft.put_text(" ")?;
-        }
-        put_param(draft, param)?;
+pub(crate) fn explain_params(draft: &mut Draft, site: Site<'_>) {
+    let params = site.component.params.as_slice();
+    draft.put("found: the parameters (", &[]);
+    let mut before = "";
+    for param in params.iter().take(MOST_LISTED) {
+        put_param(draft, before, param);
+        before = " ";
     }
-    draft.put_text(")")?;
-    draft.end()?;
-    put_params_wanted(draft, site.component.name.as_slice())
-}
-
-fn put_param(draft: &mut Draft, param: &Param) -> Result<(), AllocError> {
-    match param {
-        Param::Num(number) => draft.put(&[Part::Number(*number)]),
-        Param::Flag(true) => draft.put_text("#t"),
-        Param::Flag(false) => draft.put_text("#f"),
-        Param::Word(text) => draft.put(&[
-            Part::Bytes(b"\""),
-            Part::Bytes(text.as_slice()),
-            Part::Bytes(b"\""),
-        ]),
-    }
-}
-
-/// A component with a wrong number of entries, or of members in a list.
-pub(crate) fn explain_count(draft: &mut Draft, site: Site<'_>) -> Result<(), AllocError> {
-    if let Some(inner) = site.inner() {
-        return explain_instance_count(draft, site, inner);
-    }
-    let Some(kind) = site.kind(draft.alloc())? else {
-        return Ok(());
+    let end = if params.len() > MOST_LISTED {
+        " ..)"
+    } else {
+        ")"
     };
-    draft.put_text("found: ")?;
-    let lists = site.lists();
-    let singles = site.component.entries.len().saturating_sub(lists);
-    put_entry_counts(draft, singles, lists)?;
-    put_list_sizes(draft, site)?;
-    draft.end()?;
-    put_row(draft, &kind)
+    draft.say(end, &[]);
+    put_params_wanted(draft, site.component.name.as_slice());
 }
 
-/// Goes on with numbers of entries: `1 single entry and 1 list`.
-pub(crate) fn put_entry_counts(
-    draft: &mut Draft,
-    singles: usize,
-    lists: usize,
-) -> Result<(), AllocError> {
-    put_count(draft, singles, "single entry", "single entries")?;
-    draft.put_text(" and ")?;
-    put_count(draft, lists, "list", "lists")
-}
-
-// The lengths of the lists.
-fn put_list_sizes(draft: &mut Draft, site: Site<'_>) -> Result<(), AllocError> {
-    let mut word = ", of ";
-    for entry in &site.component.entries {
-        if let Slot::Many(chans) = entry {
-            draft.put_text(word)?;
-            put_count(draft, chans.len(), "channel", "channels")?;
-            word = " and ";
-        }
-    }
-    Ok(())
-}
-
-fn explain_instance_count(
-    draft: &mut Draft,
-    site: Site<'_>,
-    inner: &PartRecord,
-) -> Result<(), AllocError> {
-    draft.put_text("found: ")?;
-    put_count(draft, site.named(draft.alloc())?.len(), "entry", "entries")?;
-    draft.end()?;
-    draft.put(&[
-        Part::Bytes(b"wanted: one for each port of part "),
-        Part::Name(inner.name.as_slice()),
-        Part::Bytes(b", which has "),
-    ])?;
-    put_count(draft, inner.ports.len(), "port", "ports")?;
-    for (place, port) in inner.ports.iter().take(MOST_LISTED).enumerate() {
-        draft.put_text(if place == 0 { ": " } else { " " })?;
-        draft.put(&[Part::Name(port.name.as_slice())])?;
-    }
-    draft.end()
+fn put_param<'a>(draft: &mut Draft, before: &'a str, param: &'a Param) {
+    let (form, value) = match param {
+        Param::Num(number) => ("%%", Arg::Value(*number)),
+        Param::Flag(true) => ("%#t", Arg::Text("")),
+        Param::Flag(false) => ("%#f", Arg::Text("")),
+        Param::Word(text) => ("%\"%\"", Arg::Bytes(text.as_slice())),
+    };
+    draft.put(form, &[Arg::Text(before), value]);
 }
 
 /// A component with an entry that is no channel of its part.
-pub(crate) fn explain_channel(draft: &mut Draft, site: Site<'_>) -> Result<(), AllocError> {
+pub(crate) fn explain_channel(draft: &mut Draft, site: Site<'_>) {
     let count = site.part.channels.len();
-    for chan in site.named(draft.alloc())? {
-        if site.channel(chan).is_none() {
-            draft.put(&[
-                Part::Bytes(b"found: channel "),
-                Part::Number(Value::from(chan)),
-                Part::Bytes(b", and part "),
-                Part::Name(site.part.name.as_slice()),
-                Part::Bytes(b" has "),
-            ])?;
-            put_count(draft, count, "channel", "channels")?;
-            draft.end()?;
-            break;
-        }
+    let named = draft.gathered(site.named(draft.alloc()));
+    if let Some(chan) = no_channel(site, &named) {
+        let args = [
+            Arg::Number(chan as usize),
+            Arg::Name(site.part.name.as_slice()),
+            Arg::Count(count, "channel", "channels"),
+        ];
+        draft.say("found: channel %, and part % has %", &args);
     }
-    draft.wanted(&[
-        Part::Bytes(b"channels from 1 to "),
-        Part::Number(count as Value),
-    ])
+    draft.say("wanted: channels from 1 to %", &[Arg::Number(count)]);
 }
 
-/// A component with a channel of another kind than its port's.
-pub(crate) fn explain_kind(draft: &mut Draft, site: Site<'_>) -> Result<(), AllocError> {
-    if let Some(inner) = site.inner() {
-        return explain_instance_kind(draft, site, inner);
+// The first number that no channel has.
+fn no_channel(site: Site<'_>, named: &[u32]) -> Option<u32> {
+    for chan in named {
+        if site.channel(*chan).is_none() {
+            return Some(*chan);
+        }
     }
-    let Some(kind) = site.kind(draft.alloc())? else {
-        return Ok(());
-    };
-    for port in join_ports(draft.alloc(), &kind, &site.part.channels, site.component)? {
-        if let Some(chan) = site.channel(port.chan) {
-            if chan.kind != port.row.kind {
-                draft.put_text("found: port ")?;
-                port.put_name(draft)?;
-                put_carried(draft, site, port.chan, chan)?;
-                return put_kind(draft, &kind, port);
+    None
+}
+
+/// A component with entries that don't fit its kind, or the part that it is an instance of.
+pub(crate) fn explain_misfit(draft: &mut Draft, site: Site<'_>, aspect: Aspect) {
+    match (site.inner(), site.kind(draft.alloc())) {
+        (Some(inner), _) => {
+            let named = draft.gathered(site.named(draft.alloc()));
+            explain_instance(draft, site, inner, &named, aspect);
+        }
+        (None, Ok(Some(kind))) => {
+            let ports = draft.gathered(join_ports(draft.alloc(), &kind, site));
+            explain_entries(draft, site, &kind, &ports, aspect);
+        }
+        (None, Ok(None)) => {}
+        (None, Err(_)) => draft.fail(),
+    }
+}
+
+fn explain_instance(
+    draft: &mut Draft,
+    site: Site<'_>,
+    inner: &PartRecord,
+    named: &[u32],
+    aspect: Aspect,
+) {
+    if aspect == Aspect::Count {
+        put_instance_counts(draft, inner, named.len());
+    } else if let Some(misfit) = misfit_of(site, inner, named, aspect) {
+        put_misfit(draft, site, inner, misfit, aspect);
+    }
+}
+
+fn put_instance_counts(draft: &mut Draft, inner: &PartRecord, count: usize) {
+    let names = draft.gathered(port_names(draft.alloc(), &inner.ports));
+    draft.say("found: %", &[Arg::Count(count, "entry", "entries")]);
+    let args = [
+        Arg::Name(inner.name.as_slice()),
+        Arg::Count(names.len(), "port", "ports"),
+        Arg::Names(&names),
+    ];
+    draft.say("wanted: one for each port of part %, which has %%", &args);
+}
+
+/// A channel that is not as in the part of an instance.
+#[derive(Clone, Copy)]
+struct Misfit {
+    /// The place of the port, from 0.
+    place: usize,
+    number: u32,
+    chan: Chan,
+    asked: Chan,
+}
+
+// The first one.
+fn misfit_of(site: Site<'_>, inner: &PartRecord, named: &[u32], aspect: Aspect) -> Option<Misfit> {
+    for (place, (number, asked)) in named.iter().zip(inner.channels.iter()).enumerate() {
+        if let Some(chan) = site.channel(*number) {
+            if differs(chan, *asked, aspect) {
+                return Some(Misfit {
+                    place,
+                    number: *number,
+                    chan,
+                    asked: *asked,
+                });
             }
         }
     }
-    Ok(())
+    None
 }
 
-// Goes on with what a port's channel is and where it stands.
-fn put_carried(
+fn differs(chan: Chan, asked: Chan, aspect: Aspect) -> bool {
+    match aspect {
+        Aspect::Count => false,
+        Aspect::Kind => chan.kind != asked.kind,
+        Aspect::Width => chan.width != asked.width,
+    }
+}
+
+fn put_misfit(
     draft: &mut Draft,
     site: Site<'_>,
-    number: u32,
-    chan: Chan,
-) -> Result<(), AllocError> {
-    draft.put(&[
-        Part::Bytes(b" is channel "),
-        Part::Number(Value::from(number)),
-        Part::Bytes(b", which is "),
-    ])?;
-    put_chan(draft, chan)?;
-    draft.put_text(" (")?;
-    site.netlist
-        .put_spot_of(draft, site.number, Head::Channels, number as usize)?;
-    draft.put_text(")")?;
-    draft.end()
+    inner: &PartRecord,
+    misfit: Misfit,
+    aspect: Aspect,
+) {
+    let port = match inner.ports.get(misfit.place) {
+        Some(port) => port.name.as_slice(),
+        None => &[],
+    };
+    let name = (Arg::Name(port), Arg::Text(""));
+    put_carried(draft, site, name, misfit.number, misfit.chan);
+    let (form, wanted) = match aspect {
+        Aspect::Width => (
+            "wanted: %, as in part %",
+            Arg::Count(misfit.asked.width as usize, "bit", "bits"),
+        ),
+        _ => (
+            "wanted: a % channel, as in part %",
+            Arg::Text(kind_text(misfit.asked.kind)),
+        ),
+    };
+    draft.say(form, &[wanted, Arg::Name(inner.name.as_slice())]);
 }
 
-fn put_chan(draft: &mut Draft, chan: Chan) -> Result<(), AllocError> {
-    draft.put_text(kind_text(chan.kind))?;
-    match chan.kind {
-        ChanKind::Sync => Ok(()),
-        _ => draft.put(&[Part::Value(Some(Value::from(chan.width)))]),
+fn explain_entries(
+    draft: &mut Draft,
+    site: Site<'_>,
+    kind: &Kind,
+    ports: &[Joined],
+    aspect: Aspect,
+) {
+    match aspect {
+        Aspect::Count => {
+            put_entry_counts(draft, site);
+            put_row(draft, kind);
+        }
+        Aspect::Kind => {
+            if let Some((port, chan)) = wrong_kind(site, ports) {
+                put_carried(draft, site, port.name(), port.chan, chan);
+                put_kind(draft, kind, port);
+            }
+        }
+        Aspect::Width => {
+            put_widths(draft, site, ports);
+            put_widths_wanted(draft, kind);
+        }
     }
+}
+
+// The numbers of entries, and the lengths of the lists.
+fn put_entry_counts(draft: &mut Draft, site: Site<'_>) {
+    let lists = site.lists();
+    let singles = site.component.entries.len().saturating_sub(lists);
+    let args = [
+        Arg::Count(singles, "single entry", "single entries"),
+        Arg::Count(lists, "list", "lists"),
+    ];
+    draft.put("found: % and %", &args);
+    let mut form = ", of %";
+    for entry in &site.component.entries {
+        if let Slot::Many(chans) = entry {
+            draft.put(form, &[Arg::Count(chans.len(), "channel", "channels")]);
+            form = " and %";
+        }
+    }
+    draft.say("", &[]);
+}
+
+// The first port whose channel is of another kind.
+fn wrong_kind(site: Site<'_>, ports: &[Joined]) -> Option<(Joined, Chan)> {
+    for port in ports {
+        if let Some(chan) = site.channel(port.chan) {
+            if chan.kind != port.row.kind {
+                return Some((*port, chan));
+            }
+        }
+    }
+    None
+}
+
+// Tells what a port's channel is and where it stands.
+fn put_carried<'a>(
+    draft: &mut Draft,
+    site: Site<'_>,
+    name: (Arg<'a>, Arg<'a>),
+    number: u32,
+    chan: Chan,
+) {
+    let width = match chan.kind {
+        ChanKind::Sync => None,
+        _ => Some(u128::from(chan.width)),
+    };
+    let spot = site
+        .netlist
+        .spot_of(site.number, Head::Channels, number as usize);
+    let args = [
+        name.0,
+        name.1,
+        Arg::Number(number as usize),
+        Arg::Text(kind_text(chan.kind)),
+        Arg::Spaced(width),
+        Arg::Spot(spot),
+    ];
+    draft.say("found: port %% is channel %, which is %% (%)", &args);
 }
 
 /// The word of a channel's kind.
@@ -212,102 +312,32 @@ pub(crate) fn kind_text(kind: ChanKind) -> &'static str {
     }
 }
 
-fn explain_instance_kind(
-    draft: &mut Draft,
-    site: Site<'_>,
-    inner: &PartRecord,
-) -> Result<(), AllocError> {
-    let named = site.named(draft.alloc())?;
-    for ((number, port), asked) in named
-        .iter()
-        .zip(inner.ports.iter())
-        .zip(inner.channels.iter())
-    {
-        if let Some(chan) = site.channel(*number) {
-            if chan.kind != asked.kind {
-                draft.put(&[
-                    Part::Bytes(b"found: port "),
-                    Part::Name(port.name.as_slice()),
-                ])?;
-                put_carried(draft, site, *number, chan)?;
-                return draft.wanted(&[
-                    Part::Bytes(b"a "),
-                    Part::Bytes(kind_text(asked.kind).as_bytes()),
-                    Part::Bytes(b" channel, as in part "),
-                    Part::Name(inner.name.as_slice()),
-                ]);
-            }
-        }
-    }
-    Ok(())
-}
-
-/// A component with channels of widths that don't meet.
-pub(crate) fn explain_width(draft: &mut Draft, site: Site<'_>) -> Result<(), AllocError> {
-    if let Some(inner) = site.inner() {
-        return explain_instance_width(draft, site, inner);
-    }
-    let Some(kind) = site.kind(draft.alloc())? else {
-        return Ok(());
-    };
-    let ports = join_ports(draft.alloc(), &kind, &site.part.channels, site.component)?;
-    let mut word = "found: ";
+// Tells the ports that carry values, with their channels and how many bits these have.
+fn put_widths(draft: &mut Draft, site: Site<'_>, ports: &[Joined]) {
+    let mut before = "found: ";
     let mut listed = 0;
-    for port in &ports {
+    for port in ports {
         if port.row.kind != ChanKind::Sync && listed < MOST_LISTED {
-            draft.put_text(word)?;
-            put_width(draft, site, *port)?;
-            word = "; ";
+            put_width(draft, site, before, *port);
+            before = "; ";
             listed += 1;
         }
     }
-    draft.end()?;
-    put_widths_wanted(draft, &kind)
+    draft.say("", &[]);
 }
 
-// Goes on with a port, its channel and how many bits that has.
-fn put_width(draft: &mut Draft, site: Site<'_>, port: Joined) -> Result<(), AllocError> {
-    port.put_name(draft)?;
-    draft.put(&[
-        Part::Bytes(b" is channel "),
-        Part::Number(Value::from(port.chan)),
-    ])?;
-    match site.channel(port.chan) {
-        Some(chan) => {
-            draft.put_text(", ")?;
-            put_count(draft, chan.width as usize, "bit", "bits")
-        }
-        None => Ok(()),
-    }
-}
-
-fn explain_instance_width(
-    draft: &mut Draft,
-    site: Site<'_>,
-    inner: &PartRecord,
-) -> Result<(), AllocError> {
-    let named = site.named(draft.alloc())?;
-    for ((number, port), asked) in named
-        .iter()
-        .zip(inner.ports.iter())
-        .zip(inner.channels.iter())
-    {
-        if let Some(chan) = site.channel(*number) {
-            if chan.width != asked.width {
-                draft.put(&[
-                    Part::Bytes(b"found: port "),
-                    Part::Name(port.name.as_slice()),
-                ])?;
-                put_carried(draft, site, *number, chan)?;
-                draft.put_text("wanted: ")?;
-                put_count(draft, asked.width as usize, "bit", "bits")?;
-                draft.put(&[
-                    Part::Bytes(b", as in part "),
-                    Part::Name(inner.name.as_slice()),
-                ])?;
-                return draft.end();
-            }
-        }
-    }
-    Ok(())
+fn put_width(draft: &mut Draft, site: Site<'_>, before: &str, port: Joined) {
+    let (form, width) = match site.channel(port.chan) {
+        Some(chan) => ("%%% is channel %, %", chan.width as usize),
+        None => ("%%% is channel %", 0),
+    };
+    let (name, member) = port.name();
+    let args = [
+        Arg::Text(before),
+        name,
+        member,
+        Arg::Number(port.chan as usize),
+        Arg::Count(width, "bit", "bits"),
+    ];
+    draft.put(form, &args);
 }

@@ -1,26 +1,12 @@
 //! Events that a net refuses.
 
-use crate::asked::{Asked, Words};
-use crate::component_faults::{MOST_LISTED, put_nearest};
-use crate::datum::put_count;
-use crate::net_faults::put_more;
-use bz_lines::Part;
+use crate::asked::Words;
+use crate::component_faults::{NEAREST, port_names};
+use bz_breeze::Part as PartRecord;
 use bz_model::{Chan, ChanKind, Cmd, HostCmd, NetError, Value, Verb};
-use bz_notes::{Draft, Nearest};
-use bz_records::{Part as PartRecord, Parts};
+use bz_notes::{Arg, Draft};
 use bz_words::command;
 use std::alloc::{AllocError, Global};
-
-/// A word of a host that was refused.
-#[derive(Clone, Copy)]
-struct Refused<'t> {
-    /// Its session, from 1, where there are several.
-    session: Option<usize>,
-    /// Its number in its session, from 1.
-    number: usize,
-    word: &'t str,
-    port: Option<Outside<'t>>,
-}
 
 /// An external port, and its channel.
 #[derive(Clone, Copy)]
@@ -37,11 +23,11 @@ pub(crate) fn explain_event(
     words: Words<'_, '_>,
     number: usize,
     error: NetError,
-) -> Result<(), AllocError> {
-    let Some(word) = words.word(number) else {
-        return Ok(());
-    };
-    explain_refused(draft, part, None, number, word, error)
+) {
+    if let Some(word) = words.word(number) {
+        let args = [Arg::Number(number), Arg::Text(word)];
+        explain_refused(draft, part, word, ("found: word % is %", &args), error);
+    }
 }
 
 /// The notes of an event that ended a session of a pool: of its first word that is refused for such a reason.
@@ -51,27 +37,46 @@ pub(crate) fn explain_session(
     words: Words<'_, '_>,
     session: usize,
     error: NetError,
-) -> Result<(), AllocError> {
+) {
+    match refused_word(draft.alloc(), part, words, session, error) {
+        Ok(Some((number, word))) => {
+            let args = [Arg::Number(number), Arg::Number(session), Arg::Text(word)];
+            let found = ("found: word % of session % is %", args.as_slice());
+            explain_refused(draft, part, word, found, error);
+        }
+        Ok(None) => explain_full(draft),
+        Err(_) => draft.fail(),
+    }
+}
+
+// The first word of a session that is refused for a reason, and its number in it, from 1.
+fn refused_word<'t>(
+    alloc: Global,
+    part: &PartRecord,
+    words: Words<'_, 't>,
+    session: usize,
+    error: NetError,
+) -> Result<Option<(usize, &'t str)>, AllocError> {
     let mut current = 1usize;
     let mut number = 0usize;
     for word in words.list() {
+        number = number.saturating_add(1);
         if *word == "/" {
             current = current.saturating_add(1);
             number = 0;
-        } else if current == session {
-            number = number.saturating_add(1);
-            if refusal(draft.alloc(), part, word)? == Some(error) {
-                return explain_refused(draft, part, Some(session), number, word, error);
-            }
+        } else if current == session && refusal(alloc, part, word)? == Some(error) {
+            return Ok(Some((number, word)));
         }
     }
-    explain_full(draft)
+    Ok(None)
 }
 
 /// A journal without room for one entry more.
-pub(crate) fn explain_full(draft: &mut Draft) -> Result<(), AllocError> {
-    draft.found_text("a journal that has as many entries as it may have")?;
-    draft.wanted_text("fewer events, or --journal with a greater number, up to 16777216")
+pub(crate) fn explain_full(draft: &mut Draft) {
+    draft.tell(
+        "a journal that has as many entries as it may have",
+        "fewer events, or --journal with a greater number, up to 16777216",
+    );
 }
 
 // Why a word is refused at any moment.
@@ -83,16 +88,18 @@ fn refusal(alloc: Global, part: &PartRecord, word: &str) -> Result<Option<NetErr
 }
 
 fn refusal_of(port: Option<Outside<'_>>, verb: Verb, value: Option<Value>) -> Option<NetError> {
-    let Some(port) = port else {
-        return Some(NetError::UnknownPort);
+    let port = match port {
+        Some(port) => port,
+        None => return Some(NetError::UnknownPort),
     };
-    match verb {
-        Verb::Watch => return None,
-        Verb::Offer | Verb::Collect if !port.passive => return Some(NetError::WrongSide),
-        Verb::Accept | Verb::Answer if port.passive => return Some(NetError::WrongSide),
-        _ => {}
-    }
+    let is_of_side = match verb {
+        Verb::Offer | Verb::Collect => port.passive,
+        Verb::Accept | Verb::Answer => !port.passive,
+        Verb::Watch => true,
+    };
     match (port.brings(verb), value) {
+        _ if verb == Verb::Watch => None,
+        _ if !is_of_side => Some(NetError::WrongSide),
         (true, None) => Some(NetError::ValueMissing),
         (false, Some(_)) => Some(NetError::ValueUnwanted),
         (true, Some(value)) if value > port.greatest() => Some(NetError::TooLarge),
@@ -133,125 +140,99 @@ fn port_named<'t>(part: &'t PartRecord, name: &[u8]) -> Option<Outside<'t>> {
     None
 }
 
+// The notes of a word of a host, with the form and arguments that tell which one it is.
 fn explain_refused(
     draft: &mut Draft,
     part: &PartRecord,
-    session: Option<usize>,
-    number: usize,
     word: &str,
+    found: (&str, &[Arg<'_>]),
     error: NetError,
-) -> Result<(), AllocError> {
-    if error == NetError::JournalFull {
-        return explain_full(draft);
+) {
+    match command(draft.alloc(), word) {
+        _ if error == NetError::JournalFull => explain_full(draft),
+        Ok(Some(Cmd::Host(cmd))) => {
+            draft.put(found.0, found.1);
+            explain_host(draft, part, &cmd, error);
+        }
+        Ok(_) => {}
+        Err(_) => draft.fail(),
     }
-    let Some(Cmd::Host(cmd)) = command(draft.alloc(), word)? else {
-        return Ok(());
-    };
-    draft.put(&[Part::Bytes(b"found: word "), Part::Number(number as Value)])?;
-    if let Some(session) = session {
-        draft.put(&[Part::Bytes(b" of session "), Part::Number(session as Value)])?;
-    }
-    draft.put(&[Part::Bytes(b" is "), Part::Bytes(word.as_bytes())])?;
+}
+
+fn explain_host(draft: &mut Draft, part: &PartRecord, cmd: &HostCmd, error: NetError) {
     match port_named(part, &cmd.port) {
         None => explain_unknown(draft, part, &cmd.port),
-        Some(port) => explain_port(draft, port, &cmd, error),
+        Some(port) => explain_port(draft, port, cmd.verb, error),
     }
 }
 
 // A port that there is not.
-fn explain_unknown(draft: &mut Draft, part: &PartRecord, name: &[u8]) -> Result<(), AllocError> {
-    draft.put(&[
-        Part::Bytes(b", and no port has the name "),
-        Part::Name(name),
-    ])?;
-    draft.end()?;
-    let count = part.ports.len();
-    draft.put_text("wanted: one of ")?;
-    put_count(draft, count, "port", "ports")?;
-    for (place, port) in part.ports.iter().take(MOST_LISTED).enumerate() {
-        draft.put_text(if place == 0 { ": " } else { " " })?;
-        draft.put(&[Part::Name(port.name.as_slice())])?;
-    }
-    put_more(draft, count)?;
-    draft.end()?;
-    let mut nearest = Nearest::to(name);
-    for port in &part.ports {
-        nearest = nearest.look(draft.alloc(), port.name.as_slice())?;
-    }
-    put_nearest(draft, nearest)
+fn explain_unknown(draft: &mut Draft, part: &PartRecord, name: &[u8]) {
+    let names = draft.gathered(port_names(draft.alloc(), &part.ports));
+    let count = names.len();
+    draft.say(", and no port has the name %", &[Arg::Name(name)]);
+    let args = [
+        Arg::Count(count, "port", "ports"),
+        Arg::Names(&names),
+        Arg::More(count),
+    ];
+    draft.say("wanted: one of %%%", &args);
+    draft.say_nearest(NEAREST, name, &names);
 }
 
 // A word that the port doesn't take.
-fn explain_port(
-    draft: &mut Draft,
-    port: Outside<'_>,
-    cmd: &HostCmd,
-    error: NetError,
-) -> Result<(), AllocError> {
-    draft.put(&[Part::Bytes(b", and port "), Part::Name(port.name)])?;
+fn explain_port(draft: &mut Draft, port: Outside<'_>, verb: Verb, error: NetError) {
+    let found = match error {
+        NetError::WrongSide if port.passive => {
+            ", and port % is passive: there the host asks and the net answers"
+        }
+        NetError::WrongSide => ", and port % is active: there the net asks and the host answers",
+        NetError::ValueMissing | NetError::ValueUnwanted if port.brings(verb) => {
+            ", and port % carries a value there"
+        }
+        NetError::ValueMissing | NetError::ValueUnwanted => ", and port % carries no value there",
+        _ => ", and port % has %",
+    };
+    let width = Arg::Count(port.chan.width as usize, "bit", "bits");
+    draft.say(found, &[Arg::Name(port.name), width]);
     match error {
-        NetError::WrongSide => {
-            draft.put_text(if port.passive {
-                " is passive: there the host asks and the net answers"
-            } else {
-                " is active: there the net asks and the host answers"
-            })?;
-            draft.end()?;
-            put_round(draft, port)
-        }
-        NetError::ValueMissing | NetError::ValueUnwanted => {
-            draft.put_text(if port.brings(cmd.verb) {
-                " carries a value there"
-            } else {
-                " carries no value there"
-            })?;
-            draft.end()?;
-            draft.put_text("wanted: ")?;
-            put_word(draft, port, cmd.verb)?;
-            draft.end()
-        }
-        _ => {
-            draft.put_text(" has ")?;
-            put_count(draft, port.chan.width as usize, "bit", "bits")?;
-            draft.end()?;
-            draft.wanted(&[
-                Part::Bytes(b"a value up to "),
-                Part::Number(port.greatest()),
-            ])
-        }
+        NetError::WrongSide => put_round(draft, port),
+        NetError::ValueMissing | NetError::ValueUnwanted => put_word(draft, "wanted: ", port, verb),
+        _ => draft.put("wanted: a value up to %", &[Arg::Value(port.greatest())]),
     }
+    draft.say("", &[]);
 }
 
-// The words of a whole handshake at a port.
-fn put_round(draft: &mut Draft, port: Outside<'_>) -> Result<(), AllocError> {
+// Goes on with the words of a whole handshake at a port.
+fn put_round(draft: &mut Draft, port: Outside<'_>) {
     let (first, second) = if port.passive {
         (Verb::Offer, Verb::Collect)
     } else {
         (Verb::Accept, Verb::Answer)
     };
-    draft.put_text("wanted: ")?;
-    put_word(draft, port, first)?;
-    draft.put_text(", and then ")?;
-    put_word(draft, port, second)?;
-    draft.end()
+    put_word(draft, "wanted: ", port, first);
+    put_word(draft, ", and then ", port, second);
 }
 
 // Goes on with a word at a port: `answer:i:V with V below 2^8`.
-fn put_word(draft: &mut Draft, port: Outside<'_>, verb: Verb) -> Result<(), AllocError> {
+fn put_word<'a>(draft: &mut Draft, before: &'a str, port: Outside<'a>, verb: Verb) {
     let verb_text = match verb {
-        Verb::Offer => "offer:",
-        Verb::Collect => "collect:",
-        Verb::Accept => "accept:",
-        Verb::Answer => "answer:",
-        Verb::Watch => "watch:",
+        Verb::Offer => "offer",
+        Verb::Collect => "collect",
+        Verb::Accept => "accept",
+        Verb::Answer => "answer",
+        Verb::Watch => "watch",
     };
-    draft.put_text(verb_text)?;
-    draft.put(&[Part::Name(port.name)])?;
-    if !port.brings(verb) {
-        return Ok(());
-    }
-    draft.put(&[
-        Part::Bytes(b":V with V below 2^"),
-        Part::Number(Value::from(port.chan.width)),
-    ])
+    let args = [
+        Arg::Text(before),
+        Arg::Text(verb_text),
+        Arg::Name(port.name),
+        Arg::Number(port.chan.width as usize),
+    ];
+    let form = if port.brings(verb) {
+        "%%:%:V with V below 2^%"
+    } else {
+        "%%:%"
+    };
+    draft.put(form, &args);
 }

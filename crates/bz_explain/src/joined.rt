@@ -1,10 +1,10 @@
 //! The ports of a component beside its entries.
 
+use crate::site::Site;
+use bz_breeze::Slot;
 use bz_kind_table::{PortRow, port_table};
-use bz_lines::Part;
-use bz_model::{Chan, ChanKind, Kind, Value};
-use bz_notes::Draft;
-use bz_records::{Component, Slot};
+use bz_model::{ChanKind, Kind};
+use bz_notes::Arg;
 use std::alloc::{AllocError, Global};
 
 /// A port of a component, and the number of the channel that its entry names.
@@ -17,13 +17,13 @@ pub(crate) struct Joined {
 }
 
 impl Joined {
-    /// Goes on with the name of the port.
-    pub(crate) fn put_name(self, draft: &mut Draft) -> Result<(), AllocError> {
-        draft.put_text(self.row.name)?;
-        match self.member {
-            Some(member) => draft.put(&[Part::Number(member as Value)]),
-            None => Ok(()),
-        }
+    /// The name of its row, and its place in its array.
+    pub(crate) fn name(self) -> (Arg<'static>, Arg<'static>) {
+        let member = match self.member {
+            Some(member) => Arg::Number(member),
+            None => Arg::Text(""),
+        };
+        (Arg::Text(self.row.name), member)
     }
 }
 
@@ -31,12 +31,11 @@ impl Joined {
 pub(crate) fn join_ports(
     alloc: Global,
     kind: &Kind,
-    channels: &[Chan],
-    component: &Component,
+    site: Site<'_>,
 ) -> Result<Vec<Joined>, AllocError> {
-    let singles = singles(alloc, kind, channels, component)?;
+    let singles = singles(alloc, kind, site)?;
     let mut singles = singles.as_slice();
-    let mut entries = component.entries.as_slice();
+    let mut entries = site.component.entries.as_slice();
     let mut ports = Vec::new(alloc);
     for row in port_table(kind) {
         if row.array {
@@ -77,60 +76,37 @@ fn next_list(entries: &[Slot]) -> (&[u32], &[Slot]) {
 }
 
 // The single entries, in the order of the ports: a While and a Bar find their guard by its kind.
-fn singles(
-    alloc: Global,
-    kind: &Kind,
-    channels: &[Chan],
-    component: &Component,
-) -> Result<Vec<u32>, AllocError> {
+fn singles(alloc: Global, kind: &Kind, site: Site<'_>) -> Result<Vec<u32>, AllocError> {
     let mut singles = Vec::new(alloc);
-    for entry in &component.entries {
+    for entry in &site.component.entries {
         if let Slot::One(chan) = entry {
             singles.push(*chan)?;
         }
     }
-    let guard = match kind {
-        Kind::While => 1,
-        Kind::Bar => 0,
-        _ => return Ok(singles),
-    };
-    put_guard(alloc, channels, singles, guard)
+    match kind {
+        Kind::While => put_guard(site, &mut singles, 1),
+        Kind::Bar => put_guard(site, &mut singles, 0),
+        _ => {}
+    }
+    Ok(singles)
 }
 
-// The entries with the first one that names a pull channel at a place of its own.
-fn put_guard(
-    alloc: Global,
-    channels: &[Chan],
-    singles: Vec<u32>,
-    place: usize,
-) -> Result<Vec<u32>, AllocError> {
-    let Some(found) = singles.iter().position(|chan| is_pull(channels, *chan)) else {
-        return Ok(singles);
-    };
-    let mut ordered = Vec::new(alloc);
-    for (at, chan) in singles.iter().enumerate() {
-        if ordered.len() == place {
-            ordered.push(singles[found])?;
-        }
-        if at != found {
-            ordered.push(*chan)?;
+// Puts the first entry that names a pull channel at this place.
+fn put_guard(site: Site<'_>, singles: &mut [u32], place: usize) {
+    let guard = first_pull(site, singles);
+    if guard.max(place) < singles.len() {
+        singles.swap(guard, place);
+    }
+}
+
+// The place of the first that is the number of a pull channel, or the number of places.
+fn first_pull(site: Site<'_>, chans: &[u32]) -> usize {
+    for (place, number) in chans.iter().enumerate() {
+        if let Some(chan) = site.channel(*number) {
+            if chan.kind == ChanKind::Pull {
+                return place;
+            }
         }
     }
-    if ordered.len() == place {
-        ordered.push(singles[found])?;
-    }
-    Ok(ordered)
-}
-
-fn is_pull(channels: &[Chan], number: u32) -> bool {
-    match chan_at(channels, number) {
-        Some(chan) => chan.kind == ChanKind::Pull,
-        None => false,
-    }
-}
-
-/// The channel of a number, from 1.
-pub(crate) fn chan_at(channels: &[Chan], number: u32) -> Option<Chan> {
-    let place = (number as usize).checked_sub(1)?;
-    channels.get(place).copied()
+    chans.len()
 }

@@ -12,7 +12,6 @@ mod joined;
 mod kind_names;
 mod kind_words;
 mod member_faults;
-mod members;
 mod net_faults;
 mod part_faults;
 mod seat;

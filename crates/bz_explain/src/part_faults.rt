@@ -1,16 +1,12 @@
 //! Parts that are at fault: what stands at the byte that the fault tells.
 
-use crate::datum::{is_text, port_name, put_count, put_where};
+use crate::datum::put_datum;
 use crate::member_faults::{explain_channel, explain_component, explain_port};
-use crate::members::Members;
-use crate::seat::{Head, PartForm, Seat, seat_at};
-use crate::source::{put_place, put_spot};
+use crate::seat::{Head, PartForm, Seat, find_named, name_in, seat_at};
+use crate::source::put_place;
 use bz_breeze::Place;
-use bz_lines::Part;
-use bz_model::Value;
-use bz_notes::{Draft, spot_of};
+use bz_notes::{Arg, Draft, spot_of};
 use bz_sexpr::{Form, Forms};
-use std::alloc::{AllocError, Global};
 
 /// A part that is at fault.
 #[derive(Clone, Copy)]
@@ -21,162 +17,112 @@ pub(crate) struct Wrong<'t> {
 }
 
 /// The notes of a part that is at fault at a place.
-pub(crate) fn explain_part(
-    draft: &mut Draft,
-    text: &[u8],
-    netlist: Forms<'_>,
-    place: &Place,
-) -> Result<(), AllocError> {
-    let Some((form, seat)) = seat_at(netlist, place.at) else {
-        return Ok(());
-    };
+pub(crate) fn explain_part(draft: &mut Draft, text: &[u8], netlist: Forms<'_>, place: &Place) {
     let name = match &place.part {
         Some(name) => name.as_slice(),
         None => &[],
     };
-    let part = Wrong { text, name, form };
-    match seat {
-        Seat::Part => explain_nameless(draft, part, place.at),
-        Seat::Name => explain_double(draft, part, netlist, place.at),
-        Seat::Form(head) => explain_second(draft, part, head, place.at),
-        Seat::Member(head, number, member) => { explain_member(draft, part, head, number, member) }
-        Seat::End => explain_missing(draft, part, place.at),
+    if let Some((form, seat)) = seat_at(netlist, place.at) {
+        let part = Wrong { text, name, form };
+        put_mark(draft, part, seat, place.at);
+        explain_seat(draft, part, netlist, seat);
     }
 }
 
-fn explain_nameless(draft: &mut Draft, part: Wrong<'_>, at: usize) -> Result<(), AllocError> {
-    put_place(draft, part.text, at, &[Part::Bytes(b"this part")])?;
+fn put_mark(draft: &mut Draft, part: Wrong<'_>, seat: Seat<'_>, at: usize) {
+    let name = Arg::Name(part.name);
+    let (mark, args) = match seat {
+        Seat::Part => ("this part", [name, name, name]),
+        Seat::Name => ("a second part %", [name, name, name]),
+        Seat::Form(head) => (
+            "the second % form of part %",
+            [Arg::Text(head.word()), name, name],
+        ),
+        Seat::Member(head, number, _) => (
+            "% % of part %",
+            [Arg::Text(head.member()), Arg::Number(number), name],
+        ),
+        Seat::End => ("part % ends here", [name, name, name]),
+    };
+    put_place(draft, part.text, at, mark, &args);
+}
+
+fn explain_seat(draft: &mut Draft, part: Wrong<'_>, netlist: Forms<'_>, seat: Seat<'_>) {
+    match seat {
+        Seat::Part => explain_nameless(draft, part),
+        Seat::Name => explain_double(draft, part, netlist),
+        Seat::Form(head) => explain_second(draft, part, head),
+        Seat::Member(Head::Ports, _, member) => explain_port(draft, part, member),
+        Seat::Member(Head::Channels, _, member) => explain_channel(draft, member),
+        Seat::Member(Head::Components, _, member) => explain_component(draft, member),
+        Seat::End => explain_missing(draft, part),
+    }
+}
+
+fn explain_nameless(draft: &mut Draft, part: Wrong<'_>) {
     let second = match part.form.items.split_first() {
         Some((second, _)) => Some(second),
         None => None,
     };
-    put_where(draft, second, "its name belongs")?;
-    draft.wanted_text("a name in quotes, as in (breeze-part \"p\" ..)")
+    draft.put("found: ", &[]);
+    put_datum(draft, second);
+    draft.say(" where its name belongs", &[]);
+    draft.say(
+        "wanted: a name in quotes, as in (breeze-part \"p\" ..)",
+        &[],
+    );
 }
 
-fn explain_double(
-    draft: &mut Draft,
-    part: Wrong<'_>,
-    netlist: Forms<'_>,
-    at: usize,
-) -> Result<(), AllocError> {
-    put_place(
-        draft,
-        part.text,
-        at,
-        &[Part::Bytes(b"a second part "), Part::Name(part.name)],
-    )?;
-    if let Some(first) = first_named(draft.alloc(), netlist, part.name)? {
-        put_first(draft, part.text, first.span.from)?;
+fn explain_double(draft: &mut Draft, part: Wrong<'_>, netlist: Forms<'_>) {
+    let head = b"breeze-part".as_slice();
+    if let Some((_, first)) = find_named(draft, netlist, Some(head), part.name) {
+        put_first(draft, part.text, first);
     }
-    draft.wanted_text("a name of its own for each part of a text")
+    draft.say("wanted: a name of its own for each part of a text", &[]);
 }
 
-// The first part of a name.
-fn first_named<'t>(
-    alloc: Global,
-    netlist: Forms<'t>,
-    name: &[u8],
-) -> Result<Option<PartForm<'t>>, AllocError> {
-    for (_, form) in Members::of(netlist) {
-        if let Some(part) = PartForm::of(form) {
-            if let Some((first, _)) = part.items.split_first() {
-                if is_text(alloc, first, name)? {
-                    return Ok(Some(part));
-                }
-            }
-        }
+fn explain_second(draft: &mut Draft, part: Wrong<'_>, head: Head) {
+    if let Some(first) = part.form.form(head) {
+        put_first(draft, part.text, first);
     }
-    Ok(None)
-}
-
-fn explain_second(
-    draft: &mut Draft,
-    part: Wrong<'_>,
-    head: Head,
-    at: usize,
-) -> Result<(), AllocError> {
-    put_place(
-        draft,
-        part.text,
-        at,
-        &[
-            Part::Bytes(b"the second "),
-            Part::Bytes(head.word().as_bytes()),
-            Part::Bytes(b" form of part "),
-            Part::Name(part.name),
-        ],
-    )?;
-    if let Some((first, _)) = part.form.form(head) {
-        put_first(draft, part.text, first.span().from)?;
-    }
-    draft.wanted_text("each of ports, channels and components at most once in a part")
+    draft.say(
+        "wanted: each of ports, channels and components at most once in a part",
+        &[],
+    );
 }
 
 // Tells where the first one of two stands.
-fn put_first(draft: &mut Draft, text: &[u8], at: usize) -> Result<(), AllocError> {
-    draft.put_text("found: its first one is at ")?;
-    put_spot(draft, spot_of(text, at))?;
-    draft.end()
-}
-
-fn explain_member(
-    draft: &mut Draft,
-    part: Wrong<'_>,
-    head: Head,
-    number: usize,
-    member: Form<'_>,
-) -> Result<(), AllocError> {
-    put_place(
-        draft,
-        part.text,
-        member.span().from,
-        &[
-            Part::Bytes(head.member().as_bytes()),
-            Part::Bytes(b" "),
-            Part::Number(number as Value),
-            Part::Bytes(b" of part "),
-            Part::Name(part.name),
-        ],
-    )?;
-    match head {
-        Head::Ports => explain_port(draft, part, member),
-        Head::Channels => explain_channel(draft, member),
-        Head::Components => explain_component(draft, member),
-    }
+fn put_first(draft: &mut Draft, text: &[u8], first: Form<'_>) {
+    let spot = spot_of(text, first.span().from);
+    draft.say("found: its first one is at %", &[Arg::Spot(Some(spot))]);
 }
 
 // Fewer channels than ports.
-fn explain_missing(draft: &mut Draft, part: Wrong<'_>, at: usize) -> Result<(), AllocError> {
-    put_place(
-        draft,
-        part.text,
-        at,
-        &[
-            Part::Bytes(b"part "),
-            Part::Name(part.name),
-            Part::Bytes(b" ends here"),
-        ],
-    )?;
+fn explain_missing(draft: &mut Draft, part: Wrong<'_>) {
     let channels = count(part.form, Head::Channels);
-    let first = channels.saturating_add(1);
-    draft.put_text("found: ")?;
-    put_count(draft, count(part.form, Head::Ports), "port", "ports")?;
-    draft.put_text(" and ")?;
-    put_count(draft, channels, "channel", "channels")?;
-    draft.put(&[Part::Bytes(b": port "), Part::Number(first as Value)])?;
-    if let Some(port) = part.form.member(Head::Ports, first) {
-        if let Some(name) = port_name(draft.alloc(), port)? {
-            draft.put(&[
-                Part::Bytes(b", "),
-                Part::Name(name.as_slice()),
-                Part::Bytes(b","),
-            ])?;
-        }
+    let lacking = channels.saturating_add(1);
+    let args = [
+        Arg::Count(count(part.form, Head::Ports), "port", "ports"),
+        Arg::Count(channels, "channel", "channels"),
+        Arg::Number(lacking),
+    ];
+    draft.put("found: % and %: port %", &args);
+    if let Some(port) = part.form.member(Head::Ports, lacking) {
+        put_name(draft, port);
     }
-    draft.put_text(" has no channel")?;
-    draft.end()?;
-    draft.wanted_text("a channel for each port: the ports are the first channels")
+    draft.say(" has no channel", &[]);
+    draft.say(
+        "wanted: a channel for each port: the ports are the first channels",
+        &[],
+    );
+}
+
+// Goes on with the name of a port.
+fn put_name(draft: &mut Draft, port: Form<'_>) {
+    if let Some(name) = name_in(port, None) {
+        let name = draft.gathered(name.bytes(draft.alloc()));
+        draft.put(", %,", &[Arg::Name(&name)]);
+    }
 }
 
 // How many members a form of a part has.

@@ -1,14 +1,12 @@
 //! A netlist that was read, and where its records stand.
 
-use crate::joined::chan_at;
 use crate::seat::{Head, part_form};
-use crate::source::{put_place, put_spot};
-use bz_kind_table::kind_of;
-use bz_lines::Part;
-use bz_model::{Chan, Kind, KindError, Port, Value};
-use bz_notes::{Draft, spot_of};
+use crate::source::put_place;
+use bz_breeze::{Component, Part as PartRecord, Parts, Slot};
+use bz_kind_table::{KindError, kind_of};
+use bz_model::{Chan, Kind, Port};
+use bz_notes::{Arg, Draft, Spot, spot_of};
 use bz_places::Place;
-use bz_records::{Component, Part as PartRecord, Parts, Slot};
 use bz_sexpr::Forms;
 use std::alloc::{AllocError, Global};
 
@@ -66,55 +64,24 @@ impl<'t> Netlist<'t> {
         Some(record.span().from)
     }
 
-    /// Tells where a record of a part stands, with a mark.
-    pub(crate) fn put_record(
-        self,
-        draft: &mut Draft,
-        number: usize,
-        head: Head,
-        position: usize,
-        mark: &[Part<'_>],
-    ) -> Result<(), AllocError> {
-        match self.byte_of(number, head, position) {
-            Some(byte) => put_place(draft, self.text, byte, mark),
-            None => Ok(()),
-        }
-    }
-
     /// Tells where a record of a part stands, by what it is there.
-    pub(crate) fn put_listed(
-        self,
-        draft: &mut Draft,
-        number: usize,
-        head: Head,
-        position: usize,
-    ) -> Result<(), AllocError> {
+    pub(crate) fn put_listed(self, draft: &mut Draft, number: usize, head: Head, position: usize) {
         let mark = [
-            Part::Bytes(head.member().as_bytes()),
-            Part::Bytes(b" "),
-            Part::Number(position as Value),
-            Part::Bytes(b" of part "),
-            Part::Name(self.name(number)),
+            Arg::Text(head.member()),
+            Arg::Number(position),
+            Arg::Name(self.name(number)),
         ];
-        self.put_record(draft, number, head, position, &mark)
-    }
-
-    /// Goes on with the line and column of a record.
-    pub(crate) fn put_spot_of(
-        self,
-        draft: &mut Draft,
-        number: usize,
-        head: Head,
-        position: usize,
-    ) -> Result<(), AllocError> {
-        match self.byte_of(number, head, position) {
-            Some(byte) => put_spot(draft, spot_of(self.text, byte)),
-            None => Ok(()),
+        if let Some(byte) = self.byte_of(number, head, position) {
+            put_place(draft, self.text, byte, "% % of part %", &mark);
         }
     }
-}
 
-impl<'t> Netlist<'t> {
+    /// The line and column of a record.
+    pub(crate) fn spot_of(self, number: usize, head: Head, position: usize) -> Option<Spot> {
+        let byte = self.byte_of(number, head, position)?;
+        Some(spot_of(self.text, byte))
+    }
+
     /// The channel at a place.
     pub(crate) fn chan(self, place: &Place) -> Option<Chan> {
         let part = self.parts.list().get(place.part)?;
@@ -136,11 +103,7 @@ impl<'t> Site<'t> {
 
     /// Its kind, where its name and parameters are those of one.
     pub(crate) fn kind(self, alloc: Global) -> Result<Option<Kind>, AllocError> {
-        match kind_of(
-            alloc,
-            self.component.name.as_slice(),
-            self.component.params.as_slice(),
-        ) {
+        match kind_of(alloc, &self.component.name, &self.component.params) {
             Ok(kind) => Ok(Some(kind)),
             Err(KindError::Memory) => Err(AllocError),
             Err(_) => Ok(None),
@@ -184,7 +147,8 @@ impl<'t> Site<'t> {
 
     /// The channel of its part of a number, from 1.
     pub(crate) fn channel(self, number: u32) -> Option<Chan> {
-        chan_at(&self.part.channels, number)
+        let place = (number as usize).checked_sub(1)?;
+        self.part.channels.get(place).copied()
     }
 }
 

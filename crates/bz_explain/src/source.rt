@@ -1,9 +1,6 @@
 //! The line of the text at which something stands, with a caret below it.
 
-use bz_lines::Part;
-use bz_model::Value;
-use bz_notes::{Draft, Spot, before_in_line, spot_of};
-use std::alloc::AllocError;
+use bz_notes::{Arg, Draft, before_in_line, spot_of};
 
 /// The most bytes of a line that are shown.
 const MOST_SHOWN: usize = 100;
@@ -13,9 +10,6 @@ const SHOWN_BEFORE: usize = 40;
 
 /// What stands where something is left out.
 const CUT: &str = "..";
-
-/// Enough blanks to stand below a line that is shown.
-static BLANKS: [u8; 128] = [b' '; 128];
 
 /// The piece of a line that is shown.
 #[derive(Clone, Copy)]
@@ -28,63 +22,21 @@ struct Window<'t> {
 }
 
 /// Tells where a byte of the text stands: its line and column, then the line itself, and below it a caret with what stands
-/// there.
-pub(crate) fn put_place(
-    draft: &mut Draft,
-    text: &[u8],
-    at: usize,
-    mark: &[Part<'_>],
-) -> Result<(), AllocError> {
+/// there, by a form.
+pub(crate) fn put_place(draft: &mut Draft, text: &[u8], at: usize, mark: &str, args: &[Arg<'_>]) {
     let spot = spot_of(text, at);
-    draft.put_text("at ")?;
-    put_spot(draft, spot)?;
-    draft.end()?;
-    put_source(draft, text, at, spot, mark)
-}
-
-/// Goes on with a place: `line 3, column 14`.
-pub(crate) fn put_spot(draft: &mut Draft, spot: Spot) -> Result<(), AllocError> {
-    draft.put(&[
-        Part::Bytes(b"line "),
-        Part::Number(spot.line as Value),
-        Part::Bytes(b", column "),
-        Part::Number(spot.column as Value),
-    ])
-}
-
-fn put_source(
-    draft: &mut Draft,
-    text: &[u8],
-    at: usize,
-    spot: Spot,
-    mark: &[Part<'_>],
-) -> Result<(), AllocError> {
     let window = window_of(text, at);
-    let number = format!(in draft.alloc(); "{}", spot.line)?;
-    draft.put_text(number.as_str())?;
-    put_shown(draft, window)?;
-    draft.put(&[
-        Part::Bytes(blanks(number.len())),
-        Part::Bytes(b" | "),
-        Part::Bytes(blanks(window.caret)),
-        Part::Bytes(b"^ "),
-    ])?;
-    draft.put(mark)?;
-    draft.end()
-}
-
-fn put_shown(draft: &mut Draft, window: Window<'_>) -> Result<(), AllocError> {
-    draft.put(&[
-        Part::Bytes(b" | "),
-        Part::Bytes(window.before.as_bytes()),
-        Part::Bytes(window.shown),
-        Part::Bytes(window.behind.as_bytes()),
-    ])?;
-    draft.end()
-}
-
-fn blanks(count: usize) -> &'static [u8] {
-    &BLANKS[..count.min(BLANKS.len())]
+    draft.say("at %", &[Arg::Spot(Some(spot))]);
+    draft.put("%", &[Arg::Number(spot.line)]);
+    let digits = draft.width();
+    let shown = [
+        Arg::Text(window.before),
+        Arg::Bytes(window.shown),
+        Arg::Text(window.behind),
+    ];
+    draft.say(" | %%%", &shown);
+    draft.put("% | %^ ", &[Arg::Blanks(digits), Arg::Blanks(window.caret)]);
+    draft.say(mark, args);
 }
 
 // The piece of the line of a byte that is shown.

@@ -1,98 +1,68 @@
 //! Words that are none.
 
 use crate::asked::Words;
-use bz_lines::Part;
-use bz_model::Value;
-use bz_notes::{Draft, Nearest};
-use std::alloc::AllocError;
+use bz_notes::{Arg, Draft};
 
-/// A verb, its word as a list of words has it, and what may stand behind its colon.
-struct Form {
-    verb: &'static str,
-    word: &'static str,
-    rule: &'static str,
-}
-
-static FORMS: [Form; 6] = [
-    Form {
-        verb: "offer",
-        word: "offer:P[:V]",
-        rule: "offer:P or offer:P:V, P the name of a port and V a number below 2^128",
-    },
-    Form {
-        verb: "collect",
-        word: "collect:P",
-        rule: "collect:P, P the name of a port",
-    },
-    Form {
-        verb: "accept",
-        word: "accept:P",
-        rule: "accept:P, P the name of a port",
-    },
-    Form {
-        verb: "answer",
-        word: "answer:P[:V]",
-        rule: "answer:P or answer:P:V, P the name of a port and V a number below 2^128",
-    },
-    Form {
-        verb: "watch",
-        word: "watch:P",
-        rule: "watch:P, P the name of a port",
-    },
-    Form {
-        verb: "run",
-        word: "run:N",
-        rule: "run:N, N a number below 2^64",
-    },
+/// The verbs, and what belongs in a word of each; the last one in words of a run alone.
+static VERBS: [(&str, &str); 6] = [
+    (
+        "offer",
+        "wanted: offer:P or offer:P:V, P the name of a port and V a number below 2^128",
+    ),
+    ("collect", "wanted: collect:P, P the name of a port"),
+    ("accept", "wanted: accept:P, P the name of a port"),
+    (
+        "answer",
+        "wanted: answer:P or answer:P:V, P the name of a port and V a number below 2^128",
+    ),
+    ("watch", "wanted: watch:P, P the name of a port"),
+    ("run", "wanted: run:N, N a number below 2^64"),
 ];
 
+const SESSIONS: &str = "wanted: at most 16 sessions";
+
+const POOL_VERBS: &str = "wanted: one of offer:P[:V] collect:P accept:P answer:P[:V] watch:P";
+
+const RUN_VERBS: &str = "wanted: one of offer:P[:V] collect:P accept:P answer:P[:V] watch:P run:N";
+
 /// The notes of a word that is no command, by its number from 1.
-pub(crate) fn explain_word(
-    draft: &mut Draft,
-    words: Words<'_, '_>,
-    number: usize,
-) -> Result<(), AllocError> {
+pub(crate) fn explain_word(draft: &mut Draft, words: Words<'_, '_>, number: usize) {
     let Some(word) = words.word(number) else {
-        return Ok(());
+        return;
     };
-    draft.found(&[
-        Part::Bytes(b"word "),
-        Part::Number(number as Value),
-        Part::Bytes(b" is "),
-        Part::Bytes(word.as_bytes()),
-    ])?;
-    if word == "/" && words.is_pool() {
-        return draft.wanted_text("at most 16 sessions");
-    }
+    draft.say(
+        "found: word % is %",
+        &[Arg::Number(number), Arg::Text(word)],
+    );
     let verb = match word.split_once(':') {
         Some((verb, _)) => verb,
         None => word,
     };
-    for form in forms(words) {
-        if form.verb == verb {
-            return draft.wanted_text(form.rule);
+    let verbs = if words.is_pool() { &VERBS[..5] } else { &VERBS };
+    match rule_of(verbs, verb) {
+        _ if word == "/" && words.is_pool() => draft.say(SESSIONS, &[]),
+        Some(rule) => draft.say(rule, &[]),
+        None => put_verbs(draft, words.is_pool(), verb),
+    }
+}
+
+fn rule_of(verbs: &[(&str, &'static str)], asked: &str) -> Option<&'static str> {
+    for (verb, rule) in verbs {
+        if *verb == asked {
+            return Some(rule);
         }
     }
-    put_verbs(draft, words, verb)
+    None
 }
 
 // The verbs that there are, and the nearest one.
-fn put_verbs(draft: &mut Draft, words: Words<'_, '_>, verb: &str) -> Result<(), AllocError> {
-    draft.put_text("wanted: one of")?;
-    let mut nearest = Nearest::to(verb.as_bytes());
-    for form in forms(words) {
-        draft.put_text(" ")?;
-        draft.put_text(form.word)?;
-        nearest = nearest.look(draft.alloc(), form.verb.as_bytes())?;
-    }
-    draft.end()?;
-    match nearest.found() {
-        Some(verb) => draft.help(&[Part::Bytes(b"the nearest verb is "), Part::Bytes(verb)]),
-        None => Ok(()),
-    }
-}
-
-// The forms that these words may have: nothing but workers fires in a pool.
-fn forms(words: Words<'_, '_>) -> &'static [Form] {
-    if words.is_pool() { &FORMS[..5] } else { &FORMS }
+fn put_verbs(draft: &mut Draft, in_pool: bool, verb: &str) {
+    let names: [&[u8]; 6] = [b"offer", b"collect", b"accept", b"answer", b"watch", b"run"];
+    let (verbs, known) = if in_pool {
+        (POOL_VERBS, &names[..5])
+    } else {
+        (RUN_VERBS, &names[..])
+    };
+    draft.say(verbs, &[]);
+    draft.say_nearest("help: the nearest verb is %", verb.as_bytes(), known);
 }

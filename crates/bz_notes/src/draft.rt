@@ -1,17 +1,18 @@
 //! The notes of a fault while they are gathered.
 
+use crate::form::{Arg, put_form};
+use crate::nearest::nearest;
 use crate::notes::Note;
-use bz_lines::{Part, put_parts};
-use bz_places::put_path;
 use std::alloc::{AllocError, Global};
 use std::mem;
 
-/// Notes, and the letters of one that goes on.
+/// Notes, and the letters of one that goes on. Where memory was wanting for some of it there are no notes at all.
 #[derive(Drop)]
 pub struct Draft {
     alloc: Global,
     notes: Vec<Note>,
     line: Vec<u8>,
+    is_short: bool,
 }
 
 impl Draft {
@@ -21,6 +22,7 @@ impl Draft {
             alloc,
             notes: Vec::new(alloc),
             line: Vec::new(alloc),
+            is_short: false,
         }
     }
 
@@ -31,71 +33,62 @@ impl Draft {
 
     /// The notes that were ended.
     pub(crate) fn notes(&self) -> &[Note] {
-        self.notes.as_slice()
-    }
-
-    /// Goes on with the line.
-    pub fn put(&mut self, parts: &[Part<'_>]) -> Result<(), AllocError> {
-        match put_parts(&mut self.line, parts) {
-            Ok(()) => Ok(()),
-            Err(_) => Err(AllocError),
+        if self.is_short {
+            &[]
+        } else {
+            self.notes.as_slice()
         }
     }
 
-    /// What the line has so far.
-    pub fn line(&self) -> &[u8] {
-        self.line.as_slice()
+    /// How many bytes the line has so far.
+    pub fn width(&self) -> usize {
+        self.line.len()
     }
 
-    /// Goes on with a path.
-    pub fn put_path(&mut self, path: &[usize]) -> Result<(), AllocError> {
-        match put_path(&mut self.line, path) {
-            Ok(()) => Ok(()),
-            Err(_) => Err(AllocError),
+    /// Memory was wanting.
+    pub fn fail(&mut self) {
+        self.is_short = true;
+    }
+
+    /// What was gathered for a note, or nothing where memory was wanting for it.
+    pub fn gathered<T: Drop>(&mut self, list: Result<Vec<T>, AllocError>) -> Vec<T> {
+        match list {
+            Ok(list) => list,
+            Err(_) => {
+                self.fail();
+                Vec::new(self.alloc)
+            }
         }
     }
 
-    /// Goes on with the line.
-    pub fn put_text(&mut self, text: &str) -> Result<(), AllocError> {
-        self.put(&[Part::Bytes(text.as_bytes())])
+    /// Goes on with the line: with a form, in which the next argument stands for each `%`.
+    pub fn put(&mut self, form: &str, args: &[Arg<'_>]) {
+        if !put_form(&mut self.line, form, args) {
+            self.fail();
+        }
     }
 
-    /// Ends the line.
-    pub fn end(&mut self) -> Result<(), AllocError> {
+    /// The same, and ends the line.
+    pub fn say(&mut self, form: &str, args: &[Arg<'_>]) {
+        self.put(form, args);
         let letters = mem::replace(&mut self.line, Vec::new(self.alloc));
-        self.notes.push(Note { letters })?;
-        Ok(())
+        if self.notes.push(Note { letters }).is_err() {
+            self.fail();
+        }
     }
 
-    /// What stands there.
-    pub fn found(&mut self, parts: &[Part<'_>]) -> Result<(), AllocError> {
-        self.say("found: ", parts)
+    /// What stands there and what belongs there, in words alone.
+    pub fn tell(&mut self, found: &str, wanted: &str) {
+        self.say("found: %", &[Arg::Text(found)]);
+        self.say("wanted: %", &[Arg::Text(wanted)]);
     }
 
-    /// What belongs there.
-    pub fn wanted(&mut self, parts: &[Part<'_>]) -> Result<(), AllocError> {
-        self.say("wanted: ", parts)
-    }
-
-    /// A next step.
-    pub fn help(&mut self, parts: &[Part<'_>]) -> Result<(), AllocError> {
-        self.say("help: ", parts)
-    }
-
-    /// What stands there, in words alone.
-    pub fn found_text(&mut self, text: &str) -> Result<(), AllocError> {
-        self.found(&[Part::Bytes(text.as_bytes())])
-    }
-
-    /// What belongs there, in words alone.
-    pub fn wanted_text(&mut self, text: &str) -> Result<(), AllocError> {
-        self.wanted(&[Part::Bytes(text.as_bytes())])
-    }
-
-    /// A line of these parts.
-    pub fn say(&mut self, head: &str, parts: &[Part<'_>]) -> Result<(), AllocError> {
-        self.put_text(head)?;
-        self.put(parts)?;
-        self.end()
+    /// Tells by a form which of several names was probably meant, where one is near enough.
+    pub fn say_nearest(&mut self, form: &str, name: &[u8], names: &[&[u8]]) {
+        match nearest(self.alloc, name, names) {
+            Ok(Some(name)) => self.say(form, &[Arg::Name(name)]),
+            Ok(None) => {}
+            Err(_) => self.fail(),
+        }
     }
 }

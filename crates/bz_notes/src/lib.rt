@@ -3,6 +3,7 @@
 #![tactic(auto)]
 
 mod draft;
+mod form;
 mod keeping;
 mod nearest;
 mod notes;
@@ -10,7 +11,7 @@ mod spot;
 mod telling;
 
 pub use draft::Draft;
+pub use form::Arg;
 pub use keeping::Keeping;
-pub use nearest::Nearest;
 pub use spot::{Spot, before_in_line, spot_of};
 pub use telling::{tell, tell_notes};

@@ -16,47 +16,32 @@ const MOST_EDITS: usize = 2;
 /// What stands in front of the name of a kind.
 const PREFIX: &[u8] = b"$Brz";
 
-/// The name that is nearest to one that was asked for, of those looked at so far.
-#[derive(Clone, Copy)]
-pub struct Nearest<'n, 'c> {
-    name: &'n [u8],
-    best: Option<(usize, &'c [u8])>,
+/// The name of several that was probably meant, where one is near enough: the first of those that are as near.
+pub(crate) fn nearest<'c>(
+    alloc: Global,
+    name: &[u8],
+    names: &[&'c [u8]],
+) -> Result<Option<&'c [u8]>, AllocError> {
+    let mut limit = (MOST_EDITS + 1).min(name.len().div_ceil(2));
+    let mut best = None;
+    for other in names {
+        let count = distance(alloc, name, other)?;
+        if count < limit {
+            limit = count;
+            best = Some(*other);
+        }
+    }
+    Ok(best)
 }
 
-impl<'n, 'c> Nearest<'n, 'c> {
-    /// None was looked at so far.
-    pub fn to(name: &'n [u8]) -> Nearest<'n, 'c> {
-        Nearest { name, best: None }
+// How far another name is, one whose prefix is left out being no further; names that are too long are as far as can be.
+fn distance(alloc: Global, name: &[u8], other: &[u8]) -> Result<usize, AllocError> {
+    if name.len() > MOST_BYTES || other.len() > MOST_BYTES {
+        return Ok(usize::MAX);
     }
-
-    /// Looks at one more name. Of several that are as near the first is kept.
-    pub fn look(self, alloc: Global, name: &'c [u8]) -> Result<Nearest<'n, 'c>, AllocError> {
-        if self.name.len() > MOST_BYTES || name.len() > MOST_BYTES {
-            return Ok(self);
-        }
-        let count = match name.strip_prefix(PREFIX) {
-            Some(rest) if edits(alloc, self.name, rest)? == 0 => 0,
-            _ => edits(alloc, self.name, name)?,
-        };
-        let limit = match self.best {
-            Some((least, _)) => least,
-            None => (MOST_EDITS + 1).min(self.name.len().div_ceil(2)),
-        };
-        if count >= limit {
-            return Ok(self);
-        }
-        Ok(Nearest {
-            name: self.name,
-            best: Some((count, name)),
-        })
-    }
-
-    /// The one that was probably meant, where one is near enough.
-    pub fn found(self) -> Option<&'c [u8]> {
-        match self.best {
-            Some((_, name)) => Some(name),
-            None => None,
-        }
+    match other.strip_prefix(PREFIX) {
+        Some(rest) if edits(alloc, name, rest)? == 0 => Ok(0),
+        _ => edits(alloc, name, other),
     }
 }
 
