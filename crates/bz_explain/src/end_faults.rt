@@ -6,7 +6,8 @@ use crate::site::Netlist;
 use crate::source::put_place;
 use bz_elab::ElabError;
 use bz_model::ChanKind;
-use bz_notes::{Arg, Draft};
+use bz_notes::Arg::{At, Bytes, Name, Number, Path, Text};
+use bz_notes::Draft;
 use bz_places::{Place, Places};
 
 /// A channel of a net that is at fault, with the ends that were found of it.
@@ -25,8 +26,11 @@ pub(crate) fn explain_ends(
     netlist: Netlist<'_>,
     places: &Places,
     error: ElabError,
-    number: u32,
 ) {
+    let number = match error {
+        ElabError::TwoEnds(chan) | ElabError::LooseEnd(chan) | ElabError::PortSense(chan) => chan,
+        _ => 0,
+    };
     let Some(place) = places.chan(number) else {
         return;
     };
@@ -45,41 +49,20 @@ pub(crate) fn explain_ends(
     }
 }
 
-impl Wire<'_> {
+impl<'t> Wire<'t> {
     // Two ends of one sense.
     fn explain_two(self, draft: &mut Draft) {
         self.put_place(draft);
         let passive = has_two(self.ends, true);
-        draft.put("found: two % ends", &[Arg::Text(sense(passive))]);
-        let mut before = ": ";
-        for end in self
-            .ends
-            .iter()
-            .filter(|end| end.is_passive() == passive)
-            .take(2)
-        {
-            self.put_end(draft, before, end);
-            before = ", ";
+        draft.put("found: two % ends", &[Text(sense(passive))]);
+        let of_sense = self.ends.iter().filter(|end| end.is_passive() == passive);
+        for (place, end) in of_sense.take(2).enumerate() {
+            self.put_end(draft, if place == 0 { ": " } else { ", " }, end);
         }
-        draft.say("", &[]);
-        draft.say("wanted: one active end and one passive end", &[]);
-        if !passive {
-            self.put_mixer(draft);
-        }
-    }
-
-    // The kind that brings several active ends together.
-    fn put_mixer(self, draft: &mut Draft) {
-        if let Some(chan) = self.netlist.chan(self.place) {
-            let mixer = match chan.kind {
-                ChanKind::Sync => "Call",
-                ChanKind::Push => "CallMux",
-                ChanKind::Pull => "CallDemux",
-            };
-            draft.say(
-                "help: a % brings several callers together to one",
-                &[Arg::Text(mixer)],
-            );
+        draft.say("\nwanted: one active end and one passive end", &[]);
+        if let (false, Some(chan)) = (passive, self.netlist.chan(self.place)) {
+            let mixer = Text(mixer(chan.kind));
+            draft.say("help: a % brings several callers together to one", &[mixer]);
         }
     }
 
@@ -89,23 +72,16 @@ impl Wire<'_> {
         if let Some(end) = self.ends.first() {
             let passive = end.is_passive();
             self.put_end(draft, found(passive), end);
-            draft.say(", and no % one", &[Arg::Text(sense(!passive))]);
-            draft.put(
-                if passive {
-                    "wanted: a component that makes its requests"
-                } else {
-                    "wanted: a component that takes its requests"
-                },
-                &[],
-            );
-            let port = if self.is_next_port() {
-                ", or port %, %"
+            let deed = Text(if passive { "makes" } else { "takes" });
+            let told = if self.is_next_port() {
+                ", and no % one\nwanted: a component that % its requests, or port %, %"
             } else {
-                ""
+                ", and no % one\nwanted: a component that % its requests"
             };
+            let number = Number(self.number as usize);
             draft.say(
-                port,
-                &[Arg::Number(self.number as usize), Arg::Text(sense(passive))],
+                told,
+                &[Text(sense(!passive)), deed, number, Text(sense(passive))],
             );
         }
     }
@@ -128,24 +104,19 @@ impl Wire<'_> {
             .put_listed(draft, self.place.part, Head::Ports, self.place.position);
         if let Some(end) = self.first_against(port.passive) {
             self.put_end(draft, found(end.is_passive()), end);
-            let args = [
-                Arg::Name(port.name.as_slice()),
-                Arg::Text(sense(port.passive)),
-            ];
+            let args = [Name(port.name.as_slice()), Text(sense(port.passive))];
             draft.say(", and port % is %", &args);
         }
-        draft.say(
-            if port.passive {
-                "wanted: a passive end alone: at a passive port the host asks"
-            } else {
-                "wanted: an active end alone: at an active port the host answers"
-            },
-            &[],
-        );
+        let wanted = if port.passive {
+            "wanted: a passive end alone: at a passive port the host asks"
+        } else {
+            "wanted: an active end alone: at an active port the host answers"
+        };
+        draft.say(wanted, &[]);
     }
 
     // The first end of the other sense.
-    fn first_against(&self, passive: bool) -> Option<&End> {
+    fn first_against(self, passive: bool) -> Option<&'t End> {
         for end in self.ends {
             if end.is_passive() != passive {
                 return Some(end);
@@ -155,23 +126,24 @@ impl Wire<'_> {
     }
 
     // Goes on with an end: the component, its port and where it stands.
-    fn put_end(self, draft: &mut Draft, before: &str, end: &End) {
+    fn put_end(self, draft: &mut Draft, before: &str, end: &'t End) {
         let netlist = self.netlist;
         let place = &end.place;
-        draft.put(before, &[]);
-        if let Some(number) = self.places.comps().iter().position(|comp| comp == place) {
-            draft.put("% ", &[Arg::Number(number.saturating_add(1))]);
-        }
-        let (name, member) = end.port.name();
-        draft.put("% %% (", &[Arg::Bytes(end.kind), name, member]);
-        if !place.path.is_empty() {
-            draft.put(
-                "% %, ",
-                &[Arg::Path(&place.path), Arg::Name(netlist.name(place.part))],
-            );
-        }
+        let found = self.places.comps().iter().position(|comp| comp == place);
+        let (number, blank) = match found {
+            Some(number) => (Number(number.saturating_add(1)), Text(" ")),
+            None => (Text(""), Text("")),
+        };
+        let (port, member) = end.port.name();
+        let args = [Text(before), number, blank, Bytes(end.kind), port, member];
+        draft.put("%%%% %% (", &args);
+        let (form, part) = if place.path.is_empty() {
+            ("%%%)", Text(""))
+        } else {
+            ("% %, %)", Name(netlist.name(place.part)))
+        };
         let spot = netlist.spot_of(place.part, Head::Components, place.position);
-        draft.put("%)", &[Arg::Spot(spot)]);
+        draft.put(form, &[Path(&place.path), part, At(spot)]);
     }
 
     // Tells where the channel stands, in the outermost copy that has it.
@@ -186,18 +158,27 @@ impl Wire<'_> {
                 .netlist
                 .put_listed(draft, *part, Head::Channels, *position);
         }
-        let name = Arg::Name(self.netlist.name(*part));
+        let name = Name(self.netlist.name(*part));
         let mark = [
-            Arg::Number(self.number as usize),
-            Arg::Path(path),
+            Number(self.number as usize),
+            Path(path),
             name,
-            Arg::Number(*position),
+            Number(*position),
             name,
         ];
         if let Some(byte) = self.netlist.byte_of(*part, Head::Channels, *position) {
             let form = "channel % (% %, channel % of part %)";
             put_place(draft, self.netlist.text, byte, form, &mark);
         }
+    }
+}
+
+// The kind that brings several active ends together.
+fn mixer(kind: ChanKind) -> &'static str {
+    match kind {
+        ChanKind::Sync => "Call",
+        ChanKind::Push => "CallMux",
+        ChanKind::Pull => "CallDemux",
     }
 }
 

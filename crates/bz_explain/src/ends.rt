@@ -18,10 +18,13 @@ pub(crate) struct End {
 }
 
 /// The next component of a copy, in which a channel has this number.
-#[derive(Drop)]
+#[derive(Clone, Copy)]
 struct Cursor {
-    place: Place,
+    part: usize,
+    position: usize,
     chan: u32,
+    /// How many instances the copy is in.
+    depth: usize,
 }
 
 impl End {
@@ -37,18 +40,22 @@ pub(crate) fn ends_at(
     chan: &Place,
 ) -> Result<Vec<End>, AllocError> {
     let mut ends = Vec::new(alloc);
+    let mut path = Vec::from_slice(alloc, &chan.path)?;
     let mut rest = Vec::new(alloc);
-    let number = u32::try_from(chan.position).unwrap_or(0);
-    push_cursor(
-        &mut rest,
-        place_at(alloc, chan.part, 1, &chan.path)?,
-        number,
-    )?;
+    rest.push(Cursor {
+        part: chan.part,
+        position: 1,
+        chan: u32::try_from(chan.position).unwrap_or(0),
+        depth: path.len(),
+    })?;
     for _ in 0..MOST_LOOKS {
         let Some(cursor) = rest.pop() else {
             break;
         };
-        look(alloc, netlist, cursor, &mut rest, &mut ends)?;
+        path.truncate(cursor.depth);
+        if let Some(site) = netlist.site(cursor.part, cursor.position) {
+            look(alloc, site, cursor, &mut path, &mut rest, &mut ends)?;
+        }
         if has_two(&ends, true) || has_two(&ends, false) {
             break;
         }
@@ -62,68 +69,46 @@ pub(crate) fn has_two(ends: &[End], passive: bool) -> bool {
     of_sense.count() > 1
 }
 
-fn place_at(
-    alloc: Global,
-    part: usize,
-    position: usize,
-    path: &[usize],
-) -> Result<Place, AllocError> {
-    let path = Vec::from_slice(alloc, path)?;
-    Ok(Place {
-        part,
-        position,
-        path,
-    })
-}
-
-// Has a component looked at, before those that are due so far.
-fn push_cursor(rest: &mut Vec<Cursor>, place: Place, chan: u32) -> Result<(), AllocError> {
-    rest.push(Cursor { place, chan })?;
-    Ok(())
-}
-
 // Looks at one component: notes the ends that it has, or has its copy looked at, and then goes on behind it.
 fn look(
     alloc: Global,
-    netlist: Netlist<'_>,
+    site: Site<'_>,
     cursor: Cursor,
+    path: &mut Vec<usize>,
     rest: &mut Vec<Cursor>,
     ends: &mut Vec<End>,
 ) -> Result<(), AllocError> {
-    let Cursor { place, chan } = cursor;
-    let Some(site) = netlist.site(place.part, place.position) else {
-        return Ok(());
-    };
-    let behind = place.position.saturating_add(1);
-    push_cursor(
-        rest,
-        place_at(alloc, place.part, behind, &place.path)?,
-        chan,
-    )?;
-    if !site.has_channel(chan) {
-        return Ok(());
-    }
-    match netlist.parts.number(site.component.name.as_slice()) {
-        Some(inner) => enter(alloc, site, &place, chan, inner, rest),
-        None => note_ends(alloc, site, &place, chan, ends),
+    let named = site.named(alloc)?;
+    rest.push(Cursor {
+        position: cursor.position.saturating_add(1),
+        ..cursor
+    })?;
+    match site.netlist.parts.number(&site.component.name) {
+        _ if !named.contains(&cursor.chan) => Ok(()),
+        None => note_ends(alloc, site, cursor.chan, path, ends),
+        Some(inner) => {
+            path.push(cursor.position)?;
+            enter(inner, &named, cursor, rest)
+        }
     }
 }
 
 // Has the copy of an instance looked at, once for each of its ports that is the channel.
 fn enter(
-    alloc: Global,
-    site: Site<'_>,
-    place: &Place,
-    chan: u32,
     inner: usize,
+    named: &[u32],
+    cursor: Cursor,
     rest: &mut Vec<Cursor>,
 ) -> Result<(), AllocError> {
-    let mut path = Vec::from_slice(alloc, &place.path)?;
-    path.push(place.position)?;
     let mut port = 1u32;
-    for named in site.named(alloc)? {
-        if named == chan {
-            push_cursor(rest, place_at(alloc, inner, 1, &path)?, port)?;
+    for chan in named {
+        if *chan == cursor.chan {
+            rest.push(Cursor {
+                part: inner,
+                position: 1,
+                chan: port,
+                depth: cursor.depth.saturating_add(1),
+            })?;
         }
         port = port.saturating_add(1);
     }
@@ -134,8 +119,8 @@ fn enter(
 fn note_ends(
     alloc: Global,
     site: Site<'_>,
-    place: &Place,
     chan: u32,
+    path: &[usize],
     ends: &mut Vec<End>,
 ) -> Result<(), AllocError> {
     let Some(kind) = site.kind(alloc)? else {
@@ -144,8 +129,13 @@ fn note_ends(
     let ports = join_ports(alloc, &kind, site)?;
     for port in &ports {
         if port.chan == chan {
+            let place = Place {
+                part: site.number,
+                position: site.position,
+                path: Vec::from_slice(alloc, path)?,
+            };
             ends.push(End {
-                place: place_at(alloc, place.part, place.position, &place.path)?,
+                place,
                 kind: kind_word(&kind),
                 port: *port,
             })?;

@@ -3,10 +3,15 @@
 use crate::asked::Words;
 use crate::component_faults::{NEAREST, port_names};
 use bz_breeze::Part as PartRecord;
-use bz_model::{Chan, ChanKind, Cmd, HostCmd, NetError, Value, Verb};
-use bz_notes::{Arg, Draft};
+use bz_model::{Chan, ChanKind, Cmd, NetError, Value, Verb};
+use bz_notes::Arg::{Count, Name, Number, Text, Wide};
+use bz_notes::Draft;
 use bz_words::command;
 use std::alloc::{AllocError, Global};
+
+/// A journal without room for one entry more.
+pub(crate) const FULL: &str = "found: a journal that has as many entries as it may have\n\
+    wanted: fewer events, or --journal with a greater number, up to 16777216";
 
 /// An external port, and its channel.
 #[derive(Clone, Copy)]
@@ -24,9 +29,13 @@ pub(crate) fn explain_event(
     number: usize,
     error: NetError,
 ) {
-    if let Some(word) = words.word(number) {
-        let args = [Arg::Number(number), Arg::Text(word)];
-        explain_refused(draft, part, word, ("found: word % is %", &args), error);
+    match words.word(number) {
+        Some(_) if error == NetError::JournalFull => draft.say(FULL, &[]),
+        Some(word) => {
+            draft.put("found: word % is %", &[Number(number), Text(word)]);
+            explain_refused(draft, part, word, error);
+        }
+        None => {}
     }
 }
 
@@ -40,11 +49,11 @@ pub(crate) fn explain_session(
 ) {
     match refused_word(draft.alloc(), part, words, session, error) {
         Ok(Some((number, word))) => {
-            let args = [Arg::Number(number), Arg::Number(session), Arg::Text(word)];
-            let found = ("found: word % of session % is %", args.as_slice());
-            explain_refused(draft, part, word, found, error);
+            let args = [Number(number), Number(session), Text(word)];
+            draft.put("found: word % of session % is %", &args);
+            explain_refused(draft, part, word, error);
         }
-        Ok(None) => explain_full(draft),
+        Ok(None) => draft.say(FULL, &[]),
         Err(_) => draft.fail(),
     }
 }
@@ -71,14 +80,6 @@ fn refused_word<'t>(
     Ok(None)
 }
 
-/// A journal without room for one entry more.
-pub(crate) fn explain_full(draft: &mut Draft) {
-    draft.tell(
-        "a journal that has as many entries as it may have",
-        "fewer events, or --journal with a greater number, up to 16777216",
-    );
-}
-
 // Why a word is refused at any moment.
 fn refusal(alloc: Global, part: &PartRecord, word: &str) -> Result<Option<NetError>, AllocError> {
     match command(alloc, word)? {
@@ -88,9 +89,8 @@ fn refusal(alloc: Global, part: &PartRecord, word: &str) -> Result<Option<NetErr
 }
 
 fn refusal_of(port: Option<Outside<'_>>, verb: Verb, value: Option<Value>) -> Option<NetError> {
-    let port = match port {
-        Some(port) => port,
-        None => return Some(NetError::UnknownPort),
+    let Some(port) = port else {
+        return Some(NetError::UnknownPort);
     };
     let is_of_side = match verb {
         Verb::Offer | Verb::Collect => port.passive,
@@ -140,82 +140,68 @@ fn port_named<'t>(part: &'t PartRecord, name: &[u8]) -> Option<Outside<'t>> {
     None
 }
 
-// The notes of a word of a host, with the form and arguments that tell which one it is.
-fn explain_refused(
-    draft: &mut Draft,
-    part: &PartRecord,
-    word: &str,
-    found: (&str, &[Arg<'_>]),
-    error: NetError,
-) {
+// Goes on with why a word of a host was refused.
+fn explain_refused(draft: &mut Draft, part: &PartRecord, word: &str, error: NetError) {
     match command(draft.alloc(), word) {
-        _ if error == NetError::JournalFull => explain_full(draft),
-        Ok(Some(Cmd::Host(cmd))) => {
-            draft.put(found.0, found.1);
-            explain_host(draft, part, &cmd, error);
-        }
+        Ok(Some(Cmd::Host(cmd))) => match port_named(part, &cmd.port) {
+            None => explain_unknown(draft, part, &cmd.port),
+            Some(port) => explain_port(draft, port, cmd.verb, error),
+        },
         Ok(_) => {}
         Err(_) => draft.fail(),
-    }
-}
-
-fn explain_host(draft: &mut Draft, part: &PartRecord, cmd: &HostCmd, error: NetError) {
-    match port_named(part, &cmd.port) {
-        None => explain_unknown(draft, part, &cmd.port),
-        Some(port) => explain_port(draft, port, cmd.verb, error),
     }
 }
 
 // A port that there is not.
 fn explain_unknown(draft: &mut Draft, part: &PartRecord, name: &[u8]) {
     let names = draft.gathered(port_names(draft.alloc(), &part.ports));
-    let count = names.len();
-    draft.say(", and no port has the name %", &[Arg::Name(name)]);
-    let args = [
-        Arg::Count(count, "port", "ports"),
-        Arg::Names(&names),
-        Arg::More(count),
-    ];
-    draft.say("wanted: one of %%%", &args);
+    let args = [Name(name), Count(names.len(), "port", "ports")];
+    draft.put(", and no port has the name %\nwanted: one of %", &args);
+    draft.say_names(&names);
     draft.say_nearest(NEAREST, name, &names);
 }
 
 // A word that the port doesn't take.
 fn explain_port(draft: &mut Draft, port: Outside<'_>, verb: Verb, error: NetError) {
-    let found = match error {
-        NetError::WrongSide if port.passive => {
-            ", and port % is passive: there the host asks and the net answers"
-        }
-        NetError::WrongSide => ", and port % is active: there the net asks and the host answers",
-        NetError::ValueMissing | NetError::ValueUnwanted if port.brings(verb) => {
-            ", and port % carries a value there"
-        }
-        NetError::ValueMissing | NetError::ValueUnwanted => ", and port % carries no value there",
-        _ => ", and port % has %",
-    };
-    let width = Arg::Count(port.chan.width as usize, "bit", "bits");
-    draft.say(found, &[Arg::Name(port.name), width]);
+    let name = Name(port.name);
     match error {
-        NetError::WrongSide => put_round(draft, port),
-        NetError::ValueMissing | NetError::ValueUnwanted => put_word(draft, "wanted: ", port, verb),
-        _ => draft.put("wanted: a value up to %", &[Arg::Value(port.greatest())]),
+        NetError::WrongSide if port.passive => {
+            let found =
+                ", and port % is passive: there the host asks and the net answers\nwanted: ";
+            draft.put(found, &[name]);
+            put_round(draft, port, Verb::Offer, Verb::Collect);
+        }
+        NetError::WrongSide => {
+            let found = ", and port % is active: there the net asks and the host answers\nwanted: ";
+            draft.put(found, &[name]);
+            put_round(draft, port, Verb::Accept, Verb::Answer);
+        }
+        NetError::ValueMissing | NetError::ValueUnwanted => {
+            let value = if port.brings(verb) { "a" } else { "no" };
+            draft.put(
+                ", and port % carries % value there\nwanted: ",
+                &[name, Text(value)],
+            );
+            put_word(draft, port, verb);
+        }
+        _ => {
+            let width = Count(port.chan.width as usize, "bit", "bits");
+            let args = [name, width, Wide(port.greatest())];
+            draft.put(", and port % has %\nwanted: a value up to %", &args);
+        }
     }
     draft.say("", &[]);
 }
 
 // Goes on with the words of a whole handshake at a port.
-fn put_round(draft: &mut Draft, port: Outside<'_>) {
-    let (first, second) = if port.passive {
-        (Verb::Offer, Verb::Collect)
-    } else {
-        (Verb::Accept, Verb::Answer)
-    };
-    put_word(draft, "wanted: ", port, first);
-    put_word(draft, ", and then ", port, second);
+fn put_round(draft: &mut Draft, port: Outside<'_>, first: Verb, second: Verb) {
+    put_word(draft, port, first);
+    draft.put(", and then ", &[]);
+    put_word(draft, port, second);
 }
 
 // Goes on with a word at a port: `answer:i:V with V below 2^8`.
-fn put_word<'a>(draft: &mut Draft, before: &'a str, port: Outside<'a>, verb: Verb) {
+fn put_word(draft: &mut Draft, port: Outside<'_>, verb: Verb) {
     let verb_text = match verb {
         Verb::Offer => "offer",
         Verb::Collect => "collect",
@@ -223,16 +209,11 @@ fn put_word<'a>(draft: &mut Draft, before: &'a str, port: Outside<'a>, verb: Ver
         Verb::Answer => "answer",
         Verb::Watch => "watch",
     };
-    let args = [
-        Arg::Text(before),
-        Arg::Text(verb_text),
-        Arg::Name(port.name),
-        Arg::Number(port.chan.width as usize),
-    ];
+    let width = Number(port.chan.width as usize);
     let form = if port.brings(verb) {
-        "%%:%:V with V below 2^%"
+        "%:%:V with V below 2^%"
     } else {
-        "%%:%"
+        "%:%"
     };
-    draft.put(form, &args);
+    draft.put(form, &[Text(verb_text), Name(port.name), width]);
 }

@@ -4,7 +4,7 @@ use crate::site::Site;
 use bz_breeze::Slot;
 use bz_kind_table::{PortRow, port_table};
 use bz_model::{ChanKind, Kind};
-use bz_notes::Arg;
+use bz_notes::Arg::{self, Number, Text};
 use std::alloc::{AllocError, Global};
 
 /// A port of a component, and the number of the channel that its entry names.
@@ -20,10 +20,10 @@ impl Joined {
     /// The name of its row, and its place in its array.
     pub(crate) fn name(self) -> (Arg<'static>, Arg<'static>) {
         let member = match self.member {
-            Some(member) => Arg::Number(member),
-            None => Arg::Text(""),
+            Some(member) => Number(member),
+            None => Text(""),
         };
-        (Arg::Text(self.row.name), member)
+        (Text(self.row.name), member)
     }
 }
 

@@ -4,38 +4,34 @@ use crate::component_faults::kind_text;
 use crate::joined::Joined;
 use bz_kind_table::{PortRow, kind_word, port_table};
 use bz_model::{ChanKind, Kind};
-use bz_notes::{Arg, Draft};
+use bz_notes::Arg::{self, Bytes, Count, Text};
+use bz_notes::Draft;
 
-// What stands in front of the word of a kind: `a Fetch`, `an Arbiter`.
-fn article(kind: &Kind) -> &'static str {
-    match kind {
+// A kind's article and word: `a Fetch`, `an Arbiter`.
+fn word_of(kind: &Kind) -> (Arg<'static>, Arg<'static>) {
+    let article = match kind {
         Kind::Arbiter | Kind::Adapt { .. } => "an",
         _ => "a",
-    }
+    };
+    (Text(article), Bytes(kind_word(kind)))
 }
 
 /// Tells the entries that a kind takes: how many, and its ports in their order.
 pub(crate) fn put_row(draft: &mut Draft, kind: &Kind) {
     let rows = port_table(kind);
     let lists = rows.iter().filter(|row| row.array).count();
-    let args = [
-        Arg::Text(article(kind)),
-        Arg::Bytes(kind_word(kind)),
-        Arg::Count(
-            rows.len().saturating_sub(lists),
-            "single entry",
-            "single entries",
-        ),
-        Arg::Count(lists, "list", "lists"),
-    ];
+    let singles = rows.len().saturating_sub(lists);
+    let singles = Count(singles, "single entry", "single entries");
+    let (article, word) = word_of(kind);
+    let args = [article, word, singles, Count(lists, "list", "lists")];
     draft.put("wanted: for % % % and %", &args);
     let mut before = ": (";
     for row in rows {
         let form = if row.array { "%(%1 ..)" } else { "%%" };
-        draft.put(form, &[Arg::Text(before), Arg::Text(row.name)]);
+        draft.put(form, &[Text(before), Text(row.name)]);
         before = " ";
     }
-    draft.say(")%", &[Arg::Text(list_rule(kind))]);
+    draft.say(")%", &[Text(list_rule(kind))]);
 }
 
 // What the lists of a kind have to be beside their number.
@@ -52,18 +48,13 @@ pub(crate) fn put_kind(draft: &mut Draft, kind: &Kind, port: Joined) {
     let row = port.row;
     let is_input = row.name == "inp" && row.kind == ChanKind::Pull && !row.passive;
     let (name, member) = if is_input && port.member.is_none() {
-        (Arg::Text("its input"), Arg::Text(""))
+        (Text("its input"), Text(""))
     } else {
         port.name()
     };
-    let args = [
-        Arg::Text(kind_text(row.kind)),
-        Arg::Text(article(kind)),
-        Arg::Bytes(kind_word(kind)),
-        Arg::Text(deed(row)),
-        name,
-        member,
-    ];
+    let (article, word) = word_of(kind);
+    let (carried, deed) = (Text(kind_text(row.kind)), Text(deed(row)));
+    let args = [carried, article, word, deed, name, member];
     draft.say("wanted: a % channel: % % % %%", &args);
 }
 
@@ -81,12 +72,8 @@ fn deed(row: PortRow) -> &'static str {
 
 /// Tells what widths a kind asks for.
 pub(crate) fn put_widths_wanted(draft: &mut Draft, kind: &Kind) {
-    let args = [
-        Arg::Text(width_rule(kind)),
-        Arg::Text(article(kind)),
-        Arg::Bytes(kind_word(kind)),
-    ];
-    draft.say("wanted: % % %", &args);
+    let (article, word) = word_of(kind);
+    draft.say("wanted: % % %", &[Text(width_rule(kind)), article, word]);
 }
 
 fn width_rule(kind: &Kind) -> &'static str {
@@ -102,13 +89,8 @@ fn width_rule(kind: &Kind) -> &'static str {
     }
 }
 
-/// Tells the parameters that the kind of this name takes.
-pub(crate) fn put_params_wanted(draft: &mut Draft, name: &[u8]) {
-    let args = [Arg::Name(name), Arg::Text(params_rule(name))];
-    draft.say("wanted: for % %", &args);
-}
-
-fn params_rule(name: &[u8]) -> &'static str {
+/// The parameters that the kind of this name takes.
+pub(crate) fn params_rule(name: &[u8]) -> &'static str {
     for (kind, rule) in &RULES {
         if kind.as_bytes() == name {
             return rule;

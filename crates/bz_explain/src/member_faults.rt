@@ -1,20 +1,14 @@
 //! Members of a part's forms that are at fault.
 
-use crate::datum::put_datum;
+use crate::datum::say_datum;
 use crate::part_faults::Wrong;
-use crate::seat::{Head, Members, Which, find, find_named, headed, inside, is_chan, name_in};
+use crate::seat::{
+    Head, Members, Which, find, find_named, headed, inside, is_chan, members_of, name_in, nth,
+};
 use bz_model::MAX_WIDTH;
-use bz_notes::{Arg, Draft, spot_of};
+use bz_notes::Arg::{At, Name, Number, Wide};
+use bz_notes::{Draft, spot_of};
 use bz_sexpr::{Form, Forms, Leaf, Shape};
-
-const PORTS: &str =
-    "wanted: (port \"NAME\" SENSE) or (sync-port \"NAME\" SENSE), SENSE active or passive";
-
-const CHANNELS: &str = "wanted: (sync), (push W) or (pull W), W from 1 to 128";
-
-const COMPONENTS: &str = "wanted: (component \"NAME\" (PARAMETERS) (ENTRIES)), with both lists";
-
-const ENTRIES: &str = "wanted: for each entry the number of a channel, or a list of such numbers";
 
 /// What is found of a member.
 #[derive(Clone, Copy)]
@@ -25,159 +19,135 @@ enum Found<'t> {
     Head(&'t [u8]),
     /// A width that is out of bounds.
     Width(u128),
-    /// Its form is right: what is wrong is its name, or one of these entries.
-    Right(Forms<'t>),
+    /// The name of an earlier port.
+    Taken,
+    /// Something else among these entries.
+    Entries(Forms<'t>),
 }
 
-fn put_found(draft: &mut Draft, found: Found<'_>) {
-    match found {
-        Found::Other(form, belongs) => {
-            draft.put("found: ", &[]);
-            put_datum(draft, form);
-            draft.say(belongs, &[]);
+/// A member of a form that has none of the shapes, the name of an earlier port, or a width that is out of bounds.
+pub(crate) fn explain_member(draft: &mut Draft, part: Wrong<'_>, head: Head, member: Form<'_>) {
+    let wanted = match head {
+        Head::Ports => {
+            "wanted: (port \"NAME\" SENSE) or (sync-port \"NAME\" SENSE), SENSE active or passive"
         }
-        Found::Head(head) => draft.say("found: the head %", &[Arg::Name(head)]),
-        Found::Width(width) => draft.say("found: width %", &[Arg::Value(width)]),
-        Found::Right(_) => {}
+        Head::Channels => "wanted: (sync), (push W) or (pull W), W from 1 to 128",
+        Head::Components => {
+            "wanted: (component \"NAME\" (PARAMETERS) (ENTRIES)), with both lists"
+        }
+    };
+    match found_in(head, member) {
+        Found::Other(form, belongs) => say_datum(draft, "found: ", form, belongs),
+        Found::Head(head) => draft.say("found: the head %", &[Name(head)]),
+        Found::Width(width) => return explain_width(draft, width),
+        Found::Taken => return explain_taken(draft, part, member),
+        Found::Entries(entries) => return explain_entries(draft, entries),
     }
+    draft.say(wanted, &[]);
 }
 
-// What stands behind the head of a member, which is one of two.
-fn behind<'t>(member: Form<'t>, one: &str, other: &str) -> Result<Forms<'t>, Found<'t>> {
+fn found_in(head: Head, member: Form<'_>) -> Found<'_> {
     let Some(items) = inside(member) else {
-        return Err(Found::Other(Some(member), ""));
+        return Found::Other(Some(member), "");
     };
     match headed(items) {
-        None => Err(Found::Other(first(items), " where its head belongs")),
-        Some((head, rest)) if head == one.as_bytes() || head == other.as_bytes() => Ok(rest),
-        Some((head, _)) => Err(Found::Head(head)),
+        None => Found::Other(nth(items, 1), " where its head belongs"),
+        Some((word, _)) if !may_head(head, word) => Found::Head(word),
+        Some((_, rest)) => match head {
+            Head::Ports => port_found(rest),
+            Head::Channels => channel_found(rest),
+            Head::Components => component_found(member, rest),
+        },
     }
 }
 
-/// A port that has none of the shapes, or the name of an earlier one.
-pub(crate) fn explain_port(draft: &mut Draft, part: Wrong<'_>, member: Form<'_>) {
-    let found = match behind(member, "port", "sync-port") {
-        Ok(rest) => port_found(rest),
-        Err(found) => found,
+// Whether a member that has none of the shapes may have this head.
+fn may_head(head: Head, word: &[u8]) -> bool {
+    let (one, other) = match head {
+        Head::Ports => ("port", "sync-port"),
+        Head::Channels => ("push", "pull"),
+        Head::Components => ("component", "component"),
     };
-    match found {
-        Found::Right(_) => explain_taken(draft, part, member),
-        found => {
-            put_found(draft, found);
-            draft.say(PORTS, &[]);
-        }
-    }
+    word == one.as_bytes() || word == other.as_bytes()
 }
 
 fn port_found(rest: Forms<'_>) -> Found<'_> {
-    let sense = second(rest);
-    match leaf(first(rest)) {
-        Some(Leaf::Text(_)) if is_sense(sense) => Found::Right(rest),
-        Some(Leaf::Text(_)) => Found::Other(sense, " where its sense belongs"),
-        _ => Found::Other(first(rest), " where its name belongs"),
+    let (name, sense) = (nth(rest, 1), nth(rest, 2));
+    match (leaf(name), leaf(sense)) {
+        (Some(Leaf::Text(_)), Some(Leaf::Symbol(sense))) if is_sense(sense) => Found::Taken,
+        (Some(Leaf::Text(_)), _) => Found::Other(sense, " where its sense belongs"),
+        _ => Found::Other(name, " where its name belongs"),
     }
+}
+
+fn is_sense(word: &[u8]) -> bool {
+    word == b"active".as_slice() || word == b"passive".as_slice()
+}
+
+fn channel_found(rest: Forms<'_>) -> Found<'_> {
+    let width = nth(rest, 1);
+    match leaf(width) {
+        Some(Leaf::Num(width)) => Found::Width(width),
+        _ => Found::Other(width, " where its width belongs"),
+    }
+}
+
+fn component_found<'t>(member: Form<'t>, rest: Forms<'t>) -> Found<'t> {
+    let (name, params, entries) = (nth(rest, 1), nth(rest, 2), nth(rest, 3));
+    let is_named = matches!(leaf(name), Some(Leaf::Text(_)));
+    match (list(params), list(entries)) {
+        _ if name.is_some() && !is_named => Found::Other(name, " where its name belongs"),
+        _ if entries.is_none() => Found::Other(Some(member), ""),
+        (None, _) => Found::Other(params, " where its parameters belong"),
+        (_, None) => Found::Other(entries, " where its entries belong"),
+        (_, Some(entries)) => Found::Entries(entries),
+    }
+}
+
+fn explain_width(draft: &mut Draft, width: u128) {
+    let args = [Wide(width), Number(MAX_WIDTH as usize)];
+    draft.say("found: width %\nwanted: a width from 1 to %", &args);
 }
 
 // A port whose name an earlier port has.
 fn explain_taken(draft: &mut Draft, part: Wrong<'_>, member: Form<'_>) {
-    if let (Some(name), Some(ports)) = (name_in(member, None), part.form.members(Head::Ports)) {
+    if let (Some(name), Some(ports)) = (
+        name_in(member, None),
+        members_of(part.items, Head::Ports),
+    ) {
         let name = draft.gathered(name.bytes(draft.alloc()));
         if let Some((number, earlier)) = find_named(draft, ports, None, &name) {
-            let spot = spot_of(part.text, earlier.span().from);
-            let args = [Arg::Name(&name), Arg::Number(number), Arg::Spot(Some(spot))];
+            let at = At(Some(spot_of(part.text, earlier.span().from)));
+            let args = [Name(&name), Number(number), at];
             draft.say("found: the name %, which port % has too (%)", &args);
         }
     }
     draft.say("wanted: a name of its own for each port of a part", &[]);
 }
 
-// Whether a datum is one of the two senses.
-fn is_sense(form: Option<Form<'_>>) -> bool {
-    match leaf(form) {
-        Some(Leaf::Symbol(sense)) => {
-            sense == b"active".as_slice() || sense == b"passive".as_slice()
-        }
-        _ => false,
-    }
-}
-
-/// A channel that has none of the shapes, or a width that is out of bounds.
-pub(crate) fn explain_channel(draft: &mut Draft, member: Form<'_>) {
-    let found = match behind(member, "push", "pull") {
-        Ok(rest) => channel_found(rest),
-        Err(found) => found,
-    };
-    put_found(draft, found);
-    let wanted = match found {
-        Found::Width(_) => "wanted: a width from 1 to %",
-        _ => CHANNELS,
-    };
-    draft.say(wanted, &[Arg::Value(u128::from(MAX_WIDTH))]);
-}
-
-fn channel_found(rest: Forms<'_>) -> Found<'_> {
-    match leaf(first(rest)) {
-        Some(Leaf::Num(width)) => Found::Width(width),
-        _ => Found::Other(first(rest), " where its width belongs"),
-    }
-}
-
-/// A component that has none of the shapes.
-pub(crate) fn explain_component(draft: &mut Draft, member: Form<'_>) {
-    let found = match behind(member, "component", "component") {
-        Ok(rest) => component_found(member, rest),
-        Err(found) => found,
-    };
-    match found {
-        Found::Right(entries) => explain_entries(draft, entries),
-        found => {
-            put_found(draft, found);
-            draft.say(COMPONENTS, &[]);
-        }
-    }
-}
-
-// What is found behind the head of a component.
-fn component_found<'t>(member: Form<'t>, rest: Forms<'t>) -> Found<'t> {
-    let (name, params, entries) = (first(rest), second(rest), third(rest));
-    match (leaf(name), list(params), list(entries)) {
-        (Some(Leaf::Text(_)), Some(_), Some(entries)) => Found::Right(entries),
-        (Some(Leaf::Text(_)), _, _) if entries.is_none() => Found::Other(Some(member), ""),
-        (Some(Leaf::Text(_)), None, _) => Found::Other(params, " where its parameters belong"),
-        (Some(Leaf::Text(_)), _, _) => Found::Other(entries, " where its entries belong"),
-        _ if name.is_none() => Found::Other(Some(member), ""),
-        _ => Found::Other(name, " where its name belongs"),
-    }
-}
-
 // The first entry that is neither the number of a channel nor a list of such numbers.
 fn explain_entries(draft: &mut Draft, entries: Forms<'_>) {
-    if let Some((number, wrong, form)) = wrong_entry(entries) {
-        draft.put(form, &[Arg::Number(number)]);
-        put_datum(draft, Some(wrong));
-        draft.say("", &[]);
-    }
-    draft.say(ENTRIES, &[]);
-}
-
-// Its number, what is wrong with it, and how that is told.
-fn wrong_entry(entries: Forms<'_>) -> Option<(usize, Form<'_>, &'static str)> {
     for (number, entry) in Members::of(entries) {
         if let Some((wrong, form)) = wrong_in(entry) {
-            return Some((number, wrong, form));
+            draft.put("found: entry %", &[Number(number)]);
+            say_datum(draft, form, Some(wrong), "");
+            break;
         }
     }
-    None
+    draft.say(
+        "wanted: for each entry the number of a channel, or a list of such numbers",
+        &[],
+    );
 }
 
 fn wrong_in(entry: Form<'_>) -> Option<(Form<'_>, &'static str)> {
     match inside(entry) {
         Some(members) => {
             let (_, wrong) = find(members, Which::NoChannel)?;
-            Some((wrong, "found: entry % has "))
+            Some((wrong, " has "))
         }
         None if is_chan(entry) => None,
-        None => Some((entry, "found: entry % is ")),
+        None => Some((entry, " is ")),
     }
 }
 
@@ -190,19 +160,4 @@ fn leaf(form: Option<Form<'_>>) -> Option<Leaf<'_>> {
 
 fn list(form: Option<Form<'_>>) -> Option<Forms<'_>> {
     inside(form?)
-}
-
-fn first(forms: Forms<'_>) -> Option<Form<'_>> {
-    let (first, _) = forms.split_first()?;
-    Some(first)
-}
-
-fn second(forms: Forms<'_>) -> Option<Form<'_>> {
-    let (_, behind) = forms.split_first()?;
-    first(behind)
-}
-
-fn third(forms: Forms<'_>) -> Option<Form<'_>> {
-    let (_, behind) = forms.split_first()?;
-    second(behind)
 }

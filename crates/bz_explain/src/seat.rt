@@ -4,18 +4,11 @@ use bz_notes::Draft;
 use bz_sexpr::{Form, Forms, Leaf, Shape, Span, Text};
 
 /// The three forms of a part.
-#[derive(Clone, Copy, Debug, PartialEq, Eq)]
+#[derive(Clone, Copy, PartialEq, Eq)]
 pub(crate) enum Head {
     Ports,
     Channels,
     Components,
-}
-
-/// A part of the text: its piece of it, and what follows its head.
-#[derive(Clone, Copy)]
-pub(crate) struct PartForm<'t> {
-    pub(crate) span: Span,
-    pub(crate) items: Forms<'t>,
 }
 
 /// What stands at a byte.
@@ -83,48 +76,32 @@ impl Head {
     }
 }
 
-impl<'t> PartForm<'t> {
-    /// The part that a datum at top level is.
-    pub(crate) fn of(form: Form<'t>) -> Option<PartForm<'t>> {
-        let (head, items) = headed(inside(form)?)?;
-        if head != b"breeze-part".as_slice() {
-            return None;
-        }
-        Some(PartForm {
-            span: form.span(),
-            items,
-        })
+/// What follows the head of a part, where a datum at top level is one.
+pub(crate) fn part_items(form: Form<'_>) -> Option<Forms<'_>> {
+    match headed(inside(form)?)? {
+        (head, items) if head == b"breeze-part".as_slice() => Some(items),
+        _ => None,
     }
+}
 
-    /// Its first form of this head.
-    pub(crate) fn form(self, head: Head) -> Option<Form<'t>> {
-        let (_, form) = find(self.items, Which::Headed(head))?;
-        Some(form)
-    }
+/// The members of the first form of this head in a part.
+pub(crate) fn members_of(part: Forms<'_>, head: Head) -> Option<Forms<'_>> {
+    let (_, form) = find(part, Which::Headed(head))?;
+    let (_, members) = headed(inside(form)?)?;
+    Some(members)
+}
 
-    /// The members of that form.
-    pub(crate) fn members(self, head: Head) -> Option<Forms<'t>> {
-        let (_, members) = headed(inside(self.form(head)?)?)?;
-        Some(members)
-    }
-
-    /// A member of that form, counted from 1.
-    pub(crate) fn member(self, head: Head, number: usize) -> Option<Form<'t>> {
-        let (_, member) = find(self.members(head)?, Which::Number(number))?;
-        Some(member)
-    }
-
-    // What stands at a byte of it.
-    fn seat(self, at: usize) -> Option<Seat<'t>> {
-        if self.span.from == at {
-            return Some(Seat::Part);
-        }
-        match find(self.items, Which::Holding(at)) {
-            None => Some(Seat::End),
-            Some((1, item)) if item.span().from == at => Some(Seat::Name),
-            Some((_, item)) => seat_in(item, at),
-        }
-    }
+/// The part at a byte, and what stands there.
+pub(crate) fn seat_at(netlist: Forms<'_>, at: usize) -> Option<(Forms<'_>, Seat<'_>)> {
+    let (_, form) = find(netlist, Which::Holding(at))?;
+    let part = part_items(form)?;
+    let seat = match find(part, Which::Holding(at)) {
+        _ if form.span().from == at => Seat::Part,
+        Some((1, item)) if item.span().from == at => Seat::Name,
+        Some((_, item)) => seat_in(item, at)?,
+        None => Seat::End,
+    };
+    Some((part, seat))
 }
 
 // What stands at a byte of a form of a part.
@@ -137,20 +114,13 @@ fn seat_in(item: Form<'_>, at: usize) -> Option<Seat<'_>> {
     Some(Seat::Member(head, number.saturating_sub(1), member))
 }
 
-/// The part at a byte, and what stands there.
-pub(crate) fn seat_at(netlist: Forms<'_>, at: usize) -> Option<(PartForm<'_>, Seat<'_>)> {
-    let (_, form) = find(netlist, Which::Holding(at))?;
-    let part = PartForm::of(form)?;
-    Some((part, part.seat(at)?))
-}
-
 /// The part of a number, counted from 0 in the order of the text.
-pub(crate) fn part_form(netlist: Forms<'_>, number: usize) -> Option<PartForm<'_>> {
+pub(crate) fn part_form(netlist: Forms<'_>, number: usize) -> Option<Form<'_>> {
     let mut before = 0usize;
     for (_, form) in Members::of(netlist) {
-        if let Some(part) = PartForm::of(form) {
+        if part_items(form).is_some() {
             if before == number {
-                return Some(part);
+                return Some(form);
             }
             before = before.saturating_add(1);
         }
@@ -166,6 +136,12 @@ pub(crate) fn find(data: Forms<'_>, which: Which) -> Option<(usize, Form<'_>)> {
         }
     }
     None
+}
+
+/// A datum by its number, from 1.
+pub(crate) fn nth(data: Forms<'_>, number: usize) -> Option<Form<'_>> {
+    let (_, form) = find(data, Which::Number(number))?;
+    Some(form)
 }
 
 fn is_sought(form: Form<'_>, number: usize, which: Which) -> bool {

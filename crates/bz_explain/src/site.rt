@@ -1,11 +1,12 @@
 //! A netlist that was read, and where its records stand.
 
-use crate::seat::{Head, part_form};
+use crate::seat::{Head, members_of, nth, part_form, part_items};
 use crate::source::put_place;
 use bz_breeze::{Component, Part as PartRecord, Parts, Slot};
 use bz_kind_table::{KindError, kind_of};
 use bz_model::{Chan, Kind, Port};
-use bz_notes::{Arg, Draft, Spot, spot_of};
+use bz_notes::Arg::{Name, Number, Text};
+use bz_notes::{Draft, Spot, spot_of};
 use bz_places::Place;
 use bz_sexpr::Forms;
 use std::alloc::{AllocError, Global};
@@ -54,23 +55,19 @@ impl<'t> Netlist<'t> {
 
     /// The byte at which a part begins.
     pub(crate) fn byte_of_part(self, number: usize) -> Option<usize> {
-        let part = part_form(self.data, number)?;
-        Some(part.span.from)
+        Some(part_form(self.data, number)?.span().from)
     }
 
     /// The byte at which a record of a part begins.
     pub(crate) fn byte_of(self, number: usize, head: Head, position: usize) -> Option<usize> {
-        let record = part_form(self.data, number)?.member(head, position)?;
-        Some(record.span().from)
+        let part = part_items(part_form(self.data, number)?)?;
+        Some(nth(members_of(part, head)?, position)?.span().from)
     }
 
     /// Tells where a record of a part stands, by what it is there.
     pub(crate) fn put_listed(self, draft: &mut Draft, number: usize, head: Head, position: usize) {
-        let mark = [
-            Arg::Text(head.member()),
-            Arg::Number(position),
-            Arg::Name(self.name(number)),
-        ];
+        let name = Name(self.name(number));
+        let mark = [Text(head.member()), Number(position), name];
         if let Some(byte) = self.byte_of(number, head, position) {
             put_place(draft, self.text, byte, "% % of part %", &mark);
         }
@@ -122,39 +119,15 @@ impl<'t> Site<'t> {
         Ok(named)
     }
 
-    /// Whether one of them is this channel.
-    pub(crate) fn has_channel(self, chan: u32) -> bool {
-        for entry in &self.component.entries {
-            let found = match entry {
-                Slot::One(named) => *named == chan,
-                Slot::Many(chans) => chans.contains(&chan),
-            };
-            if found {
-                return true;
-            }
-        }
-        false
-    }
-
     /// How many of its entries are lists.
     pub(crate) fn lists(self) -> usize {
-        self.component
-            .entries
-            .iter()
-            .filter(|entry| is_list(entry))
-            .count()
+        let lists = self.component.entries.iter();
+        lists.filter(|entry| matches!(entry, Slot::Many(_))).count()
     }
 
     /// The channel of its part of a number, from 1.
     pub(crate) fn channel(self, number: u32) -> Option<Chan> {
         let place = (number as usize).checked_sub(1)?;
         self.part.channels.get(place).copied()
-    }
-}
-
-fn is_list(entry: &Slot) -> bool {
-    match entry {
-        Slot::One(_) => false,
-        Slot::Many(_) => true,
     }
 }

@@ -1,6 +1,7 @@
 //! The line of the text at which something stands, with a caret below it.
 
-use bz_notes::{Arg, Draft, before_in_line, spot_of};
+use bz_notes::Arg::{self, At, Blanks, Bytes, Number, Text};
+use bz_notes::{Draft, before_in_line, spot_of};
 
 /// The most bytes of a line that are shown.
 const MOST_SHOWN: usize = 100;
@@ -24,19 +25,19 @@ struct Window<'t> {
 /// Tells where a byte of the text stands: its line and column, then the line itself, and below it a caret with what stands
 /// there, by a form.
 pub(crate) fn put_place(draft: &mut Draft, text: &[u8], at: usize, mark: &str, args: &[Arg<'_>]) {
+    put_source(draft, text, at);
+    draft.say(mark, args);
+}
+
+fn put_source(draft: &mut Draft, text: &[u8], at: usize) {
     let spot = spot_of(text, at);
     let window = window_of(text, at);
-    draft.say("at %", &[Arg::Spot(Some(spot))]);
-    draft.put("%", &[Arg::Number(spot.line)]);
+    let (before, behind) = (Text(window.before), Text(window.behind));
+    draft.put("at %\n%", &[At(Some(spot)), Number(spot.line)]);
     let digits = draft.width();
-    let shown = [
-        Arg::Text(window.before),
-        Arg::Bytes(window.shown),
-        Arg::Text(window.behind),
-    ];
-    draft.say(" | %%%", &shown);
-    draft.put("% | %^ ", &[Arg::Blanks(digits), Arg::Blanks(window.caret)]);
-    draft.say(mark, args);
+    let shown = Bytes(window.shown);
+    let (margin, caret) = (Blanks(digits), Blanks(window.caret));
+    draft.put(" | %%%\n% | %^ ", &[before, shown, behind, margin, caret]);
 }
 
 // The piece of the line of a byte that is shown.

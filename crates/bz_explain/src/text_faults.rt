@@ -6,33 +6,32 @@ use bz_sexpr::SexprError;
 
 /// The notes of a text that is refused.
 pub(crate) fn explain_text(draft: &mut Draft, text: &[u8], error: SexprError) {
-    let (at, mark, found, wanted) = match error {
+    let (at, told) = match error {
         SexprError::StrayClose(at) => (
             at,
-            "this parenthesis closes nothing",
-            "a closing parenthesis where no list is open",
-            "as many closing parentheses as opening ones",
+            "this parenthesis closes nothing\n\
+            found: a closing parenthesis where no list is open\n\
+            wanted: as many closing parentheses as opening ones",
         ),
         SexprError::UnclosedText(at) => (
             at,
-            "this quote opens a text",
-            "the netlist ends before the text does",
-            "a closing quote, probably on this line",
+            "this quote opens a text\n\
+            found: the netlist ends before the text does\n\
+            wanted: a closing quote, probably on this line",
         ),
         SexprError::UnclosedList(at) => (
             at,
-            "this parenthesis opens a list",
-            "the netlist ends before the list does",
-            "a closing parenthesis for each opening one",
+            "this parenthesis opens a list\n\
+            found: the netlist ends before the list does\n\
+            wanted: a closing parenthesis for each opening one",
         ),
         SexprError::TooDeep(at) => (
             at,
-            "this parenthesis opens a list in 256 others",
-            "a list of the 257th level",
-            "lists of at most 256 levels",
+            "this parenthesis opens a list in 256 others\n\
+            found: a list of the 257th level\n\
+            wanted: lists of at most 256 levels",
         ),
         SexprError::Memory => return,
     };
-    put_place(draft, text, at, mark, &[]);
-    draft.tell(found, wanted);
+    put_place(draft, text, at, told, &[]);
 }

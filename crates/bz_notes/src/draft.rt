@@ -1,6 +1,6 @@
 //! The notes of a fault while they are gathered.
 
-use crate::form::{Arg, put_form};
+use crate::arg::{Arg, MOST_LISTED, put_arg, put_names};
 use crate::nearest::nearest;
 use crate::notes::Note;
 use std::alloc::{AllocError, Global};
@@ -61,26 +61,41 @@ impl Draft {
         }
     }
 
-    /// Goes on with the line: with a form, in which the next argument stands for each `%`.
+    /// Goes on with a form: each `%` in it is the next argument, and each `\n` ends a note.
     pub fn put(&mut self, form: &str, args: &[Arg<'_>]) {
-        if !put_form(&mut self.line, form, args) {
-            self.fail();
+        let mut next = 0usize;
+        for byte in form.as_bytes() {
+            match *byte {
+                b'\n' => self.end(),
+                b'%' => {
+                    self.put_next(args.get(next));
+                    next = next.saturating_add(1);
+                }
+                _ => self.put_byte(*byte),
+            }
         }
     }
 
-    /// The same, and ends the line.
+    /// The same, and ends the note.
     pub fn say(&mut self, form: &str, args: &[Arg<'_>]) {
         self.put(form, args);
-        let letters = mem::replace(&mut self.line, Vec::new(self.alloc));
-        if self.notes.push(Note { letters }).is_err() {
+        self.end();
+    }
+
+    /// Goes on with the first ten of these names, behind a colon: `: a b`.
+    pub fn put_names(&mut self, names: &[&[u8]]) {
+        if !put_names(&mut self.line, names) {
             self.fail();
         }
     }
 
-    /// What stands there and what belongs there, in words alone.
-    pub fn tell(&mut self, found: &str, wanted: &str) {
-        self.say("found: %", &[Arg::Text(found)]);
-        self.say("wanted: %", &[Arg::Text(wanted)]);
+    /// The same, tells how many names there are beside these, if any, and ends the note.
+    pub fn say_names(&mut self, names: &[&[u8]]) {
+        self.put_names(names);
+        match names.len().checked_sub(MOST_LISTED) {
+            Some(more) if more > 0 => self.say(" and % more", &[Arg::Number(more)]),
+            _ => self.end(),
+        }
     }
 
     /// Tells by a form which of several names was probably meant, where one is near enough.
@@ -89,6 +104,27 @@ impl Draft {
             Ok(Some(name)) => self.say(form, &[Arg::Name(name)]),
             Ok(None) => {}
             Err(_) => self.fail(),
+        }
+    }
+
+    fn put_byte(&mut self, byte: u8) {
+        if self.line.push(byte).is_err() {
+            self.fail();
+        }
+    }
+
+    fn put_next(&mut self, arg: Option<&Arg<'_>>) {
+        if let Some(arg) = arg {
+            if !put_arg(&mut self.line, *arg) {
+                self.fail();
+            }
+        }
+    }
+
+    fn end(&mut self) {
+        let letters = mem::replace(&mut self.line, Vec::new(self.alloc));
+        if self.notes.push(Note { letters }).is_err() {
+            self.fail();
         }
     }
 }

@@ -2,16 +2,16 @@
 //! them.
 #![tactic(auto)]
 
+mod arg;
 mod draft;
-mod form;
 mod keeping;
 mod nearest;
 mod notes;
 mod spot;
 mod telling;
 
+pub use arg::Arg;
 pub use draft::Draft;
-pub use form::Arg;
 pub use keeping::Keeping;
 pub use spot::{Spot, before_in_line, spot_of};
 pub use telling::{tell, tell_notes};
