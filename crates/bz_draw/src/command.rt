@@ -1,12 +1,13 @@
 //! The command `draw`.
 
-ghost use Rattle.bz_input.specs.Reading.{ReadsWithin};
+ghost use Rattle.bz_commands.specs.Reading.{ReadsWithin};
 
-use crate::drawing::drawing_of;
+use crate::drawing::{Drawing, drawing_of};
 use crate::graph::put_graph;
-use bz_input::{Fault, read_input};
+use crate::text::Text;
+use bz_commands::{Fault, read_input};
 use bz_lines::{Part, put_parts};
-use bz_look::survey_of;
+use bz_look::{Survey, survey_of};
 use std::alloc::Global;
 use std::io::{Read, Write};
 
@@ -26,7 +27,7 @@ pub fn draw_cmd<R: Read, W: Write>(
     draw_text(alloc, part, depth, text.as_slice(), output)
 }
 
-// Draws the net of a part of the text. The drawing is made whole before any of it goes out.
+// Draws the net of a part of the text.
 fn draw_text<W: Write>(
     alloc: Global,
     part: &[u8],
@@ -36,11 +37,24 @@ fn draw_text<W: Write>(
 ) -> Result<(), Fault> {
     let survey = survey_of(alloc, part, text)?;
     let drawing = drawing_of(alloc, &survey, depth)?;
-    let mut graph = Vec::new(alloc);
-    if put_graph(alloc, &mut graph, part, &survey, &drawing).is_err() {
-        return Err(Fault::Memory);
-    }
-    put_parts(output, &[Part::Bytes(graph.as_slice())])?;
+    write_graph(alloc, part, &survey, &drawing, output)
+}
+
+// The graph is made whole before any of it goes out.
+fn write_graph<W: Write>(
+    alloc: Global,
+    part: &[u8],
+    survey: &Survey,
+    drawing: &Drawing,
+    output: &mut W,
+) -> Result<(), Fault> {
+    let mut text = Text::new(alloc);
+    put_graph(&mut text, part, survey, drawing);
+    write_text(&text, output)
+}
+
+fn write_text<W: Write>(text: &Text, output: &mut W) -> Result<(), Fault> {
+    put_parts(output, &[Part::Bytes(text.whole()?)])?;
     match output.flush() {
         Ok(()) => Ok(()),
         Err(_) => Err(Fault::Write),

@@ -149,15 +149,22 @@ fn fitting_depth(places: &Places, deepest: usize) -> usize {
 }
 
 fn node_count(places: &Places, depth: usize) -> usize {
-    let comps = places
-        .comps()
-        .iter()
-        .filter(|place| place.path.len() <= depth)
-        .count();
-    let boxes = places
-        .instances()
-        .iter()
-        .filter(|place| place.path.len() == depth)
-        .count();
-    comps.saturating_add(boxes)
+    let mut count = boxes_at(places.instances(), depth);
+    for place in places.comps() {
+        if place.path.len() <= depth {
+            count = count.saturating_add(1);
+        }
+    }
+    count
+}
+
+// How many instances are within so many others.
+fn boxes_at(instances: &[Place], depth: usize) -> usize {
+    let mut count = 0usize;
+    for place in instances {
+        if place.path.len() == depth {
+            count = count.saturating_add(1);
+        }
+    }
+    count
 }

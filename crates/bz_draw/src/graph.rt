@@ -1,153 +1,102 @@
 //! The text of a graph.
 
 use crate::drawing::{Drawing, Edge, Tip};
-use crate::labels::put_name;
-use crate::nodes::{is_wide, put_count, put_nodes, put_steps, row_name};
-use bz_flat::FlatComp;
-use bz_lines::{Part, WriteFault, put_parts};
+use crate::nodes::{is_wide, put_nodes, row_name};
+use crate::text::{Piece, Text};
+use bz_elab::FlatComp;
 use bz_look::Survey;
-use bz_model::{Chan, ChanKind, Value, node_of};
-use std::alloc::Global;
-use std::io::Write;
+use bz_model::{ChanKind, node_of};
 
-/// Writes the graph of a net, under the name of its part.
-pub(crate) fn put_graph<W: Write>(
-    alloc: Global,
-    out: &mut W,
-    name: &[u8],
-    s: &Survey,
-    d: &Drawing,
-) -> Result<(), WriteFault> {
-    put_head(alloc, out, name, s, d)?;
-    put_ports(alloc, out, s)?;
-    put_nodes(alloc, out, s, d)?;
+/// What holds of the whole graph; its label has the name of the part, and how many components and channels there are.
+const HEAD: &str =
+    "  rankdir=LR; ranksep=0.6; nodesep=0.3; fontname=\"Helvetica\"; fontsize=11; labelloc=b;
+  label=\"%: %, %\\nfilled dot: the end that asks; open dot: the end that answers; arrow: where the value goes; /8: its bits\";
+  node [shape=record, fontname=\"Helvetica\", fontsize=10, height=0.3];
+  edge [fontname=\"Helvetica\", fontsize=9, dir=both, arrowsize=0.6];
+";
+
+/// Adds the graph of a net, under the name of its part.
+pub(crate) fn put_graph(text: &mut Text, name: &[u8], s: &Survey, d: &Drawing) {
+    put_head(text, name, s, d);
+    put_ports(text, s);
+    put_nodes(text, s, d);
     for edge in &d.edges {
-        put_edge(out, s, edge)?;
+        put_edge(text, s, edge);
     }
-    put_parts(out, &[Part::Bytes(b"}\n")])
+    text.put("}\n");
 }
 
-// What holds of the whole graph.
-fn put_head<W: Write>(
-    alloc: Global,
-    out: &mut W,
-    name: &[u8],
-    s: &Survey,
-    d: &Drawing,
-) -> Result<(), WriteFault> {
-    put_parts(out, &[Part::Bytes(b"digraph \"")])?;
-    put_name(alloc, out, name)?;
-    put_parts(out, &[Part::Bytes(b"\" {\n")])?;
+fn put_head(text: &mut Text, name: &[u8], s: &Survey, d: &Drawing) {
+    let label = Piece::Label(name);
+    text.say("digraph \"%\" {\n", &[label]);
     if d.folding.depth < d.folding.deepest {
-        put_parts(
-            out,
+        text.say(
+            "  // folded at depth %; --depth % draws all\n",
             &[
-                Part::Bytes(b"  // folded at depth "),
-                Part::Number(d.folding.depth as Value),
-                Part::Bytes(b"; --depth "),
-                Part::Number(d.folding.deepest as Value),
-                Part::Bytes(b" draws all\n"),
+                Piece::Number(d.folding.depth),
+                Piece::Number(d.folding.deepest),
             ],
-        )?;
+        );
     }
-    put_parts(
-        out,
-        &[
-            Part::Bytes(
-                b"  rankdir=LR; ranksep=0.6; nodesep=0.3; fontname=\"Helvetica\"; fontsize=11; labelloc=b;\n",
-            ),
-            Part::Bytes(b"  label=\""),
-        ],
-    )?;
-    put_name(alloc, out, name)?;
-    put_parts(out, &[Part::Bytes(b": ")])?;
-    put_count(out, s.net.comps.len(), b" component")?;
-    put_parts(out, &[Part::Bytes(b", ")])?;
-    put_count(out, s.net.chans.len(), b" channel")?;
-    put_parts(
-        out,
-        &[
-            Part::Bytes(
-                b"\\nfilled dot: the end that asks; open dot: the end that answers; arrow: where the value goes; /8: its bits\";\n",
-            ),
-            Part::Bytes(
-                b"  node [shape=record, fontname=\"Helvetica\", fontsize=10, height=0.3];\n",
-            ),
-            Part::Bytes(b"  edge [fontname=\"Helvetica\", fontsize=9, dir=both, arrowsize=0.6];\n"),
-        ],
-    )
+    let comps = Piece::Count(s.net.comps.len(), "component");
+    let chans = Piece::Count(s.net.chans.len(), "channel");
+    text.say(HEAD, &[label, comps, chans]);
 }
 
-fn put_ports<W: Write>(alloc: Global, out: &mut W, s: &Survey) -> Result<(), WriteFault> {
-    for (i, port) in s.net.ports.iter().enumerate() {
-        put_parts(
-            out,
-            &[
-                Part::Bytes(b"  p"),
-                Part::Number(i as Value + 1),
-                Part::Bytes(b" [shape=box, style=bold, label=\""),
-            ],
-        )?;
-        put_name(alloc, out, port.name.as_slice())?;
-        put_parts(out, &[Part::Bytes(b"\"];\n")])?;
-    }
-    Ok(())
-}
-
-fn put_edge<W: Write>(out: &mut W, s: &Survey, edge: &Edge) -> Result<(), WriteFault> {
-    let chan = match node_of(&s.net.chans, edge.chan) {
-        Some(chan) => *chan,
-        None => Chan {
-            kind: ChanKind::Sync,
-            width: 0,
-        },
-    };
-    put_parts(out, &[Part::Bytes(b"  ")])?;
-    put_tip(out, s, edge.from)?;
-    put_parts(out, &[Part::Bytes(b":e -> ")])?;
-    put_tip(out, s, edge.to)?;
-    put_parts(
-        out,
-        &[
-            Part::Bytes(b":w ["),
-            Part::Bytes(label_word(s, edge)),
-            Part::Bytes(b"=\""),
-            Part::Number(Value::from(edge.chan)),
-        ],
-    )?;
-    put_width(out, chan)?;
-    put_parts(out, &[Part::Bytes(shape_of(chan.kind))])
-}
-
-fn put_width<W: Write>(out: &mut W, chan: Chan) -> Result<(), WriteFault> {
-    match chan.kind {
-        ChanKind::Sync => Ok(()),
-        ChanKind::Push | ChanKind::Pull => put_parts(
-            out,
-            &[Part::Bytes(b" /"), Part::Number(Value::from(chan.width))],
-        ),
+fn put_ports(text: &mut Text, s: &Survey) {
+    let mut number = 0usize;
+    for port in &s.net.ports {
+        number = number.saturating_add(1);
+        text.say(
+            "  p% [shape=box, style=bold, label=\"%\"];\n",
+            &[Piece::Number(number), Piece::Label(port.name.as_slice())],
+        );
     }
 }
 
-// How an edge looks, from the end of its label on.
-fn shape_of(kind: ChanKind) -> &'static [u8] {
-    match kind {
-        ChanKind::Sync => b"\", arrowtail=dot, arrowhead=odot];\n",
-        ChanKind::Push =>
-            b"\", arrowtail=dot, arrowhead=odotnormal, color=\"#1a56a0\", fontcolor=\"#1a56a0\", penwidth=2];\n",
-        ChanKind::Pull =>
-            b"\", arrowtail=dotnormal, arrowhead=odot, color=\"#b04a00\", fontcolor=\"#b04a00\", penwidth=2];\n",
+fn put_edge(text: &mut Text, s: &Survey, edge: &Edge) {
+    text.put("  ");
+    put_tip(text, s, edge.from);
+    text.put(":e -> ");
+    put_tip(text, s, edge.to);
+    text.say(
+        ":w [%=\"%%\", %];\n",
+        &[
+            Piece::Text(label_word(s, edge)),
+            Piece::Number(edge.chan as usize),
+            width_of(s, edge.chan),
+            Piece::Text(look_of(s, edge.chan)),
+        ],
+    );
+}
+
+// The width of a channel as a label has it.
+fn width_of(s: &Survey, chan: u32) -> Piece<'static> {
+    match node_of(&s.net.chans, chan) {
+        Some(chan) if chan.kind != ChanKind::Sync => Piece::Width(chan.width),
+        _ => Piece::Text(""),
+    }
+}
+
+// How the edge of a channel looks.
+fn look_of(s: &Survey, chan: u32) -> &'static str {
+    match node_of(&s.net.chans, chan) {
+        Some(chan) if chan.kind == ChanKind::Push =>
+            "arrowtail=dot, arrowhead=odotnormal, color=\"#1a56a0\", fontcolor=\"#1a56a0\", penwidth=2",
+        Some(chan) if chan.kind == ChanKind::Pull =>
+            "arrowtail=dotnormal, arrowhead=odot, color=\"#b04a00\", fontcolor=\"#b04a00\", penwidth=2",
+        _ => "arrowtail=dot, arrowhead=odot",
     }
 }
 
 // Where the label stands: at the far end of an edge of a component whose edges share cells.
-fn label_word(s: &Survey, edge: &Edge) -> &'static [u8] {
+fn label_word(s: &Survey, edge: &Edge) -> &'static str {
     if is_crowded(s, edge.from) {
-        b"labeldistance=2.5, headlabel"
+        "labeldistance=2.5, headlabel"
     } else if is_crowded(s, edge.to) {
-        b"labeldistance=2.5, taillabel"
+        "labeldistance=2.5, taillabel"
     } else {
-        b"label"
+        "label"
     }
 }
 
@@ -165,28 +114,25 @@ fn comp_at(s: &Survey, comp: u32) -> Option<&FlatComp> {
     node_of(&s.net.comps, comp)
 }
 
-fn put_tip<W: Write>(out: &mut W, s: &Survey, tip: Tip) -> Result<(), WriteFault> {
+fn put_tip(text: &mut Text, s: &Survey, tip: Tip) {
     match tip {
-        Tip::Port(port) => put_parts(out, &[Part::Bytes(b"p"), Part::Number(Value::from(port))]),
-        Tip::Folded(instance) => match s.places.instances().get(instance) {
-            Some(instance) => put_steps(out, b"i", b"_", instance),
-            None => Ok(()),
-        },
-        Tip::Comp { comp, port } => put_cell(out, s, comp, port),
+        Tip::Port(port) => text.say("p%", &[Piece::Number(port as usize)]),
+        Tip::Folded(instance) => {
+            if let Some(instance) = s.places.instances().get(instance) {
+                text.say("i%", &[Piece::Path("_", instance)]);
+            }
+        }
+        Tip::Comp { comp, port } => put_cell(text, comp as usize, comp_at(s, comp), port),
     }
 }
 
-fn put_cell<W: Write>(out: &mut W, s: &Survey, comp: u32, port: u32) -> Result<(), WriteFault> {
-    put_parts(
-        out,
-        &[
-            Part::Bytes(b"c"),
-            Part::Number(Value::from(comp)),
-            Part::Bytes(b":"),
-        ],
-    )?;
-    match comp_at(s, comp) {
-        Some(wide) if is_wide(wide) => put_parts(out, &[Part::Bytes(row_name(wide, port))]),
-        _ => put_parts(out, &[Part::Bytes(b"p"), Part::Number(Value::from(port))]),
+// The cell of a component's port: the cell of its row, or its own.
+fn put_cell(text: &mut Text, number: usize, comp: Option<&FlatComp>, port: u32) {
+    let number = Piece::Number(number);
+    match comp {
+        Some(wide) if is_wide(wide) => {
+            text.say("c%:%", &[number, Piece::Text(row_name(wide, port))]);
+        }
+        _ => text.say("c%:p%", &[number, Piece::Number(port as usize)]),
     }
 }

@@ -1,82 +1,56 @@
 //! Texts in labels.
 
+use crate::text::{Piece, Text};
 use bz_arena::Arena;
-use bz_flat::FlatComp;
-use bz_lines::{Part, WriteFault, put_parts};
-use bz_model::{Chan, Kind, Param, Value, low_bits, node_of};
+use bz_breeze::{Component, Part};
+use bz_elab::FlatComp;
+use bz_model::{Chan, Kind, Param, low_bits, node_of};
 use bz_places::Place;
-use bz_records::{Component, Part as PartRecord};
-use std::alloc::{AllocError, Global};
-use std::io::Write;
 
 /// The most letters of the second line of a component.
 const MOST_LETTERS: usize = 20;
 
-/// Writes a name in name form, as a label between quotes has it.
-pub(crate) fn put_name<W: Write>(
-    alloc: Global,
-    out: &mut W,
-    name: &[u8],
-) -> Result<(), WriteFault> {
-    let mut form = Vec::new(alloc);
-    put_parts(&mut form, &[Part::Name(name)])?;
-    for byte in &form {
-        put_quoted(out, *byte)?;
-    }
-    Ok(())
-}
-
-// A byte of a label between quotes.
-fn put_quoted<W: Write>(out: &mut W, byte: u8) -> Result<(), WriteFault> {
-    match byte {
-        b'&' => put_parts(out, &[Part::Bytes(b"&amp;")]),
-        b'\\' | b'"' => put_parts(out, &[Part::Bytes(&[b'\\', byte])]),
-        _ => put_parts(out, &[Part::Bytes(&[byte])]),
-    }
-}
-
-/// Writes the second line of a component's label, as a record has it, if the component has one.
-pub(crate) fn put_detail<W: Write>(
-    alloc: Global,
-    out: &mut W,
+/// Adds the second line of a component's label, as a record has it, if the component has one.
+pub(crate) fn put_detail(
+    text: &mut Text,
     chans: &Arena<Chan>,
     comp: &FlatComp,
     written: Option<&Component>,
-) -> Result<(), WriteFault> {
-    let Ok(detail) = detail(alloc, chans, comp, written) else {
-        return Err(WriteFault);
-    };
-    if detail.is_empty() {
-        return Ok(());
+) {
+    let mut detail = text.another();
+    say_detail(&mut detail, chans, comp, written);
+    match detail.whole() {
+        Ok(detail) => put_line(text, detail),
+        Err(_) => text.lose(),
     }
-    put_parts(out, &[Part::Bytes(b"\\n")])?;
-    if detail.len() <= MOST_LETTERS {
-        return put_record(out, detail.as_slice());
-    }
-    put_record(out, detail.get(..MOST_LETTERS - 1).unwrap_or(&[]))?;
-    put_parts(out, &[Part::Bytes("…".as_bytes())])
 }
 
-fn put_record<W: Write>(out: &mut W, text: &[u8]) -> Result<(), WriteFault> {
-    for byte in text {
-        match *byte {
-            b'{' | b'}' | b'|' | b'<' | b'>' => {
-                put_parts(out, &[Part::Bytes(&[b'\\', *byte])])?;
-            }
-            byte => put_quoted(out, byte)?,
+// Adds a second line, cut where it is too long.
+fn put_line(text: &mut Text, line: &[u8]) {
+    if line.is_empty() {
+        return;
+    }
+    text.put("\\n");
+    if line.len() <= MOST_LETTERS {
+        put_record(text, line);
+    } else {
+        put_record(text, line.get(..MOST_LETTERS - 1).unwrap_or(&[]));
+        text.put("…");
+    }
+}
+
+fn put_record(text: &mut Text, bytes: &[u8]) {
+    for byte in bytes {
+        if matches!(*byte, b'{' | b'}' | b'|' | b'<' | b'>') {
+            text.put_bytes(&[b'\\', *byte]);
+        } else {
+            text.put_quoted(&[*byte]);
         }
     }
-    Ok(())
 }
 
-// What the second line says, empty where there is none.
-fn detail(
-    alloc: Global,
-    chans: &Arena<Chan>,
-    comp: &FlatComp,
-    written: Option<&Component>,
-) -> Result<Vec<u8>, WriteFault> {
-    let mut text = Vec::new(alloc);
+// What the second line says, nothing where there is none.
+fn say_detail(text: &mut Text, chans: &Arena<Chan>, comp: &FlatComp, written: Option<&Component>) {
     let word = match written {
         Some(written) => first_text(&written.params),
         None => &[],
@@ -88,35 +62,32 @@ fn detail(
         | Kind::UnaryFunc { .. }
         | Kind::BinaryFunc { .. }
         | Kind::Case(_)
-        | Kind::CaseFetch(_) => put_parts(&mut text, &[Part::Name(word)])?,
+        | Kind::CaseFetch(_) => text.say("%", &[Piece::Name(word)]),
         Kind::BinaryFuncConstR {
             right_width,
             right,
             ..
-        } => put_parts(
-            &mut text,
+        } => text.say(
+            "% %",
             &[
-                Part::Name(word),
-                Part::Value(Some(low_bits(*right, *right_width))),
+                Piece::Name(word),
+                Piece::Value(low_bits(*right, *right_width)),
             ],
-        )?,
-        Kind::Slice(low) => put_parts(&mut text, &[Part::Bytes(b"from bit "), Part::Number(*low)])?,
-        Kind::Constant(value) => put_parts(
-            &mut text,
-            &[Part::Number(low_bits(*value, out_width(chans, comp)))],
-        )?,
+        ),
+        Kind::Slice(low) => text.say("from bit %", &[Piece::Value(*low)]),
+        Kind::Constant(value) => text.say(
+            "%",
+            &[Piece::Value(low_bits(*value, out_width(chans, comp)))],
+        ),
         _ => {}
     }
-    Ok(text)
 }
 
 // The width of a component's first port.
 fn out_width(chans: &Arena<Chan>, comp: &FlatComp) -> u32 {
-    match comp.chans.first() {
-        Some(chan) => match node_of(chans, *chan) {
-            Some(chan) => chan.width,
-            None => 0,
-        },
+    let chan = comp.chans.first().copied().unwrap_or(0);
+    match node_of(chans, chan) {
+        Some(chan) => chan.width,
         None => 0,
     }
 }
@@ -132,7 +103,7 @@ fn first_text(params: &[Param]) -> &[u8] {
 }
 
 /// The record of the text that a component or an instance stands for.
-pub(crate) fn written_at<'p>(parts: &'p [PartRecord], place: &Place) -> Option<&'p Component> {
+pub(crate) fn written_at<'p>(parts: &'p [Part], place: &Place) -> Option<&'p Component> {
     if place.position == 0 {
         return None;
     }

@@ -8,6 +8,7 @@ mod folding;
 mod graph;
 mod labels;
 mod nodes;
+mod text;
 
 pub use command::draw_cmd;
 pub use drawing::{Drawing, Edge, Tip, drawing_of};

@@ -1,15 +1,14 @@
 //! The nodes of a graph.
 
 use crate::drawing::Drawing;
-use crate::labels::{put_detail, put_name, written_at};
-use bz_flat::FlatComp;
+use crate::labels::{put_detail, written_at};
+use crate::text::{Piece, Text};
+use bz_breeze::Component;
+use bz_elab::FlatComp;
 use bz_kind_table::{PortRow, kind_word, port_table};
-use bz_lines::{Part, WriteFault, put_parts};
 use bz_look::Survey;
-use bz_model::{Value, node_of};
+use bz_model::node_of;
 use bz_places::Place;
-use std::alloc::Global;
-use std::io::Write;
 
 /// The most ports of a component whose arrays have a cell for each port.
 const MOST_CELLS: usize = 16;
@@ -19,275 +18,169 @@ pub(crate) fn is_wide(comp: &FlatComp) -> bool {
     comp.chans.len() > MOST_CELLS
 }
 
-/// Writes the nodes of the components and of the boxes, each copy's own before those of the instances in it.
-pub(crate) fn put_nodes<W: Write>(
-    alloc: Global,
-    out: &mut W,
-    s: &Survey,
-    d: &Drawing,
-) -> Result<(), WriteFault> {
-    let mut at = put_members(alloc, out, s, d, 0, 0, 0)?;
+/// Adds the nodes of the components and of the boxes, each copy's own before those of the instances in it.
+pub(crate) fn put_nodes(text: &mut Text, s: &Survey, d: &Drawing) {
+    let mut at = put_members(text, s, d, 0, 0, 0);
     let mut level = 0;
     for (i, instance) in s.places.instances().iter().enumerate() {
         let depth = instance.path.len();
         if depth > d.folding.depth {
             continue;
         }
-        put_ends(out, depth, level)?;
+        put_ends(text, depth, level);
         level = depth;
         if depth == d.folding.depth {
             let members = d.folding.counts.get(i).copied().unwrap_or(0);
-            put_box(alloc, out, s, instance, members, depth)?;
+            put_box(text, s, instance, members);
         } else {
-            put_cluster(alloc, out, s, instance, depth)?;
+            put_cluster(text, s, instance);
             level = depth + 1;
-            at = put_members(alloc, out, s, d, at, i + 1, level)?;
+            at = put_members(text, s, d, at, i + 1, level);
         }
     }
-    put_ends(out, 0, level)
+    put_ends(text, 0, level);
 }
 
 // The components of a copy, which begin here among those that are drawn; where the next copy's begin.
-fn put_members<W: Write>(
-    alloc: Global,
-    out: &mut W,
+fn put_members(
+    text: &mut Text,
     s: &Survey,
     d: &Drawing,
     from: usize,
     copy: usize,
     level: usize,
-) -> Result<usize, WriteFault> {
+) -> usize {
     let mut at = from;
     for i in from..d.comps.len() {
         let (inside, number) = d.comps[i];
         if inside != copy {
             break;
         }
-        put_pad(out, level)?;
-        put_comp(alloc, out, s, number)?;
+        put_comp(text, s, number, level);
         at = i + 1;
     }
-    Ok(at)
-}
-
-// The blanks before what is within so many clusters.
-fn put_pad<W: Write>(out: &mut W, level: usize) -> Result<(), WriteFault> {
-    for _ in 0..=level {
-        put_parts(out, &[Part::Bytes(b"  ")])?;
-    }
-    Ok(())
+    at
 }
 
 // Ends the clusters down to a level.
-fn put_ends<W: Write>(out: &mut W, to: usize, from: usize) -> Result<(), WriteFault> {
+fn put_ends(text: &mut Text, to: usize, from: usize) {
     for level in (to..from).rev() {
-        put_pad(out, level)?;
-        put_parts(out, &[Part::Bytes(b"}\n")])?;
+        text.say("%}\n", &[Piece::Pad(level)]);
     }
-    Ok(())
 }
 
-fn put_cluster<W: Write>(
-    alloc: Global,
-    out: &mut W,
-    s: &Survey,
-    instance: &Place,
-    level: usize,
-) -> Result<(), WriteFault> {
-    put_pad(out, level)?;
-    put_parts(out, &[Part::Bytes(b"subgraph cluster")])?;
-    put_steps(out, b"_", b"_", instance)?;
-    put_parts(out, &[Part::Bytes(b" {\n")])?;
-    put_pad(out, level)?;
-    put_parts(out, &[Part::Bytes(b"  label=\"")])?;
-    put_title(alloc, out, s, instance)?;
-    put_parts(out, &[Part::Bytes(b"\"; labelloc=t; color=gray60;\n")])
-}
-
-fn put_box<W: Write>(
-    alloc: Global,
-    out: &mut W,
-    s: &Survey,
-    instance: &Place,
-    members: usize,
-    level: usize,
-) -> Result<(), WriteFault> {
-    put_pad(out, level)?;
-    put_steps(out, b"i", b"_", instance)?;
-    put_parts(out, &[Part::Bytes(b" [shape=box3d, label=\"")])?;
-    put_title(alloc, out, s, instance)?;
-    put_parts(out, &[Part::Bytes(b"\\n")])?;
-    put_count(out, members, b" component")?;
-    put_parts(out, &[Part::Bytes(b"\"];\n")])
-}
-
-/// Writes a count of things.
-pub(crate) fn put_count<W: Write>(
-    out: &mut W,
-    count: usize,
-    word: &[u8],
-) -> Result<(), WriteFault> {
-    let end: &[u8] = if count == 1 { b"" } else { b"s" };
-    put_parts(
-        out,
+fn put_cluster<'s>(text: &mut Text, s: &'s Survey, instance: &'s Place) {
+    let pad = Piece::Pad(instance.path.len());
+    text.say(
+        "%subgraph cluster_% {\n%  label=\"% %\"; labelloc=t; color=gray60;\n",
         &[
-            Part::Number(count as Value),
-            Part::Bytes(word),
-            Part::Bytes(end),
+            pad,
+            Piece::Path("_", instance),
+            pad,
+            Piece::Path("/", instance),
+            name_of(s, instance),
         ],
-    )
+    );
 }
 
-// The path of an instance and the name of its part.
-fn put_title<W: Write>(
-    alloc: Global,
-    out: &mut W,
-    s: &Survey,
-    instance: &Place,
-) -> Result<(), WriteFault> {
-    put_steps(out, b"", b"/", instance)?;
-    put_parts(out, &[Part::Bytes(b" ")])?;
+fn put_box<'s>(text: &mut Text, s: &'s Survey, instance: &'s Place, members: usize) {
+    text.say(
+        "%i% [shape=box3d, label=\"% %\\n%\"];\n",
+        &[
+            Piece::Pad(instance.path.len()),
+            Piece::Path("_", instance),
+            Piece::Path("/", instance),
+            name_of(s, instance),
+            Piece::Count(members, "component"),
+        ],
+    );
+}
+
+// The name of the part that an instance is one of.
+fn name_of<'s>(s: &'s Survey, instance: &Place) -> Piece<'s> {
     match written_at(s.parts.list(), instance) {
-        Some(written) => put_name(alloc, out, written.name.as_slice()),
-        None => Ok(()),
+        Some(written) => Piece::Label(written.name.as_slice()),
+        None => Piece::Text(""),
     }
-}
-
-/// Writes the path of an instance.
-pub(crate) fn put_steps<W: Write>(
-    out: &mut W,
-    before: &[u8],
-    between: &[u8],
-    instance: &Place,
-) -> Result<(), WriteFault> {
-    put_parts(out, &[Part::Bytes(before)])?;
-    for step in &instance.path {
-        put_parts(out, &[Part::Number(*step as Value), Part::Bytes(between)])?;
-    }
-    let last = [Part::Bytes(b""), Part::Number(instance.position as Value)];
-    put_parts(out, &last)
 }
 
 // The node of a component, with a cell for each port, or for each row of ports.
-fn put_comp<W: Write>(
-    alloc: Global,
-    out: &mut W,
-    s: &Survey,
-    number: u32,
-) -> Result<(), WriteFault> {
-    let Some(comp) = node_of(&s.net.comps, number) else {
-        return Ok(());
-    };
-    let table = port_table(&comp.kind);
-    put_parts(
-        out,
-        &[
-            Part::Bytes(b"c"),
-            Part::Number(Value::from(number)),
-            Part::Bytes(b" [label=\"{"),
-        ],
-    )?;
-    if has_side(table, true) {
-        put_side(out, table, comp, true)?;
-        put_parts(out, &[Part::Bytes(b"|")])?;
+fn put_comp(text: &mut Text, s: &Survey, number: u32, level: usize) {
+    if let Some(comp) = node_of(&s.net.comps, number) {
+        put_number(text, level, number as usize);
+        put_side(text, comp, true);
+        let kind = Piece::Bytes(kind_word(&comp.kind));
+        text.say("% %", &[Piece::Number(number as usize), kind]);
+        put_detail(text, &s.net.chans, comp, written_comp(s, number));
+        put_side(text, comp, false);
+        text.put("}\"];\n");
     }
-    put_parts(
-        out,
-        &[
-            Part::Number(Value::from(number)),
-            Part::Bytes(b" "),
-            Part::Bytes(kind_word(&comp.kind)),
-        ],
-    )?;
-    let written = match s.places.comp(number) {
-        Some(place) => written_at(s.parts.list(), place),
-        None => None,
-    };
-    put_detail(alloc, out, &s.net.chans, comp, written)?;
-    if has_side(table, false) {
-        put_parts(out, &[Part::Bytes(b"|")])?;
-        put_side(out, table, comp, false)?;
-    }
-    put_parts(out, &[Part::Bytes(b"}\"];\n")])
 }
 
-fn has_side(table: &[PortRow], passive: bool) -> bool {
-    table.iter().any(|row| row.passive == passive)
+fn put_number(text: &mut Text, level: usize, number: usize) {
+    text.say(
+        "%c% [label=\"{",
+        &[Piece::Pad(level), Piece::Number(number)],
+    );
 }
 
-// The cells of the passive or of the active ports.
-fn put_side<W: Write>(
-    out: &mut W,
-    table: &[PortRow],
-    comp: &FlatComp,
-    passive: bool,
-) -> Result<(), WriteFault> {
-    let mut before: &[u8] = b"{";
-    let mut port: u64 = 1;
+// The record of the text that a component stands for.
+fn written_comp(s: &Survey, number: u32) -> Option<&Component> {
+    written_at(s.parts.list(), s.places.comp(number)?)
+}
+
+// The cells of the passive or of the active ports, which stand before or after the component's name.
+fn put_side(text: &mut Text, comp: &FlatComp, passive: bool) {
+    let (start, end) = if passive { ("{", "}|") } else { ("|{", "}") };
+    let mut is_first = true;
+    let mut port = 1usize;
     let mut arrays = 0;
-    for row in table {
+    for row in port_table(&comp.kind) {
         let mut len = 1;
         if row.array {
             len = comp.sizes.get(arrays).copied().unwrap_or(0);
             arrays = 1;
         }
         if row.passive == passive {
-            if is_wide(comp) {
-                put_parts(out, &[Part::Bytes(before)])?;
-                put_row_cell(out, row)?;
-            } else {
-                put_cells(out, before, row, port, len)?;
-            }
-            before = b"|";
+            let before = if is_first { start } else { "|" };
+            put_row(text, comp, before, row, port, len);
+            is_first = false;
         }
-        port = port.saturating_add(u64::from(len));
+        port = port.saturating_add(len as usize);
     }
-    put_parts(out, &[Part::Bytes(b"}")])
+    if !is_first {
+        text.put(end);
+    }
 }
 
-// One cell for all ports of a row.
-fn put_row_cell<W: Write>(out: &mut W, row: &PortRow) -> Result<(), WriteFault> {
-    let name = row.name.as_bytes();
-    put_parts(
-        out,
-        &[
-            Part::Bytes(b"<"),
-            Part::Bytes(name),
-            Part::Bytes(b"> "),
-            Part::Bytes(name),
-        ],
-    )
+// The cells of a row of so many ports, from a port on: one for all of them, or one for each.
+fn put_row(text: &mut Text, comp: &FlatComp, before: &str, row: &PortRow, port: usize, len: u32) {
+    if is_wide(comp) {
+        let name = Piece::Text(row.name);
+        text.say("%<%> %", &[Piece::Text(before), name, name]);
+    } else {
+        put_cells(text, before, row, port, len);
+    }
 }
 
-// A cell for each of so many ports of a row, from a port on.
-fn put_cells<W: Write>(
-    out: &mut W,
-    before: &[u8],
-    row: &PortRow,
-    port: u64,
-    len: u32,
-) -> Result<(), WriteFault> {
-    for member in 0..len {
-        let before: &[u8] = if member == 0 { before } else { b"|" };
-        put_parts(
-            out,
+fn put_cells(text: &mut Text, before: &str, row: &PortRow, port: usize, len: u32) {
+    for member in 0..len as usize {
+        let before = if member == 0 { before } else { "|" };
+        let form = if row.array { "%<p%> %%" } else { "%<p%> %" };
+        text.say(
+            form,
             &[
-                Part::Bytes(before),
-                Part::Bytes(b"<p"),
-                Part::Number(Value::from(port) + Value::from(member)),
-                Part::Bytes(b"> "),
-                Part::Bytes(row.name.as_bytes()),
+                Piece::Text(before),
+                Piece::Number(port.saturating_add(member)),
+                Piece::Text(row.name),
+                Piece::Number(member + 1),
             ],
-        )?;
-        if row.array {
-            put_parts(out, &[Part::Number(Value::from(member) + 1)])?;
-        }
+        );
     }
-    Ok(())
 }
 
 /// The name of the row that has a port of a component, the port counted from 1.
-pub(crate) fn row_name(comp: &FlatComp, port: u32) -> &'static [u8] {
+pub(crate) fn row_name(comp: &FlatComp, port: u32) -> &'static str {
     let mut left = port;
     let mut arrays = 0;
     for row in port_table(&comp.kind) {
@@ -297,9 +190,9 @@ pub(crate) fn row_name(comp: &FlatComp, port: u32) -> &'static [u8] {
             arrays = 1;
         }
         if left <= len {
-            return row.name.as_bytes();
+            return row.name;
         }
         left -= len;
     }
-    b""
+    ""
 }

@@ -54,12 +54,11 @@ impl Text {
 
     /// Adds a form in which each `%` stands for the next of the pieces.
     pub fn say(&mut self, form: &str, pieces: &[Piece<'_>]) {
-        let mut rest = pieces.iter();
-        for words in form.split('%') {
+        let mut words = form.split('%');
+        self.put(words.next().unwrap_or(""));
+        for (piece, words) in pieces.iter().zip(words) {
+            put_piece(self, *piece);
             self.put(words);
-            if let Some(piece) = rest.next() {
-                put_piece(self, *piece);
-            }
         }
     }
 
