@@ -64,12 +64,16 @@ fn put_words(course: &Course, words: &[HostOffer], text: &mut Text) {
 fn put_word(course: &Course, word: &HostOffer, text: &mut Text) {
     text.say("%", &[host_word(course.flat(), word.verb, word.port)]);
     text.fill(28);
+    put_port(course, word.port, text);
+}
+
+fn put_port(course: &Course, port: u32, text: &mut Text) {
     text.say(
         "port % %, %\n",
         &[
-            Piece::Number(word.port),
-            Piece::Carried(chan_of(course.flat(), word.port)),
-            Piece::Phase(phase_of(course, word.port)),
+            Piece::Number(port),
+            Piece::Carried(chan_of(course.flat(), port)),
+            Piece::Phase(phase_of(course, port)),
         ],
     );
 }

@@ -114,12 +114,11 @@ fn put_holder(course: &Course, chan: u32, text: &mut Text) {
     text.fill(13);
     text.say("%", &[Piece::Phase(phase)]);
     text.fill(COLUMN);
-    let (form, pieces) = match phase {
-        Phase::Asked(_) => ("% has not taken the request of %\n", [passive, active]),
-        Phase::Replied(_) => ("% has not got the reply of %\n", [active, passive]),
-        _ => ("% has not replied to %\n", [passive, active]),
-    };
-    text.say(form, &pieces);
+    match phase {
+        Phase::Asked(_) => text.say("% has not taken the request of %\n", &[passive, active]),
+        Phase::Replied(_) => text.say("% has not got the reply of %\n", &[active, passive]),
+        _ => text.say("% has not replied to %\n", &[passive, active]),
+    }
 }
 
 fn ends_of(flat: &Flat, chan: u32) -> Ends {
@@ -159,10 +158,14 @@ fn put_waiter(course: &Course, number: u32, site: &FlatComp, all: &mut Waiting, 
         Standing::Ended(chan) => {
             all.waiting = all.waiting.saturating_add(1);
             text.say("ended %", &[comp(course.flat(), number)]);
-            text.fill(COLUMN);
-            text.say("and never replies on %\n", &[Piece::Number(chan)]);
+            put_ended(chan, text);
         }
     }
+}
+
+fn put_ended(chan: u32, text: &mut Text) {
+    text.fill(COLUMN);
+    text.say("and never replies on %\n", &[Piece::Number(chan)]);
 }
 
 fn standing_of(course: &Course, number: u32, site: &FlatComp) -> Standing {
@@ -219,7 +222,7 @@ fn put_due_moves(
     for port in 1..=port_count(site) {
         if course.net().due(number, port) == Some(mv) {
             let chan = chan_at(site, port);
-            let wanted = wanted(course, mv, chan);
+            let wanted = wanted_on(course, mv, chan);
             put_wait(course.flat(), number, is_or, text);
             put_wanted(course.flat(), wanted, chan, text);
             if !one_is_enough {
@@ -247,7 +250,7 @@ fn put_wait(flat: &Flat, number: u32, is_or: bool, text: &mut Text) {
     text.fill(COLUMN);
 }
 
-fn wanted(course: &Course, mv: Move, chan: u32) -> Wanted {
+fn wanted_on(course: &Course, mv: Move, chan: u32) -> Wanted {
     let ends = ends_of(course.flat(), chan);
     let (from, deed, verb) = match (mv, phase_of(course, chan)) {
         (Move::Got, Phase::Asked(_)) => (ends.passive, "take", Verb::Accept),
