@@ -1,11 +1,11 @@
 //! The command `draw`.
 
-ghost use Rattle.bz_commands.specs.Reading.{ReadsWithin};
+ghost use Rattle.bz_input.specs.Reading.{ReadsWithin};
 
 use crate::drawing::{Drawing, drawing_of};
 use crate::graph::put_graph;
 use crate::text::Text;
-use bz_commands::{Fault, read_input};
+use bz_input::{Fault, read_input};
 use bz_lines::{Part, put_parts};
 use bz_look::{Survey, survey_of};
 use std::alloc::Global;

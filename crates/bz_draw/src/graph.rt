@@ -3,7 +3,7 @@
 use crate::drawing::{Drawing, Edge, Tip};
 use crate::nodes::{is_wide, put_nodes, row_name};
 use crate::text::{Piece, Text};
-use bz_elab::FlatComp;
+use bz_flat::FlatComp;
 use bz_look::Survey;
 use bz_model::{ChanKind, node_of};
 

@@ -2,10 +2,10 @@
 
 use crate::text::{Piece, Text};
 use bz_arena::Arena;
-use bz_breeze::{Component, Part};
-use bz_elab::FlatComp;
+use bz_flat::FlatComp;
 use bz_model::{Chan, Kind, Param, low_bits, node_of};
 use bz_places::Place;
+use bz_records::{Component, Part};
 
 /// The most letters of the second line of a component.
 const MOST_LETTERS: usize = 20;

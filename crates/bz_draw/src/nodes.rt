@@ -3,12 +3,12 @@
 use crate::drawing::Drawing;
 use crate::labels::{put_detail, written_at};
 use crate::text::{Piece, Text};
-use bz_breeze::Component;
-use bz_elab::FlatComp;
+use bz_flat::FlatComp;
 use bz_kind_table::{PortRow, kind_word, port_table};
 use bz_look::Survey;
 use bz_model::node_of;
 use bz_places::Place;
+use bz_records::Component;
 
 /// The most ports of a component whose arrays have a cell for each port.
 const MOST_CELLS: usize = 16;

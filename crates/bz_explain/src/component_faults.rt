@@ -5,11 +5,11 @@ use crate::kind_names::KIND_NAMES;
 use crate::kind_words::{params_rule, put_kind, put_row, put_widths_wanted};
 use crate::seat::Head;
 use crate::site::Site;
-use bz_breeze::{Part, Parts, Slot};
-use bz_elab::ElabError;
+use bz_flat::ElabError;
 use bz_model::{Chan, ChanKind, Kind, Param, Port};
 use bz_notes::Arg::{self, At, Bytes, Count, Name, Number, Spaced, Text, Wide};
 use bz_notes::Draft;
+use bz_records::{Part, Parts, Slot};
 use std::alloc::{AllocError, Global};
 
 /// The most of several things that a note lists.

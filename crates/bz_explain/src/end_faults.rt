@@ -4,7 +4,7 @@ use crate::ends::{End, ends_at, has_two};
 use crate::seat::Head;
 use crate::site::Netlist;
 use crate::source::put_place;
-use bz_elab::ElabError;
+use bz_flat::ElabError;
 use bz_model::ChanKind;
 use bz_notes::Arg::{At, Bytes, Name, Number, Path, Text};
 use bz_notes::Draft;

@@ -2,10 +2,10 @@
 
 use crate::asked::Words;
 use crate::component_faults::{NEAREST, port_names};
-use bz_breeze::Part as PartRecord;
 use bz_model::{Chan, ChanKind, Cmd, NetError, Value, Verb};
 use bz_notes::Arg::{Count, Name, Number, Text, Wide};
 use bz_notes::Draft;
+use bz_records::Part as PartRecord;
 use bz_words::command;
 use std::alloc::{AllocError, Global};
 

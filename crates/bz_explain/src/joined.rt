@@ -1,10 +1,10 @@
 //! The ports of a component beside its entries.
 
 use crate::site::Site;
-use bz_breeze::Slot;
 use bz_kind_table::{PortRow, port_table};
 use bz_model::{ChanKind, Kind};
 use bz_notes::Arg::{self, Number, Text};
+use bz_records::Slot;
 use std::alloc::{AllocError, Global};
 
 /// A port of a component, and the number of the channel that its entry names.

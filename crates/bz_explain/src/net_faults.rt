@@ -4,11 +4,11 @@ use crate::component_faults::{NEAREST, part_names};
 use crate::end_faults::explain_ends;
 use crate::site::Netlist;
 use crate::source::put_place;
-use bz_breeze::Parts;
-use bz_elab::ElabError;
+use bz_flat::ElabError;
 use bz_notes::Arg::{Count, Name};
 use bz_notes::Draft;
 use bz_places::{Places, PlacesError};
+use bz_records::Parts;
 
 /// The notes of a part that has no net.
 pub(crate) fn explain_net(draft: &mut Draft, netlist: Netlist<'_>, asked: &[u8], error: ElabError) {

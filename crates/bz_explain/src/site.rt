@@ -2,12 +2,12 @@
 
 use crate::seat::{Head, members_of, nth, part_form, part_items};
 use crate::source::put_place;
-use bz_breeze::{Component, Part as PartRecord, Parts, Slot};
-use bz_kind_table::{KindError, kind_of};
-use bz_model::{Chan, Kind, Port};
+use bz_kind_table::kind_of;
+use bz_model::{Chan, Kind, KindError, Port};
 use bz_notes::Arg::{Name, Number, Text};
 use bz_notes::{Draft, Spot, spot_of};
 use bz_places::Place;
+use bz_records::{Component, Part as PartRecord, Parts, Slot};
 use bz_sexpr::Forms;
 use std::alloc::{AllocError, Global};
 
