@@ -31,7 +31,7 @@ enum Standing {
     /// It can't make the moves of this sort that are due.
     Waits(Move),
     /// It has nothing left to do, and owes an acknowledgement on this channel.
-    Ended(u32),
+    Halted(u32),
     Idle,
 }
 
@@ -89,7 +89,7 @@ fn put_cycles(
 }
 
 fn put_cycle(flat: &Flat, cycle: &[u32], text: &mut Text) {
-    text.put("circle ");
+    text.put("cycle: ");
     for member in cycle {
         text.say("% -> ", &[comp(flat, *member)]);
     }
@@ -155,17 +155,14 @@ fn put_waiter(course: &Course, number: u32, site: &FlatComp, all: &mut Waiting, 
             all.waiting = all.waiting.saturating_add(1);
             put_due_moves(course, number, site, mv, all, text);
         }
-        Standing::Ended(chan) => {
+        Standing::Halted(chan) => {
             all.waiting = all.waiting.saturating_add(1);
-            text.say("ended %", &[comp(course.flat(), number)]);
-            put_ended(chan, text);
+            text.say(
+                "% has halted and will never reply on %\n",
+                &[comp(course.flat(), number), Piece::Number(chan)],
+            );
         }
     }
-}
-
-fn put_ended(chan: u32, text: &mut Text) {
-    text.fill(COLUMN);
-    text.say("and never replies on %\n", &[Piece::Number(chan)]);
 }
 
 fn standing_of(course: &Course, number: u32, site: &FlatComp) -> Standing {
@@ -179,7 +176,7 @@ fn standing_of(course: &Course, number: u32, site: &FlatComp) -> Standing {
             Some(_) if count_due(course, number, site, Move::Take) > 0 => {
                 Standing::Waits(Move::Take)
             }
-            Some(chan) => Standing::Ended(chan),
+            Some(chan) => Standing::Halted(chan),
         }
     }
 }
