@@ -2,7 +2,7 @@
 
 use crate::joined::{Joined, join_ports};
 use crate::kind_names::KIND_NAMES;
-use crate::kind_words::{params_rule, put_kind, put_row, put_widths_wanted};
+use crate::kind_words::{params_rule, put_kind, put_row, put_widths_expected};
 use crate::seat::Head;
 use crate::site::Site;
 use bz_flat::ElabError;
@@ -69,7 +69,7 @@ impl Site<'_> {
         let names = draft.gathered(part_names(draft.alloc(), parts, KIND_NAMES));
         draft.say(
             "found: the name %\n\
-            wanted: a part of this text, or a kind, whose name has $Brz in front",
+            expected: a part of this text, or a kind, whose name has $Brz in front",
             &[Name(name)],
         );
         draft.say_nearest(NEAREST, name, &names);
@@ -89,7 +89,7 @@ impl Site<'_> {
         });
         let name = self.component.name.as_slice();
         let args = [rest, Name(name), Text(params_rule(name))];
-        draft.say("%)\nwanted: for % %", &args);
+        draft.say("%)\nexpected: for % %", &args);
     }
 
     // An entry that is no channel of the part.
@@ -105,7 +105,7 @@ impl Site<'_> {
                 break;
             }
         }
-        draft.say("wanted: channels from 1 to %", &[Number(count)]);
+        draft.say("expected: channels from 1 to %", &[Number(count)]);
     }
 
     // An instance with more or fewer entries than its part has ports.
@@ -118,7 +118,7 @@ impl Site<'_> {
             Count(ports.len(), "port", "ports"),
         ];
         draft.put(
-            "found: %\nwanted: one for each port of part %, which has %",
+            "found: %\nexpected: one for each port of part %, which has %",
             &args,
         );
         draft.put_names(&ports);
@@ -157,7 +157,7 @@ impl Site<'_> {
             ElabError::KindMismatch(_, _) => self.explain_kind(draft, kind, &ports),
             _ => {
                 self.put_widths(draft, &ports);
-                put_widths_wanted(draft, kind);
+                put_widths_expected(draft, kind);
             }
         }
     }
@@ -255,11 +255,11 @@ fn put_asked(draft: &mut Draft, inner: &Part, asked: Chan, error: ElabError) {
     let name = Name(inner.name.as_slice());
     match error {
         ElabError::KindMismatch(_, _) => draft.say(
-            "wanted: a % channel, as in part %",
+            "expected: a % channel, as in part %",
             &[Text(kind_text(asked.kind)), name],
         ),
         _ => draft.say(
-            "wanted: %, as in part %",
+            "expected: %, as in part %",
             &[Count(asked.width as usize, "bit", "bits"), name],
         ),
     }

@@ -59,7 +59,7 @@ impl<'t> Wire<'t> {
         for (place, end) in of_sense.take(2).enumerate() {
             self.put_end(draft, if place == 0 { ": " } else { ", " }, end);
         }
-        draft.say("\nwanted: one active end and one passive end", &[]);
+        draft.say("\nexpected: one active end and one passive end", &[]);
         if let (false, Some(chan)) = (passive, self.netlist.chan(self.place)) {
             let mixer = Text(mixer(chan.kind));
             draft.say("help: a % brings several callers together to one", &[mixer]);
@@ -74,9 +74,9 @@ impl<'t> Wire<'t> {
             self.put_end(draft, found(passive), end);
             let deed = Text(if passive { "makes" } else { "takes" });
             let told = if self.is_next_port() {
-                ", and no % one\nwanted: a component that % its requests, or port %, %"
+                ", and no % one\nexpected: a component that % its requests, or port %, %"
             } else {
-                ", and no % one\nwanted: a component that % its requests"
+                ", and no % one\nexpected: a component that % its requests"
             };
             let number = Number(self.number as usize);
             draft.say(
@@ -107,12 +107,12 @@ impl<'t> Wire<'t> {
             let args = [Name(port.name.as_slice()), Text(sense(port.passive))];
             draft.say(", and port % is %", &args);
         }
-        let wanted = if port.passive {
-            "wanted: a passive end alone: at a passive port the host asks"
+        let expected = if port.passive {
+            "expected: a passive end alone: at a passive port the host asks"
         } else {
-            "wanted: an active end alone: at an active port the host answers"
+            "expected: an active end alone: at an active port the host answers"
         };
-        draft.say(wanted, &[]);
+        draft.say(expected, &[]);
     }
 
     // The first end of the other sense.

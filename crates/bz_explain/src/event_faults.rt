@@ -11,7 +11,7 @@ use std::alloc::{AllocError, Global};
 
 /// A journal without room for one entry more.
 pub(crate) const FULL: &str = "found: a journal that has as many entries as it may have\n\
-    wanted: fewer events, or --journal with a greater number, up to 16777216";
+    expected: fewer events, or --journal with a greater number, up to 16777216";
 
 /// An external port, and its channel.
 #[derive(Clone, Copy)]
@@ -156,7 +156,7 @@ fn explain_refused(draft: &mut Draft, part: &PartRecord, word: &str, error: NetE
 fn explain_unknown(draft: &mut Draft, part: &PartRecord, name: &[u8]) {
     let names = draft.gathered(port_names(draft.alloc(), &part.ports));
     let args = [Name(name), Count(names.len(), "port", "ports")];
-    draft.put(", and no port has the name %\nwanted: one of %", &args);
+    draft.put(", and no port has the name %\nexpected: one of %", &args);
     draft.say_names(&names);
     draft.say_nearest(NEAREST, name, &names);
 }
@@ -167,19 +167,20 @@ fn explain_port(draft: &mut Draft, port: Outside<'_>, verb: Verb, error: NetErro
     match error {
         NetError::WrongSide if port.passive => {
             let found =
-                ", and port % is passive: there the host asks and the net answers\nwanted: ";
+                ", and port % is passive: there the host asks and the net answers\nexpected: ";
             draft.put(found, &[name]);
             put_round(draft, port, Verb::Offer, Verb::Collect);
         }
         NetError::WrongSide => {
-            let found = ", and port % is active: there the net asks and the host answers\nwanted: ";
+            let found =
+                ", and port % is active: there the net asks and the host answers\nexpected: ";
             draft.put(found, &[name]);
             put_round(draft, port, Verb::Accept, Verb::Answer);
         }
         NetError::ValueMissing | NetError::ValueUnwanted => {
             let value = if port.brings(verb) { "a" } else { "no" };
             draft.put(
-                ", and port % carries % value there\nwanted: ",
+                ", and port % carries % value there\nexpected: ",
                 &[name, Text(value)],
             );
             put_word(draft, port, verb);
@@ -187,7 +188,7 @@ fn explain_port(draft: &mut Draft, port: Outside<'_>, verb: Verb, error: NetErro
         _ => {
             let width = Count(port.chan.width as usize, "bit", "bits");
             let args = [name, width, Wide(port.greatest())];
-            draft.put(", and port % has %\nwanted: a value up to %", &args);
+            draft.put(", and port % has %\nexpected: a value up to %", &args);
         }
     }
     draft.say("", &[]);

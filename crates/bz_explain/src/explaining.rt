@@ -35,23 +35,23 @@ fn told_of(fault: &Fault) -> &'static str {
     match fault {
         Fault::Discord { .. } => {
             "found: a record or share that is no part of the journal\n\
-            wanted: records that agree with it: this is an error of the program itself"
+            expected: records that agree with it: this is an error of the program itself"
         }
         Fault::NoThread => {
             "found: a thread that could not be started\n\
-            wanted: a thread for each session and each worker"
+            expected: a thread for each session and each worker"
         }
         Fault::Read => {
             "found: an input that can't be read, or has more than 67108864 bytes\n\
-            wanted: a netlist of at most 67108864 bytes"
+            expected: a netlist of at most 67108864 bytes"
         }
         Fault::Write => {
             "found: an output that took not all that was written\n\
-            wanted: an output with room, as a file or a pipe that is read to its end"
+            expected: an output with room, as a file or a pipe that is read to its end"
         }
         _ => {
             "found: a want of memory\n\
-            wanted: more memory, or a smaller netlist or journal"
+            expected: more memory, or a smaller netlist or journal"
         }
     }
 }

@@ -24,7 +24,7 @@ pub(crate) fn put_row(draft: &mut Draft, kind: &Kind) {
     let singles = Count(singles, "single entry", "single entries");
     let (article, word) = word_of(kind);
     let args = [article, word, singles, Count(lists, "list", "lists")];
-    draft.put("wanted: for % % % and %", &args);
+    draft.put("expected: for % % % and %", &args);
     let mut before = ": (";
     for row in rows {
         let form = if row.array { "%(%1 ..)" } else { "%%" };
@@ -55,7 +55,7 @@ pub(crate) fn put_kind(draft: &mut Draft, kind: &Kind, port: Joined) {
     let (article, word) = word_of(kind);
     let (carried, deed) = (Text(kind_text(row.kind)), Text(deed(row)));
     let args = [carried, article, word, deed, name, member];
-    draft.say("wanted: a % channel: % % % %%", &args);
+    draft.say("expected: a % channel: % % % %%", &args);
 }
 
 // What a component does at such a port.
@@ -71,9 +71,9 @@ fn deed(row: PortRow) -> &'static str {
 }
 
 /// Tells what widths a kind asks for.
-pub(crate) fn put_widths_wanted(draft: &mut Draft, kind: &Kind) {
+pub(crate) fn put_widths_expected(draft: &mut Draft, kind: &Kind) {
     let (article, word) = word_of(kind);
-    draft.say("wanted: % % %", &[Text(width_rule(kind)), article, word]);
+    draft.say("expected: % % %", &[Text(width_rule(kind)), article, word]);
 }
 
 fn width_rule(kind: &Kind) -> &'static str {

@@ -27,13 +27,13 @@ enum Found<'t> {
 
 /// A member of a form that has none of the shapes, the name of an earlier port, or a width that is out of bounds.
 pub(crate) fn explain_member(draft: &mut Draft, part: Wrong<'_>, head: Head, member: Form<'_>) {
-    let wanted = match head {
+    let expected = match head {
         Head::Ports => {
-            "wanted: (port \"NAME\" SENSE) or (sync-port \"NAME\" SENSE), SENSE active or passive"
+            "expected: (port \"NAME\" SENSE) or (sync-port \"NAME\" SENSE), SENSE active or passive"
         }
-        Head::Channels => "wanted: (sync), (push W) or (pull W), W from 1 to 128",
+        Head::Channels => "expected: (sync), (push W) or (pull W), W from 1 to 128",
         Head::Components => {
-            "wanted: (component \"NAME\" (PARAMETERS) (ENTRIES)), with both lists"
+            "expected: (component \"NAME\" (PARAMETERS) (ENTRIES)), with both lists"
         }
     };
     match found_in(head, member) {
@@ -43,7 +43,7 @@ pub(crate) fn explain_member(draft: &mut Draft, part: Wrong<'_>, head: Head, mem
         Found::Taken => return explain_taken(draft, part, member),
         Found::Entries(entries) => return explain_entries(draft, entries),
     }
-    draft.say(wanted, &[]);
+    draft.say(expected, &[]);
 }
 
 fn found_in(head: Head, member: Form<'_>) -> Found<'_> {
@@ -106,7 +106,7 @@ fn component_found<'t>(member: Form<'t>, rest: Forms<'t>) -> Found<'t> {
 
 fn explain_width(draft: &mut Draft, width: u128) {
     let args = [Wide(width), Number(MAX_WIDTH as usize)];
-    draft.say("found: width %\nwanted: a width from 1 to %", &args);
+    draft.say("found: width %\nexpected: a width from 1 to %", &args);
 }
 
 // A port whose name an earlier port has.
@@ -122,7 +122,7 @@ fn explain_taken(draft: &mut Draft, part: Wrong<'_>, member: Form<'_>) {
             draft.say("found: the name %, which port % has too (%)", &args);
         }
     }
-    draft.say("wanted: a name of its own for each port of a part", &[]);
+    draft.say("expected: a name of its own for each port of a part", &[]);
 }
 
 // The first entry that is neither the number of a channel nor a list of such numbers.
@@ -135,7 +135,7 @@ fn explain_entries(draft: &mut Draft, entries: Forms<'_>) {
         }
     }
     draft.say(
-        "wanted: for each entry the number of a channel, or a list of such numbers",
+        "expected: for each entry the number of a channel, or a list of such numbers",
         &[],
     );
 }

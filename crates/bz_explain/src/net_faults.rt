@@ -17,12 +17,12 @@ pub(crate) fn explain_net(draft: &mut Draft, netlist: Netlist<'_>, asked: &[u8],
         ElabError::Recursive(number) => explain_recursive(draft, netlist, number),
         ElabError::TooDeep => draft.say(
             "found: a path of more than 64 instances, each within the one before\n\
-            wanted: at most 64 instances within one another",
+            expected: at most 64 instances within one another",
             &[],
         ),
         ElabError::TooBig => draft.say(
             "found: more components, channels or ends than a net may have\n\
-            wanted: at most 1000000 components, 2000000 channels and 4000000 ends of components",
+            expected: at most 1000000 components, 2000000 channels and 4000000 ends of components",
             &[],
         ),
         ElabError::TwoEnds(_) | ElabError::LooseEnd(_) | ElabError::PortSense(_) => {
@@ -50,12 +50,12 @@ pub(crate) fn explain_net(draft: &mut Draft, netlist: Netlist<'_>, asked: &[u8],
 fn explain_no_part(draft: &mut Draft, parts: &Parts, asked: &[u8]) {
     let names = draft.gathered(part_names(draft.alloc(), parts, ""));
     draft.say("found: part %", &[Name(asked)]);
-    let wanted = if names.is_empty() {
-        "wanted: the name of a part, of which the text has none"
+    let expected = if names.is_empty() {
+        "expected: the name of a part, of which the text has none"
     } else {
-        "wanted: one of %"
+        "expected: one of %"
     };
-    draft.put(wanted, &[Count(names.len(), "part", "parts")]);
+    draft.put(expected, &[Count(names.len(), "part", "parts")]);
     draft.say_names(&names);
     draft.say_nearest(NEAREST, asked, &names);
 }
@@ -68,7 +68,7 @@ fn explain_recursive(draft: &mut Draft, netlist: Netlist<'_>, number: usize) {
     }
     draft.say(
         "found: an instance of part % within itself\n\
-        wanted: instances of other parts, which have none of this one within them",
+        expected: instances of other parts, which have none of this one within them",
         &name,
     );
 }

@@ -56,18 +56,18 @@ fn explain_seat(draft: &mut Draft, part: Wrong<'_>, netlist: Forms<'_>, seat: Se
             "found: ",
             nth(part.items, 1),
             " where its name belongs\n\
-            wanted: a name in quotes, as in (breeze-part \"p\" ..)",
+            expected: a name in quotes, as in (breeze-part \"p\" ..)",
         ),
         Seat::Name => {
             let head = b"breeze-part".as_slice();
             let first = find_named(draft, netlist, Some(head), part.name);
             put_first(draft, part, first);
-            draft.say("wanted: a name of its own for each part of a text", &[]);
+            draft.say("expected: a name of its own for each part of a text", &[]);
         }
         Seat::Form(head) => {
             put_first(draft, part, find(part.items, Which::Headed(head)));
             draft.say(
-                "wanted: each of ports, channels and components at most once in a part",
+                "expected: each of ports, channels and components at most once in a part",
                 &[],
             );
         }
@@ -100,7 +100,7 @@ fn explain_missing(draft: &mut Draft, part: Forms<'_>) {
     }
     draft.say(
         " has no channel\n\
-        wanted: a channel for each port: the ports are the first channels",
+        expected: a channel for each port: the ports are the first channels",
         &[],
     );
 }

@@ -11,25 +11,25 @@ pub(crate) fn explain_text(draft: &mut Draft, text: &[u8], error: SexprError) {
             at,
             "this parenthesis closes nothing\n\
             found: a closing parenthesis where no list is open\n\
-            wanted: as many closing parentheses as opening ones",
+            expected: as many closing parentheses as opening ones",
         ),
         SexprError::UnclosedText(at) => (
             at,
             "this quote opens a text\n\
             found: the netlist ends before the text does\n\
-            wanted: a closing quote, probably on this line",
+            expected: a closing quote, probably on this line",
         ),
         SexprError::UnclosedList(at) => (
             at,
             "this parenthesis opens a list\n\
             found: the netlist ends before the list does\n\
-            wanted: a closing parenthesis for each opening one",
+            expected: a closing parenthesis for each opening one",
         ),
         SexprError::TooDeep(at) => (
             at,
             "this parenthesis opens a list in 256 others\n\
             found: a list of the 257th level\n\
-            wanted: lists of at most 256 levels",
+            expected: lists of at most 256 levels",
         ),
         SexprError::Memory => return,
     };

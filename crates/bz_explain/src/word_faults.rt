@@ -4,11 +4,12 @@ use crate::asked::Words;
 use bz_notes::Arg::{Number, Text};
 use bz_notes::Draft;
 
-const SESSIONS: &str = "wanted: at most 16 sessions";
+const SESSIONS: &str = "expected: at most 16 sessions";
 
-const RUN_VERBS: &str = "wanted: one of offer:P[:V] collect:P accept:P answer:P[:V] watch:P run:N";
+const RUN_VERBS: &str =
+    "expected: one of offer:P[:V] collect:P accept:P answer:P[:V] watch:P run:N";
 
-const POOL_VERBS: &str = "wanted: one of offer:P[:V] collect:P accept:P answer:P[:V] watch:P";
+const POOL_VERBS: &str = "expected: one of offer:P[:V] collect:P accept:P answer:P[:V] watch:P";
 
 /// The notes of a word that is no command, by its number from 1.
 pub(crate) fn explain_word(draft: &mut Draft, words: Words<'_, '_>, number: usize) {
@@ -30,13 +31,14 @@ pub(crate) fn explain_word(draft: &mut Draft, words: Words<'_, '_>, number: usiz
 // What belongs in a word of a verb.
 fn rule_of(verb: &str) -> Option<&'static str> {
     Some(match verb {
-        "offer" => "wanted: offer:P or offer:P:V, P the name of a port and V a number below 2^128",
-        "collect" => "wanted: collect:P, P the name of a port",
-        "accept" => "wanted: accept:P, P the name of a port",
+        "offer" =>
+            "expected: offer:P or offer:P:V, P the name of a port and V a number below 2^128",
+        "collect" => "expected: collect:P, P the name of a port",
+        "accept" => "expected: accept:P, P the name of a port",
         "answer" =>
-            "wanted: answer:P or answer:P:V, P the name of a port and V a number below 2^128",
-        "watch" => "wanted: watch:P, P the name of a port",
-        "run" => "wanted: run:N, N a number below 2^64",
+            "expected: answer:P or answer:P:V, P the name of a port and V a number below 2^128",
+        "watch" => "expected: watch:P, P the name of a port",
+        "run" => "expected: run:N, N a number below 2^64",
         _ => return None,
     })
 }
