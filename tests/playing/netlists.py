@@ -43,7 +43,7 @@ breezesim: note: at line 1, column 1
 breezesim: note: 1 | (breeze-part "cell"
 breezesim: note:   | ^ this parenthesis opens a list
 breezesim: note: found: the netlist ends before the list does
-breezesim: note: wanted: a closing parenthesis for each opening one
+breezesim: note: expected: a closing parenthesis for each opening one
 """
 
 # A loop round a Continue, which never rests.
