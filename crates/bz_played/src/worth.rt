@@ -99,20 +99,24 @@ pub fn play(rt: &HostRuntime) -> Result<(), Fail> {
     tally.tell(rt, "worth")
 }
 
-// Goes through the tables of a text: the lines below an item `text NAME`, of which the first has the names of the columns.
+// Goes through the tables of a text, each an item `text NAME`. (What stands in front of the first is comments.)
 fn tables(text: &str, tally: &mut Tally) {
-    let mut is_table = false;
-    let mut head = "";
-    for line in text.lines() {
+    for table in text.split("\ntext ") {
+        rows(table, tally);
+    }
+}
+
+// Goes through the rows of a table: behind its name and the names of its columns, up to what is no line of it.
+fn rows(table: &str, tally: &mut Tally) {
+    let mut lines = table.lines().skip(1);
+    let Some(head) = lines.next() else {
+        return;
+    };
+    for line in lines {
         if !line.starts_with("  ") {
-            is_table = line.starts_with("text ")
-                || is_table && (line.is_empty() || line.starts_with("#"));
-            head = if line.starts_with("text ") { "" } else { head };
-        } else if is_table && head.is_empty() {
-            head = line;
-        } else if is_table {
-            results(head, line, tally);
+            return;
         }
+        results(head, line, tally);
     }
 }
 
