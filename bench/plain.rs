@@ -1,4 +1,4 @@
-// The loops of bz_bench in plain Rust, over the same data structures: a row of bits with two rows above it, and nodes in
+// The loops of bench_store in plain Rust, over the same data structures: a row of bits with two rows above it, and nodes in
 // chunks of 256.
 use std::env;
 

@@ -27,6 +27,8 @@ class Case:
     # Behind `trace`, `beside`, `rows` or `gives`: another text.
     other: bytes = b""
     depth: int | None = None
+    around: int | None = None
+    hops: int | None = None
     # Whether there is `beside each`.
     is_each: bool = False
     words: list = field(default_factory=list)
@@ -59,7 +61,7 @@ def set_value(case, texts, key, value):
         case.words.append(value)
     elif key == "workers":
         case.workers.append(item.number_of(value))
-    elif key in ("depth", "fuel", "rounds", "journal"):
+    elif key in ("depth", "around", "hops", "fuel", "rounds", "journal"):
         setattr(case, key, item.number_of(value))
     else:
         item.fail(f"no such setting: {key}")

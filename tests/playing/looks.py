@@ -19,7 +19,9 @@ def looks(case, program):
     words = LOOKS[case.command]
     if case.command == "drawing":
         want.lines += case.other.decode().splitlines()
-        words = [*words, *([] if case.depth is None else ["--depth", str(case.depth)])]
+        for key in ("depth", "around", "hops"):
+            value = getattr(case, key)
+            words = [*words, *([] if value is None else [f"--{key}", str(value)])]
     for part in case.parts if case.command != "parts" else [None]:
         yield partial(look_differs, case, program, words, part, want)
 

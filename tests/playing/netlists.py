@@ -82,3 +82,27 @@ BIG = "".join(
 def big_trace(count):
     """So many requests at the ports of the big part."""
     return b"trace 2\n" + b"".join(b"h1 offer p%d done\n" % number for number in range(1, count + 1))
+
+# Ports of one letter each: all 256.
+LETTERS = [bytes([byte]) for byte in range(256)]
+NAMES = b"".join(
+    [
+        b'(breeze-part "names" (ports',
+        *[b' (sync-port "' + (b"\\" if letter in b'"\\' else b"") + letter + b'" passive)' for letter in LETTERS],
+        b") (channels" + b" (sync)" * 256 + b") (components",
+        *[b' (component "$BrzContinue" () (%d))' % (at + 1) for at in range(256)],
+        b"))\n",
+    ]
+)
+
+# Sixty Loops, each of which calls the host.
+CALLS = "".join(
+    [
+        '(breeze-part "calls" (ports (sync-port "a" passive)',
+        *[f' (sync-port "o{at}" active)' for at in range(1, 61)],
+        ") (channels" + " (sync)" * 121 + ") (components",
+        f' (component "$BrzConcur" (60) (1 ({" ".join(str(at) for at in range(62, 122))})))',
+        *[f' (component "$BrzLoop" () ({at + 61} {at + 1}))' for at in range(1, 61)],
+        "))\n",
+    ]
+).encode()

@@ -4,18 +4,22 @@
 mod disk;
 
 use crate::disk::Disk;
-use bz_command_line::{
-    ArgsFault, BAD_COMMAND_LINE, CommandName, Options, Request, request_of, split_words,
-    tell_error, words_of,
+use bz_cli_args::{
+    ArgsFault, BAD_COMMAND_LINE, CommandName, Error, Options, PartName, Request, Source, Told,
+    request_of, shared_stdin, split_words, stray_word, tell_error, word_starts, words_of,
 };
-use bz_explain::{Asked, Words, explain};
+use bz_cli_input::{Fault, INPUT_LIMIT, read_input};
+use bz_cli_program::{
+    Cause, Given, chart, check, check_words, draw, is_file, list, netlist_in, open_file,
+    part_named, parts, pool, run, tell_tops, text_of, tops_of,
+};
+use bz_explain::{Asked, WordFile, Words, explain};
+use bz_explain_notes::Arg::{Number, Text};
+use bz_explain_notes::{Draft, Keeping, tell, tell_notes};
+use bz_explain_trace::{Claim, explain_trace};
 use bz_explore::explore_cmd;
-use bz_input::Fault;
-use bz_notes::{Keeping, tell};
-use bz_program::{
-    Given, chart, check, draw, list, netlist_in, part_named, parts, pool, run, text_of,
-};
-use std::io::{BufWriter, IsTerminal, Read};
+use std::io::{BufWriter, IsTerminal, Read, Write};
+use std::os::fd::AsFd;
 use std::process::ExitCode;
 use std::sync::Wait;
 use std::thread::Threads;
@@ -38,14 +42,43 @@ fn perform<T: Threads + Wait + Sync, R: Read + Drop>(
     let output = &mut output;
     let errors = &mut rt.stderr();
     match given.options.command {
-        CommandName::Run => run(alloc, given, input, output),
+        CommandName::Run => run(alloc, given, input, output, errors),
         CommandName::Explore => explore(rt, given, input),
-        CommandName::Check => check(alloc, given, input, output),
+        CommandName::Check | CommandName::Chart => judge(rt, given, input, output),
         CommandName::List => list(alloc, given, input, output),
         CommandName::Parts => parts(alloc, input, output),
-        CommandName::Draw => draw(alloc, given, input, output),
-        CommandName::Chart => chart(alloc, given, input, output, errors),
+        CommandName::Draw => draw(alloc, given, input, output, errors),
         CommandName::Pool => pool(threads, alloc, given, input, output, errors),
+    }
+}
+
+// Checks or draws a trace: that of a file, that of standard input, or the one behind the netlist.
+fn judge<R: Read + Drop, W: Write>(
+    rt: &HostRuntime,
+    given: Given<'_, '_>,
+    input: &mut Keeping<R>,
+    output: &mut W,
+) -> Result<u8, Fault> {
+    match given.options.trace {
+        None => judge_trace(rt, given, input, None::<&mut fs::File>, output),
+        Some(Source::Stdin) => judge_trace(rt, given, input, Some(&mut rt.reader()), output),
+        Some(Source::File(path)) => match open_file(rt, path) {
+            Ok(mut file) => judge_trace(rt, given, input, Some(&mut file), output),
+            Err(cause) => tell_unreadable(rt, path, &cause),
+        },
+    }
+}
+
+fn judge_trace<R: Read + Drop, T: Read, W: Write>(
+    rt: &HostRuntime,
+    given: Given<'_, '_>,
+    input: &mut Keeping<R>,
+    trace: Option<&mut T>,
+    output: &mut W,
+) -> Result<u8, Fault> {
+    match given.options.command {
+        CommandName::Chart => chart(rt.alloc(), given, input, trace, output, &mut rt.stderr()),
+        _ => check(rt.alloc(), given, input, trace, output),
     }
 }
 
@@ -55,16 +88,28 @@ fn explore<R: Read + Drop>(
     given: Given<'_, '_>,
     input: &mut Keeping<R>,
 ) -> Result<u8, Fault> {
+    let netlist = match given.options.netlist {
+        Source::File(path) => Some(path),
+        Source::Stdin => None,
+    };
     let ending = explore_cmd(
         rt.alloc(),
         given.part,
-        rt.stdin().is_terminal(),
+        rt.stdin().is_terminal() && rt.stdout().is_terminal(),
         input,
         &mut rt.reader(),
-        &mut Disk(rt),
+        &mut Disk { rt, netlist },
         &mut io::writer(rt),
     )?;
     Ok(ending.status())
+}
+
+// Whether a net is to be played by hand and standard input is closed: a file that is opened would take its place.
+fn lacks_lines(rt: &HostRuntime, command: CommandName) -> bool {
+    match command {
+        CommandName::Explore => rt.stdin().as_fd().try_clone_to_owned().is_err(),
+        _ => false,
+    }
 }
 
 // Does what a command says, and tells a fault, with notes behind it where they were asked for.
@@ -75,33 +120,119 @@ fn play<T: Threads + Wait + Sync, R: Read + Drop>(
     input: &mut Keeping<R>,
 ) -> ExitCode {
     match perform(rt, threads, given, input) {
-        Ok(status) => ExitCode::from(status),
+        Ok(status) => {
+            note_trace(rt, given, input.kept(), status);
+            ExitCode::from(status)
+        }
         Err(fault) => refuse_noted(rt, &fault, given, input.kept()),
     }
 }
 
+// Tells why a trace is none of a run, where the input was kept for that.
+fn note_trace<'a>(rt: &HostRuntime, given: Given<'a, '_>, kept: Option<&'a [u8]>, status: u8) {
+    if let (1, Some(kept), CommandName::Check | CommandName::Chart) = (
+        status,
+        kept,
+        given.options.command,
+    ) {
+        let netlist = netlist_in(&given.options, kept);
+        let notes = match given.options.trace {
+            None => {
+                let (_, trace) = kept.split_at(netlist.len().min(kept.len()));
+                let claim = Claim {
+                    part: given.part,
+                    netlist,
+                    trace,
+                    file: None,
+                };
+                explain_trace(rt.alloc(), claim)
+            }
+            Some(source) => notes_of(rt, given.part, netlist, source),
+        };
+        let _ = tell_notes(rt.alloc(), &notes, &mut rt.stderr());
+    }
+}
+
+// The notes of a trace with a file of its own, which is read once more for them.
+fn notes_of<'a>(rt: &HostRuntime, part: &'a [u8], netlist: &'a [u8], source: Source<'a>) -> Draft {
+    let alloc = rt.alloc();
+    if let Some((path, trace)) = read_again(rt, source) {
+        let claim = Claim {
+            part,
+            netlist,
+            trace: trace.as_slice(),
+            file: Some(path),
+        };
+        return explain_trace(alloc, claim);
+    }
+    let mut notes = Draft::new(alloc);
+    notes.say(
+        "the reason is told only where the trace is a regular file of at most % bytes",
+        &[Number(INPUT_LIMIT)],
+    );
+    notes
+}
+
+// What a file has. Standard input, a pipe and a device can't be read twice.
+fn read_again<'a>(rt: &HostRuntime, source: Source<'a>) -> Option<(&'a str, Vec<u8>)> {
+    let Source::File(path) = source else {
+        return None;
+    };
+    if !is_file(rt, path) {
+        return None;
+    }
+    let mut file = open_file(rt, path).ok()?;
+    let trace = read_input(rt.alloc(), &mut file).ok()?;
+    Some((path, trace))
+}
+
 // Ends with a fault line, and with notes behind it where the input was kept for them.
-fn refuse_noted(
+fn refuse_noted<'a>(
     rt: &HostRuntime,
     fault: &Fault,
-    given: Given<'_, '_>,
-    kept: Option<&[u8]>,
+    given: Given<'a, '_>,
+    kept: Option<&'a [u8]>,
 ) -> ExitCode {
-    let Some(kept) = kept else {
-        return refuse(rt, fault);
+    let kept = match (kept, fault) {
+        (Some(kept), _) => kept,
+        // (what could not be kept for want of memory)
+        (None, Fault::Memory) if given.options.explains => &[],
+        (None, _) => return refuse(rt, fault),
+    };
+    // (where memory is wanting for them, the places of words are not told)
+    let starts = match given.word_text {
+        Some(text) => word_starts(rt.alloc(), text).unwrap_or_else(|_| Vec::new(rt.alloc())),
+        None => Vec::new(rt.alloc()),
     };
     let command = given.options.command;
     let asked = Asked {
-        netlist: netlist_in(command, kept),
+        netlist: netlist_in(&given.options, kept),
         part: given.part,
-        words: if let CommandName::Pool = command {
-            Words::Pool(given.words)
-        } else {
-            Words::Run(given.words)
+        words: Words {
+            list: given.words,
+            is_pool: matches!(command, CommandName::Pool),
+            file: given.word_text.map(|text| WordFile {
+                text: text.as_bytes(),
+                starts: starts.as_slice(),
+            }),
         },
     };
-    let notes = explain(rt.alloc(), fault, asked);
+    let mut notes = explain(rt.alloc(), fault, asked);
+    note_file(rt, fault, given.words, &mut notes);
     ExitCode::from(tell(rt.alloc(), fault, Some(&notes), &mut rt.stderr()))
+}
+
+// Notes that a word that is none is a file.
+fn note_file(rt: &HostRuntime, fault: &Fault, words: &[&str], notes: &mut Draft) {
+    let Fault::Word(number) = fault else {
+        return;
+    };
+    if let Some(word) = words.get(number.saturating_sub(1)) {
+        if is_file(rt, word) {
+            let form = "help: % is a file; files are named by options, as --netlist %";
+            notes.say(form, &[Text(word), Text(word)]);
+        }
+    }
 }
 
 // Ends with a fault line.
@@ -116,35 +247,85 @@ fn reject(rt: &HostRuntime, line: &str) -> ExitCode {
 }
 
 // Ends where a file that the command line names can't be read.
-fn unreadable(rt: &HostRuntime, path: &str) -> ExitCode {
-    let _ = eprintln!(rt; "error: cannot read {path}");
-    ExitCode::from(BAD_COMMAND_LINE)
+fn unreadable(rt: &HostRuntime, path: &str, cause: &Cause) -> ExitCode {
+    match tell_unreadable(rt, path, cause) {
+        Ok(status) => ExitCode::from(status),
+        Err(fault) => refuse(rt, &fault),
+    }
 }
 
-// Plays a part that the command line names.
+// Tells why a file can't be read. The status of a bad command line.
+fn tell_unreadable(rt: &HostRuntime, path: &str, cause: &Cause) -> Result<u8, Fault> {
+    if let Cause::Memory = cause {
+        return Err(Fault::Memory);
+    }
+    let _ = eprintln!(rt; "error: cannot read {path}: {cause}");
+    Ok(BAD_COMMAND_LINE)
+}
+
+// Plays the one part of the netlist that no other part uses.
+fn play_top<T: Threads + Wait + Sync, R: Read + Drop>(
+    rt: &HostRuntime,
+    threads: &T,
+    given: Given<'_, '_>,
+    input: &mut Keeping<R>,
+) -> ExitCode {
+    let alloc = rt.alloc();
+    if let Err(fault) = check_words(alloc, given) {
+        return refuse_noted(rt, &fault, given, input.kept());
+    }
+    let text = match read_input(alloc, input) {
+        Ok(text) => text,
+        Err(fault) => return refuse_noted(rt, &Fault::from(fault), given, input.kept()),
+    };
+    let text = text.as_slice();
+    match tops_of(alloc, netlist_in(&given.options, text)) {
+        Ok(names) => match names.as_slice() {
+            [name] => {
+                let input = &mut Keeping::new(alloc, text, given.options.explains);
+                let part = name.as_slice();
+                play(rt, threads, Given { part, ..given }, input)
+            }
+            names => {
+                let _ = tell_tops(names, &mut rt.stderr());
+                ExitCode::from(BAD_COMMAND_LINE)
+            }
+        },
+        Err(fault) => refuse_noted(rt, &fault, given, input.kept()),
+    }
+}
+
+// Plays a part that the command line names, or the one on top. None is given yet.
 fn play_named<T: Threads + Wait + Sync, R: Read + Drop>(
     rt: &HostRuntime,
     threads: &T,
-    options: Options<'_>,
-    words: &[&str],
+    given: Given<'_, '_>,
     input: &mut Keeping<R>,
 ) -> ExitCode {
-    match part_named(rt.alloc(), options.part) {
-        Ok(Some(part)) => {
-            let part = part.as_slice();
-            play(
-                rt,
-                threads,
-                Given {
-                    options,
-                    part,
-                    words,
-                },
-                input,
-            )
+    let options = given.options;
+    let part = match part_named(rt.alloc(), options.part) {
+        Ok(Some(part)) => part,
+        Ok(None) => return reject(rt, "the value of --part-form is not a name form"),
+        Err(_) => return refuse(rt, &Fault::Memory),
+    };
+    let part = part.as_slice();
+    let given = Given { part, ..given };
+    match (options.command, options.part) {
+        (CommandName::Parts, _) | (_, PartName::Text(_)) | (_, PartName::Form(_)) => {
+            play(rt, threads, given, input)
         }
-        Ok(None) => reject(rt, "the value of --part-form is not a name form"),
-        Err(_) => refuse(rt, &Fault::Memory),
+        (_, PartName::Top) => play_top(rt, threads, given, input),
+    }
+}
+
+// The words of a file, or of standard input.
+fn words_text(rt: &HostRuntime, source: Source<'_>) -> Result<String, Cause> {
+    match source {
+        Source::Stdin => text_of(rt.alloc(), rt.reader()),
+        Source::File(path) => match open_file(rt, path) {
+            Ok(file) => text_of(rt.alloc(), file),
+            Err(cause) => Err(cause),
+        },
     }
 }
 
@@ -153,18 +334,30 @@ fn play_words_of<T: Threads + Wait + Sync, R: Read + Drop>(
     rt: &HostRuntime,
     threads: &T,
     options: Options<'_>,
-    path: &str,
+    source: Source<'_>,
     input: &mut Keeping<R>,
 ) -> ExitCode {
-    let Ok(mut file) = fs::open(rt, path) else {
-        return unreadable(rt, path);
+    let text = match words_text(rt, source) {
+        Ok(text) => text,
+        Err(cause) => return unreadable(rt, path_of(source), &cause),
     };
-    let Some(text) = text_of(rt.alloc(), &mut file) else {
-        return unreadable(rt, path);
+    let Ok(words) = split_words(rt.alloc(), text.as_str()) else {
+        return refuse(rt, &Fault::Memory);
     };
-    match split_words(rt.alloc(), text.as_str()) {
-        Ok(words) => play_named(rt, threads, options, words.as_slice(), input),
-        Err(_) => refuse(rt, &Fault::Memory),
+    let given = Given {
+        options,
+        part: &[],
+        words: words.as_slice(),
+        word_text: Some(text.as_str()),
+    };
+    play_named(rt, threads, given, input)
+}
+
+// What an error line calls a source.
+fn path_of(source: Source<'_>) -> &str {
+    match source {
+        Source::Stdin => "-",
+        Source::File(path) => path,
     }
 }
 
@@ -176,10 +369,16 @@ fn play_on<T: Threads + Wait + Sync, R: Read + Drop>(
 ) -> ExitCode {
     let options = request.options;
     let input = &mut Keeping::new(rt.alloc(), input, options.explains);
-    match options.word_file {
-        None => play_named(rt, threads, options, request.words.as_slice(), input),
-        Some(path) => play_words_of(rt, threads, options, path, input),
+    if let Some(source) = options.word_file {
+        return play_words_of(rt, threads, options, source, input);
     }
+    let given = Given {
+        options,
+        part: &[],
+        words: request.words.as_slice(),
+        word_text: None,
+    };
+    play_named(rt, threads, given, input)
 }
 
 // Does what was asked for, on the netlist of the file that is named, or of standard input.
@@ -188,12 +387,40 @@ fn play_request<T: Threads + Wait + Sync>(
     threads: &T,
     request: &Request<'_>,
 ) -> ExitCode {
+    if let Some(other) = shared_stdin(&request.options) {
+        let _ = eprintln!(rt; "error: standard input cannot have both the netlist and the {other}");
+        return ExitCode::from(BAD_COMMAND_LINE);
+    }
     match request.options.netlist {
-        None => play_on(rt, threads, request, rt.reader()),
-        Some(path) => match fs::open(rt, path) {
+        Source::Stdin => play_on(rt, threads, request, rt.reader()),
+        Source::File(path) => match open_file(rt, path) {
             Ok(file) => play_on(rt, threads, request, file),
-            Err(_) => unreadable(rt, path),
+            Err(cause) => unreadable(rt, path, &cause),
         },
+    }
+}
+
+// Ends where the words of the command line ask for no command.
+fn tell_no_request(rt: &HostRuntime, error: &Error) -> ExitCode {
+    match tell_error(rt, error) {
+        Told::Status(status) => {
+            tip(rt, error);
+            ExitCode::from(status)
+        }
+        Told::Unwritten => refuse(rt, &Fault::Write),
+        Told::Memory => refuse(rt, &Fault::Memory),
+    }
+}
+
+// Tells that the word that has no place on the command line is a file.
+fn tip(rt: &HostRuntime, error: &Error) {
+    if let Some(word) = stray_word(rt.alloc(), error) {
+        let word = word.as_str();
+        if is_file(rt, word) {
+            let _ = eprintln!(rt;
+                "\ntip: {word} is a file; files are named by options, as --netlist {word}"
+            );
+        }
     }
 }
 
@@ -204,11 +431,9 @@ fn main(rt: HostRuntime) -> ExitCode {
         Err(ArgsFault::Memory) => return refuse(&rt, &Fault::Memory),
     };
     match request_of(rt.alloc(), words.as_slice()) {
+        Ok(Some(request)) if lacks_lines(&rt, request.options.command) => refuse(&rt, &Fault::Read),
         Ok(Some(request)) => play_request(&rt, &rt, &request),
         Ok(None) => ExitCode::from(BAD_COMMAND_LINE),
-        Err(error) => match tell_error(&rt, &error) {
-            Some(status) => ExitCode::from(status),
-            None => refuse(&rt, &Fault::Memory),
-        },
+        Err(error) => tell_no_request(&rt, &error),
     }
 }

@@ -15,13 +15,13 @@ use Rattle.bz_model.specs.declared.channel.TheConstants.{MAX_WIDTH}
 use Rattle.bz_sexpr.specs.Data.{Datum, leaf, items, num, text, symbol, span_of}
 use Rattle.bz_sexpr.specs.Views.{list_of}
 use Rattle.bz_sexpr.specs.declared.datum.Span.{Span}
-use Rattle.bz_records.specs.Records.{PartRecord, part_record}
+use Rattle.bz_breeze_records.specs.Records.{PartRecord, part_record}
 use Rattle.bz_breeze.specs.Turns.{in_turn, if_read, beside, at_byte, place_of, FaultAt}
 use Rattle.bz_breeze.specs.Forms.{is_among, names_of, port, new_port, ports, channel, channels, components, wide_channel, listed_channel}
 use Rattle.bz_breeze.specs.Faults.{Fault}
 use Rattle.bz_breeze.specs.Parts.{Lists, no_lists, once, ports_form, channels_form, components_form, headed_form, form, or_empty, finished, part_of, in_part, named_part, part, parts, part_items, part_names, listed_part}
-use Rattle.bz_records.specs.Parts.{IsFit}
-use Rattle.bz_records.specs.declared.part.Part.{Part}
+use Rattle.bz_breeze_records.specs.Parts.{IsFit}
+use Rattle.bz_breeze_records.specs.declared.part.Part.{Part}
 use Rattle.bz_breeze.specs.declared.error.Code.{Code}
 use Rattle.bz_breeze.specs.declared.error.Code.TheVariants.{BadForm, TooWide}
 use Rattle.bz_breeze.proofs.Readers.{kept_by}

@@ -7,7 +7,7 @@ use Rattle.std.proofs.lemmas.List.{append-nil}
 use Rattle.bz_sexpr.specs.Data.{Datum, leaf, items, num, text, symbol}
 use Rattle.bz_sexpr.specs.declared.datum.Span.{Span}
 use Rattle.bz_sexpr.specs.Views.{list_of}
-use Rattle.bz_records.specs.Records.{SlotRecord, one, many, ComponentRecord}
+use Rattle.bz_breeze_records.specs.Records.{SlotRecord, one, many, ComponentRecord}
 use Rattle.bz_breeze.specs.Turns.{inside, if_read, in_turn, beside}
 use Rattle.bz_breeze.specs.Forms.{param, number, numbers, slot, slots, Fields, fields_of, component_of, listed_component, component}
 use Rattle.bz_breeze.specs.Shapes.{after_symbol, headed, IsNumber, IsEntry, IsComponent}

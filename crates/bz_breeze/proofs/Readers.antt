@@ -8,7 +8,7 @@ use Rattle.bz_model.specs.declared.channel.Chan.{Chan}
 use Rattle.bz_model.specs.declared.channel.ChanKind.{ChanKind}
 use Rattle.bz_model.specs.declared.channel.TheConstants.{MAX_WIDTH}
 use Rattle.bz_sexpr.specs.Data.{Datum}
-use Rattle.bz_records.specs.Records.{ComponentRecord}
+use Rattle.bz_breeze_records.specs.Records.{ComponentRecord}
 use Rattle.bz_breeze.specs.Turns.{if_read}
 use Rattle.bz_breeze.specs.Forms.{is_among, names_of, port, new_port, channel, component}
 use Rattle.bz_breeze.specs.Shapes.{IsPort, IsWide, IsChannel, IsComponent}

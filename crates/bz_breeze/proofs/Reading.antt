@@ -5,8 +5,8 @@ use Rattle.bz_sexpr.specs.declared.datum.Span.{Span}
 use Rattle.bz_sexpr.specs.Views.{list_of, data_of}
 use Rattle.std.proofs.lemmas.Option.{IfSome_then}
 use Rattle.std.proofs.lemmas.Simd.{map-map}
-use Rattle.bz_records.specs.Records.{part_record}
-use Rattle.bz_records.specs.declared.part.Part.{Part}
+use Rattle.bz_breeze_records.specs.Records.{part_record}
+use Rattle.bz_breeze_records.specs.declared.part.Part.{Part}
 use Rattle.bz_breeze.specs.Turns.{in_turn, if_read}
 use Rattle.bz_breeze.specs.Faults.{Fault, Tells, fault_of}
 use Rattle.bz_breeze.specs.Parts.{part, part_items, part_names, listed_part, named_part}

@@ -9,7 +9,7 @@ use Rattle.bz_sexpr.specs.Data.{Datum, leaf, items, num, truth, text, symbol, sp
 use Rattle.bz_sexpr.specs.declared.datum.Span.{Span}
 use Rattle.bz_sexpr.specs.Order.{IsInOrder, AreWithin, AreInOrder}
 use Rattle.bz_sexpr.specs.Views.{list_of, data_of}
-use Rattle.bz_records.specs.Records.{PartRecord}
+use Rattle.bz_breeze_records.specs.Records.{PartRecord}
 use Rattle.bz_breeze.specs.Turns.{in_turn, if_read, FaultAt}
 use Rattle.bz_breeze.specs.Forms.{is_among}
 use Rattle.bz_breeze.specs.Faults.{Fault, Tells, fault_of}

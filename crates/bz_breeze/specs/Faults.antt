@@ -6,7 +6,7 @@ use Rattle.bz_breeze.specs.declared.error.Code.{Code}
 use Rattle.bz_breeze.specs.declared.error.Code.TheVariants as code
 use Rattle.bz_breeze.specs.declared.error.Refusal.{Refusal}
 use Rattle.bz_breeze.specs.declared.error.Refusal.TheVariants.{At, NoMemory}
-use Rattle.bz_breeze.specs.declared.error.Place.{Place}
+use Rattle.bz_breeze.specs.declared.error.ByteAt.{ByteAt}
 use Rattle.bz_breeze.specs.declared.error.BreezeError.{BreezeError}
 use Rattle.bz_breeze.specs.declared.error.BreezeError.TheVariants.{BadForm, DoublePart, ArrayedPort, Undeclared, TooWide, Memory}
 
@@ -25,7 +25,7 @@ abbrev pub fault_in : List ℕ → Refusal → Option Fault
 fault_in name (At c at) = Some (record { code = c; part = Some name; at = at })
 fault_in name NoMemory = None
 
-abbrev pub fault_at : Code → Place → Fault
+abbrev pub fault_at : Code → ByteAt → Fault
 fault_at c place = record { code = c; part = option_map (λ v. v.items) place.part; at = place.at }
 
 abbrev pub fault_of : BreezeError → Option Fault
@@ -36,7 +36,7 @@ fault_of (Undeclared place) = Some (fault_at code.Undeclared place)
 fault_of (TooWide place) = Some (fault_at code.TooWide place)
 fault_of Memory = None
 
-abbrev pub place_in : BreezeError → Option Place
+abbrev pub place_in : BreezeError → Option ByteAt
 place_in (BadForm place) = Some place
 place_in (DoublePart place) = Some place
 place_in (ArrayedPort place) = Some place

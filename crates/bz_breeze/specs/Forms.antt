@@ -9,8 +9,8 @@ use Rattle.bz_model.specs.declared.channel.ChanKind.TheVariants.{Sync, Push, Pul
 use Rattle.bz_model.specs.Limits.{max_width}
 use Rattle.bz_sexpr.specs.Data.{Datum, leaf, items, num, truth, text, symbol}
 use Rattle.bz_sexpr.specs.Views.{list_of}
-use Rattle.bz_records.specs.Records.{ParamRecord, SlotRecord, ComponentRecord, one, many}
-use Rattle.bz_records.specs.Records as seen
+use Rattle.bz_breeze_records.specs.Records.{ParamRecord, SlotRecord, ComponentRecord, one, many}
+use Rattle.bz_breeze_records.specs.Records as seen
 use Rattle.bz_breeze.specs.Turns.{inside, place_of, if_read, each, FaultAt, at_byte}
 use Rattle.bz_breeze.specs.declared.error.Code.{Code}
 use Rattle.bz_breeze.specs.declared.error.Code.TheVariants.{BadForm, ArrayedPort, Undeclared, TooWide}

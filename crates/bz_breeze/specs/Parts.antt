@@ -6,7 +6,7 @@ use Rattle.bz_model.specs.declared.channel.Chan.{Chan}
 use Rattle.bz_sexpr.specs.Data.{Datum, leaf, items, text, symbol, span_of}
 use Rattle.bz_sexpr.specs.declared.datum.Span.{Span}
 use Rattle.bz_sexpr.specs.Views.{list_of}
-use Rattle.bz_records.specs.Records.{ComponentRecord, PartRecord}
+use Rattle.bz_breeze_records.specs.Records.{ComponentRecord, PartRecord}
 use Rattle.bz_breeze.specs.Turns.{inside, if_read, in_turn, FaultAt}
 use Rattle.bz_breeze.specs.Forms.{is_among, ports, channels, components}
 use Rattle.bz_breeze.specs.Faults.{Fault}

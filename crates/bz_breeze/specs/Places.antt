@@ -7,7 +7,7 @@ use Rattle.bz_model.specs.declared.channel.ChanKind.{ChanKind}
 use Rattle.bz_model.specs.Limits.{max_width}
 use Rattle.bz_sexpr.specs.Data.{Datum, leaf, text, span_of}
 use Rattle.bz_sexpr.specs.declared.datum.Span.{Span}
-use Rattle.bz_records.specs.Records.{ComponentRecord}
+use Rattle.bz_breeze_records.specs.Records.{ComponentRecord}
 use Rattle.bz_breeze.specs.Turns.{inside, place_of, FaultAt}
 use Rattle.bz_breeze.specs.Forms.{is_among}
 use Rattle.bz_breeze.specs.Faults.{Fault}

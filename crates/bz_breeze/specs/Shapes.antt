@@ -8,7 +8,7 @@ use Rattle.bz_model.specs.declared.channel.ChanKind.{ChanKind}
 use Rattle.bz_model.specs.declared.channel.ChanKind.TheVariants.{Sync, Push, Pull}
 use Rattle.bz_sexpr.specs.Data.{Datum, leaf, num, text, symbol}
 use Rattle.bz_sexpr.specs.declared.datum.Span.{Span}
-use Rattle.bz_records.specs.Records.{SlotRecord, one, many, ComponentRecord, PartRecord}
+use Rattle.bz_breeze_records.specs.Records.{SlotRecord, one, many, ComponentRecord, PartRecord}
 use Rattle.bz_breeze.specs.Turns.{inside}
 use Rattle.bz_breeze.specs.Forms.{param}
 use Rattle.bz_breeze.specs.Parts.{part_items}

@@ -3,7 +3,7 @@ use Rattle.std.specs.Prelude.{map}
 use Rattle.std.specs.Option.{option_map}
 use Rattle.bz_model.specs.Names.{external}
 use Rattle.bz_sexpr.specs.Forms.{forms_view, text_view}
-use Rattle.bz_records.specs.Records.{component_record}
+use Rattle.bz_breeze_records.specs.Records.{component_record}
 use Rattle.bz_breeze.specs.Forms as form
 use Rattle.bz_breeze.specs.Parts as part
 use Rattle.bz_breeze.specs.declared.netlist.Lists.{Lists}

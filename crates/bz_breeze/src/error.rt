@@ -11,7 +11,7 @@ use thiserror::Error;
 
 /// Where a netlist is at fault: the name of the part, where it has one, and a byte of the text.
 #[derive(Debug, PartialEq, Eq, Drop)]
-pub struct Place {
+pub struct ByteAt {
     pub part: Option<Vec<u8>>,
     pub at: usize,
 }
@@ -22,26 +22,26 @@ pub enum BreezeError {
     /// A part, a form or a member that has none of the shapes, a second form of one head, a port whose name an earlier
     /// one has, a channel of width 0, or, at the part's closing parenthesis, fewer channels than ports.
     #[error("B1 BadForm")]
-    BadForm(Place),
+    BadForm(ByteAt),
     /// A part whose name an earlier one has, at its name.
     #[error("B2 DoublePart")]
-    DoublePart(Place),
+    DoublePart(ByteAt),
     /// A port that is an array.
     #[error("B3 ArrayedPort")]
-    ArrayedPort(Place),
+    ArrayedPort(ByteAt),
     /// A list among the components that is not headed by `component`.
     #[error("B4 Undeclared")]
-    Undeclared(Place),
+    Undeclared(ByteAt),
     /// A channel wider than `bz_model::MAX_WIDTH`.
     #[error("B5 TooWide")]
-    TooWide(Place),
+    TooWide(ByteAt),
     #[error("F3 Memory")]
     Memory,
 }
 
 impl BreezeError {
     /// The place of the fault, or `None` where memory ran out.
-    pub fn place(&self) -> Option<&Place>
+    pub fn place(&self) -> Option<&ByteAt>
         ensures { option_copied result ≡ place_in self.now }
     {
         match self {
@@ -83,7 +83,7 @@ pub(crate) enum Code {
 
 impl Code {
     /// The fault at a place, as the netlist's refusal.
-    pub(crate) fn at(self, place: Place) -> BreezeError
+    pub(crate) fn at(self, place: ByteAt) -> BreezeError
         ensures { fault_of result ≡ Some (fault_at self place) }
     {
         match self {

@@ -5,16 +5,15 @@ ghost use Rattle.std.specs.List.{filter_map};
 ghost use Rattle.std.specs.Option.{option_map};
 ghost use Rattle.bz_model.specs.Names.{external};
 ghost use Rattle.bz_sexpr.specs.Forms.{form_view, forms_view, text_view};
-ghost use Rattle.bz_records.specs.Records.{param_record, slot_record, component_record};
+ghost use Rattle.bz_breeze_records.specs.Records.{param_record, slot_record, component_record};
 ghost use Rattle.bz_breeze.specs.Turns.{inside, head_and_rest, place_of, if_read, at_byte};
 ghost use Rattle.bz_breeze.specs.Views.{fields_view};
 ghost use Rattle.bz_breeze.specs.Faults.{HasFault};
 ghost use Rattle.bz_breeze.specs.Forms.{named_port, listed_port, port, ports, wide_channel, listed_channel, channel, channels, param, number, numbers, slot, slots, named_fields, fields_of, component_of, listed_component, component, components};
 
 use crate::error::{Code, Refusal};
-use bz_model::{Chan, ChanKind, MAX_WIDTH, Param, Port};
-use bz_names::NameSet;
-use bz_records::{Component, Slot};
+use bz_breeze_records::{Component, Slot};
+use bz_model::{Chan, ChanKind, MAX_WIDTH, NameSet, Param, Port};
 use bz_sexpr::{Form, Forms, Leaf, Shape, Text};
 use std::alloc::{AllocError, Global};
 

@@ -5,7 +5,7 @@ mod error;
 mod forms;
 mod netlist;
 
+pub use bz_breeze_records::{Component, Part, Parts, Slot};
 pub use bz_model::Port;
-pub use bz_records::{Component, Part, Parts, Slot};
-pub use error::{BreezeError, Place};
+pub use error::{BreezeError, ByteAt};
 pub use netlist::{parts, parts_of};

@@ -5,19 +5,18 @@ ghost use Rattle.std.specs.Option.{option_map};
 ghost use Rattle.bz_sexpr.specs.Order.{AreInOrder};
 ghost use Rattle.bz_sexpr.specs.Forms.{form_view, forms_view};
 ghost use Rattle.bz_sexpr.specs.Views.{datum_view};
-ghost use Rattle.bz_records.specs.Records.{part_record};
+ghost use Rattle.bz_breeze_records.specs.Records.{part_record};
 ghost use Rattle.bz_breeze.specs.Faults.{Fault, HasFault, Tells, fault_of, fault_in};
 ghost use Rattle.bz_breeze.specs.Shapes.{AreParts};
 ghost use Rattle.bz_breeze.specs.Places.{IsFault, IsLeast};
 ghost use Rattle.bz_breeze.specs.Views.{lists_view};
 ghost use Rattle.bz_breeze.specs.Parts.{ports_form, channels_form, components_form, headed_form, form, finished, part_of, named_part, after_head, part_items, parts};
-ghost use Rattle.bz_records.specs.Parts.{HasPortChannels};
+ghost use Rattle.bz_breeze_records.specs.Parts.{HasPortChannels};
 
-use crate::error::{BreezeError, Code, Place, Refusal};
+use crate::error::{BreezeError, ByteAt, Code, Refusal};
 use crate::forms::{channels, components, headed, inside, ports};
-use bz_model::{Chan, Port};
-use bz_names::NameSet;
-use bz_records::{Component, Part, Parts};
+use bz_breeze_records::{Component, Part, Parts};
+use bz_model::{Chan, NameSet, Port};
 use bz_sexpr::{Datum, Form, Forms, Leaf, Shape, Span};
 use std::alloc::Global;
 
@@ -169,7 +168,7 @@ fn in_part(alloc: Global, name: &[u8], refusal: Refusal) -> BreezeError
         return BreezeError::Memory;
     };
     match Vec::from_slice(alloc, name) {
-        Ok(name) => code.at(Place {
+        Ok(name) => code.at(ByteAt {
             part: Some(name),
             at,
         }),
@@ -211,7 +210,7 @@ fn named_part(
 fn nameless(at: usize) -> BreezeError
     ensures { fault_of result ≡ Some (record { code = Code.BadForm; part = None; at = at }) }
 {
-    Code::BadForm.at(Place { part: None, at })
+    Code::BadForm.at(ByteAt { part: None, at })
 }
 
 /// What follows the symbol `breeze-part`.

@@ -1,21 +1,24 @@
-//! The command `chart`: lines of the trace behind a netlist, drawn.
+//! The command `chart`: lines of a trace, drawn.
 
 ghost use Rattle.std.specs.Prelude.{◌≡◌, ◌≤◌, length, IfSome, OnOk, OnErr};
 ghost use Rattle.std.specs.Io.KnownBytes.{Appends};
-ghost use Rattle.bz_input.specs.Limits.{input_limit};
-ghost use Rattle.bz_input.specs.Reading.{ReadsWithin};
-ghost use Rattle.bz_input.specs.Stopping.{AppendsSome};
-ghost use Rattle.bz_chart.specs.Charting.{Charts, Draws, DrawsPiece};
+ghost use Rattle.bz_cli_input.specs.Limits.{input_limit};
+ghost use Rattle.bz_cli_input.specs.Reading.{ReadsWithin};
+ghost use Rattle.bz_cli_input.specs.Stopping.{AppendsSome};
+ghost use Rattle.bz_chart.specs.Charting.{Charts, ChartsApart, ChartsText, ChartsTrace, Draws, DrawsPiece};
 ghost use Rattle.bz_chart.specs.Pieces.{line_count};
 
 use crate::fault::ChartFault;
 use crate::range::{LineRange, piece_of};
-use bz_commands::split_trace;
+use bz_chart_layout::Circuit;
+use bz_chart_svg::draw;
+use bz_cli_core::split_trace;
+use bz_cli_input::{Fault, read_input};
+use bz_cli_source::net_of;
 use bz_flat::Flat;
-use bz_input::{Fault, flat_of, read_input};
-use bz_lifelines::{Origins, draw};
-use bz_outline::Circuit;
-use bz_trace::{Part, Verdict, WriteFault, check, put_parts};
+use bz_source::Source;
+use bz_text::{Piece, WriteFault, put_pieces};
+use bz_trace::{Verdict, check};
 use std::alloc::Global;
 use std::io::{Read, Write};
 
@@ -40,6 +43,38 @@ pub fn chart_cmd<R: Read, W: Write>(
     chart_text(alloc, part, range, text.as_slice(), output)
 }
 
+/// The same of a trace that a reader of its own gives, with the limit for itself.
+pub fn chart_trace_cmd<R: Read, T: Read, W: Write>(
+    alloc: Global,
+    part: &[u8],
+    range: LineRange,
+    input: &mut R,
+    trace: &mut T,
+    output: &mut W,
+) -> Result<(), ChartFault>
+    ensures charts { IfSome (R.remaining input.old) (λ netlist. IfSome (T.remaining trace.old)
+        (λ text. ChartsApart netlist text part.now range (W.contents output.old) (W.contents output.new) result)) }
+    ensures bounded { ReadsWithin (R.remaining input.old) (R.remaining input.new) }
+    ensures bounded_trace { ReadsWithin (T.remaining trace.old) (T.remaining trace.new) }
+{
+    let netlist = match read_input(alloc, input) {
+        Ok(netlist) => netlist,
+        Err(why) => return Err(ChartFault::Command(Fault::from(why))),
+    };
+    let text = match read_input(alloc, trace) {
+        Ok(text) => text,
+        Err(why) => return Err(ChartFault::Command(Fault::from(why))),
+    };
+    chart_trace(
+        alloc,
+        part,
+        range,
+        netlist.as_slice(),
+        text.as_slice(),
+        output,
+    )
+}
+
 // Writes the drawing of these lines of the trace behind the netlist of a text.
 fn chart_text<W: Write>(
     alloc: Global,
@@ -49,9 +84,25 @@ fn chart_text<W: Write>(
     output: &mut W,
 ) -> Result<(), ChartFault>
     requires { length text.now ≤ input_limit }
-    ensures { Charts text.now part.now range (W.contents output.old) (W.contents output.new) result }
+    ensures { ChartsText text.now part.now range (W.contents output.old) (W.contents output.new) result }
 {
-    let drawing = match draw_text(alloc, part, range, text) {
+    let (netlist, trace) = split_trace(text);
+    chart_trace(alloc, part, range, netlist, trace, output)
+}
+
+// Writes the drawing of these lines of a trace.
+fn chart_trace<W: Write>(
+    alloc: Global,
+    part: &[u8],
+    range: LineRange,
+    netlist: &[u8],
+    trace: &[u8],
+    output: &mut W,
+) -> Result<(), ChartFault>
+    requires { length trace.now ≤ input_limit }
+    ensures { ChartsTrace netlist.now trace.now part.now range (W.contents output.old) (W.contents output.new) result }
+{
+    let drawing = match draw_trace(alloc, part, range, netlist, trace) {
         Ok(drawing) => drawing,
         Err(fault) => return Err(fault),
     };
@@ -61,26 +112,26 @@ fn chart_text<W: Write>(
     }
 }
 
-// Draws these lines of the trace behind the netlist of a text.
-fn draw_text(
+// Draws these lines of a trace.
+fn draw_trace(
     alloc: Global,
     part: &[u8],
     range: LineRange,
-    text: &[u8],
+    netlist: &[u8],
+    trace: &[u8],
 ) -> Result<Vec<u8>, ChartFault>
-    requires { length text.now ≤ input_limit }
-    ensures { Draws text.now part.now range result }
+    requires { length trace.now ≤ input_limit }
+    ensures { Draws netlist.now trace.now part.now range result }
 {
-    let (netlist, trace) = split_trace(text);
-    let flat = match flat_of(alloc, part, netlist) {
-        Ok(flat) => flat,
+    let (flat, source) = match net_of(alloc, part, netlist) {
+        Ok(read) => read,
         Err(fault) => return Err(ChartFault::Command(fault)),
     };
     let Ok(same) = flat.dup(alloc) else {
         return Err(ChartFault::Command(Fault::Memory));
     };
     match check(alloc, flat, trace) {
-        Verdict::Run => draw_piece(alloc, part, range, same, netlist, trace),
+        Verdict::Run => draw_piece(alloc, part, range, same, source, trace),
         Verdict::Not(line) => Err(ChartFault::NotRun(line)),
         Verdict::Bad(line) => Err(ChartFault::NotTrace(line)),
         Verdict::Memory => Err(ChartFault::Command(Fault::Memory)),
@@ -93,7 +144,7 @@ fn draw_piece(
     part: &[u8],
     range: LineRange,
     flat: Flat,
-    netlist: &[u8],
+    source: Source,
     trace: &[u8],
 ) -> Result<Vec<u8>, ChartFault>
     requires { length trace.now ≤ input_limit }
@@ -103,10 +154,11 @@ fn draw_piece(
         Ok(piece) => piece,
         Err(fault) => return Err(ChartFault::Piece(fault)),
     };
-    let Some(origins) = Origins::read(alloc, part, netlist) else {
+    // a part that has a net has places, so nothing but memory can be wanting
+    let Ok(survey) = source.survey(alloc, part) else {
         return Err(ChartFault::Command(Fault::Memory));
     };
-    match draw(alloc, &Circuit::of(flat), &origins, part, trace, piece) {
+    match draw(alloc, &Circuit::of(flat), &survey, part, trace, piece) {
         Ok(drawing) => Ok(drawing),
         Err(_) => Err(ChartFault::Command(Fault::Memory)),
     }
@@ -125,7 +177,7 @@ fn write_out<W: Write>(output: &mut W, drawing: &[u8]) -> Result<(), WriteFault>
     ensures ok { OnOk result (Appends (W.contents output.old) (W.contents output.new) drawing.now) }
     ensures err { OnErr result (AppendsSome (W.contents output.old) (W.contents output.new) drawing.now) }
 {
-    put_parts(output, &[Part::Bytes(drawing)])?;
+    put_pieces(output, &[Piece::Bytes(drawing)])?;
     match output.flush() {
         Ok(()) => Ok(()),
         Err(_) => Err(WriteFault),

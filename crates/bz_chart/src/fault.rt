@@ -4,7 +4,7 @@ ghost use Rattle.std.specs.Prelude.{◌≡◌};
 ghost use Rattle.bz_chart.specs.Charting.{status_of};
 
 use crate::range::PieceFault;
-use bz_input::Fault;
+use bz_cli_input::Fault;
 use std::fmt;
 
 /// Why no chart is drawn.

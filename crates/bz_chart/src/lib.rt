@@ -5,6 +5,6 @@ mod chart;
 mod fault;
 mod range;
 
-pub use chart::chart_cmd;
+pub use chart::{chart_cmd, chart_trace_cmd};
 pub use fault::ChartFault;
 pub use range::{LineRange, PieceFault};

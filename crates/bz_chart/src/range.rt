@@ -3,7 +3,7 @@
 ghost use Rattle.std.specs.Prelude.{◌<◌, ◌^◌, IfOk, IfErr};
 ghost use Rattle.bz_chart.specs.Pieces.{IsNoPiece, IsPiece};
 
-use bz_outline::Piece;
+use bz_chart_layout::Piece;
 use std::fmt;
 
 /// The most lines that a chart holds.
@@ -21,13 +21,26 @@ pub struct LineRange {
 #[derive(Clone, Copy, Debug, PartialEq, Eq)]
 pub enum PieceFault {
     /// The first line is behind the last.
-    Above { from: usize, to: usize },
+    Above {
+        from: usize,
+        to: usize,
+    },
     /// The last line isn't there.
-    NoLast { to: usize, lines: usize },
+    NoLast {
+        to: usize,
+        lines: usize,
+    },
     /// The first line isn't there.
-    NoFirst { from: usize, lines: usize },
-    /// There are more lines than a chart holds, in a trace of so many.
-    TooLong { lines: usize },
+    NoFirst {
+        from: usize,
+        lines: usize,
+    },
+    /// From the first to the last line there are more than a chart holds, in a trace of so many.
+    TooLong {
+        from: usize,
+        to: usize,
+        lines: usize,
+    },
 }
 
 impl fmt::Display for PieceFault {
@@ -40,10 +53,13 @@ impl fmt::Display for PieceFault {
             PieceFault::NoFirst { from, lines } => {
                 write!(f, "--from {from}: the trace has {lines} lines")
             }
-            PieceFault::TooLong { lines } => write!(
-                f,
-                "the trace has {lines} lines, and a chart holds 2000: give --from and --to"
-            ),
+            PieceFault::TooLong { from, to, lines } => {
+                let rows = to.saturating_sub(*from).saturating_add(1);
+                write!(
+                    f,
+                    "a chart holds 2000 lines, and lines {from} to {to} are {rows}: give --from and --to (the trace has {lines} lines)"
+                )
+            }
         }
     }
 }
@@ -66,7 +82,11 @@ pub(crate) fn piece_of(range: LineRange, lines: usize) -> Result<Piece, PieceFau
     };
     let rows = (last + 1).saturating_sub(first);
     if rows > MOST_ROWS {
-        return Err(PieceFault::TooLong { lines });
+        return Err(PieceFault::TooLong {
+            from: first,
+            to: last,
+            lines,
+        });
     }
     Ok(Piece {
         first,

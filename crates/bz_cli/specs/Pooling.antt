@@ -13,29 +13,34 @@ use Rattle.bz_model.specs.declared.event.Who.TheVariants.{Host, Worker}
 use Rattle.bz_model.specs.Nets.{Wiring, State, opening}
 use Rattle.bz_model.specs.Runs.{Run}
 use Rattle.bz_model.specs.Traces.{IsTrace}
+use Rattle.bz_net.specs.Simulation.{Simulation}
+use Rattle.bz_locked.specs.Terms.{terms}
 use Rattle.bz_locked.specs.Journal.{fired_count}
+use Rattle.bz_pool.specs.Pooled.{ArePlayed, Differs}
 use Rattle.bz_words.specs.HostWords.{hosts_of, IsFirstUnfit}
 use Rattle.bz_words.specs.Words.{Spell}
 use Rattle.bz_session.specs.declared.playing.End.{End}
 use Rattle.bz_session.specs.declared.playing.End.TheVariants as end
 use Rattle.bz_words.specs.declared.words.SessionError.TheVariants as session
-use Rattle.bz_input.specs.Limits.{input_limit}
-use Rattle.bz_input.specs.Opening.{Denotes, RefusesNet}
-use Rattle.bz_input.specs.Stopping.{AppendsSome, StopsAtInput}
-use Rattle.bz_input.specs.declared.fault.Fault.{Fault}
-use Rattle.bz_input.specs.declared.fault.Fault.TheVariants.{Word, Ended, Discord, NoThread, Write, Memory}
+use Rattle.bz_cli_input.specs.Limits.{input_limit}
+use Rattle.bz_cli_input.specs.Opening.{Denotes, RefusesNet}
+use Rattle.bz_cli_input.specs.Stopping.{AppendsSome, StopsAtInput}
+use Rattle.bz_cli_input.specs.declared.fault.Fault.{Fault}
+use Rattle.bz_cli_input.specs.declared.fault.Fault.TheVariants.{Word, Ended, Discord, NoThread, Write, Memory}
 
 abbrev pub RefusesSessions : List (List ℕ) → Fault → Type 0
 RefusesSessions words (Word at) = IsFirstUnfit words at
 RefusesSessions words Memory = ⊤
 RefusesSessions words fault = ⊥
 
--- The trace of a run from the net's opening, of at most so many firings, went out as `Out` says.
-pub record Pooled (w : Wiring) (fuel : ℕ) (Out : List ℕ → Type 0) : Type 0 where
+-- The trace of a run from the net's opening, of at most so many firings, went out as `Out` says. In it each session has played
+-- its list of commands, and these are the ends of the sessions and of so many workers.
+pub record Pooled (w : Wiring) (fuel : ℕ) (lists : List (Vec HostCmd Global)) (workers : ℕ) (ends : List End) (Out : List ℕ → Type 0) : Type 0 where
   pub entries : List Entry
   pub to : State
   pub run : Run w (opening w) entries to
   pub within : fired_count entries ≤ fuel
+  pub played : ArePlayed (terms w fuel (length lists)) lists workers entries ends
   pub trace : List ℕ
   pub is_trace : IsTrace w entries trace
   pub out : Out trace
@@ -68,33 +73,43 @@ pub record IsFirstRefused (ends : List End) (sessions : ℕ) (fault : Fault) : T
   pub earlier : All IsAgreed (take place ends)
   pub told : fault ≡ fault_for error (who_at place sessions)
 
--- What went out of a pool that was closed, and what was answered: the trace of all; where the writer failed, a front of it. An
--- end that was refused is told behind the trace.
-abbrev pub WritesClosed : Wiring → ℕ → ℕ → Option (List ℕ) → Option (List ℕ) → Result (Vec End Global) Fault → Type 0
-WritesClosed w fuel seats old new (Ok ends) = Pooled w fuel (Appends old new) × All IsAgreed ends.items × (vec_len ends ≡ seats)
-WritesClosed w fuel seats old new (Err (Ended net.Memory who)) = ⊥
-WritesClosed w fuel seats old new (Err (Ended e who)) = Pooled w fuel (Appends old new)
-WritesClosed w fuel seats old new (Err Memory) = Pooled w fuel (Appends old new)
-WritesClosed w fuel seats old new (Err Write) = Pooled w fuel (AppendsSome old new)
-WritesClosed w fuel seats old new (Err fault) = ⊥
+-- An end was refused: it is the first, and is told behind the trace.
+abbrev pub TellsRefused : Wiring → ℕ → List (Vec HostCmd Global) → ℕ → Option (List ℕ) → Option (List ℕ) → Fault → Type 0
+TellsRefused w fuel lists workers old new fault =
+    (ends : List End) × Pooled w fuel lists workers ends (Appends old new) × IsFirstRefused ends (length lists) fault
 
--- Why a pool came to no close: memory or a thread was wanting, or what was handed in disagrees.
-abbrev pub IsOfPool : Fault → Type 0
-IsOfPool (Discord who at) = ⊤
-IsOfPool NoThread = ⊤
-IsOfPool Memory = ⊤
-IsOfPool fault = ⊥
+-- What went out of a pool that was closed, and what was answered: the trace of all; where the writer failed, a front of it.
+abbrev pub WritesClosed : Wiring → ℕ → List (Vec HostCmd Global) → ℕ → Option (List ℕ) → Option (List ℕ) → Result (Vec End Global) Fault → Type 0
+WritesClosed w fuel lists workers old new (Ok ends) = Pooled w fuel lists workers ends.items (Appends old new) × All IsAgreed ends.items × (vec_len ends ≡ length lists + workers)
+WritesClosed w fuel lists workers old new (Err (Ended net.Memory who)) = ⊥
+WritesClosed w fuel lists workers old new (Err (Ended e who)) = TellsRefused w fuel lists workers old new (Ended e who)
+WritesClosed w fuel lists workers old new (Err Memory) = TellsRefused w fuel lists workers old new Memory
+WritesClosed w fuel lists workers old new (Err Write) = (ends : List End) × Pooled w fuel lists workers ends (AppendsSome old new)
+WritesClosed w fuel lists workers old new (Err fault) = ⊥
+
+-- the same of a net with these ends, whatever the lists of so many sessions were that were played on it
+abbrev pub WritesOf : Simulation → List End → ℕ → ℕ → Option (List ℕ) → Option (List ℕ) → Result (Vec End Global) Fault → Type 0
+WritesOf net ends sessions fuel old new answer =
+    (lists : List (Vec HostCmd Global)) (workers : ℕ) → length lists ≡ sessions → length ends ≡ length lists + workers
+    → ArePlayed (terms net.wiring fuel (length lists)) lists workers net.journal ends → WritesClosed net.wiring fuel lists workers old new answer
+
+-- Why a pool came to no close: memory or a thread was wanting, or what was handed in at the end differs, first there.
+abbrev pub IsOfPool : Wiring → ℕ → ℕ → ℕ → Fault → Type 0
+IsOfPool w fuel sessions workers (Discord who at) = Differs w fuel sessions workers who at
+IsOfPool w fuel sessions workers NoThread = ⊤
+IsOfPool w fuel sessions workers Memory = ⊤
+IsOfPool w fuel sessions workers fault = ⊥
 
 -- No net was opened, or the pool came to no close, and nothing went out; or it was closed, on the net that the text denotes.
-abbrev pub PoolsText : List ℕ → List ℕ → ℕ → ℕ → Option (List ℕ) → Option (List ℕ) → Result (Vec End Global) Fault → Type 0
-PoolsText text part fuel seats old new answer =
+abbrev pub PoolsText : List ℕ → List ℕ → ℕ → List (Vec HostCmd Global) → ℕ → Option (List ℕ) → Option (List ℕ) → Result (Vec End Global) Fault → Type 0
+PoolsText text part fuel lists workers old new answer =
     IsErrAnd answer (λ fault. RefusesNet text part fault × Keeps old new)
     ⊎ ((w : Wiring) × Denotes text part w
-    × (IsErrAnd answer (λ fault. IsOfPool fault × Keeps old new) ⊎ WritesClosed w fuel seats old new answer))
+    × (IsErrAnd answer (λ fault. IsOfPool w fuel (length lists) workers fault × Keeps old new) ⊎ WritesClosed w fuel lists workers old new answer))
 
 -- The command `pool`: the words are refused; or they spell sessions, and the input is not taken, or they are played on it.
 abbrev pub Pools : List ℕ → List (List ℕ) → List ℕ → ℕ → ℕ → Option (List ℕ) → Option (List ℕ) → Result (Vec End Global) Fault → Type 0
 Pools text words part workers fuel old new answer =
     IsErrAnd answer (λ fault. RefusesSessions words fault × Keeps old new)
     ⊎ ((sessions : List (Vec HostCmd Global)) × Spell words (map hosts_of sessions)
-    × (StopsAtInput old new answer ⊎ ((length text ≤ input_limit) × PoolsText text part fuel (length sessions + workers) old new answer)))
+    × (StopsAtInput old new answer ⊎ ((length text ≤ input_limit) × PoolsText text part fuel sessions workers old new answer)))

@@ -9,11 +9,11 @@ ghost use Rattle.bz_words.specs.HostWords.{hosts_of};
 ghost use Rattle.bz_words.specs.Limits.{max_sessions};
 ghost use Rattle.bz_words.specs.Words.{Spell, texts};
 ghost use Rattle.bz_cli.specs.Faults.{of_pool};
-ghost use Rattle.bz_cli.specs.Pooling.{IsAgreed, IsFirstRefused, fault_for, refusal_of, who_at, Pools, PoolsText, RefusesSessions, WritesClosed};
-ghost use Rattle.bz_input.specs.Reading.{ReadsWithin};
+ghost use Rattle.bz_cli.specs.Pooling.{IsAgreed, IsFirstRefused, fault_for, refusal_of, who_at, Pools, PoolsText, RefusesSessions, WritesOf};
+ghost use Rattle.bz_cli_input.specs.Reading.{ReadsWithin};
 
-use bz_commands::{open_net, write_out};
-use bz_input::{Fault, read_input};
+use bz_cli_core::{open_net, write_out};
+use bz_cli_input::{Fault, read_input};
 use bz_locked::CloseError;
 use bz_model::{HostCmd, NetError, Who};
 use bz_net::Net;
@@ -93,7 +93,7 @@ fn pool_text<W: Write, H: Threads + Wait + Sync>(
     requires workers { (1 ≤ options.workers) × (options.workers ≤ 8) }
     requires journal { (0 < options.journal) × (options.journal ≤ 16777216) }
     requires sessions { (1 ≤ vec_len sessions) × (vec_len sessions ≤ 16) }
-    ensures { PoolsText text.now part.now options.fuel (vec_len sessions + options.workers) (W.contents output.old) (W.contents output.new) result }
+    ensures { PoolsText text.now part.now options.fuel sessions.items options.workers (W.contents output.old) (W.contents output.new) result }
 {
     let net = open_net(alloc, part, options.journal, text)?;
     let count = sessions.len();
@@ -136,7 +136,7 @@ fn write_closed<W: Write>(
     requires run { Run net.now.wiring (opening net.now.wiring) net.now.journal net.now.state }
     requires within { fired_count net.now.journal ≤ fuel }
     requires few { vec_len ends ≤ 24 }
-    ensures { WritesClosed net.now.wiring fuel (vec_len ends) (W.contents output.old) (W.contents output.new) result }
+    ensures { WritesOf net.now ends.items sessions fuel (W.contents output.old) (W.contents output.new) result }
 {
     write_out(net.names(), net.journal(), net.clashes(), output)?;
     match first_refused(ends.as_slice(), sessions) {

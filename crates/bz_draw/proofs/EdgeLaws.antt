@@ -1,5 +1,5 @@
 -- The edges that are read from the table of ends are those of the net.
-use Rattle.std.proofs.Common.{◌≡◌, ℕ, zero, suc, ◌+◌, ◌<◌, ◌≤◌, Bool, true, false, ◌==◌, Option, None, Some, List, [], ◌∷◌, length, drop, get_or, drop-cons, refl, sym, ap, ◌∙◌, subst, arith, slice_index_or, ◌-◌, inl, inr, ◌++◌, append_assoc, if◌then◌else◌}
+use Rattle.std.proofs.Common.{◌≡◌, ℕ, zero, suc, ◌+◌, ◌<◌, ◌≤◌, Bool, true, false, Option, None, Some, List, [], ◌∷◌, length, drop, get_or, drop-cons, refl, sym, ap, ◌∙◌, subst, arith, slice_index_or, ◌-◌, inl, inr, ◌++◌, append_assoc, if◌then◌else◌}
 use Rattle.std.specs.List.{All, Contains, cons_option}
 use Rattle.std.proofs.lemmas.List.{append-nil}
 use Rattle.std.proofs.lemmas.List.Elements.{All-nil, All-cons, Contains-append_left, Contains-append_right, Contains-push}
@@ -8,7 +8,7 @@ use Rattle.bz_model.specs.Names.{External}
 use Rattle.bz_model.specs.Nets.{Wiring}
 use Rattle.bz_flat.specs.declared.flat.Ends.{Ends}
 use Rattle.bz_flat.specs.Wires.{EndsOf, WellWired, ends_in, no_ends}
-use Rattle.bz_look.specs.Listing.{host_holds}
+use Rattle.bz_cli_source.specs.Listing.{host_holds}
 use Rattle.bz_draw.specs.declared.drawing.Tip.{Tip}
 use Rattle.bz_draw.specs.declared.drawing.Tip.TheVariants.{Port, Comp, Folded}
 use Rattle.bz_draw.specs.declared.drawing.Edge.{Edge}

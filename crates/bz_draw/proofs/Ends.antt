@@ -4,8 +4,8 @@ use Rattle.bz_model.specs.Names.{External}
 use Rattle.bz_model.specs.Nets.{Wiring, passive_at, chan_at}
 use Rattle.bz_model.specs.Hosts.{port_is_passive}
 use Rattle.bz_flat.specs.declared.flat.Ends.{Ends}
-use Rattle.bz_flat.specs.Wires.{IsEnd, EndsOf, WellWired, end_at, end_port_at}
-use Rattle.bz_look.specs.Listing.{host_holds}
+use Rattle.bz_flat.specs.Wires.{EndsOf, WellWired, end_at, end_port_at}
+use Rattle.bz_cli_source.specs.Listing.{host_holds}
 use Rattle.bz_draw.specs.declared.drawing.Tip.{Tip}
 use Rattle.bz_draw.specs.declared.drawing.Tip.TheVariants.{Port}
 use Rattle.bz_draw.specs.Drawn.{drawn_at, box_of, StandsAt, component, host}

@@ -3,9 +3,9 @@ use Rattle.std.specs.Prelude.{ℕ, suc, Bool, true, false, ◌==◌, Option, Non
 use Rattle.std.specs.List.{cons_option}
 use Rattle.bz_model.specs.Names.{External}
 use Rattle.bz_flat.specs.declared.flat.Ends.{Ends}
-use Rattle.bz_look.specs.Listing.{host_holds}
+use Rattle.bz_cli_source.specs.Listing.{host_holds}
 use Rattle.bz_draw.specs.declared.drawing.Tip.{Tip}
-use Rattle.bz_draw.specs.declared.drawing.Tip.TheVariants.{Port, Comp, Folded}
+use Rattle.bz_draw.specs.declared.drawing.Tip.TheVariants.{Port, Folded}
 use Rattle.bz_draw.specs.declared.drawing.Edge.{Edge}
 use Rattle.bz_draw.specs.Drawn.{drawn_at, box_of}
 

@@ -1,62 +1,125 @@
 //! The command `draw`.
 
-ghost use Rattle.bz_input.specs.Reading.{ReadsWithin};
+ghost use Rattle.std.specs.Prelude.{IfErr, IfOk, IfSome, OnErr, OnOk};
+ghost use Rattle.std.specs.Io.KnownBytes.{Appends};
+ghost use Rattle.bz_flat.specs.Wires.{EndsOf, WellWired};
+ghost use Rattle.bz_cli_input.specs.Opening.{RefusesNet};
+ghost use Rattle.bz_cli_input.specs.Reading.{ReadsWithin};
+ghost use Rattle.bz_cli_input.specs.Stopping.{AppendsSome};
+ghost use Rattle.bz_cli_source.specs.Surveys.{wiring_in};
+ghost use Rattle.bz_draw.specs.Drawing.{Draws, DrawsText, HasNet, IsWhole};
 
 use crate::drawing::{Drawing, drawing_of};
+use crate::fault::{MOST_DRAWN, NoDrawing};
+use crate::folding::boxes_at;
 use crate::graph::put_graph;
-use crate::text::Text;
-use bz_input::{Fault, read_input};
-use bz_lines::{Part, put_parts};
-use bz_look::{Survey, survey_of};
-use std::alloc::Global;
+use crate::near::Near;
+use crate::view::{Scene, View};
+use bz_cli_input::{Fault, read_input};
+use bz_cli_source::survey_of;
+use bz_flat::Pieces;
+use bz_source::Places;
+use bz_text::{Text, WriteFault, put};
+use std::alloc::{AllocError, Global};
 use std::io::{Read, Write};
 
-/// Draws the net of a part of the netlist that the reader gives, with instances within `depth` others as boxes. Nothing is
-/// written where the netlist is refused.
+/// Draws the net of a part of the netlist that the reader gives, or answers why there is no such drawing. Then nothing is
+/// written, nor where the netlist is refused.
 pub fn draw_cmd<R: Read, W: Write>(
     alloc: Global,
     part: &[u8],
-    depth: Option<usize>,
+    view: View,
     input: &mut R,
     output: &mut W,
-) -> Result<(), Fault>
+) -> Result<Option<NoDrawing>, Fault>
+    ensures draws { IfSome (R.remaining input.old) (λ text. Draws text part.now (W.contents output.old) (W.contents output.new) result) }
+
     // Whatever comes of it, it reads at most one byte past the limit.
     ensures bounded { ReadsWithin (R.remaining input.old) (R.remaining input.new) }
 {
     let text = read_input(alloc, input)?;
-    draw_text(alloc, part, depth, text.as_slice(), output)
+    draw_text(alloc, part, view, text.as_slice(), output)
 }
 
-// Draws the net of a part of the text.
+// Draws the net of a part of the text. The graph is made whole before any of it goes out.
 fn draw_text<W: Write>(
     alloc: Global,
     part: &[u8],
-    depth: Option<usize>,
+    view: View,
     text: &[u8],
     output: &mut W,
-) -> Result<(), Fault> {
-    let survey = survey_of(alloc, part, text)?;
-    let drawing = drawing_of(alloc, &survey, depth)?;
-    write_graph(alloc, part, &survey, &drawing, output)
+) -> Result<Option<NoDrawing>, Fault>
+    ensures { DrawsText text.now part.now (W.contents output.old) (W.contents output.new) result }
+{
+    let graph = match graph_of(alloc, part, view, text)? {
+        Ok(graph) => graph,
+        Err(why) => return Ok(Some(why)),
+    };
+    write_out(output, graph.whole()?)?;
+    Ok(None)
 }
 
-// The graph is made whole before any of it goes out.
-fn write_graph<W: Write>(
+// The graph of the net of a part of the text.
+fn graph_of(
     alloc: Global,
     part: &[u8],
-    survey: &Survey,
-    drawing: &Drawing,
-    output: &mut W,
-) -> Result<(), Fault> {
-    let mut text = Text::new(alloc);
-    put_graph(&mut text, part, survey, drawing);
-    write_text(&text, output)
+    view: View,
+    text: &[u8],
+) -> Result<Result<Text, NoDrawing>, Fault>
+    ensures net { IfOk result (λ graph. HasNet text.now part.now) }
+    ensures whole { IfOk result (λ made. IfOk made (λ graph. IfSome graph IsWhole)) }
+    ensures err { IfErr result (RefusesNet text.now part.now) }
+{
+    let (flat, survey) = survey_of(alloc, part, text)?;
+    let net = flat.into_pieces();
+    let scene = Scene {
+        net: &net,
+        survey: &survey,
+    };
+    match drawing_at(alloc, &net, &survey.places, view)? {
+        Ok(drawing) => {
+            let mut graph = Text::new(alloc);
+            put_graph(&mut graph, part, scene, view, &drawing);
+            Ok(Ok(graph))
+        }
+        Err(why) => Ok(Err(why)),
+    }
 }
 
-fn write_text<W: Write>(text: &Text, output: &mut W) -> Result<(), Fault> {
-    put_parts(output, &[Part::Bytes(text.whole()?)])?;
+// What is drawn of a net.
+fn drawing_at(
+    alloc: Global,
+    net: &Pieces,
+    places: &Places,
+    view: View,
+) -> Result<Result<Drawing, NoDrawing>, AllocError>
+    requires wired { WellWired (wiring_in net.now) }
+    requires ends { EndsOf (wiring_in net.now) net.now.ends.items }
+{
+    let mut drawing = drawing_of(alloc, net, places, view.depth())?;
+    if let View::Around { comp, hops } = view {
+        let comps = net.comps.len();
+        if comp == 0 || comp as usize > comps {
+            return Ok(Err(NoDrawing::NoComponent { comp, comps }));
+        }
+        Near::of(alloc, net, comp, hops)?.narrow(alloc, &mut drawing)?;
+    }
+    let boxes = boxes_at(places.instances(), drawing.folding.depth);
+    let nodes = drawing.comps.len().saturating_add(boxes);
+    if nodes > MOST_DRAWN {
+        return Ok(Err(NoDrawing::TooMany { nodes }));
+    }
+    Ok(Ok(drawing))
+}
+
+// Writes a graph, down to the last byte.
+fn write_out<W: Write>(output: &mut W, graph: &[u8]) -> Result<(), WriteFault>
+    ensures ok { OnOk result (Appends (W.contents output.old) (W.contents output.new) graph.now) }
+    ensures err { OnErr result (AppendsSome (W.contents output.old) (W.contents output.new) graph.now) }
+{
+    put(output, graph)?;
     match output.flush() {
         Ok(()) => Ok(()),
-        Err(_) => Err(Fault::Write),
+        Err(_) => Err(WriteFault),
     }
 }

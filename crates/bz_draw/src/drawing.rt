@@ -2,12 +2,13 @@
 
 ghost use Rattle.std.specs.Prelude.{◌≡◌, ◌+◌, ◌<◌, ◌≤◌, length, map, is_none, IfOk};
 ghost use Rattle.bz_flat.specs.Wires.{EndsOf, WellWired};
-ghost use Rattle.bz_look.specs.Surveys.{wiring_in};
+ghost use Rattle.bz_cli_source.specs.Surveys.{wiring_in};
 ghost use Rattle.bz_draw.specs.Drawn.{AreEdges, AreNodes, box_of};
 
 use crate::edges::edges_of;
 use crate::folding::Folding;
-use bz_look::Survey;
+use bz_flat::Pieces;
+use bz_source::Places;
 use std::alloc::{AllocError, Global};
 
 /// What an edge ends at.
@@ -37,26 +38,31 @@ pub struct Drawing {
     /// the top's own. Sorted.
     pub comps: Vec<(usize, u32)>,
     pub edges: Vec<Edge>,
+    /// The components that are not drawn themselves and at which one of the edges ends, sorted. Where the whole net is drawn
+    /// there is none.
+    pub beyond: Vec<u32>,
 }
 
 /// What is drawn of a net, with instances within `depth` others as boxes.
 pub fn drawing_of(
     alloc: Global,
-    survey: &Survey,
+    net: &Pieces,
+    places: &Places,
     depth: Option<usize>,
 ) -> Result<Drawing, AllocError>
-    requires wired { WellWired (wiring_in survey.now) }
-    requires ends { EndsOf (wiring_in survey.now) survey.now.net.ends.items }
-    ensures nodes { IfOk result (λ d. AreNodes d.folding.boxes.items (length survey.now.net.comps) (map (λ n. n.1) d.comps.items)) }
-    ensures edges { IfOk result (λ d. AreEdges (wiring_in survey.now) d.folding.boxes.items d.edges.items) }
+    requires wired { WellWired (wiring_in net.now) }
+    requires ends { EndsOf (wiring_in net.now) net.now.ends.items }
+    ensures nodes { IfOk result (λ d. AreNodes d.folding.boxes.items (length net.now.comps) (map (λ n. n.1) d.comps.items)) }
+    ensures edges { IfOk result (λ d. AreEdges (wiring_in net.now) d.folding.boxes.items d.edges.items) }
 {
-    let folding = Folding::of(alloc, &survey.places, depth)?;
-    let edges = edges_of(alloc, survey, folding.boxes.as_slice())?;
-    let comps = comps_of(alloc, survey.net.comps.len(), &folding)?;
+    let folding = Folding::of(alloc, places, depth)?;
+    let edges = edges_of(alloc, net, folding.boxes.as_slice())?;
+    let comps = comps_of(alloc, net.comps.len(), &folding)?;
     Ok(Drawing {
         folding,
         comps,
         edges,
+        beyond: Vec::new(alloc),
     })
 }
 

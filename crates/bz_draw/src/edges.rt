@@ -3,27 +3,27 @@
 ghost use Rattle.std.specs.Prelude.{◌≡◌, ◌+◌, ◌<◌, ◌≤◌, ◌^◌, length, map, IfOk};
 ghost use Rattle.bz_model.specs.Names.{external};
 ghost use Rattle.bz_flat.specs.Wires.{EndsOf, WellWired};
-ghost use Rattle.bz_look.specs.Surveys.{wiring_in};
+ghost use Rattle.bz_cli_source.specs.Surveys.{wiring_in};
 ghost use Rattle.bz_draw.specs.Drawn.{AreEdges, box_of, drawn_at};
 ghost use Rattle.bz_draw.specs.Edges.{edge_at, edges_from, is_within, tip_at};
 
 use crate::drawing::{Edge, Tip};
-use bz_flat::Ends;
-use bz_look::{Survey, host_holds};
+use bz_cli_source::host_holds;
+use bz_flat::{Ends, Pieces};
 use bz_model::Port;
 use std::alloc::{AllocError, Global};
 
 /// The edges of a net, `boxes` telling for each component the box that it is in, if it is in one.
 pub(crate) fn edges_of(
     alloc: Global,
-    survey: &Survey,
+    net: &Pieces,
     boxes: &[Option<usize>],
 ) -> Result<Vec<Edge>, AllocError>
-    requires wired { WellWired (wiring_in survey.now) }
-    requires ends { EndsOf (wiring_in survey.now) survey.now.net.ends.items }
-    ensures { IfOk result (λ v. AreEdges (wiring_in survey.now) boxes.now v.items) }
+    requires wired { WellWired (wiring_in net.now) }
+    requires ends { EndsOf (wiring_in net.now) net.now.ends.items }
+    ensures { IfOk result (λ v. AreEdges (wiring_in net.now) boxes.now v.items) }
 {
-    let edges = read_edges(alloc, &survey.net.ports, boxes, &survey.net.ends)?;
+    let edges = read_edges(alloc, &net.ports, boxes, &net.ends)?;
     Ok(edges)
 }
 
@@ -51,20 +51,10 @@ fn edge_at(ports: &[Port], boxes: &[Option<usize>], place: usize, ends: Ends) ->
     requires { place < 2000000 }
     ensures { result ≡ edge_at (map external ports.now) boxes.now (place + 1) ends }
 {
-    let from = tip_at(
-        boxes,
-        place,
-        ends.active,
-        ends.active_port,
-        host_holds(ports, place, false),
-    )?;
-    let to = tip_at(
-        boxes,
-        place,
-        ends.passive,
-        ends.passive_port,
-        host_holds(ports, place, true),
-    )?;
+    let asks = host_holds(ports, place, false);
+    let from = tip_at(boxes, place, ends.active, ends.active_port, asks)?;
+    let answers = host_holds(ports, place, true);
+    let to = tip_at(boxes, place, ends.passive, ends.passive_port, answers)?;
     if is_within(from, to) {
         return None;
     }

@@ -1,6 +1,6 @@
 //! Which components of a net are drawn themselves, and which lie in the box of an instance.
 
-use bz_places::{Place, Places};
+use bz_source::{Place, Places};
 use std::alloc::{AllocError, Global};
 
 /// The most nodes that are drawn where no depth is asked for.
@@ -36,14 +36,10 @@ impl Folding {
             copies: Vec::new(alloc),
             counts: vec![in alloc; 0; places.instances().len()]?,
         };
-        let mut around = Around {
-            instances: places.instances(),
-            met: 0,
-            open: Vec::new(alloc),
-        };
         for place in places.comps() {
-            around.go_to(place)?;
-            folding.add(around.at(place, depth), around.copy(place))?;
+            let path = place.path.as_slice();
+            let inside = box_at(places.instances(), path, depth);
+            folding.add(inside, count_upto(places.instances(), path))?;
         }
         Ok(folding)
     }
@@ -52,88 +48,48 @@ impl Folding {
     fn add(&mut self, inside: Option<usize>, copy: usize) -> Result<(), AllocError> {
         self.boxes.push(inside)?;
         self.copies.push(copy)?;
-        if let Some(instance) = inside {
-            if let Some(count) = self.counts.get_mut(instance) {
-                *count = count.saturating_add(1);
-            }
+        if let Some(count) = self.counts.get_mut(inside.unwrap_or(usize::MAX)) {
+            *count = count.saturating_add(1);
         }
         Ok(())
     }
 }
 
-// The instances round a place of the walk of a net.
-#[derive(Drop)]
-struct Around<'p> {
-    instances: &'p [Place],
-    // How many of them the walk has met.
-    met: usize,
-    // Those that it is in, from the outermost on.
-    open: Vec<usize>,
+// The box round what has this path, if it is in one.
+fn box_at(instances: &[Place], path: &[usize], depth: usize) -> Option<usize> {
+    let way = path.get(..depth.saturating_add(1))?;
+    count_upto(instances, way).checked_sub(1)
 }
 
-impl<'p> Around<'p> {
-    // Goes on to a component.
-    fn go_to(&mut self, place: &Place) -> Result<(), AllocError> {
-        let instances = self.instances;
-        for met in self.met..instances.len() {
-            let instance = &instances[met];
-            if !comes_before(instance, place) {
-                break;
-            }
-            self.open.truncate(instance.path.len());
-            self.open.push(met)?;
-            self.met = met + 1;
-        }
-        Ok(())
+// How many instances the walk of a net has met once it is in that of a way, which it then met last; 0 at the top.
+fn count_upto(instances: &[Place], way: &[usize]) -> usize {
+    if way.is_empty() {
+        return 0;
     }
-
-    // The instance round a component that is itself within so many others.
-    fn at(&self, place: &Place, depth: usize) -> Option<usize> {
-        if place.path.len() > depth {
-            self.open.get(depth).copied()
-        } else {
-            None
-        }
-    }
-
-    // The copy that a component is in, 0 for the top's.
-    fn copy(&self, place: &Place) -> usize {
-        match place.path.len() {
-            0 => 0,
-            len => match self.open.get(len - 1) {
-                Some(instance) => instance.saturating_add(1),
-                None => 0,
-            },
-        }
-    }
+    instances.partition_point(|instance| is_met(instance, way))
 }
 
-// Whether the walk meets an instance before a component.
-fn comes_before(instance: &Place, place: &Place) -> bool {
+// Whether the walk has met an instance once it is in that of a way.
+fn is_met(instance: &Place, way: &[usize]) -> bool {
     for (i, step) in instance.path.iter().enumerate() {
-        let other = step_at(place, i);
+        let other = step_at(way, i);
         if *step != other {
             return *step < other;
         }
     }
-    instance.position <= step_at(place, instance.path.len())
+    instance.position <= step_at(way, instance.path.len())
 }
 
-// The step at this place of the way to a component, 0 behind it.
-fn step_at(place: &Place, i: usize) -> usize {
-    if i == place.path.len() {
-        return place.position;
-    }
-    place.path.get(i).copied().unwrap_or(0)
+// The step at this place of a way, 0 behind it.
+fn step_at(way: &[usize], i: usize) -> usize {
+    way.get(i).copied().unwrap_or(0)
 }
 
 // The least depth without a box.
 fn deepest(instances: &[Place]) -> usize {
     let mut deepest = 0;
     for instance in instances {
-        if instance.path.len() >= deepest {
-            deepest = instance.path.len() + 1;
-        }
+        deepest = deepest.max(instance.path.len() + 1);
     }
     deepest
 }
@@ -149,22 +105,15 @@ fn fitting_depth(places: &Places, deepest: usize) -> usize {
 }
 
 fn node_count(places: &Places, depth: usize) -> usize {
-    let mut count = boxes_at(places.instances(), depth);
-    for place in places.comps() {
-        if place.path.len() <= depth {
-            count = count.saturating_add(1);
-        }
-    }
-    count
+    let alone = places
+        .comps()
+        .iter()
+        .filter(|place| place.path.len() <= depth);
+    boxes_at(places.instances(), depth).saturating_add(alone.count())
 }
 
-// How many instances are within so many others.
-fn boxes_at(instances: &[Place], depth: usize) -> usize {
-    let mut count = 0usize;
-    for place in instances {
-        if place.path.len() == depth {
-            count = count.saturating_add(1);
-        }
-    }
-    count
+/// How many instances are within so many others.
+pub(crate) fn boxes_at(instances: &[Place], depth: usize) -> usize {
+    let within = instances.iter().filter(|place| place.path.len() == depth);
+    within.count()
 }

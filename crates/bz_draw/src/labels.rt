@@ -1,60 +1,31 @@
 //! Texts in labels.
 
-use crate::text::{Piece, Text};
+use crate::piece::{RECORD, put_cut};
 use bz_arena::Arena;
 use bz_flat::FlatComp;
 use bz_model::{Chan, Kind, Param, low_bits, node_of};
-use bz_places::Place;
-use bz_records::{Component, Part};
+use bz_text::{Piece, Text};
 
 /// The most letters of the second line of a component.
 const MOST_LETTERS: usize = 20;
 
-/// Adds the second line of a component's label, as a record has it, if the component has one.
-pub(crate) fn put_detail(
-    text: &mut Text,
-    chans: &Arena<Chan>,
-    comp: &FlatComp,
-    written: Option<&Component>,
-) {
-    let mut detail = text.another();
-    say_detail(&mut detail, chans, comp, written);
+/// Adds the second line of a component's label, if the component has one.
+pub(crate) fn put_detail(text: &mut Text, chans: &Arena<Chan>, comp: &FlatComp, params: &[Param]) {
+    let mut detail = Text::new(text.alloc());
+    say_detail(&mut detail, chans, comp, first_text(params));
     match detail.whole() {
-        Ok(detail) => put_line(text, detail),
+        Ok([]) => {}
+        Ok(detail) => {
+            text.put("\\n");
+            put_cut(text, detail, MOST_LETTERS, RECORD);
+        }
         Err(_) => text.lose(),
     }
 }
 
-// Adds a second line, cut where it is too long.
-fn put_line(text: &mut Text, line: &[u8]) {
-    if line.is_empty() {
-        return;
-    }
-    text.put("\\n");
-    if line.len() <= MOST_LETTERS {
-        put_record(text, line);
-    } else {
-        put_record(text, line.get(..MOST_LETTERS - 1).unwrap_or(&[]));
-        text.put("…");
-    }
-}
-
-fn put_record(text: &mut Text, bytes: &[u8]) {
-    for byte in bytes {
-        if matches!(*byte, b'{' | b'}' | b'|' | b'<' | b'>') {
-            text.put_bytes(&[b'\\', *byte]);
-        } else {
-            text.put_quoted(&[*byte]);
-        }
-    }
-}
-
-// What the second line says, nothing where there is none.
-fn say_detail(text: &mut Text, chans: &Arena<Chan>, comp: &FlatComp, written: Option<&Component>) {
-    let word = match written {
-        Some(written) => first_text(&written.params),
-        None => &[],
-    };
+// What the second line says, by the first text among the parameters; nothing where there is none.
+fn say_detail(text: &mut Text, chans: &Arena<Chan>, comp: &FlatComp, word: &[u8]) {
+    let name = Piece::Name(word);
     match &comp.kind {
         Kind::Variable | Kind::FalseVariable if word.is_empty() => {}
         Kind::Variable
@@ -62,23 +33,17 @@ fn say_detail(text: &mut Text, chans: &Arena<Chan>, comp: &FlatComp, written: Op
         | Kind::UnaryFunc { .. }
         | Kind::BinaryFunc { .. }
         | Kind::Case(_)
-        | Kind::CaseFetch(_) => text.say("%", &[Piece::Name(word)]),
+        | Kind::CaseFetch(_) => text.put_pieces(&[name]),
         Kind::BinaryFuncConstR {
             right_width,
             right,
             ..
-        } => text.say(
-            "% %",
-            &[
-                Piece::Name(word),
-                Piece::Value(low_bits(*right, *right_width)),
-            ],
-        ),
-        Kind::Slice(low) => text.say("from bit %", &[Piece::Value(*low)]),
-        Kind::Constant(value) => text.say(
-            "%",
-            &[Piece::Value(low_bits(*value, out_width(chans, comp)))],
-        ),
+        } => text.put_pieces(&[name, Piece::Value(Some(low_bits(*right, *right_width)))]),
+        Kind::Slice(low) => text.put_pieces(&[Piece::Bytes(b"from bit "), Piece::Number(*low)]),
+        Kind::Constant(value) => {
+            let value = low_bits(*value, out_width(chans, comp));
+            text.put_pieces(&[Piece::Number(value)]);
+        }
         _ => {}
     }
 }
@@ -100,12 +65,4 @@ fn first_text(params: &[Param]) -> &[u8] {
         }
     }
     &[]
-}
-
-/// The record of the text that a component or an instance stands for.
-pub(crate) fn written_at<'p>(parts: &'p [Part], place: &Place) -> Option<&'p Component> {
-    if place.position == 0 {
-        return None;
-    }
-    parts.get(place.part)?.components.get(place.position - 1)
 }

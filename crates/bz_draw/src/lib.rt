@@ -4,12 +4,17 @@
 mod command;
 mod drawing;
 mod edges;
+mod fault;
 mod folding;
 mod graph;
 mod labels;
+mod near;
 mod nodes;
-mod text;
+mod piece;
+mod view;
 
 pub use command::draw_cmd;
 pub use drawing::{Drawing, Edge, Tip, drawing_of};
+pub use fault::NoDrawing;
 pub use folding::Folding;
+pub use view::View;

@@ -1,14 +1,14 @@
 //! The nodes of a graph.
 
 use crate::drawing::Drawing;
-use crate::labels::{put_detail, written_at};
-use crate::text::{Piece, Text};
+use crate::labels::put_detail;
+use crate::piece::Piece;
+use crate::view::{Scene, View};
 use bz_flat::FlatComp;
-use bz_kind_table::{PortRow, kind_word, port_table};
-use bz_look::Survey;
-use bz_model::node_of;
-use bz_places::Place;
-use bz_records::Component;
+use bz_kind_rows::{PortAt, kind_word, port_at};
+use bz_model::{Param, node_of};
+use bz_source::Place;
+use bz_text::Text;
 
 /// The most ports of a component whose arrays have a cell for each port.
 const MOST_CELLS: usize = 16;
@@ -18,13 +18,15 @@ pub(crate) fn is_wide(comp: &FlatComp) -> bool {
     comp.chans.len() > MOST_CELLS
 }
 
-/// Adds the nodes of the components and of the boxes, each copy's own before those of the instances in it.
-pub(crate) fn put_nodes(text: &mut Text, s: &Survey, d: &Drawing) {
+/// Adds the nodes of the components and of the boxes, each copy's own before those of the instances in it. Of a part
+/// of a net the instances that have none of it are left out.
+pub(crate) fn put_nodes(text: &mut Text, s: Scene<'_>, view: View, d: &Drawing) {
+    let is_part = matches!(view, View::Around { .. });
     let mut at = put_members(text, s, d, 0, 0, 0);
     let mut level = 0;
-    for (i, instance) in s.places.instances().iter().enumerate() {
+    for (i, instance) in s.survey.places.instances().iter().enumerate() {
         let depth = instance.path.len();
-        if depth > d.folding.depth {
+        if depth > d.folding.depth || is_part && !holds_next(s, d, at, i) {
             continue;
         }
         put_ends(text, depth, level);
@@ -41,23 +43,40 @@ pub(crate) fn put_nodes(text: &mut Text, s: &Survey, d: &Drawing) {
     put_ends(text, 0, level);
 }
 
+// Whether the next component that is drawn lies in an instance, or in one within it.
+fn holds_next(s: Scene<'_>, d: &Drawing, at: usize, instance: usize) -> bool {
+    let Some((copy, _)) = d.comps.get(at) else {
+        return false;
+    };
+    let instances = s.survey.places.instances();
+    match (instances.get(instance), instances.get(copy.wrapping_sub(1))) {
+        (Some(around), Some(inside)) => *copy == instance + 1 || is_within(around, inside),
+        _ => false,
+    }
+}
+
+// Whether a place lies in an instance.
+fn is_within(instance: &Place, place: &Place) -> bool {
+    place.path.starts_with(instance.path.as_slice())
+        && place.path.get(instance.path.len()) == Some(&instance.position)
+}
+
 // The components of a copy, which begin here among those that are drawn; where the next copy's begin.
 fn put_members(
     text: &mut Text,
-    s: &Survey,
+    s: Scene<'_>,
     d: &Drawing,
     from: usize,
     copy: usize,
     level: usize,
 ) -> usize {
     let mut at = from;
-    for i in from..d.comps.len() {
-        let (inside, number) = d.comps[i];
-        if inside != copy {
+    for (inside, number) in d.comps.get(from..).unwrap_or(&[]) {
+        if *inside != copy {
             break;
         }
-        put_comp(text, s, number, level);
-        at = i + 1;
+        put_comp(text, s, *number, level);
+        at = at.saturating_add(1);
     }
     at
 }
@@ -69,130 +88,87 @@ fn put_ends(text: &mut Text, to: usize, from: usize) {
     }
 }
 
-fn put_cluster<'s>(text: &mut Text, s: &'s Survey, instance: &'s Place) {
+fn put_cluster<'s>(text: &mut Text, s: Scene<'s>, instance: &'s Place) {
     let pad = Piece::Pad(instance.path.len());
-    text.say(
-        "%subgraph cluster_% {\n%  label=\"% %\"; labelloc=t; color=gray60;\n",
-        &[
-            pad,
-            Piece::Path("_", instance),
-            pad,
-            Piece::Path("/", instance),
-            name_of(s, instance),
-        ],
-    );
+    let number = Piece::Path("_", instance);
+    text.say("%subgraph cluster_% {\n%  label=\"", &[pad, number, pad]);
+    put_place(text, s, instance);
+    text.put("\"; labelloc=t; color=gray60;\n");
 }
 
-fn put_box<'s>(text: &mut Text, s: &'s Survey, instance: &'s Place, members: usize) {
-    text.say(
-        "%i% [shape=box3d, label=\"% %\\n%\"];\n",
-        &[
-            Piece::Pad(instance.path.len()),
-            Piece::Path("_", instance),
-            Piece::Path("/", instance),
-            name_of(s, instance),
-            Piece::Count(members, "component"),
-        ],
-    );
+fn put_box<'s>(text: &mut Text, s: Scene<'s>, instance: &'s Place, members: usize) {
+    let pad = Piece::Pad(instance.path.len());
+    let number = Piece::Path("_", instance);
+    text.say("%i% [shape=box3d, label=\"", &[pad, number]);
+    put_place(text, s, instance);
+    text.say("\\n%\"];\n", &[Piece::Count(members, "component")]);
 }
 
-// The name of the part that an instance is one of.
-fn name_of<'s>(s: &'s Survey, instance: &Place) -> Piece<'s> {
-    match written_at(s.parts.list(), instance) {
+// The name of the part that an instance is one of, and where the instance stands.
+fn put_place<'s>(text: &mut Text, s: Scene<'s>, instance: &'s Place) {
+    let name = match s.survey.record(instance.part, instance.position) {
         Some(written) => Piece::Label(written.name.as_slice()),
         None => Piece::Text(""),
-    }
+    };
+    text.say("% (at %)", &[name, Piece::Path("/", instance)]);
 }
 
 // The node of a component, with a cell for each port, or for each row of ports.
-fn put_comp(text: &mut Text, s: &Survey, number: u32, level: usize) {
+fn put_comp(text: &mut Text, s: Scene<'_>, number: u32, level: usize) {
     if let Some(comp) = node_of(&s.net.comps, number) {
-        put_number(text, level, number as usize);
+        let (pad, place) = (Piece::Pad(level), Piece::Number(number as usize));
+        text.say("%c% [label=\"{", &[pad, place]);
         put_side(text, comp, true);
-        let kind = Piece::Bytes(kind_word(&comp.kind));
-        text.say("% %", &[Piece::Number(number as usize), kind]);
-        put_detail(text, &s.net.chans, comp, written_comp(s, number));
+        text.say("% %", &[place, Piece::Bytes(kind_word(&comp.kind))]);
+        put_detail(text, &s.net.chans, comp, params_of(s, number));
         put_side(text, comp, false);
         text.put("}\"];\n");
     }
 }
 
-fn put_number(text: &mut Text, level: usize, number: usize) {
-    text.say(
-        "%c% [label=\"{",
-        &[Piece::Pad(level), Piece::Number(number)],
-    );
-}
-
-// The record of the text that a component stands for.
-fn written_comp(s: &Survey, number: u32) -> Option<&Component> {
-    written_at(s.parts.list(), s.places.comp(number)?)
+// The parameters that a component has in the text.
+fn params_of(s: Scene<'_>, number: u32) -> &[Param] {
+    match s.survey.places.comp(number) {
+        Some(place) => match s.survey.record(place.part, place.position) {
+            Some(component) => component.params.as_slice(),
+            None => &[],
+        },
+        None => &[],
+    }
 }
 
 // The cells of the passive or of the active ports, which stand before or after the component's name.
 fn put_side(text: &mut Text, comp: &FlatComp, passive: bool) {
-    let (start, end) = if passive { ("{", "}|") } else { ("|{", "}") };
-    let mut is_first = true;
-    let mut port = 1usize;
-    let mut arrays = 0;
-    for row in port_table(&comp.kind) {
-        let mut len = 1;
-        if row.array {
-            len = comp.sizes.get(arrays).copied().unwrap_or(0);
-            arrays = 1;
+    let mut is_open = false;
+    for port in 1..=u32::try_from(comp.chans.len()).unwrap_or(u32::MAX) {
+        match port_at(&comp.kind, comp.sizes, port) {
+            Some(at) if at.row.passive == passive && has_cell(comp, at) => {
+                if is_open {
+                    text.put("|");
+                } else {
+                    text.put(if passive { "{" } else { "|{" });
+                }
+                put_cell(text, comp, at, port);
+                is_open = true;
+            }
+            _ => {}
         }
-        if row.passive == passive {
-            let before = if is_first { start } else { "|" };
-            put_row(text, comp, before, row, port, len);
-            is_first = false;
-        }
-        port = port.saturating_add(len as usize);
     }
-    if !is_first {
-        text.put(end);
+    if is_open {
+        text.put(if passive { "}|" } else { "}" });
     }
 }
 
-// The cells of a row of so many ports, from a port on: one for all of them, or one for each.
-fn put_row(text: &mut Text, comp: &FlatComp, before: &str, row: &PortRow, port: usize, len: u32) {
-    if is_wide(comp) {
-        let name = Piece::Text(row.name);
-        text.say("%<%> %", &[Piece::Text(before), name, name]);
-    } else {
-        put_cells(text, before, row, port, len);
-    }
+// Whether a port has a cell, or is the first of a row that has one.
+fn has_cell(comp: &FlatComp, at: PortAt) -> bool {
+    !is_wide(comp) || at.member.unwrap_or(1) == 1
 }
 
-fn put_cells(text: &mut Text, before: &str, row: &PortRow, port: usize, len: u32) {
-    for member in 0..len as usize {
-        let before = if member == 0 { before } else { "|" };
-        let form = if row.array { "%<p%> %%" } else { "%<p%> %" };
-        text.say(
-            form,
-            &[
-                Piece::Text(before),
-                Piece::Number(port.saturating_add(member)),
-                Piece::Text(row.name),
-                Piece::Number(member + 1),
-            ],
-        );
+fn put_cell(text: &mut Text, comp: &FlatComp, at: PortAt, port: u32) {
+    let (port, name) = (Piece::Number(port as usize), Piece::Text(at.row.name));
+    match at.member {
+        _ if is_wide(comp) => text.say("<%> %", &[name, name]),
+        None => text.say("<p%> %", &[port, name]),
+        Some(member) => text.say("<p%> %%", &[port, name, Piece::Number(member as usize)]),
     }
-}
-
-/// The name of the row that has a port of a component, the port counted from 1.
-pub(crate) fn row_name(comp: &FlatComp, port: u32) -> &'static str {
-    let mut left = port;
-    let mut arrays = 0;
-    for row in port_table(&comp.kind) {
-        let mut len = 1;
-        if row.array {
-            len = comp.sizes.get(arrays).copied().unwrap_or(0);
-            arrays = 1;
-        }
-        if left <= len {
-            return row.name;
-        }
-        left -= len;
-    }
-    ""
 }

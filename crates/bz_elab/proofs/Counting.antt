@@ -4,8 +4,8 @@ use Rattle.std.specs.List.{flat_map}
 use Rattle.std.proofs.lemmas.Grind.{flat_map-append}
 use Rattle.std.proofs.lemmas.List.{append-nil, length-map, length-take, take-append-drop}
 use Rattle.bz_model.specs.declared.channel.Chan.{Chan}
-use Rattle.bz_records.specs.declared.part.Part.{Part}
-use Rattle.bz_records.specs.declared.part.Component.{Component}
+use Rattle.bz_breeze_records.specs.declared.part.Part.{Part}
+use Rattle.bz_breeze_records.specs.declared.part.Component.{Component}
 use Rattle.bz_flat.specs.declared.error.ElabError.{ElabError}
 use Rattle.bz_flat.specs.declared.error.ElabError.TheVariants.{TooBig, Memory}
 use Rattle.bz_flat.specs.declared.flat.FlatComp.{FlatComp}

@@ -4,10 +4,10 @@ use Rattle.std.specs.List.{All}
 use Rattle.bz_model.specs.declared.channel.Chan.{Chan}
 use Rattle.bz_model.specs.declared.kind.Kind.{Kind}
 use Rattle.bz_model.specs.Rows.{row_of, ports_of}
-use Rattle.bz_records.specs.declared.part.Component.{Component}
+use Rattle.bz_breeze_records.specs.declared.part.Component.{Component}
 use Rattle.bz_model.specs.declared.error.KindError.{KindError}
 use Rattle.bz_model.specs.declared.error.KindError.TheVariants as kind
-use Rattle.bz_kind_table.specs.Naming.{kind_with}
+use Rattle.bz_kind_rows.specs.Naming.{kind_with}
 use Rattle.bz_elab.specs.declared.error.Fault.{Fault}
 use Rattle.bz_elab.specs.declared.error.Fault.TheVariants as fault
 use Rattle.bz_elab.specs.Entries.{flattened, sizes_of, FitsPorts}

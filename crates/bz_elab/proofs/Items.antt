@@ -4,8 +4,8 @@ use Rattle.std.specs.List.{flat_map, All}
 use Rattle.std.proofs.lemmas.List.{append-nil}
 use Rattle.std.proofs.lemmas.Option.{slice_get_read, slice_get_within}
 use Rattle.bz_model.specs.declared.channel.Chan.{Chan}
-use Rattle.bz_records.specs.declared.part.Part.{Part}
-use Rattle.bz_records.specs.declared.part.Component.{Component}
+use Rattle.bz_breeze_records.specs.declared.part.Part.{Part}
+use Rattle.bz_breeze_records.specs.declared.part.Component.{Component}
 use Rattle.bz_flat.specs.declared.error.ElabError.{ElabError}
 use Rattle.bz_flat.specs.declared.error.ElabError.TheVariants.{TooBig, Memory}
 use Rattle.bz_flat.specs.declared.flat.FlatComp.{FlatComp}

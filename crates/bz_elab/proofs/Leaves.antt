@@ -1,8 +1,8 @@
 -- The walk of a net meets each leaf.
 use Rattle.std.proofs.Common.{◌≡◌, ℕ, zero, suc, ◌+◌, ◌≤◌, None, Some, List, [], ◌∷◌, ◌++◌, length, inl, inr, refl, sym, ◌∙◌, ap, subst, arith, append_assoc, length-append, slice_get, option_and_then}
 use Rattle.std.proofs.lemmas.List.{append-nil}
-use Rattle.bz_records.specs.declared.part.Part.{Part}
-use Rattle.bz_records.specs.declared.part.Component.{Component}
+use Rattle.bz_breeze_records.specs.declared.part.Part.{Part}
+use Rattle.bz_breeze_records.specs.declared.part.Component.{Component}
 use Rattle.bz_elab.specs.Paths.{Path, Stop, leaf, named, component, inner, copied, each_from, visit, walk, stops, most_instances}
 use Rattle.bz_elab.specs.Walks.{Has, MeetsLeaves}
 use Rattle.bz_elab.proofs.Soundness.{copied-first, last_of}

@@ -2,8 +2,8 @@
 use Rattle.std.proofs.Common.{◌≡◌, ℕ, zero, suc, ◌+◌, ◌<◌, ◌⊎◌, inl, inr, Bool, true, Option, Some, List, [], ◌∷◌, ◌++◌, length, sym, ◌∙◌, ap, subst, arith, slice_get}
 use Rattle.std.proofs.lemmas.Bool.Decides.{eqb_tells}
 use Rattle.bz_model.specs.declared.channel.Chan.{Chan}
-use Rattle.bz_records.specs.declared.part.Part.{Part}
-use Rattle.bz_records.specs.declared.part.Component.{Component}
+use Rattle.bz_breeze_records.specs.declared.part.Part.{Part}
+use Rattle.bz_breeze_records.specs.declared.part.Component.{Component}
 use Rattle.bz_elab.specs.declared.error.Fault.{Fault}
 use Rattle.bz_elab.specs.declared.error.Fault.TheVariants as fault
 use Rattle.bz_elab.specs.declared.faults.Seen.{Seen}

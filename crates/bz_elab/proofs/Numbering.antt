@@ -4,7 +4,7 @@ use Rattle.std.proofs.lemmas.Iterator.Adapters.{position_from-zero}
 use Rattle.std.proofs.lemmas.Slice.Eq.{bytes_eq-Decides}
 use Rattle.std.specs.List.{position_from}
 use Rattle.std.specs.Option.{option_map}
-use Rattle.bz_records.specs.declared.part.Part.{Part}
+use Rattle.bz_breeze_records.specs.declared.part.Part.{Part}
 use Rattle.bz_elab.specs.Paths.{named}
 use Rattle.bz_elab.specs.Numbers.{number_named}
 

@@ -3,9 +3,9 @@ use Rattle.std.proofs.Common.{◌≡◌, ℕ, zero, suc, ◌+◌, ◌<◌, ◌�
 use Rattle.std.proofs.lemmas.List.{length-set, length-replicate, get_or-set_same, get_or-set_other}
 use Rattle.std.proofs.lemmas.Bool.Decides.{eqb_tells, leb_tells}
 use Rattle.std.proofs.lemmas.Option.{slice_get_within}
-use Rattle.bz_records.specs.declared.part.Part.{Part}
+use Rattle.bz_breeze_records.specs.declared.part.Part.{Part}
 use Rattle.bz_elab.specs.declared.reach.Marking.{Marking}
-use Rattle.bz_records.specs.declared.part.Component.{Component}
+use Rattle.bz_breeze_records.specs.declared.part.Component.{Component}
 use Rattle.bz_elab.specs.Paths.{Path, component}
 use Rattle.bz_elab.specs.Numbers.{number_named, inner_number, number_at, IsBelow, IsReached, is_marked, Marks, unmarked, Marked, Spread}
 use Rattle.bz_elab.proofs.Growing.{slice_get-left, slice_get-right}

@@ -3,7 +3,7 @@ use Rattle.std.proofs.Common.{◌≡◌, ℕ, zero, suc, ◌<◌, ◌≤◌, Boo
 use Rattle.bz_model.specs.Names.{External, external}
 use Rattle.bz_model.specs.Nets.{Site, chan_at, passive_at}
 use Rattle.bz_model.specs.Hosts.{port_is_passive}
-use Rattle.bz_records.specs.declared.part.Part.{Part}
+use Rattle.bz_breeze_records.specs.declared.part.Part.{Part}
 use Rattle.bz_flat.specs.declared.error.ElabError.{ElabError}
 use Rattle.bz_flat.specs.declared.error.ElabError.TheVariants.{NoPart, Recursive, TooDeep, UnknownComponent, BadParameter, PortCount, BadChannel, TooBig, KindMismatch, WidthMismatch, TwoEnds, LooseEnd, PortSense, Memory}
 use Rattle.bz_elab.specs.declared.error.Fault.{Fault}

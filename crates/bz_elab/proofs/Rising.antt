@@ -1,7 +1,7 @@
 -- The walk of a net goes by rising paths.
 use Rattle.std.proofs.Common.{◌≡◌, ℕ, zero, suc, ◌+◌, None, Some, List, [], ◌∷◌, ◌++◌, inl, inr, refl, sym, ◌∙◌, arith, append_assoc, slice_get}
-use Rattle.bz_records.specs.declared.part.Part.{Part}
-use Rattle.bz_records.specs.declared.part.Component.{Component}
+use Rattle.bz_breeze_records.specs.declared.part.Part.{Part}
+use Rattle.bz_breeze_records.specs.declared.part.Component.{Component}
 use Rattle.bz_elab.specs.Paths.{Path, Stop, named, component, copied, each_from, visit, walk, stops, most_instances}
 use Rattle.bz_elab.specs.Walks.{Has, Before, Rises, StandAt, MeetsInOrder}
 use Rattle.bz_elab.proofs.Distinct.{Extends, ExtendsFrom, has_cases}

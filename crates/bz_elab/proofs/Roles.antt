@@ -2,10 +2,10 @@
 use Rattle.std.proofs.Common.{◌≡◌, ◌⊎◌, inl, inr, Ok, Err, List, refl, sym, ap, subst, true, false, Bool}
 use Rattle.bz_model.specs.declared.channel.Chan.{Chan}
 use Rattle.bz_model.specs.declared.kind.Kind.{Kind}
-use Rattle.bz_records.specs.declared.part.Component.{Component}
+use Rattle.bz_breeze_records.specs.declared.part.Component.{Component}
 use Rattle.bz_model.specs.declared.error.KindError.{KindError}
 use Rattle.bz_model.specs.declared.error.KindError.TheVariants as kind
-use Rattle.bz_kind_table.specs.Naming.{kind_with}
+use Rattle.bz_kind_rows.specs.Naming.{kind_with}
 use Rattle.bz_elab.specs.declared.error.Fault.{Fault}
 use Rattle.bz_elab.specs.declared.error.Fault.TheVariants as fault
 use Rattle.bz_elab.specs.Faults.{fault_of}

@@ -5,10 +5,10 @@ use Rattle.std.proofs.lemmas.List.{take_more, drop_more, drop-drop}
 use Rattle.std.proofs.lemmas.List.Elements.{filter_map-append, All-nil, All-cons, All-head, All-tail, All-append}
 use Rattle.std.proofs.lemmas.List.Sums.{sum_by-cons}
 use Rattle.bz_model.specs.Rows.{PortRow, row_of}
-use Rattle.bz_kind_table.specs.declared.table.PortRow as code
-use Rattle.bz_kind_table.specs.Table.{seen}
-use Rattle.bz_records.specs.declared.part.Slot.{Slot}
-use Rattle.bz_records.specs.declared.part.Slot.TheVariants.{One, Many}
+use Rattle.bz_kind_rows.specs.declared.table.PortRow as code
+use Rattle.bz_kind_rows.specs.Table.{seen}
+use Rattle.bz_breeze_records.specs.declared.part.Slot.{Slot}
+use Rattle.bz_breeze_records.specs.declared.part.Slot.TheVariants.{One, Many}
 use Rattle.bz_model.specs.declared.channel.Chan.{Chan}
 use Rattle.bz_model.specs.declared.kind.Kind.{Kind}
 use Rattle.bz_elab.specs.Entries.{flattened, named_in, singles, lists, list_of, first_list, in_row, pulls, guard_second, guard_in_front, has_guard, leads_with_guard, in_order, arranged}

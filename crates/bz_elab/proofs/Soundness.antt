@@ -1,8 +1,8 @@
 -- Parts at paths, and components at their positions.
 use Rattle.std.proofs.Common.{◌≡◌, ℕ, zero, suc, ◌<◌, ◌≤◌, Option, None, Some, List, [], ◌∷◌, ◌++◌, length, ◌⊎◌, inl, inr, refl, ◌∙◌, ap, arith, get_or, slice_get, option_and_then}
 use Rattle.std.proofs.lemmas.Option.{slice_get_read, slice_get_within}
-use Rattle.bz_records.specs.declared.part.Part.{Part}
-use Rattle.bz_records.specs.declared.part.Component.{Component}
+use Rattle.bz_breeze_records.specs.declared.part.Part.{Part}
+use Rattle.bz_breeze_records.specs.declared.part.Component.{Component}
 use Rattle.bz_elab.specs.Paths.{Path, component, inner, copied}
 
 pub part_at : (parts : List Part) (n : ℕ) → n < length parts → (p : Part) × (slice_get parts n ≡ Some p)

@@ -3,11 +3,11 @@ use Rattle.std.proofs.Common.{◌≡◌, ℕ, zero, suc, ◌+◌, ◌-◌, ◌<�
 use Rattle.std.specs.List.{flat_map}
 use Rattle.std.proofs.lemmas.Bool.Decides.{eqb_tells}
 use Rattle.std.proofs.lemmas.List.{append-nil, length-take, length-set, get_or-set_same, get_or-set_other}
-use Rattle.bz_records.specs.declared.part.Part.{Part}
-use Rattle.bz_records.specs.declared.part.Component.{Component}
+use Rattle.bz_breeze_records.specs.declared.part.Part.{Part}
+use Rattle.bz_breeze_records.specs.declared.part.Component.{Component}
 use Rattle.bz_elab.specs.declared.totals.Total.{Total}
 use Rattle.std.proofs.lemmas.Grind.{flat_map-append}
-use Rattle.bz_records.specs.declared.part.Slot.{Slot}
+use Rattle.bz_breeze_records.specs.declared.part.Slot.{Slot}
 use Rattle.bz_elab.specs.Entries.{flattened, named_in}
 use Rattle.bz_elab.specs.Paths.{Path, Stop, copy, leaf, named, component, inner, copied, each_from, visit, walk, own_chans}
 use Rattle.bz_elab.specs.Refusals.{own_comps, own_ends, most_ends}

@@ -9,8 +9,8 @@ use Rattle.bz_model.specs.declared.channel.TheConstants.{MAX_WIDTH}
 use Rattle.bz_model.specs.declared.names.Port.{Port}
 use Rattle.bz_model.specs.Names.{External, external}
 use Rattle.bz_model.specs.Nets.{Site, IsPort, no_site, site_at, chan_at, chan_in}
-use Rattle.bz_records.specs.declared.part.Part.{Part}
-use Rattle.bz_records.specs.Parts.{IsFit}
+use Rattle.bz_breeze_records.specs.declared.part.Part.{Part}
+use Rattle.bz_breeze_records.specs.Parts.{IsFit}
 use Rattle.bz_flat.specs.declared.flat.Ends.{Ends}
 use Rattle.bz_flat.specs.declared.flat.FlatComp.{FlatComp}
 use Rattle.bz_elab.specs.declared.walk.Draft.{Draft}

@@ -8,8 +8,8 @@ use Rattle.bz_model.specs.declared.kind.Kind.{Kind}
 use Rattle.bz_model.specs.declared.kind.Kind.TheVariants.{While, Bar}
 use Rattle.bz_model.specs.Nets.{chan_in}
 use Rattle.bz_model.specs.Rows.{PortRow, row_of, has_sizes, max_members}
-use Rattle.bz_records.specs.declared.part.Slot.{Slot}
-use Rattle.bz_records.specs.declared.part.Slot.TheVariants.{One, Many}
+use Rattle.bz_breeze_records.specs.declared.part.Slot.{Slot}
+use Rattle.bz_breeze_records.specs.declared.part.Slot.TheVariants.{One, Many}
 
 -- the channels that an entry names
 abbrev pub named_in : Slot → List ℕ

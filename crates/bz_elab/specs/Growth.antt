@@ -4,8 +4,8 @@ use Rattle.std.specs.List.{flat_map, All}
 use Rattle.bz_model.specs.declared.channel.Chan.{Chan}
 use Rattle.bz_model.specs.declared.kind.Kind.{Kind}
 use Rattle.bz_model.specs.Rows.{row_of, ports_of, has_widths}
-use Rattle.bz_records.specs.declared.part.Part.{Part}
-use Rattle.bz_records.specs.declared.part.Component.{Component}
+use Rattle.bz_breeze_records.specs.declared.part.Part.{Part}
+use Rattle.bz_breeze_records.specs.declared.part.Component.{Component}
 use Rattle.bz_flat.specs.declared.error.ElabError.{ElabError}
 use Rattle.bz_flat.specs.declared.error.ElabError.TheVariants.{TooBig, Memory}
 use Rattle.bz_elab.specs.declared.error.Fault.{Fault}
@@ -14,7 +14,7 @@ use Rattle.bz_elab.specs.declared.walk.Draft.{Draft}
 use Rattle.bz_elab.specs.declared.walk.Level.{Level}
 use Rattle.bz_elab.specs.Faults.{error_at}
 use Rattle.bz_elab.specs.Entries.{flattened, sizes_of, arranged, FitsPorts}
-use Rattle.bz_elab.specs.Paths.{Path, Place, Role, instance, of_kind, Stop, copy, leaf, component, copied, joined, role, leaf_role, each_from, visit, walk, own_chans, own_places, stops, all_places, most_instances, chans_at}
+use Rattle.bz_elab.specs.Paths.{named, Path, Place, Role, instance, of_kind, Stop, copy, leaf, component, copied, joined, role, leaf_role, each_from, visit, walk, own_chans, own_places, stops, all_places, most_instances, chans_at}
 use Rattle.bz_elab.specs.Refusals.{IsChannel, kinds_of, widths_of, chans_of, actuals_of, formals_of, own_comps, own_ends, most_ends, IsTooMany, HasFault, AppliesTo}
 use Rattle.bz_flat.specs.Wires.{most_comps, most_chans}
 
@@ -163,3 +163,9 @@ pub record IsNet (parts : List Part) (top : Part) (d : Draft) : Type 0 where
   pub comps_len : length d.comps ≡ length (flat_map own_comps (stops parts top))
   pub ends_are : d.ends ≡ length (flat_map own_ends (stops parts top))
   pub leaves : AreLeaves parts top (all_places parts top) (stops parts top) d.comps
+
+-- the components of the net of the part of this name
+pub record AreComponents (parts : List Part) (name : List ℕ) (comps : List FlatComp) : Type 0 where
+  pub top : Part
+  pub is_named : named parts name ≡ Some top
+  pub leaves : AreLeaves parts top (all_places parts top) (stops parts top) comps

@@ -1,8 +1,8 @@
 -- Parts by their places in the text, counted from 0, and which of them are below which.
 use Rattle.std.specs.Prelude.{◌≡◌, ◌⊎◌, ℕ, suc, ◌+◌, ◌<◌, ◌≤◌, Bool, true, false, Option, None, Some, List, [], ◌∷◌, ◌++◌, length, slice_get, slice_index_or, bytes_eq, option_and_then, if◌then◌else◌}
 use Rattle.std.specs.Option.{option_map}
-use Rattle.bz_records.specs.declared.part.Part.{Part}
-use Rattle.bz_records.specs.declared.part.Component.{Component}
+use Rattle.bz_breeze_records.specs.declared.part.Part.{Part}
+use Rattle.bz_breeze_records.specs.declared.part.Component.{Component}
 use Rattle.bz_elab.specs.declared.reach.Marking.{Marking}
 use Rattle.bz_elab.specs.Paths.{Path, component}
 

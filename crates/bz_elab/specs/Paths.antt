@@ -9,11 +9,11 @@ use Rattle.bz_model.specs.declared.kind.Kind.{Kind}
 use Rattle.bz_model.specs.declared.kind.Kind.TheVariants.{Loop}
 use Rattle.bz_model.specs.Names.{external}
 use Rattle.bz_model.specs.Nets.{Site, Wiring}
-use Rattle.bz_records.specs.declared.part.Part.{Part}
-use Rattle.bz_records.specs.declared.part.Component.{Component}
+use Rattle.bz_breeze_records.specs.declared.part.Part.{Part}
+use Rattle.bz_breeze_records.specs.declared.part.Component.{Component}
 use Rattle.bz_model.specs.declared.error.KindError.{KindError}
 use Rattle.bz_model.specs.declared.error.KindError.TheVariants.{BadParameter}
-use Rattle.bz_kind_table.specs.Naming.{kind_with}
+use Rattle.bz_kind_rows.specs.Naming.{kind_with}
 use Rattle.bz_elab.specs.Entries.{flattened, sizes_of, arranged}
 
 abbrev pub Path : Type 0

@@ -1,8 +1,8 @@
 -- What was read of each part: its components, each looked at once for all copies.
 use Rattle.std.specs.Prelude.{◌≡◌, ℕ, ◌+◌, ◌<◌, ◌≤◌, ◌⊎◌, None, Some, List, [], ◌∷◌, ◌++◌, length, map, slice_get}
 use Rattle.bz_model.specs.declared.channel.Chan.{Chan}
-use Rattle.bz_records.specs.declared.part.Part.{Part}
-use Rattle.bz_records.specs.declared.part.Component.{Component}
+use Rattle.bz_breeze_records.specs.declared.part.Part.{Part}
+use Rattle.bz_breeze_records.specs.declared.part.Component.{Component}
 use Rattle.bz_flat.specs.declared.flat.FlatComp.{FlatComp}
 use Rattle.bz_elab.specs.declared.walk.Draft.{Draft}
 use Rattle.bz_elab.specs.declared.walk.Level.{Level}

@@ -6,9 +6,9 @@ use Rattle.bz_model.specs.declared.channel.ChanKind.{ChanKind}
 use Rattle.bz_model.specs.declared.kind.Kind.{Kind}
 use Rattle.bz_model.specs.Rows.{row_of, ports_of, has_widths}
 use Rattle.bz_model.specs.Nets.{Wiring, chan_in}
-use Rattle.bz_records.specs.declared.part.Part.{Part}
-use Rattle.bz_records.specs.declared.part.Component.{Component}
-use Rattle.bz_records.specs.declared.part.Slot.{Slot}
+use Rattle.bz_breeze_records.specs.declared.part.Part.{Part}
+use Rattle.bz_breeze_records.specs.declared.part.Component.{Component}
+use Rattle.bz_breeze_records.specs.declared.part.Slot.{Slot}
 use Rattle.bz_flat.specs.declared.error.ElabError.{ElabError}
 use Rattle.bz_flat.specs.declared.error.ElabError.TheVariants.{NoPart, Recursive, TooDeep, UnknownComponent, BadParameter, PortCount, BadChannel, TooBig, KindMismatch, WidthMismatch, TwoEnds, LooseEnd, PortSense, Memory}
 use Rattle.bz_elab.specs.declared.error.Fault.{Fault}

@@ -1,7 +1,7 @@
 -- How high a part is and how much its copy brings, found without making one.
 use Rattle.std.specs.Prelude.{◌≡◌, ◌⊎◌, ℕ, ◌+◌, ◌^◌, ◌<◌, ◌≤◌, Option, None, Some, List, length, slice_get, slice_index_or}
 use Rattle.std.specs.List.{flat_map}
-use Rattle.bz_records.specs.declared.part.Part.{Part}
+use Rattle.bz_breeze_records.specs.declared.part.Part.{Part}
 use Rattle.bz_elab.specs.declared.totals.Total.{Total}
 use Rattle.bz_elab.specs.Paths.{Path, Stop, copied, own_chans}
 use Rattle.bz_elab.specs.Refusals.{own_comps, own_ends, most_ends}

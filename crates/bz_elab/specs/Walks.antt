@@ -1,7 +1,7 @@
 -- Laws of the walk of a net.
 use Rattle.std.specs.Prelude.{◌≡◌, ◌⊎◌, ℕ, ◌<◌, ◌≤◌, None, Some, List, [], ◌∷◌, ◌++◌, length}
-use Rattle.bz_records.specs.declared.part.Part.{Part}
-use Rattle.bz_records.specs.declared.part.Component.{Component}
+use Rattle.bz_breeze_records.specs.declared.part.Part.{Part}
+use Rattle.bz_breeze_records.specs.declared.part.Component.{Component}
 use Rattle.bz_elab.specs.Paths.{Path, Stop, copy, leaf, named, component, copied, stops, most_instances}
 
 -- x is one of xs

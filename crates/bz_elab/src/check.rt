@@ -3,7 +3,7 @@
 ghost use Rattle.std.specs.Prelude.{◌≡◌, ◌≤◌, ◌⊎◌, true, false, List, Some, slice_get, IfOk, IfErr, OnOk};
 ghost use Rattle.std.specs.List.{All};
 ghost use Rattle.bz_flat.specs.declared.error.ElabError.TheVariants.{Memory};
-ghost use Rattle.bz_records.specs.declared.part.Part.{Part};
+ghost use Rattle.bz_breeze_records.specs.declared.part.Part.{Part};
 ghost use Rattle.bz_elab.specs.Paths.{stops, most_instances};
 ghost use Rattle.bz_elab.specs.Refusals.{HasPortChannels, IsTooMany};
 ghost use Rattle.bz_elab.specs.Growth.{IsSoundBelow};
@@ -17,8 +17,8 @@ use crate::reach::{first_recursive, reached};
 use crate::reading::Reading;
 use crate::totals::{Total, capped, total_of};
 use crate::walk::{MOST_CHANNELS, MOST_COMPONENTS, MOST_ENDS, MOST_INSTANCES};
+use bz_breeze_records::{Part, Parts};
 use bz_flat::ElabError;
-use bz_records::{Part, Parts};
 use std::alloc::Global;
 
 /// Finds the first refusal of a part and all that it reaches, by what can be told without making the net; answers what was

@@ -1,11 +1,11 @@
 //! One component of a part: what it is, and whether its entries are what its kind or its part asks for.
 
-ghost use Rattle.std.specs.Prelude.{◌≡◌, ◌<◌, ◌≤◌, ◌⊎◌, ◌↔◌, ◌+◌, ℕ, length, map, not, count_by, slice_get, slice_index_or, IsTrue, IfOk, IfErr, OnOk};
+ghost use Rattle.std.specs.Prelude.{◌≡◌, ◌<◌, ◌≤◌, ◌⊎◌, ◌↔◌, ◌+◌, ℕ, length, map, not, count_by, slice_get, slice_index_or, MatchOption, IsTrue, IfOk, IfErr, OnOk};
 ghost use Rattle.std.specs.List.{All};
 ghost use Rattle.std.specs.Option.{option_copied};
 ghost use Rattle.bz_model.specs.Rows.{row_of};
 ghost use Rattle.bz_model.specs.Nets.{chan_in};
-ghost use Rattle.bz_kind_table.specs.Table.{seen};
+ghost use Rattle.bz_kind_rows.specs.Table.{seen};
 ghost use Rattle.bz_elab.specs.declared.error.Fault.TheVariants as fault;
 ghost use Rattle.bz_elab.specs.Entries.{flattened, named_in, singles, lists, single_of, list_of, sizes_of, in_row, in_order, arranged, guard_second, guard_in_front, pulls, FitsPorts};
 ghost use Rattle.bz_elab.specs.Paths.{leaf_role, of_kind, instance};
@@ -14,10 +14,10 @@ ghost use Rattle.bz_elab.specs.Growth.{IsFlat, IsSoundInstance};
 ghost use Rattle.bz_elab.specs.Order.{NoneBefore};
 
 use crate::error::Fault;
+use bz_breeze_records::{Component, Part, Slot};
 use bz_flat::FlatComp;
-use bz_kind_table::{PortRow, kind_of, kinds_are, port_table, sizes_fit, widths_fit};
+use bz_kind_rows::{PortRow, kind_of, kinds_are, port_table, sizes_fit, widths_fit};
 use bz_model::{Chan, ChanKind, Kind, MAX_MEMBERS};
-use bz_records::{Component, Part, Slot};
 use std::alloc::{AllocError, Global};
 
 /// A component that is no instance, by the numbers that its part's channels have in that part.
@@ -88,8 +88,8 @@ pub fn instance_of(
     Ok(named)
 }
 
-// All channels that entries name, in order.
-fn flattened(alloc: Global, entries: &[Slot]) -> Result<Vec<u32>, AllocError>
+/// All channels that entries name, in order: an instance's, in the order of its part's ports.
+pub fn flattened(alloc: Global, entries: &[Slot]) -> Result<Vec<u32>, AllocError>
     ensures { IfOk result (λ v. v.items ≡ flattened entries.now) }
 {
     let mut named = Vec::with_capacity(alloc, entries.len())?;
@@ -195,6 +195,19 @@ fn has_members(entries: &[Slot]) -> bool
     true
 }
 
+/// The lengths of the lists among a component's entries, in order, 0 where there is none; nothing where a list is longer than
+/// an array may be.
+pub fn array_sizes(entries: &[Slot]) -> Option<[u32; 2]>
+    ensures { MatchOption result (All (λ l. length l ≤ MAX_MEMBERS) (lists entries.now) → ⊥)
+        (λ sizes. All (λ l. length l ≤ MAX_MEMBERS) (lists entries.now) × (sizes ≡ sizes_of entries.now)) }
+{
+    if has_members(entries) {
+        Some(sizes_of(entries))
+    } else {
+        None
+    }
+}
+
 // The lengths of the lists, in order, 0 where there is none.
 fn sizes_of(entries: &[Slot]) -> [u32; 2]
     requires { All (λ l. length l ≤ MAX_MEMBERS) (lists entries.now) }
@@ -213,14 +226,13 @@ fn size_at(entries: &[Slot], place: usize) -> u32
     }
 }
 
-// The channels of a component's ports, in the order of the ports of its kind.
-fn arranged(
+/// The channels that a component's entries name, in the order of the ports of its kind. `channels` are its part's.
+pub fn arranged(
     alloc: Global,
     kind: &Kind,
     channels: &[Chan],
     entries: &[Slot],
 ) -> Result<Vec<u32>, AllocError>
-    requires { All (IsChannel channels.now) (flattened entries.now) }
     ensures { IfOk result (λ v. v.items ≡ arranged kind.now channels.now entries.now) }
 {
     let mut chans = in_row(alloc, port_table(kind), entries)?;
@@ -266,7 +278,6 @@ fn in_row(alloc: Global, rows: &[PortRow], entries: &[Slot]) -> Result<Vec<u32>,
 
 // Puts the entries of a While or a Bar in the order of its ports.
 fn put_in_order(kind: &Kind, channels: &[Chan], chans: &mut [u32])
-    requires { All (IsChannel channels.now) chans.old }
     ensures { chans.new ≡ in_order kind.now channels.now chans.old }
 {
     match kind {
@@ -277,7 +288,6 @@ fn put_in_order(kind: &Kind, channels: &[Chan], chans: &mut [u32])
 }
 
 fn put_guard_second(channels: &[Chan], chans: &mut [u32])
-    requires { All (IsChannel channels.now) chans.old }
     ensures { chans.new ≡ guard_second channels.now chans.old }
 {
     if chans.len() != 3 {
@@ -296,7 +306,6 @@ fn put_guard_second(channels: &[Chan], chans: &mut [u32])
 }
 
 fn put_guard_in_front(channels: &[Chan], chans: &mut [u32])
-    requires { All (IsChannel channels.now) chans.old }
     ensures { chans.new ≡ guard_in_front channels.now chans.old }
 {
     if chans.len() < 2 {
@@ -313,10 +322,12 @@ fn put_guard_in_front(channels: &[Chan], chans: &mut [u32])
 
 // Whether the channel of a number is a pull channel.
 fn pulls(channels: &[Chan], number: u32) -> bool
-    requires { IsChannel channels.now number }
     ensures { result ≡ pulls channels.now number }
 {
-    matches!(channels[number as usize - 1].kind, ChanKind::Pull)
+    match channels.get((number as usize).saturating_sub(1)) {
+        Some(chan) => matches!(chan.kind, ChanKind::Pull),
+        None => false,
+    }
 }
 
 // Whether all numbers are those of channels, of which there are so many.

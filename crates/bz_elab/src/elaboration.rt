@@ -9,9 +9,9 @@ ghost use Rattle.bz_elab.specs.Refusals.{Applies, Elaborated};
 use crate::check::check;
 use crate::ends::wire;
 use crate::walk::{find, net_of};
+use bz_breeze_records::Parts;
 use bz_flat::{ElabError, Flat, Pieces};
 use bz_model::dup_ports;
-use bz_records::Parts;
 use std::alloc::Global;
 
 /// The flat net of the first part of that name: its components and those of all instances, each instance a copy of its

@@ -9,7 +9,7 @@ ghost use Rattle.bz_elab.specs.Seats.{ChansFit, CompsFit, WellEnded, WiringFault
 
 use bz_arena::{Arena, Id};
 use bz_flat::{ElabError, Ends, FlatComp};
-use bz_kind_table::is_passive;
+use bz_kind_rows::is_passive;
 use bz_model::Port;
 use std::alloc::Global;
 

@@ -13,7 +13,7 @@ use std::alloc::{AllocError, AllocFailed};
 /// Where a component stands: the place of its part in the list of parts, counted from 0, and its position in that part,
 /// counted from 1.
 #[derive(Clone, Copy, Debug, PartialEq, Eq)]
-pub struct Spot {
+pub struct CompAt {
     pub part: usize,
     pub position: usize,
 }
@@ -47,10 +47,10 @@ impl Fault {
     }
 
     /// The refusal of a component that stands here.
-    pub fn at(self, spot: Spot) -> ElabError
+    pub fn at(self, spot: CompAt) -> ElabError
         ensures { result ≡ error_at self spot.part spot.position }
     {
-        let Spot { part, position } = spot;
+        let CompAt { part, position } = spot;
         match self {
             Fault::UnknownComponent => ElabError::UnknownComponent(part, position),
             Fault::BadParameter => ElabError::BadParameter(part, position),

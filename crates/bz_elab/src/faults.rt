@@ -14,21 +14,21 @@ ghost use Rattle.bz_elab.specs.Readings.{AreRead, AreReadings, told};
 ghost use Rattle.bz_elab.specs.Totals.{AreTotals};
 
 use crate::component::{instance_of, leaf_of};
-use crate::error::{Fault, Spot};
+use crate::error::{CompAt, Fault};
 use crate::reading::{Instance, Item, Reading};
 use crate::totals::{Total, is_bare};
 use crate::walk::{MOST_INSTANCES, find};
 use bz_arena::Arena;
+use bz_breeze_records::{Component, Part, Parts};
 use bz_flat::ElabError;
 use bz_model::Chan;
-use bz_records::{Component, Part, Parts};
 use std::alloc::{AllocError, Global};
 
 /// A fault, and the component that has it.
 #[derive(Clone, Copy)]
 pub struct Found {
     pub fault: Fault,
-    pub spot: Spot,
+    pub spot: CompAt,
 }
 
 /// What was seen of a component: its first fault, that it adds nothing to the net, or what it adds.
@@ -123,7 +123,7 @@ fn read_part(
             Seen::Nothing => {}
             Seen::Adds(item) => add_item(reading, is_top, item)?,
             Seen::Wrong(fault) => {
-                let spot = Spot {
+                let spot = CompAt {
                     part: number,
                     position: place + 1,
                 };

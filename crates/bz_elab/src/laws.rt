@@ -3,7 +3,7 @@
 ghost use Rattle.bz_elab.specs.Paths.{all_places};
 ghost use Rattle.bz_elab.specs.Walks.{Differ, MeetsInOrder, MeetsLeaves};
 
-use bz_records::Part;
+use bz_breeze_records::Part;
 
 /// The places of the channels of a net differ, so each has one number.
 pub fn places_differ(_parts: &[Part], _top: &Part)

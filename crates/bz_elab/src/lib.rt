@@ -12,8 +12,11 @@ mod rank;
 mod reach;
 mod reading;
 mod totals;
+mod unwired;
 mod walk;
 
 pub use bz_flat::{ElabError, Flat, FlatComp};
+pub use component::{arranged, array_sizes, flattened};
 pub use elaboration::elaborate;
 pub use laws::{leaves_are_met, places_differ, stops_rise};
+pub use unwired::components;

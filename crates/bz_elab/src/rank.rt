@@ -6,7 +6,7 @@
 ghost use Rattle.std.specs.Prelude.{◌≡◌, slice_index_or};
 
 use crate::walk::find;
-use bz_records::{Component, Part, Parts};
+use bz_breeze_records::{Component, Part, Parts};
 use std::alloc::{AllocError, Global};
 
 // A part that is gone through: its number, and how many of its components were looked at.

@@ -5,7 +5,7 @@ ghost use Rattle.bz_elab.specs.Numbers.{Marks, Marked, SpreadOn, IsBelow, IsReac
 
 use crate::rank::{number_at, ranks};
 use crate::walk::find;
-use bz_records::{Part, Parts};
+use bz_breeze_records::{Part, Parts};
 use std::alloc::{AllocError, Global};
 
 // The parts that were met, and these in the order in which they were, the first one before them.

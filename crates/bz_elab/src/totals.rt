@@ -8,7 +8,7 @@ ghost use Rattle.bz_elab.specs.Entries.{flattened};
 ghost use Rattle.bz_elab.specs.Totals.{Capped, Brings, IsSmall, IsTotal, IsDeeper, AreTotals, TellsBare, total_at};
 
 use crate::walk::{MOST_CHANNELS, MOST_COMPONENTS, MOST_ENDS, find};
-use bz_records::{Component, Part, Parts, Slot};
+use bz_breeze_records::{Component, Part, Parts, Slot};
 
 /// What lies below a copy of a part: the length of the longest path of instances, and how many components, channels and
 /// component ends, as far as a net may have so many.

@@ -13,9 +13,9 @@ ghost use Rattle.bz_elab.specs.Growth.{net_number, FitsNet, Entered, Flattened, 
 
 use crate::reading::{Item, Reading};
 use bz_arena::{Arena, Id};
+use bz_breeze_records::{Part, Parts};
 use bz_flat::{ElabError, FlatComp};
 use bz_model::Chan;
-use bz_records::{Part, Parts};
 use std::alloc::{AllocError, Global};
 
 /// The greatest number of components of a net.

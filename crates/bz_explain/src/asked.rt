@@ -1,5 +1,8 @@
 //! What a command was asked.
 
+use bz_explain_notes::Arg::Number;
+use bz_explain_notes::{Draft, put_source};
+
 /// What a command was asked, as far as its faults speak of it.
 #[derive(Clone, Copy)]
 pub struct Asked<'a, 't> {
@@ -10,31 +13,37 @@ pub struct Asked<'a, 't> {
     pub words: Words<'a, 't>,
 }
 
-/// Words of the command line.
+/// The words of `run` or `pool`.
 #[derive(Clone, Copy)]
-pub enum Words<'a, 't> {
-    /// Those of one session, with firings between them.
-    Run(&'a [&'t str]),
-    /// Those of the sessions of a pool.
-    Pool(&'a [&'t str]),
+pub struct Words<'a, 't> {
+    pub list: &'a [&'t str],
+    /// Whether they are those of the sessions of a pool. Else firings stand between them.
+    pub is_pool: bool,
+    /// Where they stand, if they are a file's.
+    pub file: Option<WordFile<'a>>,
+}
+
+/// A file of words.
+#[derive(Clone, Copy)]
+pub struct WordFile<'a> {
+    pub text: &'a [u8],
+    /// How many bytes stand before each of the words.
+    pub starts: &'a [usize],
 }
 
 impl<'a, 't> Words<'a, 't> {
-    pub(crate) fn list(self) -> &'a [&'t str] {
-        match self {
-            Words::Run(words) | Words::Pool(words) => words,
-        }
-    }
-
-    pub(crate) fn is_pool(self) -> bool {
-        match self {
-            Words::Run(_) => false,
-            Words::Pool(_) => true,
-        }
-    }
-
     /// The word of a number, from 1.
     pub(crate) fn word(self, number: usize) -> Option<&'t str> {
-        self.list().get(number.checked_sub(1)?).copied()
+        self.list.get(number.checked_sub(1)?).copied()
+    }
+
+    /// Tells where the word of a number, from 1, stands in the file, if the words are one's.
+    pub(crate) fn put_place(self, draft: &mut Draft, number: usize) {
+        if let (Some(file), Some(before)) = (self.file, number.checked_sub(1)) {
+            if let Some(at) = file.starts.get(before) {
+                put_source(draft, file.text, *at, " of the words");
+                draft.say("word %", &[Number(number)]);
+            }
+        }
     }
 }

@@ -1,15 +1,15 @@
 //! Components that are at fault.
 
-use crate::joined::{Joined, join_ports};
-use crate::kind_names::KIND_NAMES;
+use crate::data::Head;
 use crate::kind_words::{params_rule, put_kind, put_row, put_widths_expected};
-use crate::seat::Head;
 use crate::site::Site;
+use bz_breeze_records::{Part, Parts, Slot};
+use bz_elab::{arranged, array_sizes};
+use bz_explain_notes::Arg::{self, Carried, Count, Name, Number, Port, Text, Wide, Word};
+use bz_explain_notes::Draft;
 use bz_flat::ElabError;
-use bz_model::{Chan, ChanKind, Kind, Param, Port};
-use bz_notes::Arg::{self, At, Bytes, Count, Name, Number, Spaced, Text, Wide};
-use bz_notes::Draft;
-use bz_records::{Part, Parts, Slot};
+use bz_kind_rows::{PortAt, kind_names, port_at};
+use bz_model::{Chan, ChanKind, Kind, Param, Port as External};
 use std::alloc::{AllocError, Global};
 
 /// The most of several things that a note lists.
@@ -18,27 +18,36 @@ const MOST_LISTED: usize = 10;
 /// Tells the nearest name.
 pub(crate) const NEAREST: &str = "help: the nearest name is %";
 
-/// The names of the parts, and behind these others.
-pub(crate) fn part_names<'t>(
-    alloc: Global,
-    parts: &'t Parts,
-    others: &'static str,
-) -> Result<Vec<&'t [u8]>, AllocError> {
-    let mut names = Vec::new(alloc);
-    for part in parts.list() {
-        names.push(part.name.as_slice())?;
-    }
-    for other in others.split_whitespace() {
-        names.push(other.as_bytes())?;
-    }
-    Ok(names)
+/// What of a channel is not as its port asks.
+#[derive(Clone, Copy, PartialEq, Eq)]
+enum Aspect {
+    Kind,
+    Width,
+}
+
+/// A port of a component, and the number of the channel that its entry names.
+#[derive(Clone, Copy)]
+struct Joined {
+    port: PortAt,
+    chan: u32,
+}
+
+/// The names of the parts.
+pub(crate) fn part_names(alloc: Global, parts: &Parts) -> Result<Vec<&[u8]>, AllocError> {
+    let parts = parts.list().iter();
+    parts.map(|part| part.name.as_slice()).collect(alloc)
 }
 
 /// The names of ports.
-pub(crate) fn port_names(alloc: Global, ports: &[Port]) -> Result<Vec<&[u8]>, AllocError> {
-    let mut names = Vec::new(alloc);
-    for port in ports {
-        names.push(port.name.as_slice())?;
+pub(crate) fn port_names(alloc: Global, ports: &[External]) -> Result<Vec<&[u8]>, AllocError> {
+    ports.iter().map(|port| port.name.as_slice()).collect(alloc)
+}
+
+// The names of the parts, and behind these those of the kinds.
+fn known_names(alloc: Global, parts: &Parts) -> Result<Vec<&[u8]>, AllocError> {
+    let mut names = part_names(alloc, parts)?;
+    for (name, _) in kind_names() {
+        names.push(name.as_bytes())?;
     }
     Ok(names)
 }
@@ -48,25 +57,20 @@ impl Site<'_> {
     pub(crate) fn explain(self, draft: &mut Draft, error: ElabError) {
         self.netlist
             .put_listed(draft, self.number, Head::Components, self.position);
-        match (error, self.inner()) {
-            (ElabError::UnknownComponent(_, _), _) => self.explain_name(draft),
-            (ElabError::BadParameter(_, _), _) => self.explain_params(draft),
-            (ElabError::BadChannel(_, _), _) => self.explain_channel(draft),
-            (ElabError::PortCount(_, _), Some(inner)) => self.explain_count(draft, inner),
-            (_, Some(inner)) => self.explain_instance(draft, inner, error),
-            (_, None) => match self.kind(draft.alloc()) {
-                Ok(Some(kind)) => self.explain_entries(draft, &kind, error),
-                Ok(None) => {}
-                Err(_) => draft.fail(),
-            },
+        match error {
+            ElabError::UnknownComponent(_, _) => self.explain_name(draft),
+            ElabError::BadParameter(_, _) => self.explain_params(draft),
+            ElabError::BadChannel(_, _) => self.explain_channel(draft),
+            ElabError::PortCount(_, _) => self.explain_count(draft),
+            ElabError::KindMismatch(_, _) => self.explain_misfit(draft, Aspect::Kind),
+            _ => self.explain_misfit(draft, Aspect::Width),
         }
     }
 
     // A name that is unknown.
     fn explain_name(self, draft: &mut Draft) {
         let name = self.component.name.as_slice();
-        let parts = self.netlist.parts;
-        let names = draft.gathered(part_names(draft.alloc(), parts, KIND_NAMES));
+        let names = draft.gathered(known_names(draft.alloc(), self.netlist.parts));
         draft.say(
             "found: the name %\n\
             expected: a part of this text, or a kind, whose name has $Brz in front",
@@ -78,25 +82,25 @@ impl Site<'_> {
     // Parameters that the kind does not take.
     fn explain_params(self, draft: &mut Draft) {
         let params = self.component.params.as_slice();
+        let name = self.component.name.as_slice();
         draft.put("found: the parameters (", &[]);
         for (place, param) in params.iter().take(MOST_LISTED).enumerate() {
-            put_param(draft, if place == 0 { "" } else { " " }, param);
+            if place > 0 {
+                draft.put(" ", &[]);
+            }
+            put_param(draft, param);
         }
-        let rest = Text(if params.len() > MOST_LISTED {
-            " .."
-        } else {
-            ""
-        });
-        let name = self.component.name.as_slice();
-        let args = [rest, Name(name), Text(params_rule(name))];
-        draft.say("%)\nexpected: for % %", &args);
+        if params.len() > MOST_LISTED {
+            draft.put(" ..", &[]);
+        }
+        let args = [Name(name), Text(params_rule(name))];
+        draft.say(")\nexpected: for % %", &args);
     }
 
     // An entry that is no channel of the part.
     fn explain_channel(self, draft: &mut Draft) {
         let count = self.part.channels.len();
-        let named = draft.gathered(self.named(draft.alloc()));
-        for chan in &named {
+        for chan in &self.named(draft) {
             if self.channel(*chan).is_none() {
                 let part = Name(self.part.name.as_slice());
                 let channels = Count(count, "channel", "channels");
@@ -108,68 +112,42 @@ impl Site<'_> {
         draft.say("expected: channels from 1 to %", &[Number(count)]);
     }
 
-    // An instance with more or fewer entries than its part has ports.
-    fn explain_count(self, draft: &mut Draft, inner: &Part) {
-        let named = draft.gathered(self.named(draft.alloc()));
-        let ports = draft.gathered(port_names(draft.alloc(), &inner.ports));
-        let args = [
-            Count(named.len(), "entry", "entries"),
-            Name(inner.name.as_slice()),
-            Count(ports.len(), "port", "ports"),
-        ];
-        draft.put(
-            "found: %\nexpected: one for each port of part %, which has %",
-            &args,
-        );
-        draft.put_names(&ports);
-        draft.say("", &[]);
-    }
-
-    // An instance with a channel of another kind or width than in its part.
-    fn explain_instance(self, draft: &mut Draft, inner: &Part, error: ElabError) {
-        let named = draft.gathered(self.named(draft.alloc()));
-        let ports = inner.ports.iter().zip(inner.channels.iter());
-        for (number, (port, asked)) in named.iter().zip(ports) {
-            if self.differs(*number, *asked, error) {
-                self.put_carried(draft, (Name(&port.name), Text("")), *number);
-                put_asked(draft, inner, *asked, error);
-                break;
-            }
-        }
-    }
-
-    fn differs(self, number: u32, asked: Chan, error: ElabError) -> bool {
-        match (self.channel(number), error) {
-            (None, _) => false,
-            (Some(chan), ElabError::KindMismatch(_, _)) => chan.kind != asked.kind,
-            (Some(chan), _) => chan.width != asked.width,
-        }
-    }
-
-    // Entries that don't fit a kind.
-    fn explain_entries(self, draft: &mut Draft, kind: &Kind, error: ElabError) {
-        let ports = draft.gathered(join_ports(draft.alloc(), kind, self));
-        match error {
-            ElabError::PortCount(_, _) => {
-                self.put_counts(draft);
-                put_row(draft, kind);
-            }
-            ElabError::KindMismatch(_, _) => self.explain_kind(draft, kind, &ports),
-            _ => {
-                self.put_widths(draft, &ports);
-                put_widths_expected(draft, kind);
-            }
+    // More or fewer entries than there are ports, or lists of other lengths.
+    fn explain_count(self, draft: &mut Draft) {
+        if let Some(inner) = self.inner() {
+            let ports = draft.gathered(port_names(draft.alloc(), &inner.ports));
+            let args = [
+                Count(self.named(draft).len(), "entry", "entries"),
+                Name(inner.name.as_slice()),
+                Count(ports.len(), "port", "ports"),
+            ];
+            draft.put(
+                "found: %\nexpected: one for each port of part %, which has %",
+                &args,
+            );
+            draft.put_names(&ports);
+            draft.say("", &[]);
+        } else if let Some(kind) = self.kind(draft) {
+            self.put_counts(draft);
+            put_row(draft, &kind);
         }
     }
 
     // Tells the numbers of entries, and the lengths of the lists.
     fn put_counts(self, draft: &mut Draft) {
-        let lists = self.lists();
-        let singles = self.component.entries.len().saturating_sub(lists);
-        let singles = Count(singles, "single entry", "single entries");
+        let entries = self.component.entries.as_slice();
+        let lists = entries
+            .iter()
+            .filter(|entry| matches!(entry, Slot::Many(_)))
+            .count();
+        let singles = Count(
+            entries.len().saturating_sub(lists),
+            "single entry",
+            "single entries",
+        );
         draft.put("found: % and %", &[singles, Count(lists, "list", "lists")]);
         let mut form = ", of %";
-        for entry in &self.component.entries {
+        for entry in entries {
             if let Slot::Many(chans) = entry {
                 draft.put(form, &[Count(chans.len(), "channel", "channels")]);
                 form = " and %";
@@ -178,98 +156,108 @@ impl Site<'_> {
         draft.say("", &[]);
     }
 
-    // A port whose channel is of another kind.
-    fn explain_kind(self, draft: &mut Draft, kind: &Kind, ports: &[Joined]) {
-        for port in ports {
-            if let Some(chan) = self.channel(port.chan) {
-                if chan.kind != port.row.kind {
-                    self.put_carried(draft, port.name(), port.chan);
-                    put_kind(draft, kind, *port);
-                    break;
-                }
+    // A channel of another kind or width than its port asks for.
+    fn explain_misfit(self, draft: &mut Draft, aspect: Aspect) {
+        if let Some(inner) = self.inner() {
+            self.explain_instance(draft, inner, aspect);
+        } else if let Some(kind) = self.kind(draft) {
+            let ports = draft.gathered(self.joined(draft.alloc(), &kind));
+            match aspect {
+                Aspect::Kind => self.explain_kind(draft, &kind, &ports),
+                Aspect::Width => self.explain_widths(draft, &kind, &ports),
             }
         }
     }
 
-    // Tells what a port's channel is and where it stands.
-    fn put_carried<'a>(self, draft: &mut Draft, name: (Arg<'a>, Arg<'a>), number: u32) {
-        if let Some(chan) = self.channel(number) {
-            let number = number as usize;
-            let width = match chan.kind {
-                ChanKind::Sync => None,
-                _ => Some(u128::from(chan.width)),
-            };
-            let at = self.netlist.spot_of(self.number, Head::Channels, number);
-            let kind = Text(kind_text(chan.kind));
-            let args = [name.0, name.1, Number(number), kind, Spaced(width), At(at)];
-            draft.say("found: port %% is channel %, which is %% (%)", &args);
+    // The first port of an instance whose channel is not as in its part.
+    fn explain_instance(self, draft: &mut Draft, inner: &Part, aspect: Aspect) {
+        let named = self.named(draft);
+        let ports = inner.ports.iter().zip(inner.channels.iter());
+        for (number, (port, asked)) in named.iter().zip(ports) {
+            if self.differs(*number, *asked, aspect) {
+                self.put_carried(draft, Name(&port.name), *number);
+                let (kind, width) = (Text(asked.kind.word()), asked.width as usize);
+                let (form, asked) = match aspect {
+                    Aspect::Kind => ("expected: a % channel, as in part %", kind),
+                    Aspect::Width => ("expected: %, as in part %", Count(width, "bit", "bits")),
+                };
+                draft.say(form, &[asked, Name(&inner.name)]);
+                break;
+            }
         }
     }
 
-    // Tells the ports that carry values, with their channels and how many bits these have.
-    fn put_widths(self, draft: &mut Draft, ports: &[Joined]) {
-        let mut before = "found: ";
-        let mut listed = 0;
-        for port in ports {
-            if port.row.kind != ChanKind::Sync && listed < MOST_LISTED {
-                self.put_width(draft, before, *port);
-                before = "; ";
-                listed += 1;
+    fn differs(self, number: u32, asked: Chan, aspect: Aspect) -> bool {
+        match (self.channel(number), aspect) {
+            (None, _) => false,
+            (Some(chan), Aspect::Kind) => chan.kind != asked.kind,
+            (Some(chan), Aspect::Width) => chan.width != asked.width,
+        }
+    }
+
+    // The ports of a component of this kind, in order.
+    fn joined(self, alloc: Global, kind: &Kind) -> Result<Vec<Joined>, AllocError> {
+        let entries = self.component.entries.as_slice();
+        let sizes = array_sizes(entries).unwrap_or([0, 0]);
+        let mut ports = Vec::new(alloc);
+        let mut number = 0u32;
+        for chan in &arranged(alloc, kind, &self.part.channels, entries)? {
+            number = number.saturating_add(1);
+            if let Some(port) = port_at(kind, sizes, number) {
+                ports.push(Joined { port, chan: *chan })?;
+            }
+        }
+        Ok(ports)
+    }
+
+    // The first port of a component whose channel is of another kind.
+    fn explain_kind(self, draft: &mut Draft, kind: &Kind, ports: &[Joined]) {
+        for Joined { port, chan } in ports {
+            let asked = Chan {
+                kind: port.row.kind,
+                width: 0,
+            };
+            if self.differs(*chan, asked, Aspect::Kind) {
+                self.put_carried(draft, Port(port.row.name, port.member), *chan);
+                put_kind(draft, kind, *port);
+                break;
+            }
+        }
+    }
+
+    // The ports that carry values, with their channels and how many bits these have.
+    fn explain_widths(self, draft: &mut Draft, kind: &Kind, ports: &[Joined]) {
+        let mut listed = 0usize;
+        for Joined { port, chan } in ports {
+            let is_told = port.row.kind != ChanKind::Sync && listed < MOST_LISTED;
+            if let (true, Some(Chan { width, .. })) = (is_told, self.channel(*chan)) {
+                let before = Text(if listed == 0 { "found: " } else { "; " });
+                let name = Port(port.row.name, port.member);
+                let (number, bits) = (Number(*chan as usize), Count(width as usize, "bit", "bits"));
+                draft.put("%% is channel %, %", &[before, name, number, bits]);
+                listed = listed.saturating_add(1);
             }
         }
         draft.say("", &[]);
+        put_widths_expected(draft, kind);
     }
 
-    fn put_width(self, draft: &mut Draft, before: &str, port: Joined) {
-        let (form, width) = match self.channel(port.chan) {
-            Some(chan) => ("%%% is channel %, %", chan.width as usize),
-            None => ("%%% is channel %", 0),
-        };
-        let (name, member) = port.name();
-        let chan = Number(port.chan as usize);
-        draft.put(
-            form,
-            &[
-                Text(before),
-                name,
-                member,
-                chan,
-                Count(width, "bit", "bits"),
-            ],
-        );
+    // Tells what a port's channel is and where it stands.
+    fn put_carried(self, draft: &mut Draft, port: Arg<'_>, number: u32) {
+        if let Some(chan) = self.channel(number) {
+            let place = number as usize;
+            let at = self.netlist.spot_of(self.number, Head::Channels, place);
+            let args = [port, Number(place), Carried(chan), at];
+            draft.say("found: port % is channel %, which is % (%)", &args);
+        }
     }
 }
 
-fn put_param<'a>(draft: &mut Draft, before: &'a str, param: &'a Param) {
-    let (form, value) = match param {
-        Param::Num(number) => ("%%", Wide(*number)),
-        Param::Flag(true) => ("%#t", Text("")),
-        Param::Flag(false) => ("%#f", Text("")),
-        Param::Word(text) => ("%\"%\"", Bytes(text.as_slice())),
-    };
-    draft.put(form, &[Text(before), value]);
-}
-
-// Tells what a channel is in the part of an instance.
-fn put_asked(draft: &mut Draft, inner: &Part, asked: Chan, error: ElabError) {
-    let name = Name(inner.name.as_slice());
-    match error {
-        ElabError::KindMismatch(_, _) => draft.say(
-            "expected: a % channel, as in part %",
-            &[Text(kind_text(asked.kind)), name],
-        ),
-        _ => draft.say(
-            "expected: %, as in part %",
-            &[Count(asked.width as usize, "bit", "bits"), name],
-        ),
-    }
-}
-
-/// The word of a channel's kind.
-pub(crate) fn kind_text(kind: ChanKind) -> &'static str {
-    match kind {
-        ChanKind::Sync => "sync",
-        ChanKind::Push => "push",
-        ChanKind::Pull => "pull",
+fn put_param(draft: &mut Draft, param: &Param) {
+    match param {
+        Param::Num(number) => draft.put("%", &[Wide(*number)]),
+        Param::Flag(true) => draft.put("#t", &[]),
+        Param::Flag(false) => draft.put("#f", &[]),
+        Param::Word(text) => draft.put("\"%\"", &[Word(text.as_slice())]),
     }
 }

@@ -2,26 +2,21 @@
 
 use crate::asked::Words;
 use crate::component_faults::{NEAREST, port_names};
-use bz_model::{Chan, ChanKind, Cmd, NetError, Value, Verb};
-use bz_notes::Arg::{Count, Name, Number, Text, Wide};
-use bz_notes::Draft;
-use bz_records::Part as PartRecord;
+use crate::told::FULL;
+use bz_breeze_records::Part as PartRecord;
+use bz_explain_notes::Arg::{Count, Name, Number, Text, Wide, Word};
+use bz_explain_notes::Draft;
+use bz_model::{Chan, Cmd, HostCmd, NetError, Port, Value, Verb, low_bits};
 use bz_words::command;
-use std::alloc::{AllocError, Global};
-
-/// A journal without room for one entry more.
-pub(crate) const FULL: &str = "found: a journal that has as many entries as it may have\n\
-    expected: fewer events, or --journal with a greater number, up to 16777216";
 
 /// An external port, and its channel.
 #[derive(Clone, Copy)]
 struct Outside<'t> {
-    name: &'t [u8],
-    passive: bool,
+    port: &'t Port,
     chan: Chan,
 }
 
-/// The notes of an event of a word that was refused, by its number from 1.
+/// Goes on with the notes of an event of a word that was refused, by its number from 1.
 pub(crate) fn explain_event(
     draft: &mut Draft,
     part: &PartRecord,
@@ -29,13 +24,10 @@ pub(crate) fn explain_event(
     number: usize,
     error: NetError,
 ) {
-    match words.word(number) {
-        Some(_) if error == NetError::JournalFull => draft.say(FULL, &[]),
-        Some(word) => {
-            draft.put("found: word % is %", &[Number(number), Text(word)]);
-            explain_refused(draft, part, word, error);
-        }
-        None => {}
+    if let Some(word) = words.word(number) {
+        let found = Word(word.as_bytes());
+        draft.put("found: word % is %", &[Number(number), found]);
+        explain_refused(draft, part, word, error);
     }
 }
 
@@ -47,81 +39,43 @@ pub(crate) fn explain_session(
     session: usize,
     error: NetError,
 ) {
-    match refused_word(draft.alloc(), part, words, session, error) {
-        Ok(Some((number, word))) => {
-            let args = [Number(number), Number(session), Text(word)];
-            draft.put("found: word % of session % is %", &args);
-            explain_refused(draft, part, word, error);
-        }
-        Ok(None) => draft.say(FULL, &[]),
-        Err(_) => draft.fail(),
-    }
-}
-
-// The first word of a session that is refused for a reason, and its number in it, from 1.
-fn refused_word<'t>(
-    alloc: Global,
-    part: &PartRecord,
-    words: Words<'_, 't>,
-    session: usize,
-    error: NetError,
-) -> Result<Option<(usize, &'t str)>, AllocError> {
     let mut current = 1usize;
     let mut number = 0usize;
-    for word in words.list() {
+    for (before, word) in words.list.iter().enumerate() {
         number = number.saturating_add(1);
         if *word == "/" {
             current = current.saturating_add(1);
             number = 0;
-        } else if current == session && refusal(alloc, part, word)? == Some(error) {
-            return Ok(Some((number, word)));
+        } else if current == session && is_refused(draft, part, word, error) {
+            words.put_place(draft, before + 1);
+            let args = [Number(number), Number(session), Word(word.as_bytes())];
+            draft.put("found: word % of session % is %", &args);
+            return explain_refused(draft, part, word, error);
         }
     }
-    Ok(None)
+    draft.say(FULL, &[]);
 }
 
-// Why a word is refused at any moment.
-fn refusal(alloc: Global, part: &PartRecord, word: &str) -> Result<Option<NetError>, AllocError> {
-    match command(alloc, word)? {
-        Some(Cmd::Host(cmd)) => Ok(refusal_of(port_named(part, &cmd.port), cmd.verb, cmd.value)),
-        _ => Ok(None),
-    }
-}
-
-fn refusal_of(port: Option<Outside<'_>>, verb: Verb, value: Option<Value>) -> Option<NetError> {
-    let Some(port) = port else {
-        return Some(NetError::UnknownPort);
+// Whether a word is refused for a reason, at any moment.
+fn is_refused(draft: &mut Draft, part: &PartRecord, word: &str, error: NetError) -> bool {
+    let Some(HostCmd { verb, port, value }) = host_cmd(draft, word) else {
+        return false;
     };
-    let is_of_side = match verb {
-        Verb::Offer | Verb::Collect => port.passive,
-        Verb::Accept | Verb::Answer => !port.passive,
-        Verb::Watch => true,
+    let refusal = match port_named(part, &port) {
+        Some(Outside { port, chan }) => verb.refusal(port.passive, chan, value),
+        None => Some(NetError::UnknownPort),
     };
-    match (port.brings(verb), value) {
-        _ if verb == Verb::Watch => None,
-        _ if !is_of_side => Some(NetError::WrongSide),
-        (true, None) => Some(NetError::ValueMissing),
-        (false, Some(_)) => Some(NetError::ValueUnwanted),
-        (true, Some(value)) if value > port.greatest() => Some(NetError::TooLarge),
-        _ => None,
-    }
+    refusal == Some(error)
 }
 
-impl Outside<'_> {
-    // Whether a word of this verb brings a value.
-    fn brings(self, verb: Verb) -> bool {
-        match verb {
-            Verb::Offer => self.chan.kind == ChanKind::Push,
-            Verb::Answer => self.chan.kind == ChanKind::Pull,
-            _ => false,
-        }
-    }
-
-    // The greatest value that its channel carries.
-    fn greatest(self) -> Value {
-        match self.chan.width {
-            0 => 0,
-            width => Value::MAX >> (128 - width.min(128)),
+// The host's command that a word is, if it is one.
+fn host_cmd(draft: &mut Draft, word: &str) -> Option<HostCmd> {
+    match command(draft.alloc(), word) {
+        Ok(Some(Cmd::Host(cmd))) => Some(cmd),
+        Ok(_) => None,
+        Err(_) => {
+            draft.fail();
+            None
         }
     }
 }
@@ -130,11 +84,7 @@ impl Outside<'_> {
 fn port_named<'t>(part: &'t PartRecord, name: &[u8]) -> Option<Outside<'t>> {
     for (port, chan) in part.ports.iter().zip(part.channels.iter()) {
         if port.name.as_slice() == name {
-            return Some(Outside {
-                name: port.name.as_slice(),
-                passive: port.passive,
-                chan: *chan,
-            });
+            return Some(Outside { port, chan: *chan });
         }
     }
     None
@@ -142,13 +92,11 @@ fn port_named<'t>(part: &'t PartRecord, name: &[u8]) -> Option<Outside<'t>> {
 
 // Goes on with why a word of a host was refused.
 fn explain_refused(draft: &mut Draft, part: &PartRecord, word: &str, error: NetError) {
-    match command(draft.alloc(), word) {
-        Ok(Some(Cmd::Host(cmd))) => match port_named(part, &cmd.port) {
-            None => explain_unknown(draft, part, &cmd.port),
-            Some(port) => explain_port(draft, port, cmd.verb, error),
-        },
-        Ok(_) => {}
-        Err(_) => draft.fail(),
+    if let Some(HostCmd { verb, port, .. }) = host_cmd(draft, word) {
+        match port_named(part, &port) {
+            None => explain_unknown(draft, part, &port),
+            Some(outside) => outside.explain(draft, verb, error),
+        }
     }
 }
 
@@ -161,60 +109,54 @@ fn explain_unknown(draft: &mut Draft, part: &PartRecord, name: &[u8]) {
     draft.say_nearest(NEAREST, name, &names);
 }
 
-// A word that the port doesn't take.
-fn explain_port(draft: &mut Draft, port: Outside<'_>, verb: Verb, error: NetError) {
-    let name = Name(port.name);
-    match error {
-        NetError::WrongSide if port.passive => {
-            let found =
-                ", and port % is passive: there the host asks and the net answers\nexpected: ";
-            draft.put(found, &[name]);
-            put_round(draft, port, Verb::Offer, Verb::Collect);
-        }
-        NetError::WrongSide => {
-            let found =
-                ", and port % is active: there the net asks and the host answers\nexpected: ";
-            draft.put(found, &[name]);
-            put_round(draft, port, Verb::Accept, Verb::Answer);
-        }
-        NetError::ValueMissing | NetError::ValueUnwanted => {
-            let value = if port.brings(verb) { "a" } else { "no" };
-            draft.put(
-                ", and port % carries % value there\nexpected: ",
-                &[name, Text(value)],
-            );
-            put_word(draft, port, verb);
-        }
-        _ => {
-            let width = Count(port.chan.width as usize, "bit", "bits");
-            let args = [name, width, Wide(port.greatest())];
-            draft.put(", and port % has %\nexpected: a value up to %", &args);
+impl Outside<'_> {
+    // A word that the port doesn't take.
+    fn explain(self, draft: &mut Draft, verb: Verb, error: NetError) {
+        let name = Name(&self.port.name);
+        let width = self.chan.width;
+        match error {
+            NetError::WrongSide if self.port.passive => {
+                let form =
+                    ", and port % is passive: there the host asks and the net answers\nexpected: ";
+                draft.put(form, &[name]);
+                self.put_words(draft, &[Verb::Offer, Verb::Collect]);
+            }
+            NetError::WrongSide => {
+                let form =
+                    ", and port % is active: there the net asks and the host answers\nexpected: ";
+                draft.put(form, &[name]);
+                self.put_words(draft, &[Verb::Accept, Verb::Answer]);
+            }
+            NetError::ValueMissing | NetError::ValueUnwanted => {
+                let has_value = verb.wants_value(self.chan.kind);
+                let value = Text(if has_value { "a" } else { "no" });
+                draft.put(
+                    ", and port % carries % value there\nexpected: ",
+                    &[name, value],
+                );
+                self.put_words(draft, &[verb]);
+            }
+            _ => {
+                let bits = Count(width as usize, "bit", "bits");
+                let args = [name, bits, Wide(low_bits(Value::MAX, width))];
+                draft.say(", and port % has %\nexpected: a value up to %", &args);
+            }
         }
     }
-    draft.say("", &[]);
-}
 
-// Goes on with the words of a whole handshake at a port.
-fn put_round(draft: &mut Draft, port: Outside<'_>, first: Verb, second: Verb) {
-    put_word(draft, port, first);
-    draft.put(", and then ", &[]);
-    put_word(draft, port, second);
-}
-
-// Goes on with a word at a port: `answer:i:V with V below 2^8`.
-fn put_word(draft: &mut Draft, port: Outside<'_>, verb: Verb) {
-    let verb_text = match verb {
-        Verb::Offer => "offer",
-        Verb::Collect => "collect",
-        Verb::Accept => "accept",
-        Verb::Answer => "answer",
-        Verb::Watch => "watch",
-    };
-    let width = Number(port.chan.width as usize);
-    let form = if port.brings(verb) {
-        "%:%:V with V below 2^%"
-    } else {
-        "%:%"
-    };
-    draft.put(form, &[Text(verb_text), Name(port.name), width]);
+    // Goes on with words at the port, one after the other: `accept:i, and then answer:i:V with V below 2^8`.
+    fn put_words(self, draft: &mut Draft, verbs: &[Verb]) {
+        let mut before = "";
+        for verb in verbs {
+            let form = if verb.wants_value(self.chan.kind) {
+                "%%:%:V with V below 2^%"
+            } else {
+                "%%:%"
+            };
+            let (name, width) = (Name(&self.port.name), Number(self.chan.width as usize));
+            draft.put(form, &[Text(before), Text(verb.word()), name, width]);
+            before = ", and then ";
+        }
+        draft.say("", &[]);
+    }
 }

@@ -1,11 +1,9 @@
 //! What the kinds of component ask of their entries, channels and parameters.
 
-use crate::component_faults::kind_text;
-use crate::joined::Joined;
-use bz_kind_table::{PortRow, kind_word, port_table};
+use bz_explain_notes::Arg::{self, Bytes, Count, Port, Text};
+use bz_explain_notes::Draft;
+use bz_kind_rows::{KindName, PortAt, PortRow, kind_named, kind_word, port_table};
 use bz_model::{ChanKind, Kind};
-use bz_notes::Arg::{self, Bytes, Count, Text};
-use bz_notes::Draft;
 
 // A kind's article and word: `a Fetch`, `an Arbiter`.
 fn word_of(kind: &Kind) -> (Arg<'static>, Arg<'static>) {
@@ -44,18 +42,15 @@ fn list_rule(kind: &Kind) -> &'static str {
 }
 
 /// Tells what a port's channel should carry.
-pub(crate) fn put_kind(draft: &mut Draft, kind: &Kind, port: Joined) {
-    let row = port.row;
-    let is_input = row.name == "inp" && row.kind == ChanKind::Pull && !row.passive;
-    let (name, member) = if is_input && port.member.is_none() {
-        (Text("its input"), Text(""))
-    } else {
-        port.name()
+pub(crate) fn put_kind(draft: &mut Draft, kind: &Kind, port: PortAt) {
+    let name = match (deed(*port.row), port.row.name, port.member) {
+        ("asks for", "inp", None) => Text("its input"),
+        (_, name, member) => Port(name, member),
     };
     let (article, word) = word_of(kind);
-    let (carried, deed) = (Text(kind_text(row.kind)), Text(deed(row)));
-    let args = [carried, article, word, deed, name, member];
-    draft.say("expected: a % channel: % % % %%", &args);
+    let (carried, deed) = (Text(port.row.kind.word()), Text(deed(*port.row)));
+    let args = [carried, article, word, deed, name];
+    draft.say("expected: a % channel: % % % %", &args);
 }
 
 // What a component does at such a port.
@@ -91,35 +86,24 @@ fn width_rule(kind: &Kind) -> &'static str {
 
 /// The parameters that the kind of this name takes.
 pub(crate) fn params_rule(name: &[u8]) -> &'static str {
-    for (kind, rule) in &RULES {
-        if kind.as_bytes() == name {
-            return rule;
+    match kind_named(name) {
+        Some(KindName::Variable) => {
+            "no second text, or an empty one: each read is of the whole value"
         }
+        Some(KindName::FalseVariable) => {
+            "no text, or an empty one as the last: each read is of the whole value"
+        }
+        Some(KindName::Constant) => "a second number, its value",
+        Some(KindName::Slice) => "a third number, its lowest bit",
+        Some(KindName::UnaryFunc) => "a text that is Negate or Invert",
+        Some(KindName::BinaryFunc) => {
+            "a text that is one of Add Subtract ReverseSubtract Equals NotEquals LessThan \
+            GreaterThan LessOrEquals GreaterOrEquals And Or Xor"
+        }
+        Some(KindName::BinaryFuncConstR) => {
+            "a text that is an operation, a third number from 1 to 128, the width of its constant, and a \
+            fourth, the value"
+        }
+        _ => "a text that gives a set of numbers for each member, as in 0;1..3,5",
     }
-    "a text that gives a set of numbers for each member, as in 0;1..3,5"
 }
-
-/// Names of kinds, and the parameters that they take.
-static RULES: [(&str, &str); 7] = [
-    (
-        "$BrzVariable",
-        "no second text, or an empty one: each read is of the whole value",
-    ),
-    (
-        "$BrzFalseVariable",
-        "no text, or an empty one as the last: each read is of the whole value",
-    ),
-    ("$BrzConstant", "a second number, its value"),
-    ("$BrzSlice", "a third number, its lowest bit"),
-    ("$BrzUnaryFunc", "a text that is Negate or Invert"),
-    (
-        "$BrzBinaryFunc",
-        "a text that is one of Add Subtract ReverseSubtract Equals NotEquals LessThan \
-        GreaterThan LessOrEquals GreaterOrEquals And Or Xor",
-    ),
-    (
-        "$BrzBinaryFuncConstR",
-        "a text that is an operation, a third number from 1 to 128, the width of its constant, and a \
-        fourth, the value",
-    ),
-];

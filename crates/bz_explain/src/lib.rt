@@ -3,22 +3,17 @@
 
 mod asked;
 mod component_faults;
-mod datum;
+mod data;
 mod end_faults;
-mod ends;
 mod event_faults;
 mod explaining;
-mod joined;
-mod kind_names;
 mod kind_words;
 mod member_faults;
 mod net_faults;
 mod part_faults;
-mod seat;
 mod site;
-mod source;
-mod text_faults;
+mod told;
 mod word_faults;
 
-pub use asked::{Asked, Words};
+pub use asked::{Asked, WordFile, Words};
 pub use explaining::explain;

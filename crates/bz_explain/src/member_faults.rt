@@ -1,125 +1,144 @@
 //! Members of a part's forms that are at fault.
 
-use crate::datum::say_datum;
-use crate::part_faults::Wrong;
-use crate::seat::{
-    Head, Members, Which, find, find_named, headed, inside, is_chan, members_of, name_in, nth,
+use crate::data::{
+    Head, Members, Which, find, find_named, headed, inside, is_chan, name_in, nth, put_datum,
+    say_found,
 };
+use crate::part_faults::Wrong;
+use bz_explain_notes::Arg::{Name, Number, Wide};
+use bz_explain_notes::Draft;
 use bz_model::MAX_WIDTH;
-use bz_notes::Arg::{At, Name, Number, Wide};
-use bz_notes::{Draft, spot_of};
 use bz_sexpr::{Form, Forms, Leaf, Shape};
 
-/// What is found of a member.
+/// What belongs in a place of a member.
+#[derive(Clone, Copy, PartialEq, Eq)]
+enum Field {
+    Name,
+    Sense,
+    Number,
+    List,
+}
+
+/// What a member of a form is: its head, one of two, what follows that, with the words for that place, and how notes put it.
 #[derive(Clone, Copy)]
-enum Found<'t> {
-    /// Something else, or nothing, where this belongs.
-    Other(Option<Form<'t>>, &'static str),
-    /// Another head.
-    Head(&'t [u8]),
-    /// A width that is out of bounds.
-    Width(u128),
-    /// The name of an earlier port.
-    Taken,
-    /// Something else among these entries.
-    Entries(Forms<'t>),
+struct Rule {
+    heads: [&'static str; 2],
+    fields: &'static [(Field, &'static str)],
+    expected: &'static str,
+}
+
+static PORT: Rule = Rule {
+    heads: ["port", "sync-port"],
+    fields: &[
+        (Field::Name, " where its name belongs"),
+        (Field::Sense, " where its sense belongs"),
+    ],
+    expected: "expected: (port \"NAME\" SENSE) or (sync-port \"NAME\" SENSE), SENSE active or passive",
+};
+
+// (a sync channel is never at fault)
+static CHANNEL: Rule = Rule {
+    heads: ["push", "pull"],
+    fields: &[(Field::Number, " where its width belongs")],
+    expected: "expected: (sync), (push W) or (pull W), W from 1 to 128",
+};
+
+static COMPONENT: Rule = Rule {
+    heads: ["component", "component"],
+    fields: &[
+        (Field::Name, " where its name belongs"),
+        (Field::List, " where its parameters belong"),
+        (Field::List, " where its entries belong"),
+    ],
+    expected: "expected: (component \"NAME\" (PARAMETERS) (ENTRIES)), with both lists",
+};
+
+impl Field {
+    fn is(self, form: Form<'_>) -> bool {
+        match (self, form.shape()) {
+            (Field::Name, Shape::Leaf(Leaf::Text(_))) => true,
+            (Field::Sense, Shape::Leaf(Leaf::Symbol(sense))) => {
+                sense == b"active".as_slice() || sense == b"passive".as_slice()
+            }
+            (Field::Number, Shape::Leaf(Leaf::Num(_))) => true,
+            (Field::List, Shape::Items(_)) => true,
+            _ => false,
+        }
+    }
 }
 
 /// A member of a form that has none of the shapes, the name of an earlier port, or a width that is out of bounds.
 pub(crate) fn explain_member(draft: &mut Draft, part: Wrong<'_>, head: Head, member: Form<'_>) {
-    let expected = match head {
-        Head::Ports => {
-            "expected: (port \"NAME\" SENSE) or (sync-port \"NAME\" SENSE), SENSE active or passive"
+    let rule = match head {
+        Head::Ports => PORT,
+        Head::Channels => CHANNEL,
+        Head::Components => COMPONENT,
+    };
+    let [one, other] = rule.heads;
+    match (inside(member), headed(member)) {
+        (None, _) => say_found(draft, Some(member), ""),
+        (Some(items), None) => say_found(draft, nth(items, 1), " where its head belongs"),
+        (_, Some((word, rest))) => {
+            let is_headed = word == one.as_bytes() || word == other.as_bytes();
+            match wrong_in(rule, member, rest) {
+                _ if !is_headed => draft.say("found: the head %", &[Name(word)]),
+                Some((form, place)) => say_found(draft, form, place),
+                None => {
+                    let last = nth(rest, rule.fields.len());
+                    return explain_whole(draft, part, member, last);
+                }
+            }
         }
-        Head::Channels => "expected: (sync), (push W) or (pull W), W from 1 to 128",
-        Head::Components => {
-            "expected: (component \"NAME\" (PARAMETERS) (ENTRIES)), with both lists"
+    }
+    draft.say(rule.expected, &[]);
+}
+
+// The first thing that is not what belongs in its place, and the words for that place.
+fn wrong_in<'t>(
+    rule: Rule,
+    member: Form<'t>,
+    rest: Forms<'t>,
+) -> Option<(Option<Form<'t>>, &'static str)> {
+    let mut number = 0usize;
+    for (field, place) in rule.fields {
+        number = number.saturating_add(1);
+        match nth(rest, number) {
+            Some(form) if field.is(form) => {}
+            // (a component that lacks something is told as a whole, but for its name)
+            form if rule.fields.len() == 3 && rest.len() < 3 && (number > 1 || form.is_none()) => {
+                return Some((Some(member), ""));
+            }
+            form => return Some((form, place)),
         }
-    };
-    match found_in(head, member) {
-        Found::Other(form, belongs) => say_datum(draft, "found: ", form, belongs),
-        Found::Head(head) => draft.say("found: the head %", &[Name(head)]),
-        Found::Width(width) => return explain_width(draft, width),
-        Found::Taken => return explain_taken(draft, part, member),
-        Found::Entries(entries) => return explain_entries(draft, entries),
     }
-    draft.say(expected, &[]);
+    None
 }
 
-fn found_in(head: Head, member: Form<'_>) -> Found<'_> {
-    let Some(items) = inside(member) else {
-        return Found::Other(Some(member), "");
-    };
-    match headed(items) {
-        None => Found::Other(nth(items, 1), " where its head belongs"),
-        Some((word, _)) if !may_head(head, word) => Found::Head(word),
-        Some((_, rest)) => match head {
-            Head::Ports => port_found(rest),
-            Head::Channels => channel_found(rest),
-            Head::Components => component_found(member, rest),
-        },
+// A member that has the shape: a width that is out of bounds, entries of which one is none, or a port of a name that is taken.
+// These are last in the shape, or a sense.
+fn explain_whole(draft: &mut Draft, part: Wrong<'_>, member: Form<'_>, last: Option<Form<'_>>) {
+    match shape(last) {
+        Some(Shape::Leaf(Leaf::Num(width))) => {
+            let args = [Wide(width), Number(MAX_WIDTH as usize)];
+            draft.say("found: width %\nexpected: a width from 1 to %", &args);
+        }
+        Some(Shape::Items(entries)) => explain_entries(draft, entries),
+        _ => explain_taken(draft, part, member),
     }
 }
 
-// Whether a member that has none of the shapes may have this head.
-fn may_head(head: Head, word: &[u8]) -> bool {
-    let (one, other) = match head {
-        Head::Ports => ("port", "sync-port"),
-        Head::Channels => ("push", "pull"),
-        Head::Components => ("component", "component"),
-    };
-    word == one.as_bytes() || word == other.as_bytes()
-}
-
-fn port_found(rest: Forms<'_>) -> Found<'_> {
-    let (name, sense) = (nth(rest, 1), nth(rest, 2));
-    match (leaf(name), leaf(sense)) {
-        (Some(Leaf::Text(_)), Some(Leaf::Symbol(sense))) if is_sense(sense) => Found::Taken,
-        (Some(Leaf::Text(_)), _) => Found::Other(sense, " where its sense belongs"),
-        _ => Found::Other(name, " where its name belongs"),
-    }
-}
-
-fn is_sense(word: &[u8]) -> bool {
-    word == b"active".as_slice() || word == b"passive".as_slice()
-}
-
-fn channel_found(rest: Forms<'_>) -> Found<'_> {
-    let width = nth(rest, 1);
-    match leaf(width) {
-        Some(Leaf::Num(width)) => Found::Width(width),
-        _ => Found::Other(width, " where its width belongs"),
-    }
-}
-
-fn component_found<'t>(member: Form<'t>, rest: Forms<'t>) -> Found<'t> {
-    let (name, params, entries) = (nth(rest, 1), nth(rest, 2), nth(rest, 3));
-    let is_named = matches!(leaf(name), Some(Leaf::Text(_)));
-    match (list(params), list(entries)) {
-        _ if name.is_some() && !is_named => Found::Other(name, " where its name belongs"),
-        _ if entries.is_none() => Found::Other(Some(member), ""),
-        (None, _) => Found::Other(params, " where its parameters belong"),
-        (_, None) => Found::Other(entries, " where its entries belong"),
-        (_, Some(entries)) => Found::Entries(entries),
-    }
-}
-
-fn explain_width(draft: &mut Draft, width: u128) {
-    let args = [Wide(width), Number(MAX_WIDTH as usize)];
-    draft.say("found: width %\nexpected: a width from 1 to %", &args);
+fn shape(form: Option<Form<'_>>) -> Option<Shape<'_>> {
+    Some(form?.shape())
 }
 
 // A port whose name an earlier port has.
 fn explain_taken(draft: &mut Draft, part: Wrong<'_>, member: Form<'_>) {
-    if let (Some(name), Some(ports)) = (
-        name_in(member, None),
-        members_of(part.items, Head::Ports),
-    ) {
+    if let (Some(name), Some(ports)) = (name_in(member, None), part.members(Head::Ports)) {
         let name = draft.gathered(name.bytes(draft.alloc()));
         if let Some((number, earlier)) = find_named(draft, ports, None, &name) {
-            let at = At(Some(spot_of(part.text, earlier.span().from)));
-            let args = [Name(&name), Number(number), at];
-            draft.say("found: the name %, which port % has too (%)", &args);
+            let found = "found: the name %, which port % has too (";
+            draft.put(found, &[Name(&name), Number(number)]);
+            draft.say("%)", &[part.spot_of(earlier)]);
         }
     }
     draft.say("expected: a name of its own for each port of a part", &[]);
@@ -128,9 +147,10 @@ fn explain_taken(draft: &mut Draft, part: Wrong<'_>, member: Form<'_>) {
 // The first entry that is neither the number of a channel nor a list of such numbers.
 fn explain_entries(draft: &mut Draft, entries: Forms<'_>) {
     for (number, entry) in Members::of(entries) {
-        if let Some((wrong, form)) = wrong_in(entry) {
-            draft.put("found: entry %", &[Number(number)]);
-            say_datum(draft, form, Some(wrong), "");
+        if let Some((form, wrong)) = wrong_entry(entry) {
+            draft.put(form, &[Number(number)]);
+            put_datum(draft, Some(wrong));
+            draft.say("", &[]);
             break;
         }
     }
@@ -140,24 +160,13 @@ fn explain_entries(draft: &mut Draft, entries: Forms<'_>) {
     );
 }
 
-fn wrong_in(entry: Form<'_>) -> Option<(Form<'_>, &'static str)> {
+fn wrong_entry(entry: Form<'_>) -> Option<(&'static str, Form<'_>)> {
     match inside(entry) {
         Some(members) => {
             let (_, wrong) = find(members, Which::NoChannel)?;
-            Some((wrong, " has "))
+            Some(("found: entry % has ", wrong))
         }
         None if is_chan(entry) => None,
-        None => Some((entry, " is ")),
+        None => Some(("found: entry % is ", entry)),
     }
-}
-
-fn leaf(form: Option<Form<'_>>) -> Option<Leaf<'_>> {
-    match form?.shape() {
-        Shape::Leaf(leaf) => Some(leaf),
-        Shape::Items(_) => None,
-    }
-}
-
-fn list(form: Option<Form<'_>>) -> Option<Forms<'_>> {
-    inside(form?)
 }

@@ -1,126 +1,141 @@
 //! Parts that are at fault: what stands at the byte that the fault tells.
 
-use crate::datum::say_datum;
+use crate::data::{
+    Head, Which, find, find_named, headed, members_of, name_in, nth, part_items, say_found,
+};
 use crate::member_faults::explain_member;
-use crate::seat::{Head, Seat, Which, find, find_named, members_of, name_in, nth, seat_at};
-use crate::source::put_place;
-use bz_breeze::Place;
-use bz_notes::Arg::{At, Count, Name, Number, Text};
-use bz_notes::{Draft, spot_of};
-use bz_sexpr::{Form, Forms};
+use crate::site::put_place;
+use bz_breeze::ByteAt;
+use bz_explain_notes::Arg::{self, At, Count, Name, Number};
+use bz_explain_notes::{Draft, spot_of};
+use bz_sexpr::{Form, Forms, Text};
 
 /// A part that is at fault.
 #[derive(Clone, Copy)]
 pub(crate) struct Wrong<'t> {
-    pub(crate) text: &'t [u8],
-    pub(crate) name: &'t [u8],
+    text: &'t [u8],
+    name: &'t [u8],
+    /// The byte at which it is at fault.
+    at: usize,
     /// What follows its head.
-    pub(crate) items: Forms<'t>,
+    items: Forms<'t>,
 }
 
 /// The notes of a part that is at fault at a place.
-pub(crate) fn explain_part(draft: &mut Draft, text: &[u8], netlist: Forms<'_>, place: &Place) {
+pub(crate) fn explain_part(draft: &mut Draft, text: &[u8], netlist: Forms<'_>, place: &ByteAt) {
     let name = match &place.part {
         Some(name) => name.as_slice(),
         None => &[],
     };
-    if let Some((items, seat)) = seat_at(netlist, place.at) {
-        let part = Wrong { text, name, items };
-        put_mark(draft, part, seat, place.at);
-        explain_seat(draft, part, netlist, seat);
+    let at = place.at;
+    if let Some((_, form)) = find(netlist, Which::Holding(at)) {
+        if let Some(items) = part_items(form) {
+            let part = Wrong {
+                text,
+                name,
+                at,
+                items,
+            };
+            part.explain(draft, form, netlist);
+        }
     }
 }
 
-fn put_mark(draft: &mut Draft, part: Wrong<'_>, seat: Seat<'_>, at: usize) {
-    let name = Name(part.name);
-    let (mark, args) = match seat {
-        Seat::Part => ("this part", [name, name, name]),
-        Seat::Name => ("a second part %", [name, name, name]),
-        Seat::Form(head) => {
-            let head = Text(head.word());
-            ("the second % form of part %", [head, name, name])
+impl<'t> Wrong<'t> {
+    // What stands at the byte, and why that is wrong.
+    fn explain(self, draft: &mut Draft, part: Form<'_>, netlist: Forms<'_>) {
+        match find(self.items, Which::Holding(self.at)) {
+            _ if part.span().from == self.at => {
+                self.put_mark(draft, "this part", &[]);
+                let belongs = " where its name belongs\n\
+                    expected: a name in quotes, as in (breeze-part \"p\" ..)";
+                say_found(draft, nth(self.items, 1), belongs);
+            }
+            Some((1, item)) if item.span().from == self.at => {
+                self.put_mark(draft, "a second part %", &[Name(self.name)]);
+                let head = b"breeze-part".as_slice();
+                let first = find_named(draft, netlist, Some(head), self.name);
+                self.put_first(draft, first);
+                draft.say("expected: a name of its own for each part of a text", &[]);
+            }
+            Some((_, item)) => self.explain_form(draft, item),
+            None => self.explain_missing(draft),
         }
-        Seat::Member(head, number, _) => {
-            let member = Text(head.member());
-            ("% % of part %", [member, Number(number), name])
-        }
-        Seat::End => ("part % ends here", [name, name, name]),
-    };
-    put_place(draft, part.text, at, mark, &args);
-}
+    }
 
-fn explain_seat(draft: &mut Draft, part: Wrong<'_>, netlist: Forms<'_>, seat: Seat<'_>) {
-    match seat {
-        Seat::Part => say_datum(
-            draft,
-            "found: ",
-            nth(part.items, 1),
-            " where its name belongs\n\
-            expected: a name in quotes, as in (breeze-part \"p\" ..)",
-        ),
-        Seat::Name => {
-            let head = b"breeze-part".as_slice();
-            let first = find_named(draft, netlist, Some(head), part.name);
-            put_first(draft, part, first);
-            draft.say("expected: a name of its own for each part of a text", &[]);
-        }
-        Seat::Form(head) => {
-            put_first(draft, part, find(part.items, Which::Headed(head)));
+    // A form that is a second one of its head, or has a member that is at fault.
+    fn explain_form(self, draft: &mut Draft, item: Form<'_>) {
+        let (Some(head), Some((_, members))) = (Head::of(item), headed(item)) else {
+            return;
+        };
+        let (word, name) = (Arg::Text(head.member()), Name(self.name));
+        if item.span().from == self.at {
+            self.put_mark(draft, "the second %s form of part %", &[word, name]);
+            self.put_first(draft, find(self.items, Which::Headed(head)));
             draft.say(
                 "expected: each of ports, channels and components at most once in a part",
                 &[],
             );
+        } else if let Some((number, member)) = find(members, Which::Holding(self.at)) {
+            self.put_mark(draft, "% % of part %", &[word, Number(number), name]);
+            explain_member(draft, self, head, member);
         }
-        Seat::Member(head, _, member) => explain_member(draft, part, head, member),
-        Seat::End => explain_missing(draft, part.items),
     }
-}
 
-// Tells where the first one of two stands.
-fn put_first(draft: &mut Draft, part: Wrong<'_>, first: Option<(usize, Form<'_>)>) {
-    if let Some((_, first)) = first {
-        let spot = spot_of(part.text, first.span().from);
-        draft.say("found: its first one is at %", &[At(Some(spot))]);
+    // Tells where it is at fault, and by a form what stands there.
+    fn put_mark(self, draft: &mut Draft, mark: &str, args: &[Arg<'_>]) {
+        put_place(draft, self.text, self.at, mark, args);
     }
-}
 
-// Fewer channels than ports.
-fn explain_missing(draft: &mut Draft, part: Forms<'_>) {
-    let channels = count(part, Head::Channels);
-    let lacking = channels.saturating_add(1);
-    let ports = Count(count(part, Head::Ports), "port", "ports");
-    let args = [
-        ports,
-        Count(channels, "channel", "channels"),
-        Number(lacking),
-    ];
-    draft.put("found: % and %: port %", &args);
-    if let Some(ports) = members_of(part, Head::Ports) {
-        put_name(draft, nth(ports, lacking));
+    // Tells where the first one of two stands.
+    fn put_first(self, draft: &mut Draft, first: Option<(usize, Form<'_>)>) {
+        if let Some((_, first)) = first {
+            draft.say("found: its first one is at %", &[self.spot_of(first)]);
+        }
     }
-    draft.say(
-        " has no channel\n\
-        expected: a channel for each port: the ports are the first channels",
-        &[],
-    );
-}
 
-// Goes on with the name of a port, where it has one.
-fn put_name(draft: &mut Draft, port: Option<Form<'_>>) {
-    let name = match port {
-        Some(port) => name_in(port, None),
-        None => None,
-    };
-    if let Some(name) = name {
-        let name = draft.gathered(name.bytes(draft.alloc()));
-        draft.put(", %,", &[Name(&name)]);
+    /// The line and column of a datum.
+    pub(crate) fn spot_of(self, form: Form<'_>) -> Arg<'static> {
+        At(Some(spot_of(self.text, form.span().from)))
     }
-}
 
-// How many members a form of a part has.
-fn count(part: Forms<'_>, head: Head) -> usize {
-    match members_of(part, head) {
-        Some(members) => members.len(),
-        None => 0,
+    // Fewer channels than ports.
+    fn explain_missing(self, draft: &mut Draft) {
+        let channels = self.count(Head::Channels);
+        let lacking = channels.saturating_add(1);
+        let args = [
+            Count(self.count(Head::Ports), "port", "ports"),
+            Count(channels, "channel", "channels"),
+            Number(lacking),
+        ];
+        self.put_mark(draft, "part % ends here", &[Name(self.name)]);
+        draft.put("found: % and %: port %", &args);
+        if let Some(name) = self.name_of_port(lacking) {
+            let name = draft.gathered(name.bytes(draft.alloc()));
+            draft.put(", %,", &[Name(&name)]);
+        }
+        draft.say(
+            " has no channel\n\
+            expected: a channel for each port: the ports are the first channels",
+            &[],
+        );
+    }
+
+    // The name of a port by its number, where it has one.
+    fn name_of_port(self, number: usize) -> Option<Text<'t>> {
+        name_in(nth(self.members(Head::Ports)?, number)?, None)
+    }
+
+    // How many members one of its forms has.
+    fn count(self, head: Head) -> usize {
+        match self.members(head) {
+            Some(members) => members.len(),
+            None => 0,
+        }
+    }
+
+    /// The members of one of its forms.
+    pub(crate) fn members(self, head: Head) -> Option<Forms<'t>> {
+        members_of(self.items, head)
     }
 }

@@ -1,15 +1,13 @@
 //! A netlist that was read, and where its records stand.
 
-use crate::seat::{Head, members_of, nth, part_form, part_items};
-use crate::source::put_place;
-use bz_kind_table::kind_of;
-use bz_model::{Chan, Kind, KindError, Port};
-use bz_notes::Arg::{Name, Number, Text};
-use bz_notes::{Draft, Spot, spot_of};
-use bz_places::Place;
-use bz_records::{Component, Part as PartRecord, Parts, Slot};
+use crate::data::{Head, members_of, nth, part_form, part_items};
+use bz_breeze_records::{Component, Part as PartRecord, Parts};
+use bz_elab::flattened;
+use bz_explain_notes::Arg::{self, At, Name, Number, Text};
+use bz_explain_notes::{Draft, put_source, spot_of};
+use bz_kind_rows::kind_of;
+use bz_model::{Chan, Kind, KindError, Port, numbered};
 use bz_sexpr::Forms;
-use std::alloc::{AllocError, Global};
 
 /// A netlist: its text, the data that this spells, and the parts that these name.
 #[derive(Clone, Copy)]
@@ -31,6 +29,13 @@ pub(crate) struct Site<'t> {
     pub(crate) component: &'t Component,
 }
 
+/// Tells where a byte of the text stands: its line and column, then the line itself, and below it a caret with what stands
+/// there, by a form.
+pub(crate) fn put_place(draft: &mut Draft, text: &[u8], at: usize, mark: &str, args: &[Arg<'_>]) {
+    put_source(draft, text, at, "");
+    draft.say(mark, args);
+}
+
 impl<'t> Netlist<'t> {
     /// The component at a position of a part.
     pub(crate) fn site(self, number: usize, position: usize) -> Option<Site<'t>> {
@@ -46,9 +51,17 @@ impl<'t> Netlist<'t> {
     }
 
     /// The name of a part.
-    pub(crate) fn name(self, number: usize) -> &'t [u8] {
+    pub(crate) fn name(self, number: usize) -> Arg<'t> {
         match self.parts.list().get(number) {
-            Some(part) => part.name.as_slice(),
+            Some(part) => Name(part.name.as_slice()),
+            None => Name(&[]),
+        }
+    }
+
+    /// The external ports of a part.
+    pub(crate) fn ports(self, number: usize) -> &'t [Port] {
+        match self.parts.list().get(number) {
+            Some(part) => part.ports.as_slice(),
             None => &[],
         }
     }
@@ -66,29 +79,18 @@ impl<'t> Netlist<'t> {
 
     /// Tells where a record of a part stands, by what it is there.
     pub(crate) fn put_listed(self, draft: &mut Draft, number: usize, head: Head, position: usize) {
-        let name = Name(self.name(number));
-        let mark = [Text(head.member()), Number(position), name];
+        let mark = [Text(head.member()), Number(position), self.name(number)];
         if let Some(byte) = self.byte_of(number, head, position) {
             put_place(draft, self.text, byte, "% % of part %", &mark);
         }
     }
 
     /// The line and column of a record.
-    pub(crate) fn spot_of(self, number: usize, head: Head, position: usize) -> Option<Spot> {
-        let byte = self.byte_of(number, head, position)?;
-        Some(spot_of(self.text, byte))
-    }
-
-    /// The channel at a place.
-    pub(crate) fn chan(self, place: &Place) -> Option<Chan> {
-        let part = self.parts.list().get(place.part)?;
-        part.channels.get(place.position.checked_sub(1)?).copied()
-    }
-
-    /// The external port at a place.
-    pub(crate) fn port(self, place: &Place) -> Option<&'t Port> {
-        let part = self.parts.list().get(place.part)?;
-        part.ports.get(place.position.checked_sub(1)?)
+    pub(crate) fn spot_of(self, number: usize, head: Head, position: usize) -> Arg<'static> {
+        At(match self.byte_of(number, head, position) {
+            Some(byte) => Some(spot_of(self.text, byte)),
+            None => None,
+        })
     }
 }
 
@@ -99,35 +101,24 @@ impl<'t> Site<'t> {
     }
 
     /// Its kind, where its name and parameters are those of one.
-    pub(crate) fn kind(self, alloc: Global) -> Result<Option<Kind>, AllocError> {
-        match kind_of(alloc, &self.component.name, &self.component.params) {
-            Ok(kind) => Ok(Some(kind)),
-            Err(KindError::Memory) => Err(AllocError),
-            Err(_) => Ok(None),
+    pub(crate) fn kind(self, draft: &mut Draft) -> Option<Kind> {
+        match kind_of(draft.alloc(), &self.component.name, &self.component.params) {
+            Ok(kind) => Some(kind),
+            Err(KindError::Memory) => {
+                draft.fail();
+                None
+            }
+            Err(_) => None,
         }
     }
 
     /// All channels that its entries name, in order.
-    pub(crate) fn named(self, alloc: Global) -> Result<Vec<u32>, AllocError> {
-        let mut named = Vec::new(alloc);
-        for entry in &self.component.entries {
-            match entry {
-                Slot::One(chan) => named.push(*chan)?,
-                Slot::Many(chans) => named.extend_from_slice(chans.as_slice())?,
-            }
-        }
-        Ok(named)
-    }
-
-    /// How many of its entries are lists.
-    pub(crate) fn lists(self) -> usize {
-        let lists = self.component.entries.iter();
-        lists.filter(|entry| matches!(entry, Slot::Many(_))).count()
+    pub(crate) fn named(self, draft: &mut Draft) -> Vec<u32> {
+        draft.gathered(flattened(draft.alloc(), &self.component.entries))
     }
 
     /// The channel of its part of a number, from 1.
     pub(crate) fn channel(self, number: u32) -> Option<Chan> {
-        let place = (number as usize).checked_sub(1)?;
-        self.part.channels.get(place).copied()
+        numbered(&self.part.channels, number).copied()
     }
 }

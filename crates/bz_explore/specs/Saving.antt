@@ -3,7 +3,7 @@ use Rattle.std.specs.Prelude.{ℕ, Option, List}
 use Rattle.std.specs.Io.KnownBytes.{Appends}
 use Rattle.bz_model.specs.Clashes.{AreClashed}
 use Rattle.bz_model.specs.Traces.{trace_text}
-use Rattle.bz_input.specs.Stopping.{AppendsSome}
+use Rattle.bz_cli_input.specs.Stopping.{AppendsSome}
 use Rattle.bz_net.specs.Simulation.{Simulation}
 
 -- the trace text of the journal was written, with the components at which requests met

@@ -18,123 +18,102 @@ pub(crate) fn cycles(
     find_cycles(alloc, next.as_slice(), zeros(alloc, count)?)
 }
 
-// A number for each component, and one for none.
-fn zeros(alloc: Global, count: usize) -> Result<Vec<usize>, AllocError> {
-    vec![in alloc; 0usize; count.saturating_add(1)]
+/// A number for each component, and one for none.
+pub(crate) fn zeros(alloc: Global, count: usize) -> Result<Vec<u32>, AllocError> {
+    vec![in alloc; 0u32; count.saturating_add(1)]
 }
 
-fn at(table: &[usize], comp: usize) -> usize {
-    table.get(comp).copied().unwrap_or(0)
+/// The number of a component.
+pub(crate) fn at(table: &[u32], comp: u32) -> u32 {
+    table.get(comp as usize).copied().unwrap_or(0)
 }
 
-fn set(table: &mut [usize], comp: usize, number: usize) {
-    if let Some(place) = table.get_mut(comp) {
+/// Sets the number of a component.
+pub(crate) fn set(table: &mut [u32], comp: u32, number: u32) {
+    if let Some(place) = table.get_mut(comp as usize) {
         *place = number;
     }
 }
 
 // For each component how many of those that are left it waits for, 0 where it isn't left.
-fn left_of(alloc: Global, count: usize, links: &[(u32, u32)]) -> Result<Vec<usize>, AllocError> {
+fn left_of(alloc: Global, count: usize, links: &[(u32, u32)]) -> Result<Vec<u32>, AllocError> {
     let mut left = zeros(alloc, count)?;
-    let back = reversed(alloc, links, left.as_mut_slice())?;
-    let mut gone = zeros(alloc, count)?;
-    take_out(back.as_slice(), left.as_mut_slice(), gone.as_mut_slice());
-    Ok(left)
-}
-
-// The links by whom is waited for; `waits` has how many each component waits for.
-fn reversed(
-    alloc: Global,
-    links: &[(u32, u32)],
-    waits: &mut [usize],
-) -> Result<Vec<(u32, u32)>, AllocError> {
     let mut back = Vec::with_capacity(alloc, links.len())?;
     for (from, to) in links {
-        let more = at(waits, *from as usize).saturating_add(1);
-        set(waits, *from as usize, more);
+        let more = at(left.as_slice(), *from).saturating_add(1);
+        set(left.as_mut_slice(), *from, more);
         back.push((*to, *from))?;
     }
     back.sort()?;
-    Ok(back)
+    take_out(alloc, back.as_slice(), left.as_mut_slice())?;
+    Ok(left)
 }
 
-// Takes out those that wait for none, and then those that waited for these alone. `gone` has room for all.
-fn take_out(back: &[(u32, u32)], left: &mut [usize], gone: &mut [usize]) {
-    let mut count = waiting_for_none(left, gone);
-    for turn in 0..gone.len() {
-        if turn >= count {
-            break;
-        }
-        let comp = at(gone, turn);
-        let first = back.partition_point(|link| (link.0 as usize) < comp);
-        let waiters = back.get(first..).unwrap_or(&[]);
-        count = leave(comp, waiters, left, gone, count);
-    }
-}
-
-// Notes the components that wait for none; how many they are.
-fn waiting_for_none(left: &[usize], gone: &mut [usize]) -> usize {
-    let mut count = 0usize;
-    for comp in 1..left.len() {
-        if at(left, comp) == 0 {
-            set(gone, count, comp);
-            count = count.saturating_add(1);
+// Takes out those that wait for none, and then those that waited for these alone. The links lead back to who waits.
+fn take_out(alloc: Global, back: &[(u32, u32)], left: &mut [u32]) -> Result<(), AllocError> {
+    let mut gone = Vec::with_capacity(alloc, left.len())?;
+    for (comp, waits) in left.iter().enumerate().skip(1) {
+        if *waits == 0 {
+            gone.push(u32::try_from(comp).unwrap_or(u32::MAX))?;
         }
     }
-    count
+    for turn in 0..left.len() {
+        match gone.get(turn).copied() {
+            Some(comp) => leave(comp, back, left, &mut gone)?,
+            None => break,
+        }
+    }
+    Ok(())
 }
 
-// Those at the front of the links that waited for a component wait for it no more; the new number of those that are gone.
+// Those that waited for a component wait for it no more; those that wait for none now are gone too.
 fn leave(
-    comp: usize,
-    waiters: &[(u32, u32)],
-    left: &mut [usize],
-    gone: &mut [usize],
-    mut count: usize,
-) -> usize {
-    for (to, from) in waiters {
-        if *to as usize != comp {
+    comp: u32,
+    back: &[(u32, u32)],
+    left: &mut [u32],
+    gone: &mut Vec<u32>,
+) -> Result<(), AllocError> {
+    let first = back.partition_point(|link| link.0 < comp);
+    for (to, from) in back.get(first..).unwrap_or(&[]) {
+        if *to != comp {
             break;
         }
-        let waits = at(left, *from as usize).saturating_sub(1);
-        set(left, *from as usize, waits);
+        let waits = at(left, *from).saturating_sub(1);
+        set(left, *from, waits);
         if waits == 0 {
-            set(gone, count, *from as usize);
-            count = count.saturating_add(1);
+            gone.push(*from)?;
         }
     }
-    count
+    Ok(())
 }
 
 // For each component that is left the least of those that are left and that it waits for.
-fn put_next(left: &[usize], links: &[(u32, u32)], next: &mut [usize]) {
+fn put_next(left: &[u32], links: &[(u32, u32)], next: &mut [u32]) {
     for (from, to) in links {
-        let (from, to) = (*from as usize, *to as usize);
-        let least = at(next, from);
-        if at(left, from) > 0 && at(left, to) > 0 && (least == 0 || to < least) {
-            set(next, from, to);
+        let least = at(next, *from);
+        if at(left, *from) > 0 && at(left, *to) > 0 && (least == 0 || *to < least) {
+            set(next, *from, *to);
         }
     }
 }
 
-// The cycles that the steps come to, `met` having no component yet.
+// The cycles that the steps come to. `met` has for each component from which one it was met first, so far none.
 fn find_cycles(
     alloc: Global,
-    next: &[usize],
-    mut met: Vec<usize>,
+    next: &[u32],
+    mut met: Vec<u32>,
 ) -> Result<Vec<Vec<u32>>, AllocError> {
     let mut found = Vec::new(alloc);
-    for start in 1..next.len() {
+    for start in 1..u32::try_from(next.len()).unwrap_or(u32::MAX) {
         if let Some(member) = new_member(next, start, met.as_mut_slice()) {
-            found.push(cycle_of(alloc, next, least_member(next, member))?)?;
+            found.push(cycle_of(alloc, next, member)?)?;
         }
     }
     Ok(found)
 }
 
-// A member of the cycle to which the steps from a component lead, where none of them was met from an earlier one. `met` has
-// for each component from which one it was met first, 0 where from none.
-fn new_member(next: &[usize], start: usize, met: &mut [usize]) -> Option<usize> {
+// A member of the cycle to which the steps from a component lead, where none of them was met from an earlier one.
+fn new_member(next: &[u32], start: u32, met: &mut [u32]) -> Option<u32> {
     let mut comp = start;
     for _ in 0..next.len() {
         let from = at(met, comp);
@@ -148,7 +127,21 @@ fn new_member(next: &[usize], start: usize, met: &mut [usize]) -> Option<usize> 
     None
 }
 
-fn least_member(next: &[usize], member: usize) -> usize {
+// The cycle of a member, from its least member on.
+fn cycle_of(alloc: Global, next: &[u32], member: u32) -> Result<Vec<u32>, AllocError> {
+    let mut cycle = Vec::new(alloc);
+    let mut comp = least_member(next, member);
+    for _ in 0..next.len() {
+        cycle.push(comp)?;
+        comp = at(next, comp);
+        if cycle.first() == Some(&comp) {
+            break;
+        }
+    }
+    Ok(cycle)
+}
+
+fn least_member(next: &[u32], member: u32) -> u32 {
     let mut least = member;
     let mut comp = at(next, member);
     for _ in 0..next.len() {
@@ -159,18 +152,4 @@ fn least_member(next: &[usize], member: usize) -> usize {
         comp = at(next, comp);
     }
     least
-}
-
-// The members of a cycle from its least on.
-fn cycle_of(alloc: Global, next: &[usize], least: usize) -> Result<Vec<u32>, AllocError> {
-    let mut cycle = Vec::new(alloc);
-    let mut comp = least;
-    for _ in 0..next.len() {
-        cycle.push(u32::try_from(comp).unwrap_or(u32::MAX))?;
-        comp = at(next, comp);
-        if comp == least {
-            break;
-        }
-    }
-    Ok(cycle)
 }

@@ -1,29 +1,38 @@
 //! The command `explore`, over any readers and writers.
 
 ghost use Rattle.std.specs.Prelude.{◌≡◌};
-ghost use Rattle.bz_input.specs.Reading.{ReadsWithin};
+ghost use Rattle.bz_cli_input.specs.Reading.{ReadsWithin};
 ghost use Rattle.bz_explore.specs.Statuses.{status_of};
 
-use crate::origins::Origins;
 use crate::piece::Piece;
 use crate::session::{Goes, Session};
-use crate::text::Text;
-use bz_course::Course;
+use bz_cli_input::{Fault, read_input};
+use bz_cli_source::survey_of;
+use bz_explore_net::Course;
 use bz_flat::Flat;
-use bz_input::{Fault, flat_of, read_input};
-use bz_lines::{Part, put_parts};
+use bz_text::{Piece as Part, Text, put};
 use std::alloc::Global;
 use std::io::{BufRead, Read, Write};
 
 /// The most entries of the journal.
 const JOURNAL: u32 = 1_000_000;
 
-/// Where traces are written.
+/// Where traces and sessions are written.
 pub trait Shelf {
     type File: Write + Drop;
 
-    /// A file of this name, empty; `None` where there can be none.
-    fn create(&mut self, path: &str) -> Option<Self::File>;
+    /// An empty file of this name. One that is there is written over where that is asked for, but never the netlist.
+    fn create(&mut self, path: &str, over: bool) -> Result<Self::File, NoFile>;
+}
+
+/// Why there is no file to write to.
+#[derive(Clone, Copy)]
+pub enum NoFile {
+    /// There is one already.
+    Exists,
+    /// It is the netlist.
+    Netlist,
+    Unwritable,
 }
 
 /// How a session ended.
@@ -86,131 +95,79 @@ fn explore_text<L: BufRead, W: Write, S: Shelf>(
     shelf: &mut S,
     output: &mut W,
 ) -> Result<Ending, Fault> {
-    let flat = flat_of(alloc, part, text)?;
-    match Course::open(alloc, flat, JOURNAL) {
-        Ok(mut course) => explore_net(
-            alloc,
-            part,
-            text,
-            &mut course,
-            prompts,
-            lines,
-            shelf,
-            output,
-        ),
-        Err(_) => Err(Fault::Memory),
-    }
-}
-
-fn explore_net<L: BufRead, W: Write, S: Shelf>(
-    alloc: Global,
-    part: &[u8],
-    text: &[u8],
-    course: &mut Course,
-    prompts: bool,
-    lines: &mut L,
-    shelf: &mut S,
-    output: &mut W,
-) -> Result<Ending, Fault> {
-    match Origins::read(alloc, part, text) {
-        Ok(origins) => {
-            let mut session = Session {
-                course,
-                origins: &origins,
-                line: None,
-                reply: None,
-                ending: Ending::Well,
-            };
-            play(alloc, part, &mut session, prompts, lines, shelf, output)
-        }
-        Err(fault) => Err(fault),
-    }
+    let (flat, survey) = survey_of(alloc, part, text)?;
+    let Ok(mut course) = Course::open(alloc, flat, JOURNAL) else {
+        return Err(Fault::Memory);
+    };
+    let mut session = Session {
+        course: &mut course,
+        survey: &survey,
+        line: None,
+        typed: Vec::new(alloc),
+        text: Text::new(alloc),
+        reply: None,
+        undone: 0,
+        ending: Ending::Well,
+    };
+    play(part, prompts, &mut session, lines, shelf, output)
 }
 
 // Follows the lines, behind a greeting at a prompt.
 fn play<L: BufRead, W: Write, S: Shelf>(
-    alloc: Global,
     part: &[u8],
-    session: &mut Session<'_>,
     prompts: bool,
+    session: &mut Session<'_>,
     lines: &mut L,
     shelf: &mut S,
     output: &mut W,
 ) -> Result<Ending, Fault> {
     if prompts {
-        greet(alloc, part, session.course.flat(), output)?;
+        greet(part, session.course.flat(), &mut session.text);
+        tell(output, session.text.whole()?)?;
     }
     for number in 1..u64::MAX {
         session.line = if prompts { None } else { Some(number) };
-        if follow_line(alloc, session, lines, shelf, output)? == Goes::Out {
+        let line = read_line(session.text.alloc(), prompts, lines, output)?;
+        if line.is_empty() || session.answer(shelf, line.as_slice()) == Goes::Out {
             break;
         }
+        tell(output, session.text.whole()?)?;
     }
     Ok(session.ending)
 }
 
-// Follows a line, behind a prompt where it has no number.
-fn follow_line<L: BufRead, W: Write, S: Shelf>(
+fn greet(part: &[u8], flat: &Flat, text: &mut Text) {
+    let comps = Piece::Count(flat.comp_count() as usize, "component");
+    let chans = Piece::Count(flat.chan_count() as usize, "channel");
+    let ports = Piece::Count(flat.ports().len(), "port");
+    text.put_pieces(&[Part::Bytes(b"breezesim: "), Part::Name(part)]);
+    text.say(": %, %, %", &[comps, chans, ports]);
+    text.put("; `help` tells the commands\n");
+}
+
+// Reads a line, behind a prompt; the empty one is the end of all lines.
+fn read_line<L: BufRead, W: Write>(
     alloc: Global,
-    session: &mut Session<'_>,
+    prompts: bool,
     lines: &mut L,
-    shelf: &mut S,
     output: &mut W,
-) -> Result<Goes, Fault> {
-    if session.line.is_none() {
+) -> Result<Vec<u8>, Fault> {
+    if prompts {
         tell(output, b"> ")?;
     }
     let mut line = Vec::new(alloc);
-    match lines.read_until(b'\n', &mut line) {
-        Ok(_) => answer(alloc, session, line.as_slice(), shelf, output),
-        Err(_) => Err(Fault::Read),
+    if lines.read_until(b'\n', &mut line).is_err() {
+        return Err(Fault::Read);
     }
-}
-
-// Writes the answer of a line; the empty one is the end of all lines.
-fn answer<W: Write, S: Shelf>(
-    alloc: Global,
-    session: &mut Session<'_>,
-    line: &[u8],
-    shelf: &mut S,
-    output: &mut W,
-) -> Result<Goes, Fault> {
-    if line.is_empty() {
-        return Ok(Goes::Out);
+    if prompts && line.last() != Some(&b'\n') {
+        // (the end of the input was typed)
+        tell(output, b"\n")?;
     }
-    let mut text = Text::new(alloc);
-    let goes = session.answer(alloc, shelf, line, &mut text);
-    tell_text(output, &text)?;
-    Ok(goes)
-}
-
-fn greet<W: Write>(alloc: Global, part: &[u8], flat: &Flat, output: &mut W) -> Result<(), Fault> {
-    let mut text = Text::new(alloc);
-    text.say(
-        "breezesim: %: %, %, %; `help` tells the commands\n",
-        &[
-            Piece::Name(part),
-            Piece::Count(flat.comp_count() as usize, "component"),
-            Piece::Count(flat.chan_count() as usize, "channel"),
-            Piece::Count(flat.ports().len(), "port"),
-        ],
-    );
-    tell_text(output, &text)
-}
-
-// Writes a text, if none of it was lost.
-fn tell_text<W: Write>(output: &mut W, text: &Text) -> Result<(), Fault> {
-    match text.whole() {
-        Ok(bytes) => tell(output, bytes),
-        Err(_) => Err(Fault::Memory),
-    }
+    Ok(line)
 }
 
 // Writes bytes, so that they are read at once.
 fn tell<W: Write>(output: &mut W, bytes: &[u8]) -> Result<(), Fault> {
-    put_parts(output, &[Part::Bytes(bytes)])?;
-    match output.flush() {
-        Ok(()) => Ok(()),
-        Err(_) => Err(Fault::Write),
-    }
+    put(output, bytes)?;
+    output.flush().map_err(|_| Fault::Write)
 }

@@ -2,18 +2,18 @@
 #![tactic(auto)]
 
 mod answers;
-mod command;
-mod complaint;
+mod commands;
 mod cycles;
 mod explored;
+mod graph;
 mod looking;
 mod naming;
-mod origins;
 mod piece;
+mod refusals;
 mod saving;
 mod session;
-mod text;
+mod table;
 mod waits;
 
-pub use explored::{Ending, Shelf, explore_cmd};
+pub use explored::{Ending, NoFile, Shelf, explore_cmd};
 pub use saving::save;

@@ -1,149 +1,115 @@
 //! What can come next, and how far the net is.
 
-use crate::naming::{chan_at, chan_of, host_word, kind_of, phase_of, port, port_count};
-use crate::origins::Origins;
-use crate::piece::{Piece, move_word};
-use crate::text::Text;
-use bz_course::{Course, HostOffer, Offer, answered_words, offers_of};
+use crate::naming::{chan_at, chan_of, host_word, phase_of, port, port_count};
+use crate::piece::Piece;
+use bz_explore_net::{Course, HostOffer, Offer, answered_words, offers_of};
 use bz_flat::{Flat, FlatComp};
+use bz_kind_rows::kind_word;
 use bz_model::{Entry, Kind, Move, Phase, Value};
-use std::alloc::Global;
+use bz_source::{Standing, Survey, put_comp, put_path};
+use bz_text::{Piece as Part, Text};
+use bz_trace_text::counts;
 
 /// Adds the moves of components, and the words of the host that would be answered.
-pub(crate) fn put_moves(alloc: Global, course: &Course, origins: &Origins, text: &mut Text) {
-    let count = match offers_of(alloc, course.flat(), course.net()) {
-        Ok(offers) => put_offers(course.flat(), origins, offers.as_slice(), text),
-        Err(_) => put_lost(text),
-    };
-    match answered_words(alloc, course.flat(), course.net()) {
-        Ok(words) => put_words(course, words.as_slice(), text),
-        Err(_) => text.lose(),
+pub(crate) fn put_moves(course: &Course, survey: &Survey, text: &mut Text) {
+    let (alloc, flat, net) = (text.alloc(), course.flat(), course.net());
+    match (
+        offers_of(alloc, flat, net),
+        answered_words(alloc, flat, net),
+    ) {
+        (Ok(offers), Ok(words)) => {
+            put_offers(flat, survey, offers.as_slice(), text);
+            put_words(course, words.as_slice(), text);
+            put_count(offers.len(), text);
+        }
+        _ => text.lose(),
     }
-    if count == 0 {
+}
+
+fn put_count(moves: usize, text: &mut Text) {
+    if moves == 0 {
         text.put("no component can move\n");
     } else {
-        text.say("%\n", &[Piece::Count(count, "move")]);
+        text.say("%\n", &[Piece::Count(moves, "move")]);
     }
 }
 
-fn put_lost(text: &mut Text) -> usize {
-    text.lose();
-    0
-}
-
-// A line for each move; how many there are.
-fn put_offers(flat: &Flat, origins: &Origins, offers: &[Offer], text: &mut Text) -> usize {
+// The commands that make moves, each with the move, its port and its place.
+fn put_offers(flat: &Flat, survey: &Survey, offers: &[Offer], text: &mut Text) {
     for offer in offers {
-        put_offer(flat, origins, offer, text);
+        let (comp, chan) = (Piece::Number(offer.comp), Piece::Number(offer.chan));
+        text.say("fire % %", &[comp, Piece::Number(offer.port)]);
+        text.fill(12);
+        let mv = Piece::Text(offer.mv.word());
+        text.say("% %%", &[mv, chan, Piece::Value(offer.value)]);
+        text.fill(28);
+        if let Some(site) = flat.comp(offer.comp) {
+            let kind = Piece::Bytes(kind_word(&site.kind));
+            text.say("% %", &[kind, port(site, offer.port)]);
+        }
+        put_instance(survey.comp(offer.comp), text);
+        text.put("\n");
     }
-    offers.len()
 }
 
-// The command that makes a move, the move, its port and its place.
-fn put_offer(flat: &Flat, origins: &Origins, offer: &Offer, text: &mut Text) {
-    let command = [Piece::Number(offer.comp), Piece::Number(offer.port)];
-    text.say("fire % %", &command);
-    text.fill(12);
-    text.say("%", &[Piece::Move(offer.mv, offer.chan, offer.value)]);
-    text.fill(28);
-    let kind = Piece::Bytes(kind_of(flat, offer.comp));
-    if let Some(site) = flat.comp(offer.comp) {
-        text.say("% %", &[kind, port(site, offer.port)]);
+// The instance in which a component stands, and the name of the part that it is one of, where it is in one.
+fn put_instance(standing: Option<Standing<'_>>, text: &mut Text) {
+    match standing {
+        Some(standing) if !standing.path.is_empty() => {
+            text.fill(54);
+            text.put("in ");
+            let _ = put_path(text, standing.path);
+            text.put_pieces(&[Part::Bytes(b" "), Part::Name(standing.part)]);
+        }
+        _ => {}
     }
-    origins.put_instance(offer.comp, text);
-    text.put("\n");
 }
 
+// Words of the host, each with its port and the phase there.
 fn put_words(course: &Course, words: &[HostOffer], text: &mut Text) {
     for word in words {
-        put_word(course, word, text);
+        text.say("%", &[host_word(course.flat(), word.verb, word.port)]);
+        text.fill(28);
+        let port = Piece::Number(word.port);
+        let carried = Piece::Carried(chan_of(course.flat(), word.port));
+        let phase = Piece::Phase(phase_of(course, word.port));
+        text.say("port % %, %\n", &[port, carried, phase]);
     }
-}
-
-// A word of the host, its port and the phase there.
-fn put_word(course: &Course, word: &HostOffer, text: &mut Text) {
-    text.say("%", &[host_word(course.flat(), word.verb, word.port)]);
-    text.fill(28);
-    put_port(course, word.port, text);
-}
-
-fn put_port(course: &Course, port: u32, text: &mut Text) {
-    text.say(
-        "port % %, %\n",
-        &[
-            Piece::Number(port),
-            Piece::Carried(chan_of(course.flat(), port)),
-            Piece::Phase(phase_of(course, port)),
-        ],
-    );
 }
 
 /// Adds how far the net is.
 pub(crate) fn put_totals(course: &Course, text: &mut Text) {
-    put_entry_counts(course.net().journal(), text);
-    let comps = course.flat().comp_count();
-    let chans = course.flat().chan_count();
-    text.say(
-        "components: %, % can move\nchannels: %, % not idle\nclashes:",
-        &[
-            Piece::Number(comps),
-            Piece::Number(count_ready(course)),
-            Piece::Number(chans),
-            Piece::Number(count_busy(course)),
-        ],
-    );
+    let counts = counts(course.net().journal());
+    let fired = Piece::Long(counts.fired as u64);
+    let host = Piece::Long(counts.host as u64);
+    let rests = Piece::Long(counts.rests as u64);
+    text.say("trace: % fired, % host, % rest\n", &[fired, host, rests]);
+    let comps = Piece::Number(course.flat().comp_count());
+    let ready = Piece::Long(count_ready(course) as u64);
+    text.say("components: %, % can move\n", &[comps, ready]);
+    let chans = Piece::Number(course.flat().chan_count());
+    let busy = Piece::Long(count_busy(course) as u64);
+    text.say("channels: %, % not idle\nclashes:", &[chans, busy]);
     put_clashes(course.net().clashes(), text);
-    let next = if course.next() > comps {
-        1
-    } else {
-        course.next()
+    let next = match course.next() {
+        next if next > course.flat().comp_count() => 1,
+        next => next,
     };
-    text.say(
-        "\nrun goes on at component %\nseed %\n",
-        &[Piece::Number(next), Piece::Long(course.picker().seed)],
-    );
+    let (next, seed) = (Piece::Number(next), Piece::Long(course.picker().seed()));
+    text.say("\nrun goes on at component %\nseed %\n", &[next, seed]);
 }
 
-fn count_ready(course: &Course) -> u32 {
-    let mut ready = 0u32;
-    for place in 0..course.flat().comp_count() {
-        if course.net().is_ready(place + 1) {
-            ready = ready.saturating_add(1);
-        }
-    }
-    ready
+/// How many components can move.
+pub(crate) fn count_ready(course: &Course) -> usize {
+    let comps = 1..=course.flat().comp_count();
+    comps.filter(|comp| course.net().is_ready(*comp)).count()
 }
 
-fn count_busy(course: &Course) -> u32 {
-    let mut busy = 0u32;
-    for place in 0..course.flat().chan_count() {
-        if !matches!(phase_of(course, place + 1), Phase::Idle) {
-            busy = busy.saturating_add(1);
-        }
-    }
-    busy
-}
-
-// How many entries of each kind the journal has.
-fn put_entry_counts(journal: &[Entry], text: &mut Text) {
-    let mut fired = 0u32;
-    let mut host = 0u32;
-    let mut rests = 0u32;
-    for entry in journal {
-        match entry {
-            Entry::Fired { .. } => fired = fired.saturating_add(1),
-            Entry::Host { .. } => host = host.saturating_add(1),
-            Entry::Rested { .. } => rests = rests.saturating_add(1),
-        }
-    }
-    text.say(
-        "trace: % fired, % host, % rest\n",
-        &[
-            Piece::Number(fired),
-            Piece::Number(host),
-            Piece::Number(rests),
-        ],
-    );
+fn count_busy(course: &Course) -> usize {
+    let chans = 1..=course.flat().chan_count();
+    chans
+        .filter(|chan| phase_of(course, *chan) != Phase::Idle)
+        .count()
 }
 
 fn put_clashes(clashes: &[u32], text: &mut Text) {
@@ -156,12 +122,15 @@ fn put_clashes(clashes: &[u32], text: &mut Text) {
 }
 
 /// Adds a component's place, the value that it keeps, and its ports with what is due there.
-pub(crate) fn put_state(course: &Course, origins: &Origins, comp: u32, text: &mut Text) {
+pub(crate) fn put_state(course: &Course, survey: &Survey, comp: u32, text: &mut Text) {
     if let Some(site) = course.flat().comp(comp) {
-        origins.put_line(text, comp, site);
+        if let Some(standing) = survey.comp(comp) {
+            let _ = put_comp(text, comp, site, standing);
+            text.put("\n");
+        }
         if matches!(site.kind, Kind::Variable | Kind::FalseVariable) {
             let kept = kept(course.net().journal(), comp);
-            text.say("keeps %\n", &[Piece::Value(kept)]);
+            text.say("keeps %\n", &[Piece::Wide(kept)]);
         }
         for port in 1..=port_count(site) {
             put_port_state(course, site, comp, port, text);
@@ -171,43 +140,40 @@ pub(crate) fn put_state(course: &Course, origins: &Origins, comp: u32, text: &mu
 
 // The value that a variable took last, 0 at first.
 fn kept(journal: &[Entry], variable: u32) -> Value {
-    let mut kept = 0;
-    for entry in journal {
-        if let Entry::Fired {
-            comp,
-            port: 1,
-            mv: Move::Take,
-            value: Some(value),
-            ..
-        } = entry
-        {
-            if *comp == variable {
-                kept = *value;
-            }
+    for entry in journal.iter().rev() {
+        match entry {
+            Entry::Fired {
+                comp,
+                port: 1,
+                mv: Move::Take,
+                value: Some(value),
+                ..
+            } if *comp == variable => return *value,
+            _ => {}
         }
     }
-    kept
+    0
 }
 
 fn put_port_state(course: &Course, site: &FlatComp, comp: u32, at: u32, text: &mut Text) {
     let chan = chan_at(site, at);
-    text.say(
-        "%.% %",
-        &[Piece::Number(comp), Piece::Number(at), port(site, at)],
-    );
+    let (number, place) = (Piece::Number(comp), Piece::Number(at));
+    text.say("%.% %", &[number, place, port(site, at)]);
     text.fill(18);
-    let carried = Piece::Carried(chan_of(course.flat(), chan));
-    text.say("channel % %", &[Piece::Number(chan), carried]);
+    let (number, carried) = (
+        Piece::Number(chan),
+        Piece::Carried(chan_of(course.flat(), chan)),
+    );
+    text.say("channel % %", &[number, carried]);
     text.fill(40);
-    text.say("%", &[Piece::Phase(phase_of(course, chan))]);
+    let phase = Piece::Phase(phase_of(course, chan));
+    text.say("%", &[phase]);
     if let Some(mv) = course.net().due(comp, at) {
         text.fill(54);
-        let waits = if course.net().can_fire(comp, at) {
-            ""
-        } else {
-            ", waits"
-        };
-        text.say("due: %%", &[Piece::Text(move_word(mv)), Piece::Text(waits)]);
+        text.say("due: %", &[Piece::Text(mv.word())]);
+        if !course.net().can_fire(comp, at) {
+            text.put(", waits");
+        }
     }
     text.put("\n");
 }

@@ -1,9 +1,9 @@
 //! How components, ports and channels are called.
 
 use crate::piece::Piece;
-use bz_course::Course;
-use bz_flat::{Flat, FlatComp};
-use bz_kind_table::{kind_word, port_table};
+use bz_explore_net::Course;
+use bz_flat::{Ends, Flat, FlatComp};
+use bz_kind_rows::{kind_word, port_at};
 use bz_model::{Chan, ChanKind, Phase, Verb, numbered};
 
 /// A channel, one without width where there is none of this number.
@@ -20,6 +20,16 @@ pub(crate) fn phase_of(course: &Course, chan: u32) -> Phase {
         return Phase::Idle;
     }
     course.net().phase(chan)
+}
+
+/// The ends of a channel, none where there is none of this number.
+pub(crate) fn ends_of(flat: &Flat, chan: u32) -> Ends {
+    flat.ends(chan).unwrap_or(Ends {
+        active: None,
+        passive: None,
+        active_port: 0,
+        passive_port: 0,
+    })
 }
 
 /// The channel at a component's port, 0 where there is none.
@@ -40,42 +50,24 @@ pub(crate) fn port_name(flat: &Flat, port: u32) -> &[u8] {
     }
 }
 
-/// The kind of a component.
-pub(crate) fn kind_of(flat: &Flat, comp: u32) -> &'static [u8] {
-    match flat.comp(comp) {
-        Some(site) => kind_word(&site.kind),
-        None => b"",
-    }
-}
-
 /// A component, as it is called.
 pub(crate) fn comp(flat: &Flat, number: u32) -> Piece<'static> {
-    Piece::Comp(kind_of(flat, number), number)
+    match flat.comp(number) {
+        Some(site) => Piece::Comp(kind_word(&site.kind), number),
+        None => Piece::Comp(b"", number),
+    }
 }
 
 /// A word of the host as it is typed, `V` standing for its value.
 pub(crate) fn host_word(flat: &Flat, verb: Verb, port: u32) -> Piece<'_> {
-    let has_value = match (verb, chan_of(flat, port).kind) {
-        (Verb::Offer, ChanKind::Push) | (Verb::Answer, ChanKind::Pull) => true,
-        _ => false,
-    };
+    let has_value = verb.wants_value(chan_of(flat, port).kind);
     Piece::Word(verb, port_name(flat, port), has_value)
 }
 
 /// A component's port, as it is called.
 pub(crate) fn port(comp: &FlatComp, port: u32) -> Piece<'static> {
-    let mut place = port;
-    let mut arrays = 0;
-    for row in port_table(&comp.kind) {
-        let mut len = 1;
-        if row.array {
-            len = comp.sizes.get(arrays).copied().unwrap_or(0);
-            arrays = 1;
-        }
-        if place <= len {
-            return Piece::Port(row.name, if row.array { Some(place) } else { None });
-        }
-        place -= len;
+    match port_at(&comp.kind, comp.sizes, port) {
+        Some(at) => Piece::Port(at),
+        None => Piece::Text(""),
     }
-    Piece::Text("")
 }

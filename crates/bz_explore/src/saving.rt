@@ -1,11 +1,15 @@
-//! The trace of a net so far, written to a file.
+//! What is written to files: the trace of a net so far, and the commands that stand.
 
 ghost use Rattle.std.specs.Prelude.{OnOk, OnErr};
 ghost use Rattle.bz_explore.specs.Saving.{SavesSome, SavesTrace};
 
-use bz_commands::write_out;
-use bz_lines::WriteFault;
+use crate::answers::entries_of;
+use crate::piece::Piece;
+use bz_cli_core::write_out;
+use bz_explore_net::{Course, Mark, Picker};
+use bz_model::Entry;
 use bz_net::Net;
+use bz_text::{Text, WriteFault, put};
 use std::io::Write;
 
 /// Writes the trace of what a net's journal tells, down to the last byte.
@@ -14,4 +18,55 @@ pub fn save<W: Write>(net: &Net, out: &mut W) -> Result<(), WriteFault>
     ensures err { OnErr result (SavesSome net.now (W.contents out.old) (W.contents out.new)) }
 {
     write_out(net.names(), net.journal(), net.clashes(), out)
+}
+
+/// Writes a text, down to the last byte.
+pub(crate) fn save_text<W: Write>(bytes: &[u8], out: &mut W) -> Result<(), WriteFault> {
+    put(out, bytes)?;
+    out.flush().map_err(|_| WriteFault)
+}
+
+/// Adds the commands that stand, as lines of a session. Behind each word of the host its reply is expected, and a seed stands
+/// where the picking was begun anew.
+pub(crate) fn put_script(course: &Course, text: &mut Text) {
+    let journal = course.net().journal();
+    let mut picker = Picker::new(0);
+    for (place, mark) in course.marks().iter().enumerate() {
+        let upto = entries_of(course, place + 1);
+        let added = journal.get(mark.entries..upto).unwrap_or(&[]);
+        put_seed(picker, mark.picker, text);
+        put_command(mark, added, text);
+        picker = picker_after(mark, added);
+    }
+    put_seed(picker, course.picker(), text);
+}
+
+// A line that begins the picking anew, where it doesn't go on as it would.
+fn put_seed(goes_on: Picker, picker: Picker, text: &mut Text) {
+    if goes_on != picker {
+        text.say("seed %\n", &[Piece::Long(picker.seed())]);
+    }
+}
+
+// The line of a command that added entries, and what the host was answered.
+fn put_command(mark: &Mark, added: &[Entry], text: &mut Text) {
+    text.put_bytes(mark.command.as_slice());
+    text.put("\n");
+    if let Some(Entry::Host { reply, .. }) = added.first() {
+        let _ = writeln!(text, "expect {reply}");
+    }
+}
+
+// How far the picking is after a command: each move that was picked took two numbers.
+fn picker_after(mark: &Mark, added: &[Entry]) -> Picker {
+    let mut picker = mark.picker;
+    if mark.command.as_slice().starts_with(b"random") {
+        for entry in added {
+            if let Entry::Fired { .. } = entry {
+                picker.pick(1);
+                picker.pick(1);
+            }
+        }
+    }
+    picker
 }

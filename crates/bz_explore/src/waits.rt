@@ -1,133 +1,181 @@
 //! Who holds each channel, and for whom each component waits.
 
-use crate::cycles::cycles;
-use crate::naming::{chan_at, comp, host_word, phase_of, port_count, port_name};
+use crate::answers::{MOST_LINES, count_lines, put_ends};
+use crate::graph::{Graph, Hung, Place, Wait, Whom};
+use crate::looking::count_ready;
+use crate::naming::{comp, ends_of, host_word, phase_of, port_name};
 use crate::piece::Piece;
-use crate::text::Text;
-use bz_course::{Course, busy_chans};
-use bz_flat::{Ends, Flat, FlatComp};
-use bz_kind_table::is_passive;
-use bz_model::{Kind, Move, Phase, Verb};
-use std::alloc::{AllocError, Global};
+use bz_explore_net::{Course, busy_chans};
+use bz_flat::Flat;
+use bz_model::{Move, Phase, Verb};
+use bz_text::Text;
 
 /// The column of what holds a channel, and of what is waited for.
 const COLUMN: usize = 26;
 
-/// Who waits for whom, and how many do.
-#[derive(Drop)]
-struct Waiting {
-    /// From who waits to whom it waits for, by who waits.
-    links: Vec<(u32, u32)>,
-    waiting: u32,
-    ready: u32,
-    idle: u32,
-}
+/// The most members of a cycle that are told, where not all is asked for.
+const MOST_MEMBERS: usize = 20;
 
-/// What a component does while nothing else moves.
-#[derive(Clone, Copy)]
-enum Standing {
-    /// It can move.
-    Ready,
-    /// It can't make the moves of this sort that are due.
-    Waits(Move),
-    /// It has nothing left to do, and owes an acknowledgement on this channel.
-    Halted(u32),
-    Idle,
-}
-
-/// What has to come first on a channel: from the component that stands at the other end, or from the host.
-#[derive(Clone, Copy)]
-struct Wanted {
-    from: Option<u32>,
-    /// What the component has to do there.
-    deed: &'static str,
-    /// What the host has to do there.
-    verb: Verb,
+/// Adds why nothing moves: the cycles of waiting, then who waits for nobody, for the host or for one that is idle, and how
+/// many wait.
+pub(crate) fn put_waits(course: &Course, text: &mut Text) {
+    match Graph::of(text.alloc(), course) {
+        Ok(graph) => {
+            let mut lines = Text::new(text.alloc());
+            put_roots(course.flat(), &graph, &mut lines);
+            match lines.whole() {
+                Ok(lines) => put_front(lines, text),
+                Err(_) => text.lose(),
+            }
+            put_counts(course, &graph, text);
+        }
+        Err(_) => text.lose(),
+    }
 }
 
 /// Adds who holds each channel that is not idle, for whom each component waits, the cycles among these, and how many there
 /// are.
-pub(crate) fn put_waits(alloc: Global, course: &Course, text: &mut Text) {
-    match busy_chans(alloc, course.flat(), course.net()) {
+pub(crate) fn put_all_waits(course: &Course, text: &mut Text) {
+    match busy_chans(text.alloc(), course.flat(), course.net()) {
         Ok(chans) => put_holders(course, chans.as_slice(), text),
         Err(_) => text.lose(),
     }
-    let mut all = Waiting {
-        links: Vec::new(alloc),
-        waiting: 0,
-        ready: 0,
-        idle: 0,
-    };
-    put_waiters(course, &mut all, text);
-    put_waiting(alloc, course.flat(), &all, text);
+    match Graph::of(text.alloc(), course) {
+        Ok(graph) => {
+            put_all(course.flat(), graph.waits.as_slice(), text);
+            put_cycles(course.flat(), &graph, usize::MAX, text);
+            put_counts(course, &graph, text);
+        }
+        Err(_) => text.lose(),
+    }
 }
 
-fn put_waiting(alloc: Global, flat: &Flat, all: &Waiting, text: &mut Text) {
-    if put_cycles(alloc, flat, all.links.as_slice(), text).is_err() {
-        text.lose();
+/// Adds on what a component hangs.
+pub(crate) fn put_chain(course: &Course, comp: u32, text: &mut Text) {
+    let mut lines = Text::new(text.alloc());
+    match Graph::of(text.alloc(), course) {
+        Ok(graph) => put_hung(course, &graph, comp, &mut lines),
+        Err(_) => lines.lose(),
     }
+    match lines.whole() {
+        Ok(lines) => put_ends(lines, text),
+        Err(_) => text.lose(),
+    }
+}
+
+// The cycles, and those who wait for no other that waits: who has halted, who waits for the host, and who for one that is idle.
+fn put_roots(flat: &Flat, graph: &Graph, text: &mut Text) {
+    put_cycles(flat, graph, MOST_MEMBERS, text);
+    for root in [Whom::Nobody, Whom::Host, Whom::Idle(0)] {
+        for wait in &graph.waits {
+            match (root, wait.whom) {
+                (Whom::Nobody, Whom::Nobody)
+                | (Whom::Host, Whom::Host)
+                | (Whom::Idle(_), Whom::Idle(_)) => put_wait(flat, *wait, text),
+                _ => {}
+            }
+        }
+    }
+}
+
+// Adds lines; of too many the first, how many more there are, and what tells them.
+fn put_front(lines: &[u8], text: &mut Text) {
+    let count = count_lines(lines);
+    let most = MOST_LINES - 1;
+    let told = if count > most { most - 1 } else { count };
+    for line in lines.split_inclusive(|byte| *byte == b'\n').take(told) {
+        text.put_bytes(line);
+    }
+    if told < count {
+        let more = Piece::Long(count.saturating_sub(told) as u64);
+        text.say(".. % lines more: `waits all` tells them\n", &[more]);
+    }
+}
+
+fn put_counts(course: &Course, graph: &Graph, text: &mut Text) {
+    let (waiting, ready) = (graph.count_waiting(), count_ready(course));
+    let idle = graph.comps.saturating_sub(waiting).saturating_sub(ready);
+    let (waiting, ready) = (Piece::Long(waiting as u64), Piece::Long(ready as u64));
     text.say(
         "% wait, % can move, % idle\n",
-        &[
-            Piece::Number(all.waiting),
-            Piece::Number(all.ready),
-            Piece::Number(all.idle),
-        ],
+        &[waiting, ready, Piece::Long(idle as u64)],
     );
 }
 
-fn put_cycles(
-    alloc: Global,
-    flat: &Flat,
-    links: &[(u32, u32)],
-    text: &mut Text,
-) -> Result<(), AllocError> {
-    for cycle in &cycles(alloc, flat.comp_count() as usize, links)? {
-        put_cycle(flat, cycle.as_slice(), text);
+// A line for each cycle, of at most so many members.
+fn put_cycles(flat: &Flat, graph: &Graph, most: usize, text: &mut Text) {
+    for cycle in &graph.cycles {
+        put_cycle(flat, cycle.as_slice(), most, text);
     }
-    Ok(())
 }
 
-fn put_cycle(flat: &Flat, cycle: &[u32], text: &mut Text) {
+fn put_cycle(flat: &Flat, cycle: &[u32], most: usize, text: &mut Text) {
     text.put("cycle: ");
-    for member in cycle {
+    for member in cycle.iter().take(most) {
         text.say("% -> ", &[comp(flat, *member)]);
     }
-    let first = cycle.first().copied().unwrap_or(0);
-    text.say("%\n", &[comp(flat, first)]);
+    let more = cycle.len().saturating_sub(most);
+    if more > 0 {
+        text.say(".. % more -> ", &[Piece::Long(more as u64)]);
+    }
+    text.say("%\n", &[comp(flat, first_of(cycle))]);
 }
 
-fn put_holders(course: &Course, chans: &[u32], text: &mut Text) {
-    for chan in chans {
-        put_holder(course, *chan, text);
+fn first_of(cycle: &[u32]) -> u32 {
+    cycle.first().copied().unwrap_or(0)
+}
+
+// The lines of all on which a component hangs, and the cycles among these, each of which is met with all of its members or
+// with none.
+fn put_hung(course: &Course, graph: &Graph, comp: u32, text: &mut Text) {
+    match Hung::of(text.alloc(), graph, comp) {
+        Ok(hung) => {
+            for number in &hung.order {
+                put_standing(course, graph, *number, text);
+            }
+            for cycle in &graph.cycles {
+                if hung.has(first_of(cycle)) {
+                    put_cycle(course.flat(), cycle.as_slice(), MOST_MEMBERS, text);
+                }
+            }
+        }
+        Err(_) => text.lose(),
     }
 }
 
-// The phase of a channel, and who holds it.
-fn put_holder(course: &Course, chan: u32, text: &mut Text) {
+// For whom a component waits, or that it can move or is idle.
+fn put_standing(course: &Course, graph: &Graph, number: u32, text: &mut Text) {
     let flat = course.flat();
-    let phase = phase_of(course, chan);
-    let ends = ends_of(flat, chan);
-    let active = end(flat, ends.active, chan);
-    let passive = end(flat, ends.passive, chan);
-    text.say("channel %", &[Piece::Number(chan)]);
-    text.fill(13);
-    text.say("%", &[Piece::Phase(phase)]);
-    text.fill(COLUMN);
-    match phase {
-        Phase::Asked(_) => text.say("% has not taken the request of %\n", &[passive, active]),
-        Phase::Replied(_) => text.say("% has not got the reply of %\n", &[active, passive]),
-        _ => text.say("% has not replied to %\n", &[passive, active]),
+    match graph.waits_of(number) {
+        [] if course.net().is_ready(number) => text.say("% can move\n", &[comp(flat, number)]),
+        [] => text.say("% is idle\n", &[comp(flat, number)]),
+        waits => put_all(flat, waits, text),
     }
 }
 
-fn ends_of(flat: &Flat, chan: u32) -> Ends {
-    flat.ends(chan).unwrap_or(Ends {
-        active: None,
-        passive: None,
-        active_port: 0,
-        passive_port: 0,
-    })
+fn put_all(flat: &Flat, waits: &[Wait], text: &mut Text) {
+    for wait in waits {
+        put_wait(flat, *wait, text);
+    }
+}
+
+// The phases of channels, and who holds each.
+fn put_holders(course: &Course, chans: &[u32], text: &mut Text) {
+    let flat = course.flat();
+    for chan in chans {
+        let (phase, ends) = (phase_of(course, *chan), ends_of(flat, *chan));
+        let active = end(flat, ends.active, *chan);
+        let passive = end(flat, ends.passive, *chan);
+        text.say("channel %", &[Piece::Number(*chan)]);
+        text.fill(13);
+        text.say("%", &[Piece::Phase(phase)]);
+        text.fill(COLUMN);
+        match phase {
+            Phase::Asked(_) => text.say("% has not taken the request of %\n", &[passive, active]),
+            Phase::Replied(_) => text.say("% has not got the reply of %\n", &[active, passive]),
+            _ => text.say("% has not replied to %\n", &[passive, active]),
+        }
+    }
 }
 
 // Who stands at an end of a channel: a component, or the host at the port.
@@ -138,135 +186,32 @@ fn end(flat: &Flat, number: Option<u32>, chan: u32) -> Piece<'_> {
     }
 }
 
-fn put_waiters(course: &Course, all: &mut Waiting, text: &mut Text) {
-    for number in 1..=course.flat().comp_count() {
-        if let Some(site) = course.flat().comp(number) {
-            put_waiter(course, number, site, all, text);
-        }
+// What a component waits for.
+fn put_wait(flat: &Flat, wait: Wait, text: &mut Text) {
+    let (who, chan) = (comp(flat, wait.comp), Piece::Number(wait.chan));
+    if let Whom::Nobody = wait.whom {
+        text.say("% has halted and will never reply on %\n", &[who, chan]);
+        return;
     }
-}
-
-// For whom a component waits, where it can't move.
-fn put_waiter(course: &Course, number: u32, site: &FlatComp, all: &mut Waiting, text: &mut Text) {
-    match standing_of(course, number, site) {
-        Standing::Ready => all.ready = all.ready.saturating_add(1),
-        Standing::Idle => all.idle = all.idle.saturating_add(1),
-        Standing::Waits(mv) => {
-            all.waiting = all.waiting.saturating_add(1);
-            put_due_moves(course, number, site, mv, all, text);
-        }
-        Standing::Halted(chan) => {
-            all.waiting = all.waiting.saturating_add(1);
-            text.say(
-                "% has halted and will never reply on %\n",
-                &[comp(course.flat(), number), Piece::Number(chan)],
-            );
-        }
-    }
-}
-
-fn standing_of(course: &Course, number: u32, site: &FlatComp) -> Standing {
-    if course.net().is_ready(number) {
-        Standing::Ready
-    } else if count_due(course, number, site, Move::Got) > 0 {
-        Standing::Waits(Move::Got)
-    } else {
-        match owed_chan(course, site) {
-            None => Standing::Idle,
-            Some(_) if count_due(course, number, site, Move::Take) > 0 => {
-                Standing::Waits(Move::Take)
-            }
-            Some(chan) => Standing::Halted(chan),
-        }
-    }
-}
-
-// The first channel whose request a component has taken and not replied to.
-fn owed_chan(course: &Course, site: &FlatComp) -> Option<u32> {
-    for port in 1..=port_count(site) {
-        let chan = chan_at(site, port);
-        if is_passive(&site.kind, site.sizes, port) && phase_of(course, chan) == Phase::Taken {
-            return Some(chan);
-        }
-    }
-    None
-}
-
-// At how many ports such a move is due.
-fn count_due(course: &Course, number: u32, site: &FlatComp, mv: Move) -> u32 {
-    let mut count = 0u32;
-    for port in 1..=port_count(site) {
-        if course.net().due(number, port) == Some(mv) {
-            count = count.saturating_add(1);
-        }
-    }
-    count
-}
-
-// A line for each port at which such a move is due. Where one of them is enough, all but the first begin with `or`.
-fn put_due_moves(
-    course: &Course,
-    number: u32,
-    site: &FlatComp,
-    mv: Move,
-    all: &mut Waiting,
-    text: &mut Text,
-) {
-    let one_is_enough = mv == Move::Take
-        && matches!(site.kind, Kind::DecisionWait)
-        && count_due(course, number, site, mv) > 1;
-    let mut is_or = false;
-    for port in 1..=port_count(site) {
-        if course.net().due(number, port) == Some(mv) {
-            let chan = chan_at(site, port);
-            let wanted = wanted_on(course, mv, chan);
-            put_wait(course.flat(), number, is_or, text);
-            put_wanted(course.flat(), wanted, chan, text);
-            if !one_is_enough {
-                add_link(all, number, wanted.from, text);
-            }
-            is_or = one_is_enough;
-        }
-    }
-}
-
-fn add_link(all: &mut Waiting, number: u32, from: Option<u32>, text: &mut Text) {
-    if let Some(from) = from {
-        if all.links.push((number, from)).is_err() {
-            text.lose();
-        }
-    }
-}
-
-fn put_wait(flat: &Flat, number: u32, is_or: bool, text: &mut Text) {
-    if is_or {
-        text.put("  or");
-    } else {
-        text.say("wait %", &[comp(flat, number)]);
+    match wait.place {
+        Place::Other => text.put("  or"),
+        _ => text.say("wait %", &[who]),
     }
     text.fill(COLUMN);
-}
-
-fn wanted_on(course: &Course, mv: Move, chan: u32) -> Wanted {
-    let ends = ends_of(course.flat(), chan);
-    let (from, deed, verb) = match (mv, phase_of(course, chan)) {
-        (Move::Got, Phase::Asked(_)) => (ends.passive, "take", Verb::Accept),
-        (Move::Got, _) => (ends.passive, "reply on", Verb::Answer),
-        _ => (ends.active, "ask on", Verb::Offer),
+    let (deed, verb) = match wait.mv {
+        Move::Take => ("take", Verb::Accept),
+        Move::Ask => ("ask on", Verb::Offer),
+        _ => ("reply on", Verb::Answer),
     };
-    Wanted { from, deed, verb }
-}
-
-fn put_wanted(flat: &Flat, wanted: Wanted, chan: u32, text: &mut Text) {
-    match wanted.from {
-        Some(number) => text.say(
-            "for % to % %\n",
-            &[
-                comp(flat, number),
-                Piece::Text(wanted.deed),
-                Piece::Number(chan),
-            ],
-        ),
-        None => text.say("for the host: %\n", &[host_word(flat, wanted.verb, chan)]),
+    let deed = Piece::Text(deed);
+    match wait.whom {
+        Whom::Comp(from) => text.say("for % to % %\n", &[comp(flat, from), deed, chan]),
+        Whom::Idle(from) => {
+            text.say(
+                "for % to % %, which is idle\n",
+                &[comp(flat, from), deed, chan],
+            );
+        }
+        _ => text.say("for the host: %\n", &[host_word(flat, verb, wait.chan)]),
     }
 }

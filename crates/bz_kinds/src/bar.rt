@@ -1,45 +1,47 @@
 //! A guard over inputs, and a call of the output of the first input that was 1: where the ports are after a move.
 
-ghost use Rattle.std.specs.Prelude.{◌≡◌, ◌≢◌, ◌<◌, ◌^◌, slice_index, Some};
+ghost use Rattle.std.specs.Prelude.{◌≡◌, ◌≢◌, ◌<◌, ◌^◌, Some};
 ghost use Rattle.std.specs.Option.{option_map};
 ghost use Rattle.bz_model.specs.Terms.{Store, first_one};
 ghost use Rattle.bz_model.specs.Processes.{after};
+ghost use Rattle.bz_kinds.specs.declared.ports.PortState.TheVariants.{ClosedDue, OpenDue};
+ghost use Rattle.bz_kinds.specs.Ports.{state_at};
 ghost use Rattle.bz_kinds.specs.Row.{Due, seen};
 ghost use Rattle.bz_kinds.specs.Bar.{IsPlace, Steps, out, bar_due};
 
 use crate::enclosed::{lead_due, leg_due};
-use crate::ports::{CLOSED, CLOSED_DUE, OPEN, OPEN_DUE, Ports};
+use crate::ports::{PortState, Ports};
 use crate::row::DueMove;
 use bz_model::{Expr, Value, first_one};
 
 /// Makes the move that is due at a port. `left` inputs are still to be pulled, and `slots` has what came in with the move.
 pub fn step(ports: &mut Ports, left: &mut u32, size: u32, port: u32, slots: &[Value])
     requires place { IsPlace size left.old ports.old }
-    requires due { (d : Due) × (bar_due size port (slice_index ports.old port) ≡ Some d) }
+    requires due { (d : Due) × (bar_due size port (state_at ports.old port) ≡ Some d) }
     requires small { size < 2 ^ 30 }
     ensures { Steps size left.old ports.old port left.new ports.new slots.now }
 {
-    let number = ports.get(port);
+    let state = ports.get(port);
     if port == 1 {
-        if number == CLOSED_DUE {
+        if state == PortState::ClosedDue {
             take_guard(ports, left, size, slots);
         } else {
             reply_guard(ports, left, size, slots);
         }
     } else if port == 2 {
-        if number == CLOSED_DUE {
+        if state == PortState::ClosedDue {
             take_activate(ports, left, size, slots);
         } else {
             reply_activate(ports, left, size, slots);
         }
     } else if port - 3 < size {
-        if number == CLOSED_DUE {
+        if state == PortState::ClosedDue {
             ask_input(ports, left, size, port - 3, slots);
         } else {
             got_input(ports, left, size, port - 3, slots);
         }
     } else {
-        if number == CLOSED_DUE {
+        if state == PortState::ClosedDue {
             ask_output(ports, left, size, port - 3 - size, slots);
         } else {
             got_output(ports, left, size, port - 3 - size, slots);
@@ -47,69 +49,69 @@ pub fn step(ports: &mut Ports, left: &mut u32, size: u32, port: u32, slots: &[Va
     }
 }
 
-/// The move due at `port`, whose number is `number`.
-pub fn due(size: u32, port: u32, number: u8) -> Option<DueMove<'static>>
-    ensures { option_map seen result ≡ bar_due size port number }
+/// The move due at `port`, whose state is `state`.
+pub fn due(size: u32, port: u32, state: PortState) -> Option<DueMove<'static>>
+    ensures { option_map seen result ≡ bar_due size port state }
 {
     match port {
         0 => None,
-        1 => lead_due(size, &Expr::SomeOne, number),
-        2 => lead_due(size, &Expr::Nothing, number),
-        _ => leg_due(&Expr::Nothing, size.min(port - 3), number),
+        1 => lead_due(size, &Expr::SomeOne, state),
+        2 => lead_due(size, &Expr::Nothing, state),
+        _ => leg_due(&Expr::Nothing, size.min(port - 3), state),
     }
 }
 
 // The guard is taken, and all inputs are due to be pulled.
 fn take_guard(ports: &mut Ports, left: &mut u32, size: u32, slots: &[Value])
     requires place { IsPlace size left.old ports.old }
-    requires due { slice_index ports.old 1 ≡ 1 }
+    requires due { state_at ports.old 1 ≡ ClosedDue }
     requires small { size < 2 ^ 30 }
     ensures { Steps size left.old ports.old 1 left.new ports.new slots.now }
 {
-    ports.set_between(3, size + 3, CLOSED_DUE);
-    ports.set(1, OPEN);
+    ports.set_between(3, size + 3, PortState::ClosedDue);
+    ports.set(1, PortState::Open);
     *left = size;
 }
 
 // The guard replies, and its next round is due.
 fn reply_guard(ports: &mut Ports, left: &mut u32, size: u32, slots: &[Value])
     requires place { IsPlace size left.old ports.old }
-    requires due { slice_index ports.old 1 ≡ 3 }
+    requires due { state_at ports.old 1 ≡ OpenDue }
     ensures { Steps size left.old ports.old 1 left.new ports.new slots.now }
 {
-    ports.set(1, CLOSED_DUE);
+    ports.set(1, PortState::ClosedDue);
 }
 
 // Input `i` is asked.
 fn ask_input(ports: &mut Ports, left: &mut u32, size: u32, i: u32, slots: &[Value])
     requires place { IsPlace size left.old ports.old }
     requires within { i < size }
-    requires due { slice_index ports.old (after i) ≡ 1 }
+    requires due { state_at ports.old (after i) ≡ ClosedDue }
     requires small { size < 2 ^ 30 }
     ensures { Steps size left.old ports.old (after i) left.new ports.new slots.now }
 {
-    ports.set(i + 3, OPEN_DUE);
+    ports.set(i + 3, PortState::OpenDue);
 }
 
 // Input `i` has come, and with the last one the guard is due to reply.
 fn got_input(ports: &mut Ports, left: &mut u32, size: u32, i: u32, slots: &[Value])
     requires place { IsPlace size left.old ports.old }
     requires within { i < size }
-    requires due { slice_index ports.old (after i) ≡ 3 }
+    requires due { state_at ports.old (after i) ≡ OpenDue }
     requires small { size < 2 ^ 30 }
     ensures { Steps size left.old ports.old (after i) left.new ports.new slots.now }
 {
-    ports.set(i + 3, CLOSED);
+    ports.set(i + 3, PortState::Closed);
     *left -= 1;
     if *left == 0 {
-        ports.set(1, OPEN_DUE);
+        ports.set(1, PortState::OpenDue);
     }
 }
 
 // Port activate is taken: the call of the first cell that holds 1 is due, or the reply where there is none.
 fn take_activate(ports: &mut Ports, left: &mut u32, size: u32, slots: &[Value])
     requires place { IsPlace size left.old ports.old }
-    requires due { slice_index ports.old 2 ≡ 1 }
+    requires due { state_at ports.old 2 ≡ ClosedDue }
     requires small { size < 2 ^ 30 }
     ensures { Steps size left.old ports.old 2 left.new ports.new slots.now }
 {
@@ -117,51 +119,51 @@ fn take_activate(ports: &mut Ports, left: &mut u32, size: u32, slots: &[Value])
     if chosen < size as usize {
         open_output(ports, left, size, chosen as u32, slots);
     } else {
-        ports.set(2, OPEN_DUE);
+        ports.set(2, PortState::OpenDue);
     }
 }
 
 // Port activate is taken, and the call of output `i` is due.
 fn open_output(ports: &mut Ports, left: &mut u32, size: u32, i: u32, slots: &[Value])
     requires place { IsPlace size left.old ports.old }
-    requires due { slice_index ports.old 2 ≡ 1 }
+    requires due { state_at ports.old 2 ≡ ClosedDue }
     requires within { i < size }
     requires chosen { first_one slots.now ≡ i }
     requires small { size < 2 ^ 30 }
     ensures { Steps size left.old ports.old 2 left.new ports.new slots.now }
 {
-    ports.set(size + i + 3, CLOSED_DUE);
-    ports.set(2, OPEN);
+    ports.set(size + i + 3, PortState::ClosedDue);
+    ports.set(2, PortState::Open);
 }
 
 // Port activate replies, and its next round is due.
 fn reply_activate(ports: &mut Ports, left: &mut u32, size: u32, slots: &[Value])
     requires place { IsPlace size left.old ports.old }
-    requires due { slice_index ports.old 2 ≡ 3 }
+    requires due { state_at ports.old 2 ≡ OpenDue }
     ensures { Steps size left.old ports.old 2 left.new ports.new slots.now }
 {
-    ports.set(2, CLOSED_DUE);
+    ports.set(2, PortState::ClosedDue);
 }
 
 // Output `i` is asked.
 fn ask_output(ports: &mut Ports, left: &mut u32, size: u32, i: u32, slots: &[Value])
     requires place { IsPlace size left.old ports.old }
     requires within { i < size }
-    requires due { slice_index ports.old (out size i) ≡ 1 }
+    requires due { state_at ports.old (out size i) ≡ ClosedDue }
     requires small { size < 2 ^ 30 }
     ensures { Steps size left.old ports.old (out size i) left.new ports.new slots.now }
 {
-    ports.set(size + i + 3, OPEN_DUE);
+    ports.set(size + i + 3, PortState::OpenDue);
 }
 
 // Output `i` is over, and port activate is due to reply.
 fn got_output(ports: &mut Ports, left: &mut u32, size: u32, i: u32, slots: &[Value])
     requires place { IsPlace size left.old ports.old }
     requires within { i < size }
-    requires due { slice_index ports.old (out size i) ≡ 3 }
+    requires due { state_at ports.old (out size i) ≡ OpenDue }
     requires small { size < 2 ^ 30 }
     ensures { Steps size left.old ports.old (out size i) left.new ports.new slots.now }
 {
-    ports.set(size + i + 3, CLOSED);
-    ports.set(2, OPEN_DUE);
+    ports.set(size + i + 3, PortState::Closed);
+    ports.set(2, PortState::OpenDue);
 }

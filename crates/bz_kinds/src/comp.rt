@@ -1,6 +1,6 @@
 //! A component: where its ports are, and the values that it keeps.
 
-ghost use Rattle.std.specs.Prelude.{◌≡◌, ◌≤◌, ◌-◌, ◌^◌, ◌<◌, ◌↔◌, not, ℕ, Some, IsTrue, IfSome, IfOk, IfErr, length, slice_index, slice_set, replicate};
+ghost use Rattle.std.specs.Prelude.{◌≡◌, ◌≤◌, ◌-◌, ◌^◌, ◌<◌, ◌↔◌, not, ℕ, Some, IsTrue, IfSome, IfOk, IfErr, length, slice_set, replicate};
 ghost use Rattle.std.specs.Option.{option_map};
 ghost use Rattle.bz_model.specs.declared.error.KindError.TheVariants.{Memory};
 ghost use Rattle.bz_model.specs.Heads.{Head, IsHeadOn, CanMove, Moves, Turns, HasOneHead, carried, opens, open_at};
@@ -8,6 +8,7 @@ ghost use Rattle.bz_model.specs.Terms.{stored, IsNarrow};
 ghost use Rattle.bz_model.specs.Rows.{MeetsRow};
 ghost use Rattle.bz_model.specs.Processes.{member, start_of};
 ghost use Rattle.bz_model.specs.Widths.{Fitted, FitsAt, HoldsAt};
+ghost use Rattle.bz_kinds.specs.declared.ports.PortState.TheVariants.{Closed, ClosedDue};
 ghost use Rattle.bz_kinds.specs.Row.{seen};
 ghost use Rattle.bz_kinds.specs.Moves.{AreEnabled};
 ghost use Rattle.bz_kinds.specs.Ready.{AreReady, NoneDue};
@@ -19,7 +20,7 @@ ghost use Rattle.bz_kinds.specs.Comp.{IsAt, IsDue, IsFor, Goes, plan_due};
 use crate::kept::KeptPlan;
 use crate::kept_lists::{KeptChans, KeptSlots};
 use crate::move_iter::MoveIter;
-use crate::ports::{CLOSED, CLOSED_DUE, Ports};
+use crate::ports::{PortState, Ports};
 use crate::row::DueMove;
 use crate::sense::{move_at, sense_word};
 use crate::shape::shape_of;
@@ -223,10 +224,10 @@ fn first_ports(alloc: Global, plan: &KeptPlan, legs: u32) -> Result<Ports, Alloc
 
 // Port 1 alone has a move due.
 fn first_only(alloc: Global, count: usize) -> Result<Ports, AllocError>
-    ensures { IfOk result (λ w. w ≡ slice_set (replicate count 0) 1 1) }
+    ensures { IfOk result (λ w. w ≡ slice_set (replicate count Closed) 1 ClosedDue) }
 {
     let mut ports = Ports::new(alloc, count)?;
-    ports.set(1, CLOSED_DUE);
+    ports.set(1, PortState::ClosedDue);
     Ok(ports)
 }
 
@@ -235,7 +236,7 @@ fn from_first(alloc: Global, count: usize) -> Result<Ports, AllocError>
     ensures { IfOk result (λ w. IsAllDue count w) }
 {
     let mut ports = Ports::new(alloc, count)?;
-    ports.set_from(1, CLOSED_DUE);
+    ports.set_from(1, PortState::ClosedDue);
     Ok(ports)
 }
 
@@ -245,8 +246,8 @@ fn all_but(alloc: Global, count: usize, port: u32) -> Result<Ports, AllocError>
     ensures { IfOk result (IsDueBut count port) }
 {
     let mut ports = Ports::new(alloc, count)?;
-    ports.set_from(1, CLOSED_DUE);
-    ports.set(port, CLOSED);
+    ports.set_from(1, PortState::ClosedDue);
+    ports.set(port, PortState::Closed);
     Ok(ports)
 }
 
@@ -256,8 +257,8 @@ fn first_members(alloc: Global, count: usize, members: u32) -> Result<Ports, All
     ensures { IfOk result (AreMembersDue count members) }
 {
     let mut ports = Ports::new(alloc, count)?;
-    ports.set_from(1, CLOSED_DUE);
-    ports.set_from(members + 1, CLOSED);
+    ports.set_from(1, PortState::ClosedDue);
+    ports.set_from(members + 1, PortState::Closed);
     Ok(ports)
 }
 
@@ -281,31 +282,31 @@ fn store(slots: &mut KeptSlots, slot: u32, value: Option<Value>)
     }
 }
 
-/// The move due at a port, whose number is `number`.
+/// The move due at a port, whose state is `state`.
 pub(crate) fn due_at(
     plan: &KeptPlan,
     size: u32,
     left: u32,
     port: u32,
-    number: u8,
+    state: PortState,
 ) -> Option<DueMove<'_>>
-    ensures { option_map seen result ≡ plan_due (plan_of plan.now) size left port number }
+    ensures { option_map seen result ≡ plan_due (plan_of plan.now) size left port state }
 {
     match plan {
-        KeptPlan::InTurn(row) => enclosed::due(row.get(), port, number),
-        KeptPlan::OwnInTurn(row) => enclosed::due(row, port, number),
-        KeptPlan::Together(row) => enclosed::due(row.get(), port, number),
-        KeptPlan::OwnTogether(row) => enclosed::due(row, port, number),
-        KeptPlan::Once(row) => enclosed::due(row.get(), port, number),
-        KeptPlan::Cells => cells::due(port, number),
-        KeptPlan::Select(_) => enclosed::due(&select::ROW, port, number),
-        KeptPlan::Indexed(_) => indexed::due(left, port, number),
-        KeptPlan::OneByOne(script) => script::due(*script, port, number),
-        KeptPlan::Signalled => signalled::due(port, number),
-        KeptPlan::Choice(mix) => choice::due(mix.get(), size, port, number),
-        KeptPlan::Meeting(meet) => meeting::due(meet.get(), size, port, number),
-        KeptPlan::Decision => decision::due(size, port, number),
-        KeptPlan::Bar => bar::due(size, port, number),
+        KeptPlan::InTurn(row) => enclosed::due(row.get(), port, state),
+        KeptPlan::OwnInTurn(row) => enclosed::due(row, port, state),
+        KeptPlan::Together(row) => enclosed::due(row.get(), port, state),
+        KeptPlan::OwnTogether(row) => enclosed::due(row, port, state),
+        KeptPlan::Once(row) => enclosed::due(row.get(), port, state),
+        KeptPlan::Cells => cells::due(port, state),
+        KeptPlan::Select(_) => enclosed::due(&select::ROW, port, state),
+        KeptPlan::Indexed(_) => indexed::due(left, port, state),
+        KeptPlan::OneByOne(script) => script::due(*script, port, state),
+        KeptPlan::Signalled => signalled::due(port, state),
+        KeptPlan::Choice(mix) => choice::due(mix.get(), size, port, state),
+        KeptPlan::Meeting(meet) => meeting::due(meet.get(), size, port, state),
+        KeptPlan::Decision => decision::due(size, port, state),
+        KeptPlan::Bar => bar::due(size, port, state),
     }
 }
 

@@ -1,6 +1,6 @@
 //! The net behind its lock, with the front beside it.
 
-ghost use Rattle.std.specs.Prelude.{◌≡◌, ℕ, ◌+◌, ◌-◌, ◌<◌, ◌≤◌, ◌∷◌, [], ◌++◌, true, length, vec_len, IfOk, IfErr, OnErr, OnOk, MatchResult, slice_index_or};
+ghost use Rattle.std.specs.Prelude.{◌≡◌, ℕ, ◌+◌, ◌-◌, ◌<◌, ◌≤◌, ◌∷◌, [], ◌++◌, true, length, vec_len, IfOk, IfErr, OnErr, OnOk, MatchResult, replicate, slice_index_or};
 ghost use Rattle.std.specs.Vec.{vec_capacity};
 ghost use Rattle.bz_net.specs.Answering.{is_answer};
 ghost use Rattle.bz_locked.specs.Parts.{SessionView, WorkerView, new_session, new_worker, Tells};
@@ -8,7 +8,7 @@ ghost use Rattle.bz_locked.specs.Commands.{IsEntryOf, RefusesPoll};
 ghost use Rattle.bz_locked.specs.Waking.{FiresFor};
 ghost use Rattle.bz_net.specs.Simulation.{Simulation};
 ghost use Rattle.bz_net.specs.Replies.{RefusesCommand};
-ghost use Rattle.bz_locked.specs.Working.{MatchWait, MatchRest, IsLast, Once, Notes, WasAdded, WasRefused, WorkIs, RefusesFiring, TellsFirst, FiresOnce};
+ghost use Rattle.bz_locked.specs.Working.{MatchWait, MatchRest, IsLast, Once, Notes, WasAdded, WasFirst, WasRefused, WorkIs, RefusesFiring, RefusesRest, FiresOnce};
 
 use crate::closing::CloseError;
 use crate::ledger::NetLedger;
@@ -129,6 +129,7 @@ struct Rooms {
 
 impl Rooms {
     fn new(alloc: Global, sessions: u8, workers: u8) -> Result<Rooms, AllocError>
+        ensures standings { IfOk result (λ r. r.standings.items ≡ replicate sessions Standing.Running) }
         ensures records { IfOk result (λ r. (r.records.items ≡ []) × (sessions ≤ vec_capacity r.records)) }
         ensures shares { IfOk result (λ r. (r.shares.items ≡ []) × (workers ≤ vec_capacity r.shares)) }
     {
@@ -158,6 +159,7 @@ impl<L: NetLedger> Made<L> {
         ensures front { IfOk result (λ r. r.front.parts ≡ sessions + workers) }
         ensures fired { IfOk result (λ r. r.fired.total ≡ 0) }
         ensures root { IfOk result (λ r. (r.root.parts ≡ 0) × (r.root.amount ≡ 0)) }
+        ensures standings { IfOk result (λ r. r.rooms.standings.items ≡ replicate sessions Standing.Running) }
         ensures records { IfOk result (λ r. (r.rooms.records.items ≡ []) × (sessions ≤ vec_capacity r.rooms.records)) }
         ensures shares { IfOk result (λ r. (r.rooms.shares.items ≡ []) × (workers ≤ vec_capacity r.rooms.shares)) }
         ensures sessions { IfOk result (λ r. (vec_len r.hosts ≡ sessions) × ((k : ℕ) (d : SessionView) → k < sessions → slice_index_or r.hosts.items k d ≡ new_session r.front.table (k + 1))) }
@@ -192,7 +194,7 @@ impl<L: NetLedger> SharedNet<L> {
         workers: u8,
     ) -> Result<(SharedNet<L>, Vec<Session>, Vec<Worker<L>>), CloseError>
         requires ledger { (blank.name ≡ L.name) × (blank.parts ≡ L.parts) × (L.parts ≡ workers) }
-        requires opening { (net.wiring ≡ L.wiring) × (fuel ≡ L.fuel) }
+        requires opening { (net.wiring ≡ L.terms.wiring) × (fuel ≡ L.terms.fuel) × (sessions ≡ L.terms.sessions) }
         requires counts { (1 ≤ sessions) × (sessions ≤ 16) × (1 ≤ workers) × (workers ≤ 8) }
         requires unused { net.journal ≡ [] }
         ensures shared { IfOk result (λ r. (r.0.sessions ≡ sessions) × (r.0.workers ≡ workers)) }
@@ -231,9 +233,8 @@ impl<L: NetLedger> SharedNet<L> {
     ) -> Result<Reply, NetError>
         requires { session.old.seat.table ≡ self.now.table }
         ensures who { (session.new.who ≡ session.old.who) × (session.new.seat.table ≡ session.old.seat.table) }
-        ensures own { IfOk result (λ r. Notes L.wiring session.old.who cmd.now r session.old.own session.new.own) }
-        ensures tells { OnOk result (Tells session.old.seat session.new.seat) }
-        ensures cause { IfErr result (WasRefused L.wiring (λ net e. RefusesCommand net cmd.now.verb cmd.now.port.items cmd.now.value e)) }
+        ensures notes { IfOk result (λ r. Notes L.terms cmd.now r session.old session.new) }
+        ensures cause { IfErr result (WasRefused L.terms (λ net e. RefusesCommand net cmd.now.verb cmd.now.port.items cmd.now.value e)) }
         ensures err { OnErr result (session.new ≡ session.old) }
     {
         if session.own.reserve(1).is_err() {
@@ -252,14 +253,12 @@ impl<L: NetLedger> SharedNet<L> {
         who: Who,
         cmd: &HostCmd,
     ) -> Result<(Entry, Reply, u64), NetError>
-        ensures entry { IfOk result (λ r. IsEntryOf L.wiring.ports who cmd.now r.1 r.0) }
-        ensures len { IfOk result (λ r. 0 < r.2) }
-        ensures added { IfOk result (λ r. WasAdded L.wiring r.0) }
-        ensures cause { IfErr result (λ e. Once L.wiring (λ net fuel stopped standings. RefusesCommand net cmd.now.verb cmd.now.port.items cmd.now.value e)) }
+        ensures entry { IfOk result (λ r. IsEntryOf L.terms.wiring.ports who cmd.now r.1 r.0) }
+        ensures added { IfOk result (λ r. WasAdded L.terms r.0 r.2) }
+        ensures cause { IfErr result (λ e. Once L.terms (λ net fuel stopped standings. RefusesCommand net cmd.now.verb cmd.now.port.items cmd.now.value e)) }
     {
         let mut locked = self.locked.lock(rt);
-        locked.set_standing(who, Standing::Running);
-        let answered = locked.answer(who, cmd);
+        let answered = locked.host(who, cmd);
         self.changed.notify_all();
         answered
     }
@@ -274,10 +273,10 @@ impl<L: NetLedger> SharedNet<L> {
     ) -> Result<WaitReply, NetError>
         requires { session.old.seat.table ≡ self.now.table }
         ensures who { (session.new.who ≡ session.old.who) × (session.new.seat.table ≡ session.old.seat.table) }
-        ensures answered { IfOk result (λ w. MatchWait L.wiring cmd.now w
-            (λ r. (is_answer r ≡ true) × Notes L.wiring session.old.who cmd.now r session.old.own session.new.own × Tells session.old.seat session.new.seat)
+        ensures answered { IfOk result (λ w. MatchWait L.terms cmd.now w
+            (λ r. (is_answer r ≡ true) × Notes L.terms cmd.now r session.old session.new)
             (session.new ≡ session.old)) }
-        ensures cause { IfErr result (WasRefused L.wiring (λ net e. RefusesPoll net cmd.now e)) }
+        ensures cause { IfErr result (WasRefused L.terms (λ net e. RefusesPoll net cmd.now e)) }
         ensures err { OnErr result (session.new ≡ session.old) }
     {
         if session.own.reserve(1).is_err() {
@@ -298,19 +297,18 @@ impl<L: NetLedger> SharedNet<L> {
 
     /// Waits under the lock until a session is told something.
     fn wait_for<R: Wait>(&self, rt: &R, who: Who, cmd: &HostCmd) -> Result<Polled, NetError>
-        ensures last { IfOk result (IsLast L.wiring who cmd.now) }
-        ensures cause { IfErr result (λ e. Once L.wiring (λ net fuel stopped standings. RefusesPoll net cmd.now e)) }
+        ensures last { IfOk result (IsLast L.terms who cmd.now) }
+        ensures cause { IfErr result (λ e. Once L.terms (λ net fuel stopped standings. RefusesPoll net cmd.now e)) }
     {
         let mut locked = self.locked.lock(rt);
         locked.begin(who, cmd);
         self.changed.notify_all();
         for _ in rt.forever() {
-            match locked.poll(who, cmd) {
+            match locked.turn(who, cmd) {
                 Ok(Polled::Wait) => locked = self.changed.wait(rt, locked),
-                polled => {
-                    locked.set_standing(who, Standing::Running);
+                told => {
                     self.changed.notify_all();
-                    return polled;
+                    return told;
                 }
             }
         }
@@ -327,9 +325,10 @@ impl<L: NetLedger> SharedNet<L> {
         requires { worker.old.seat.table ≡ self.now.table }
         ensures who { (worker.new.who ≡ worker.old.who) × (worker.new.seat.table ≡ worker.old.seat.table) }
         ensures fired { IfOk result (λ f. FiresFor worker.old.who comp f.entry) }
-        ensures lawful { IfOk result (λ f. Once L.wiring (λ net fuel stopped standings. FiresOnce net fuel worker.old.who comp f.entry f.wake)) }
-        ensures cause { IfErr result (λ e. Once L.wiring (λ net fuel stopped standings. RefusesFiring net fuel comp e)) }
-        ensures ok { OnOk result ((worker.new.fired ≡ worker.old.fired + 1) × Tells worker.old.seat worker.new.seat) }
+        ensures lawful { IfOk result (λ f. (n : ℕ) × Tells n worker.old.seat worker.new.seat
+            × Once L.terms (λ net fuel stopped standings. FiresOnce net fuel worker.old.who comp f.entry f.wake n)) }
+        ensures cause { IfErr result (λ e. Once L.terms (λ net fuel stopped standings. RefusesFiring net fuel comp e)) }
+        ensures ok { OnOk result (worker.new.fired ≡ worker.old.fired + 1) }
         ensures err { OnErr result (worker.new ≡ worker.old) }
     {
         let answered = self
@@ -352,8 +351,9 @@ impl<L: NetLedger> SharedNet<L> {
     ) -> Result<RestReply, NetError>
         requires { worker.old.seat.table ≡ self.now.table }
         ensures who { (worker.new.who ≡ worker.old.who) × (worker.new.seat.table ≡ worker.old.seat.table) × (worker.new.fired ≡ worker.old.fired) }
-        ensures told { IfOk result (λ r. Once L.wiring (λ net fuel stopped standings. (next : Simulation) × TellsFirst net next worker.old.who from r)) }
-        ensures rest { IfOk result (λ r. MatchRest r (Tells worker.old.seat worker.new.seat) (worker.new ≡ worker.old)) }
+        ensures told { IfOk result (λ r. (n : ℕ) × MatchRest r (Tells n worker.old.seat worker.new.seat) (worker.new ≡ worker.old)
+            × WasFirst L.terms worker.old.who from r n) }
+        ensures cause { IfErr result (λ e. Once L.terms (λ net fuel stopped standings. RefusesRest net e)) }
         ensures err { OnErr result (worker.new ≡ worker.old) }
     {
         let answered = self.locked.lock(rt).first_ready(worker.who, from);
@@ -368,7 +368,7 @@ impl<L: NetLedger> SharedNet<L> {
     /// Waits until there is work, or will be none. It wakes nobody.
     pub fn wait_work<R: Wait>(&self, rt: &R, worker: &mut Worker<L>) -> Work
         ensures same { worker.new ≡ worker.old }
-        ensures told { Once L.wiring (λ net fuel stopped standings. WorkIs net fuel stopped standings result) }
+        ensures told { Once L.terms (λ net fuel stopped standings. WorkIs net fuel stopped standings result) }
     {
         let mut locked = self.locked.lock(rt);
         for _ in rt.forever() {

@@ -14,7 +14,7 @@ use Rattle.bz_model.specs.declared.event.Reply.{Reply}
 use Rattle.bz_model.specs.declared.event.Reply.TheVariants as reply
 use Rattle.bz_model.specs.declared.event.Entry.{Entry}
 use Rattle.bz_model.specs.declared.event.Entry.TheVariants as entry
-use Rattle.bz_model.specs.Phases.{rides}
+use Rattle.bz_model.specs.Phases.{carries}
 use Rattle.bz_model.specs.Names.{Outside, channel, port_name, port_number}
 
 -- hosts count to 16, workers to 8
@@ -48,8 +48,8 @@ IsReply (reply.NotTaken p) = IsPhase p
 IsReply (reply.Watched p) = IsPhase p
 
 -- whether a move on this channel carries a value; on a channel that the net does not have none does
-abbrev pub carries : List Chan → ℕ → Move → Bool
-carries chans k mv = unwrap_or (option_map (λ c. rides c.kind mv) (channel chans k)) false
+abbrev pub carries_at : List Chan → ℕ → Move → Bool
+carries_at chans k mv = unwrap_or (option_map (λ c. carries c.kind mv) (channel chans k)) false
 
 -- a value stands exactly where one is carried
 abbrev pub IsCarried : Bool → Option ℕ → Type 0
@@ -69,7 +69,7 @@ IsGiven verb (Some v) = ⊥
 -- and a host's port is the one of its name.
 abbrev pub HasLine : Outside → Entry → Type 0
 HasLine net (entry.Fired w comp port chan mv value) =
-    IsWho w × IsNumber32 comp × IsNumber32 chan × IsCarried (carries net.chans chan mv) value
+    IsWho w × IsNumber32 comp × IsNumber32 chan × IsCarried (carries_at net.chans chan mv) value
 HasLine net (entry.Host w verb port value reply) =
     IsHost w × (port_number net.ports (unwrap_or (port_name net.ports port) []) ≡ Some port) × IsGiven verb value × IsReply reply
 HasLine net (entry.Rested w) = IsWho w

@@ -5,8 +5,8 @@ ghost use Rattle.std.specs.Option.{option_copied, option_map};
 ghost use Rattle.bz_model.specs.Names.{external, port_number, port_name, port_sense, channel, numbered};
 
 use crate::channel::Chan;
+use crate::name_set::NameSet;
 use bz_arena::{Arena, Id};
-use bz_names::NameSet;
 use std::alloc::{AllocError, Global};
 use std::marker::Model;
 

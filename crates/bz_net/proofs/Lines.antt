@@ -18,14 +18,14 @@ use Rattle.bz_model.specs.declared.event.Entry.{Entry}
 use Rattle.bz_model.specs.declared.event.Entry.TheVariants.{Fired, Host, Rested}
 use Rattle.bz_model.specs.declared.event.Verb.{Verb}
 use Rattle.bz_model.specs.declared.event.Verb.TheVariants.{Offer, Collect, Accept, Answer, Watch}
-use Rattle.bz_model.specs.Phases.{rides}
+use Rattle.bz_model.specs.Phases.{carries}
 use Rattle.bz_model.specs.Rows.{asks_widths, is_wide}
 use Rattle.bz_model.specs.Names.{External, NamesDiffer, number_from, port_name, port_number}
 use Rattle.bz_model.specs.Nets.{Wiring, State, Step, chan_in, opening, outside, phase_at, site_at}
 use Rattle.bz_model.specs.Hosts.{reply_to, wants_value}
 use Rattle.bz_model.specs.Runs.{Follows, Run}
 use Rattle.bz_model.specs.Widths.{Carries, FitsChan, Holds}
-use Rattle.bz_model.specs.Entries.{HasLine, HasWho, IsCarried, IsGiven, IsPhase, IsReply, IsValue, carries}
+use Rattle.bz_model.specs.Entries.{HasLine, HasWho, IsCarried, IsGiven, IsPhase, IsReply, IsValue, carries_at}
 use Rattle.bz_model.proofs.Fitting.{small-here}
 use Rattle.bz_model.proofs.Starts.{both-true, widest}
 use Rattle.bz_flat.specs.Wires.{WellWired}
@@ -64,13 +64,13 @@ port_of_name ports (suc i) differ from to =
 
 -- ---- a value stands where one is carried, and in range
 
-carries_is : (chans : List Chan) (k : ℕ) (mv : Move) → 0 < k → k ≤ length chans → carries chans k mv ≡ rides (chan_in chans k).kind mv
+carries_is : (chans : List Chan) (k : ℕ) (mv : Move) → 0 < k → k ≤ length chans → carries_at chans k mv ≡ carries (chan_in chans k).kind mv
 carries_is chans zero mv from to = absurd (omega arith)
 carries_is chans (suc i) mv from to =
     let none : Chan = record { kind = Sync; width = 0 } in
     let here = slice_get-get_or chans i none (omega arith) in
     let at : i ≡ suc i - 1 = omega arith in
-    ap (λ o. unwrap_or (option_map (λ (c : Chan). rides c.kind mv) o) false) here ∙ ap (λ j. rides (get_or chans j none).kind mv) at
+    ap (λ o. unwrap_or (option_map (λ (c : Chan). carries c.kind mv) o) false) here ∙ ap (λ j. carries (get_or chans j none).kind mv) at
 
 value_in : (b : Bool) (w v : ℕ) → w ≤ MAX_WIDTH → Carries b w (Some v) → IsValue v
 value_in b w v le c =
@@ -100,9 +100,9 @@ given_in Watch kind w (Some v) le c = absurd c
 
 phase_in_range : (kind : ChanKind) (w : ℕ) (phase : Phase) → w ≤ MAX_WIDTH → Holds kind w phase → IsPhase phase
 phase_in_range kind w Idle le h = tt
-phase_in_range kind w (Asked v) le h = some_in (rides kind move.Ask) w v le h
+phase_in_range kind w (Asked v) le h = some_in (carries kind move.Ask) w v le h
 phase_in_range kind w Taken le h = tt
-phase_in_range kind w (Replied v) le h = some_in (rides kind move.Reply) w v le h
+phase_in_range kind w (Replied v) le h = some_in (carries kind move.Reply) w v le h
 phase_in_range kind w Broken le h = tt
 
 reply_in_range : (verb : Verb) (phase : Phase) → IsPhase phase → IsReply (reply_to verb phase)
@@ -150,7 +150,7 @@ has_line w s (Fired who c p k mv value) next wired fits step by =
     let chans_few = wired.chans_few in
     let narrow = step_narrow w s c p k mv value next wired step in
     let carried = carries_step w s c p k mv value next wired fits step in
-    (by, omega (arith, sites_to, few), omega (arith, to, chans_few), subst (λ b. IsCarried b value) (sym (carries_is w.chans k mv from to)) (carried_in (rides (chan_in w.chans k).kind mv) (chan_in w.chans k).width value narrow carried))
+    (by, omega (arith, sites_to, few), omega (arith, to, chans_few), subst (λ b. IsCarried b value) (sym (carries_is w.chans k mv from to)) (carried_in (carries (chan_in w.chans k).kind mv) (chan_in w.chans k).width value narrow carried))
 has_line w s (Host who verb port value answer) next wired fits does by =
     let narrow = wired.ports_narrow port does.port_from does.port_to in
     let given = given_in verb (chan_in w.chans port).kind (chan_in w.chans port).width value narrow (command_fits w verb port value does.agreed) in

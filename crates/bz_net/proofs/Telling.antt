@@ -10,7 +10,7 @@ use Rattle.bz_model.specs.declared.channel.Move.{Move}
 use Rattle.bz_model.specs.declared.channel.Move.TheVariants.{Ask, Take, Reply, Got}
 use Rattle.bz_model.specs.declared.channel.Phase.{Phase}
 use Rattle.bz_model.specs.declared.channel.Phase.TheVariants.{Idle, Asked, Taken, Replied, Broken}
-use Rattle.bz_model.specs.Phases.{may_move, phase_after}
+use Rattle.bz_model.specs.Phases.{allows, phase_after}
 use Rattle.bz_model.specs.Heads.{Proc, Component, Head, IsHeadOn, CanMove, HasOneHead, Moves, Turns, opens}
 use Rattle.bz_model.specs.Nets.{Site, Wiring, IsPort, StepsAt, site_at, chan_at, passive_at}
 use Rattle.bz_model.specs.Runs.{CanStep, IsLowest}
@@ -27,7 +27,7 @@ use Rattle.bz_flat.specs.declared.flat.Ends.{Ends}
 use Rattle.bz_flat.specs.Wires.{WellWired, EndsOf, IsEnd, at_side, port_of_side, end_at, ends_in}
 
 -- a move of a port's side, that turns its port, is allowed exactly where it waits for nothing or what it waits for is here
-pub allowed : (phase : Phase) (mv : Move) (passive : Bool) → phase ≢ Broken → answers mv ≡ passive → opens mv ≡ not (is_open phase passive) → may_move phase mv ≡ is_free mv (is_here phase passive)
+pub allowed : (phase : Phase) (mv : Move) (passive : Bool) → phase ≢ Broken → answers mv ≡ passive → opens mv ≡ not (is_open phase passive) → allows phase mv ≡ is_free mv (is_here phase passive)
 allowed Idle Ask true u e f = absurd (cc)
 allowed Idle Ask false u e f = refl
 allowed (Asked v) Ask true u e f = absurd (cc)
@@ -76,7 +76,7 @@ words_pass c here from to none before q lt can =
 
 -- so a component that is told rightly can move where its bits say
 module _ (sites : List Site) (phases : List Phase) (comps : List Component) (heres : List (List ℕ)) (sighted : Sighted sites phases comps heres) (c : ℕ) (turning : IsTurning (comp_at comps c)) where
-  may : (p : ℕ) (port : IsPort sites c p) (h : Head) → IsHeadOn (comp_at comps c).proc p h → may_move (phase_in phases (chan_at sites c p)) h.move ≡ is_free h.move (flag_of (here_at heres c) p)
+  may : (p : ℕ) (port : IsPort sites c p) (h : Head) → IsHeadOn (comp_at comps c).proc p h → allows (phase_in phases (chan_at sites c p)) h.move ≡ is_free h.move (flag_of (here_at heres c) p)
   may p port h on =
       let k = chan_at sites c p in let phase = phase_in phases k in let passive = passive_at sites c p in
       let side : answers h.move ≡ passive = (sided-head (passive_at sites c) (comp_at comps c).proc.todo h on.0 (sighted.sides c port.comp_from port.comp_to)).0 ∙ ap (passive_at sites c) on.1 in

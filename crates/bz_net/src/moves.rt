@@ -2,7 +2,7 @@
 
 ghost use Rattle.std.specs.Prelude.{true, ◌≡◌, ◌≤◌, ◌<◌, ◌^◌, ℕ, suc, length, map, [], MatchOption, MatchBool, IfOk, IfSome};
 ghost use Rattle.bz_model.specs.Nets.{IsPort, StepsAt, chan_at, site_at};
-ghost use Rattle.bz_model.specs.Hosts.{reply_to, host_after, fits_side, received, refusal_at};
+ghost use Rattle.bz_model.specs.Hosts.{reply_to, host_after, received, refusal_at};
 ghost use Rattle.bz_flat.specs.Flats.{site_of};
 ghost use Rattle.bz_model.specs.Clashes.{is_mixer, IsAsked, Clashes};
 ghost use Rattle.bz_net.specs.Noted.{NotedEnd};
@@ -17,8 +17,8 @@ use crate::node::{Node, node_id, site_in};
 use crate::noted::Noted;
 use bz_arena::Arena;
 use bz_flat::{Ends, FlatComp};
-use bz_kind_table::is_passive;
-use bz_model::{ChanKind, Kind, Move, Names, NetError, Phase, Reply, Value, Verb, fits};
+use bz_kind_rows::is_passive;
+use bz_model::{Kind, Move, Names, NetError, Phase, Reply, Value, Verb};
 use std::alloc::{AllocError, Global};
 
 /// The channel at a component's port.
@@ -210,17 +210,6 @@ pub(crate) fn note_clash(
     }
 }
 
-/// Whether a host may give this command at a port that is declared passive or active.
-fn may_give(verb: Verb, passive: bool) -> bool
-    ensures { result ≡ fits_side verb passive }
-{
-    match verb {
-        Verb::Offer | Verb::Collect => passive,
-        Verb::Accept | Verb::Answer => !passive,
-        Verb::Watch => true,
-    }
-}
-
 /// The reply to a host command at a phase, and the phase after it.
 pub(crate) fn reply_to(verb: Verb, value: Option<Value>, phase: Phase) -> (Reply, Phase)
     ensures reply { result.0 ≡ reply_to verb phase }
@@ -263,17 +252,5 @@ pub(crate) fn refusal_of(
     let (Some(passive), Some(chan)) = (names.passive(port), names.chan(port)) else {
         unreachable!()
     };
-    if !may_give(verb, passive) {
-        return Some(NetError::WrongSide);
-    }
-    let wanted = matches!(
-        (verb, chan.kind),
-        (Verb::Offer, ChanKind::Push) | (Verb::Answer, ChanKind::Pull)
-    );
-    match (wanted, value) {
-        (true, None) => Some(NetError::ValueMissing),
-        (true, Some(value)) if !fits(chan.width, value) => Some(NetError::TooLarge),
-        (false, Some(_)) => Some(NetError::ValueUnwanted),
-        _ => None,
-    }
+    verb.refusal(passive, chan, value)
 }

@@ -3,6 +3,8 @@
 ghost use Rattle.std.specs.Prelude.{◌≡◌, ◌+◌, ◌≤◌, [], map, vec_len, IfOk, IfSome, MatchResult};
 ghost use Rattle.std.specs.List.{All};
 ghost use Rattle.std.specs.Vec.{vec_capacity};
+ghost use Rattle.bz_pool.specs.Crews.{AddsWork, EachPlayed};
+ghost use Rattle.bz_pool.specs.Pooled.{IsPlayed, WorkEndIs};
 
 use crate::work::{Gate, Job};
 use bz_locked::{NetLedger, Session, SharedNet, Worker};
@@ -15,16 +17,26 @@ use std::sync::ledger::Ledger;
 use std::thread;
 use std::thread::{Promise, PromisedHandle, Scope, Threads};
 
-/// What comes back is of this net, and of this session or worker.
+/// What comes back is of this net and of this session, which has played these commands.
 #[derive(Drop)]
-pub struct SeatOf<L: NetLedger>(Snapshot<SharedNet<L>>, Who);
+pub struct PlayOf<L: NetLedger>(Snapshot<SharedNet<L>>, Who, Snapshot<Vec<HostCmd>>);
 
-impl<L: NetLedger> Promise<(Session, End)> for SeatOf<L> {
-    ghost kept_by = { λ p r. (r.0.seat.table ≡ p.0.value.table) × (r.0.who ≡ p.1) };
+impl<L: NetLedger> Promise<(Session, End)> for PlayOf<L> {
+    ghost use Rattle.std.specs.Prelude.{◌≡◌};
+    ghost use Rattle.bz_pool.specs.Pooled.{IsPlayed};
+
+    ghost kept_by = { λ p r. (r.0.seat.table ≡ p.0.value.table) × (r.0.who ≡ p.1) × IsPlayed L.terms r.0.who p.2.value.items r.1 r.0.own };
 }
 
-impl<L: NetLedger> Promise<(Worker<L>, End)> for SeatOf<L> {
-    ghost kept_by = { λ p r. (r.0.seat.table ≡ p.0.value.table) × (r.0.who ≡ p.1) };
+/// What comes back is of this net and of this worker, which has ended for such a reason.
+#[derive(Drop)]
+pub struct WorkOf<L: NetLedger>(Snapshot<SharedNet<L>>, Who);
+
+impl<L: NetLedger> Promise<(Worker<L>, End)> for WorkOf<L> {
+    ghost use Rattle.std.specs.Prelude.{◌≡◌};
+    ghost use Rattle.bz_pool.specs.Pooled.{WorkEndIs};
+
+    ghost kept_by = { λ p r. (r.0.seat.table ≡ p.0.value.table) × (r.0.who ≡ p.1) × WorkEndIs L.terms r.1 };
 }
 
 fn session_thread<L: NetLedger, R: Wait>(
@@ -33,8 +45,9 @@ fn session_thread<L: NetLedger, R: Wait>(
     session: Session,
     words: Vec<HostCmd>,
 ) -> (Session, End)
-    requires { session.seat.table ≡ shared.now.table }
-    ensures { (result.0.seat.table ≡ shared.now.table) × (result.0.who ≡ session.who) }
+    requires { (session.seat.table ≡ shared.now.table) × (session.own ≡ []) }
+    ensures who { (result.0.seat.table ≡ shared.now.table) × (result.0.who ≡ session.who) }
+    ensures played { IsPlayed L.terms result.0.who words.items result.1 result.0.own }
 {
     let mut session = session;
     let end = play(shared, rt, &mut session, &words);
@@ -48,17 +61,17 @@ pub fn start_session<'s, E, L: NetLedger + Send + Sync, R: Wait + Sync>(
     shared: &'s SharedNet<L>,
     session: Session,
     words: Vec<HostCmd>,
-) -> Option<PromisedHandle<(Session, End), SeatOf<L>>>
-    requires { session.seat.table ≡ shared.now.table }
-    ensures { IfSome result (λ h. (h.promise.0.value ≡ shared.now) × (h.promise.1 ≡ session.who)) }
+) -> Option<PromisedHandle<(Session, End), PlayOf<L>>>
+    requires { (session.seat.table ≡ shared.now.table) × (session.own ≡ []) }
+    ensures { IfSome result (λ h. (h.promise.0.value ≡ shared.now) × (h.promise.1 ≡ session.who) × (h.promise.2.value ≡ words)) }
 {
     let who = session.who();
-    let promise = SeatOf(Snapshot::of(shared), who);
+    let promise = PlayOf(Snapshot::of(shared), who, Snapshot::of(&words));
     let started = scope.spawn_with(
         promise,
         move || -> (Session, End)
-            requires { session.seat.table ≡ shared.now.table }
-            ensures { (result.0.seat.table ≡ shared.entry.now.table) × (result.0.who ≡ session.who) }
+            requires { (session.seat.table ≡ shared.now.table) × (session.own ≡ []) }
+            ensures { (result.0.seat.table ≡ shared.entry.now.table) × (result.0.who ≡ session.who) × IsPlayed L.terms result.0.who words.items result.1 result.0.own }
         { session_thread(shared, rt, session, words) },
     );
     started.ok()
@@ -71,7 +84,8 @@ fn worker_thread<L: NetLedger, G: Gate, R: Wait>(
     job: Job<L>,
 ) -> (Worker<L>, End)
     requires { job.worker.seat.table ≡ shared.now.table }
-    ensures { (result.0.seat.table ≡ shared.now.table) × (result.0.who ≡ job.worker.who) }
+    ensures who { (result.0.seat.table ≡ shared.now.table) × (result.0.who ≡ job.worker.who) }
+    ensures end { WorkEndIs L.terms result.1 }
 {
     let mut job = job;
     let end = job.work(shared, rt, gate);
@@ -90,17 +104,17 @@ pub fn start_worker<'s, E, L: NetLedger + Send + Sync, G: Gate + Sync, R: Wait +
     shared: &'s SharedNet<L>,
     gate: &'s G,
     job: Job<L>,
-) -> Option<PromisedHandle<(Worker<L>, End), SeatOf<L>>>
+) -> Option<PromisedHandle<(Worker<L>, End), WorkOf<L>>>
     requires { job.worker.seat.table ≡ shared.now.table }
     ensures { IfSome result (λ h. (h.promise.0.value ≡ shared.now) × (h.promise.1 ≡ job.worker.who)) }
 {
     let who = job.worker.who();
-    let promise = SeatOf(Snapshot::of(shared), who);
+    let promise = WorkOf(Snapshot::of(shared), who);
     let started = scope.spawn_with(
         promise,
         move || -> (Worker<L>, End)
             requires { job.worker.seat.table ≡ shared.now.table }
-            ensures { (result.0.seat.table ≡ shared.entry.now.table) × (result.0.who ≡ job.worker.who) }
+            ensures { (result.0.seat.table ≡ shared.entry.now.table) × (result.0.who ≡ job.worker.who) × WorkEndIs L.terms result.1 }
         { worker_thread(shared, rt, gate, job) },
     );
     started.ok()
@@ -110,15 +124,17 @@ pub fn start_worker<'s, E, L: NetLedger + Send + Sync, G: Gate + Sync, R: Wait +
 pub fn join_sessions<L: NetLedger, R: Threads>(
     rt: &R,
     shared: &SharedNet<L>,
-    running: Vec<PromisedHandle<(Session, End), SeatOf<L>>>,
+    running: Vec<PromisedHandle<(Session, End), PlayOf<L>>>,
     sessions: &mut Vec<Session>,
     ends: &mut Vec<End>,
 )
     requires running { All (λ h. h.promise.0.value ≡ shared.now) running.items }
-    requires room { (sessions.old.items ≡ []) × (vec_len running ≤ vec_capacity sessions.old) × (vec_len ends.old + vec_len running ≤ vec_capacity ends.old) }
+    requires sessions { (sessions.old.items ≡ []) × (vec_len running ≤ vec_capacity sessions.old) }
+    requires ends { (ends.old.items ≡ []) × (vec_len running ≤ vec_capacity ends.old) }
     ensures who { map (λ s. s.who) sessions.new.items ≡ map (λ h. h.promise.1) running.items }
     ensures sessions { (vec_len sessions.new ≡ vec_len running) × All (λ s. s.seat.table ≡ shared.now.table) sessions.new.items }
-    ensures ends { (vec_len ends.new ≡ vec_len ends.old + vec_len running) × (vec_capacity ends.new ≡ vec_capacity ends.old) }
+    ensures ends { (vec_len ends.new ≡ vec_len running) × (vec_capacity ends.new ≡ vec_capacity ends.old) }
+    ensures played { EachPlayed L.terms (map (λ h. h.promise.2.value) running.items) sessions.new.items ends.new.items }
 {
     for handle in running {
         let (session, end) = handle.join(rt);
@@ -131,7 +147,7 @@ pub fn join_sessions<L: NetLedger, R: Threads>(
 pub fn join_workers<L: NetLedger, R: Threads>(
     rt: &R,
     shared: &SharedNet<L>,
-    running: Vec<PromisedHandle<(Worker<L>, End), SeatOf<L>>>,
+    running: Vec<PromisedHandle<(Worker<L>, End), WorkOf<L>>>,
     workers: &mut Vec<Worker<L>>,
     ends: &mut Vec<End>,
 )
@@ -139,7 +155,7 @@ pub fn join_workers<L: NetLedger, R: Threads>(
     requires room { (workers.old.items ≡ []) × (vec_len running ≤ vec_capacity workers.old) × (vec_len ends.old + vec_len running ≤ vec_capacity ends.old) }
     ensures who { map (λ w. w.who) workers.new.items ≡ map (λ h. h.promise.1) running.items }
     ensures workers { (vec_len workers.new ≡ vec_len running) × All (λ w. w.seat.table ≡ shared.now.table) workers.new.items }
-    ensures ends { vec_len ends.new ≡ vec_len ends.old + vec_len running }
+    ensures ends { AddsWork L.terms (vec_len running) ends.old.items ends.new.items }
 {
     for handle in running {
         let (worker, end) = handle.join(rt);

@@ -1,4 +1,4 @@
-//! Sessions and workers on threads of their own. A worker's hints are those of `bz_hints`, which it passes on.
+//! Sessions and workers on threads of their own. A worker's hints are those of `bz_pool_hints`, which it passes on.
 #![tactic(auto)]
 
 mod crew;
@@ -6,6 +6,6 @@ mod pool;
 mod raids;
 mod work;
 
-pub use bz_hints::{FIRST_CAPACITY, HintOwner, HintPass, HintThief, Memory, Stolen, hints};
+pub use bz_pool_hints::{FIRST_CAPACITY, HintOwner, HintPass, HintThief, Memory, Stolen, hints};
 pub use pool::{PoolError, run_pool};
 pub use work::Gate;

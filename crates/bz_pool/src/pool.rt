@@ -1,12 +1,15 @@
 //! The pool: a net, its sessions and its workers, from start to end.
 
-ghost use Rattle.std.specs.Prelude.{◌≡◌, ◌+◌, ◌≤◌, ◌<◌, [], length, map, vec_len, IfOk};
+ghost use Rattle.std.specs.Prelude.{◌≡◌, ◌+◌, ◌≤◌, ◌<◌, [], length, map, vec_len, IfErr, IfOk, MatchResult};
 ghost use Rattle.std.specs.List.{All};
 ghost use Rattle.std.specs.Vec.{vec_capacity};
 ghost use Rattle.bz_locked.specs.Closing.{Gathers, Agrees};
-ghost use Rattle.bz_pool.specs.Pooled.{IsPooled, hosts, hands};
+ghost use Rattle.bz_locked.specs.Terms.{terms};
+ghost use Rattle.bz_locked.specs.declared.closing.Closed.{Closed};
+ghost use Rattle.bz_pool.specs.Crews.{HavePlayed, TellsDiscord};
+ghost use Rattle.bz_pool.specs.Pooled.{ArePlayed, IsPooled, RefusesPool, hosts, hands};
 
-use crate::crew::{SeatOf, join_sessions, join_workers, start_session, start_worker};
+use crate::crew::{PlayOf, WorkOf, join_sessions, join_workers, start_session, start_worker};
 use crate::raids::{all_raids, decks};
 use crate::work::{Gate, Job};
 use bz_locked::{CloseError, Closed, NetLedger, Session, SharedNet, Worker};
@@ -29,6 +32,13 @@ pub enum PoolError {
     #[error("F3 Memory")]
     Memory,
     #[error("P3 NoThread")]
+    NoThread,
+}
+
+// What was wanting before the sessions and workers could play.
+#[derive(Clone, Copy)]
+enum Lack {
+    Memory,
     NoThread,
 }
 
@@ -67,7 +77,7 @@ fn jobs<L: NetLedger>(
     Ok(jobs)
 }
 
-// Starts the sessions' threads, or hands back what could be started.
+// Starts the sessions' threads, each with its list.
 fn start_sessions<'s, E, L: NetLedger + Send + Sync, R: Wait + Sync>(
     scope: &Scope<'s, E>,
     rt: &'s R,
@@ -75,22 +85,23 @@ fn start_sessions<'s, E, L: NetLedger + Send + Sync, R: Wait + Sync>(
     shared: &'s SharedNet<L>,
     sessions: Vec<Session>,
     lists: Vec<Vec<HostCmd>>,
-) -> Result<Vec<PromisedHandle<(Session, End), SeatOf<L>>>, PoolError>
-    requires { All (λ s. s.seat.table ≡ shared.now.table) sessions.items }
+) -> Result<Vec<PromisedHandle<(Session, End), PlayOf<L>>>, Lack>
+    requires sessions { All (λ s. (s.seat.table ≡ shared.now.table) × (s.own ≡ [])) sessions.items }
+    requires lists { vec_len lists ≡ vec_len sessions }
     ensures running { IfOk result (λ v. (vec_len v ≡ vec_len sessions) × All (λ h. h.promise.0.value ≡ shared.now) v.items) }
     ensures who { IfOk result (λ v. map (λ h. h.promise.1) v.items ≡ map (λ s. s.who) sessions.items) }
+    ensures lists { IfOk result (λ v. map (λ h. h.promise.2.value) v.items ≡ lists.items) }
 {
     let mut lists = lists.into_iter();
     let Ok(mut running) = Vec::with_capacity(alloc, sessions.len()) else {
-        return Err(PoolError::Memory);
+        return Err(Lack::Memory);
     };
     for session in sessions {
-        let list = match lists.next() {
-            Some(list) => list,
-            None => Vec::new(alloc),
+        let Some(list) = lists.next() else {
+            unreachable!()
         };
         let Some(handle) = start_session(scope, rt, shared, session, list) else {
-            return Err(PoolError::NoThread);
+            return Err(Lack::NoThread);
         };
         running.push_reserved(handle);
     }
@@ -105,17 +116,17 @@ fn start_workers<'s, E, L: NetLedger + Send + Sync, G: Gate + Sync, R: Wait + Sy
     shared: &'s SharedNet<L>,
     gate: &'s G,
     jobs: Vec<Job<L>>,
-) -> Result<Vec<PromisedHandle<(Worker<L>, End), SeatOf<L>>>, PoolError>
+) -> Result<Vec<PromisedHandle<(Worker<L>, End), WorkOf<L>>>, Lack>
     requires { All (λ j. j.worker.seat.table ≡ shared.now.table) jobs.items }
     ensures running { IfOk result (λ v. (vec_len v ≡ vec_len jobs) × All (λ h. h.promise.0.value ≡ shared.now) v.items) }
     ensures who { IfOk result (λ v. map (λ h. h.promise.1) v.items ≡ map (λ j. j.worker.who) jobs.items) }
 {
     let Ok(mut running) = Vec::with_capacity(alloc, jobs.len()) else {
-        return Err(PoolError::Memory);
+        return Err(Lack::Memory);
     };
     for job in jobs {
         let Some(handle) = start_worker(scope, rt, shared, gate, job) else {
-            return Err(PoolError::NoThread);
+            return Err(Lack::NoThread);
         };
         running.push_reserved(handle);
     }
@@ -134,16 +145,18 @@ fn start_all<'s, E, L: NetLedger + Send + Sync, G: Gate + Sync, R: Wait + Sync>(
     jobs: Vec<Job<L>>,
 ) -> Result<
     (
-        Vec<PromisedHandle<(Session, End), SeatOf<L>>>,
-        Vec<PromisedHandle<(Worker<L>, End), SeatOf<L>>>,
+        Vec<PromisedHandle<(Session, End), PlayOf<L>>>,
+        Vec<PromisedHandle<(Worker<L>, End), WorkOf<L>>>,
     ),
-    PoolError,
+    Lack,
 >
-    requires sessions { All (λ s. s.seat.table ≡ shared.now.table) sessions.items }
+    requires sessions { All (λ s. (s.seat.table ≡ shared.now.table) × (s.own ≡ [])) sessions.items }
+    requires lists { vec_len lists ≡ vec_len sessions }
     requires jobs { All (λ j. j.worker.seat.table ≡ shared.now.table) jobs.items }
     ensures sessions { IfOk result (λ r. (vec_len r.0 ≡ vec_len sessions) × All (λ h. h.promise.0.value ≡ shared.now) r.0.items) }
     ensures workers { IfOk result (λ r. (vec_len r.1 ≡ vec_len jobs) × All (λ h. h.promise.0.value ≡ shared.now) r.1.items) }
     ensures who { IfOk result (λ r. (map (λ h. h.promise.1) r.0.items ≡ map (λ s. s.who) sessions.items) × (map (λ h. h.promise.1) r.1.items ≡ map (λ j. j.worker.who) jobs.items)) }
+    ensures lists { IfOk result (λ r. map (λ h. h.promise.2.value) r.0.items ≡ lists.items) }
 {
     let hosts = match start_sessions(scope, rt, alloc, shared, sessions, lists) {
         Ok(hosts) => hosts,
@@ -162,6 +175,7 @@ fn start_all<'s, E, L: NetLedger + Send + Sync, G: Gate + Sync, R: Wait + Sync>(
 }
 
 // Runs all sessions and workers to their end.
+#[tactic(auto, using(crate::proofs::Played::have_played))]
 fn run_threads<'s, E, L: NetLedger + Send + Sync, G: Gate + Sync, R: Threads + Wait + Sync>(
     scope: &Scope<'s, E>,
     rt: &'s R,
@@ -171,25 +185,26 @@ fn run_threads<'s, E, L: NetLedger + Send + Sync, G: Gate + Sync, R: Threads + W
     sessions: Vec<Session>,
     lists: Vec<Vec<HostCmd>>,
     workers: Vec<Worker<L>>,
-) -> Result<Crew<L>, PoolError>
-    requires sessions { All (λ s. s.seat.table ≡ shared.now.table) sessions.items }
+) -> Result<Crew<L>, Lack>
+    requires sessions { All (λ s. (s.seat.table ≡ shared.now.table) × (s.own ≡ [])) sessions.items }
+    requires lists { vec_len lists ≡ vec_len sessions }
     requires workers { All (λ w. w.seat.table ≡ shared.now.table) workers.items }
     ensures sessions { IfOk result (λ c. (vec_len c.sessions ≡ vec_len sessions) × All (λ s. s.seat.table ≡ shared.now.table) c.sessions.items) }
     ensures workers { IfOk result (λ c. (vec_len c.workers ≡ vec_len workers) × All (λ w. w.seat.table ≡ shared.now.table) c.workers.items) }
-    ensures ends { IfOk result (λ c. vec_len c.ends ≡ vec_len sessions + vec_len workers) }
+    ensures played { IfOk result (λ c. HavePlayed L.terms lists.items c.sessions.items (vec_len workers) c.ends.items) }
     ensures who { IfOk result (λ c. (map (λ s. s.who) c.sessions.items ≡ map (λ s. s.who) sessions.items) × (map (λ w. w.who) c.workers.items ≡ map (λ w. w.who) workers.items)) }
 {
     let Ok(mut back) = Vec::with_capacity(alloc, sessions.len()) else {
-        return Err(PoolError::Memory);
+        return Err(Lack::Memory);
     };
     let Ok(mut crew) = Vec::with_capacity(alloc, workers.len()) else {
-        return Err(PoolError::Memory);
+        return Err(Lack::Memory);
     };
     let Ok(mut ends) = Vec::with_capacity(alloc, sessions.len() + workers.len()) else {
-        return Err(PoolError::Memory);
+        return Err(Lack::Memory);
     };
     let Ok(jobs) = jobs(alloc, shared, workers) else {
-        return Err(PoolError::Memory);
+        return Err(Lack::Memory);
     };
     let (hosts, hands) = start_all(scope, rt, alloc, shared, gate, sessions, lists, jobs)?;
     join_sessions(rt, shared, hosts, &mut back, &mut ends);
@@ -210,27 +225,48 @@ fn in_scope<'x, L: NetLedger + Send + Sync, G: Gate + Sync, R: Threads + Wait + 
     sessions: Vec<Session>,
     lists: Vec<Vec<HostCmd>>,
     workers: Vec<Worker<L>>,
-) -> Result<Crew<L>, PoolError>
-    requires sessions { All (λ s. s.seat.table ≡ shared.now.table) sessions.items }
+) -> Result<Crew<L>, Lack>
+    requires sessions { All (λ s. (s.seat.table ≡ shared.now.table) × (s.own ≡ [])) sessions.items }
+    requires lists { vec_len lists ≡ vec_len sessions }
     requires workers { All (λ w. w.seat.table ≡ shared.now.table) workers.items }
     ensures sessions { IfOk result (λ c. (vec_len c.sessions ≡ vec_len sessions) × All (λ s. s.seat.table ≡ shared.now.table) c.sessions.items) }
     ensures workers { IfOk result (λ c. (vec_len c.workers ≡ vec_len workers) × All (λ w. w.seat.table ≡ shared.now.table) c.workers.items) }
-    ensures ends { IfOk result (λ c. vec_len c.ends ≡ vec_len sessions + vec_len workers) }
+    ensures played { IfOk result (λ c. HavePlayed L.terms lists.items c.sessions.items (vec_len workers) c.ends.items) }
     ensures who { IfOk result (λ c. (map (λ s. s.who) c.sessions.items ≡ map (λ s. s.who) sessions.items) × (map (λ w. w.who) c.workers.items ≡ map (λ w. w.who) workers.items)) }
 {
     thread::scope(
         thread::scope_env(),
         rt,
-        |scope| -> Result<Crew<L>, PoolError>
-            requires { All (λ s. s.seat.table ≡ shared.now.table) sessions.items × All (λ w. w.seat.table ≡ shared.now.table) workers.items }
+        |scope| -> Result<Crew<L>, Lack>
+            requires { All (λ s. (s.seat.table ≡ shared.now.table) × (s.own ≡ [])) sessions.items × (vec_len lists ≡ vec_len sessions) × All (λ w. w.seat.table ≡ shared.now.table) workers.items }
             ensures { IfOk result (λ c. (vec_len c.sessions ≡ vec_len sessions) × All (λ s. s.seat.table ≡ shared.entry.now.table) c.sessions.items × (vec_len c.workers ≡ vec_len workers) × All (λ w. w.seat.table ≡ shared.entry.now.table) c.workers.items
                 × (map (λ s. s.who) c.sessions.items ≡ map (λ s. s.who) sessions.items) × (map (λ w. w.who) c.workers.items ≡ map (λ w. w.who) workers.items)
-                × (vec_len c.ends ≡ vec_len sessions + vec_len workers)) }
+                × HavePlayed L.terms lists.items c.sessions.items (vec_len workers) c.ends.items) }
         { run_threads(scope, rt, alloc, shared, gate, sessions, lists, workers) },
     )
 }
 
-// The same for any ledger with a part for each worker.
+// The net at the end, with the ends; or the first place where the parts of it differ, which is all that can be refused here.
+fn close<L: NetLedger>(shared: SharedNet<L>, crew: Crew<L>) -> Result<(Closed, Vec<End>), PoolError>
+    requires counts { (vec_len crew.sessions ≡ shared.sessions) × (vec_len crew.workers ≡ shared.workers) × (shared.workers ≡ L.parts) }
+    requires seats { All (λ s. s.seat.table ≡ shared.table) crew.sessions.items × All (λ w. w.seat.table ≡ shared.table) crew.workers.items }
+    ensures gathers { IfOk result (λ r. Gathers L.terms.wiring L.terms.fuel crew.sessions.items crew.workers.items r.0) }
+    ensures agrees { IfOk result (λ r. Agrees crew.sessions.items crew.workers.items r.0) }
+    ensures ends { IfOk result (λ r. r.1 ≡ crew.ends) }
+    ensures discord { IfErr result (λ e. (c : Closed) × Gathers L.terms.wiring L.terms.fuel crew.sessions.items crew.workers.items c × TellsDiscord crew.sessions.items crew.workers.items c e) }
+{
+    let Crew {
+        sessions,
+        workers,
+        ends,
+    } = crew;
+    match shared.close(sessions, workers) {
+        Ok(closed) => Ok((closed, ends)),
+        Err((_, error)) => Err(PoolError::Close(error)),
+    }
+}
+
+// A pool of any ledger with a part for each worker.
 fn pool<L: NetLedger + Send + Sync, G: Gate + Sync, R: Threads + Wait + Sync>(
     rt: &R,
     alloc: Global,
@@ -243,31 +279,28 @@ fn pool<L: NetLedger + Send + Sync, G: Gate + Sync, R: Threads + Wait + Sync>(
 ) -> Result<(Closed, Vec<End>), PoolError>
     requires ledger { (blank.name ≡ L.name) × (blank.parts ≡ L.parts) × (L.parts ≡ workers) }
     requires counts { (1 ≤ vec_len lists) × (vec_len lists ≤ 16) × (1 ≤ workers) × (workers ≤ 8) }
-    requires opening { (net.wiring ≡ L.wiring) × (fuel ≡ L.fuel) }
+    requires opening { (net.wiring ≡ L.terms.wiring) × (fuel ≡ L.terms.fuel) × (vec_len lists ≡ L.terms.sessions) }
     requires unused { net.journal ≡ [] }
     ensures pooled { IfOk result (λ r. IsPooled net.wiring fuel (vec_len lists) workers r.0) }
+    ensures played { IfOk result (λ r. ArePlayed (terms net.wiring fuel (vec_len lists)) lists.items workers r.0.net.journal r.1.items) }
     ensures ends { IfOk result (λ r. vec_len r.1 ≡ vec_len lists + workers) }
+    ensures refused { IfErr result (RefusesPool net.wiring fuel (vec_len lists) workers) }
 {
     let made = SharedNet::<L>::new(alloc, blank, net, fuel, lists.len() as u8, workers);
     let (net, sessions, crew) = match made {
         Ok(made) => made,
         Err(error) => return Err(PoolError::Close(error)),
     };
-    let crew = in_scope(rt, alloc, &net, gate, sessions, lists, crew);
-    let Crew {
-        sessions,
-        workers,
-        ends,
-    } = crew?;
-    match net.close(sessions, workers) {
-        Ok(closed) => Ok((closed, ends)),
-        Err((_, error)) => Err(PoolError::Close(error)),
+    match in_scope(rt, alloc, &net, gate, sessions, lists, crew) {
+        Ok(crew) => close(net, crew),
+        Err(Lack::Memory) => Err(PoolError::Memory),
+        Err(Lack::NoThread) => Err(PoolError::NoThread),
     }
 }
 
 /// Plays a list of commands for each session, beside this many workers, with a thread for each of both. The ends are those of
-/// the sessions, then of the workers. Before memory or a thread that is wanting is answered, the threads that run are stopped
-/// and joined.
+/// the sessions, in the order of the lists, then of the workers. Before memory or a thread that is wanting is answered, the
+/// threads that run are stopped and joined.
 pub fn run_pool<G: Gate + Sync, R: Threads + Wait + Sync>(
     rt: &R,
     alloc: Global,
@@ -280,7 +313,9 @@ pub fn run_pool<G: Gate + Sync, R: Threads + Wait + Sync>(
     requires counts { (1 ≤ vec_len lists) × (vec_len lists ≤ 16) × (1 ≤ workers) × (workers ≤ 8) }
     requires unused { net.journal ≡ [] }
     ensures pooled { IfOk result (λ r. IsPooled net.wiring fuel (vec_len lists) workers r.0) }
+    ensures played { IfOk result (λ r. ArePlayed (terms net.wiring fuel (vec_len lists)) lists.items workers r.0.net.journal r.1.items) }
     ensures ends { IfOk result (λ r. vec_len r.1 ≡ vec_len lists + workers) }
+    ensures refused { IfErr result (RefusesPool net.wiring fuel (vec_len lists) workers) }
 {
     pool::<Brand, G, R>(
         rt,

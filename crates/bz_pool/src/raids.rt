@@ -1,9 +1,9 @@
 //! What one worker steals with.
 
 ghost use Rattle.std.specs.Prelude.{◌≡◌, IfOk};
-ghost use Rattle.bz_hints.specs.Hints.{Passed};
+ghost use Rattle.bz_pool_hints.specs.Hints.{Passed};
 
-use bz_hints::{HintOwner, HintPass, HintThief, Stolen, hints};
+use bz_pool_hints::{HintOwner, HintPass, HintThief, Stolen, hints};
 use std::alloc::{AllocError, Global};
 use std::marker::Model;
 
@@ -16,7 +16,7 @@ pub struct Raid {
 
 impl Model for Raid {
     ghost use Rattle.std.specs.Prelude.{◌≡◌};
-    ghost use Rattle.bz_hints.specs.Hints.{Passed};
+    ghost use Rattle.bz_pool_hints.specs.Hints.{Passed};
 
     ghost Value = { Passed };
 
@@ -63,7 +63,7 @@ pub struct Deck {
 
 impl Model for Deck {
     ghost use Rattle.std.specs.Prelude.{◌≡◌};
-    ghost use Rattle.bz_hints.specs.Hints.{Owned};
+    ghost use Rattle.bz_pool_hints.specs.Hints.{Owned};
 
     ghost Value = { Owned };
 

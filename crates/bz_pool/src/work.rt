@@ -1,12 +1,13 @@
 //! What a worker's thread does.
 
-ghost use Rattle.std.specs.Prelude.{◌≡◌, OnOk};
+ghost use Rattle.std.specs.Prelude.{◌≡◌, ◌≢◌, IfErr, IfOk, OnOk};
+ghost use Rattle.bz_pool.specs.Pooled.{WorkEndIs};
 
 use crate::raids::Raid;
-use bz_hints::HintOwner;
 use bz_locked::{FireError, NetLedger, SharedNet, Work, Worker};
 use bz_model::{NetError, Who};
 use bz_net::RestReply;
+use bz_pool_hints::HintOwner;
 use bz_session::{End, SessionError};
 use std::sync::Wait;
 use std::sync::ledger::Ledger;
@@ -30,7 +31,8 @@ impl<L: NetLedger> Job<L> {
     /// Fires components for as long as there is work.
     pub fn work<G: Gate, R: Wait>(&mut self, shared: &SharedNet<L>, rt: &R, gate: &G) -> End
         requires { self.old.worker.seat.table ≡ shared.now.table }
-        ensures { (self.new.worker.who ≡ self.old.worker.who) × (self.new.worker.seat.table ≡ self.old.worker.seat.table) }
+        ensures who { (self.new.worker.who ≡ self.old.worker.who) × (self.new.worker.seat.table ≡ self.old.worker.seat.table) }
+        ensures end { WorkEndIs L.terms result }
     {
         match self.work_on(shared, rt, gate) {
             Ok(end) => end,
@@ -46,7 +48,8 @@ impl<L: NetLedger> Job<L> {
         gate: &G,
     ) -> Result<End, NetError>
         requires { self.old.worker.seat.table ≡ shared.now.table }
-        ensures { (self.new.worker.who ≡ self.old.worker.who) × (self.new.worker.seat.table ≡ self.old.worker.seat.table) }
+        ensures who { (self.new.worker.who ≡ self.old.worker.who) × (self.new.worker.seat.table ≡ self.old.worker.seat.table) }
+        ensures end { IfOk result (WorkEndIs L.terms) }
     {
         for _ in rt.forever() {
             let goes_on = match self.next_comp(shared, rt)? {
@@ -88,7 +91,8 @@ impl<L: NetLedger> Job<L> {
         comp: u32,
     ) -> Result<bool, NetError>
         requires { self.old.worker.seat.table ≡ shared.now.table }
-        ensures { (self.new.worker.who ≡ self.old.worker.who) × (self.new.worker.seat.table ≡ self.old.worker.seat.table) }
+        ensures who { (self.new.worker.who ≡ self.old.worker.who) × (self.new.worker.seat.table ≡ self.old.worker.seat.table) }
+        ensures stale { IfErr result (λ e. e ≢ NetError.NotEnabled) }
     {
         let number = match self.worker.who() {
             Who::Worker(number) | Who::Host(number) => number,

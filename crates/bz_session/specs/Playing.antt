@@ -4,9 +4,9 @@ use Rattle.bz_model.specs.declared.event.Who.{Who}
 use Rattle.bz_model.specs.declared.event.Reply.{Reply}
 use Rattle.bz_model.specs.declared.event.HostCmd.{HostCmd}
 use Rattle.bz_model.specs.declared.event.Entry.{Entry}
-use Rattle.bz_model.specs.Nets.{Wiring}
 use Rattle.bz_net.specs.Answering.{is_answer}
 use Rattle.bz_locked.specs.Commands.{IsEntryOf, RefusesPoll}
+use Rattle.bz_locked.specs.Terms.{Terms}
 use Rattle.bz_locked.specs.Working.{WasAdded, WasTold, WasRefused}
 use Rattle.bz_locked.specs.declared.locked.Work.TheVariants as work
 use Rattle.bz_words.specs.declared.words.SessionError.TheVariants.{BadWord, Event, Memory}
@@ -30,32 +30,32 @@ NamesWord (Stopped word) count = (0 < word) × (word ≤ count)
 NamesWord (Refused word e) count = (0 < word) × (word ≤ count)
 
 -- the entry of a command that was answered, which was added to the journal
-abbrev pub IsAnswerTo : Wiring → Who → HostCmd → Entry → Type 0
-IsAnswerTo w who cmd entry = (reply : Reply) × (is_answer reply ≡ true) × IsEntryOf w.ports who cmd reply entry × WasAdded w entry
+abbrev pub IsAnswerTo : Terms → Who → HostCmd → Entry → Type 0
+IsAnswerTo t who cmd entry = (reply : Reply) × (is_answer reply ≡ true) × IsEntryOf t.wiring.ports who cmd reply entry × ((len : ℕ) × WasAdded t entry len)
 
 -- an entry for each command, in order
-abbrev pub AreAnswers : Wiring → Who → List HostCmd → List Entry → Type 0
-AreAnswers w who [] [] = ⊤
-AreAnswers w who [] (e ∷ es) = ⊥
-AreAnswers w who (cmd ∷ cmds) [] = ⊥
-AreAnswers w who (cmd ∷ cmds) (e ∷ es) = IsAnswerTo w who cmd e × AreAnswers w who cmds es
+abbrev pub AreAnswers : Terms → Who → List HostCmd → List Entry → Type 0
+AreAnswers t who [] [] = ⊤
+AreAnswers t who [] (e ∷ es) = ⊥
+AreAnswers t who (cmd ∷ cmds) [] = ⊥
+AreAnswers t who (cmd ∷ cmds) (e ∷ es) = IsAnswerTo t who cmd e × AreAnswers t who cmds es
 
 -- the record has grown by an entry for each command before the end, in order
-pub record Played (w : Wiring) (who : Who) (words : List HostCmd) (end : End) (old new : List Entry) : Type 0 where
+pub record Played (t : Terms) (who : Who) (words : List HostCmd) (end : End) (old new : List Entry) : Type 0 where
   pub entries : List Entry
   pub grown : new ≡ old ++ entries
-  pub answers : AreAnswers w who (take (answered end (length words)) words) entries
+  pub answers : AreAnswers t who (take (answered end (length words)) words) entries
 
 -- what was found at the word that is named
 abbrev pub Found : (HostCmd → Type 0) → List HostCmd → ℕ → Type 0
 Found P words word = (cmd : HostCmd) × (slice_get words (word - 1) ≡ Some cmd) × P cmd
 
 -- Why the play ended: at the word named the session was told so, or its command was refused.
-abbrev pub EndIs : Wiring → List HostCmd → End → Type 0
-EndIs w words Done = ⊤
-EndIs w words (Resting word) = Found (λ cmd. WasTold w cmd work.Resting) words word
-EndIs w words (Spent word) = Found (λ cmd. WasTold w cmd work.Spent) words word
-EndIs w words (Stopped word) = Found (λ cmd. WasTold w cmd work.Stopped) words word
-EndIs w words (Refused word (Event e)) = Found (λ cmd. WasRefused w (λ net e. RefusesPoll net cmd e) e) words word
-EndIs w words (Refused word (BadWord at)) = ⊥
-EndIs w words (Refused word Memory) = ⊥
+abbrev pub EndIs : Terms → List HostCmd → End → Type 0
+EndIs t words Done = ⊤
+EndIs t words (Resting word) = Found (λ cmd. WasTold t cmd work.Resting) words word
+EndIs t words (Spent word) = Found (λ cmd. WasTold t cmd work.Spent) words word
+EndIs t words (Stopped word) = Found (λ cmd. WasTold t cmd work.Stopped) words word
+EndIs t words (Refused word (Event e)) = Found (λ cmd. WasRefused t (λ net e. RefusesPoll net cmd e) e) words word
+EndIs t words (Refused word (BadWord at)) = ⊥
+EndIs t words (Refused word Memory) = ⊥

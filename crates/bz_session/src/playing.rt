@@ -28,8 +28,8 @@ pub fn play<L: NetLedger, R: Wait>(
 ) -> End
     requires { session.old.seat.table ≡ shared.now.table }
     ensures who { (session.new.who ≡ session.old.who) × (session.new.seat.table ≡ session.old.seat.table) }
-    ensures record { Played L.wiring session.old.who words.now result session.old.own session.new.own }
-    ensures why { EndIs L.wiring words.now result }
+    ensures record { Played L.terms session.old.who words.now result session.old.own session.new.own }
+    ensures why { EndIs L.terms words.now result }
     ensures word { NamesWord result (length words.now) }
 {
     let end = play_words(shared, rt, session, words);
@@ -45,8 +45,8 @@ fn play_words<L: NetLedger, R: Wait>(
 ) -> End
     requires { session.old.seat.table ≡ shared.now.table }
     ensures who { (session.new.who ≡ session.old.who) × (session.new.seat.table ≡ session.old.seat.table) }
-    ensures record { Played L.wiring session.old.who words.now result session.old.own session.new.own }
-    ensures why { EndIs L.wiring words.now result }
+    ensures record { Played L.terms session.old.who words.now result session.old.own session.new.own }
+    ensures why { EndIs L.terms words.now result }
     ensures word { NamesWord result (length words.now) }
 {
     let mut word = 0;

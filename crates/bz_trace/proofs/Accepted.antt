@@ -5,9 +5,9 @@ use Rattle.bz_model.specs.declared.event.Entry.{Entry}
 use Rattle.bz_model.specs.Nets.{Wiring, State, opening}
 use Rattle.bz_model.specs.Traces.{IsTrace, trace_text_1}
 use Rattle.bz_net.proofs.Played.{IsBy}
-use Rattle.bz_lines.specs.declared.text.TheConstants.{MAX_ENTRIES}
-use Rattle.bz_lines.specs.declared.text.Version.TheVariants.{One, Two}
-use Rattle.bz_lines.specs.Texts.{lines}
+use Rattle.bz_trace_text.specs.declared.text.TheConstants.{MAX_ENTRIES}
+use Rattle.bz_trace_text.specs.declared.text.Version.TheVariants.{One, Two}
+use Rattle.bz_trace_text.specs.Texts.{lines}
 use Rattle.bz_trace.specs.Verdicts.{IsRunText}
 
 pub accepted : (w : Wiring) (es : List Entry) (last : State) (text : List ℕ) → IsBy w (opening w) es last → length es ≤ MAX_ENTRIES → IsTrace w es text → IsRunText w text

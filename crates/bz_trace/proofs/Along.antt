@@ -13,23 +13,25 @@ use Rattle.bz_model.specs.Runs.{Run, Follows}
 use Rattle.bz_model.specs.Traces.{line_text}
 use Rattle.bz_net.specs.Progress.{Progress, IsToldBy}
 use Rattle.bz_net.specs.Simulation.{Adds}
-use Rattle.bz_lines.specs.declared.text.TheConstants.{MAX_ENTRIES}
-use Rattle.bz_lines.specs.declared.text.Version.{Version}
+use Rattle.bz_trace_text.specs.declared.text.TheConstants.{MAX_ENTRIES}
+use Rattle.bz_trace_text.specs.declared.text.Version.{Version}
 use Rattle.bz_model.specs.Entries.{HasLine, HasWho, IsNumber32, told}
 use Rattle.bz_flat.specs.Wires.{WellWired}
 use Rattle.bz_net.proofs.Lines.{run_has_lines}
-use Rattle.bz_lines.specs.Reading.{line_at}
-use Rattle.bz_lines.specs.Texts.{lines, clash_lines, first_line, Trace, HasText, IsBad, ClashesFrom, OtherFrom, spelling}
-use Rattle.bz_lines.proofs.Lines.{line_takes}
-use Rattle.bz_lines.proofs.Texts.{all_more}
-use Rattle.bz_lines.proofs.Cuts.{Read, bad_behind, bad_most, lines_tell, read_more}
+use Rattle.bz_trace_text.specs.Reading.{line_at}
+use Rattle.bz_trace_text.specs.Texts.{lines, clash_lines, first_line, Trace, HasText, IsBad, NoClash, NoEntry, ClashesFrom, OtherFrom, spelling}
+use Rattle.bz_trace_text.proofs.Lines.{line_takes}
+use Rattle.bz_trace_text.proofs.Strips.{none-some}
+use Rattle.bz_trace_text.proofs.Texts.{all_more, flat_more}
+use Rattle.bz_trace_text.proofs.Cuts.{Read, bad_behind, bad_most, lines_tell}
 use Rattle.bz_trace.specs.Verdicts.{AreDue, AreRunLines, CountsRun, DifferAt, IsRunText, IsNoRun, StopsAtClash, StopsAtEntry, Judges, JudgesBy}
 use Rattle.bz_trace.specs.declared.checking.Verdict.{Verdict}
 use Rattle.bz_trace.specs.declared.checking.Verdict.TheVariants as verdict
-use Rattle.bz_lines.specs.declared.tally.Counts.{Counts}
-use Rattle.bz_lines.specs.Counting.{AreFewer, Tells, is_fired, is_host, is_rest}
-use Rattle.bz_lines.proofs.Counted.{fewer}
-use Rattle.bz_trace.specs.Following.{Goes, Stops, PlaysOn}
+use Rattle.bz_trace_text.specs.declared.tally.Counts.{Counts}
+use Rattle.bz_trace_text.specs.Counting.{AreFewer, Tells, is_fired, is_host, is_rest}
+use Rattle.bz_trace_text.proofs.Counted.{fewer}
+use Rattle.bz_trace.specs.Following.{Along, FollowsText, Goes, NoneToFollow, PlaysOn, Stands, Stops}
+use Rattle.bz_trace.specs.declared.lines.Followed.{Followed}
 
 -- a line is that of the entry as told
 line_told : (ports : List External) (e : Entry) → line_text ports e ≡ line_text ports (told e)
@@ -92,16 +94,6 @@ last_of (x ∷ xs) (z ∷ ys) y e =
 pub run_pop : (w : Wiring) (s : State) (es : List Entry) (e : Entry) (t : State) → Run w s (es ++ e ∷ []) t → (m : State) × Run w s es m × Follows w m e t
 run_pop w s [] e t (next, step, last) = (s, refl, subst (λ o. Follows w s e o) (sym last) step)
 run_pop w s (x ∷ es) e t (next, step, run) = let (m, front, after) = run_pop w next es e t run in (m, (next, step, front), after)
-
--- a journal of the net tells the entries, and each run that tells them ends in the net's state
-pub record Along (w : Wiring) (net : Progress) (entries : List Entry) : Type 0 where
-  pub wiring : net.wiring ≡ w
-  pub left : net.left + length entries ≡ MAX_ENTRIES
-  pub journal : List Entry
-  pub tells : map told journal ≡ map told entries
-  pub each : AllByRecursion (HasLine (outside w)) journal
-  pub of_net : IsToldBy net journal
-  pub sole : (es : List Entry) (t : State) → Run w (opening w) es t → map told es ≡ map told entries → t ≡ net.state
 
 run_along : (w : Wiring) (net : Progress) (entries : List Entry) (along : Along w net entries) → Run w (opening w) along.journal net.state
 run_along w net entries along = subst (λ (v : Wiring). Run v (opening v) along.journal net.state) along.wiring along.of_net.run
@@ -178,10 +170,6 @@ stopped_before w entries line number stops = record {
   fails = stops.fails;
 }
 
-abbrev pub Stands : Wiring → Progress → List Entry → Option ℕ → Type 0
-Stands w net entries None = Along w net entries
-Stands w net entries (Some number) = StopsAtEntry w entries number
-
 stands_more : (w : Wiring) (old new : Progress) (entries : List Entry) (line : Entry) (number : ℕ) (stop later : Option ℕ) → WellWired w → AllByRecursion (HasLine (outside w)) entries → HasLine (outside w) line
     → number ≡ length entries + 2 → Stands w old entries stop → PlaysOn old new line number stop later → Stands w new (entries ++ line ∷ []) later
 stands_more w old new entries line number None None wired each has is along plays = along_more w old new entries line along has plays
@@ -221,17 +209,18 @@ tells_alike counts es fs alike tells = record {
 }
 
 -- as far as the lines of entries are read
-pub record Checked (w : Wiring) (net : Progress) (v : Version) (text rest : List ℕ) (counts : Counts) (count : ℕ) (stop : Option ℕ) : Type 0 where
-  pub entries : List Entry
-  pub read : Read (outside w) (first_line v ++ text) v entries rest
-  pub tells : Tells counts entries
-  pub count_is : count ≡ length entries
-  pub stands : Stands w net entries stop
+read_of : (names : Outside) (w : Wiring) (net : Progress) (v : Version) (text rest : List ℕ) (far : Followed) (f : FollowsText names w net text rest far) → Read (outside w) (first_line v ++ text) v f.entries rest
+read_of names w net v text rest far f = record { each = f.each; few = f.few; as_told = f.as_told; text_is = ap (λ s. first_line v ++ s) f.text_is }
 
-pub checked_start : (net : Progress) (v : Version) (text : List ℕ) → IsToldBy net [] → net.left ≡ MAX_ENTRIES → Checked net.wiring net v text text (record { fired = 0; host = 0; rests = 0 }) 0 None
-checked_start net v text opened full = record {
+pub follows_start : (names : Outside) (net : Progress) (text : List ℕ) → names ≡ outside net.wiring → WellWired net.wiring → IsToldBy net [] → net.left ≡ MAX_ENTRIES → FollowsText names net.wiring net text text (record { counts = record { fired = 0; host = 0; rests = 0 }; count = 0; stop = None })
+follows_start names net text named wired opened full = record {
+  names_are = named;
+  wired = wired;
   entries = [];
-  read = record { each = tt; few = omega arith; as_told = refl; text_is = refl };
+  each = tt;
+  few = omega arith;
+  as_told = refl;
+  text_is = refl;
   tells = record { fired = refl; host = refl; rests = refl };
   count_is = refl;
   stands = along_start net opened full;
@@ -241,38 +230,65 @@ some_left : (n : ℕ) → (n ≡ 0 → ⊥) → 0 < n
 some_left zero none = absurd (none refl)
 some_left (suc n) none = omega arith
 
--- where no line has stopped, one more can be played
-module _ (w : Wiring) (net : Progress) (v : Version) (text rest : List ℕ) (counts : Counts) (count : ℕ) (stop : Option ℕ) (checked : Checked w net v text rest counts count stop) where
-  goes_on : stop ≡ None → Along w net checked.entries
-  goes_on none = subst (Stands w net checked.entries) none checked.stands
+module _ (names : Outside) (w : Wiring) (net : Progress) (text rest : List ℕ) (far : Followed) (f : FollowsText names w net text rest far) where
+  goes_on : far.stop ≡ None → Along w net f.entries
+  goes_on none = subst (Stands w net f.entries) none f.stands
 
-  pub has_place : count ≢ MAX_ENTRIES → stop ≡ None → 0 < net.left
+  named : (o : Option (Entry × List ℕ)) → line_at names rest ≡ o → line_at (outside w) rest ≡ o
+  named o at = subst (λ n. line_at n rest ≡ o) f.names_are at
+
+  -- where no line has stopped, one more can be played
+  pub has_place : far.count ≢ MAX_ENTRIES → far.stop ≡ None → 0 < net.left
   has_place fewer none =
       let left = (goes_on none).left in
-      let is = checked.count_is in
+      let is = f.count_is in
       some_left net.left (λ zero. fewer (omega (arith, left, is, zero)))
 
-  pub line_of_net : (line : Entry) (after : List ℕ) → line_at (outside w) rest ≡ Some (line, after) → stop ≡ None → HasLine (outside net.wiring) line
-  line_of_net line after at none = subst (λ (u : Wiring). HasLine (outside u) line) (sym (goes_on none).wiring) (line_takes (outside w) rest line after at).has_line
+  pub line_of_net : (line : Entry) (after : List ℕ) → line_at names rest ≡ Some (line, after) → far.stop ≡ None → HasLine (outside net.wiring) line
+  line_of_net line after at none = subst (λ (u : Wiring). HasLine (outside u) line) (sym (goes_on none).wiring) (line_takes (outside w) rest line after (named (Some (line, after)) at)).has_line
 
-  pub can_count : AreFewer counts 18446744073709551615
+  pub can_count : AreFewer far.counts 18446744073709551615
   can_count =
-      let few = checked.read.few in
-      fewer counts checked.entries 18446744073709551615 checked.tells (omega (arith, few))
+      let few = f.few in
+      fewer far.counts f.entries 18446744073709551615 f.tells (omega (arith, few))
 
-pub checked_more : (w : Wiring) (old new : Progress) (v : Version) (text rest after : List ℕ) (counts more : Counts) (count : ℕ) (stop later : Option ℕ) (line : Entry) → WellWired w → Checked w old v text rest counts count stop → line_at (outside w) rest ≡ Some (line, after) → count ≢ MAX_ENTRIES
-    → PlaysOn old new line (count + 2) stop later → ((entries : List Entry) → Tells counts entries → Tells more (entries ++ line ∷ [])) → Checked w new v text after more (count + 1) later
-checked_more w old new v text rest after counts more count stop later line wired checked at fewer plays adds =
-    let is = checked.count_is in
-    let long = length-append checked.entries (line ∷ []) in
-    let stands = line_takes (outside w) rest line after at in
+  pub within : far.count ≤ MAX_ENTRIES
+  within = let is = f.count_is in let few = f.few in omega (arith, is, few)
+
+pub follows_more : (names : Outside) (w : Wiring) (old new : Progress) (text rest after : List ℕ) (far : Followed) (more : Counts) (later : Option ℕ) (line : Entry) → FollowsText names w old text rest far → line_at names rest ≡ Some (line, after) → far.count ≢ MAX_ENTRIES
+    → PlaysOn old new line (far.count + 2) far.stop later → ((entries : List Entry) → Tells far.counts entries → Tells more (entries ++ line ∷ [])) → FollowsText names w new text after (record { counts = more; count = far.count + 1; stop = later })
+follows_more names w old new text rest after far more later line f at fewer plays adds =
+    let is = f.count_is in
+    let long = length-append f.entries (line ∷ []) in
+    let few = f.few in
+    let stands = line_takes (outside w) rest line after (named names w old text rest far f (Some (line, after)) at) in
     record {
-      entries = checked.entries ++ line ∷ [];
-      read = read_more (outside w) (first_line v ++ text) v checked.entries rest line after checked.read (λ e. fewer (is ∙ e)) at;
-      tells = adds checked.entries checked.tells;
-      count_is = omega arith;
-      stands = stands_more w old new checked.entries line (count + 2) stop later wired checked.read.each stands.has_line (omega arith) checked.stands plays;
+      names_are = f.names_are;
+      wired = f.wired;
+      entries = f.entries ++ line ∷ [];
+      each = all_more (HasLine (outside w)) f.entries line f.each stands.has_line;
+      few = omega (arith, long, is, few, fewer);
+      as_told = map-append told f.entries (line ∷ []) ∙ ap₂ (λ x y. x ++ y ∷ []) f.as_told stands.as_told;
+      text_is = f.text_is ∙ flat_more (line_text w.ports) f.entries line after rest stands.text;
+      tells = adds f.entries f.tells;
+      count_is = omega (arith, long, is);
+      stands = stands_more w old new f.entries line (far.count + 2) far.stop later f.wired f.each stands.has_line (omega (arith, is)) f.stands plays;
     }
+
+-- what is read behind the rest stands behind the text
+pub follows_longer : (names : Outside) (w : Wiring) (net : Progress) (text rest : List ℕ) (far : Followed) (more : List ℕ) → FollowsText names w net text rest far → FollowsText names w net (text ++ more) (rest ++ more) far
+follows_longer names w net text rest far more f = record {
+  names_are = f.names_are;
+  wired = f.wired;
+  entries = f.entries;
+  each = f.each;
+  few = f.few;
+  as_told = f.as_told;
+  text_is = ap (λ s. s ++ more) f.text_is ∙ append_assoc (lines w.ports f.entries) rest more;
+  tells = f.tells;
+  count_is = f.count_is;
+  stands = f.stands;
+}
 
 pub judges : (w : Wiring) (text : List ℕ) (counts : Counts) (v : Verdict) → JudgesBy w text counts v → Judges w text v
 judges w text counts verdict.Run by = by.0
@@ -286,77 +302,98 @@ counts_run w text counts (verdict.Not line) by is = absurd (let e = is in cc)
 counts_run w text counts (verdict.Bad line) by is = absurd (let e = is in cc)
 counts_run w text counts verdict.Memory by is = absurd (let e = is in cc)
 
-pub too_many : (w : Wiring) (net : Progress) (v : Version) (text rest : List ℕ) (counts : Counts) (count : ℕ) (stop : Option ℕ) (line : Entry) (after : List ℕ) → Checked w net v text rest counts count stop → count ≡ MAX_ENTRIES → line_at (outside w) rest ≡ Some (line, after) → IsBad (outside w) (first_line v ++ text) 16777218
-too_many w net v text rest counts count stop line after checked full at =
-    bad_most (outside w) (first_line v ++ text) v checked.entries rest line after checked.read (sym checked.count_is ∙ full) at
-
-pub other_behind : (w : Wiring) (net : Progress) (v : Version) (text rest : List ℕ) (counts : Counts) (count : ℕ) (stop : Option ℕ) (line : ℕ) → Checked w net v text rest counts count stop → line_at (outside w) rest ≡ None → OtherFrom v rest (count + 2) line → IsBad (outside w) (first_line v ++ text) line
-other_behind w net v text rest counts count stop line checked none other =
-    bad_behind (outside w) (first_line v ++ text) v checked.entries rest line checked.read none (subst (λ n. OtherFrom v rest (n + 2) line) checked.count_is other)
-
 -- the text as a trace, where clash lines go on to its end
 abbrev trace_of : Version → List Entry → List ℕ → Trace
 trace_of v es cs = record { version = v; entries = es; clashes = cs }
 
-module _ (w : Wiring) (net : Progress) (v : Version) (text rest : List ℕ) (counts : Counts) (count : ℕ) (stop : Option ℕ) (checked : Checked w net v text rest counts count stop) (from : ClashesFrom v rest) where
-  has_text : HasText (outside w) (trace_of v checked.entries from.0)
-  has_text = record { each = checked.read.each; few = checked.read.few; numbers = from.1; without = from.2 }
+module _ (names : Outside) (w : Wiring) (net : Progress) (v : Version) (text rest : List ℕ) (far : Followed) (f : FollowsText names w net text rest far) where
+  pub too_many : (line : Entry) (after : List ℕ) → NoneToFollow names rest far → line_at names rest ≡ Some (line, after) → IsBad (outside w) (first_line v ++ text) 16777218
+  too_many line after (inl none) at = absurd (none-some (line, after) (sym none ∙ at))
+  too_many line after (inr full) at =
+      bad_most (outside w) (first_line v ++ text) v f.entries rest line after (read_of names w net v text rest far f) (sym f.count_is ∙ full) (named names w net text rest far f (Some (line, after)) at)
 
-  text_is : first_line v ++ text ≡ spelling w.ports (trace_of v checked.entries from.0)
-  text_is = checked.read.text_is ∙ ap (λ s. first_line v ++ (lines w.ports checked.entries ++ s)) from.3
+  pub other_behind : (line : ℕ) → line_at names rest ≡ None → OtherFrom v rest (far.count + 2) line → IsBad (outside w) (first_line v ++ text) line
+  other_behind line none other =
+      bad_behind (outside w) (first_line v ++ text) v f.entries rest line (read_of names w net v text rest far f) (named names w net text rest far f None none) (subst (λ n. OtherFrom v rest (n + 2) line) f.count_is other)
 
-  pub stops_at : (line : ℕ) → stop ≡ Some line → IsNoRun w (first_line v ++ text) line
-  stops_at line is = record {
-    trace = trace_of v checked.entries from.0;
-    has_text = has_text;
-    text_is = text_is;
-    stops = inl (subst (Stands w net checked.entries) is checked.stands);
-  }
+  -- no entry and no clash line goes on from here
+  pub bad_here : rest ≢ [] → NoEntry (outside w) far.count rest → NoClash v rest → IsBad (outside w) (first_line v ++ text) (far.count + 2)
+  bad_here some no_entry no_clash = inr (record {
+    before = record { version = v; entries = f.entries; clashes = [] };
+    has_text = record { each = f.each; few = f.few; numbers = tt; without = λ _. refl };
+    rest = rest;
+    text_is = ap (λ s. first_line v ++ s) (f.text_is ∙ ap (λ s. s ++ rest) (sym (append-nil (lines w.ports f.entries)))) ∙ sym (append_assoc (first_line v) (lines w.ports f.entries ++ []) rest);
+    line_is = let is = f.count_is in omega (arith, is);
+    some_rest = some;
+    no_entry = λ _. subst (λ n. NoEntry (outside w) n rest) f.count_is no_entry;
+    no_clash = no_clash;
+  })
 
-  -- no line of an entry has stopped
-  module _ (due : List ℕ) (plays : stop ≡ None) (are_due : (journal : List Entry) → IsToldBy net journal → AreDue net.wiring v journal due) where
-    along : Along w net checked.entries
-    along = subst (Stands w net checked.entries) plays checked.stands
+  module _ (from : ClashesFrom v rest) where
+    has_text : HasText (outside w) (trace_of v f.entries from.0)
+    has_text = record { each = f.each; few = f.few; numbers = from.1; without = from.2 }
 
-    own_due : AreDue w v along.journal due
-    own_due = subst (λ (u : Wiring). AreDue u v along.journal due) along.wiring (are_due along.journal along.of_net)
+    text_is : first_line v ++ text ≡ spelling w.ports (trace_of v f.entries from.0)
+    text_is = ap (λ s. first_line v ++ s) (f.text_is ∙ ap (λ s. lines w.ports f.entries ++ s) from.3)
 
-    pub run_text : from.0 ≡ due → CountsRun w (first_line v ++ text) counts
-    run_text same =
-        let long = sym (length-map along.journal told) ∙ ap length along.tells ∙ length-map checked.entries told in (
-          record {
-            version = v;
-            entries = along.journal;
-            by = all_who (outside w) along.journal along.each;
-            few = let few = checked.read.few in omega (arith, long);
-            last = net.state;
-            run = run_along w net checked.entries along;
-            clashes = due;
-            due = own_due;
-            text_is = text_is ∙ ap₂ (λ x y. first_line v ++ (x ++ clash_lines y)) (same_lines w.ports checked.entries along.journal (sym along.tells)) same;
-          },
-          tells_alike counts checked.entries along.journal (sym along.tells) checked.tells,
-        )
-
-    pub no_run : (place : ℕ) → DifferAt from.0 due place → IsNoRun w (first_line v ++ text) (count + place + 2)
-    no_run place differ = record {
-      trace = trace_of v checked.entries from.0;
+    pub stops_at : (line : ℕ) → far.stop ≡ Some line → IsNoRun w (first_line v ++ text) line
+    stops_at line is = record {
+      trace = trace_of v f.entries from.0;
       has_text = has_text;
       text_is = text_is;
-      stops = inr (record {
-        entries = along.journal;
-        by = all_who (outside w) along.journal along.each;
-        last = net.state;
-        run = run_along w net checked.entries along;
-        alike = same_lines w.ports checked.entries along.journal (sym along.tells);
-        clashes = due;
-        due = own_due;
-        place = place;
-        differ = differ;
-        line_is = ap (λ n. n + place + 2) checked.count_is;
-      });
+      stops = inl (subst (Stands w net f.entries) is f.stands);
     }
+
+    -- no line of an entry has stopped
+    module _ (due : List ℕ) (plays : far.stop ≡ None) (are_due : (journal : List Entry) → IsToldBy net journal → AreDue net.wiring v journal due) where
+      along : Along w net f.entries
+      along = subst (Stands w net f.entries) plays f.stands
+
+      own_due : AreDue w v along.journal due
+      own_due = subst (λ (u : Wiring). AreDue u v along.journal due) along.wiring (are_due along.journal along.of_net)
+
+      pub run_text : from.0 ≡ due → CountsRun w (first_line v ++ text) far.counts
+      run_text same =
+          let long = sym (length-map along.journal told) ∙ ap length along.tells ∙ length-map f.entries told in (
+            record {
+              version = v;
+              entries = along.journal;
+              by = all_who (outside w) along.journal along.each;
+              few = let few = f.few in omega (arith, long);
+              last = net.state;
+              run = run_along w net f.entries along;
+              clashes = due;
+              due = own_due;
+              text_is = text_is ∙ ap₂ (λ x y. first_line v ++ (x ++ clash_lines y)) (same_lines w.ports f.entries along.journal (sym along.tells)) same;
+            },
+            tells_alike far.counts f.entries along.journal (sym along.tells) f.tells,
+          )
+
+      pub no_run : (place : ℕ) → DifferAt from.0 due place → IsNoRun w (first_line v ++ text) (far.count + place + 2)
+      no_run place differ = record {
+        trace = trace_of v f.entries from.0;
+        has_text = has_text;
+        text_is = text_is;
+        stops = inr (record {
+          entries = along.journal;
+          by = all_who (outside w) along.journal along.each;
+          last = net.state;
+          run = run_along w net f.entries along;
+          alike = same_lines w.ports f.entries along.journal (sym along.tells);
+          clashes = due;
+          due = own_due;
+          place = place;
+          differ = differ;
+          line_is = ap (λ n. n + place + 2) f.count_is;
+        });
+      }
 
 pub judged : (w u : Wiring) (text behind : List ℕ) (v : Version) (counts : Counts) (said : Verdict) → u ≡ w → text ≡ first_line v ++ behind → JudgesBy u (first_line v ++ behind) counts said → JudgesBy w text counts said
 judged w u text behind v counts said same is by =
     subst (λ t. JudgesBy w t counts said) (sym is) (subst (λ (x : Wiring). JudgesBy x (first_line v ++ behind) counts said) same by)
+
+-- one line more was followed
+pub gets_on_more : (from : Followed) (count : ℕ) (text rest after : List ℕ) → ((count ≡ from.count) × (rest ≡ text)) ⊎ ((from.count < count) × (length rest < length text)) → length after < length rest
+    → (from.count < count + 1) × (length after < length text)
+gets_on_more from count text rest after (inl same) less = let is = same.0 in (omega (arith, is), subst (λ s. length after < length s) same.1 less)
+gets_on_more from count text rest after (inr more) less = let m = more.0 in let n = more.1 in (omega (arith, m), omega (arith, n, less))

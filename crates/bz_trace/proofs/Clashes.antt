@@ -6,10 +6,10 @@ use Rattle.std.proofs.lemmas.List.{append-nil, take-append-drop, take_more}
 use Rattle.std.proofs.lemmas.Option.{some_pair_parts}
 use Rattle.bz_model.specs.Entries.{IsNumber32}
 use Rattle.bz_model.specs.Traces.{clash_text}
-use Rattle.bz_lines.specs.Reading.{clash_at, strip}
-use Rattle.bz_lines.specs.Texts.{clash_lines}
-use Rattle.bz_lines.proofs.Strips.{none-some}
-use Rattle.bz_lines.proofs.Texts.{all_more, clash_again, clash_takes, flat_more}
+use Rattle.bz_trace_text.specs.Reading.{clash_at, strip}
+use Rattle.bz_trace_text.specs.Texts.{clash_lines}
+use Rattle.bz_trace_text.proofs.Strips.{none-some}
+use Rattle.bz_trace_text.proofs.Texts.{all_more, clash_again, clash_takes, flat_more}
 use Rattle.bz_trace.specs.Verdicts.{DifferAt, FirstDiffers, first_of}
 
 nothing_there : clash_at [] ≡ None

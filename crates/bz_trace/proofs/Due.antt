@@ -11,8 +11,8 @@ use Rattle.bz_model.specs.Clashes.{phase_of, Clashes, ClashesIn, AreClashed}
 use Rattle.bz_model.specs.Entries.{IsNumber32, told}
 use Rattle.bz_flat.specs.Wires.{WellWired}
 use Rattle.bz_net.proofs.Clashing.{after_entry, follows_phases, same_clashes}
-use Rattle.bz_lines.specs.declared.text.Version.{Version}
-use Rattle.bz_lines.specs.declared.text.Version.TheVariants.{One, Two}
+use Rattle.bz_trace_text.specs.declared.text.Version.{Version}
+use Rattle.bz_trace_text.specs.declared.text.Version.TheVariants.{One, Two}
 use Rattle.bz_trace.specs.Verdicts.{AreDue}
 
 -- ---- two rising lists with the same members are the same

@@ -8,9 +8,9 @@ use Rattle.bz_model.specs.Runs.{Run, Follows}
 use Rattle.bz_model.specs.Entries.{HasLine, HasWho, told}
 use Rattle.bz_flat.specs.Wires.{WellWired}
 use Rattle.bz_net.proofs.Lines.{run_has_lines}
-use Rattle.bz_lines.specs.declared.text.Version.{Version}
-use Rattle.bz_lines.specs.Texts.{lines, Trace, HasText, IsBad, spelling, Spells, Outcome, entries_are, bad_line}
-use Rattle.bz_lines.proofs.Cuts.{SameCut, cut_of_whole, lines_tell, one_outcome, same_cut}
+use Rattle.bz_trace_text.specs.declared.text.Version.{Version}
+use Rattle.bz_trace_text.specs.Texts.{lines, Trace, HasText, IsBad, spelling, Spells, Outcome, entries_are, bad_line}
+use Rattle.bz_trace_text.proofs.Cuts.{SameCut, cut_of_whole, lines_tell, one_outcome, same_cut}
 use Rattle.bz_trace.specs.declared.checking.Verdict.{Verdict}
 use Rattle.bz_trace.specs.declared.checking.Verdict.TheVariants as verdict
 use Rattle.bz_trace.specs.Verdicts.{AreDue, AreRunLines, DifferAt, IsRunText, IsNoRun, StopsAtClash, StopsAtEntry, Judges}

@@ -1,12 +1,21 @@
--- One line played on a net.
-use Rattle.std.specs.Prelude.{◌≡◌, ℕ, Option, Some, None}
+-- Lines played on a net: one, and all those of entries at the front of a text.
+use Rattle.std.specs.Prelude.{◌≡◌, ◌⊎◌, ℕ, ◌+◌, ◌<◌, ◌≤◌, Option, Some, None, List, [], ◌∷◌, ◌++◌, length, map}
+use Rattle.std.specs.List.{AllByRecursion}
 use Rattle.bz_model.specs.declared.event.Entry.{Entry}
-use Rattle.bz_model.specs.Nets.{State}
-use Rattle.bz_model.specs.Runs.{Follows}
-use Rattle.bz_net.specs.Progress.{Progress, Enters}
-use Rattle.bz_model.specs.Entries.{told}
+use Rattle.bz_model.specs.Entries.{HasLine, told}
+use Rattle.bz_model.specs.Limits.{max_entries}
+use Rattle.bz_model.specs.Names.{Outside}
+use Rattle.bz_model.specs.Nets.{Wiring, State, opening, outside}
+use Rattle.bz_model.specs.Runs.{Follows, Run}
+use Rattle.bz_flat.specs.Wires.{WellWired}
+use Rattle.bz_net.specs.Progress.{Progress, IsToldBy, Enters}
+use Rattle.bz_trace_text.specs.Counting.{Tells}
+use Rattle.bz_trace_text.specs.Reading.{line_at}
+use Rattle.bz_trace_text.specs.Texts.{lines}
+use Rattle.bz_trace.specs.Verdicts.{StopsAtEntry}
 use Rattle.bz_trace.specs.declared.following.Step.{Step}
 use Rattle.bz_trace.specs.declared.following.Step.TheVariants as step
+use Rattle.bz_trace.specs.declared.lines.Followed.{Followed}
 
 -- an entry was added that the line tells, and no other state can follow by such an entry
 pub record Goes (old new : Progress) (line : Entry) : Type 0 where
@@ -28,3 +37,43 @@ abbrev pub PlaysOn : Progress → Progress → Entry → ℕ → Option ℕ → 
 PlaysOn old new line number None None = Goes old new line
 PlaysOn old new line number None (Some k) = Stops old line × (k ≡ number)
 PlaysOn old new line number (Some k) stop = stop ≡ Some k
+
+-- a journal of the net tells the entries, and each run that tells them ends in the net's state
+pub record Along (w : Wiring) (net : Progress) (entries : List Entry) : Type 0 where
+  pub wiring : net.wiring ≡ w
+  pub left : net.left + length entries ≡ max_entries
+  pub journal : List Entry
+  pub tells : map told journal ≡ map told entries
+  pub each : AllByRecursion (HasLine (outside w)) journal
+  pub of_net : IsToldBy net journal
+  pub sole : (es : List Entry) (t : State) → Run w (opening w) es t → map told es ≡ map told entries → t ≡ net.state
+
+-- the net is along the entries, or this line stopped it
+abbrev pub Stands : Wiring → Progress → List Entry → Option ℕ → Type 0
+Stands w net entries None = Along w net entries
+Stands w net entries (Some line) = StopsAtEntry w entries line
+
+-- The text behind the first line of a trace is lines of entries and, behind them, the rest; those lines were followed.
+pub record FollowsText (names : Outside) (w : Wiring) (net : Progress) (text rest : List ℕ) (followed : Followed) : Type 0 where
+  pub names_are : names ≡ outside w
+  pub wired : WellWired w
+  pub entries : List Entry
+  pub each : AllByRecursion (HasLine (outside w)) entries
+  pub few : length entries ≤ max_entries
+  pub as_told : map told entries ≡ entries
+  pub text_is : text ≡ lines w.ports entries ++ rest
+  pub tells : Tells followed.counts entries
+  pub count_is : followed.count ≡ length entries
+  pub stands : Stands w net entries followed.stop
+
+-- some text was followed up to here
+abbrev pub IsFollowed : Outside → Progress → List ℕ → Followed → Type 0
+IsFollowed names net rest followed = (w : Wiring) × (text : List ℕ) × FollowsText names w net text rest followed
+
+-- no line of an entry stands here, or there are as many as a trace may have
+abbrev pub NoneToFollow : Outside → List ℕ → Followed → Type 0
+NoneToFollow names rest followed = (line_at names rest ≡ None) ⊎ (followed.count ≡ max_entries)
+
+-- nothing was followed, or one line at least
+abbrev pub GetsOn : Followed → Followed → List ℕ → List ℕ → Type 0
+GetsOn old new text rest = ((new.count ≡ old.count) × (rest ≡ text)) ⊎ ((old.count < new.count) × (length rest < length text))

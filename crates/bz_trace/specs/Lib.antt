@@ -1,6 +1,6 @@
-pub use Rattle.bz_lines.specs.Writing
-pub use Rattle.bz_lines.specs.Parts
-pub use Rattle.bz_lines.specs.Texts
-pub use Rattle.bz_lines.specs.Counting
+pub use Rattle.bz_trace_text.specs.Writing
+pub use Rattle.bz_trace_text.specs.Texts
+pub use Rattle.bz_trace_text.specs.Counting
 pub mod Verdicts
 pub mod Following
+pub mod Reading

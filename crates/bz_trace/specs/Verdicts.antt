@@ -6,12 +6,12 @@ use Rattle.bz_model.specs.Nets.{Wiring, State, opening, outside}
 use Rattle.bz_model.specs.Runs.{Run}
 use Rattle.bz_model.specs.Clashes.{AreClashed}
 use Rattle.bz_model.specs.Entries.{HasWho, IsNumber32}
-use Rattle.bz_lines.specs.declared.tally.Counts.{Counts}
+use Rattle.bz_trace_text.specs.declared.tally.Counts.{Counts}
 use Rattle.bz_model.specs.Limits.{max_entries}
-use Rattle.bz_lines.specs.declared.text.Version.{Version}
-use Rattle.bz_lines.specs.declared.text.Version.TheVariants.{One, Two}
-use Rattle.bz_lines.specs.Counting.{Tells}
-use Rattle.bz_lines.specs.Texts.{lines, clash_lines, Trace, HasText, spelling, IsBad}
+use Rattle.bz_trace_text.specs.declared.text.Version.{Version}
+use Rattle.bz_trace_text.specs.declared.text.Version.TheVariants.{One, Two}
+use Rattle.bz_trace_text.specs.Counting.{Tells}
+use Rattle.bz_trace_text.specs.Texts.{lines, clash_lines, Trace, HasText, spelling, IsBad}
 use Rattle.bz_trace.specs.declared.checking.Verdict.{Verdict}
 use Rattle.bz_trace.specs.declared.checking.Verdict.TheVariants as verdict
 

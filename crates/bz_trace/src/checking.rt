@@ -1,20 +1,21 @@
 //! The check of a whole text.
 
-ghost use Rattle.std.specs.Prelude.{◌≡◌, ◌≢◌, ◌⊎◌, [], ◌++◌, List};
+ghost use Rattle.std.specs.Prelude.{◌≡◌, ◌≢◌, ◌⊎◌, [], ◌++◌, ℕ, List};
 ghost use Rattle.bz_model.specs.declared.event.Entry.{Entry};
-ghost use Rattle.bz_model.specs.Nets.{outside};
+ghost use Rattle.bz_model.specs.Nets.{Wiring, outside};
 ghost use Rattle.bz_flat.specs.Wires.{WellWired};
 ghost use Rattle.bz_net.specs.Progress.{IsToldBy};
 ghost use Rattle.bz_model.specs.Limits.{max_entries};
-ghost use Rattle.bz_lines.specs.Texts.{first_line};
+ghost use Rattle.bz_trace_text.specs.Texts.{first_line};
+ghost use Rattle.bz_trace.specs.Following.{FollowsText, IsFollowed, NoneToFollow};
 ghost use Rattle.bz_trace.specs.Verdicts.{AreDue, CountsRun, FirstDiffers, Judges, JudgesBy};
 
-use crate::following::play_on;
+use crate::lines::{Followed, play_lines};
 use bz_flat::Flat;
-use bz_lines::{
+use bz_net::Play;
+use bz_trace_text::{
     Counts, LineNames, MAX_ENTRIES, Version, clash_at, line_at, other_line, version_at,
 };
-use bz_net::Play;
 use std::alloc::Global;
 
 /// What is said of a text.
@@ -82,28 +83,36 @@ fn check_lines(
     requires wired { WellWired net.old.wiring }
     ensures { JudgesBy net.old.wiring (first_line version ++ text.now) result.1 result.0 }
 {
-    let mut rest = text;
-    let mut counts = Counts::NONE;
-    let mut count: usize = 0;
-    let mut stop: Option<usize> = None;
-    while let Some((line, after)) = line_at(names, rest) {
-        if count == MAX_ENTRIES {
-            return (Verdict::Bad(MAX_ENTRIES + 2), counts);
-        }
-        stop = play_on(net, line, count + 2, stop);
-        counts.add(&line);
-        count += 1;
-        rest = after;
+    let (followed, rest) = play_lines(net, names, Followed::NONE, text);
+    let verdict = verdict_behind(net, names, version, followed, rest);
+    (verdict, followed.counts)
+}
+
+/// What is said of a trace that has this text behind the lines that were followed.
+pub(crate) fn verdict_behind(
+    net: &Play,
+    names: &LineNames,
+    version: Version,
+    followed: Followed,
+    rest: &[u8],
+) -> Verdict
+    requires followed { IsFollowed names.now net.now rest.now followed }
+    requires no_more { NoneToFollow names.now rest.now followed }
+    ensures { (w : Wiring) (text : List ℕ) → FollowsText names.now w net.now text rest.now followed
+        → JudgesBy w (first_line version ++ text) followed.counts result }
+{
+    if let Some(_) = line_at(names, rest) {
+        return Verdict::Bad(MAX_ENTRIES + 2);
     }
-    if let Some(line) = other_line(version, rest, count + 2) {
-        return (Verdict::Bad(line), counts);
+    if let Some(line) = other_line(version, rest, followed.count + 2) {
+        return Verdict::Bad(line);
     }
-    if let Some(line) = stop {
-        return (Verdict::Not(line), counts);
+    if let Some(line) = followed.stop {
+        return Verdict::Not(line);
     }
     match other_clash(rest, due(net, version)) {
-        None => (Verdict::Run, counts),
-        Some(place) => (Verdict::Not(count + place + 2), counts),
+        None => Verdict::Run,
+        Some(place) => Verdict::Not(followed.count + place + 2),
     }
 }
 

@@ -4,10 +4,13 @@
 mod checking;
 mod following;
 mod laws;
+mod lines;
+mod reading;
 
-pub use bz_lines::{
-    Counts, MAX_ENTRIES, NameForm, Part, TraceError, Version, WriteFault, counts, one_spelling,
-    put_clashes, put_entries, put_first_line, put_parts, read_trace, write_trace, write_trace_1,
+pub use bz_trace_text::{
+    Counts, MAX_ENTRIES, TraceError, Version, counts, one_spelling, put_clashes, put_entries,
+    put_first_line, read_trace, write_trace, write_trace_1,
 };
 pub use checking::{Verdict, check, check_and_count};
 pub use laws::plays_are_accepted;
+pub use reading::{ReadFault, check_read};

@@ -1,6 +1,6 @@
 use Rattle.std.proofs.Common.{◌≡◌, map, length}
 use Rattle.bz_sexpr.specs.Forms.{forms_view}
-use Rattle.bz_records.specs.Records.{component_record}
+use Rattle.bz_breeze_records.specs.Records.{component_record}
 use Rattle.bz_breeze.specs.Turns.{in_turn, beside, at_byte, place_of}
 use Rattle.bz_breeze.specs.Forms.{components, component}
 use Rattle.bz_breeze.proofs.forms.components.Given as goal

@@ -1,7 +1,7 @@
 use Rattle.std.proofs.Common.{◌≡◌, ◌++◌, map, length}
 use Rattle.std.specs.List.{filter_map}
 use Rattle.bz_sexpr.specs.Forms.{forms_view}
-use Rattle.bz_records.specs.Records.{param_record}
+use Rattle.bz_breeze_records.specs.Records.{param_record}
 use Rattle.bz_breeze.specs.Forms.{param}
 use Rattle.bz_breeze.proofs.forms.params.Given as goal
 

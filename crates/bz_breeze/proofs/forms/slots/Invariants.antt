@@ -1,6 +1,6 @@
 use Rattle.std.proofs.Common.{◌≡◌, map, length}
 use Rattle.bz_sexpr.specs.Forms.{forms_view}
-use Rattle.bz_records.specs.Records.{slot_record}
+use Rattle.bz_breeze_records.specs.Records.{slot_record}
 use Rattle.bz_breeze.specs.Turns.{in_turn, beside}
 use Rattle.bz_breeze.specs.Forms.{slots, slot}
 use Rattle.bz_breeze.proofs.forms.slots.Given as goal

@@ -1,6 +1,6 @@
 use Rattle.std.proofs.Common.{map}
 use Rattle.bz_sexpr.specs.Forms.{forms_view}
-use Rattle.bz_records.specs.Records.{part_record}
+use Rattle.bz_breeze_records.specs.Records.{part_record}
 use Rattle.bz_breeze.proofs.Verdicts.{named_answer, faultless_answer, fault_answer, least_answer}
 use Rattle.bz_breeze.proofs.netlist.parts_of.Goals as goal
 

@@ -4,10 +4,10 @@ use Rattle.std.proofs.lemmas.List.{map-append}
 use Rattle.std.proofs.lemmas.List.Elements.{All-push}
 use Rattle.std.specs.Option.{option_map}
 use Rattle.bz_sexpr.specs.Forms.{form_view, forms_view, first_and_rest}
-use Rattle.bz_records.specs.Records.{part_record}
+use Rattle.bz_breeze_records.specs.Records.{part_record}
 use Rattle.bz_breeze.specs.Turns.{if_read, in_turn}
 use Rattle.bz_breeze.specs.Parts.{part, parts, part_items, named_part}
-use Rattle.bz_records.specs.Parts.{HasPortChannels}
+use Rattle.bz_breeze_records.specs.Parts.{HasPortChannels}
 use Rattle.bz_breeze.proofs.Reading.{turn_fault, turn_more, tells_of, part_of_item}
 use Rattle.bz_breeze.proofs.Bounds.{all_fit}
 use Rattle.bz_breeze.proofs.netlist.read_parts.Goals as goal

@@ -1,9 +1,9 @@
 use Rattle.std.proofs.Common.{◌≡◌, map, length, All}
 use Rattle.bz_sexpr.specs.Forms.{forms_view}
-use Rattle.bz_records.specs.Records.{part_record}
+use Rattle.bz_breeze_records.specs.Records.{part_record}
 use Rattle.bz_breeze.specs.Turns.{in_turn}
 use Rattle.bz_breeze.specs.Parts.{part, parts}
-use Rattle.bz_records.specs.Parts.{HasPortChannels}
+use Rattle.bz_breeze_records.specs.Parts.{HasPortChannels}
 use Rattle.bz_breeze.proofs.netlist.read_parts.Given as goal
 
 abbrev pub invariant-loop-form : goal.invariant-loop-form

@@ -1,5 +1,4 @@
-use Rattle.bz_chart.proofs.Charts.{nothing_out}
 use Rattle.bz_chart.proofs.chart.chart_text.Goals as goal
 
-pub returns-in-Err : goal.returns-in-Err
-returns-in-Err g c = nothing_out (Unit {0}) c.args.text.now c.args.part.now c.args.range _ c.in-Err.fault c.in-Err.ensures
+pub returns : goal.returns
+returns g c = (c.split_trace.result.0.now, c.split_trace.result.1.now, c.split_trace.ensures, c.chart_trace.ensures)

@@ -1,5 +1,5 @@
 use Rattle.std.proofs.Common.{◌≡◌, ◌≤◌, map, take, count_by}
-use Rattle.bz_kind_table.specs.Table.{seen}
+use Rattle.bz_kind_rows.specs.Table.{seen}
 use Rattle.bz_elab.proofs.component.array_count.Given as goal
 
 abbrev pub invariant-loop-row : goal.invariant-loop-row

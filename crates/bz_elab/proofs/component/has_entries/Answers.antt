@@ -1,7 +1,7 @@
 use Rattle.std.proofs.Common.{arith, map}
 use Rattle.std.proofs.lemmas.List.{length-map}
 use Rattle.std.proofs.lemmas.Bool.Decides.{nat_tests}
-use Rattle.bz_kind_table.specs.Table.{seen}
+use Rattle.bz_kind_rows.specs.Table.{seen}
 use Rattle.bz_elab.proofs.Slots.{length-split, count-split}
 use Rattle.bz_elab.proofs.component.has_entries.Goals as goal
 

@@ -1,5 +1,5 @@
 use Rattle.std.proofs.Common.{◌≡◌, ◌≤◌, ◌++◌, map, drop}
-use Rattle.bz_kind_table.specs.Table.{seen}
+use Rattle.bz_kind_rows.specs.Table.{seen}
 use Rattle.bz_elab.specs.Entries.{singles, lists, in_row}
 use Rattle.bz_elab.proofs.component.in_row.Given as goal
 

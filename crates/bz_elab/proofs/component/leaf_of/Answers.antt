@@ -24,11 +24,6 @@ returns-then-not-name_channels-clause-err c =
     let tells = tells_named (IsChannel c.args.channels.now) _ _ (rw c.as_slice-entries.ensures.value at c.name_channels.ensures) in
     leaf_fault c.args.channels.now c.args.component.now _ fault.BadChannel role (λ within. not_both _ (tells.1 within) c.if-not-name_channels.true)
 
-pub arranged-requires : goal.arranged-requires
-arranged-requires c =
-    let tells = tells_named (IsChannel c.args.channels.now) _ _ (rw c.as_slice-entries.ensures.value at c.name_channels.ensures) in
-    rw c.as_slice-entries.ensures.value (tells.0 c.if-not-name_channels.false)
-
 pub gather-requires : goal.gather-requires
 gather-requires c =
     let entries = c.args.component.now.entries.items in

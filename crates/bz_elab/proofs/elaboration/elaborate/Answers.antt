@@ -1,8 +1,8 @@
 use Rattle.std.proofs.Common.{arith, ap, inr, ◌≡◌, sym, ◌∙◌, length, subst, List}
 use Rattle.std.proofs.lemmas.Result.{err_from_is_err_and}
 use Rattle.std.specs.List.{All}
-use Rattle.bz_records.specs.declared.part.Part.{Part}
-use Rattle.bz_records.specs.Parts.{IsFit}
+use Rattle.bz_breeze_records.specs.declared.part.Part.{Part}
+use Rattle.bz_breeze_records.specs.Parts.{IsFit}
 use Rattle.bz_model.specs.Nets.{Wiring}
 use Rattle.bz_elab.specs.Refusals.{HasPortChannels}
 use Rattle.bz_flat.specs.Wires.{WellWired, EndsOf}

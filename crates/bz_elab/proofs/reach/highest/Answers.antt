@@ -1,6 +1,6 @@
 use Rattle.std.proofs.Common.{arith, sym, ◌∙◌, List, subst}
 use Rattle.std.proofs.lemmas.List.{take_all}
-use Rattle.bz_records.specs.declared.part.Component.{Component}
+use Rattle.bz_breeze_records.specs.declared.part.Component.{Component}
 use Rattle.bz_elab.specs.Numbers.{IsHighest}
 use Rattle.bz_elab.proofs.Slots.{take_item}
 use Rattle.bz_elab.proofs.Ranking.{highest_same, highest_more, upto_if}

@@ -1,6 +1,6 @@
 use Rattle.std.proofs.Common.{arith, length, List, refl, sym, ◌∙◌, ap, suc, subst}
 use Rattle.std.proofs.lemmas.Option.{slice_get_within}
-use Rattle.bz_records.specs.declared.part.Component.{Component}
+use Rattle.bz_breeze_records.specs.declared.part.Component.{Component}
 use Rattle.bz_elab.specs.Totals.{IsDeeper}
 use Rattle.bz_elab.proofs.Growing.{component_at}
 use Rattle.bz_elab.proofs.Reaching.{same_read}

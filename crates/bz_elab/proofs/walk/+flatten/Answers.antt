@@ -1,7 +1,7 @@
 use Rattle.std.proofs.Common.{arith, ◌+◌, [], ◌<◌, drop, length, sym, ◌∙◌, ap, suc, subst, refl, add-one}
 use Rattle.std.proofs.lemmas.Option.{slice_get_within}
 use Rattle.std.proofs.lemmas.Result.{err_from_is_err_and}
-use Rattle.bz_records.specs.declared.part.Part.{Part}
+use Rattle.bz_breeze_records.specs.declared.part.Part.{Part}
 use Rattle.bz_elab.specs.Refusals.{HasPortChannels}
 use Rattle.bz_elab.proofs.Growing.{component_at}
 use Rattle.bz_elab.proofs.Soundness.{part_read}

@@ -1,7 +1,8 @@
 use Rattle.std.proofs.Common.{◌≡◌, ◌∙◌, ap, subst, List, ℕ, Some, get_or, IsTrue}
 use Rattle.bz_model.specs.Heads.{carried, Component}
-use Rattle.bz_model.specs.Phases.{may_move}
+use Rattle.bz_model.specs.Phases.{allows}
 use Rattle.bz_model.proofs.Fitting.{fits-move}
+use Rattle.bz_kinds.specs.declared.ports.PortState.TheVariants.{Closed}
 use Rattle.bz_kinds.specs.Row.{Due, due_of, seen}
 use Rattle.bz_kinds.specs.Comp.{plan_due, Goes}
 use Rattle.bz_kinds.specs.Kept.{plan_of}
@@ -17,13 +18,13 @@ unreachable-requires c =
 
 pub carried-value-requires : goal.carried-value-requires
 carried-value-requires c =
-    let found : plan_due (plan_of c.comp.inside.plan) c.comp.inside.size c.comp.inside.left c.args.port (get_or c.comp.inside.ports c.args.port 0) ≡ Some (seen c.in-Some.due) = found-due (plan_of c.comp.inside.plan) c.comp.inside.size c.comp.inside.left c.args.port _ _ _ c.in-Some.due c.due_at.ensures c.in-Some.is c.get.ensures in
+    let found : plan_due (plan_of c.comp.inside.plan) c.comp.inside.size c.comp.inside.left c.args.port (get_or c.comp.inside.ports c.args.port Closed) ≡ Some (seen c.in-Some.due) = found-due (plan_of c.comp.inside.plan) c.comp.inside.size c.comp.inside.left c.args.port _ _ _ c.in-Some.due c.due_at.ensures c.in-Some.is c.get.ensures in
     let (at, small, (bits, sends)) = c.comp.invariant in
     due-narrow _ _ _ _ _ _ bits at sends c.args.port (seen c.in-Some.due) found
 
 pub advance-requires-clause-place : goal.advance-requires-clause-place
 advance-requires-clause-place c =
-    let found : plan_due (plan_of c.comp.inside.plan) c.comp.inside.size c.comp.inside.left c.args.port (get_or c.comp.inside.ports c.args.port 0) ≡ Some (seen c.in-Some.due) = found-due (plan_of c.comp.inside.plan) c.comp.inside.size c.comp.inside.left c.args.port _ _ _ c.in-Some.due c.due_at.ensures c.in-Some.is c.get.ensures in
+    let found : plan_due (plan_of c.comp.inside.plan) c.comp.inside.size c.comp.inside.left c.args.port (get_or c.comp.inside.ports c.args.port Closed) ≡ Some (seen c.in-Some.due) = found-due (plan_of c.comp.inside.plan) c.comp.inside.size c.comp.inside.left c.args.port _ _ _ c.in-Some.due c.due_at.ensures c.in-Some.is c.get.ensures in
     still-at _ _ _ _ c.args.port (seen c.in-Some.due) c.args.phase c.incoming-incoming.result _ _ c.comp.invariant.0 found c.incoming-incoming.ensures (c.get-3.ensures ∙ c.store.ensures)
 
 pub advance-requires-clause-due : goal.advance-requires-clause-due
@@ -35,11 +36,11 @@ goes c = rw c.get-3.ensures at c.advance.ensures
 
 pub returns-clause-moves : goal.returns-clause-moves
 returns-clause-moves c =
-    let found : plan_due (plan_of c.comp.inside.plan) c.comp.inside.size c.comp.inside.left c.args.port (get_or c.comp.inside.ports c.args.port 0) ≡ Some (seen c.in-Some.due) = found-due (plan_of c.comp.inside.plan) c.comp.inside.size c.comp.inside.left c.args.port _ _ _ c.in-Some.due c.due_at.ensures c.in-Some.is c.get.ensures in
+    let found : plan_due (plan_of c.comp.inside.plan) c.comp.inside.size c.comp.inside.left c.args.port (get_or c.comp.inside.ports c.args.port Closed) ≡ Some (seen c.in-Some.due) = found-due (plan_of c.comp.inside.plan) c.comp.inside.size c.comp.inside.left c.args.port _ _ _ c.in-Some.due c.due_at.ensures c.in-Some.is c.get.ensures in
     let (h, on, ok) = c.requires in
     let due = head-on-due _ _ _ _ _ _ _ c.comp.view_is c.comp.invariant.0 c.args.port h on in
     let same : due_of h ≡ (seen c.in-Some.due) = cc in
-    let may : IsTrue (may_move c.args.phase (seen c.in-Some.due).mv) = subst (λ (d : Due). IsTrue (may_move c.args.phase d.mv)) same ok in
+    let may : IsTrue (allows c.args.phase (seen c.in-Some.due).mv) = subst (λ (d : Due). IsTrue (allows c.args.phase d.mv)) same ok in
     moves _ _ _ _ _ _ _ c.comp.view_is c.comp.invariant.0 c.args.port c.args.phase (seen c.in-Some.due) _ _ _ _ _ found may c.incoming-incoming.ensures
     (c.carried-value.ensures ∙ ap (λ (s : List ℕ). carried (seen c.in-Some.due).mv (seen c.in-Some.due).gives s c.incoming-incoming.result) c.get-2.ensures)
     c.store.ensures
@@ -47,7 +48,7 @@ returns-clause-moves c =
 
 pub returns-clause-turns : goal.returns-clause-turns
 returns-clause-turns c =
-    let found : plan_due (plan_of c.comp.inside.plan) c.comp.inside.size c.comp.inside.left c.args.port (get_or c.comp.inside.ports c.args.port 0) ≡ Some (seen c.in-Some.due) = found-due (plan_of c.comp.inside.plan) c.comp.inside.size c.comp.inside.left c.args.port _ _ _ c.in-Some.due c.due_at.ensures c.in-Some.is c.get.ensures in
+    let found : plan_due (plan_of c.comp.inside.plan) c.comp.inside.size c.comp.inside.left c.args.port (get_or c.comp.inside.ports c.args.port Closed) ≡ Some (seen c.in-Some.due) = found-due (plan_of c.comp.inside.plan) c.comp.inside.size c.comp.inside.left c.args.port _ _ _ c.in-Some.due c.due_at.ensures c.in-Some.is c.get.ensures in
     turns _ _ _ _ _ _ _ c.comp.view_is c.comp.invariant.0 c.args.port (seen c.in-Some.due) _ _ _ found (goes c)
 
 pub returns-clause-one : goal.returns-clause-one
@@ -58,6 +59,6 @@ returns-clause-fits c fitted holds = fits-move c.args.comp.now _ c.args.port c.a
 
 pub invariant_of-comp : goal.invariant_of-comp
 invariant_of-comp c =
-    let found : plan_due (plan_of c.comp.inside.plan) c.comp.inside.size c.comp.inside.left c.args.port (get_or c.comp.inside.ports c.args.port 0) ≡ Some (seen c.in-Some.due) = found-due (plan_of c.comp.inside.plan) c.comp.inside.size c.comp.inside.left c.args.port _ _ _ c.in-Some.due c.due_at.ensures c.in-Some.is c.get.ensures in
+    let found : plan_due (plan_of c.comp.inside.plan) c.comp.inside.size c.comp.inside.left c.args.port (get_or c.comp.inside.ports c.args.port Closed) ≡ Some (seen c.in-Some.due) = found-due (plan_of c.comp.inside.plan) c.comp.inside.size c.comp.inside.left c.args.port _ _ _ c.in-Some.due c.due_at.ensures c.in-Some.is c.get.ensures in
     let (at, small, (bits, sends)) = c.comp.invariant in
     ((goes c).place, small, (bits, still-sends _ _ _ _ _ _ bits at sends c.args.port (seen c.in-Some.due) _ _ _ found (goes c)))

@@ -1,44 +1,115 @@
-use Rattle.std.proofs.Common.{◌≡◌, ℕ, ◌+◌, ◌<◌, ◌≤◌, List, map, length, vec_len, sum, sym, ap, subst, ◌∙◌, rules, arith}
-use Rattle.bz_model.specs.declared.event.Who.{Who}
+use Rattle.std.proofs.Common.{◌≡◌, ◌+◌, ◌≤◌, map, length, vec_len, sum, sym, ap, subst, ◌∙◌, arith}
+use Rattle.std.specs.declared.alloc.Global.{Global}
+use Rattle.std.specs.declared.vec.Vec.{Vec}
 use Rattle.bz_model.specs.declared.event.Who.TheVariants.{Host, Worker}
 use Rattle.bz_model.specs.Nets.{Wiring, opening}
 use Rattle.bz_model.specs.Runs.{Run}
+use Rattle.bz_locked.specs.Closing.{Agrees, Gathers}
 use Rattle.bz_locked.specs.Journal.{part_of, firings}
 use Rattle.bz_locked.specs.Parts.{SessionView, WorkerView}
+use Rattle.bz_locked.specs.Terms.{Terms, terms}
+use Rattle.bz_locked.specs.declared.closing.Closed.{Closed}
+use Rattle.bz_session.specs.declared.playing.End.{End}
+use Rattle.bz_pool.specs.Crews.{HavePlayed, TellsDiscord}
+use Rattle.bz_pool.specs.Pooled.{ArePlayed, IsPooled, RefusesPool}
+use Rattle.bz_pool.specs.declared.pool.PoolError.{PoolError}
+use Rattle.bz_pool.proofs.Played.{all_played, all_refused, ends_count, of_err, of_ok, terms_are}
 use Rattle.bz_pool.proofs.Pooling.{named, told}
 use Rattle.bz_pool.proofs.pool.pool.Goals as goal
 
-pub returns-in-Ok-close-clause-pooled : goal.returns-in-Ok-close-clause-pooled
-returns-in-Ok-close-clause-pooled g c =
-    let gathers = c.in-Ok-close.ensures.gathers in
-    let agrees = c.in-Ok-close.ensures.agrees in
-    let whos = c.in_ok-sessions.ensures.who in
+pub returns-in-Ok-in_scope-clause-pooled : goal.returns-in-Ok-in_scope-clause-pooled
+returns-in-Ok-in_scope-clause-pooled g c =
+    let crew = c.in-Ok-in_scope.crew in
+    let whos = c.in-Ok-in_scope.ensures.who in
     let made = c.in-Ok.ensures in
-    let closed = c.in-Ok-close.closed in
-    let journal = closed.net.journal in
     let count : c.len.result ≡ vec_len c.args.lists = c.len.ensures in
-    record {
+    let w = g.L.NetLedger.terms.wiring in
+    let fuel = g.L.NetLedger.terms.fuel in
+    of_ok
+    (λ (r : Closed × Vec End Global). Gathers w fuel crew.sessions.items crew.workers.items r.0)
+    (λ (r : Closed × Vec End Global). Agrees crew.sessions.items crew.workers.items r.0)
+    (λ (r : Closed × Vec End Global). IsPooled c.args.net.wiring c.args.fuel (vec_len c.args.lists) c.args.workers r.0)
+    c.close.result
+    (λ r gathers agrees. let journal = r.0.net.journal in record {
       opened = gathers.opened ∙ sym c.requires.opening.0;
-      run = subst (λ (w : Wiring). Run w (opening w) journal closed.net.state) (sym c.requires.opening.0) gathers.run;
+      run = subst (λ (w : Wiring). Run w (opening w) journal r.0.net.state) (sym c.requires.opening.0) gathers.run;
       records =
           gathers.records
-          ∙ told (λ (s : SessionView). s.who) (λ s. s.own) (λ who. part_of who journal) c.in_ok-sessions.field-0.sessions.items agrees.records
+          ∙ told (λ (s : SessionView). s.who) (λ s. s.own) (λ who. part_of who journal) crew.sessions.items agrees.records
           ∙ ap (map (λ who. part_of who journal)) (whos.0 ∙ named (λ (s : SessionView). s.who) Host _ 0 (vec_len c.args.lists) (omega (arith, made.sessions.0, count)) (λ k d lt. let e : k + 1 ≡ 0 + (k + 1) = omega arith in ap (λ (s : SessionView). s.who) (made.sessions.1 k d (omega (arith, lt, count))) ∙ ap Host e));
       shares =
           gathers.shares
-          ∙ told (λ (w : WorkerView). w.who) (λ w. w.fired) (λ who. firings who journal) c.in_ok-sessions.field-0.workers.items agrees.shares
-          ∙ ap (map (λ who. firings who journal)) (whos.1 ∙ named (λ (w : WorkerView). w.who) Worker _ 0 c.args.workers (omega (arith, made.workers.0)) (λ k d lt. let e : k + 1 ≡ 0 + (k + 1) = omega arith in ap (λ (w : WorkerView). w.who) (made.workers.1 k d lt) ∙ ap Worker e));
+          ∙ told (λ (v : WorkerView). v.who) (λ v. v.fired) (λ who. firings who journal) crew.workers.items agrees.shares
+          ∙ ap (map (λ who. firings who journal)) (whos.1 ∙ named (λ (v : WorkerView). v.who) Worker _ 0 c.args.workers (omega (arith, made.workers.0)) (λ k d lt. let e : k + 1 ≡ 0 + (k + 1) = omega arith in ap (λ (v : WorkerView). v.who) (made.workers.1 k d lt) ∙ ap Worker e));
       front = agrees.front;
       ledger = gathers.ledger;
-      within = subst (λ n. sum closed.shares.items ≤ n) (sym c.requires.opening.1) gathers.within;
-    }
+      within = subst (λ n. sum r.0.shares.items ≤ n) (sym c.requires.opening.1) gathers.within;
+    })
+    c.close.ensures.gathers
+    c.close.ensures.agrees
 
-pub in_scope-crew-requires-clause-sessions : goal.in_scope-crew-requires-clause-sessions
-in_scope-crew-requires-clause-sessions g c _ _ k d lt =
+pub returns-in-Ok-in_scope-clause-played : goal.returns-in-Ok-in_scope-clause-played
+returns-in-Ok-in_scope-clause-played g c =
+    let crew = c.in-Ok-in_scope.crew in
     let made = c.in-Ok.ensures in
-    ap (λ (s : SessionView). s.seat.table) (made.sessions.1 k d (omega (arith, made.sessions.0, lt)))
+    let count : c.len.result ≡ vec_len c.args.lists = c.len.ensures in
+    let whos = c.in-Ok-in_scope.ensures.who.0 ∙ named (λ (s : SessionView). s.who) Host _ 0 (length c.args.lists.items) (omega (arith, made.sessions.0, count, c.args.lists.ok.0)) (λ k d lt. let e : k + 1 ≡ 0 + (k + 1) = omega arith in ap (λ (s : SessionView). s.who) (made.sessions.1 k d (omega (arith, lt, count, c.args.lists.ok.0))) ∙ ap Host e) in
+    let t = terms c.args.net.wiring c.args.fuel (vec_len c.args.lists) in
+    let same_terms = terms_are g.L.NetLedger.terms c.args.net.wiring c.args.fuel (vec_len c.args.lists) c.requires.opening.0 c.requires.opening.1 c.requires.opening.2 in
+    let have = subst (λ (u : Terms). HavePlayed u c.args.lists.items crew.sessions.items (vec_len c.in-Ok.made.2) crew.ends.items) same_terms c.in-Ok-in_scope.ensures.played in
+    let number = subst (λ n. HavePlayed t c.args.lists.items crew.sessions.items n crew.ends.items) made.workers.0 have in
+    of_ok
+    (λ (r : Closed × Vec End Global). Agrees crew.sessions.items crew.workers.items r.0)
+    (λ (r : Closed × Vec End Global). r.1 ≡ crew.ends)
+    (λ (r : Closed × Vec End Global). ArePlayed t c.args.lists.items c.args.workers r.0.net.journal r.1.items)
+    c.close.result
+    (λ r agrees same. subst (λ (es : Vec End Global). ArePlayed t c.args.lists.items c.args.workers r.0.net.journal es.items) (sym same)
+    (all_played t r.0.net.journal c.args.lists.items crew.sessions.items c.args.workers crew.ends.items whos agrees.records number))
+    c.close.ensures.agrees
+    c.close.ensures.ends
 
-pub in_scope-crew-requires-clause-workers : goal.in_scope-crew-requires-clause-workers
-in_scope-crew-requires-clause-workers g c _ _ k d lt =
+pub returns-in-Ok-in_scope-clause-ends : goal.returns-in-Ok-in_scope-clause-ends
+returns-in-Ok-in_scope-clause-ends g c =
+    let crew = c.in-Ok-in_scope.crew in
+    let made = c.in-Ok.ensures in
+    let count = ends_count g.L.NetLedger.terms c.args.lists.items crew.sessions.items (vec_len c.in-Ok.made.2) crew.ends.items c.in-Ok-in_scope.ensures.played in
+    let number : vec_len crew.ends ≡ vec_len c.args.lists + c.args.workers = omega (arith, count, made.workers.0, c.args.lists.ok.0, crew.ends.ok.0) in
+    of_ok
+    (λ (r : Closed × Vec End Global). r.1 ≡ crew.ends)
+    (λ (r : Closed × Vec End Global). r.1 ≡ crew.ends)
+    (λ (r : Closed × Vec End Global). vec_len r.1 ≡ vec_len c.args.lists + c.args.workers)
+    c.close.result
+    (λ r same again. ap (λ (es : Vec End Global). vec_len es) same ∙ number)
+    c.close.ensures.ends
+    c.close.ensures.ends
+
+pub in_scope-requires-clause-sessions : goal.in_scope-requires-clause-sessions
+in_scope-requires-clause-sessions g c _ _ k d lt =
+    let made = c.in-Ok.ensures in
+    let is = made.sessions.1 k d (omega (arith, made.sessions.0, lt)) in
+    (ap (λ (s : SessionView). s.seat.table) is, ap (λ (s : SessionView). s.own) is)
+
+pub in_scope-requires-clause-workers : goal.in_scope-requires-clause-workers
+in_scope-requires-clause-workers g c _ _ k d lt =
     let made = c.in-Ok.ensures in
     ap (λ (w : WorkerView). w.seat.table) (made.workers.1 k d (omega (arith, made.workers.0, lt)))
+
+pub returns-in-Ok-in_scope-clause-refused : goal.returns-in-Ok-in_scope-clause-refused
+returns-in-Ok-in_scope-clause-refused g c =
+    let crew = c.in-Ok-in_scope.crew in
+    let made = c.in-Ok.ensures in
+    let count : c.len.result ≡ vec_len c.args.lists = c.len.ensures in
+    let whos = c.in-Ok-in_scope.ensures.who in
+    let w = g.L.NetLedger.terms.wiring in
+    let fuel = g.L.NetLedger.terms.fuel in
+    let hs = whos.0 ∙ named (λ (s : SessionView). s.who) Host _ 0 (vec_len c.args.lists) (omega (arith, made.sessions.0, count)) (λ k d lt. let e : k + 1 ≡ 0 + (k + 1) = omega arith in ap (λ (s : SessionView). s.who) (made.sessions.1 k d (omega (arith, lt, count))) ∙ ap Host e) in
+    let ws = whos.1 ∙ named (λ (v : WorkerView). v.who) Worker _ 0 c.args.workers (omega (arith, made.workers.0)) (λ k d lt. let e : k + 1 ≡ 0 + (k + 1) = omega arith in ap (λ (v : WorkerView). v.who) (made.workers.1 k d lt) ∙ ap Worker e) in
+    of_err
+    (λ (e : PoolError). (d : Closed) × Gathers w fuel crew.sessions.items crew.workers.items d × TellsDiscord crew.sessions.items crew.workers.items d e)
+    (λ (e : PoolError). RefusesPool c.args.net.wiring c.args.fuel (vec_len c.args.lists) c.args.workers e)
+    c.close.result
+    (λ e has.
+    let same = subst (λ (v : Wiring). Gathers v fuel crew.sessions.items crew.workers.items has.0) (sym c.requires.opening.0) has.1 in
+    let all = subst (λ n. Gathers c.args.net.wiring n crew.sessions.items crew.workers.items has.0) (sym c.requires.opening.1) same in
+    all_refused c.args.net.wiring c.args.fuel (vec_len c.args.lists) c.args.workers crew.sessions.items crew.workers.items has.0 e hs ws all has.2)
+    c.close.ensures.discord

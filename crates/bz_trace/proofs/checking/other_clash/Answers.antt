@@ -1,8 +1,8 @@
-use Rattle.std.proofs.Common.{◌≡◌, ◌≢◌, ◌++◌, ◌+◌, ℕ, List, [], length, get_or, Some, subst, sym, ap, arith}
+use Rattle.std.proofs.Common.{◌≡◌, ◌≢◌, ◌++◌, ◌+◌, [], length, get_or, Some, subst, sym, ap, arith}
 use Rattle.std.specs.List.{AllByRecursion}
 use Rattle.std.proofs.lemmas.Grind.{common_steps}
 use Rattle.bz_model.specs.Entries.{IsNumber32}
-use Rattle.bz_lines.specs.Texts.{clash_lines}
+use Rattle.bz_trace_text.specs.Texts.{clash_lines}
 use Rattle.bz_trace.specs.Verdicts.{FirstDiffers}
 use Rattle.bz_trace.proofs.Clashes.{stops_short, stops_other, all_there, goes_past, here_is, whole_take, more_read}
 use Rattle.bz_trace.proofs.checking.other_clash.Goals as goal

@@ -1,7 +1,7 @@
 use Rattle.std.proofs.Common.{◌≡◌, ◌++◌, take}
 use Rattle.std.specs.List.{AllByRecursion}
 use Rattle.bz_model.specs.Entries.{IsNumber32}
-use Rattle.bz_lines.specs.Texts.{clash_lines}
+use Rattle.bz_trace_text.specs.Texts.{clash_lines}
 use Rattle.bz_trace.proofs.checking.other_clash.Given as goal
 
 abbrev pub invariant-loop-comp : goal.invariant-loop-comp

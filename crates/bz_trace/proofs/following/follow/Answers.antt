@@ -1,4 +1,4 @@
-use Rattle.std.proofs.Common.{◌≡◌, Some, subst}
+use Rattle.std.proofs.Common.{subst}
 use Rattle.bz_model.specs.Nets.{outside}
 use Rattle.bz_model.specs.Entries.{HasLine}
 use Rattle.bz_net.proofs.Hosts.{port_range}

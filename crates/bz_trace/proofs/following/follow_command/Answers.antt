@@ -1,4 +1,4 @@
-use Rattle.std.proofs.Common.{◌≡◌, ◌≢◌, subst, sym, rules}
+use Rattle.std.proofs.Common.{◌≡◌, ◌≢◌, subst, rules}
 use Rattle.bz_model.specs.declared.event.Entry.TheVariants.{Host}
 use Rattle.bz_model.specs.declared.event.Reply.{Reply}
 use Rattle.bz_net.specs.Progress.{Enters}

@@ -1,0 +1,133 @@
+//! Which lifelines a chart shows, from left to right.
+
+use crate::rows::shown;
+use crate::scene::Chart;
+use bz_chart_layout::{Event, Lifeline, read_line};
+use bz_model::{Port, numbered};
+use std::alloc::{AllocError, Global};
+
+/// The least letters that a line of the trace has room for.
+const LEAST_LETTERS: u32 = 8;
+
+/// The lifelines that are shown, in order, and the place of each among them, from 0.
+#[derive(Drop)]
+pub(crate) struct Columns {
+    // of each port, and then of each component
+    places: Vec<Option<u32>>,
+    ports: u32,
+    /// From left to right.
+    pub shown: Vec<Lifeline>,
+    /// How many letters the longest of the lines has.
+    pub letters: u32,
+    // whether memory was refused
+    is_short: bool,
+}
+
+impl Columns {
+    /// Those on which something moves in these lines, and those at the other end of a channel on which something moves there:
+    /// passive ports, components, active ports, each by number.
+    pub fn of(alloc: Global, chart: Chart<'_>) -> Result<Columns, AllocError> {
+        let ports = chart.circuit.names().ports().len();
+        let count = ports.saturating_add(chart.circuit.comp_count() as usize);
+        let mut columns = Columns {
+            places: vec![in alloc; None; count]?,
+            ports: u32::try_from(ports).unwrap_or(u32::MAX),
+            shown: Vec::new(alloc),
+            letters: LEAST_LETTERS,
+            is_short: false,
+        };
+        columns.mark_lines(chart);
+        columns.put_ports(chart.circuit.names().ports(), true);
+        columns.put_comps(chart.circuit.comp_count());
+        columns.put_ports(chart.circuit.names().ports(), false);
+        if columns.is_short {
+            Err(AllocError)
+        } else {
+            Ok(columns)
+        }
+    }
+
+    pub fn count(&self) -> u32 {
+        u32::try_from(self.shown.len()).unwrap_or(u32::MAX)
+    }
+
+    /// The place of a lifeline, from 0, where it is shown.
+    pub fn place(&self, lifeline: Lifeline) -> Option<u32> {
+        numbered(&self.places, self.number(lifeline))
+            .copied()
+            .flatten()
+    }
+
+    // The number of a lifeline among all, from 1.
+    fn number(&self, lifeline: Lifeline) -> u32 {
+        match lifeline {
+            Lifeline::Port(port) => port,
+            Lifeline::Comp(comp) => comp.saturating_add(self.ports),
+        }
+    }
+
+    fn mark_lines(&mut self, chart: Chart<'_>) {
+        let piece = chart.piece;
+        let texts = chart.trace.split_inclusive(|byte| *byte == b'\n');
+        for (number, text) in (piece.first..=piece.last()).zip(texts.skip(piece.first - 1)) {
+            if let Some(line) = read_line(chart.circuit, chart.names, number, text) {
+                self.letters = self.letters.max(shown(&line).letters());
+                self.mark_event(line.event);
+            }
+        }
+    }
+
+    // Whoever takes part is in the first column for now.
+    fn mark_event(&mut self, event: Event) {
+        match event {
+            Event::Moved(step) => {
+                self.set(step.maker, 0);
+                self.set(step.other, 0);
+            }
+            Event::Watched { port, .. } | Event::Refused { port, .. } => {
+                self.set(Lifeline::Port(port), 0)
+            }
+            Event::Rested => {}
+            Event::Clashed { comp } => self.set(Lifeline::Comp(comp), 0),
+        }
+    }
+
+    fn set(&mut self, lifeline: Lifeline, place: u32) {
+        let number = self.number(lifeline);
+        set(&mut self.places, number, Some(place));
+    }
+
+    // The ports of one sense, by number.
+    fn put_ports(&mut self, ports: &[Port], passive: bool) {
+        for (number, port) in (1..=self.ports).zip(ports) {
+            if port.passive == passive {
+                self.put(Lifeline::Port(number));
+            }
+        }
+    }
+
+    fn put_comps(&mut self, count: u32) {
+        for number in 1..=count {
+            self.put(Lifeline::Comp(number));
+        }
+    }
+
+    // Puts it in the next column, where it takes part.
+    fn put(&mut self, lifeline: Lifeline) {
+        if self.place(lifeline).is_some() {
+            self.set(lifeline, self.count());
+            if self.shown.push(lifeline).is_err() {
+                self.is_short = true;
+            }
+        }
+    }
+}
+
+/// Sets the element of this number, counted from 1, where there is one.
+pub(crate) fn set<T: Drop>(items: &mut [T], number: u32, value: T) {
+    if number > 0 {
+        if let Some(item) = items.get_mut(number as usize - 1) {
+            *item = value;
+        }
+    }
+}

@@ -1,0 +1,28 @@
+//! What all parts of a drawing go by.
+
+use crate::columns::Columns;
+use bz_chart_layout::{Circuit, Layout, Piece};
+use bz_source::Survey;
+use bz_trace_text::LineNames;
+
+/// What is drawn: a piece of the trace of a part's net.
+#[derive(Clone, Copy)]
+pub(crate) struct Chart<'a> {
+    pub circuit: &'a Circuit,
+    pub names: &'a LineNames<'a>,
+    pub survey: &'a Survey,
+    pub part: &'a [u8],
+    pub trace: &'a [u8],
+    pub piece: Piece,
+}
+
+/// The lifelines that are shown of it, and the places of all.
+#[derive(Clone, Copy)]
+pub(crate) struct Scene<'a> {
+    pub chart: Chart<'a>,
+    pub columns: &'a Columns,
+    pub layout: Layout,
+}
+
+/// Where the lifelines begin.
+pub(crate) const TOP: u64 = 96;

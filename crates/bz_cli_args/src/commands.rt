@@ -1,0 +1,134 @@
+//! The program with its commands.
+
+use crate::help::{
+    ALL_COMMANDS, CHART, CHECK, DRAW, EXPLORE, LIST, PARTS, POOL, PROGRAM, RUN, VERSION,
+};
+use crate::options::{
+    AROUND, DEPTH, EXPLAIN, FROM, FUEL, HOPS, JOURNAL, NETLIST, Opt, PART, PART_FORM, PATHS,
+    REQUIRED_NETLIST, SESSIONS, STRICT, TO, TRACE, WORD_FILE, WORDS, WORKERS, arg_of,
+};
+use clap::{Arg, Command};
+use std::alloc::{AllocError, Global};
+
+/// A command of the program.
+#[derive(Clone, Copy)]
+struct Sub {
+    name: &'static str,
+    about: &'static str,
+    /// What stands behind the options in its help.
+    after: &'static str,
+    options: &'static [Opt],
+}
+
+/// The commands, in the order of the help.
+const SUBS: [Sub; 8] = [
+    Sub {
+        name: "run",
+        about: "Play words on a part's net, and write the trace",
+        after: RUN,
+        options: &[PART, PART_FORM, NETLIST, JOURNAL, STRICT, WORD_FILE, WORDS],
+    },
+    Sub {
+        name: "explore",
+        about: "Play a part's net by hand: each line of standard input has its answer",
+        after: EXPLORE,
+        options: &[PART, PART_FORM, REQUIRED_NETLIST],
+    },
+    Sub {
+        name: "check",
+        about: "Tell whether a trace is that of a run of a part's net",
+        after: CHECK,
+        options: &[PART, PART_FORM, NETLIST, TRACE],
+    },
+    Sub {
+        name: "list",
+        about: "List the ports and components of a part's net",
+        after: LIST,
+        options: &[PART, PART_FORM, NETLIST, PATHS],
+    },
+    Sub {
+        name: "parts",
+        about: "List the parts of a netlist, and which of them are on top",
+        after: PARTS,
+        options: &[NETLIST],
+    },
+    Sub {
+        name: "draw",
+        about: "Draw a part's net as a graph for Graphviz",
+        after: DRAW,
+        options: &[PART, PART_FORM, NETLIST, DEPTH, AROUND, HOPS],
+    },
+    Sub {
+        name: "chart",
+        about: "Draw a trace as SVG, where it is that of a run of a part's net",
+        after: CHART,
+        options: &[PART, PART_FORM, NETLIST, TRACE, FROM, TO],
+    },
+    Sub {
+        name: "pool",
+        about: "Play words of several sessions beside workers, each on a thread, and write the trace",
+        after: POOL,
+        options: &[
+            PART, PART_FORM, NETLIST, WORKERS, FUEL, JOURNAL, WORD_FILE, SESSIONS,
+        ],
+    },
+];
+
+// The arguments of options.
+fn args_of<'a>(alloc: Global, options: &[Opt]) -> Result<Vec<Arg<'a>>, AllocError> {
+    let mut args = Vec::new(alloc);
+    for option in options {
+        push_arg(&mut args, arg_of(alloc, option))?;
+    }
+    Ok(args)
+}
+
+// Adds an argument, where memory sufficed for it. Nothing else is owned here.
+fn push_arg<'a>(
+    args: &mut Vec<Arg<'a>>,
+    arg: Result<Arg<'a>, AllocError>,
+) -> Result<(), AllocError> {
+    args.push(arg?)?;
+    Ok(())
+}
+
+fn command_of<'a>(alloc: Global, sub: &Sub) -> Result<Command<'a>, AllocError> {
+    let args = args_of(alloc, sub.options)?;
+    Command::new(alloc, sub.name)
+        .about(sub.about)
+        .after_help(sub.after)
+        .args(args)
+}
+
+fn commands_of<'a>(alloc: Global, subs: &[Sub]) -> Result<Vec<Command<'a>>, AllocError> {
+    let mut commands = Vec::new(alloc);
+    for sub in subs {
+        push_command(&mut commands, command_of(alloc, sub))?;
+    }
+    Ok(commands)
+}
+
+// Adds a command, where memory sufficed for it.
+fn push_command<'a>(
+    commands: &mut Vec<Command<'a>>,
+    command: Result<Command<'a>, AllocError>,
+) -> Result<(), AllocError> {
+    commands.push(command?)?;
+    Ok(())
+}
+
+fn program<'a>(alloc: Global) -> Result<Command<'a>, AllocError> {
+    let explain = arg_of(alloc, &EXPLAIN)?;
+    Command::new(alloc, "breezesim")
+        .about(PROGRAM)
+        .after_help(ALL_COMMANDS)
+        .version(VERSION)
+        .subcommand_required(true)
+        .arg(explain)
+}
+
+/// The program with its commands.
+pub fn command_line<'a>(alloc: Global) -> Result<Command<'a>, AllocError> {
+    let commands = commands_of(alloc, &SUBS)?;
+    program(alloc)?.subcommands(commands)
+}

@@ -1,0 +1,145 @@
+//! The texts of the help.
+
+/// What `--version` tells: the version, and the logic by which the program is proved. Kits of several names have one logic.
+pub(crate) const VERSION: &str = "0.1.0\nrattle logic dac8208d650f15bf";
+
+pub(crate) const PROGRAM: &str = "\
+Simulates handshake circuits, given as Breeze netlists. What it plays, lists and refuses is proved.";
+
+/// What stands behind the options of the program.
+pub(crate) const ALL_COMMANDS: &str = "\
+`breezesim help COMMAND` tells a command's options, statuses and an example of it.
+
+Example:
+  breezesim run --part buffer --netlist examples/buffer.breeze offer:activate run:100";
+
+/// What stands behind the options of `run`.
+pub(crate) const RUN: &str = "\
+The netlist comes from FILE or from standard input. The trace goes to standard output.
+
+Words, played in order as host 1:
+  offer:P, offer:P:V    begin a handshake at a port declared passive, with a value at a push port
+  collect:P             end it: take the reply, with its value at a pull port
+  accept:P              take the request at a port declared active, with its value at a push port
+  answer:P, answer:P:V  reply to it, with a value at a pull port
+  watch:P               read the phase of a port
+  run:N                 fire up to N times, from component 1 on
+P is a port's name, in which %3A stands for a colon. V and N are decimal numbers, V below 2^128, N below 2^64.
+
+Statuses:
+  0  all words were played
+  1  the netlist is refused (S, B and E faults)
+  2  the command line or a word is bad (H1), a file cannot be opened, or a file of words cannot be read
+  3  an event was refused (N faults), or with --strict a host command was not done,
+     input or output failed (F1, F2), or memory ran out (F3)
+
+Example:
+  breezesim run --part buffer --netlist examples/buffer.breeze offer:activate run:100";
+
+/// What stands behind the options of `explore`.
+pub(crate) const EXPLORE: &str = "\
+Standard input has a command on each line. The line `help` lists them. On a terminal each has a prompt.
+
+Statuses:
+  0  each line was followed, and each reply was as expected
+  1  a reply was not as expected, or the netlist is refused (S, B and E faults)
+  2  a line could not be followed, the command line is bad, or a file cannot be opened
+  3  input or output failed (F1, F2), or memory ran out (F3)
+
+Example:
+  breezesim explore --part cross --netlist examples/cross.breeze";
+
+/// What stands behind the options of `check`.
+pub(crate) const CHECK: &str = "\
+The netlist comes from --netlist or from standard input. The trace comes from --trace, or else stands behind the netlist, as
+cat makes one text of two files. With --trace it may have any length. One line is written:
+  run: F fired, H host, R rest  the trace is that of a run, with so many entries of each kind
+  not a run: line L             line L is the first that no run allows
+  not a trace: line L           line L is the first malformed line
+
+Statuses:
+  0  the trace is that of a run
+  1  it is not, or the netlist is refused (S, B and E faults)
+  2  the command line is bad, or a file cannot be opened
+  3  input or output failed (F1, F2), or memory ran out (F3)
+
+Examples:
+  breezesim check --part buffer --netlist examples/buffer.breeze --trace examples/buffer.trace
+  cat examples/buffer.breeze examples/buffer.trace | breezesim check --part buffer";
+
+/// What stands behind the options of `list`.
+pub(crate) const LIST: &str = "\
+The netlist comes from FILE or from standard input. Components and channels are told by their numbers in the net.
+
+Statuses:
+  0  the list was written
+  1  the netlist is refused (S, B and E faults)
+  2  the command line is bad, or a file cannot be opened
+  3  input or output failed (F1, F2), or memory ran out (F3)
+
+Example:
+  breezesim list --part pipeline --netlist examples/pipeline.breeze --paths";
+
+/// What stands behind the options of `parts`.
+pub(crate) const PARTS: &str = "\
+The netlist comes from FILE or from standard input. Each part is told as its text has it: no net is opened.
+
+Statuses:
+  0  the parts were listed
+  1  the netlist is refused (S and B faults)
+  2  the command line is bad, or a file cannot be opened
+  3  input or output failed (F1, F2), or memory ran out (F3)
+
+Example:
+  breezesim parts --netlist examples/pipeline.breeze";
+
+/// What stands behind the options of `draw`.
+pub(crate) const DRAW: &str = "\
+The netlist comes from FILE or from standard input. The graph is in the DOT language.
+Without --depth the greatest depth is taken at which at most 300 components and boxes are drawn, or else 0.
+A drawing holds 5000 components and boxes: of a larger net, --around C draws what is near component C.
+
+Statuses:
+  0  the graph was written
+  1  the netlist is refused (S, B and E faults)
+  2  the command line is bad, a file cannot be opened, or there is no such drawing
+  3  input or output failed (F1, F2), or memory ran out (F3)
+
+Example:
+  breezesim draw --part buffer --netlist examples/buffer.breeze | dot -Tsvg > buffer.svg";
+
+/// What stands behind the options of `chart`.
+pub(crate) const CHART: &str = "\
+The netlist comes from --netlist or from standard input. The trace comes from --trace, or else stands behind the netlist, as
+cat makes one text of two files. A chart holds 2000 lines.
+
+Statuses:
+  0  the chart was written
+  1  the trace is not that of a run, or the netlist is refused (S, B and E faults)
+  2  the command line is bad, a file cannot be opened, or the lines asked for are not there or too many
+  3  input or output failed (F1, F2), or memory ran out (F3)
+
+Example:
+  breezesim chart --part buffer --netlist examples/buffer.breeze --trace examples/buffer.trace > buffer.svg";
+
+/// What stands behind the options of `pool`.
+pub(crate) const POOL: &str = "\
+The netlist comes from FILE or from standard input. The trace goes to standard output once all have ended.
+
+Words of up to 16 sessions, a / alone between one session's words and the next one's. Each word waits until it can be played:
+  offer:P, offer:P:V    begin a handshake at a port declared passive, with a value at a push port
+  collect:P             end it: take the reply, with its value at a pull port
+  accept:P              take the request at a port declared active, with its value at a push port
+  answer:P, answer:P:V  reply to it, with a value at a pull port
+  watch:P               read the phase of a port
+P is a port's name, in which %3A stands for a colon. V is a decimal number below 2^128.
+
+Statuses:
+  0  all came to an end, also where a session still waited: a note on standard error tells it
+  1  the netlist is refused (S, B and E faults)
+  2  the command line or a word is bad (H1), a file cannot be opened, or a file of words cannot be read
+  3  an event was refused (N faults), records disagree (C1), a thread could not be started (P3),
+     input or output failed (F1, F2), or memory ran out (F3)
+
+Example:
+  breezesim pool --part two --netlist examples/two.breeze --words examples/two.words";

@@ -1,0 +1,266 @@
+//! The options of the commands, and their words.
+
+use clap::builder::ValueParser;
+use clap::{Arg, ArgAction};
+use std::alloc::{AllocError, Global};
+
+/// The longest journal that may be asked for, in entries.
+pub const MAX_JOURNAL: u32 = 16_777_216;
+
+/// The most workers of a pool.
+pub const MAX_WORKERS: u8 = 8;
+
+/// The most entries of the journal where none is asked for: what `JOURNAL` has as its default.
+pub(crate) const JOURNAL_BY_DEFAULT: u32 = 1_000_000;
+
+/// The workers of a pool where no number is asked for: what `WORKERS` has as its default.
+pub(crate) const WORKERS_BY_DEFAULT: u8 = 2;
+
+/// The most firings of a pool where none is asked for: what `FUEL` has as its default.
+pub(crate) const FUEL_BY_DEFAULT: u64 = 1_000_000;
+
+/// How many channels away from a component what is drawn may be where no number is asked for: what `HOPS` has as its default.
+pub(crate) const HOPS_BY_DEFAULT: u32 = 2;
+
+/// How an option stands on the command line.
+#[derive(Clone, Copy)]
+enum Name {
+    /// By a long name, as `--netlist`.
+    Long(&'static str),
+    /// By a long name and a letter, as `--part` and `-p`.
+    Short(&'static str, char),
+    /// By its place alone, and any number of times.
+    Words,
+}
+
+/// An option of a command, or its words.
+#[derive(Clone, Copy)]
+pub(crate) struct Opt {
+    /// What the program asks for it by.
+    id: &'static str,
+    name: Name,
+    /// What the help calls its value: nothing for a flag.
+    value: &'static [&'static str],
+    help: &'static str,
+    action: ArgAction,
+    parser: ValueParser<'static>,
+    /// Its value where it is not given, if there is one.
+    default: &'static [&'static str],
+    /// The options that it can't stand beside.
+    conflicts: &'static [&'static str],
+    /// The options without which it can't stand.
+    needs: &'static [&'static str],
+    takes_hyphens: bool,
+    is_required: bool,
+    is_global: bool,
+}
+
+/// An option with a text.
+const TEXT: Opt = Opt {
+    id: "",
+    name: Name::Words,
+    value: &["FILE"],
+    help: "",
+    action: ArgAction::Set,
+    parser: ValueParser::String,
+    default: &[],
+    conflicts: &[],
+    needs: &[],
+    takes_hyphens: true,
+    is_required: false,
+    is_global: false,
+};
+
+/// An option with a number.
+const NUMBER: Opt = Opt {
+    value: &["N"],
+    takes_hyphens: false,
+    ..TEXT
+};
+
+/// An option with no value.
+const FLAG: Opt = Opt {
+    value: &[],
+    action: ArgAction::SetTrue,
+    parser: ValueParser::Bool,
+    takes_hyphens: false,
+    ..TEXT
+};
+
+pub(crate) const EXPLAIN: Opt = Opt {
+    id: "explain",
+    name: Name::Long("explain"),
+    help: "After a fault, print where it is, what was found and what was expected",
+    is_global: true,
+    ..FLAG
+};
+
+pub(crate) const PART: Opt = Opt {
+    id: "part",
+    name: Name::Short("part", 'p'),
+    value: &["P"],
+    help: "The part to open; by default the one that no other part uses, if there is only one",
+    ..TEXT
+};
+
+pub(crate) const PART_FORM: Opt = Opt {
+    id: "part-form",
+    name: Name::Long("part-form"),
+    value: &["F"],
+    help: "The part to open, its name in name form, where %ff is the byte 255",
+    conflicts: &["part"],
+    ..TEXT
+};
+
+pub(crate) const NETLIST: Opt = Opt {
+    id: "netlist",
+    name: Name::Short("netlist", 'n'),
+    help: "Read the netlist from FILE; - is standard input, and the default",
+    ..TEXT
+};
+
+pub(crate) const REQUIRED_NETLIST: Opt = Opt {
+    help: "Read the netlist from FILE",
+    is_required: true,
+    ..NETLIST
+};
+
+pub(crate) const TRACE: Opt = Opt {
+    id: "trace",
+    name: Name::Long("trace"),
+    help: "Read the trace from FILE, not from behind the netlist; - is standard input",
+    ..TEXT
+};
+
+pub(crate) const WORD_FILE: Opt = Opt {
+    id: "word-file",
+    name: Name::Short("words", 'w'),
+    help: "Read the words from FILE, separated by white space; # starts a comment, - is standard input",
+    conflicts: &["words"],
+    ..TEXT
+};
+
+pub(crate) const PATHS: Opt = Opt {
+    id: "paths",
+    name: Name::Long("paths"),
+    help: "List each channel, instance and component with its place in the text",
+    ..FLAG
+};
+
+pub(crate) const DEPTH: Opt = Opt {
+    id: "depth",
+    name: Name::Long("depth"),
+    help: "Draw each instance within N others as one box, N from 0 to 4294967295",
+    parser: ValueParser::Signed(0, 4_294_967_295),
+    ..NUMBER
+};
+
+pub(crate) const AROUND: Opt = Opt {
+    id: "around",
+    name: Name::Long("around"),
+    value: &["C"],
+    help: "Draw component C and what is near it alone, and no box",
+    parser: ValueParser::Signed(1, 4_294_967_295),
+    conflicts: &["depth"],
+    ..NUMBER
+};
+
+pub(crate) const HOPS: Opt = Opt {
+    id: "hops",
+    name: Name::Long("hops"),
+    help: "How many channels away from C what is drawn may be",
+    parser: ValueParser::Signed(0, 4_294_967_295),
+    default: &["2"],
+    needs: &["around"],
+    ..NUMBER
+};
+
+pub(crate) const JOURNAL: Opt = Opt {
+    id: "journal",
+    name: Name::Long("journal"),
+    help: "The most entries of the journal, from 1 to 16777216",
+    parser: ValueParser::Signed(1, MAX_JOURNAL as i64),
+    default: &["1000000"],
+    ..NUMBER
+};
+
+pub(crate) const STRICT: Opt = Opt {
+    id: "strict",
+    name: Name::Long("strict"),
+    help: "Stop at the first host command that is answered busy, not-yet or not-taken, with status 3",
+    ..FLAG
+};
+
+pub(crate) const WORKERS: Opt = Opt {
+    id: "workers",
+    name: Name::Long("workers"),
+    help: "The number of workers, each on a thread of its own, from 1 to 8",
+    parser: ValueParser::Signed(1, MAX_WORKERS as i64),
+    default: &["2"],
+    ..NUMBER
+};
+
+pub(crate) const FUEL: Opt = Opt {
+    id: "fuel",
+    name: Name::Long("fuel"),
+    help: "The most firings of all workers together, from 0 to 18446744073709551615",
+    parser: ValueParser::Unsigned(0, u64::MAX),
+    default: &["1000000"],
+    ..NUMBER
+};
+
+pub(crate) const FROM: Opt = Opt {
+    id: "from",
+    name: Name::Long("from"),
+    value: &["L"],
+    help: "The first line of the trace to draw; 2 by default, and in place of a smaller L",
+    parser: ValueParser::Unsigned(0, u64::MAX),
+    ..NUMBER
+};
+
+pub(crate) const TO: Opt = Opt {
+    id: "to",
+    name: Name::Long("to"),
+    help: "The last line to draw; by default the last of the trace",
+    ..FROM
+};
+
+pub(crate) const WORDS: Opt = Opt {
+    id: "words",
+    name: Name::Words,
+    value: &["WORDS"],
+    help: "offer:P[:V], collect:P, accept:P, answer:P[:V], watch:P or run:N, each as told below",
+    action: ArgAction::Append,
+    takes_hyphens: false,
+    ..TEXT
+};
+
+pub(crate) const SESSIONS: Opt = Opt {
+    help: "offer:P[:V], collect:P, accept:P, answer:P[:V] or watch:P; a / begins the next session",
+    ..WORDS
+};
+
+// An argument that stands where the option says.
+fn begun<'a>(alloc: Global, option: &Opt) -> Arg<'a> {
+    let arg = Arg::new(alloc, option.id);
+    match option.name {
+        Name::Long(long) => arg.long(long),
+        Name::Short(long, short) => arg.long(long).short(short),
+        Name::Words => arg.num_args(0..),
+    }
+}
+
+/// The argument that the parser of the command line takes for an option.
+pub(crate) fn arg_of<'a>(alloc: Global, option: &Opt) -> Result<Arg<'a>, AllocError> {
+    begun(alloc, option)
+        .value_names(option.value)
+        .help(option.help)
+        .action(option.action)
+        .value_parser(option.parser)
+        .default_values(option.default)
+        .allow_hyphen_values(option.takes_hyphens)
+        .required(option.is_required)
+        .global(option.is_global)
+        .conflicts_with_all(option.conflicts)?
+        .requires_all(option.needs)
+}

@@ -1,0 +1,222 @@
+-- A play whose entries go out in pieces.
+use Rattle.std.proofs.Common.{◌≡◌, ◌≢◌, ◌<◌, ◌≤◌, ◌+◌, ℕ, zero, suc, Bool, true, false, Option, None, Some, Result, Ok, Err, List, [], ◌∷◌, ◌++◌, length, take, get_or, refl, sym, ap, subst, ◌∙◌, arith, append_assoc, append-nil, codes}
+use Rattle.std.specs.List.{flat_map}
+use Rattle.std.proofs.lemmas.Grind.{flat_map-append}
+use Rattle.std.specs.List.Sorted.{IsStrictlyIncreasing}
+use Rattle.std.specs.Result.{is_err}
+use Rattle.std.specs.Io.KnownBytes.{Appends}
+use Rattle.bz_model.specs.declared.channel.Move.{Move}
+use Rattle.bz_model.specs.declared.event.Who.{Who}
+use Rattle.bz_model.specs.declared.event.Entry.{Entry}
+use Rattle.bz_model.specs.declared.event.Entry.TheVariants.{Fired, Host, Rested}
+use Rattle.bz_model.specs.declared.event.Cmd.{Cmd}
+use Rattle.bz_model.specs.declared.event.HostCmd.{HostCmd}
+use Rattle.bz_model.specs.declared.event.NetError.{NetError}
+use Rattle.bz_model.specs.declared.event.NetError.TheVariants.{Memory}
+use Rattle.bz_model.specs.Clashes.{AreClashed}
+use Rattle.bz_model.specs.Names.{External}
+use Rattle.bz_model.specs.Nets.{Site, Wiring, State}
+use Rattle.bz_model.specs.Plays.{Firings, Stops}
+use Rattle.bz_model.specs.Traces.{line_text, clash_text, trace_text}
+use Rattle.bz_text.specs.Writing.{AppendsFront}
+use Rattle.bz_trace_text.specs.Writing.{HasLines, WritesLines, first_lines}
+use Rattle.bz_net.specs.declared.event.Piece.{Piece}
+use Rattle.bz_net.specs.declared.event.RunEnd.{RunEnd}
+use Rattle.bz_net.specs.declared.event.RunEnd.TheVariants.{Rest, Spent, Refused}
+use Rattle.bz_net.specs.Progress.{Progress, IsToldBy, LeadsOn, RanTo, RunsInto, with_journal}
+use Rattle.bz_net.specs.Replies.{RefusesCommand, RefusesEntry}
+use Rattle.bz_net.specs.Running.{Plays, Ran}
+use Rattle.bz_net.specs.Simulation.{Simulation}
+use Rattle.bz_cli_core.specs.declared.pending.Pending.{Pending}
+use Rattle.bz_cli_core.specs.Playing.{Playing, PlaysOne, StopsOne}
+use Rattle.bz_cli_core.specs.declared.playing.Stop.{Stop}
+use Rattle.bz_cli_core.specs.Running.{Played}
+use Rattle.bz_cli_input.specs.Stopping.{AppendsSome}
+use Rattle.bz_cli_core.specs.Sending.{GoesOut, IsSent, PlaysOut, PutsOut, SentUp}
+use Rattle.bz_cli_core.proofs.Played.{plays_on, stops_there}
+use Rattle.bz_cli_input.proofs.Written.{all_of, some_front}
+
+-- all of a text went out, whatever a flush answered
+pub puts_all : {A E : Type 0} (r : Result A E) (old new : Option (List ℕ)) (text : List ℕ) → Appends old new text → PutsOut old new r text
+puts_all (Ok u) old new text went = went
+puts_all (Err e) old new text went = all_of old new text went
+
+module _ (ports : List External) (start : Option (List ℕ)) where
+  -- entries are held behind those that were
+  pub sent_more : (failed : Bool) (now : Option (List ℕ)) (played held more : List Entry) → SentUp ports start played now failed held → SentUp ports start (played ++ more) now failed (held ++ more)
+  sent_more false now played held more (written, is, has) = (written, ap (λ es. es ++ more) is ∙ append_assoc written held more, has)
+  sent_more true now played held more (front, rest, cut, went) =
+      (front, rest ++ flat_map (line_text ports) more, longer, went)
+    where
+      longer : first_lines ports (played ++ more) ≡ front ++ (rest ++ flat_map (line_text ports) more)
+      longer =
+          ap (λ t. codes "trace 2\n" ++ t) (flat_map-append (line_text ports) played more)
+          ∙ (ap (λ t. t ++ flat_map (line_text ports) more) cut ∙ append_assoc front rest (flat_map (line_text ports) more))
+
+  -- what failed within the lines failed within the trace
+  pub some_of_trace : (now : Option (List ℕ)) (played : List Entry) (comps : List ℕ) → AppendsSome start now (first_lines ports played) → AppendsSome start now (trace_text ports played comps)
+  some_of_trace now played comps (front, rest, cut, went) =
+      (front, rest ++ flat_map clash_text comps, ap (λ t. t ++ flat_map clash_text comps) cut ∙ append_assoc front rest (flat_map clash_text comps), went)
+
+  -- where nothing is held and the writer didn't fail, all lines went out
+  pub all_sent : (failed : Bool) (now : Option (List ℕ)) (played held : List Entry) → failed ≡ false → held ≡ [] → SentUp ports start played now failed held → HasLines ports start now played
+  all_sent true now played held is none sent = absurd (cc)
+  all_sent false now played held is none (written, all, has) = subst (λ es. HasLines ports start now es) (sym (all ∙ (ap (λ es. written ++ es) none ∙ append-nil written))) has
+
+-- a net without a journal refuses no entry for memory
+pub entry_wants : (p : Progress) (journal : List Entry) (e : NetError) → RefusesEntry (with_journal p journal) e → e ≢ Memory
+entry_wants p journal e refuses is =
+    let here : RefusesEntry (with_journal p journal) Memory = subst (RefusesEntry (with_journal p journal)) is refuses in
+    let below = here.0 in let none = here.1 in
+    omega (arith, below, none)
+
+pub command_wants : (p : Progress) (journal : List Entry) (cmd : HostCmd) (e : NetError) → RefusesCommand (with_journal p journal) cmd.verb cmd.port.items cmd.value e → e ≢ Memory
+command_wants p journal cmd e refuses is =
+    entry_wants p journal Memory (subst (RefusesCommand (with_journal p journal) cmd.verb cmd.port.items cmd.value) is refuses).1 refl
+
+-- no entry more
+pub no_more : (p : Progress) (played : List Entry) → IsToldBy p played → IsToldBy p (played ++ [])
+no_more p played told = subst (IsToldBy p) (sym (append-nil played)) told
+
+pub leads_then : (a b c : Progress) (es fs : List Entry) → LeadsOn a es b → LeadsOn b fs c → LeadsOn a (es ++ fs) c
+leads_then a b c es fs one two journal told = subst (IsToldBy c) (append_assoc journal es fs) (two (journal ++ es) (one journal told))
+
+-- firings, and more from where they ended
+pub Firings-append : (sites : List Site) (who : Who) (s : State) (from n : ℕ) (es : List Entry) (mid : ℕ) (m : State) (k : ℕ) (fs : List Entry) (to : ℕ) (last : State) → Firings sites who s from n es mid m → Firings sites who m mid k fs to last → Firings sites who s from (n + k) (es ++ fs) to last
+Firings-append sites who s from zero es mid m k fs to last f g =
+    let all : k ≡ zero + k = omega arith in
+    subst (λ i. Firings sites who s from i (es ++ fs) to last) all
+    (subst (λ xs. Firings sites who s from k (xs ++ fs) to last) (sym f.0)
+    (subst (λ t. Firings sites who t from k fs to last) f.2 (subst (λ i. Firings sites who m i k fs to last) f.1 g)))
+Firings-append sites who s from (suc n) [] mid m k fs to last f g = absurd f
+Firings-append sites who s from (suc n) (Fired who' c p j mv value ∷ es) mid m k fs to last (same, is_next, lowest, (next, step, rest)) g =
+    let more : suc (n + k) ≡ suc n + k = omega arith in
+    subst (λ i. Firings sites who s from i (Fired who' c p j mv value ∷ (es ++ fs)) to last) more (same, is_next, lowest, (next, step, Firings-append sites who next (c + 1) n es mid m k fs to last rest g))
+Firings-append sites who s from (suc n) (Host who' verb port value reply ∷ es) mid m k fs to last f g = absurd f
+Firings-append sites who s from (suc n) (Rested who' ∷ es) mid m k fs to last f g = absurd f
+
+pub plays_then : (a b c : Simulation) (who : Who) (from n mid k to : ℕ) → Plays a b who from n mid → Plays b c who mid k to → Plays a c who from (n + k) to
+plays_then a b c who from n mid k to p q = record {
+  entries = p.entries ++ q.entries;
+  journal = q.journal ∙ (ap (λ es. es ++ q.entries) p.journal ∙ append_assoc a.journal p.entries q.entries);
+  firings =
+      Firings-append a.wiring.sites who a.state from n p.entries mid b.state k q.entries to c.state p.firings
+      (subst (λ (w : Wiring). Firings w.sites who b.state mid k q.entries to c.state) p.wiring q.firings);
+  wiring = q.wiring ∙ p.wiring;
+  limit = q.limit ∙ p.limit;
+  room = let one = p.room in let two = q.room in omega (arith, one, two);
+}
+
+-- firings, and a run from where they ended
+module _ (a b c : Simulation) (who : Who) (from n mid due fuel k : ℕ) (fits : n + due ≤ fuel) (p : Plays a b who from n mid) where
+  pub rests_then : Ran b c who mid due (Rest k) → Ran a c who from fuel (Rest (n + k))
+  rests_then (fewer, (m, to, q, adds)) = (omega (arith, fewer, fits), (m, to, plays_then a b m who from n mid k to p q, adds))
+
+  pub stops_then : (e : NetError) → Ran b c who mid due (Refused k e) → Ran a c who from fuel (Refused (n + k) e)
+  stops_then e (fewer, (to, q, refuses)) = (omega (arith, fewer, fits), (to, plays_then a b c who from n mid k to p q, refuses))
+
+-- the same entries on the way, of which more is said
+pub goes_as : (old new : Progress) (a c : Option (List ℕ)) (before after : Pending) (Made Told : Simulation → Simulation → Type 0) → ((x y : Simulation) → Made x y → Told x y) → GoesOut old new a before c after Made → GoesOut old new a before c after Told
+goes_as old new a c before after Made Told tells goes = record {
+  entries = goes.entries;
+  made = λ journal. tells (with_journal old journal) (with_journal new (journal ++ goes.entries)) (goes.made journal);
+  leads = goes.leads;
+  sent = goes.sent;
+}
+
+-- what was sent of the entries so far stays sent, with more of them held
+pub sent_with : (ports : List External) (b : Option (List ℕ)) (between after : Pending) (more : List Entry) → after.failed ≡ between.failed → after.entries.items ≡ between.entries.items ++ more → (start : Option (List ℕ)) (played : List Entry) → IsSent ports start played b between → IsSent ports start (played ++ more) b after
+sent_with ports b between after more failed held start played sent =
+    subst (λ (f : Bool). SentUp ports start (played ++ more) b f after.entries.items) (sym failed)
+    (subst (λ es. SentUp ports start (played ++ more) b between.failed es) (sym held) (sent_more ports start between.failed b played between.entries.items more sent))
+
+-- no firing yet
+pub none_fired : (p : Progress) (a : Option (List ℕ)) (pending : Pending) (who : Who) (from : ℕ) → GoesOut p p a pending a pending (λ x y. Plays x y who from 0 from)
+none_fired p a pending who from = record {
+  entries = [];
+  made = λ journal. subst (λ es. Plays (with_journal p journal) (with_journal p es) who from 0 from) (sym (append-nil journal))
+      (record { entries = []; journal = sym (append-nil journal); firings = (refl, refl, refl); wiring = refl; limit = refl; room = omega arith });
+  leads = no_more p;
+  sent = λ start played sent. subst (λ es. IsSent p.wiring.ports start es a pending) (sym (append-nil played)) sent;
+}
+
+-- so many firings so far, and a buffer of them more
+module _ (old mid new : Progress) (a b c : Option (List ℕ)) (before between ready after : Pending) (who : Who) (from fired next due : ℕ) (piece : Piece) (so_far : GoesOut old mid a before b between (λ x y. Plays x y who from fired next)) (room : (start : Option (List ℕ)) (played : List Entry) → IsSent mid.wiring.ports start played b between → IsSent mid.wiring.ports start played c ready) (into : RunsInto mid new ready.entries.items after.entries.items who next due piece) (failed : after.failed ≡ ready.failed) where
+  pub piece_more : (Told : Simulation → Simulation → Type 0) → ((x y z : Simulation) → Plays x y who from fired next → RanTo y z who next due piece.next piece.end → Told x z) → GoesOut old new a before c after Told
+  piece_more Told tells = record {
+    entries = so_far.entries ++ into.entries;
+    made = λ journal. subst (λ es. Told (with_journal old journal) (with_journal new es)) (append_assoc journal so_far.entries into.entries)
+        (tells (with_journal old journal) (with_journal mid (journal ++ so_far.entries)) (with_journal new ((journal ++ so_far.entries) ++ into.entries)) (so_far.made journal) (into.ran (journal ++ so_far.entries)));
+    leads = leads_then old mid new so_far.entries into.entries so_far.leads into.leads;
+    sent = λ start played sent.
+        let wiring : mid.wiring ≡ old.wiring = (so_far.made []).wiring in
+        let here = subst (λ (w : Wiring). IsSent w.ports start (played ++ so_far.entries) b between) (sym wiring) (so_far.sent start played sent) in
+        let there = sent_with mid.wiring.ports c ready after into.entries failed into.buffer start (played ++ so_far.entries) (room start (played ++ so_far.entries) here) in
+        subst (λ (w : Wiring). IsSent w.ports start (played ++ (so_far.entries ++ into.entries)) c after) wiring
+        (subst (λ es. IsSent mid.wiring.ports start es c after) (append_assoc played so_far.entries into.entries) there);
+  }
+
+-- a piece makes no more firings than were due
+abbrev pub count_of : RunEnd → ℕ
+count_of (Rest n) = n
+count_of (Spent n) = n
+count_of (Refused n e) = n
+
+pub counted : (x y : Simulation) (who : Who) (from due to : ℕ) (end : RunEnd) → RanTo x y who from due to end → count_of end ≤ due
+counted x y who from due to (Rest n) ran = let fewer = ran.0 in omega (arith, fewer)
+counted x y who from due to (Spent n) ran = let all = ran.0 in omega (arith, all)
+counted x y who from due to (Refused n e) ran = let fewer = ran.0 in omega (arith, fewer)
+
+-- Words so far, and their entries on the way.
+pub record WordsOut (old new : Progress) (old_now : Option (List ℕ)) (before : Pending) (new_now : Option (List ℕ)) (after : Pending) (cmds : List Cmd) : Type 0 where
+  pub entries : List Entry
+  pub playing : Playing (with_journal old []) (with_journal new entries) cmds
+  pub told : IsToldBy new entries
+  pub sent : (start : Option (List ℕ)) → IsSent old.wiring.ports start [] old_now before → IsSent old.wiring.ports start entries new_now after
+
+-- so many words were played, and one more is
+module _ (old mid new : Progress) (a b c : Option (List ℕ)) (before between after : Pending) (cmds : List Cmd) (i : ℕ) (cmd : Cmd) (lt : i < length cmds) (is : cmd ≡ get_or cmds i cmd) (so_far : WordsOut old mid a before b between (take i cmds)) where
+  told_then : (Made : Simulation → Simulation → Type 0) (one : GoesOut mid new b between c after Made) → IsToldBy new (so_far.entries ++ one.entries)
+  told_then Made one = one.leads so_far.entries so_far.told
+
+  sent_then : (Made : Simulation → Simulation → Type 0) (one : GoesOut mid new b between c after Made) (start : Option (List ℕ)) → IsSent old.wiring.ports start [] a before → IsSent old.wiring.ports start (so_far.entries ++ one.entries) c after
+  sent_then Made one start sent =
+      subst (λ (w : Wiring). IsSent w.ports start (so_far.entries ++ one.entries) c after) so_far.playing.wiring
+      (one.sent start so_far.entries (subst (λ (w : Wiring). IsSent w.ports start so_far.entries b between) (sym so_far.playing.wiring) (so_far.sent start sent)))
+
+  pub word_more : GoesOut mid new b between c after (λ x y. PlaysOne x y cmd) → WordsOut old new a before c after (take (i + 1) cmds)
+  word_more one = record {
+    entries = so_far.entries ++ one.entries;
+    playing = plays_on (with_journal old []) (with_journal mid so_far.entries) (with_journal new (so_far.entries ++ one.entries)) cmds i cmd lt is so_far.playing (one.made so_far.entries);
+    told = told_then (λ x y. PlaysOne x y cmd) one;
+    sent = sent_then (λ x y. PlaysOne x y cmd) one;
+  }
+
+  pub word_stops : (e : NetError) → GoesOut mid new b between c after (λ x y. StopsOne x y cmd e) → PlaysOut old new a before c after cmds (Some (record { word = i + 1; error = e }))
+  word_stops e one =
+      let made = one.made so_far.entries in
+      let wiring : new.wiring ≡ old.wiring = made.wiring ∙ so_far.playing.wiring in
+      let limit : length (so_far.entries ++ one.entries) + new.left ≡ old.left = omega (arith, made.limit, so_far.playing.limit) in
+      record {
+        entries = so_far.entries ++ one.entries;
+        plays = subst (λ n. Stops new.wiring n cmds (i + 1) e (so_far.entries ++ one.entries)) limit
+            (stops_there (with_journal old []) (with_journal mid so_far.entries) (with_journal new (so_far.entries ++ one.entries)) cmds i cmd lt is so_far.playing e made);
+        told = told_then (λ x y. StopsOne x y cmd e) one;
+        sent = λ start sent. subst (λ (w : Wiring). IsSent w.ports start (so_far.entries ++ one.entries) c after) (sym wiring)
+            (sent_then (λ x y. StopsOne x y cmd e) one start (subst (λ (w : Wiring). IsSent w.ports start [] a before) wiring sent));
+        wiring = wiring;
+        left = limit;
+      }
+
+-- what was played, and the text that goes out of it
+pub played_out : (old new : Progress) (a c : Option (List ℕ)) (before after : Pending) (cmds : List Cmd) (stop : Option Stop) (p : PlaysOut old new a before c after cmds stop) (comps : List ℕ) → IsStrictlyIncreasing new.clashed → comps ≡ new.clashed → (Out : List ℕ → Type 0) → Out (trace_text new.wiring.ports p.entries comps) → Played old.wiring old.left cmds stop Out
+played_out old new a c before after cmds stop p comps rising is Out out =
+    let clashed : AreClashed new.wiring p.entries comps = rw is (record { rising = rising; exact = p.told.clashed }) in
+    subst (λ (w : Wiring). Played w old.left cmds stop Out) p.wiring (record {
+      entries = p.entries;
+      plays = p.plays;
+      within = let left = p.left in omega (arith, left);
+      trace = trace_text new.wiring.ports p.entries comps;
+      is_trace = record { comps = comps; clashed = clashed; text_is = refl };
+      out = out;
+    })

@@ -1,0 +1,16 @@
+use Rattle.std.proofs.Common.{◌<◌, ◌≤◌, vec_capacity, arith}
+use Rattle.bz_cli_core.proofs.Pieces.{word_more, word_stops}
+use Rattle.bz_cli_core.proofs.playing.play_out.Goals as goal
+
+pub returns-in-Err-clause-plays : goal.returns-in-Err-clause-plays
+returns-in-Err-clause-plays g c =
+    let l = c.loop-place in let o = c.word_out in
+    word_stops c.args.play.now l.play o.new.play (g.W.Write.contents c.args.out.now) (g.W.Write.contents l.out) (g.W.Write.contents o.new.out) c.args.pending.now l.pending o.new.pending c.args.cmds.now l.place c.index-cmds-place.result c.loop-place-test.true c.index-cmds-place.is l.invariant.words c.in-Err.error c.in-Err.ensures.err
+
+pub loop-place-preserved : goal.loop-place-preserved
+loop-place-preserved g c =
+    let l = c.loop-place in let o = c.word_out in
+    record {
+      words = word_more c.args.play.now l.play o.new.play (g.W.Write.contents c.args.out.now) (g.W.Write.contents l.out) (g.W.Write.contents o.new.out) c.args.pending.now l.pending o.new.pending c.args.cmds.now l.place c.index-cmds-place.result c.loop-place-test.true c.index-cmds-place.is l.invariant.words c.in-Ok.ensures.ok;
+      room = let had = l.invariant.room in let more = c.in-Ok.ensures.room in omega (arith, had, more);
+    }

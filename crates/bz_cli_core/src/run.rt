@@ -1,0 +1,151 @@
+//! The command `run`: words played on a part of a netlist, and the trace of it.
+
+ghost use Rattle.std.specs.Prelude.{◌≡◌, ◌≢◌, ◌<◌, ◌≤◌, [], map, vec_capacity, IfOk, IfErr, IfSome, OnOk, OnErr};
+ghost use Rattle.std.specs.Io.KnownBytes.{Appends};
+ghost use Rattle.bz_model.specs.Traces.{trace_text};
+ghost use Rattle.bz_net.specs.Progress.{IsToldBy};
+ghost use Rattle.bz_cli_input.specs.Reading.{ReadsWithin};
+ghost use Rattle.bz_words.specs.Words.{command_of, texts};
+ghost use Rattle.bz_cli_core.specs.Running.{AreCommands, PlaysNet, PlaysText, RefusesWords, Runs, fault_of};
+ghost use Rattle.bz_cli_input.specs.Stopping.{AppendsSome};
+
+use crate::pending::Pending;
+use crate::playing::{Stop, play_out};
+use bz_cli_input::{Fault, flat_of_input, read_input};
+use bz_model::{Cmd, Entry, Names, NetError};
+use bz_net::Play;
+use bz_text::WriteFault;
+use bz_trace::write_trace;
+use bz_words::command;
+use std::alloc::Global;
+use std::io::{Read, Write};
+
+/// How many entries of a play go out at a time.
+const PIECE: usize = 2048;
+
+/// Plays the words on a part of the netlist that the reader gives, up to `journal` entries, and writes the trace as it goes.
+/// Nothing is written before the net is open, and from there on no memory is taken. Where the writer fails the words are
+/// played on to their end. The exit status of the program is 0 where all was played, else that of the fault.
+pub fn run_cmd<R: Read, W: Write>(
+    alloc: Global,
+    part: &[u8],
+    journal: u32,
+    words: &[&str],
+    input: &mut R,
+    output: &mut W,
+) -> Result<(), Fault>
+    requires least { 0 < journal }
+    requires most { journal ≤ 16777216 }
+    ensures runs { IfSome (R.remaining input.old) (λ text. Runs text (texts words.now) part.now journal (W.contents output.old) (W.contents output.new) result) }
+
+    // Whatever comes of it, it reads at most one byte past the limit.
+    ensures bounded { ReadsWithin (R.remaining input.old) (R.remaining input.new) }
+{
+    run_in_pieces(alloc, part, journal, PIECE, words, input, output)
+}
+
+/// `run_cmd` with pieces of `room` entries.
+pub fn run_in_pieces<R: Read, W: Write>(
+    alloc: Global,
+    part: &[u8],
+    journal: u32,
+    room: usize,
+    words: &[&str],
+    input: &mut R,
+    output: &mut W,
+) -> Result<(), Fault>
+    requires least { 0 < journal }
+    requires most { journal ≤ 16777216 }
+    requires some { 0 < room }
+    ensures runs { IfSome (R.remaining input.old) (λ text. Runs text (texts words.now) part.now journal (W.contents output.old) (W.contents output.new) result) }
+    ensures bounded { ReadsWithin (R.remaining input.old) (R.remaining input.new) }
+{
+    let cmds = run_words(alloc, words)?;
+    let text = read_input(alloc, input)?;
+    play_text(alloc, part, journal, room, text, cmds.as_slice(), output)
+}
+
+// Plays the commands on a part of the text, and writes the trace in pieces of so many entries.
+fn play_text<W: Write>(
+    alloc: Global,
+    part: &[u8],
+    journal: u32,
+    room: usize,
+    text: Vec<u8>,
+    cmds: &[Cmd],
+    output: &mut W,
+) -> Result<(), Fault>
+    requires { 0 < room }
+    ensures { PlaysText text.items part.now journal cmds.now (W.contents output.old) (W.contents output.new) result }
+{
+    let buffer = Vec::with_capacity(alloc, room)?;
+    let flat = flat_of_input(alloc, part, text)?;
+    let Ok(play) = Play::open(alloc, flat, journal) else {
+        return Err(Fault::Memory);
+    };
+    play_net(play, buffer, cmds, output)
+}
+
+// Plays the commands on a net that was just opened, and writes the trace through a buffer.
+fn play_net<W: Write>(
+    mut play: Play,
+    buffer: Vec<Entry>,
+    cmds: &[Cmd],
+    output: &mut W,
+) -> Result<(), Fault>
+    requires told { IsToldBy play [] }
+    requires empty { buffer.items ≡ [] }
+    requires room { 0 < vec_capacity buffer }
+    ensures plays { PlaysNet play.wiring play.left cmds.now (W.contents output.old) (W.contents output.new) result }
+    ensures memory { IfErr result (λ fault. fault ≢ Fault.Memory) }
+{
+    let mut pending = Pending::begin(buffer, output);
+    let played = play_out(&mut play, cmds, &mut pending, output);
+    pending.finish(play.names(), play.clashes(), output)?;
+    match played {
+        Ok(()) => Ok(()),
+        Err(stop) => Err(fault_of(stop)),
+    }
+}
+
+// The commands that the words spell, each word one.
+fn run_words(alloc: Global, words: &[&str]) -> Result<Vec<Cmd>, Fault>
+    ensures ok { IfOk result (λ cmds. AreCommands (texts words.now) (map command_of cmds.items)) }
+    ensures err { IfErr result (RefusesWords (texts words.now)) }
+{
+    let mut cmds = Vec::new(alloc);
+    for (place, word) in words.iter().enumerate() {
+        let Some(cmd) = command(alloc, word)? else {
+            return Err(Fault::Word(place + 1));
+        };
+        cmds.push(cmd)?;
+    }
+    Ok(cmds)
+}
+
+/// Writes the trace of the entries, down to the last byte.
+pub fn write_out<W: Write>(
+    names: &Names,
+    entries: &[Entry],
+    clashes: &[u32],
+    output: &mut W,
+) -> Result<(), WriteFault>
+    ensures ok { OnOk result (Appends (W.contents output.old) (W.contents output.new) (trace_text names.now.ports entries.now clashes.now)) }
+    ensures err { OnErr result (AppendsSome (W.contents output.old) (W.contents output.new) (trace_text names.now.ports entries.now clashes.now)) }
+{
+    write_trace(names, entries, clashes, output)?;
+    output.flush().map_err(|_| WriteFault)
+}
+
+// Why a play stopped, as the command's fault.
+fn fault_of(stop: Stop) -> Fault
+    ensures { result ≡ fault_of stop }
+{
+    match stop.error {
+        NetError::Memory => Fault::Memory,
+        error => Fault::Event {
+            error,
+            word: stop.word,
+        },
+    }
+}

@@ -1,0 +1,55 @@
+//! The program's input, up to its limit.
+
+ghost use Rattle.std.specs.Prelude.{◌≡◌, ◌≤◌, vec_len, IfOk, IfSome, OnOk};
+ghost use Rattle.std.specs.Io.KnownBytes.{IsAtEnd};
+ghost use Rattle.bz_cli_input.specs.Limits.{input_limit};
+ghost use Rattle.bz_cli_input.specs.Reading.{ReadsWithin};
+ghost use Rattle.bz_cli_input.specs.declared.input.InputFault.TheVariants.{Memory};
+
+use std::alloc::{AllocError, Global};
+use std::io::Read;
+use thiserror::Error;
+
+/// The longest input that is taken, in bytes.
+pub const INPUT_LIMIT: usize = 67_108_864;
+
+/// Why an input is not taken.
+#[derive(Clone, Copy, Debug, PartialEq, Eq, Error)]
+pub enum InputFault {
+    /// The reader failed, or gave more bytes than the limit.
+    #[error("F1 Read")]
+    Read,
+    #[error("F3 Memory")]
+    Memory,
+}
+
+impl From<AllocError> for InputFault {
+    ghost from_gives = { λ _ e. e ≡ Memory };
+
+    fn from(_e: AllocError) -> InputFault {
+        InputFault::Memory
+    }
+}
+
+/// All that the reader gives. A reader with more than the limit is a fault, of which one byte past the limit is read.
+pub fn read_input<R: Read>(alloc: Global, input: &mut R) -> Result<Vec<u8>, InputFault>
+    // At Ok it is all that the reader had, where that is known, and none of it is left.
+    ensures whole { IfOk result (λ v. IfSome (R.remaining input.old) (λ xs. v.items ≡ xs)) }
+    ensures at_end { OnOk result (IsAtEnd (R.remaining input.new)) }
+    ensures limit { IfOk result (λ v. vec_len v ≤ input_limit) }
+
+    // At most the limit and one byte more are read, whatever comes of it.
+    ensures bounded { ReadsWithin (R.remaining input.old) (R.remaining input.new) }
+{
+    let mut text = Vec::new(alloc);
+    let mut chunk = [0u8; 8192];
+    'reading: while text.len() <= INPUT_LIMIT {
+        let room = chunk.len().min(INPUT_LIMIT + 1 - text.len());
+        match input.read(&mut chunk[..room]) {
+            Ok(0) => return Ok(text),
+            Ok(n) => text.extend_from_slice(&chunk[..n])?,
+            Err(_) => return Err(InputFault::Read),
+        }
+    }
+    Err(InputFault::Read)
+}

@@ -1,0 +1,55 @@
+-- What comes of a command, from what was read and written.
+use Rattle.std.proofs.Common.{◌≡◌, ◌≤◌, ℕ, Option, None, Some, Result, Ok, Err, List, length, map, inr, subst}
+use Rattle.std.specs.Prelude.{IfSome}
+use Rattle.std.specs.Io.KnownBytes.{Appends}
+use Rattle.bz_model.specs.Nets.{Wiring}
+use Rattle.bz_flat.specs.Wires.{EndsOf, WellWired}
+use Rattle.bz_cli_input.specs.declared.fault.Fault.{Fault}
+use Rattle.bz_cli_input.specs.declared.fault.Fault.TheVariants.{Write}
+use Rattle.bz_cli_input.specs.Limits.{input_limit}
+use Rattle.bz_cli_input.specs.Stopping.{AppendsSome}
+use Rattle.bz_flat.specs.declared.flat.Pieces.{Pieces}
+use Rattle.bz_source.specs.declared.survey.Survey.{Survey}
+use Rattle.bz_cli_source.specs.Surveys.{IsPlaced, IsSurvey, wiring_in}
+use Rattle.bz_cli_source.specs.Listing.{paths_text}
+use Rattle.bz_cli_source.specs.Listed.{Lists, ListsPaths}
+use Rattle.bz_sexpr.specs.Data.{Datum}
+use Rattle.bz_sexpr.specs.Spelling.{ComesTo, data_are}
+use Rattle.bz_breeze_records.specs.declared.part.Part.{Part}
+use Rattle.bz_breeze_records.specs.Records.{part_record}
+use Rattle.bz_breeze.specs.Parts.{parts}
+use Rattle.bz_source.specs.declared.lines.PartLines.{PartLines}
+use Rattle.bz_source.specs.Lines.{lines_in}
+use Rattle.bz_source.specs.Views.{part_lines_of}
+use Rattle.bz_cli_source.specs.PartLists.{ListsParts, Tells, TellsParts, parts_text}
+
+-- what the reader had is the text
+pub lists_on : {A : Type 0} (known : Option (List ℕ)) (items part : List ℕ) (old new : Option (List ℕ)) (answer : Result A Fault) → IfSome known (λ xs. items ≡ xs) → length items ≤ input_limit → ListsPaths items part old new answer
+    → IfSome known (λ text. Lists text part old new answer)
+lists_on None items part old new answer whole fits lists = tt
+lists_on (Some xs) items part old new answer whole fits lists = inr (subst (λ text. (length text ≤ input_limit) × ListsPaths text part old new answer) whole (fits, lists))
+
+-- a net that was taken apart stands where its survey says
+pub placed : (text part : List ℕ) (w : Wiring) (net : Pieces) (s : Survey) → w ≡ wiring_in net → IsSurvey text part w s → WellWired (wiring_in net) → EndsOf (wiring_in net) net.ends.items → IsPlaced text part net s
+placed text part w net s same survey wired ends = record { survey = subst (λ v. IsSurvey text part v s) same survey; wired = wired; ends = ends }
+
+-- all went out
+pub listed : {A : Type 0} (text part : List ℕ) (net : Pieces) (s : Survey) (old new : Option (List ℕ)) (u : A) → IsPlaced text part net s → Appends old new (paths_text net s part) → ListsPaths {E = A} text part old new (Ok u)
+listed text part net s old new u is out = inr (net, s, is, out)
+
+-- the writer failed
+pub cut_short : (A : Type 0) (text part : List ℕ) (net : Pieces) (s : Survey) (old new : Option (List ℕ)) (fault : Fault) → fault ≡ Write → IsPlaced text part net s → AppendsSome old new (paths_text net s part)
+    → ListsPaths {E = A} text part old new (Err fault)
+cut_short A text part net s old new fault is placed out = rw is (inr (net, s, placed, out))
+
+-- the same of the parts of a text
+pub parts_on : {A : Type 0} (known : Option (List ℕ)) (items : List ℕ) (old new : Option (List ℕ)) (answer : Result A Fault) → IfSome known (λ xs. items ≡ xs) → length items ≤ input_limit → TellsParts items old new answer → IfSome known (λ text. ListsParts text old new answer)
+parts_on None items old new answer whole fits tells = tt
+parts_on (Some xs) items old new answer whole fits tells = inr (subst (λ text. (length text ≤ input_limit) × TellsParts text old new answer) whole (fits, tells))
+
+pub told : (text : List ℕ) (forms : List Datum) (listed : List Part) (places : List PartLines) (Out : List ℕ → Type 0) → ComesTo text (data_are forms) → parts forms ≡ Ok (map part_record listed) → map part_lines_of places ≡ lines_in text forms → Out (parts_text listed places)
+    → Tells text Out
+told text forms listed places Out spelt read stand out = record { forms = forms; spelt = spelt; listed = listed; read = read; places = places; stand = stand; out = out }
+
+pub told_short : (A : Type 0) (text : List ℕ) (old new : Option (List ℕ)) (fault : Fault) → fault ≡ Write → Tells text (AppendsSome old new) → TellsParts {E = A} text old new (Err fault)
+told_short A text old new fault is tells = rw is tells

@@ -1,0 +1,5 @@
+pub mod Surveys
+pub mod Listing
+pub mod Listed
+pub mod PartLists
+pub mod Marking

@@ -1,6 +1,0 @@
-use Rattle.std.proofs.Common.{◌+◌}
-use Rattle.bz_course.specs.Offers.{OffersUpTo}
-use Rattle.bz_course.proofs.offers.add_ports.Given as goal
-
-abbrev pub invariant-loop-place : goal.invariant-loop-place
-invariant-loop-place l = OffersUpTo l.net.wiring.sites l.net.state l.comp (l.place + 1) l.offers.items

@@ -1,0 +1,31 @@
+//! Which part of a net is drawn.
+
+use bz_flat::Pieces;
+use bz_source::Survey;
+
+/// Which part of a net is drawn.
+#[derive(Clone, Copy, Debug, PartialEq, Eq)]
+pub enum View {
+    /// All of it, with instances within so many others as boxes. Where no depth is named, it is the greatest at which at most
+    /// 300 components and boxes are drawn, or else 0.
+    Whole { depth: Option<usize> },
+    /// The components that are at most so many channels away from this one, counted from 1. None is in a box.
+    Around { comp: u32, hops: u32 },
+}
+
+impl View {
+    /// The depth at which instances are boxes, where one is named.
+    pub(crate) fn depth(self) -> Option<usize> {
+        match self {
+            View::Whole { depth } => depth,
+            View::Around { .. } => Some(usize::MAX),
+        }
+    }
+}
+
+/// The net that is drawn, and where everything in it stands.
+#[derive(Clone, Copy)]
+pub(crate) struct Scene<'a> {
+    pub net: &'a Pieces,
+    pub survey: &'a Survey,
+}

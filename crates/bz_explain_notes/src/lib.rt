@@ -1,0 +1,20 @@
+//! Notes on a fault: how they are gathered and written, places and names that they speak of, and a reader that keeps a text for
+//! them.
+#![tactic(auto)]
+
+mod arg;
+mod draft;
+mod keeping;
+mod nearest;
+mod notes;
+mod source;
+mod spot;
+mod telling;
+
+pub use arg::Arg;
+pub use draft::Draft;
+pub use keeping::Keeping;
+pub use nearest::nearest_name;
+pub use source::put_source;
+pub use spot::{Spot, before_in_line, spot_of};
+pub use telling::{tell, tell_notes};

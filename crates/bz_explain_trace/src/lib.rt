@@ -1,0 +1,21 @@
+//! Traces that are no runs explain themselves: notes on the line that the verdict names, what was found there and what was due.
+#![tactic(auto)]
+
+mod beginnings;
+mod claim;
+mod clashes;
+mod explaining;
+mod firings;
+mod form_faults;
+mod forms;
+mod items;
+mod judging;
+mod moves;
+mod reasons;
+mod replaying;
+mod replies;
+mod scene;
+mod words;
+
+pub use claim::Claim;
+pub use explaining::explain_trace;

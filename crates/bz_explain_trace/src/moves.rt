@@ -1,0 +1,79 @@
+//! The moves that can be made.
+
+use crate::scene::Scene;
+use crate::words::move_word;
+use bz_explain_notes::Arg::{Number, Spaced, Text};
+use bz_explain_notes::Draft;
+use bz_model::{Move, Value};
+
+/// The most moves that are told.
+const MOST_TOLD: usize = 10;
+
+impl Scene<'_> {
+    /// Goes on with the moves that a component can make, behind so many others: how many there are then.
+    pub(crate) fn put_moves_of(self, draft: &mut Draft, comp: u32, before: usize) -> usize {
+        let mut told = before;
+        if self.net.is_ready(comp) {
+            for port in 1..=self.port_count(comp) {
+                told = self.put_move_at(draft, comp, port, told);
+            }
+        }
+        told
+    }
+
+    /// Goes on with the moves that components can make, and two dots where there are more than ten: how many were looked at.
+    pub(crate) fn put_moves(self, draft: &mut Draft) -> usize {
+        let mut told = 0usize;
+        let mut from = 1u32;
+        for _ in 0..=MOST_TOLD {
+            match self.net.next_ready(from) {
+                Some(comp) if comp >= from => {
+                    told = self.put_moves_of(draft, comp, told);
+                    from = comp.saturating_add(1);
+                }
+                _ => break,
+            }
+        }
+        told
+    }
+
+    fn put_move_at(self, draft: &mut Draft, comp: u32, port: u32, told: usize) -> usize {
+        match self.net.foresee(draft.alloc(), comp, port) {
+            Ok(Some((chan, mv, value))) => {
+                put_move(draft, comp, (chan, mv, value), told);
+                told.saturating_add(1)
+            }
+            Ok(None) => told,
+            Err(_) => {
+                draft.fail();
+                told
+            }
+        }
+    }
+
+    fn port_count(self, comp: u32) -> u32 {
+        match self.flat.comp(comp) {
+            Some(site) => u32::try_from(site.chans.len()).unwrap_or(u32::MAX),
+            None => 0,
+        }
+    }
+}
+
+// Goes on with a move, behind so many others.
+fn put_move(draft: &mut Draft, comp: u32, made: (u32, Move, Option<Value>), told: usize) {
+    let before = if told == 0 { "" } else { ", " };
+    let (chan, mv, value) = made;
+    if told < MOST_TOLD {
+        let word = Text(move_word(mv));
+        let args = [
+            Text(before),
+            Number(comp as usize),
+            word,
+            Number(chan as usize),
+            Spaced(value),
+        ];
+        draft.put("%fire % % %%", &args);
+    } else if told == MOST_TOLD {
+        draft.put(", ..", &[]);
+    }
+}

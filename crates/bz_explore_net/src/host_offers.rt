@@ -1,0 +1,75 @@
+//! The host words that would be answered.
+
+ghost use Rattle.std.specs.Prelude.{◌≡◌, ◌<◌, ◌≤◌, ◌+◌, ◌-◌, IfOk};
+ghost use Rattle.bz_model.specs.Hosts.{port_is_passive};
+ghost use Rattle.bz_explore_net.specs.HostOffers.{HostOffers, HostOffersUpTo, IsSoleAnswer, begins, ends};
+
+use bz_flat::Flat;
+use bz_model::Verb;
+use bz_net::Net;
+use std::alloc::{AllocError, Global};
+
+/// A word that the host may give at an external port.
+#[derive(Clone, Copy, Debug, PartialEq, Eq)]
+pub struct HostOffer {
+    pub verb: Verb,
+    pub port: u32,
+}
+
+/// The words that would be answered with `done` or a value, by their ports; the net is one of the flat net.
+pub fn answered_words(alloc: Global, flat: &Flat, net: &Net) -> Result<Vec<HostOffer>, AllocError>
+    requires { net.now.wiring ≡ flat.now.wiring }
+    ensures { IfOk result (λ v. HostOffers net.now.wiring net.now.state v.items) }
+{
+    let mut offers = Vec::new(alloc);
+    for (place, port) in flat.ports().iter().enumerate() {
+        add_word(net, place as u32 + 1, port.passive, &mut offers)?;
+    }
+    Ok(offers)
+}
+
+// The word that would be answered at a port, behind those of the ports before it.
+fn add_word(
+    net: &Net,
+    port: u32,
+    passive: bool,
+    offers: &mut Vec<HostOffer>,
+) -> Result<(), AllocError>
+    requires from { 0 < port }
+    requires sense { passive ≡ port_is_passive net.now.wiring.ports port }
+    requires before { HostOffersUpTo net.now.wiring net.now.state (port - 1) offers.old.items }
+    ensures { IfOk result (λ _. HostOffersUpTo net.now.wiring net.now.state port offers.new.items) }
+{
+    match answered_at(net, port, passive) {
+        None => Ok(()),
+        Some(verb) => {
+            offers.push(HostOffer { verb, port })?;
+            Ok(())
+        }
+    }
+}
+
+// The word that would be answered at a port of this sense: there is one at most.
+fn answered_at(net: &Net, port: u32, passive: bool) -> Option<Verb>
+    ensures { IsSoleAnswer net.now.state port passive result }
+{
+    if net.would_answer(begins(passive), port) {
+        return Some(begins(passive));
+    }
+    if net.would_answer(ends(passive), port) {
+        return Some(ends(passive));
+    }
+    None
+}
+
+fn begins(passive: bool) -> Verb
+    ensures { result ≡ begins passive }
+{
+    if passive { Verb::Offer } else { Verb::Accept }
+}
+
+fn ends(passive: bool) -> Verb
+    ensures { result ≡ ends passive }
+{
+    if passive { Verb::Collect } else { Verb::Answer }
+}

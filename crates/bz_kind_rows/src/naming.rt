@@ -1,0 +1,425 @@
+//! Kinds by the names and parameters that netlists give them.
+
+ghost use Rattle.std.specs.Prelude.{◌≡◌, ◌⊎◌, ◌%◌, ◌^◌, map, IfOk, IfErr, Ok, Err};
+ghost use Rattle.bz_model.specs.declared.kind.Kind.TheVariants.{Adapt};
+ghost use Rattle.bz_model.specs.declared.error.KindError.TheVariants.{Memory};
+ghost use Rattle.std.specs.Option.{option_copied};
+ghost use Rattle.bz_kind_rows.specs.Naming.{name_rows, named, meant, kind_by, kind_with, text, number, flag, given_flag, case_by, case_fetch_by, variable_by, false_variable_by, reads_whole, last_text, constant_by, unary_by, binary_by, const_by, slice_by, given, unary_named, binary_named};
+
+use crate::specification::specification;
+use bz_model::{BinaryOp, Kind, KindError, MAX_WIDTH, Param, UnaryOp};
+use std::alloc::{AllocError, Global};
+
+/// The kinds by their names, whatever their parameters.
+#[derive(Clone, Copy)]
+pub enum KindName {
+    Loop,
+    Sequence,
+    SequenceOptimised,
+    Concur,
+    Fork,
+    WireFork,
+    ForkPush,
+    While,
+    Case,
+    CaseFetch,
+    Fetch,
+    Variable,
+    Constant,
+    UnaryFunc,
+    BinaryFunc,
+    BinaryFuncConstR,
+    Slice,
+    Combine,
+    CombineEqual,
+    Adapt,
+    Split,
+    Halt,
+    HaltPush,
+    Continue,
+    ContinuePush,
+    Call,
+    CallMux,
+    CallDemux,
+    Passivator,
+    PassivatorPush,
+    Synch,
+    SynchPull,
+    DecisionWait,
+    Arbiter,
+    FalseVariable,
+    Bar,
+}
+
+// The names of kinds in netlists.
+static KIND_NAMES: [(&str, KindName); 36] = [
+    ("$BrzLoop", KindName::Loop),
+    ("$BrzSequence", KindName::Sequence),
+    ("$BrzSequenceOptimised", KindName::SequenceOptimised),
+    ("$BrzConcur", KindName::Concur),
+    ("$BrzFork", KindName::Fork),
+    ("$BrzWireFork", KindName::WireFork),
+    ("$BrzForkPush", KindName::ForkPush),
+    ("$BrzWhile", KindName::While),
+    ("$BrzCase", KindName::Case),
+    ("$BrzCaseFetch", KindName::CaseFetch),
+    ("$BrzFetch", KindName::Fetch),
+    ("$BrzVariable", KindName::Variable),
+    ("$BrzConstant", KindName::Constant),
+    ("$BrzUnaryFunc", KindName::UnaryFunc),
+    ("$BrzBinaryFunc", KindName::BinaryFunc),
+    ("$BrzBinaryFuncConstR", KindName::BinaryFuncConstR),
+    ("$BrzSlice", KindName::Slice),
+    ("$BrzCombine", KindName::Combine),
+    ("$BrzCombineEqual", KindName::CombineEqual),
+    ("$BrzAdapt", KindName::Adapt),
+    ("$BrzSplit", KindName::Split),
+    ("$BrzHalt", KindName::Halt),
+    ("$BrzHaltPush", KindName::HaltPush),
+    ("$BrzContinue", KindName::Continue),
+    ("$BrzContinuePush", KindName::ContinuePush),
+    ("$BrzCall", KindName::Call),
+    ("$BrzCallMux", KindName::CallMux),
+    ("$BrzCallDemux", KindName::CallDemux),
+    ("$BrzPassivator", KindName::Passivator),
+    ("$BrzPassivatorPush", KindName::PassivatorPush),
+    ("$BrzSynch", KindName::Synch),
+    ("$BrzSynchPull", KindName::SynchPull),
+    ("$BrzDecisionWait", KindName::DecisionWait),
+    ("$BrzArbiter", KindName::Arbiter),
+    ("$BrzFalseVariable", KindName::FalseVariable),
+    ("$BrzBar", KindName::Bar),
+];
+
+static UNARY_OPS: [(&str, UnaryOp); 2] = [("Negate", UnaryOp::Negate), ("Invert", UnaryOp::Invert)];
+
+static BINARY_OPS: [(&str, BinaryOp); 12] = [
+    ("Add", BinaryOp::Add),
+    ("Subtract", BinaryOp::Subtract),
+    ("ReverseSubtract", BinaryOp::ReverseSubtract),
+    ("Equals", BinaryOp::Equals),
+    ("NotEquals", BinaryOp::NotEquals),
+    ("LessThan", BinaryOp::LessThan),
+    ("GreaterThan", BinaryOp::GreaterThan),
+    ("LessOrEquals", BinaryOp::LessOrEquals),
+    ("GreaterOrEquals", BinaryOp::GreaterOrEquals),
+    ("And", BinaryOp::And),
+    ("Or", BinaryOp::Or),
+    ("Xor", BinaryOp::Xor),
+];
+
+/// The kind of this name with these parameters.
+///
+/// A name that no kind has is `UnknownComponent`; parameters that the kind cannot have are `BadParameter`.
+pub fn kind_of(alloc: Global, name: &[u8], params: &[Param]) -> Result<Kind, KindError>
+    ensures ok { IfOk result (λ kind. kind_with name.now params.now ≡ Ok kind) }
+    ensures err { IfErr result (λ e. (e ≡ Memory) ⊎ (kind_with name.now params.now ≡ Err e)) }
+{
+    let Some(name) = kind_named(name) else {
+        return Err(KindError::UnknownComponent);
+    };
+    let Some(kind) = kind_by(alloc, name, params)? else {
+        return Err(KindError::BadParameter);
+    };
+    Ok(kind)
+}
+
+/// The kinds by the names that netlists give them, `$Brz` in front.
+pub fn kind_names() -> &'static [(&'static str, KindName)]
+    ensures { name_rows ≡ map (λ row. (row.0.now, row.1)) result.now }
+{
+    &KIND_NAMES
+}
+
+/// The kind that has this name in netlists.
+pub fn kind_named(name: &[u8]) -> Option<KindName>
+    ensures { result ≡ named name.now }
+{
+    meant(kind_names(), name)
+}
+
+// What stands beside a name in a table.
+fn meant<T: Copy>(table: &[(&str, T)], name: &[u8]) -> Option<T>
+    ensures { result ≡ meant (map (λ row. (row.0.now, row.1)) table.now) name.now }
+{
+    for row in table {
+        if name == row.0.as_bytes() {
+            return Some(row.1);
+        }
+    }
+    None
+}
+
+// The kind of this name, unless it cannot have these parameters.
+fn kind_by(alloc: Global, name: KindName, params: &[Param]) -> Result<Option<Kind>, AllocError>
+    ensures { IfOk result (λ kind. kind ≡ kind_by name params.now) }
+{
+    match name {
+        KindName::Loop => Ok(Some(Kind::Loop)),
+        KindName::Sequence => Ok(Some(Kind::Sequence)),
+        KindName::SequenceOptimised => Ok(Some(Kind::SequenceOptimised)),
+        KindName::Concur => Ok(Some(Kind::Concur)),
+        KindName::Fork => Ok(Some(Kind::Fork)),
+        KindName::WireFork => Ok(Some(Kind::WireFork)),
+        KindName::ForkPush => Ok(Some(Kind::ForkPush)),
+        KindName::While => Ok(Some(Kind::While)),
+        KindName::Case => case(alloc, params),
+        KindName::CaseFetch => case_fetch(alloc, params),
+        KindName::Fetch => Ok(Some(Kind::Fetch)),
+        KindName::Variable => Ok(variable(params)),
+        KindName::Constant => Ok(constant(params)),
+        KindName::UnaryFunc => Ok(unary_func(params)),
+        KindName::BinaryFunc => Ok(binary_func(params)),
+        KindName::BinaryFuncConstR => Ok(binary_func_const(params)),
+        KindName::Slice => Ok(slice(params)),
+        KindName::Combine => Ok(Some(Kind::Combine)),
+        KindName::CombineEqual => Ok(Some(Kind::CombineEqual)),
+        KindName::Adapt => Ok(Some(adapt(params))),
+        KindName::Split => Ok(Some(Kind::Split)),
+        KindName::Halt => Ok(Some(Kind::Halt)),
+        KindName::HaltPush => Ok(Some(Kind::HaltPush)),
+        KindName::Continue => Ok(Some(Kind::Continue)),
+        KindName::ContinuePush => Ok(Some(Kind::ContinuePush)),
+        KindName::Call => Ok(Some(Kind::Call)),
+        KindName::CallMux => Ok(Some(Kind::CallMux)),
+        KindName::CallDemux => Ok(Some(Kind::CallDemux)),
+        KindName::Passivator => Ok(Some(Kind::Passivator)),
+        KindName::PassivatorPush => Ok(Some(Kind::PassivatorPush)),
+        KindName::Synch => Ok(Some(Kind::Synch)),
+        KindName::SynchPull => Ok(Some(Kind::SynchPull)),
+        KindName::DecisionWait => Ok(Some(Kind::DecisionWait)),
+        KindName::Arbiter => Ok(Some(Kind::Arbiter)),
+        KindName::FalseVariable => Ok(false_variable(params)),
+        KindName::Bar => Ok(Some(Kind::Bar)),
+    }
+}
+
+fn adapt(params: &[Param]) -> Kind
+    ensures { result ≡ Adapt (flag params.now 1) }
+{
+    Kind::Adapt {
+        signed: flag(params, 1),
+    }
+}
+
+fn case(alloc: Global, params: &[Param]) -> Result<Option<Kind>, AllocError>
+    ensures { IfOk result (λ kind. kind ≡ case_by params.now) }
+{
+    let Some(text) = text(params, 0) else {
+        return Ok(None);
+    };
+    let Some(spans) = specification(alloc, text)? else {
+        return Ok(None);
+    };
+    Ok(Some(Kind::Case(spans)))
+}
+
+fn case_fetch(alloc: Global, params: &[Param]) -> Result<Option<Kind>, AllocError>
+    ensures { IfOk result (λ kind. kind ≡ case_fetch_by params.now) }
+{
+    let Some(text) = text(params, 0) else {
+        return Ok(None);
+    };
+    let Some(spans) = specification(alloc, text)? else {
+        return Ok(None);
+    };
+    Ok(Some(Kind::CaseFetch(spans)))
+}
+
+fn variable(params: &[Param]) -> Option<Kind>
+    ensures { result ≡ variable_by params.now }
+{
+    if reads_whole(text(params, 1)) {
+        Some(Kind::Variable)
+    } else {
+        None
+    }
+}
+
+fn false_variable(params: &[Param]) -> Option<Kind>
+    ensures { result ≡ false_variable_by params.now }
+{
+    if reads_whole(last_text(params)) {
+        Some(Kind::FalseVariable)
+    } else {
+        None
+    }
+}
+
+// Whether a read specification, if there is one, is empty: each read is of the whole value.
+fn reads_whole(specification: Option<&[u8]>) -> bool
+    ensures { result ≡ reads_whole (option_copied specification.entry) }
+{
+    match specification {
+        Some(text) => text.is_empty(),
+        None => true,
+    }
+}
+
+fn constant(params: &[Param]) -> Option<Kind>
+    ensures { result ≡ constant_by params.now }
+{
+    match number(params, 1) {
+        Some(value) => Some(Kind::Constant(value)),
+        None => None,
+    }
+}
+
+fn unary_func(params: &[Param]) -> Option<Kind>
+    ensures { result ≡ unary_by params.now }
+{
+    let Some(text) = text(params, 0) else {
+        return None;
+    };
+    let Some(op) = unary_named(text) else {
+        return None;
+    };
+    Some(Kind::UnaryFunc {
+        op,
+        signed: flag(params, 0),
+    })
+}
+
+fn binary_func(params: &[Param]) -> Option<Kind>
+    ensures { result ≡ binary_by params.now }
+{
+    let Some(text) = text(params, 0) else {
+        return None;
+    };
+    let Some(op) = binary_named(text) else {
+        return None;
+    };
+    Some(Kind::BinaryFunc {
+        op,
+        left_signed: flag(params, 1),
+        right_signed: flag(params, 2),
+    })
+}
+
+fn binary_func_const(params: &[Param]) -> Option<Kind>
+    ensures { result ≡ const_by params.now }
+{
+    let Some(text) = text(params, 0) else {
+        return None;
+    };
+    let Some(op) = binary_named(text) else {
+        return None;
+    };
+    let Some((right_width, right)) = given(number(params, 2), number(params, 3)) else {
+        return None;
+    };
+    Some(Kind::BinaryFuncConstR {
+        op,
+        left_signed: flag(params, 1),
+        right_signed: flag(params, 2),
+        right_width,
+        right,
+    })
+}
+
+fn slice(params: &[Param]) -> Option<Kind>
+    ensures { result ≡ slice_by params.now }
+{
+    match number(params, 2) {
+        Some(low) => Some(Kind::Slice(low)),
+        None => None,
+    }
+}
+
+// The width and the value of a second operand.
+fn given(width: Option<u128>, value: Option<u128>) -> Option<(u32, u128)>
+    ensures { result ≡ given width value }
+{
+    let Some(width) = width else {
+        return None;
+    };
+    let Some(value) = value else {
+        return None;
+    };
+    if width < 1 || width > MAX_WIDTH as u128 {
+        return None;
+    }
+    Some((width as u32, value))
+}
+
+fn unary_named(text: &[u8]) -> Option<UnaryOp>
+    ensures { result ≡ unary_named text.now }
+{
+    meant(&UNARY_OPS, text)
+}
+
+fn binary_named(text: &[u8]) -> Option<BinaryOp>
+    ensures { result ≡ binary_named text.now }
+{
+    meant(&BINARY_OPS, text)
+}
+
+// The text at a place among the parameters that are texts.
+fn text(params: &[Param], place: usize) -> Option<&[u8]>
+    ensures { option_copied result ≡ text params.now place }
+{
+    let mut before = 0;
+    for param in params {
+        if let Param::Word(text) = param {
+            if before == place {
+                return Some(text.as_slice());
+            }
+            before += 1;
+        }
+    }
+    None
+}
+
+// The last of the parameters that are texts.
+fn last_text(params: &[Param]) -> Option<&[u8]>
+    ensures { option_copied result ≡ last_text params.now }
+{
+    let mut last = None;
+    for param in params {
+        if let Param::Word(text) = param {
+            last = Some(text.as_slice());
+        }
+    }
+    last
+}
+
+// The number at a place among the parameters that are numbers.
+fn number(params: &[Param], place: usize) -> Option<u128>
+    ensures { result ≡ number params.now place }
+{
+    let mut before = 0;
+    for param in params {
+        if let Param::Num(number) = param {
+            if before == place {
+                return Some(*number);
+            }
+            before += 1;
+        }
+    }
+    None
+}
+
+// The truth value at a place among the parameters that are such values, false where there is none.
+fn flag(params: &[Param], place: usize) -> bool
+    ensures { result ≡ flag params.now place }
+{
+    match given_flag(params, place) {
+        Some(flag) => flag,
+        None => false,
+    }
+}
+
+fn given_flag(params: &[Param], place: usize) -> Option<bool>
+    ensures { result ≡ given_flag params.now place }
+{
+    let mut before = 0;
+    for param in params {
+        if let Param::Flag(flag) = param {
+            if before == place {
+                return Some(*flag);
+            }
+            before += 1;
+        }
+    }
+    None
+}

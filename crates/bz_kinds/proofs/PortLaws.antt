@@ -1,0 +1,83 @@
+-- States and the numbers that they are kept as.
+use Rattle.std.proofs.Common.{◌≡◌, ◌≢◌, ◌⊎◌, inl, inr, ℕ, zero, suc, ◌+◌, ◌*◌, ◌<◌, ◌≤◌, Bool, true, false, ◌&&◌, List, ◌∷◌, length, get_or, set, map, refl, ap, sym, ◌∙◌, arith}
+use Rattle.std.specs.Prelude.{if◌then◌else◌, nat_le, nat_lt, replicate}
+use Rattle.std.proofs.lemmas.Bool.{le-leb, lt-leb, lt-ltb, le-ltb}
+use Rattle.std.proofs.Math.ListN.{get_or-map}
+use Rattle.std.proofs.lemmas.List.{length-map, map-set}
+use Rattle.bz_bits.specs.PortWords.{between, HasOdd, IsEven}
+use Rattle.bz_kinds.specs.declared.ports.PortState.{PortState}
+use Rattle.bz_kinds.specs.declared.ports.PortState.TheVariants.{Closed, ClosedDue, Open, OpenDue}
+use Rattle.bz_kinds.specs.Ports.{state_at, state_of, number_of, is_due, NoneDueIn, SomeDueIn}
+
+pub state_number : (s : PortState) → state_of (number_of s) ≡ s
+state_number Closed = refl
+state_number ClosedDue = refl
+state_number Open = refl
+state_number OpenDue = refl
+
+pub state_map : (xs : List ℕ) (p : ℕ) → state_at (map state_of xs) p ≡ state_of (get_or xs p 0)
+state_map xs p = get_or-map state_of xs p 0
+
+pub closed_all : (n : ℕ) → map state_of (replicate n 0) ≡ replicate n Closed
+closed_all zero = refl
+closed_all (suc n) = ap (λ w. Closed ∷ w) (closed_all n)
+
+-- one port is put into a state
+pub state_set : (xs : List ℕ) (p x : ℕ) (s : PortState) → x ≡ number_of s → map state_of (set xs p x) ≡ set (map state_of xs) p s
+state_set xs p x s e = map-set state_of xs p x ∙ ap (λ t. set (map state_of xs) p t) (ap state_of e ∙ state_number s)
+
+-- the ports between two are put into a state
+pub state_fill : (xs ys : List ℕ) (from to x : ℕ) (s : PortState) → x ≡ number_of s → ((p : ℕ) → get_or ys p 0 ≡ (if between from to p then x else get_or xs p 0)) → (p : ℕ) → state_at (map state_of ys) p ≡ (if between from to p then s else state_at (map state_of xs) p)
+state_fill xs ys from to x s e each p =
+    state_map ys p ∙ ap state_of (each p) ∙ choose (between from to p)
+  where
+    choose : (b : Bool) → state_of (if b then x else get_or xs p 0) ≡ (if b then s else state_at (map state_of xs) p)
+    choose true = ap state_of e ∙ state_number s
+    choose false = sym (state_map xs p)
+
+pub none_due_in : (xs : List ℕ) (k : ℕ) → IsEven xs k → NoneDueIn (map state_of xs) k
+none_due_in xs k even = record {
+  word = even.word;
+  each = λ i lt. ap state_of (even.each i lt) ∙ sym (state_map xs (64 * k + i));
+  none_due = even.none_due;
+}
+
+pub some_due_in : (xs : List ℕ) (k : ℕ) → (length xs ≤ 64 * k) ⊎ HasOdd xs k → (length (map state_of xs) ≤ 64 * k) ⊎ SomeDueIn (map state_of xs) k
+some_due_in xs k (inl past) = inl (let l = length-map xs state_of in omega arith)
+some_due_in xs k (inr odd) = inr (record {
+  place = odd.place;
+  within = odd.within;
+  due = ap is_due (state_map xs (64 * k + odd.place)) ∙ due odd.odd;
+})
+  where
+    due : (get_or xs (64 * k + odd.place) 0 ≡ 1) ⊎ (get_or xs (64 * k + odd.place) 0 ≡ 3) → is_due (state_of (get_or xs (64 * k + odd.place) 0)) ≡ true
+    due (inl e) = ap (λ a. is_due (state_of a)) e
+    due (inr e) = ap (λ a. is_due (state_of a)) e
+
+-- what stands before, within and after the ports that were filled
+module _ (old new : List PortState) (from to : ℕ) (s : PortState) (filled : (p : ℕ) → get_or new p Closed ≡ (if between from to p then s else get_or old p Closed)) where
+  no_and : (b : Bool) → (b && false) ≡ false
+  no_and true = refl
+  no_and false = refl
+
+  pub filled_before : (p : ℕ) → p < from → get_or new p Closed ≡ get_or old p Closed
+  filled_before p lt = filled p ∙ ap (λ (b : Bool). if b && nat_lt p to then s else get_or old p Closed) (lt-leb from p lt)
+
+  pub filled_after : (p : ℕ) → to ≤ p → get_or new p Closed ≡ get_or old p Closed
+  filled_after p le = filled p ∙ ap (λ (b : Bool). if b then s else get_or old p Closed) (ap (λ (b : Bool). nat_le from p && b) (le-ltb p to le) ∙ no_and (nat_le from p))
+
+  pub filled_from : (p : ℕ) → from ≤ p → p < to → get_or new p Closed ≡ s
+  filled_from p le lt = filled p ∙ ap (λ (b : Bool). if b && nat_lt p to then s else get_or old p Closed) (le-leb from p le) ∙ ap (λ (b : Bool). if b then s else get_or old p Closed) (lt-ltb p to lt)
+
+-- a port at which a move is due is not in the state of one that is idle
+pub begins_up : (a : PortState) → a ≡ ClosedDue → a ≢ Closed
+begins_up a e z = absurd (let f : ClosedDue ≡ Closed = sym e ∙ z in cc)
+
+pub ends_up : (a : PortState) → a ≡ OpenDue → a ≢ Closed
+ends_up a e z = absurd (let f : OpenDue ≡ Closed = sym e ∙ z in cc)
+
+pub closed_or : (a : PortState) → (a ≡ Closed) ⊎ (a ≢ Closed)
+closed_or Closed = inl refl
+closed_or ClosedDue = inr (begins_up ClosedDue refl)
+closed_or Open = inr (λ z. cc)
+closed_or OpenDue = inr (ends_up OpenDue refl)

@@ -1,7 +1,0 @@
-use Rattle.std.proofs.Common.{◌≡◌, map, take}
-use Rattle.bz_model.specs.Names.{external}
-use Rattle.bz_lines.specs.Reading.{form_of}
-use Rattle.bz_lines.proofs.ports.forms_of.Given as goal
-
-abbrev pub invariant-loop-port : goal.invariant-loop-port
-invariant-loop-port l = l.forms ≡ map form_of (map external (take l.port-index l.ports))

@@ -1,6 +1,0 @@
-use Rattle.std.proofs.Common.{take}
-use Rattle.bz_lines.specs.Reading.{HasNoSpace}
-use Rattle.bz_lines.proofs.ports.word_at.Given as goal
-
-abbrev pub invariant-loop-place : goal.invariant-loop-place
-invariant-loop-place l = HasNoSpace (take l.place l.text)

@@ -1,7 +1,0 @@
-use Rattle.bz_locked_rows.proofs.pair.run_pair.Given as goal
-
-abbrev pub ghosts-start-L-NetLedger : goal.ghosts-start-L-NetLedger
-ghosts-start-L-NetLedger g a = record { wiring = a.net.wiring; fuel = a.fuel }
-
-abbrev pub ghosts-start-L-Ledger : goal.ghosts-start-L-Ledger
-ghosts-start-L-Ledger g a = record { name = a.blank.name; parts = a.blank.parts }

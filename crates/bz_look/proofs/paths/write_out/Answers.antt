@@ -1,6 +1,0 @@
-use Rattle.bz_input.proofs.Written.{all_of, appends_keeps}
-use Rattle.bz_look.specs.Listing.{paths_text}
-use Rattle.bz_look.proofs.paths.write_out.Goals as goal
-
-pub returns-in-Err-clause-err : goal.returns-in-Err-clause-err
-returns-in-Err-clause-err g c = all_of _ _ (paths_text c.args.survey.now c.args.part.now) (appends_keeps _ _ _ (paths_text c.args.survey.now c.args.part.now) c.in_ok-put_paths.ensures c.in-Err.ensures.bytes)

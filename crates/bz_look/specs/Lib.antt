@@ -1,3 +1,0 @@
-pub mod Surveys
-pub mod Listing
-pub mod Listed

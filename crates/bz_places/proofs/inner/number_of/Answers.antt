@@ -1,6 +1,0 @@
-use Rattle.std.proofs.Common.{◌∙◌}
-use Rattle.bz_elab.proofs.Numbering.{number_is_first}
-use Rattle.bz_places.proofs.inner.number_of.Goals as goal
-
-pub returns : goal.returns
-returns c = c.number.ensures ∙ number_is_first c.args.parts.now c.args.name.now

@@ -1,0 +1,121 @@
+-- The plays of all sessions, in turn.
+use Rattle.std.proofs.Common.{Result, Ok, Err, ◌≡◌, ℕ, suc, ◌+◌, List, [], ◌∷◌, ◌++◌, length, map, get_or, refl, sym, ap, subst, ◌∙◌, arith, length-append}
+use Rattle.std.specs.Prelude.{IfErr, IfOk}
+use Rattle.std.specs.List.{All}
+use Rattle.std.specs.declared.alloc.Global.{Global}
+use Rattle.std.specs.declared.vec.Vec.{Vec}
+use Rattle.bz_model.specs.declared.event.Entry.{Entry}
+use Rattle.bz_model.specs.declared.event.HostCmd.{HostCmd}
+use Rattle.bz_model.specs.declared.event.Who.{Who}
+use Rattle.bz_model.specs.declared.event.Who.TheVariants.{Host}
+use Rattle.bz_model.specs.Nets.{Wiring}
+use Rattle.bz_locked.specs.Discords.{IsDiscord}
+use Rattle.bz_locked.specs.declared.closing.CloseError.{CloseError}
+use Rattle.bz_locked.specs.Closing.{FirstDiscord, Gathers, RecordAgrees}
+use Rattle.bz_locked.specs.Journal.{part_of}
+use Rattle.bz_locked.specs.Parts.{SessionView, WorkerView}
+use Rattle.bz_locked.specs.declared.closing.Closed.{Closed}
+use Rattle.bz_locked.specs.declared.closing.CloseError.TheVariants as close
+use Rattle.bz_pool.specs.declared.pool.PoolError.{PoolError}
+use Rattle.bz_pool.specs.declared.pool.PoolError.TheVariants.{Close}
+use Rattle.bz_session.specs.declared.playing.End.{End}
+use Rattle.bz_pool.specs.Crews.{AddsWork, EachPlayed, HavePlayed, TellsDiscord}
+use Rattle.bz_pool.specs.Pooled.{ArePlayed, Differs, IsPlayed, PlayInTurn, RefusesPool, hands, hosts, in_turn}
+use Rattle.bz_locked.specs.Terms.{Terms, terms}
+
+-- one session more
+pub played_more : (w : Terms) (ls : List (Vec HostCmd Global)) (ss : List SessionView) (es : List End) (l : Vec HostCmd Global) (s : SessionView) (e : End) → EachPlayed w ls ss es → IsPlayed w s.who l.items e s.own → EachPlayed w (ls ++ l ∷ []) (ss ++ s ∷ []) (es ++ e ∷ [])
+played_more w [] [] [] l s e all is = (is, tt)
+played_more w [] [] (y ∷ ys) l s e all is = absurd all
+played_more w [] (x ∷ xs) ys l s e all is = absurd all
+played_more w (z ∷ zs) [] ys l s e all is = absurd all
+played_more w (z ∷ zs) (x ∷ xs) [] l s e all is = absurd all
+played_more w (z ∷ zs) (x ∷ xs) (y ∷ ys) l s e all is = (all.0, played_more w zs xs ys l s e all.1 is)
+
+-- there are as many sessions as lists
+pub played_count : (w : Terms) (ls : List (Vec HostCmd Global)) (ss : List SessionView) (es : List End) → EachPlayed w ls ss es → (length ss ≡ length ls) × (length es ≡ length ls)
+played_count w [] [] [] all = (refl, refl)
+played_count w [] [] (y ∷ ys) all = absurd all
+played_count w [] (x ∷ xs) ys all = absurd all
+played_count w (z ∷ zs) [] ys all = absurd all
+played_count w (z ∷ zs) (x ∷ xs) [] all = absurd all
+played_count w (z ∷ zs) (x ∷ xs) (y ∷ ys) all = let rest = played_count w zs xs ys all.1 in (ap suc rest.0, ap suc rest.1)
+
+-- what stands behind the first
+abbrev behind : List Who → List Who
+behind [] = []
+behind (x ∷ xs) = xs
+
+-- where the sessions are Host k+1 and on, and each record is its part of the journal, they play in turn
+pub in_turn_played : (w : Terms) (journal : List Entry) (k : ℕ) (ls : List (Vec HostCmd Global)) (ss : List SessionView) (es : List End) → map (λ s. s.who) ss ≡ in_turn Host k (length ls) → All (RecordAgrees journal) ss → EachPlayed w ls ss es → PlayInTurn w journal k ls es
+in_turn_played w journal k [] [] [] whos own all = tt
+in_turn_played w journal k [] [] (y ∷ ys) whos own all = absurd all
+in_turn_played w journal k [] (x ∷ xs) ys whos own all = absurd all
+in_turn_played w journal k (z ∷ zs) [] ys whos own all = absurd all
+in_turn_played w journal k (z ∷ zs) (x ∷ xs) [] whos own all = absurd all
+in_turn_played w journal k (z ∷ zs) (x ∷ xs) (y ∷ ys) whos own all =
+    let who : x.who ≡ Host (suc k) = ap (λ (l : List Who). get_or l 0 x.who) whos in
+    let mine : x.own ≡ part_of (Host (suc k)) journal = own 0 x (omega arith) ∙ ap (λ h. part_of h journal) who in
+    let is : IsPlayed w (Host (suc k)) z.items y x.own = subst (λ (h : Who). IsPlayed w h z.items y x.own) who all.0 in
+    (subst (λ (l : List Entry). IsPlayed w (Host (suc k)) z.items y l) mine is, in_turn_played w journal (suc k) zs xs ys (ap behind whos) (λ i d lt. own (suc i) d (omega arith)) all.1)
+
+-- the sessions played their lists, and then come the ends of the workers
+pub have_played : (w : Terms) (mid lists : List (Vec HostCmd Global)) (ss : List SessionView) (n m : ℕ) (es ends : List End) → mid ≡ lists → n ≡ m → EachPlayed w mid ss es → AddsWork w n es ends → HavePlayed w lists ss m ends
+have_played w mid lists ss n m es ends same number played adds = record {
+  of_sessions = es;
+  played = subst (λ (l : List (Vec HostCmd Global)). EachPlayed w l ss es) same played;
+  then = subst (λ k. AddsWork w k es ends) number adds;
+}
+
+-- there is an end of each
+pub ends_count : (w : Terms) (lists : List (Vec HostCmd Global)) (ss : List SessionView) (m : ℕ) (ends : List End) → HavePlayed w lists ss m ends → length ends ≡ length lists + m
+ends_count w lists ss m ends have =
+    let counts = played_count w lists ss have.of_sessions have.played in
+    let grown = ap length have.then.grown ∙ length-append have.of_sessions have.then.of_workers in
+    omega (arith, counts.1, grown, have.then.number)
+
+-- what the threads did, told of the journal
+pub all_played : (w : Terms) (journal : List Entry) (ls : List (Vec HostCmd Global)) (ss : List SessionView) (workers : ℕ) (ends : List End) → map (λ s. s.who) ss ≡ in_turn Host 0 (length ls) → All (RecordAgrees journal) ss → HavePlayed w ls ss workers ends → ArePlayed w ls workers journal ends
+all_played w journal ls ss workers ends whos own have = record {
+  of_sessions = have.of_sessions;
+  of_workers = have.then.of_workers;
+  ends_are = have.then.grown;
+  played = in_turn_played w journal 0 ls ss have.of_sessions whos own have.played;
+  count = have.then.number;
+  worked = have.then.worked;
+}
+
+-- what holds of an answer, by two clauses of it
+pub of_ok : {A E : Type 0} (P Q R : A → Type 0) (result : Result A E) → ((a : A) → P a → Q a → R a) → IfOk result P → IfOk result Q → IfOk result R
+of_ok P Q R (Ok a) f p q = f a p q
+of_ok P Q R (Err e) f p q = tt
+
+pub of_err : {A E : Type 0} (P Q : E → Type 0) (result : Result A E) → ((e : E) → P e → Q e) → IfErr result P → IfErr result Q
+of_err P Q (Ok a) f p = tt
+of_err P Q (Err e) f p = f e p
+
+-- a discord of what was handed in
+pub all_refused : (w : Wiring) (fuel sessions workers : ℕ) (ss : List SessionView) (vs : List WorkerView) (c : Closed) (e : PoolError) → map (λ s. s.who) ss ≡ hosts sessions → map (λ v. v.who) vs ≡ hands workers → Gathers w fuel ss vs c → TellsDiscord ss vs c e → RefusesPool w fuel sessions workers e
+all_refused w fuel sessions workers ss vs c e hs ws gathers tells =
+    let differs : Differs w fuel sessions workers tells.who tells.at = record {
+      closed = c;
+      of_sessions = ss;
+      of_workers = vs;
+      sessions_are = hs;
+      workers_are = ws;
+      gathers = gathers;
+      first = tells.first;
+    } in
+    subst (RefusesPool w fuel sessions workers) (sym tells.told) differs
+
+-- which error the close answers
+pub discord_told : (ss : List SessionView) (vs : List WorkerView) (c : Closed) (e : CloseError) → IsDiscord e (FirstDiscord ss vs c) → TellsDiscord ss vs c (Close e)
+discord_told ss vs c (close.Discord who at) is = record { who = who; at = at; told = refl; first = is }
+discord_told ss vs c close.Memory is = absurd is
+
+-- terms are told by their parts
+pub terms_are : (t : Terms) (wiring : Wiring) (fuel sessions : ℕ) → wiring ≡ t.wiring → fuel ≡ t.fuel → sessions ≡ t.sessions → t ≡ terms wiring fuel sessions
+terms_are t wiring fuel sessions w f s =
+    subst (λ (v : Wiring). t ≡ terms v fuel sessions) (sym w)
+    (subst (λ n. t ≡ terms t.wiring n sessions) (sym f)
+    (subst (λ n. t ≡ terms t.wiring t.fuel n) (sym s) refl))

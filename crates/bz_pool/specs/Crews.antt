@@ -1,0 +1,46 @@
+-- What the threads of a pool have done, before the net is closed.
+use Rattle.std.specs.Prelude.{◌≡◌, ℕ, ⊤, List, [], ◌∷◌, ◌++◌, length}
+use Rattle.std.specs.List.{All}
+use Rattle.std.specs.declared.alloc.Global.{Global}
+use Rattle.std.specs.declared.vec.Vec.{Vec}
+use Rattle.bz_model.specs.declared.event.HostCmd.{HostCmd}
+use Rattle.bz_model.specs.declared.event.Who.{Who}
+use Rattle.bz_model.specs.Nets.{Wiring}
+use Rattle.bz_locked.specs.Closing.{FirstDiscord}
+use Rattle.bz_locked.specs.Parts.{SessionView, WorkerView}
+use Rattle.bz_locked.specs.declared.closing.Closed.{Closed}
+use Rattle.bz_locked.specs.declared.closing.CloseError.TheVariants.{Discord}
+use Rattle.bz_session.specs.declared.playing.End.{End}
+use Rattle.bz_pool.specs.declared.pool.PoolError.{PoolError}
+use Rattle.bz_pool.specs.declared.pool.PoolError.TheVariants.{Close}
+use Rattle.bz_pool.specs.Pooled.{IsPlayed, WorkEndIs}
+use Rattle.bz_locked.specs.Terms.{Terms}
+
+-- each session has played its list, and ended as told
+abbrev pub EachPlayed : Terms → List (Vec HostCmd Global) → List SessionView → List End → Type 0
+EachPlayed t [] [] [] = ⊤
+EachPlayed t [] [] (e ∷ es) = ⊥
+EachPlayed t [] (s ∷ ss) es = ⊥
+EachPlayed t (l ∷ ls) [] es = ⊥
+EachPlayed t (l ∷ ls) (s ∷ ss) [] = ⊥
+EachPlayed t (l ∷ ls) (s ∷ ss) (e ∷ es) = IsPlayed t s.who l.items e s.own × EachPlayed t ls ss es
+
+-- the ends of so many workers more
+pub record AddsWork (t : Terms) (count : ℕ) (old new : List End) : Type 0 where
+  pub of_workers : List End
+  pub grown : new ≡ old ++ of_workers
+  pub number : length of_workers ≡ count
+  pub worked : All (WorkEndIs t) of_workers
+
+-- The sessions have played their lists, and the ends are theirs and then those of so many workers.
+pub record HavePlayed (t : Terms) (lists : List (Vec HostCmd Global)) (sessions : List SessionView) (workers : ℕ) (ends : List End) : Type 0 where
+  pub of_sessions : List End
+  pub played : EachPlayed t lists sessions of_sessions
+  pub then : AddsWork t workers of_sessions ends
+
+-- the error is a discord, which is first there
+pub record TellsDiscord (sessions : List SessionView) (workers : List WorkerView) (closed : Closed) (error : PoolError) : Type 0 where
+  pub who : Who
+  pub at : ℕ
+  pub told : error ≡ Close (Discord who at)
+  pub first : FirstDiscord sessions workers closed who at

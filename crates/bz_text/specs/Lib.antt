@@ -1,0 +1,3 @@
+pub mod Writing
+pub mod Growing
+pub mod Pieces

@@ -1,0 +1,187 @@
+-- A trace that a reader gives piece by piece.
+use Rattle.std.proofs.Common.{◌≡◌, ◌≢◌, Bool, true, false, ℕ, suc, ◌+◌, ◌<◌, ◌≤◌, ◌-◌, ◌*◌, List, [], ◌∷◌, ◌++◌, length, Option, Some, None, refl, sym, ap, ap₂, subst, ◌∙◌, arith, append_assoc, length-append, ◌⊎◌, inl, inr}
+use Rattle.std.specs.Prelude.{IfOk, IfSome, OnOk, Result, Ok, Err}
+use Rattle.std.specs.Io.KnownBytes.{Consumes, IsAtEnd}
+use Rattle.std.proofs.lemmas.List.{append-nil}
+use Rattle.bz_model.specs.Names.{Outside}
+use Rattle.bz_model.specs.Nets.{Wiring, outside}
+use Rattle.bz_flat.specs.Wires.{WellWired}
+use Rattle.bz_net.specs.Progress.{Progress, IsToldBy}
+use Rattle.bz_trace_text.specs.declared.text.Version.{Version}
+use Rattle.bz_trace_text.specs.declared.text.Version.TheVariants.{One, Two}
+use Rattle.bz_trace_text.specs.declared.text.TheConstants.{MAX_ENTRIES}
+use Rattle.bz_trace_text.specs.Reading.{line_at}
+use Rattle.bz_trace_text.specs.Texts.{IsBad, NoEntry, first_line}
+use Rattle.bz_trace.specs.declared.lines.Followed.{Followed}
+use Rattle.bz_trace_text.specs.declared.tally.Counts.{Counts}
+use Rattle.bz_trace.specs.declared.checking.Verdict.{Verdict}
+use Rattle.bz_trace.specs.declared.checking.Verdict.TheVariants as verdict
+use Rattle.bz_trace.specs.declared.reading.ReadFault.{ReadFault}
+use Rattle.bz_trace.specs.Verdicts.{CountsRun, Judges, JudgesBy}
+use Rattle.bz_trace.specs.Following.{FollowsText, GetsOn, NoneToFollow}
+use Rattle.bz_trace.specs.Reading.{Comes, HasEnd, IsOther, ReadsMore}
+use Rattle.bz_trace.proofs.Along.{bad_here, cons_same, counts_run, follows_longer, follows_start, judges}
+use Rattle.bz_trace.proofs.Ends.{no_entry_on}
+use Rattle.bz_trace.proofs.Sole.{one_verdict_or_memory}
+
+-- two pieces, one after the other
+pub consumes_then : (a b c : Option (List ℕ)) (t u : List ℕ) → Consumes a b t → Consumes b c u → Consumes a c (t ++ u)
+consumes_then None b c t u p q = tt
+consumes_then (Some xs) None c t u p q = absurd p
+consumes_then (Some xs) (Some ys) None t u p q = q
+consumes_then (Some xs) (Some ys) (Some zs) t u p q = p ∙ ap (λ s. t ++ s) q ∙ sym (append_assoc t u zs)
+
+pub consumes_none : (a : Option (List ℕ)) → Consumes a a []
+consumes_none None = tt
+consumes_none (Some xs) = refl
+
+-- what holds of what was read with anything behind it holds of all that the reader had
+pub whatever_comes : (old new : Option (List ℕ)) (got : List ℕ) (P : List ℕ → Type 0) → Consumes old new got → ((left : List ℕ) → P (got ++ left)) → IfSome old P
+whatever_comes None new got P taken holds = tt
+whatever_comes (Some xs) None got P taken holds = absurd taken
+whatever_comes (Some xs) (Some left) got P taken holds = subst P (sym taken) (holds left)
+
+-- at the end it is all
+pub nothing_comes : (old new : Option (List ℕ)) (got : List ℕ) (P : List ℕ → Type 0) → Consumes old new got → IsAtEnd new → P got → IfSome old P
+nothing_comes None new got P taken end holds = tt
+nothing_comes (Some xs) None got P taken end holds = absurd taken
+nothing_comes (Some xs) (Some left) got P taken end holds = subst P (sym (taken ∙ ap (λ s. got ++ s) end ∙ append-nil got)) holds
+
+-- Behind the front more was read, and all that was followed up to what is held.
+pub record Held (old new : Option (List ℕ)) (names : Outside) (w : Wiring) (net : Progress) (front held : List ℕ) (followed : Followed) : Type 0 where
+  pub got : List ℕ
+  pub taken : Consumes old new got
+  pub follows : FollowsText names w net (front ++ got) held followed
+
+pub held_start : (old : Option (List ℕ)) (names : Outside) (net : Progress) (front : List ℕ) → names ≡ outside net.wiring → WellWired net.wiring → IsToldBy net [] → net.left ≡ MAX_ENTRIES
+    → Held old old names net.wiring net front front (record { counts = record { fired = 0; host = 0; rests = 0 }; count = 0; stop = None })
+held_start old names net front named wired opened full = record {
+  got = [];
+  taken = consumes_none old;
+  follows = subst (λ t. FollowsText names net.wiring net t front (record { counts = record { fired = 0; host = 0; rests = 0 }; count = 0; stop = None })) (sym (append-nil front)) (follows_start names net front named wired opened full);
+}
+
+pub held_more : (old new later : Option (List ℕ)) (names : Outside) (w : Wiring) (net : Progress) (front got held piece : List ℕ) (followed : Followed) → Consumes old new got → Consumes new later piece → FollowsText names w net (front ++ got) held followed
+    → Held old later names w net front (held ++ piece) followed
+held_more old new later names w net front got held piece followed taken more follows = record {
+  got = got ++ piece;
+  taken = consumes_then old new later got piece taken more;
+  follows = subst (λ t. FollowsText names w net t (held ++ piece) followed) (append_assoc front got piece) (follows_longer names w net (front ++ got) held followed piece follows);
+}
+
+no_end : (text more : List ℕ) → HasEnd text → text ++ more ≡ [] → ⊥
+no_end [] more h e = cc
+no_end (b ∷ text) more h e = cc
+
+no_entry : (names net : Outside) (text more : List ℕ) (followed : Followed) → names ≡ net → HasEnd text → NoneToFollow names text followed → NoEntry net followed.count (text ++ more)
+no_entry names net text more followed named h (inl none) = no_entry_on net followed.count text more h (subst (λ n. line_at n text ≡ None) named none)
+no_entry names net text more followed named h (inr full) = λ e after has is. full
+
+-- where another line is whole, the trace is bad there, whatever comes
+pub bad_line : (old new : Option (List ℕ)) (names : Outside) (w : Wiring) (net : Progress) (v : Version) (front got held : List ℕ) (followed : Followed) → Consumes old new got → FollowsText names w net (front ++ got) held followed → NoneToFollow names held followed → IsOther v held
+    → IfSome old (λ more. IsBad (outside w) (first_line v ++ (front ++ more)) (followed.count + 2))
+bad_line old new names w net v front got held followed taken follows none other =
+    whatever_comes old new got (λ more. IsBad (outside w) (first_line v ++ (front ++ more)) (followed.count + 2)) taken (λ left.
+    subst (λ t. IsBad (outside w) (first_line v ++ t) (followed.count + 2)) (append_assoc front got left)
+    (bad_here names w net v ((front ++ got) ++ left) (held ++ left) followed (follows_longer names w net (front ++ got) held followed left follows) (no_end held left other.0) (no_entry names (outside w) held left followed follows.names_are other.0 none) (other.1 left)))
+
+-- ---- the first line
+
+front_within : (p text more rest : List ℕ) → length p ≤ length text → text ++ more ≡ p ++ rest → (r : List ℕ) × (text ≡ p ++ r)
+front_within [] text more rest long e = (text, refl)
+front_within (b ∷ p) [] more rest long e = absurd (omega (arith, long))
+front_within (b ∷ p) (c ∷ text) more rest long e =
+    let same = cons_same e in
+    let (r, is) = front_within p text more rest (omega (arith, long)) same.1 in
+    (r, ap₂ (λ d ds. d ∷ ds) same.0 is)
+
+eight : (v : Version) → length (first_line v) ≡ 8
+eight One = refl
+eight Two = refl
+
+-- where no version stands in front of eight bytes or all of them, the first line is bad
+pub first_bad : (old new : Option (List ℕ)) (net : Outside) (held : List ℕ) → Consumes old new held → (8 ≤ length held) ⊎ IsAtEnd new → ((v : Version) (rest : List ℕ) → held ≡ first_line v ++ rest → ⊥) → IfSome old (λ text. IsBad net text 1)
+first_bad old new net held taken (inr end) none = nothing_comes old new held (λ text. IsBad net text 1) taken end (inl (refl, none))
+first_bad old new net held taken (inl long) none = whatever_comes old new held (λ text. IsBad net text 1) taken (λ left.
+    inl (refl, λ v rest e. let (r, is) = front_within (first_line v) held left rest (omega (arith, long, eight v)) e in none v r is))
+
+-- ---- how long it goes on
+
+pub held_within : (old new : Followed) (text rest : List ℕ) (most : ℕ) → GetsOn old new text rest → length text ≤ most → length rest ≤ most
+held_within old new text rest most (inl same) fits = let is = ap length same.1 in omega (arith, is, fits)
+held_within old new text rest most (inr more) fits = let less = more.1 in omega (arith, less, fits)
+
+-- more lines are followed or more is held
+pub falls : (old new : Followed) (text rest piece later : List ℕ) → GetsOn old new text rest → later ≡ rest ++ piece → 0 < length piece → length text ≤ 67108864 → new.count ≤ 16777216
+    → (16777216 - new.count) * 67108865 + (67108865 - length later) < (16777216 - old.count) * 67108865 + (67108865 - length text)
+falls old new text rest piece later (inl same) is some fits within =
+    let count = same.0 in
+    let whole = ap length same.1 in
+    let long = ap length is in
+    let sum = length-append rest piece in
+    omega (arith, count, whole, long, sum, some, fits, within)
+falls old new text rest piece later (inr more) is some fits within =
+    let count = more.0 in
+    omega (arith, count, fits, within)
+
+-- ---- what is said of all that the reader had
+
+pub judged_read : (old new : Option (List ℕ)) (w u : Wiring) (held lines : List ℕ) (v : Version) (counts : Counts) (said : Verdict) → Consumes old new held → held ≡ first_line v ++ lines → u ≡ w
+    → IfSome new (λ more. JudgesBy u (first_line v ++ (lines ++ more)) counts said) → IfSome old (λ text. JudgesBy w text counts said)
+judged_read None new w u held lines v counts said taken is same by = tt
+judged_read (Some xs) None w u held lines v counts said taken is same by = absurd taken
+judged_read (Some xs) (Some left) w u held lines v counts said taken is same by =
+    let whole : first_line v ++ (lines ++ left) ≡ xs = sym (append_assoc (first_line v) lines left) ∙ ap (λ s. s ++ left) (sym is) ∙ sym taken in
+    subst (λ t. JudgesBy w t counts said) whole (subst (λ (x : Wiring). JudgesBy x (first_line v ++ (lines ++ left)) counts said) same by)
+
+each : (o : Option (List ℕ)) (P Q : List ℕ → Type 0) → ((text : List ℕ) → P text → Q text) → IfSome o P → IfSome o Q
+each None P Q all p = tt
+each (Some text) P Q all p = all text p
+
+abbrev pub IsJudged : Wiring → Option (List ℕ) → Result (Verdict × Counts) ReadFault → Type 0
+IsJudged w old result = IfOk result (λ said. IfSome old (λ text. JudgesBy w text said.1 said.0))
+
+pub right_of : (w : Wiring) (old : Option (List ℕ)) (r : Result (Verdict × Counts) ReadFault) → IsJudged w old r → IfOk r (λ said. IfSome old (λ text. Judges w text said.0))
+right_of w old (Ok said) by = each old _ _ (λ text. judges w text said.1 said.0) by
+right_of w old (Err f) by = tt
+
+pub counted_of : (w : Wiring) (old : Option (List ℕ)) (r : Result (Verdict × Counts) ReadFault) → IsJudged w old r → IfOk r (λ said. IfSome old (λ text. said.0 ≡ verdict.Run → CountsRun w text said.1))
+counted_of w old (Ok said) by = each old _ _ (λ text. counts_run w text said.1 said.0) by
+counted_of w old (Err f) by = tt
+
+pub only_of : (w : Wiring) (old : Option (List ℕ)) (r : Result (Verdict × Counts) ReadFault) → OnOk r (WellWired w) → IsJudged w old r
+    → IfOk r (λ said. IfSome old (λ text. (v : Verdict) → Judges w text v → v ≢ verdict.Memory → (said.0 ≡ v) ⊎ (said.0 ≡ verdict.Memory)))
+only_of w old (Ok said) wired by = each old _ _ (λ text one v holds some. one_verdict_or_memory w text said.0 v (λ other. wired) (judges w text said.1 said.0 one) holds some) by
+only_of w old (Err f) wired by = tt
+
+-- ---- a piece more, or the end
+
+pub none_came : (old new : Option (List ℕ)) (held later : List ℕ) (goal : ℕ) (came : Bool) → came ≡ false → ReadsMore old new held later goal came → Consumes old new [] × (later ≡ held) × IsAtEnd new
+none_came old new held later goal true never r = absurd (let e = never in cc)
+none_came old new held later goal false never r = (subst (λ p. Consumes old new p) r.3.0 r.1, r.2 ∙ ap (λ p. held ++ p) r.3.0 ∙ append-nil held, r.3.1)
+
+pub some_came : (old new : Option (List ℕ)) (held later : List ℕ) (goal : ℕ) (came : Bool) → came ≡ true → ReadsMore old new held later goal came → (piece : List ℕ) × Consumes old new piece × (later ≡ held ++ piece) × (0 < length piece)
+some_came old new held later goal true so r = (r.0, r.1, r.2, r.3.0)
+some_came old new held later goal false so r = absurd (let e = so in cc)
+
+pub said_at_end : (old mid new : Option (List ℕ)) (w : Wiring) (v : Version) (front got : List ℕ) (counts : Counts) (said : Verdict) → Consumes old mid got → Consumes mid new [] → IsAtEnd new → JudgesBy w (first_line v ++ (front ++ got)) counts said
+    → IfSome old (λ more. JudgesBy w (first_line v ++ (front ++ more)) counts said)
+said_at_end old mid new w v front got counts said taken none end by =
+    nothing_comes old new got (λ more. JudgesBy w (first_line v ++ (front ++ more)) counts said) (subst (λ t. Consumes old new t) (append-nil got) (consumes_then old mid new got [] taken none)) end by
+
+pub held_on : (old mid new : Option (List ℕ)) (names : Outside) (w : Wiring) (net : Progress) (front got held later : List ℕ) (goal : ℕ) (came : Bool) (followed : Followed) → came ≡ true → ReadsMore mid new held later goal came → Consumes old mid got → FollowsText names w net (front ++ got) held followed
+    → Held old new names w net front later followed
+held_on old mid new names w net front got held later goal came followed so r taken follows =
+    let (piece, more, is, some) = some_came mid new held later goal came so r in
+    subst (λ h. Held old new names w net front h followed) (sym is) (held_more old mid new names w net front got held piece followed taken more follows)
+
+-- what was held first is nothing
+
+comes_long : (new : Option (List ℕ)) (came : Bool) (piece later : List ℕ) (goal : ℕ) → Comes new came piece later goal → (goal ≤ length later) ⊎ IsAtEnd new
+comes_long new true piece later goal c = c.1
+comes_long new false piece later goal c = inr c.1
+
+pub first_bad_of : (old new : Option (List ℕ)) (net : Outside) (held later text : List ℕ) (came : Bool) → held ≡ [] → ReadsMore old new held later 8 came → text ≡ later → ((v : Version) (rest : List ℕ) → text ≡ first_line v ++ rest → ⊥) → IfSome old (λ t. IsBad net t 1)
+first_bad_of old new net held later text came empty r is none =
+    let taken = subst (λ p. Consumes old new p) (sym (r.2 ∙ ap (λ h. h ++ r.0) empty)) r.1 in
+    first_bad old new net later taken (comes_long new came r.0 later 8 r.3) (λ v rest e. none v rest (is ∙ e))

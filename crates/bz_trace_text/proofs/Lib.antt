@@ -1,0 +1,12 @@
+pub mod Pages
+pub mod Digits
+pub mod Strips
+pub mod Numbers
+pub mod LineLaws
+pub mod PortLaws
+pub mod FormLaws
+pub mod Taken
+pub mod Lines
+pub mod Texts
+pub mod Cuts
+pub mod Counted

@@ -1,0 +1,12 @@
+use Rattle.std.proofs.Common.{codes}
+use Rattle.std.proofs.lemmas.Result.{err_from_is_err_and}
+use Rattle.bz_text.proofs.Sent.{stops_before, writes_after}
+use Rattle.bz_trace_text.proofs.trace.write_trace_1.Goals as goal
+
+pub returns-in_err-put : goal.returns-in_err-put
+returns-in_err-put g c =
+    let p = err_from_is_err_and c.from_residual.result c.from_residual.ensures.1 in
+    rw p.1 (stops_before _ _ (codes "trace 1\n") _ c.in_err-put.ensures)
+
+pub returns : goal.returns
+returns g c = writes_after _ _ _ _ (codes "trace 1\n") _ c.in_ok-put.ensures c.put_entries.ensures.lines

@@ -1,0 +1,21 @@
+//! How many entries there are of each kind.
+
+ghost use Rattle.std.specs.Prelude.{◌≡◌};
+ghost use Rattle.std.specs.List.{count_by};
+ghost use Rattle.bz_trace_text.specs.Counting.{is_fired, is_host, is_rest};
+
+use crate::tally::Counts;
+use bz_model::Entry;
+
+/// How many of the entries are of each kind. It takes no memory.
+pub fn counts(entries: &[Entry]) -> Counts
+    ensures fired { result.fired ≡ count_by is_fired entries.now }
+    ensures host { result.host ≡ count_by is_host entries.now }
+    ensures rests { result.rests ≡ count_by is_rest entries.now }
+{
+    let mut counts = Counts::NONE;
+    for entry in entries {
+        counts.add(entry);
+    }
+    counts
+}

@@ -1,0 +1,19 @@
+//! The lines of a trace: written, read back, and counted.
+#![tactic(auto)]
+
+mod counting;
+mod page;
+mod ports;
+mod reading;
+mod tally;
+mod text;
+mod trace;
+
+pub use counting::counts;
+pub use ports::LineNames;
+pub use reading::{clash_at, line_at, strip};
+pub use tally::Counts;
+pub use text::{
+    MAX_ENTRIES, TraceError, Version, one_spelling, other_line, read_trace, version_at,
+};
+pub use trace::{put_clashes, put_entries, put_first_line, write_trace, write_trace_1};

@@ -1,0 +1,165 @@
+//! Lines composed on a page, which goes out whole.
+
+ghost use Rattle.std.specs.Prelude.{◌≡◌, ℕ, ◌+◌, ◌<◌, ◌≤◌, List, [], ◌∷◌, ◌++◌, ◌↔◌, length, take, drop, decimal, IsTrue};
+ghost use Rattle.bz_text.specs.Writing.{Writes};
+
+use bz_model::Value;
+use bz_text::{WriteFault, put};
+use std::io::Write;
+use std::marker::Model;
+
+const ROOM: usize = 8192;
+
+/// Text that has yet to go out, at most 8192 bytes.
+#[derive(Drop)]
+pub struct Page {
+    bytes: [u8; ROOM],
+    at: usize,
+}
+
+impl Model for Page {
+    ghost Value = { List ℕ };
+
+    ghost view = { λ page. take page.at page.bytes };
+
+    ghost invariant = { λ page. page.at ≤ 8192 };
+}
+
+impl Page {
+    #[inline(always)]
+    pub fn new() -> Page
+        ensures { result ≡ [] }
+    {
+        Page {
+            bytes: [0; ROOM],
+            at: 0,
+        }
+    }
+
+    /// Whether there is room for a line of 96 bytes.
+    #[inline(always)]
+    pub fn has_room(&self) -> bool
+        ensures { IsTrue result ↔ length self.now + 96 ≤ 8192 }
+    {
+        self.at <= ROOM - 96
+    }
+
+    #[inline(always)]
+    pub fn byte(&mut self, byte: u8)
+        requires { length self.old + 1 ≤ 8192 }
+        ensures text { self.new ≡ self.old ++ byte ∷ [] }
+        ensures short { length self.new ≡ length self.old + 1 }
+    {
+        self.bytes[self.at] = byte;
+        self.at += 1;
+    }
+
+    /// Composes the first bytes of a word. All 8 are written, which takes one store.
+    #[inline(always)]
+    pub fn word(&mut self, word: [u8; 8], len: usize)
+        requires fits { length self.old + 8 ≤ 8192 }
+        requires part { len ≤ 8 }
+        ensures text { self.new ≡ self.old ++ take len word }
+        ensures short { length self.new ≤ length self.old + 8 }
+    {
+        set_word(&mut self.bytes, self.at, word);
+        self.at += len;
+    }
+
+    #[inline(always)]
+    pub fn number(&mut self, n: u32)
+        requires { length self.old + 10 ≤ 8192 }
+        ensures text { self.new ≡ self.old ++ decimal n }
+        ensures short { length self.new ≤ length self.old + 10 }
+    {
+        self.at = set_number(&mut self.bytes, self.at, n);
+    }
+
+    #[inline(always)]
+    pub fn value(&mut self, value: Value)
+        requires { length self.old + 39 ≤ 8192 }
+        ensures text { self.new ≡ self.old ++ decimal value }
+        ensures short { length self.new ≤ length self.old + 39 }
+    {
+        self.at = if value <= Value::from(u32::MAX) {
+            set_number(&mut self.bytes, self.at, value as u32)
+        } else {
+            set_wide(&mut self.bytes, self.at, value)
+        };
+    }
+
+    /// Lets all of it go out.
+    #[inline(never)]
+    pub fn put<W: Write>(&mut self, out: &mut W) -> Result<(), WriteFault>
+        ensures out { Writes (W.contents out.old) (W.contents out.new) result self.old }
+        ensures empty { self.new ≡ [] }
+    {
+        let at = self.at;
+        self.at = 0;
+        put(out, &self.bytes[..at])
+    }
+}
+
+// Writes 8 bytes at a place.
+#[inline(always)]
+fn set_word(bytes: &mut [u8], at: usize, word: [u8; 8])
+    requires { at + 8 ≤ length bytes.old }
+    ensures { bytes.new ≡ take at bytes.old ++ (word ++ drop (at + 8) bytes.old) }
+{
+    bytes[at..at + 8].copy_from_slice(&word);
+}
+
+// Writes the digits at a place, and answers the place after them.
+#[inline(always)]
+fn set_number(bytes: &mut [u8], at: usize, n: u32) -> usize
+    requires { at + 10 ≤ length bytes.old }
+    ensures within { result ≤ at + 10 }
+    ensures text { take result bytes.new ≡ take at bytes.old ++ decimal n }
+{
+    let end = at + digits(n);
+    let _start = itoa::write_digits(u64::from(n), bytes, end);
+    end
+}
+
+// The same of a number that may be past 32 bits.
+#[inline(never)]
+fn set_wide(bytes: &mut [u8], at: usize, n: Value) -> usize
+    requires { at + 39 ≤ length bytes.old }
+    ensures within { result ≤ at + 39 }
+    ensures text { take result bytes.new ≡ take at bytes.old ++ decimal n }
+{
+    let mut buffer = itoa::Buffer::new();
+    let text = buffer.format(n).as_bytes();
+    let end = at + text.len();
+    bytes[at..end].copy_from_slice(text);
+    end
+}
+
+// How many digits a number has.
+#[inline(always)]
+fn digits(n: u32) -> usize
+    ensures count { result ≡ length (decimal n) }
+    ensures few { result ≤ 10 }
+{
+    if n < 10 {
+        1
+    } else if n < 100 {
+        2
+    } else if n < 1_000 {
+        3
+    } else if n < 10_000 {
+        4
+    } else if n < 100_000 {
+        5
+    } else if n < 1_000_000 {
+        6
+    } else if n < 10_000_000 {
+        7
+    } else if n < 100_000_000 {
+        8
+    } else if n < 1_000_000_000 {
+        9
+    } else {
+        10
+    }
+}
