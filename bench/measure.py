@@ -1,14 +1,18 @@
 #!/usr/bin/env python3
-"""Times programs with the command line of breezesim side by side.
+"""Measures programs with the command line of breezesim side by side.
 
-    measure.py PROGRAM [OTHER]      MOVES=1000000 and ROUNDS=3 may be set in the environment
+    measure.py [--counts | --times] PROGRAM [OTHER]      MOVES=1000000 and ROUNDS=3 may be set in the environment
 
-Each row is one workload: the best time of each program in seconds, its memory at its greatest in MB, and, where there are two, how
-many times as long the first takes. A row of moves leaves out the time of the same command without any. No figure of memory is below
-that of Python itself, some 15 MB, out of which the programs are started. The netlists are made by netlists.py, in a folder that goes
-away.
+Each row is one workload, and where there are two programs, how many times as much the first takes. First come the instructions
+that callgrind counts (a part of valgrind): those of a move and of a line that is checked, from the 20,000th to the 220,000th, and
+in millions those of opening and listing a netlist. They are the same each time. Then come times: the best of each program in
+seconds, and its memory at its greatest in MB. A row of moves leaves out the time of the same command without any. No figure of
+memory is below that of Python itself, some 15 MB, out of which the programs are started. --counts shows the instructions alone,
+--times the times alone. The netlists are made by netlists.py, in a folder that goes away.
 """
 import os
+import re
+import shutil
 import subprocess
 import sys
 import tempfile
@@ -17,6 +21,97 @@ import time
 HERE = os.path.dirname(os.path.abspath(__file__))
 MOVES = int(os.environ.get("MOVES", "1000000"))
 ROUNDS = int(os.environ.get("ROUNDS", "3"))
+FIRST, COUNTED = 20_000, 200_000
+MOVING = [("pipeline", 10), ("pipeline", 1000), ("loops", 64), ("loops", 4096), ("array", 16), ("array", 4096)]
+OPENED = [("large", 100000), ("pipeline", 10000), ("tree", 100000)]
+
+
+def run(words):
+    return ["run", "--part", "bench", "--journal", "16777216", *words]
+
+
+def moving(moves):
+    return run(["offer:go", f"run:{moves}"])
+
+
+class Netlists:
+    """The netlists that were made so far."""
+
+    def __init__(self, folder):
+        self.folder = folder
+
+    def path(self, shape, size):
+        path = os.path.join(self.folder, f"{shape}{size}")
+        if not os.path.exists(path):
+            with open(path, "wb") as text:
+                subprocess.run([sys.executable, os.path.join(HERE, "netlists.py"), shape, str(size)], stdout=text, check=True)
+        return path
+
+    def with_trace(self, program, shape, size, moves):
+        """A netlist with the trace of so many moves behind it."""
+        netlist, path = self.path(shape, size), os.path.join(self.folder, f"{shape}{size}-{moves}")
+        if not os.path.exists(path):
+            with open(netlist, "rb") as text, open(path, "wb") as both:
+                both.write(text.read())
+                both.flush()
+                text.seek(0)
+                subprocess.run([program, *moving(moves)], stdin=text, stdout=both, check=True)
+        return path
+
+
+# Instructions.
+
+
+def counted(program, arguments, text):
+    """The instructions of a program on a text."""
+    words = ["valgrind", "--tool=callgrind", "--callgrind-out-file=/dev/null", program, *arguments]
+    with open(text, "rb") as given:
+        ended = subprocess.run(words, stdin=given, stdout=subprocess.DEVNULL, stderr=subprocess.PIPE)
+    found = re.search(rb"Collected : (\d+)", ended.stderr)
+    if ended.returncode != 0 or found is None:
+        print(f"    {program}: {ended.stderr.decode(errors='replace').strip()}")
+        return None
+    return int(found[1])
+
+
+def show_counts(label, counts, form):
+    cells = ["refused" if it is None else form(it) for it in counts]
+    if len(counts) == 2 and None not in counts and counts[1] > 0:
+        cells.append(f"{counts[0] / counts[1]:6.2f} times")
+    print(f"{label:40}" + "  ".join(cells), flush=True)
+
+
+def each(count):
+    return f"{count:10.1f}"
+
+
+def millions(count):
+    return f"{count / 1e6:8.1f} M"
+
+
+def show_each(label, programs, count_of):
+    """The instructions of one move or line: `count_of` tells those of a program for so many."""
+    def one(program):
+        few, many = count_of(program, FIRST), count_of(program, FIRST + COUNTED)
+        return None if few is None or many is None else (many - few) / COUNTED
+
+    show_counts(label, [one(p) for p in programs], each)
+
+
+def counts(programs, netlists):
+    for shape, size in MOVING:
+        netlist = netlists.path(shape, size)
+        show_each(f"{shape} {size}: a move", programs, lambda p, n: counted(p, moving(n), netlist))
+    for shape, size in [("pipeline", 1000), ("loops", 64)]:
+        show_each(f"{shape} {size}: a line checked", programs, lambda p, n: counted(
+            p, ["check", "--part", "bench"], netlists.with_trace(programs[0], shape, size, n)))
+    for shape, size in OPENED:
+        netlist = netlists.path(shape, size)
+        show_counts(f"{shape} {size}: listed", [counted(p, ["list", "--part", "bench"], netlist) for p in programs], millions)
+        show_counts(f"{shape} {size}: opened", [counted(p, run(["run:0"]), netlist) for p in programs], millions)
+
+
+# Times and memory.
 
 
 def measured(program, arguments, netlist):
@@ -45,10 +140,6 @@ def show(label, all_measured):
     print(f"{label:40}" + "  ".join(cells), flush=True)
 
 
-def run(words):
-    return ["run", "--part", "bench", "--journal", "16777216", *words]
-
-
 def without(all_measured, empty):
     """The same without the times of an empty run."""
     return [None if it is None or e is None else (max(it[0] - e[0], 0.0), it[1]) for it, e in zip(all_measured, empty)]
@@ -57,7 +148,7 @@ def without(all_measured, empty):
 def moves(programs, shape, size, netlist):
     empty = [measured(p, run(["run:0"]), netlist) for p in programs]
     show(f"{shape} {size}: opened", empty)
-    full = [measured(p, run(["offer:go", f"run:{MOVES}"]), netlist) for p in programs]
+    full = [measured(p, moving(MOVES), netlist) for p in programs]
     show(f"{shape} {size}: {MOVES} moves", without(full, empty))
 
 
@@ -68,29 +159,30 @@ def pools(programs, shape, size, netlist):
         show(f"{shape} {size}: {MOVES} moves by {workers}", [measured(p, words, netlist) for p in programs])
 
 
+def times(programs, netlists):
+    for shape, size in [*MOVING, ("pipeline", 100000), ("loops", 100000)]:
+        moves(programs, shape, size, netlists.path(shape, size))
+    pools(programs, "pipeline", 10000, netlists.path("pipeline", 10000))
+    for shape in ("large", "tree"):
+        text = netlists.path(shape, 1000000)
+        print(f"{shape}: {os.path.getsize(text)} bytes")
+        show(f"{shape}: listed", [measured(p, ["list", "--part", "bench"], text) for p in programs])
+        show(f"{shape}: opened", [measured(p, run(["run:0"]), text) for p in programs])
+
+
 def main():
-    programs = sys.argv[1:]
-    if not 1 <= len(programs) <= 2:
+    words = sys.argv[1:]
+    only = words.pop(0) if words and words[0] in ("--counts", "--times") else None
+    if not 1 <= len(words) <= 2:
         sys.exit(__doc__)
     with tempfile.TemporaryDirectory() as folder:
-        def netlist(shape, size):
-            path = os.path.join(folder, f"{shape}{size}")
-            with open(path, "wb") as text:
-                subprocess.run([sys.executable, os.path.join(HERE, "netlists.py"), shape, str(size)], stdout=text, check=True)
-            return path
-
-        for size in (10, 1000, 100000):
-            moves(programs, "pipeline", size, netlist("pipeline", size))
-        for size in (64, 4096, 100000):
-            moves(programs, "loops", size, netlist("loops", size))
-        for size in (16, 4096):
-            moves(programs, "array", size, netlist("array", size))
-        pools(programs, "pipeline", 10000, netlist("pipeline", 10000))
-        for shape in ("large", "tree"):
-            text = netlist(shape, 1000000)
-            print(f"{shape}: {os.path.getsize(text)} bytes")
-            show(f"{shape}: listed", [measured(p, ["list", "--part", "bench"], text) for p in programs])
-            show(f"{shape}: opened", [measured(p, run(["run:0"]), text) for p in programs])
+        netlists = Netlists(folder)
+        if only == "--counts" and shutil.which("valgrind") is None:
+            sys.exit("measure.py: instructions are counted by valgrind, which is not there")
+        if only != "--times" and shutil.which("valgrind") is not None:
+            counts(words, netlists)
+        if only != "--counts":
+            times(words, netlists)
 
 
 if __name__ == "__main__":

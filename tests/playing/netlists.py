@@ -20,7 +20,7 @@ channel 1 push 8 host 1.1 at cell 1 line 2
 channel 2 pull 8 host 1.2 at cell 2 line 2
 instances 0
 components 1
-component 1 Variable 1 2 at cell 1 line 3
+component 1 Variable 1 2 at cell 1 line 3 name v
 """
 CELL_PARTS = b"""part cell line 1 top
 port 1 w passive push 8
@@ -103,6 +103,39 @@ CALLS = "".join(
         ") (channels" + " (sync)" * 121 + ") (components",
         f' (component "$BrzConcur" (60) (1 ({" ".join(str(at) for at in range(62, 122))})))',
         *[f' (component "$BrzLoop" () ({at + 61} {at + 1}))' for at in range(1, 61)],
+        "))\n",
+    ]
+).encode()
+# Two Sequences that wait for each other within an instance, and a Halt, with what a compiler has of the source.
+NAMED = b"""(breeze-part "inner" (ports (sync-port "go" passive) (sync-port "stop" passive))
+ (channels (sync) (sync) (sync (name "left")) (sync) (sync (name "a b")) (sync) (sync (at 3 9 "cross.balsa" 0) (name "a#b")) (sync))
+ (components
+  (component "$BrzConcur" (2) (1 (3 4)))
+  (component "$BrzSequence" (2 "S") (3 (5 6)) (at 2 3 "cross.balsa" 0))
+  (component "$BrzSequence" (2 "S") (4 (7 8)) (at 3 3 "cross.balsa" 0))
+  (component "$BrzPassivator" (2) ((5 8)))
+  (component "$BrzPassivator" (2) ((6 7)))
+  (component "$BrzHalt" () (2) (at 4 1 "cross.balsa" 0))))
+(breeze-part "named" (ports (sync-port "go" passive) (sync-port "stop" passive))
+ (channels (sync (name "g")) (sync (name "s")))
+ (components (component "inner" () (1 2))))
+"""
+
+# A part with 250 copies of a part with 400 components: one component more than a page holds.
+LARGE = "".join(
+    [
+        '(breeze-part "large" (ports (sync-port "a" passive)) (channels (sync)',
+        " (sync)" * 250,
+        ') (components (component "$BrzConcur" (250) (1 (',
+        " ".join(str(chan) for chan in range(2, 252)),
+        ")))",
+        "".join(f' (component "fan" () ({chan}))' for chan in range(2, 252)),
+        '))\n(breeze-part "fan" (ports (sync-port "a" passive)) (channels (sync)',
+        " (sync)" * 399,
+        ') (components (component "$BrzConcur" (399) (1 (',
+        " ".join(str(chan) for chan in range(2, 401)),
+        ")))",
+        "".join(f' (component "$BrzContinue" () ({chan}))' for chan in range(2, 401)),
         "))\n",
     ]
 ).encode()

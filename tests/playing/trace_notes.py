@@ -42,7 +42,7 @@ expected: what others can do: fire 1 take 1 1""",
         "no such channel", edited(b"take 1 1", b"take 3"), "not a run: line 3",
         """at line 3, column 16 of the trace
 3 | w1 fire 1 take 3
-  |                ^ Variable 1 at cell 1 line 3
+  |                ^ Variable 1 v at cell 1 line 3
 found: channel 3, and the net has 2 channels
 expected: what Variable 1 can do: fire 1 take 1 1""",
     ),
@@ -82,7 +82,7 @@ expected: what Concur 1 can do: fire 1 ask 2""",
         "nothing can move", edited(b"w1 rest", b"w1 fire 1 take 1 1"), "not a run: line 5",
         """at line 5, column 11 of the trace
 5 | w1 fire 1 take 1 1
-  |           ^ Variable 1 at cell 1 line 3
+  |           ^ Variable 1 v at cell 1 line 3
 found: take on channel 1, which is replied
 expected: no firing: nothing can move""",
     ),
@@ -90,7 +90,7 @@ expected: no firing: nothing can move""",
         "another value", edited(b"take 1 1", b"take 1 2"), "not a run: line 3",
         """at line 3, column 18 of the trace
 3 | w1 fire 1 take 1 2
-  |                  ^ Variable 1 at cell 1 line 3
+  |                  ^ Variable 1 v at cell 1 line 3
 found: take on channel 1, which is asked 1, and the value 2
 expected: what Variable 1 can do: fire 1 take 1 1""",
     ),
@@ -98,7 +98,7 @@ expected: what Variable 1 can do: fire 1 take 1 1""",
         "a firing too early", edited(b"w1 fire 1 take 1 1\n", b""), "not a run: line 3",
         """at line 3, column 11 of the trace
 3 | w1 fire 1 reply 1
-  |           ^ Variable 1 at cell 1 line 3
+  |           ^ Variable 1 v at cell 1 line 3
 found: reply on channel 1, which is asked 1
 expected: what Variable 1 can do: fire 1 take 1 1""",
     ),
@@ -106,7 +106,7 @@ expected: what Variable 1 can do: fire 1 take 1 1""",
         "no rest", edited(b"w1 fire 1 reply 1\n", b""), "not a run: line 4",
         """at line 4, column 4 of the trace
 4 | w1 rest
-  |    ^ Variable 1 at cell 1 line 3 can move
+  |    ^ Variable 1 v at cell 1 line 3 can move
 found: a rest where a component can move
 expected: fire 1 reply 1""",
     ),

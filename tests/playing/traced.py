@@ -1,4 +1,4 @@
-"""Traces in files of their own (`--trace`): what `check` and `chart` say of them, and what they hold of a long one."""
+"""Traces in files of their own (`--trace`): what `check`, `chart` and `page` say of them, and what they hold of a long one."""
 
 import os
 import resource
@@ -26,7 +26,7 @@ SHARED = b"error: standard input cannot have both the netlist and the trace\n"
 NOTES = b"""breezesim: note: the trace is that of spoilt.trace
 breezesim: note: at line 3, column 18 of the trace
 breezesim: note: 3 | w1 fire 1 take 1 2
-breezesim: note:   |                  ^ Variable 1 at cell 1 line 3
+breezesim: note:   |                  ^ Variable 1 v at cell 1 line 3
 breezesim: note: found: take on channel 1, which is asked 1, and the value 2
 breezesim: note: expected: what Variable 1 can do: fire 1 take 1 1
 """
@@ -75,16 +75,19 @@ def add_traced(cases):
             Ran(1, b"", b"error: not a run: line 3\n" + NOTES),
         ),
         ("of a chart that is too long", ["chart", *CHECK[1:], "endless.trace"], b"", Ran(3, b"", READ)),
+        ("of a page that is too long", ["page", *CHECK[1:], "endless.trace"], b"", Ran(3, b"", READ)),
     ]:  # fmt: skip
         cases.gives(f"--trace {name}", words, given, wanted)
-    cases.add("--trace, the same chart", partial(chart_differs, cases))
+    for name in ["chart", "page"]:
+        cases.add(f"--trace, the same {name}", partial(apart_differs, cases, name))
     cases.add("--trace, in pieces of any size", partial(pieces_differ, cases))
     cases.add("--trace, longer than memory", partial(long_differs, cases))
 
 
-def chart_differs(cases):
-    behind = cases.run(["chart", *PART], CELL + b"\n" + CELL_TRACE)
-    return differ(behind, cases.run(["chart", *CHECK[1:], "cell.trace"]))
+def apart_differs(cases, name):
+    """What a command writes is the same where the trace stands behind the netlist."""
+    behind = cases.run([name, *PART], CELL + b"\n" + CELL_TRACE)
+    return differ(behind, cases.run([name, *CHECK[1:], "cell.trace"]))
 
 
 def pieces_differ(cases):

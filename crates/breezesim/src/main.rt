@@ -10,14 +10,15 @@ use bz_cli_args::{
 };
 use bz_cli_input::{Fault, INPUT_LIMIT, read_input};
 use bz_cli_program::{
-    Cause, Given, chart, check, check_words, draw, is_file, list, netlist_in, open_file,
-    part_named, parts, pool, run, tell_tops, text_of, tops_of,
+    Cause, Given, chart, check, check_words, draw, is_file, kinds, list, netlist_in, open_file,
+    page, part_named, parts, pool, run, tell_tops, text_of, tops_of,
 };
-use bz_explain::{Asked, WordFile, Words, explain};
+use bz_explain::{Asked, Explained, Lint, WordFile, Words, explain, lint_cmd};
 use bz_explain_notes::Arg::{Number, Text};
-use bz_explain_notes::{Draft, Keeping, tell, tell_notes};
+use bz_explain_notes::{Draft, Keeping, tell, tell_findings, tell_notes};
 use bz_explain_trace::{Claim, explain_trace};
 use bz_explore::explore_cmd;
+use std::alloc::Global;
 use std::io::{BufWriter, IsTerminal, Read, Write};
 use std::os::fd::AsFd;
 use std::process::ExitCode;
@@ -44,15 +45,19 @@ fn perform<T: Threads + Wait + Sync, R: Read + Drop>(
     match given.options.command {
         CommandName::Run => run(alloc, given, input, output, errors),
         CommandName::Explore => explore(rt, given, input),
-        CommandName::Check | CommandName::Chart => judge(rt, given, input, output),
+        CommandName::Check | CommandName::Chart | CommandName::Page => {
+            judge(rt, given, input, output)
+        }
         CommandName::List => list(alloc, given, input, output),
         CommandName::Parts => parts(alloc, input, output),
+        CommandName::Lint => lint(alloc, given, input, output),
+        CommandName::Kinds => kinds(alloc, given, output),
         CommandName::Draw => draw(alloc, given, input, output, errors),
         CommandName::Pool => pool(threads, alloc, given, input, output, errors),
     }
 }
 
-// Checks or draws a trace: that of a file, that of standard input, or the one behind the netlist.
+// Checks, draws or plays a trace: that of a file, that of standard input, or the one behind the netlist.
 fn judge<R: Read + Drop, W: Write>(
     rt: &HostRuntime,
     given: Given<'_, '_>,
@@ -78,6 +83,7 @@ fn judge_trace<R: Read + Drop, T: Read, W: Write>(
 ) -> Result<u8, Fault> {
     match given.options.command {
         CommandName::Chart => chart(rt.alloc(), given, input, trace, output, &mut rt.stderr()),
+        CommandName::Page => page(rt.alloc(), given, input, trace, output, &mut rt.stderr()),
         _ => check(rt.alloc(), given, input, trace, output),
     }
 }
@@ -88,10 +94,7 @@ fn explore<R: Read + Drop>(
     given: Given<'_, '_>,
     input: &mut Keeping<R>,
 ) -> Result<u8, Fault> {
-    let netlist = match given.options.netlist {
-        Source::File(path) => Some(path),
-        Source::Stdin => None,
-    };
+    let netlist = file_of(given.options.netlist);
     let ending = explore_cmd(
         rt.alloc(),
         given.part,
@@ -102,6 +105,28 @@ fn explore<R: Read + Drop>(
         &mut io::writer(rt),
     )?;
     Ok(ending.status())
+}
+
+// Tells all that is found in a netlist.
+fn lint<R: Read, W: Write>(
+    alloc: Global,
+    given: Given<'_, '_>,
+    input: &mut R,
+    output: &mut W,
+) -> Result<u8, Fault> {
+    let part = match given.options.part {
+        PartName::Top => None,
+        PartName::Text(_) | PartName::Form(_) => Some(given.part),
+    };
+    let lint = Lint {
+        part,
+        file: file_of(given.options.netlist),
+        is_json: given.options.json,
+    };
+    match lint_cmd(alloc, lint, input, output) {
+        Ok(is_sound) => Ok(u8::from(!is_sound)),
+        Err(fault) => Err(fault),
+    }
 }
 
 // Whether a net is to be played by hand and standard input is closed: a file that is opened would take its place.
@@ -130,7 +155,7 @@ fn play<T: Threads + Wait + Sync, R: Read + Drop>(
 
 // Tells why a trace is none of a run, where the input was kept for that.
 fn note_trace<'a>(rt: &HostRuntime, given: Given<'a, '_>, kept: Option<&'a [u8]>, status: u8) {
-    if let (1, Some(kept), CommandName::Check | CommandName::Chart) = (
+    if let (1, Some(kept), CommandName::Check | CommandName::Chart | CommandName::Page) = (
         status,
         kept,
         given.options.command,
@@ -205,8 +230,10 @@ fn refuse_noted<'a>(
         None => Vec::new(rt.alloc()),
     };
     let command = given.options.command;
+    let file = file_of(given.options.netlist);
     let asked = Asked {
         netlist: netlist_in(&given.options, kept),
+        file,
         part: given.part,
         words: Words {
             list: given.words,
@@ -217,9 +244,20 @@ fn refuse_noted<'a>(
             }),
         },
     };
-    let mut notes = explain(rt.alloc(), fault, asked);
+    let Explained { mut notes, others } = explain(rt.alloc(), fault, asked);
     note_file(rt, fault, given.words, &mut notes);
-    ExitCode::from(tell(rt.alloc(), fault, Some(&notes), &mut rt.stderr()))
+    let errors = &mut rt.stderr();
+    let status = tell(rt.alloc(), fault, Some(&notes), errors);
+    let _ = tell_findings(rt.alloc(), file.unwrap_or("-"), &others, errors);
+    ExitCode::from(status)
+}
+
+// The name of a file that is read from.
+fn file_of(source: Source<'_>) -> Option<&str> {
+    match source {
+        Source::Stdin => None,
+        Source::File(path) => Some(path),
+    }
 }
 
 // Notes that a word that is none is a file.
@@ -311,9 +349,8 @@ fn play_named<T: Threads + Wait + Sync, R: Read + Drop>(
     let part = part.as_slice();
     let given = Given { part, ..given };
     match (options.command, options.part) {
-        (CommandName::Parts, _) | (_, PartName::Text(_)) | (_, PartName::Form(_)) => {
-            play(rt, threads, given, input)
-        }
+        (CommandName::Parts | CommandName::Lint | CommandName::Kinds, _)
+        | (_, PartName::Text(_) | PartName::Form(_)) => play(rt, threads, given, input),
         (_, PartName::Top) => play_top(rt, threads, given, input),
     }
 }
@@ -339,7 +376,7 @@ fn play_words_of<T: Threads + Wait + Sync, R: Read + Drop>(
 ) -> ExitCode {
     let text = match words_text(rt, source) {
         Ok(text) => text,
-        Err(cause) => return unreadable(rt, path_of(source), &cause),
+        Err(cause) => return unreadable(rt, file_of(source).unwrap_or("-"), &cause),
     };
     let Ok(words) = split_words(rt.alloc(), text.as_str()) else {
         return refuse(rt, &Fault::Memory);
@@ -351,14 +388,6 @@ fn play_words_of<T: Threads + Wait + Sync, R: Read + Drop>(
         word_text: Some(text.as_str()),
     };
     play_named(rt, threads, given, input)
-}
-
-// What an error line calls a source.
-fn path_of(source: Source<'_>) -> &str {
-    match source {
-        Source::Stdin => "-",
-        Source::File(path) => path,
-    }
 }
 
 fn play_on<T: Threads + Wait + Sync, R: Read + Drop>(

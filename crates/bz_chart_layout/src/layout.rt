@@ -25,22 +25,22 @@ impl Layout {
     pub fn numbers(self) -> u64
         ensures { result ≡ numbers self }
     {
-        8 + 6 * u64::from(self.digits)
+        8 + 7 * u64::from(self.digits)
     }
 
     // How wide the lines of the trace are, with their numbers.
     fn gutter(self) -> u64
         ensures { result ≡ gutter self }
     {
-        self.numbers() + 8 + 6 * u64::from(self.letters) + 12
+        self.numbers() + 8 + 7 * u64::from(self.letters) + 12
     }
 
     /// Where the lifeline of a column stands, from 0.
     pub fn column(self, place: u32) -> u64
         ensures is { result ≡ column self place }
-        ensures room { HasRoom 64 result }
+        ensures room { HasRoom 60 result }
     {
-        self.gutter() + 36 + 72 * u64::from(place)
+        self.gutter() + 32 + 64 * u64::from(place)
     }
 
     /// Where the last column ends.
@@ -48,7 +48,7 @@ impl Layout {
         ensures is { result ≡ right self }
         ensures room { HasRoom 28 result }
     {
-        self.gutter() + 72 * u64::from(self.columns)
+        self.gutter() + 64 * u64::from(self.columns)
     }
 
     /// How many bands of names stand above a row.
@@ -61,19 +61,19 @@ impl Layout {
     /// The middle of a row, from 0.
     pub fn row(self, place: u32) -> u64
         ensures is { result ≡ row self place }
-        ensures room { HasRoom 108 result }
+        ensures room { HasRoom 124 result }
     {
-        108 + 16 * u64::from(place) + 32 * u64::from(self.bands(place))
+        124 + 16 * u64::from(place) + 60 * u64::from(self.bands(place))
     }
 
     /// Where the lifelines end.
     pub fn bottom(self) -> u64
         ensures is { result ≡ bottom self }
-        ensures room { HasRoom 100 result }
+        ensures room { HasRoom 116 result }
     {
         match self.rows.checked_sub(1) {
             Some(last) => self.row(last) + 8,
-            None => 100,
+            None => 116,
         }
     }
 
@@ -83,14 +83,14 @@ impl Layout {
     {
         (self.right() + 44)
             .max(20 + 8 * u64::from(self.title))
-            .max(440)
+            .max(456)
     }
 
     // How many signs stand in a row of the legend.
     fn legend_columns(self) -> u64
         ensures { result ≡ legend_columns self }
     {
-        ((self.width() - 16) / 212).max(1)
+        ((self.width() - 16) / 220).max(1)
     }
 
     /// The left end of a sign of the legend, from 0.
@@ -98,15 +98,15 @@ impl Layout {
         ensures is { result ≡ sign_column self place }
         ensures room { HasRoom 12 result }
     {
-        12 + 212 * (u64::from(place) % self.legend_columns())
+        12 + 220 * (u64::from(place) % self.legend_columns())
     }
 
     /// The middle of the row of a sign.
     pub fn sign_row(self, place: u32) -> u64
         ensures is { result ≡ sign_row self place }
-        ensures room { HasRoom 160 result }
+        ensures room { HasRoom 196 result }
     {
-        self.bottom() + 60 + 18 * (u64::from(place) / self.legend_columns())
+        self.bottom() + 80 + 18 * (u64::from(place) / self.legend_columns())
     }
 
     /// The height of the whole chart.
@@ -114,6 +114,6 @@ impl Layout {
         ensures { result ≡ height self }
     {
         let rows = u64::from(self.signs).div_ceil(self.legend_columns());
-        self.bottom() + 84 + 18 * rows
+        self.bottom() + 80 + 18 * rows
     }
 }

@@ -67,7 +67,7 @@ fn start_of(layout: Layout, sent: Sent) -> u64 {
 }
 
 fn put_way_in(pen: &mut Pen, sent: Sent, to: u64, y: u64)
-    requires right { HasRoom 64 to }
+    requires right { HasRoom 60 to }
     requires below { IsClear y }
 {
     let back = sent.heading.other();

@@ -3,9 +3,9 @@
 use crate::columns::Columns;
 use crate::flow::Flow;
 use crate::heads::{put_heads, put_names};
-use crate::legend::{put_legend, sign_count};
+use crate::legend::{Signs, put_legend};
 use crate::scene::{Chart, Scene, TOP};
-use crate::svg::Pen;
+use crate::svg::{GROUND, Pen};
 use crate::words::{Cut, digits};
 use bz_chart_layout::{Circuit, Layout, Piece};
 use bz_source::Survey;
@@ -24,13 +24,13 @@ const TITLE_LETTERS: u32 = 25;
 
 const HEAD: &str = "<?xml version=\"1.0\" encoding=\"UTF-8\"?>
 <svg xmlns=\"http://www.w3.org/2000/svg\" version=\"1.1\" width=\"%\" height=\"%\" viewBox=\"0 0 % %\" \
-font-family=\"DejaVu Sans Mono, Liberation Mono, Courier New, monospace\" font-size=\"10\">
+font-family=\"DejaVu Sans Mono, Liberation Mono, Courier New, monospace\" font-size=\"11.6\">
 <title>";
 
 const DESCRIPTION: &str = "</title>
 <desc>A lifeline for each external port that is used, for passive ports on the left and active ports on the right, \
 and for each component that takes part, by number. Time goes down, a line of the trace on each row.</desc>
-<rect width=\"%\" height=\"%\" fill=\"#ffffff\"/>
+<rect x=\"0.5\" y=\"0.5\" width=\"%\" height=\"%\" rx=\"4\" fill=\"$\" stroke=\"#999999\"/>
 <text x=\"8\" y=\"17\" font-size=\"12\" font-weight=\"bold\">";
 
 /// The chart of a piece of a trace, as SVG in UTF-8.
@@ -78,12 +78,13 @@ fn draw_flow(
         layout: layout_of(chart.piece, columns, part),
     };
     flow.follow(scene);
-    scene.layout.signs = sign_count(flow.shows_clash());
-    put_all(&mut pen, scene, part, flow);
+    let signs = flow.signs();
+    scene.layout.signs = signs.count();
+    put_all(&mut pen, scene, part, flow, signs);
     pen.end()
 }
 
-// What the places go by, as long as no triangle is shown.
+// What the places go by, but for the legend.
 fn layout_of(piece: Piece, columns: &Columns, part: Cut<'_>) -> Layout {
     let numbers = digits(piece.first).saturating_add(digits(piece.last()));
     Layout {
@@ -92,18 +93,18 @@ fn layout_of(piece: Piece, columns: &Columns, part: Cut<'_>) -> Layout {
         digits: digits(piece.last()),
         letters: columns.letters,
         title: (part.letters().saturating_add(TITLE_LETTERS)).saturating_add(numbers),
-        signs: sign_count(false),
+        signs: 0,
     }
 }
 
-fn put_all(pen: &mut Pen, scene: Scene<'_>, part: Cut<'_>, flow: &Flow) {
+fn put_all(pen: &mut Pen, scene: Scene<'_>, part: Cut<'_>, flow: &Flow, signs: Signs) {
     put_frame(pen, scene, part);
     pen.add(&flow.rows);
     put_lifelines(pen, scene.layout);
     put_heads(pen, scene);
     flow.put(pen, scene.layout);
     put_bands(pen, scene);
-    put_legend(pen, scene.layout);
+    put_legend(pen, scene.layout, signs);
     pen.put("</svg>\n", &[], "");
 }
 
@@ -111,7 +112,11 @@ fn put_frame(pen: &mut Pen, scene: Scene<'_>, part: Cut<'_>) {
     let (width, height) = (scene.layout.width(), scene.layout.height());
     pen.put(HEAD, &[width, height, width, height], "");
     put_title(pen, scene.chart.piece, part);
-    pen.put(DESCRIPTION, &[width, height], "");
+    pen.put(
+        DESCRIPTION,
+        &[width.saturating_sub(1), height.saturating_sub(1)],
+        GROUND,
+    );
     put_title(pen, scene.chart.piece, part);
     pen.put("</text>\n", &[], "");
 }
@@ -131,7 +136,7 @@ fn put_lifelines(pen: &mut Pen, layout: Layout) {
 fn put_bands(pen: &mut Pen, scene: Scene<'_>) {
     let layout = scene.layout;
     for band in 1..=layout.bands(layout.rows.saturating_sub(1)) {
-        put_names(pen, scene, layout.row(40 * band) - 40);
+        put_names(pen, scene, layout.row(40 * band) - 68);
     }
     put_names(pen, scene, layout.bottom());
 }

@@ -3,14 +3,15 @@
 use crate::arrows::{Sent, colour, put_arrow};
 use crate::bars::Held;
 use crate::columns::set;
-use crate::labels::{channel_label, denial_word, phase_word, put_label};
+use crate::labels::{Word, channel_label, channel_title, denial_word, phase_word, put_label};
 use crate::lanes::{Lanes, Side};
+use crate::legend::{Sign, Signs};
 use crate::meetings::{Meeting, is_shared};
 use crate::rows::put_row;
 use crate::scene::{Chart, Scene};
 use crate::svg::{DARK, Pen, RED, put_circle, put_cross, put_triangle};
 use bz_chart_layout::{Event, Layout, Lifeline, Piece, Step, read_line};
-use bz_model::{Move, numbered};
+use bz_model::{ChanKind, Move, numbered};
 use std::alloc::{AllocError, Global};
 
 /// What a lifeline that is shown is in.
@@ -22,18 +23,11 @@ struct State {
     meeting: Meeting,
 }
 
+/// A sign on a lifeline, and a word at its outer side.
 #[derive(Clone, Copy)]
-enum Mark {
-    Circle,
-    Cross,
-    Triangle,
-}
-
-/// A mark on a lifeline, and a word at its outer side.
-#[derive(Clone, Copy)]
-struct Sign {
+struct Mark {
     lifeline: Lifeline,
-    mark: Mark,
+    sign: Sign,
     word: &'static str,
 }
 
@@ -52,6 +46,8 @@ pub(crate) struct Flow {
     arrows: Pen,
     labels: Pen,
     triangles: Pen,
+    // those that were drawn
+    signs: Signs,
 }
 
 impl Flow {
@@ -74,6 +70,7 @@ impl Flow {
                 arrows: Pen::new(alloc),
                 labels: Pen::new(alloc),
                 triangles: Pen::new(alloc),
+                signs: Signs::NONE,
             }),
             _ => Err(AllocError),
         }
@@ -94,9 +91,19 @@ impl Flow {
         }
     }
 
-    /// Whether it shows a triangle.
-    pub fn shows_clash(&self) -> bool {
-        !self.triangles.is_empty()
+    /// The signs of all that is drawn.
+    pub fn signs(&self) -> Signs {
+        let mut signs = self.signs;
+        for sent in self.sent.iter().flatten() {
+            signs.add(Sign::Waiting);
+            add_arrow(&mut signs, *sent);
+        }
+        for state in &self.states {
+            if state.held.is_open() {
+                signs.add(Sign::Bar);
+            }
+        }
+        signs
     }
 
     /// Writes all that was drawn between the lifelines, and what is still under way.
@@ -117,8 +124,11 @@ impl Flow {
         if let Event::Moved(step) = event {
             self.go_on(scene, step, row);
         }
-        if let Some(sign) = sign_of(event) {
-            self.put_sign(scene, row, sign);
+        if let (Event::Rested, Some(_)) = (event, row) {
+            self.signs.add(Sign::Rest);
+        }
+        if let Some(mark) = mark_of(event) {
+            self.put_mark(scene, row, mark);
         }
     }
 
@@ -146,6 +156,7 @@ impl Flow {
                         if row.is_some() && !state.held.is_open() {
                             let layout = scene.layout;
                             state.held.put_bar(&mut self.bars, layout, column, row);
+                            self.signs.add(Sign::Bar);
                         }
                     }
                     _ => {}
@@ -160,7 +171,7 @@ impl Flow {
             if let Some(column) = scene.columns.place(Lifeline::Comp(comp)) {
                 if let Some(state) = self.states.get_mut(column as usize) {
                     if is_shared(scene.chart.circuit, comp) && state.meeting.note(step.mv) {
-                        self.put_sign(scene, row, met_at(comp, ""));
+                        self.put_mark(scene, row, met_at(comp, ""));
                     }
                 }
             }
@@ -191,13 +202,14 @@ impl Flow {
             self.count = self.count.saturating_add(1);
             set(&mut self.sent, step.chan, Some(sent));
             if let (Some(from), Some(row)) = (from, row) {
-                self.put_channel(scene.layout, step, sent, from, row);
+                self.put_channel(scene, step, sent, from, row);
             }
         }
     }
 
     // Names the channel, and the value, beside the lifeline that it leaves.
-    fn put_channel(&mut self, layout: Layout, step: Step, sent: Sent, from: u32, row: u32) {
+    fn put_channel(&mut self, scene: Scene<'_>, step: Step, sent: Sent, from: u32, row: u32) {
+        self.signs.add(Sign::Channel);
         let text = channel_label(&mut self.labels, step.chan, step.value);
         let side = if from == sent.to {
             Side::Right
@@ -208,9 +220,15 @@ impl Flow {
             Some(lanes) => lanes.room(),
             None => 8,
         };
+        let (layout, pen) = (scene.layout, &mut self.labels);
         let start = side.from(layout.column(from), gap);
-        let (y, colour) = (layout.row(row), colour(sent.kind));
-        put_label(&mut self.labels, start, y, side, text.as_slice(), colour);
+        let title = channel_title(pen, scene.chart.survey, step.chan);
+        let word = Word {
+            text: text.as_slice(),
+            title: title.as_slice(),
+            colour: colour(sent.kind),
+        };
+        put_label(pen, start, layout.row(row), side, word);
     }
 
     fn bring_in(&mut self, layout: Layout, chan: u32, row: Option<u32>) {
@@ -220,28 +238,34 @@ impl Flow {
                 lanes.leave(sent.lane);
             }
             if row.is_some() {
+                add_arrow(&mut self.signs, sent);
                 put_arrow(&mut self.arrows, layout, sent, row);
             }
         }
     }
 
-    fn put_sign(&mut self, scene: Scene<'_>, row: Option<u32>, sign: Sign) {
-        if let (Some(row), Some(column)) = (row, scene.columns.place(sign.lifeline)) {
+    fn put_mark(&mut self, scene: Scene<'_>, row: Option<u32>, mark: Mark) {
+        if let (Some(row), Some(column)) = (row, scene.columns.place(mark.lifeline)) {
             let (x, y) = (scene.layout.column(column), scene.layout.row(row));
-            let (gap, colour) = match sign.mark {
-                Mark::Circle => (6, DARK),
-                Mark::Cross => (6, RED),
-                Mark::Triangle => (8, RED),
+            self.signs.add(mark.sign);
+            let (gap, colour) = match mark.sign {
+                Sign::Clash => (8, RED),
+                Sign::Refusal => (6, RED),
+                _ => (6, DARK),
             };
-            match sign.mark {
-                Mark::Circle => put_circle(&mut self.arrows, x, y),
-                Mark::Cross => put_cross(&mut self.arrows, x, y),
-                Mark::Triangle => put_triangle(&mut self.triangles, x, y),
+            match mark.sign {
+                Sign::Clash => put_triangle(&mut self.triangles, x, y),
+                Sign::Refusal => put_cross(&mut self.arrows, x, y),
+                _ => put_circle(&mut self.arrows, x, y),
             }
-            if !sign.word.is_empty() {
-                let (pen, side) = (&mut self.labels, outer_side(scene, sign.lifeline));
-                let (start, text) = (side.from(x, gap), sign.word.as_bytes());
-                put_label(pen, start, y + 6, side, text, colour);
+            if !mark.word.is_empty() {
+                let (pen, side) = (&mut self.labels, outer_side(scene, mark.lifeline));
+                let word = Word {
+                    text: mark.word.as_bytes(),
+                    title: b"",
+                    colour,
+                };
+                put_label(pen, side.from(x, gap), y + 6, side, word);
             }
         }
     }
@@ -274,16 +298,16 @@ impl Flow {
 }
 
 // What an event that is no move is shown by.
-fn sign_of(event: Event) -> Option<Sign> {
+fn mark_of(event: Event) -> Option<Mark> {
     match event {
-        Event::Watched { port, phase } => Some(Sign {
+        Event::Watched { port, phase } => Some(Mark {
             lifeline: Lifeline::Port(port),
-            mark: Mark::Circle,
+            sign: Sign::Watch,
             word: phase_word(phase),
         }),
-        Event::Refused { port, denial } => Some(Sign {
+        Event::Refused { port, denial } => Some(Mark {
             lifeline: Lifeline::Port(port),
-            mark: Mark::Cross,
+            sign: Sign::Refusal,
             word: denial_word(denial),
         }),
         Event::Clashed { comp } => Some(met_at(comp, "clash")),
@@ -291,11 +315,25 @@ fn sign_of(event: Event) -> Option<Sign> {
     }
 }
 
-fn met_at(comp: u32, word: &'static str) -> Sign {
-    Sign {
+fn met_at(comp: u32, word: &'static str) -> Mark {
+    Mark {
         lifeline: Lifeline::Comp(comp),
-        mark: Mark::Triangle,
+        sign: Sign::Clash,
         word,
+    }
+}
+
+// The signs of a request or a reply.
+fn add_arrow(signs: &mut Signs, sent: Sent) {
+    signs.add(if sent.is_request {
+        Sign::Request
+    } else {
+        Sign::Reply
+    });
+    match sent.kind {
+        ChanKind::Sync => {}
+        ChanKind::Push => signs.add(Sign::Push),
+        ChanKind::Pull => signs.add(Sign::Pull),
     }
 }
 

@@ -24,7 +24,7 @@ const REPLY: &str = "<path d=\"M% %H%\" stroke=\"$\" stroke-width=\"%\" stroke-d
 
 /// A sign that the legend explains.
 #[derive(Clone, Copy)]
-enum Sign {
+pub(crate) enum Sign {
     Channel,
     Request,
     Reply,
@@ -52,16 +52,41 @@ const SIGNS: [(Sign, &str); 11] = [
     (Sign::Clash, "two requests met"),
 ];
 
-/// How many signs are explained where no requests met, and where some did.
-pub(crate) fn sign_count(with_clash: bool) -> u32 {
-    if with_clash { 11 } else { 10 }
+/// Which signs a chart has, in the order of the legend.
+#[derive(Clone, Copy)]
+pub(crate) struct Signs {
+    has: [bool; 11],
 }
 
-pub(crate) fn put_legend(pen: &mut Pen, layout: Layout) {
-    for (place, (sign, meaning)) in (0..layout.signs).zip(&SIGNS) {
-        let (x, y) = (layout.sign_column(place), layout.sign_row(place));
-        put_sign(pen, *sign, x, y);
-        pen.put(MEANING, &[x + 48, y + 4], meaning);
+impl Signs {
+    pub const NONE: Signs = Signs { has: [false; 11] };
+
+    pub fn add(&mut self, sign: Sign) {
+        if let Some(has) = self.has.get_mut(sign as usize) {
+            *has = true;
+        }
+    }
+
+    /// How many there are.
+    pub fn count(self) -> u32 {
+        let mut count = 0u32;
+        for has in self.has {
+            count = count.saturating_add(u32::from(has));
+        }
+        count
+    }
+}
+
+/// What the signs of a chart mean that it has.
+pub(crate) fn put_legend(pen: &mut Pen, layout: Layout, signs: Signs) {
+    let mut place = 0u32;
+    for ((sign, meaning), has) in SIGNS.iter().zip(signs.has) {
+        if has {
+            let (x, y) = (layout.sign_column(place), layout.sign_row(place));
+            put_sign(pen, *sign, x, y);
+            pen.put(MEANING, &[x + 48, y + 4], meaning);
+            place = place.saturating_add(1);
+        }
     }
 }
 

@@ -4,16 +4,16 @@ use crate::svg::{HOST_LINE, LINE, Pen, RECT, put_text};
 use crate::words::Cut;
 use bz_chart_layout::{Event, Layout, Line};
 
-const REST: &str = "<text x=\"%\" y=\"%\" text-anchor=\"end\">rest</text>\n";
+const REST: &str = "<text x=\"%\" y=\"%\" text-anchor=\"end\" fill=\"#666666\">rest</text>\n";
 
 const NUMBER: &str = "<text x=\"%\" y=\"%\" text-anchor=\"end\" fill=\"#666666\">%</text>\n";
 
 /// How many letters of a line are shown.
 const MOST_LETTERS: usize = 60;
 
-pub(crate) const RESTING: &str = "#d8d8d8";
+pub(crate) const RESTING: &str = "#e8e8e8";
 
-const ODD: &str = "#f4f4f4";
+const ODD: &str = "#f2f2f2";
 
 /// The part of a line that is shown.
 pub(crate) fn shown<'a>(line: &Line<'a>) -> Cut<'a> {

@@ -25,4 +25,4 @@ pub(crate) struct Scene<'a> {
 }
 
 /// Where the lifelines begin.
-pub(crate) const TOP: u64 = 96;
+pub(crate) const TOP: u64 = 112;

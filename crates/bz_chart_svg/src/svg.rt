@@ -21,10 +21,11 @@ pub(crate) const PUSH: &str = "#1a56a0";
 
 pub(crate) const PULL: &str = "#b04a00";
 
+/// The ground, which is light, so that a chart is read on a dark page too.
+pub(crate) const GROUND: &str = "#fafafa";
+
 // how a text is set, as attributes
 pub(crate) const MIDDLE: &str = " text-anchor=\"middle\"";
-
-pub(crate) const MIDDLE_BOLD: &str = " text-anchor=\"middle\" font-weight=\"bold\"";
 
 pub(crate) const LINE: &str = " xml:space=\"preserve\"";
 
@@ -52,10 +53,6 @@ impl Pen {
 
     pub fn alloc(&self) -> Global {
         self.alloc
-    }
-
-    pub fn is_empty(&self) -> bool {
-        self.text.is_empty()
     }
 
     /// Notes that memory was refused.

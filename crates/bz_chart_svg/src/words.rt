@@ -2,7 +2,7 @@
 
 ghost use Rattle.std.specs.Prelude.{◌≤◌, length};
 
-/// ASCII letters, of which at most so many are shown: of longer ones the last that is shown is an ellipsis.
+/// Letters, of which at most so many are shown, each a byte but for a sign at the front: of longer ones the last that is shown is an ellipsis.
 #[derive(Clone, Copy)]
 pub(crate) struct Cut<'a> {
     pub text: &'a [u8],
@@ -25,18 +25,20 @@ impl<'a> Cut<'a> {
     }
 }
 
-/// How many letters of a kind's name stand in the first of two lines: whole words, as many as go into 10 letters, and one at
-/// least.
+/// How many letters stand in a line of a column.
+pub(crate) const LINE_LETTERS: u32 = 8;
+
+/// How many letters of a kind's name stand in the first of its lines: whole words, as many as go into it, and one at least.
 pub(crate) fn first_line(kind: &[u8]) -> usize
     ensures { result ≤ length kind.now }
 {
     let mut end = 0;
     for place in 1..kind.len() {
-        if kind[place].is_ascii_uppercase() && (end == 0 || place <= 10) {
+        if kind[place].is_ascii_uppercase() && (end == 0 || place <= LINE_LETTERS as usize) {
             end = place;
         }
     }
-    if end > 0 && kind.len() > 10 {
+    if end > 0 && kind.len() > LINE_LETTERS as usize {
         end
     } else {
         kind.len()
@@ -44,7 +46,7 @@ pub(crate) fn first_line(kind: &[u8]) -> usize
 }
 
 /// How many letters a text in UTF-8 has.
-pub(crate) fn letters(text: &[u8]) -> u32 {
+pub(crate) fn letter_count(text: &[u8]) -> u32 {
     let mut count = 0u32;
     for byte in text {
         if byte & 0xc0 != 0x80 {

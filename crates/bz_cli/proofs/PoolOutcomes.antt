@@ -1,5 +1,5 @@
 -- What went out of a pool, from what was played and what was written.
-use Rattle.std.proofs.Common.{◌≡◌, ◌≤◌, ◌+◌, ◌<◌, ℕ, Option, None, Some, Result, Err, List, [], ◌∷◌, length, map, take, get_or, inl, inr, subst, refl, sym, ◌∙◌}
+use Rattle.std.proofs.Common.{Bool, ◌≡◌, ◌≤◌, ◌+◌, ◌<◌, ℕ, Option, None, Some, Result, Err, List, [], ◌∷◌, length, map, take, get_or, inl, inr, subst, refl, sym, ◌∙◌}
 use Rattle.std.specs.Prelude.{IfSome}
 use Rattle.std.specs.List.{All}
 use Rattle.std.specs.declared.alloc.Global.{Global}
@@ -19,6 +19,7 @@ use Rattle.bz_locked.specs.Terms.{terms}
 use Rattle.bz_locked.specs.Journal.{fired_count}
 use Rattle.bz_net.specs.Simulation.{Simulation}
 use Rattle.bz_locked.specs.declared.closing.CloseError.TheVariants as close
+use Rattle.bz_past.specs.Moments.{moment}
 use Rattle.bz_pool.specs.Pooled.{ArePlayed, RefusesPool}
 use Rattle.bz_pool.specs.declared.pool.PoolError.{PoolError}
 use Rattle.bz_pool.specs.declared.pool.PoolError.TheVariants as pool
@@ -38,11 +39,13 @@ use Rattle.bz_cli_input.specs.Statuses.{of_words}
 use Rattle.bz_cli.specs.Faults.{of_pool}
 
 -- what was played on the net, and the text that goes out of it
-pub pooled_so : (fuel : ℕ) (closed : Simulation) (lists : List (Vec HostCmd Global)) (workers : ℕ) (ends : List End) → ArePlayed (terms closed.wiring fuel (length lists)) lists workers closed.journal ends → (comps : List ℕ) (Out : List ℕ → Type 0) → AreClashed closed.wiring closed.journal comps → Run closed.wiring (opening closed.wiring) closed.journal closed.state → fired_count closed.journal ≤ fuel → Out (trace_text closed.wiring.ports closed.journal comps) → Pooled closed.wiring fuel lists workers ends Out
-pooled_so fuel closed lists workers ends played comps Out clashed run within out = record {
+pub pooled_so : (fuel : ℕ) (closed : Simulation) (lists : List (Vec HostCmd Global)) (workers : ℕ) (ends : List End) (stopped : Bool) → ArePlayed (terms closed.wiring fuel (length lists)) lists workers (moment closed stopped) ends → (comps : List ℕ) (Out : List ℕ → Type 0) → AreClashed closed.wiring closed.journal comps → Run closed.wiring (opening closed.wiring) closed.journal closed.state → fired_count closed.journal ≤ fuel → Out (trace_text closed.wiring.ports closed.journal comps) → Pooled closed.wiring fuel lists workers ends Out
+pooled_so fuel closed lists workers ends stopped played comps Out clashed run within out = record {
   entries = closed.journal;
   to = closed.state;
   run = run;
+  last = moment closed stopped;
+  ends_there = (refl, refl);
   within = within;
   played = played;
   trace = trace_text closed.wiring.ports closed.journal comps;

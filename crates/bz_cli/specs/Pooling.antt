@@ -1,5 +1,5 @@
 -- What the command `pool` reads, plays and writes.
-use Rattle.std.specs.Prelude.{◌≡◌, ℕ, ◌+◌, ◌-◌, ◌≤◌, ◌⊎◌, ⊤, if◌then◌else◌, nat_lt, Option, Some, None, Result, Ok, Err, IsErrAnd, List, length, map, slice_get, take, vec_len}
+use Rattle.std.specs.Prelude.{◌≡◌, ℕ, Bool, ◌+◌, ◌-◌, ◌≤◌, ◌⊎◌, ⊤, if◌then◌else◌, nat_lt, Option, Some, None, Result, Ok, Err, IsErrAnd, List, length, map, slice_get, take, vec_len}
 use Rattle.std.specs.List.{All}
 use Rattle.std.specs.declared.alloc.Global.{Global}
 use Rattle.std.specs.declared.vec.Vec.{Vec}
@@ -15,6 +15,8 @@ use Rattle.bz_model.specs.Runs.{Run}
 use Rattle.bz_model.specs.Traces.{IsTrace}
 use Rattle.bz_net.specs.Simulation.{Simulation}
 use Rattle.bz_locked.specs.Terms.{terms}
+use Rattle.bz_past.specs.Moments.{moment}
+use Rattle.bz_past.specs.declared.view.Moment.{Moment}
 use Rattle.bz_locked.specs.Journal.{fired_count}
 use Rattle.bz_pool.specs.Pooled.{ArePlayed, Differs}
 use Rattle.bz_words.specs.HostWords.{hosts_of, IsFirstUnfit}
@@ -34,13 +36,16 @@ RefusesSessions words Memory = ⊤
 RefusesSessions words fault = ⊥
 
 -- The trace of a run from the net's opening, of at most so many firings, went out as `Out` says. In it each session has played
--- its list of commands, and these are the ends of the sessions and of so many workers.
+-- its list of commands, and these are the ends of the sessions and of so many workers. All that they were told has led to the
+-- end of this run.
 pub record Pooled (w : Wiring) (fuel : ℕ) (lists : List (Vec HostCmd Global)) (workers : ℕ) (ends : List End) (Out : List ℕ → Type 0) : Type 0 where
   pub entries : List Entry
   pub to : State
   pub run : Run w (opening w) entries to
+  pub last : Moment
+  pub ends_there : (last.net.journal ≡ entries) × (last.net.state ≡ to)
   pub within : fired_count entries ≤ fuel
-  pub played : ArePlayed (terms w fuel (length lists)) lists workers entries ends
+  pub played : ArePlayed (terms w fuel (length lists)) lists workers last ends
   pub trace : List ℕ
   pub is_trace : IsTrace w entries trace
   pub out : Out trace
@@ -90,8 +95,8 @@ WritesClosed w fuel lists workers old new (Err fault) = ⊥
 -- the same of a net with these ends, whatever the lists of so many sessions were that were played on it
 abbrev pub WritesOf : Simulation → List End → ℕ → ℕ → Option (List ℕ) → Option (List ℕ) → Result (Vec End Global) Fault → Type 0
 WritesOf net ends sessions fuel old new answer =
-    (lists : List (Vec HostCmd Global)) (workers : ℕ) → length lists ≡ sessions → length ends ≡ length lists + workers
-    → ArePlayed (terms net.wiring fuel (length lists)) lists workers net.journal ends → WritesClosed net.wiring fuel lists workers old new answer
+    (lists : List (Vec HostCmd Global)) (workers : ℕ) (stopped : Bool) → length lists ≡ sessions → length ends ≡ length lists + workers
+    → ArePlayed (terms net.wiring fuel (length lists)) lists workers (moment net stopped) ends → WritesClosed net.wiring fuel lists workers old new answer
 
 -- Why a pool came to no close: memory or a thread was wanting, or what was handed in at the end differs, first there.
 abbrev pub IsOfPool : Wiring → ℕ → ℕ → ℕ → Fault → Type 0

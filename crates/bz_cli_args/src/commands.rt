@@ -1,11 +1,13 @@
 //! The program with its commands.
 
 use crate::help::{
-    ALL_COMMANDS, CHART, CHECK, DRAW, EXPLORE, LIST, PARTS, POOL, PROGRAM, RUN, VERSION,
+    ALL_COMMANDS, CHART, CHECK, DRAW, EXPLORE, KINDS, LINT, LIST, PAGE, PARTS, POOL, PROGRAM, RUN,
+    VERSION,
 };
 use crate::options::{
-    AROUND, DEPTH, EXPLAIN, FROM, FUEL, HOPS, JOURNAL, NETLIST, Opt, PART, PART_FORM, PATHS,
-    REQUIRED_NETLIST, SESSIONS, STRICT, TO, TRACE, WORD_FILE, WORDS, WORKERS, arg_of,
+    AROUND, DEPTH, EXPLAIN, FORMAT, FROM, FUEL, HOPS, JOURNAL, MEANT_PART, NETLIST, Opt, PART,
+    PART_FORM, PATHS, REQUIRED_NETLIST, SESSIONS, STRICT, TO, TRACE, WORD_FILE, WORDS, WORKERS,
+    arg_of,
 };
 use clap::{Arg, Command};
 use std::alloc::{AllocError, Global};
@@ -21,7 +23,7 @@ struct Sub {
 }
 
 /// The commands, in the order of the help.
-const SUBS: [Sub; 8] = [
+const SUBS: [Sub; 11] = [
     Sub {
         name: "run",
         about: "Play words on a part's net, and write the trace",
@@ -47,10 +49,22 @@ const SUBS: [Sub; 8] = [
         options: &[PART, PART_FORM, NETLIST, PATHS],
     },
     Sub {
+        name: "lint",
+        about: "Tell all faults of a netlist at once, and what is likely to be a mistake",
+        after: LINT,
+        options: &[MEANT_PART, PART_FORM, NETLIST, FORMAT],
+    },
+    Sub {
         name: "parts",
         about: "List the parts of a netlist, and which of them are on top",
         after: PARTS,
         options: &[NETLIST],
+    },
+    Sub {
+        name: "kinds",
+        about: "Tell the ports of each kind of component, and what it asks of channels and parameters",
+        after: KINDS,
+        options: &[FORMAT],
     },
     Sub {
         name: "draw",
@@ -63,6 +77,12 @@ const SUBS: [Sub; 8] = [
         about: "Draw a trace as SVG, where it is that of a run of a part's net",
         after: CHART,
         options: &[PART, PART_FORM, NETLIST, TRACE, FROM, TO],
+    },
+    Sub {
+        name: "page",
+        about: "Write a web page that plays a trace, where it is that of a run of a part's net",
+        after: PAGE,
+        options: &[PART, PART_FORM, NETLIST, TRACE],
     },
     Sub {
         name: "pool",

@@ -80,6 +80,20 @@ Statuses:
 Example:
   breezesim list --part pipeline --netlist examples/pipeline.breeze --paths";
 
+/// What stands behind the options of `lint`.
+pub(crate) const LINT: &str = "\
+The netlist comes from FILE or from standard input. The faults of all its parts are told, each with its place and its notes,
+and where there is none, warnings. At most 20 are told, and then how many more there are.
+
+Statuses:
+  0  there is no fault
+  1  there is a fault (S, B and E faults)
+  2  the command line is bad, or a file cannot be opened
+  3  input or output failed (F1, F2), or memory ran out (F3)
+
+Example:
+  breezesim lint --netlist examples/pipeline.breeze";
+
 /// What stands behind the options of `parts`.
 pub(crate) const PARTS: &str = "\
 The netlist comes from FILE or from standard input. Each part is told as its text has it: no net is opened.
@@ -92,6 +106,18 @@ Statuses:
 
 Example:
   breezesim parts --netlist examples/pipeline.breeze";
+
+/// What stands behind the options of `kinds`.
+pub(crate) const KINDS: &str = "\
+No netlist is read.
+
+Statuses:
+  0  the kinds were written
+  2  the command line is bad
+  3  output failed (F2), or memory ran out (F3)
+
+Example:
+  breezesim kinds --format json";
 
 /// What stands behind the options of `draw`.
 pub(crate) const DRAW: &str = "\
@@ -121,6 +147,20 @@ Statuses:
 
 Example:
   breezesim chart --part buffer --netlist examples/buffer.breeze --trace examples/buffer.trace > buffer.svg";
+
+/// What stands behind the options of `page`.
+pub(crate) const PAGE: &str = "\
+The netlist comes from --netlist or from standard input. The trace comes from --trace, or else stands behind the netlist, as
+cat makes one text of two files. The page is one file, and opens in any browser. It holds nets of up to 100000 components.
+
+Statuses:
+  0  the page was written
+  1  the trace is not that of a run, or the netlist is refused (S, B and E faults)
+  2  the command line is bad, a file cannot be opened, or the net is too large
+  3  input or output failed (F1, F2), or memory ran out (F3)
+
+Example:
+  breezesim page --part buffer --netlist examples/buffer.breeze --trace examples/buffer.trace > buffer.html";
 
 /// What stands behind the options of `pool`.
 pub(crate) const POOL: &str = "\

@@ -175,6 +175,22 @@ pub(crate) const HOPS: Opt = Opt {
     ..NUMBER
 };
 
+pub(crate) const FORMAT: Opt = Opt {
+    id: "format",
+    name: Name::Long("format"),
+    value: &["F"],
+    help: "How to write it",
+    parser: ValueParser::Names(&["text", "json"]),
+    default: &["text"],
+    takes_hyphens: false,
+    ..TEXT
+};
+
+pub(crate) const MEANT_PART: Opt = Opt {
+    help: "The part that is meant to be used: warn of parts that it does not use",
+    ..PART
+};
+
 pub(crate) const JOURNAL: Opt = Opt {
     id: "journal",
     name: Name::Long("journal"),

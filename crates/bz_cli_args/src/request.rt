@@ -14,9 +14,12 @@ pub enum CommandName {
     Explore,
     Check,
     List,
+    Lint,
     Parts,
+    Kinds,
     Draw,
     Chart,
+    Page,
     Pool,
 }
 
@@ -50,6 +53,8 @@ pub struct Options<'a> {
     pub trace: Option<Source<'a>>,
     /// Whether notes are asked for behind a fault.
     pub explains: bool,
+    /// Whether JSON is asked for.
+    pub json: bool,
     /// Whether a list has places.
     pub paths: bool,
     /// Whether a run stops at a host command that is not done.
@@ -107,9 +112,12 @@ fn command_named(name: &str) -> Option<CommandName> {
         "explore" => Some(CommandName::Explore),
         "check" => Some(CommandName::Check),
         "list" => Some(CommandName::List),
+        "lint" => Some(CommandName::Lint),
         "parts" => Some(CommandName::Parts),
+        "kinds" => Some(CommandName::Kinds),
         "draw" => Some(CommandName::Draw),
         "chart" => Some(CommandName::Chart),
+        "page" => Some(CommandName::Page),
         "pool" => Some(CommandName::Pool),
         _ => None,
     }
@@ -129,6 +137,7 @@ fn options_in<'a>(command: CommandName, matches: &ArgMatches<'a>) -> Options<'a>
         word_file: source_named(matches, "word-file"),
         trace: source_named(matches, "trace"),
         explains: matches.get_flag("explain"),
+        json: matches.get_str("format") == Some("json"),
         paths: matches.get_flag("paths"),
         strict: matches.get_flag("strict"),
         journal: matches.get_one("journal").unwrap_or(JOURNAL_BY_DEFAULT),

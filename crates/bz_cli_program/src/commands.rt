@@ -10,9 +10,11 @@ use bz_cli::{PoolOptions, pool_cmd};
 use bz_cli_args::{BAD_COMMAND_LINE, MAX_JOURNAL, MAX_WORKERS};
 use bz_cli_core::{check_cmd, check_trace_cmd, run_cmd};
 use bz_cli_input::{Fault, list_cmd, read_input};
+use bz_cli_kinds::kinds_cmd;
 use bz_cli_source::{list_paths_cmd, parts_cmd};
 use bz_draw::{View, draw_cmd};
 use bz_explain_notes::{Draft, tell_notes};
+use bz_page::{PageFault, page_cmd, page_trace_cmd};
 use bz_session::End;
 use std::alloc::Global;
 use std::io::{Read, Write};
@@ -141,6 +143,11 @@ pub fn parts<R: Read, W: Write>(alloc: Global, input: &mut R, output: &mut W) ->
     done(parts_cmd(alloc, input, output))
 }
 
+/// Tells the kinds of component.
+pub fn kinds<W: Write>(alloc: Global, given: Given<'_, '_>, output: &mut W) -> Result<u8, Fault> {
+    done(kinds_cmd(alloc, given.options.json, output))
+}
+
 /// Draws a net. Why there is no drawing is told on `errors`, but for a fault that other commands have too.
 pub fn draw<R: Read, W: Write, E: Write>(
     alloc: Global,
@@ -190,6 +197,30 @@ pub fn chart<R: Read, T: Read, W: Write, E: Write>(
     match drawn {
         Ok(()) => Ok(DONE),
         Err(ChartFault::Command(fault)) => Err(fault),
+        Err(fault) => {
+            let _ = writeln!(errors, "error: {fault}");
+            Ok(fault.status())
+        }
+    }
+}
+
+/// Writes a page on which a trace plays: the one that is given, or the one behind the netlist. Why there is no page is told on
+/// `errors`, but for a fault that other commands have too.
+pub fn page<R: Read, T: Read, W: Write, E: Write>(
+    alloc: Global,
+    given: Given<'_, '_>,
+    input: &mut R,
+    trace: Option<&mut T>,
+    output: &mut W,
+    errors: &mut E,
+) -> Result<u8, Fault> {
+    let written = match trace {
+        Some(trace) => page_trace_cmd(alloc, given.part, input, trace, output),
+        None => page_cmd(alloc, given.part, input, output),
+    };
+    match written {
+        Ok(()) => Ok(DONE),
+        Err(PageFault::Command(fault)) => Err(fault),
         Err(fault) => {
             let _ = writeln!(errors, "error: {fault}");
             Ok(fault.status())

@@ -45,7 +45,7 @@ pub fn check_words(alloc: Global, given: Given<'_, '_>) -> Result<(), Fault> {
 /// The netlist of a command's input: what stands in front of the trace where the command reads one there.
 pub fn netlist_in<'t>(options: &Options<'_>, input: &'t [u8]) -> &'t [u8] {
     match (options.command, options.trace) {
-        (CommandName::Check | CommandName::Chart, None) => split_trace(input).0,
+        (CommandName::Check | CommandName::Chart | CommandName::Page, None) => split_trace(input).0,
         _ => input,
     }
 }

@@ -1,17 +1,15 @@
 -- The pieces of a line.
-use Rattle.std.proofs.Common.{◌≡◌, ℕ, zero, suc, ◌+◌, ◌<◌, ◌≤◌, Bool, false, not, Option, None, Some, List, [], ◌∷◌, ◌++◌, length, map, get_or, codes, refl, sym, ap, ◌∙◌, arith, slice_get, if◌then◌else◌}
+use Rattle.std.proofs.Common.{◌≡◌, ℕ, zero, suc, ◌+◌, ◌<◌, ◌≤◌, Bool, false, not, Option, None, Some, List, [], ◌∷◌, ◌++◌, length, map, get_or, refl, sym, ap, ◌∙◌, arith, slice_get, if◌then◌else◌}
 use Rattle.std.proofs.lemmas.List.{length-map}
 use Rattle.std.proofs.lemmas.Option.{slice_get_past}
 use Rattle.bz_model.specs.declared.names.Port.{Port}
 use Rattle.bz_model.specs.Names.{External, external, numbered, port_sense}
 use Rattle.bz_model.specs.Nets.{Site}
-use Rattle.bz_source.specs.Found.{Spot}
-use Rattle.bz_source.specs.Texts.{placed_comp_text}
-use Rattle.bz_source.specs.Views.{comp_standing}
+use Rattle.bz_source.specs.Found.{PathAt}
 use Rattle.bz_source.specs.declared.survey.Survey.{Survey}
-use Rattle.bz_cli_source.specs.Listing.{comp_line, host_holds}
+use Rattle.bz_cli_source.specs.Listing.{comp_line, host_holds, placed_comp}
 
-pub comp_line_is : (s : Survey) (k : ℕ) (site : Site) (at : Spot) → numbered s.places.comps k ≡ Some at → comp_line s k site ≡ placed_comp_text k site (comp_standing s.parts s.lines.items at) ++ codes "\n"
+pub comp_line_is : (s : Survey) (k : ℕ) (site : Site) (at : PathAt) → numbered s.places.comps k ≡ Some at → comp_line s k site ≡ placed_comp s k site at
 comp_line_is s k site at e = rw (e, comp_line) refl
 
 pub comp_line_none : (s : Survey) (k : ℕ) (site : Site) → numbered s.places.comps k ≡ None → comp_line s k site ≡ []

@@ -13,9 +13,10 @@ use Rattle.bz_flat.specs.declared.flat.Ends.{Ends}
 use Rattle.bz_flat.specs.declared.flat.Pieces.{Pieces}
 use Rattle.bz_flat.specs.Wires.{ends_in}
 use Rattle.bz_source.specs.declared.survey.Survey.{Survey}
-use Rattle.bz_source.specs.Found.{Spot}
+use Rattle.bz_source.specs.Found.{PathAt}
 use Rattle.bz_source.specs.Texts.{at_text, placed_comp_text}
-use Rattle.bz_source.specs.Views.{chan_standing, comp_standing}
+use Rattle.bz_source.specs.Labels.{label_text}
+use Rattle.bz_source.specs.Views.{chan_label, chan_line_at, comp_label, comp_line_at}
 use Rattle.bz_model.specs.Words.{carried_text}
 use Rattle.bz_cli_input.specs.Listing.{head_text, lines, ports_text}
 
@@ -38,17 +39,18 @@ abbrev pub ends_text : List External → ℕ → Ends → List ℕ
 ends_text ports k ends =
     (codes " " ++ end_text ends.active ends.active_port (host_holds ports k false)) ++ (codes " " ++ end_text ends.passive ends.passive_port (host_holds ports k true))
 
--- where a record stands, to the end of its line
-abbrev pub chan_end : Survey → Spot → List ℕ
-chan_end s at = at_text (chan_standing s.parts s.lines.items at) ++ codes "\n"
+-- where a channel stands, what it is called and where it comes from, to the end of its line
+abbrev pub chan_end : Survey → PathAt → List ℕ
+chan_end s at = at_text (chan_line_at s.parts s.lines.items at) ++ (label_text (chan_label s.lines.items at) ++ codes "\n")
 
-abbrev pub comp_end : Survey → Spot → List ℕ
-comp_end s at = at_text (comp_standing s.parts s.lines.items at) ++ codes "\n"
+-- where an instance stands, to the end of its line
+abbrev pub comp_end : Survey → PathAt → List ℕ
+comp_end s at = at_text (comp_line_at s.parts s.lines.items at) ++ codes "\n"
 
-abbrev pub placed_chan : Pieces → Survey → ℕ → Chan → Spot → List ℕ
+abbrev pub placed_chan : Pieces → Survey → ℕ → Chan → PathAt → List ℕ
 placed_chan net s k chan at = chan_head k chan ++ (ends_text (map external net.ports.items) k (ends_in net.ends.items k) ++ chan_end s at)
 
-abbrev pub chan_line : Pieces → Survey → ℕ → Spot → List ℕ
+abbrev pub chan_line : Pieces → Survey → ℕ → PathAt → List ℕ
 chan_line net s k at = placed_chan net s k (chan_in net.chans k) at
 
 -- an outer instance, in a path
@@ -56,18 +58,22 @@ abbrev pub stepped : ℕ → List ℕ
 stepped n = decimal n ++ codes "/"
 
 -- the name that a component has in the text
-abbrev pub comp_name : List Part → Spot → List ℕ
+abbrev pub comp_name : List Part → PathAt → List ℕ
 comp_name parts at = elim (option_and_then (λ p. component p at.position) (slice_get parts at.part)) [ None ↦ [] | Some c ↦ c.name.items ]
 
 -- the path of the instance itself, and the name of its part
-abbrev pub instance_head : List Part → Spot → List ℕ
+abbrev pub instance_head : List Part → PathAt → List ℕ
 instance_head parts at = (codes "instance " ++ flat_map stepped at.path) ++ (decimal at.position ++ (codes " " ++ name_form (comp_name parts at)))
 
-abbrev pub instance_line : Survey → ℕ → Spot → List ℕ
+abbrev pub instance_line : Survey → ℕ → PathAt → List ℕ
 instance_line s k at = instance_head s.parts at ++ comp_end s at
 
+-- component k, where it stands, what it is called and where it comes from
+abbrev pub placed_comp : Survey → ℕ → Site → PathAt → List ℕ
+placed_comp s k site at = placed_comp_text k site (comp_line_at s.parts s.lines.items at) ++ (label_text (comp_label s.parts s.lines.items at) ++ codes "\n")
+
 abbrev pub comp_line : Survey → ℕ → Site → List ℕ
-comp_line s k site = elim (numbered s.places.comps k) [ None ↦ [] | Some at ↦ placed_comp_text k site (comp_standing s.parts s.lines.items at) ++ codes "\n" ]
+comp_line s k site = elim (numbered s.places.comps k) [ None ↦ [] | Some at ↦ placed_comp s k site at ]
 
 abbrev pub count_line : List ℕ → ℕ → List ℕ
 count_line word n = word ++ (decimal n ++ codes "\n")

@@ -6,7 +6,7 @@ mod parts;
 mod paths;
 mod surveying;
 
-pub use listing::host_holds;
+pub use listing::{host_holds, put_paths};
 pub use parts::parts_cmd;
 pub use paths::list_paths_cmd;
 pub use surveying::{net_of, survey_of};

@@ -8,21 +8,24 @@ ghost use Rattle.bz_model.specs.Traces.{name_form};
 ghost use Rattle.bz_flat.specs.Flats.{site_of};
 ghost use Rattle.bz_flat.specs.Wires.{ends_in};
 ghost use Rattle.bz_text.specs.Writing.{Writes};
-ghost use Rattle.bz_source.specs.Texts.{at_text, placed_comp_text};
-ghost use Rattle.bz_source.specs.Views.{comp_standing, spot_of, standing_of};
+ghost use Rattle.bz_source.specs.Labels.{label_text};
+ghost use Rattle.bz_source.specs.Texts.{at_text};
+ghost use Rattle.bz_source.specs.Views.{label_of, line_at_of, path_at_of};
 ghost use Rattle.bz_cli_input.specs.Listing.{lines, ports_text};
-ghost use Rattle.bz_cli_source.specs.Listing.{chan_end, chan_head, chan_line, comp_end, comp_line, comp_name, comps_text, count_line, end_text, ends_text, host_holds, inside_text, instance_head, instance_line, instances_text, paths_text, placed_chan, stepped};
+ghost use Rattle.bz_cli_source.specs.Listing.{chan_end, chan_head, chan_line, comp_end, comp_line, comp_name, comps_text, count_line, end_text, ends_text, host_holds, inside_text, instance_head, instance_line, instances_text, paths_text, placed_chan, placed_comp, stepped};
 
 use bz_arena::{Arena, Id};
 use bz_cli_input::{carried_parts, put_head, put_ports};
 use bz_flat::{Ends, FlatComp, Pieces};
 use bz_model::{Chan, ChanKind, Port, Value};
-use bz_source::{Place, Standing, Survey, chan_standing, comp_standing, put_comp, put_standing};
+use bz_source::{
+    Label, LineAt, PathAt, Survey, chan_line_at, comp_line_at, put_comp, put_label, put_line_at,
+};
 use bz_text::{Piece, WriteFault, put_pieces};
 use std::io::Write;
 
 /// Writes the text of a net and its survey, under the name of its part.
-pub(crate) fn put_paths<W: Write>(
+pub fn put_paths<W: Write>(
     out: &mut W,
     name: &[u8],
     net: &Pieces,
@@ -63,16 +66,16 @@ fn put_chans<W: Write>(
     out: &mut W,
     net: &Pieces,
     s: &Survey,
-    places: &[Place],
+    places: &[PathAt],
 ) -> Result<(), WriteFault>
-    ensures { Writes (W.contents out.old) (W.contents out.new) result (count_line (codes "channels ") (length (map spot_of places.now)) ++ lines (chan_line net.now s.now) 1 (map spot_of places.now)) }
+    ensures { Writes (W.contents out.old) (W.contents out.new) result (count_line (codes "channels ") (length (map path_at_of places.now)) ++ lines (chan_line net.now s.now) 1 (map path_at_of places.now)) }
 {
     put_count(out, b"channels ", places.len())?;
     put_chan_lines(out, net, s, places)
 }
 
-fn put_instances<W: Write>(out: &mut W, s: &Survey, places: &[Place]) -> Result<(), WriteFault>
-    ensures { Writes (W.contents out.old) (W.contents out.new) result (count_line (codes "instances ") (length (map spot_of places.now)) ++ lines (instance_line s.now) 1 (map spot_of places.now)) }
+fn put_instances<W: Write>(out: &mut W, s: &Survey, places: &[PathAt]) -> Result<(), WriteFault>
+    ensures { Writes (W.contents out.old) (W.contents out.new) result (count_line (codes "instances ") (length (map path_at_of places.now)) ++ lines (instance_line s.now) 1 (map path_at_of places.now)) }
 {
     put_count(out, b"instances ", places.len())?;
     put_instance_lines(out, s, places)
@@ -101,9 +104,9 @@ fn put_chan_lines<W: Write>(
     out: &mut W,
     net: &Pieces,
     s: &Survey,
-    places: &[Place],
+    places: &[PathAt],
 ) -> Result<(), WriteFault>
-    ensures { Writes (W.contents out.old) (W.contents out.new) result (lines (chan_line net.now s.now) 1 (map spot_of places.now)) }
+    ensures { Writes (W.contents out.old) (W.contents out.new) result (lines (chan_line net.now s.now) 1 (map path_at_of places.now)) }
 {
     for (i, place) in places.iter().enumerate() {
         put_chan_line(out, net, s, i, place)?;
@@ -116,10 +119,10 @@ fn put_chan_line<W: Write>(
     net: &Pieces,
     s: &Survey,
     i: usize,
-    place: &Place,
+    place: &PathAt,
 ) -> Result<(), WriteFault>
     requires { i < 2 ^ 63 }
-    ensures { Writes (W.contents out.old) (W.contents out.new) result (chan_line net.now s.now (i + 1) (spot_of place.now)) }
+    ensures { Writes (W.contents out.old) (W.contents out.new) result (chan_line net.now s.now (i + 1) (path_at_of place.now)) }
 {
     put_placed_chan(out, net, s, i, chan_at(&net.chans, i), place)
 }
@@ -143,10 +146,10 @@ fn put_placed_chan<W: Write>(
     s: &Survey,
     i: usize,
     chan: Chan,
-    place: &Place,
+    place: &PathAt,
 ) -> Result<(), WriteFault>
     requires { i < 2 ^ 63 }
-    ensures { Writes (W.contents out.old) (W.contents out.new) result (placed_chan net.now s.now (i + 1) chan (spot_of place.now)) }
+    ensures { Writes (W.contents out.old) (W.contents out.new) result (placed_chan net.now s.now (i + 1) chan (path_at_of place.now)) }
 {
     put_chan_head(out, i, chan)?;
     put_chan_tail(out, net, s, i, place)
@@ -172,12 +175,16 @@ fn put_chan_tail<W: Write>(
     net: &Pieces,
     s: &Survey,
     i: usize,
-    place: &Place,
+    place: &PathAt,
 ) -> Result<(), WriteFault>
-    ensures { Writes (W.contents out.old) (W.contents out.new) result (ends_text (map external net.now.ports.items) (i + 1) (ends_in net.now.ends.items (i + 1)) ++ chan_end s.now (spot_of place.now)) }
+    ensures { Writes (W.contents out.old) (W.contents out.new) result (ends_text (map external net.now.ports.items) (i + 1) (ends_in net.now.ends.items (i + 1)) ++ chan_end s.now (path_at_of place.now)) }
 {
     put_ends(out, &net.ports, i, ends_at(&net.ends, i))?;
-    put_end_of_line(out, chan_standing(&s.parts, &s.lines, place))
+    put_labelled(
+        out,
+        chan_line_at(&s.parts, &s.lines, place),
+        s.chan_label(place),
+    )
 }
 
 // The ends of the channel at a place, none where there is no such channel.
@@ -258,19 +265,33 @@ fn is_other(sense: bool, passive: bool) -> bool
     if sense { !passive } else { passive }
 }
 
-fn put_end_of_line<W: Write>(out: &mut W, standing: Standing<'_>) -> Result<(), WriteFault>
-    ensures { Writes (W.contents out.old) (W.contents out.new) result (at_text (standing_of standing.entry) ++ codes "\n") }
+fn put_labelled<W: Write>(out: &mut W, at: LineAt<'_>, label: Label<'_>) -> Result<(), WriteFault>
+    ensures { Writes (W.contents out.old) (W.contents out.new) result (at_text (line_at_of at.entry) ++ (label_text (label_of label.entry) ++ codes "\n")) }
 {
-    put_standing(out, standing)?;
+    put_line_at(out, at)?;
+    put_label_line(out, label)
+}
+
+fn put_label_line<W: Write>(out: &mut W, label: Label<'_>) -> Result<(), WriteFault>
+    ensures { Writes (W.contents out.old) (W.contents out.new) result (label_text (label_of label.entry) ++ codes "\n") }
+{
+    put_label(out, label)?;
+    put_pieces(out, &[Piece::Bytes(b"\n")])
+}
+
+fn put_end_of_line<W: Write>(out: &mut W, at: LineAt<'_>) -> Result<(), WriteFault>
+    ensures { Writes (W.contents out.old) (W.contents out.new) result (at_text (line_at_of at.entry) ++ codes "\n") }
+{
+    put_line_at(out, at)?;
     put_pieces(out, &[Piece::Bytes(b"\n")])
 }
 
 fn put_instance_lines<W: Write>(
     out: &mut W,
     s: &Survey,
-    instances: &[Place],
+    instances: &[PathAt],
 ) -> Result<(), WriteFault>
-    ensures { Writes (W.contents out.old) (W.contents out.new) result (lines (instance_line s.now) 1 (map spot_of instances.now)) }
+    ensures { Writes (W.contents out.old) (W.contents out.new) result (lines (instance_line s.now) 1 (map path_at_of instances.now)) }
 {
     for (i, place) in instances.iter().enumerate() {
         put_instance_line(out, s, i, place)?;
@@ -282,16 +303,16 @@ fn put_instance_line<W: Write>(
     out: &mut W,
     s: &Survey,
     _i: usize,
-    place: &Place,
+    place: &PathAt,
 ) -> Result<(), WriteFault>
-    ensures { Writes (W.contents out.old) (W.contents out.new) result (instance_line s.now (_i + 1) (spot_of place.now)) }
+    ensures { Writes (W.contents out.old) (W.contents out.new) result (instance_line s.now (_i + 1) (path_at_of place.now)) }
 {
     put_instance_head(out, s, place)?;
-    put_end_of_line(out, comp_standing(&s.parts, &s.lines, place))
+    put_end_of_line(out, comp_line_at(&s.parts, &s.lines, place))
 }
 
-fn put_instance_head<W: Write>(out: &mut W, s: &Survey, place: &Place) -> Result<(), WriteFault>
-    ensures { Writes (W.contents out.old) (W.contents out.new) result (instance_head s.now.parts (spot_of place.now)) }
+fn put_instance_head<W: Write>(out: &mut W, s: &Survey, place: &PathAt) -> Result<(), WriteFault>
+    ensures { Writes (W.contents out.old) (W.contents out.new) result (instance_head s.now.parts (path_at_of place.now)) }
 {
     put_outer(out, &place.path)?;
     put_inner(out, place.position, comp_name(s, place))
@@ -331,8 +352,8 @@ fn put_inner<W: Write>(out: &mut W, position: usize, name: &[u8]) -> Result<(), 
 }
 
 // The name that a component has in the text.
-fn comp_name<'s>(s: &'s Survey, place: &Place) -> &'s [u8]
-    ensures { result.now ≡ comp_name s.now.parts (spot_of place.now) }
+fn comp_name<'s>(s: &'s Survey, place: &PathAt) -> &'s [u8]
+    ensures { result.now ≡ comp_name s.now.parts (path_at_of place.now) }
 {
     match s.record(place.part, place.position) {
         Some(component) => component.name.as_slice(),
@@ -374,10 +395,10 @@ fn put_placed_comp<W: Write>(
     s: &Survey,
     number: u32,
     comp: &FlatComp,
-    place: &Place,
+    place: &PathAt,
 ) -> Result<(), WriteFault>
-    ensures { Writes (W.contents out.old) (W.contents out.new) result (placed_comp_text number (site_of comp.now) (comp_standing s.now.parts s.now.lines.items (spot_of place.now)) ++ codes "\n") }
+    ensures { Writes (W.contents out.old) (W.contents out.new) result (placed_comp s.now number (site_of comp.now) (path_at_of place.now)) }
 {
-    put_comp(out, number, comp, comp_standing(&s.parts, &s.lines, place))?;
-    put_pieces(out, &[Piece::Bytes(b"\n")])
+    put_comp(out, number, comp, comp_line_at(&s.parts, &s.lines, place))?;
+    put_label_line(out, s.comp_label(place))
 }

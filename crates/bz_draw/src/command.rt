@@ -72,14 +72,16 @@ fn graph_of(
 {
     let (flat, survey) = survey_of(alloc, part, text)?;
     let net = flat.into_pieces();
-    let scene = Scene {
-        net: &net,
-        survey: &survey,
-    };
     match drawing_at(alloc, &net, &survey.places, view)? {
         Ok(drawing) => {
+            let scene = Scene {
+                net: &net,
+                survey: &survey,
+                view,
+                drawing: &drawing,
+            };
             let mut graph = Text::new(alloc);
-            put_graph(&mut graph, part, scene, view, &drawing);
+            put_graph(&mut graph, part, scene);
             Ok(Ok(graph))
         }
         Err(why) => Ok(Err(why)),

@@ -1,6 +1,6 @@
 //! Which components of a net are drawn themselves, and which lie in the box of an instance.
 
-use bz_source::{Place, Places};
+use bz_source::{PathAt, Places};
 use std::alloc::{AllocError, Global};
 
 /// The most nodes that are drawn where no depth is asked for.
@@ -56,13 +56,13 @@ impl Folding {
 }
 
 // The box round what has this path, if it is in one.
-fn box_at(instances: &[Place], path: &[usize], depth: usize) -> Option<usize> {
+fn box_at(instances: &[PathAt], path: &[usize], depth: usize) -> Option<usize> {
     let way = path.get(..depth.saturating_add(1))?;
     count_upto(instances, way).checked_sub(1)
 }
 
 // How many instances the walk of a net has met once it is in that of a way, which it then met last; 0 at the top.
-fn count_upto(instances: &[Place], way: &[usize]) -> usize {
+fn count_upto(instances: &[PathAt], way: &[usize]) -> usize {
     if way.is_empty() {
         return 0;
     }
@@ -70,7 +70,7 @@ fn count_upto(instances: &[Place], way: &[usize]) -> usize {
 }
 
 // Whether the walk has met an instance once it is in that of a way.
-fn is_met(instance: &Place, way: &[usize]) -> bool {
+fn is_met(instance: &PathAt, way: &[usize]) -> bool {
     for (i, step) in instance.path.iter().enumerate() {
         let other = step_at(way, i);
         if *step != other {
@@ -86,7 +86,7 @@ fn step_at(way: &[usize], i: usize) -> usize {
 }
 
 // The least depth without a box.
-fn deepest(instances: &[Place]) -> usize {
+fn deepest(instances: &[PathAt]) -> usize {
     let mut deepest = 0;
     for instance in instances {
         deepest = deepest.max(instance.path.len() + 1);
@@ -113,7 +113,7 @@ fn node_count(places: &Places, depth: usize) -> usize {
 }
 
 /// How many instances are within so many others.
-pub(crate) fn boxes_at(instances: &[Place], depth: usize) -> usize {
+pub(crate) fn boxes_at(instances: &[PathAt], depth: usize) -> usize {
     let within = instances.iter().filter(|place| place.path.len() == depth);
     within.count()
 }

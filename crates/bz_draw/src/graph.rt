@@ -3,76 +3,97 @@
 ghost use Rattle.std.specs.Prelude.{IfSome};
 ghost use Rattle.bz_draw.specs.Drawing.{IsWhole};
 
-use crate::drawing::{Drawing, Edge, Tip};
-use crate::nodes::{is_wide, put_nodes};
+use crate::cells::{Cell, cell_of, is_wide};
+use crate::drawing::{Edge, Tip};
+use crate::labels::{put_name, put_source};
+use crate::nodes::{put_nodes, put_place};
 use crate::piece::Piece;
 use crate::view::{Scene, View};
 use bz_flat::FlatComp;
 use bz_kind_rows::{kind_word, port_at};
 use bz_model::{Chan, ChanKind, node_of};
+use bz_source::PathAt;
 use bz_text::Text;
 
-/// What holds of the whole graph, up to its label.
-const LAYOUT: &str =
-    "  rankdir=LR; ranksep=0.6; nodesep=0.3; fontname=\"Helvetica\"; fontsize=11; labelloc=b;
+/// How the graph looks, its nodes and its edges: lines of a middle grey on no ground of their own are seen on a light and on a
+/// dark one.
+const LAYOUT: &str = "  rankdir=LR; ranksep=0.6; nodesep=0.25; bgcolor=\"transparent\";
+  fontname=\"Helvetica\"; fontsize=12; fontcolor=\"#777777\"; labelloc=b;
+  node [id=\"\\N\", shape=record, style=filled, color=\"#777777\", fillcolor=\"#f4f4f4\", fontcolor=\"#222222\",
+    fontname=\"Helvetica\", fontsize=12, height=0.35, margin=\"0.06,0.03\"];
+  edge [dir=both, arrowsize=0.6, color=\"#777777\", fontcolor=\"#777777\", fontname=\"Helvetica\", fontsize=11,
+    labeldistance=1.3, labelangle=35];
   label=\"";
 
-/// The rest of the label, and how nodes and edges look.
-const LEGEND: &str =
-    "\\nfilled dot: the end that asks; open dot: the end that answers; arrow: where the value goes; /8: its bits\";
-  node [shape=record, fontname=\"Helvetica\", fontsize=10, height=0.3];
-  edge [fontname=\"Helvetica\", fontsize=9, dir=both, arrowsize=0.6];
-";
+/// What the signs mean that each edge has, and those that some have.
+const ENDS: &str = "\\nfilled dot: asks; open dot: answers";
+
+const VALUES: &str = "\\narrow: where the value goes; /8: its bits";
 
 /// How the edges of channels look that carry no value, and of those that push or pull one.
 const SYNC: &str = "arrowtail=dot, arrowhead=odot";
 
 const PUSH: &str =
-    "arrowtail=dot, arrowhead=odotnormal, color=\"#1a56a0\", fontcolor=\"#1a56a0\", penwidth=2";
+    "arrowtail=dot, arrowhead=odotnormal, color=\"#3c78c8\", fontcolor=\"#3c78c8\", penwidth=2, \
+labeldistance=2.3, labelangle=24";
 
 const PULL: &str =
-    "arrowtail=dotnormal, arrowhead=odot, color=\"#b04a00\", fontcolor=\"#b04a00\", penwidth=2";
+    "arrowtail=dotnormal, arrowhead=odot, color=\"#b86018\", fontcolor=\"#b86018\", penwidth=2, \
+labeldistance=2.3, labelangle=24";
 
 /// Adds the graph of what is drawn of a net, under the name of its part.
-pub(crate) fn put_graph(text: &mut Text, name: &[u8], s: Scene<'_>, view: View, d: &Drawing)
+pub(crate) fn put_graph(text: &mut Text, name: &[u8], s: Scene<'_>)
     ensures { IfSome text.new IsWhole }
 {
-    put_head(text, name, s, view, d);
-    put_ports(text, s, view, d);
-    put_nodes(text, s, view, d);
-    put_beyond(text, s, d);
-    for edge in &d.edges {
-        put_edge(text, s, d, edge);
+    put_head(text, name, s);
+    put_ports(text, s);
+    put_nodes(text, s);
+    put_beyond(text, s);
+    for edge in &s.drawing.edges {
+        put_edge(text, s, edge);
     }
     text.put("}\n");
 }
 
-fn put_head(text: &mut Text, name: &[u8], s: Scene<'_>, view: View, d: &Drawing) {
-    let (depth, deepest) = (d.folding.depth, d.folding.deepest);
-    text.say("digraph \"%\" {\n", &[Piece::Label(name)]);
+fn put_head(text: &mut Text, name: &[u8], s: Scene<'_>) {
+    let (depth, deepest) = (s.drawing.folding.depth, s.drawing.folding.deepest);
+    let (at, whole, name) = (
+        Piece::Number(depth),
+        Piece::Number(deepest),
+        Piece::Label(name),
+    );
+    text.say("digraph \"%\" {\n", &[name]);
     if depth < deepest {
         text.say(
             "  // folded at depth %; --depth % draws all\n",
-            &[Piece::Number(depth), Piece::Number(deepest)],
+            &[at, whole],
         );
     }
     text.put(LAYOUT);
-    put_title(text, name, s, view, d);
+    put_title(text, name, s);
     if depth < deepest {
-        text.say(", folded at depth %", &[Piece::Number(depth)]);
+        text.say(", folded at depth %", &[at]);
     }
-    text.put(LEGEND);
+    if !s.drawing.edges.is_empty() {
+        text.put(ENDS);
+    }
+    if s.drawing.edges.iter().any(|edge| carries(s, edge)) {
+        text.put(VALUES);
+    }
+    text.put("\";\n");
 }
 
 // The name of the part, and how much of its net is drawn.
-fn put_title(text: &mut Text, name: &[u8], s: Scene<'_>, view: View, d: &Drawing) {
-    let name = Piece::Label(name);
+fn put_title<'s>(text: &mut Text, name: Piece<'s>, s: Scene<'s>) {
     let comps = Piece::Count(s.net.comps.len(), "component");
     let chans = Piece::Count(s.net.chans.len(), "channel");
-    if let View::Around { comp, hops } = view {
-        let (drawn, comp) = (Piece::Number(d.comps.len()), Piece::Number(comp as usize));
+    if let View::Around { comp, hops } = s.view {
+        let (drawn, comp) = (
+            Piece::Number(s.drawing.comps.len()),
+            Piece::Number(comp as usize),
+        );
         let away = Piece::Count(hops as usize, "channel");
-        text.say("%: % of %, component % and", &[name, drawn, comps, comp]);
+        text.say("%: % of %,\\ncomponent % and", &[name, drawn, comps, comp]);
         text.say(" what is at most % away", &[away]);
     } else {
         text.say("%: %, %", &[name, comps, chans]);
@@ -80,13 +101,13 @@ fn put_title(text: &mut Text, name: &[u8], s: Scene<'_>, view: View, d: &Drawing
 }
 
 // The ports, or of a part of a net those at which channels that are drawn end: port k is channel k.
-fn put_ports(text: &mut Text, s: Scene<'_>, view: View, d: &Drawing) {
-    if let View::Whole { .. } = view {
+fn put_ports(text: &mut Text, s: Scene<'_>) {
+    if let View::Whole { .. } = s.view {
         for number in 1..=s.net.ports.len() {
             put_port(text, s, number);
         }
     } else {
-        for edge in &d.edges {
+        for edge in &s.drawing.edges {
             put_port(text, s, edge.chan as usize);
         }
     }
@@ -94,33 +115,46 @@ fn put_ports(text: &mut Text, s: Scene<'_>, view: View, d: &Drawing) {
 
 fn put_port(text: &mut Text, s: Scene<'_>, number: usize) {
     if let Some(port) = s.net.ports.get(number.wrapping_sub(1)) {
+        let sense = Piece::Text(if port.passive { "passive" } else { "active" });
+        let (number, name) = (Piece::Number(number), Piece::Label(port.name.as_slice()));
         text.say(
-            "  p% [shape=box, style=bold, label=\"%\"];\n",
-            &[Piece::Number(number), Piece::Label(port.name.as_slice())],
+            "  p% [shape=box, style=\"bold,filled\", tooltip=\"% port % %\", label=\"%\"];\n",
+            &[number, sense, number, name, name],
         );
     }
 }
 
 // What lies beyond what is drawn, by its number and kind alone.
-fn put_beyond(text: &mut Text, s: Scene<'_>, d: &Drawing) {
-    for number in &d.beyond {
-        if let Some(comp) = comp_at(s, *number) {
-            let number = Piece::Number(*number as usize);
+fn put_beyond(text: &mut Text, s: Scene<'_>) {
+    for number in &s.drawing.beyond {
+        if let Some(comp) = node_of(&s.net.comps, *number) {
+            let (number, kind) = (
+                Piece::Number(*number as usize),
+                Piece::Bytes(kind_word(&comp.kind)),
+            );
             text.say(
-                "  c% [shape=plaintext, fontcolor=gray50, label=\"% %\"];\n",
-                &[number, number, Piece::Bytes(kind_word(&comp.kind))],
+                "  c% [shape=plaintext, style=\"\", fontcolor=\"#777777\", tooltip=\"% %\", label=\"% %\"];\n",
+                &[number, kind, number, number, kind],
             );
         }
     }
 }
 
-fn put_edge(text: &mut Text, s: Scene<'_>, d: &Drawing, edge: &Edge) {
+fn put_edge(text: &mut Text, s: Scene<'_>, edge: &Edge) {
+    let (from, to) = (end_of(s, edge.from), end_of(s, edge.to));
+    let number = Piece::Number(edge.chan as usize);
     text.put("  ");
-    put_tip(text, s, d, edge.from);
+    put_end(text, from);
     text.put(":e -> ");
-    put_tip(text, s, d, edge.to);
-    let label = Piece::Text(label_word(s, edge));
-    text.say(":w [%=\"%", &[label, Piece::Number(edge.chan as usize)]);
+    put_end(text, to);
+    text.say(":w [id=k%, tooltip=\"channel %", &[number, number]);
+    put_name(text, s.survey.chan_name(edge.chan));
+    text.put(": ");
+    put_end_word(text, s, from);
+    text.put(" to ");
+    put_end_word(text, s, to);
+    put_source(text, s.survey.chan_source(edge.chan));
+    text.say("\", %=\"%", &[Piece::Text(label_word(from, to)), number]);
     put_look(text, node_of(&s.net.chans, edge.chan));
 }
 
@@ -137,55 +171,91 @@ fn put_look(text: &mut Text, chan: Option<&Chan>) {
     text.say("\", %];\n", &[Piece::Text(look)]);
 }
 
-// Where the label stands: at the far end of an edge of a component whose edges share cells.
-fn label_word(s: Scene<'_>, edge: &Edge) -> &'static str {
-    if is_crowded(s, edge.from) {
-        "labeldistance=2.5, headlabel"
-    } else if is_crowded(s, edge.to) {
-        "labeldistance=2.5, taillabel"
+fn carries(s: Scene<'_>, edge: &Edge) -> bool {
+    match node_of(&s.net.chans, edge.chan) {
+        Some(chan) => chan.kind != ChanKind::Sync,
+        None => false,
+    }
+}
+
+/// What an edge ends at.
+#[derive(Clone, Copy)]
+enum End<'s> {
+    Port(u32, &'s [u8]),
+    Folded(&'s PathAt),
+    Comp(u32, &'s FlatComp, u32),
+    /// A component beyond what is drawn.
+    Beyond(u32, &'s FlatComp, u32),
+    Nothing,
+}
+
+fn end_of(s: Scene<'_>, tip: Tip) -> End<'_> {
+    match tip {
+        Tip::Port(port) => match s.net.ports.get((port as usize).wrapping_sub(1)) {
+            Some(named) => End::Port(port, named.name.as_slice()),
+            None => End::Nothing,
+        },
+        Tip::Folded(instance) => match s.survey.places.instances().get(instance) {
+            Some(instance) => End::Folded(instance),
+            None => End::Nothing,
+        },
+        Tip::Comp { comp, port } => match node_of(&s.net.comps, comp) {
+            Some(node) if s.drawing.beyond.binary_search(&comp).is_ok() => {
+                End::Beyond(comp, node, port)
+            }
+            Some(node) => End::Comp(comp, node, port),
+            None => End::Nothing,
+        },
+    }
+}
+
+// Where the label stands: at the active end, or where others lie at one place with it there, at the other end or between.
+fn label_word(from: End<'_>, to: End<'_>) -> &'static str {
+    if !is_crowded(from) {
+        "taillabel"
+    } else if !is_crowded(to) {
+        "headlabel"
     } else {
         "label"
     }
 }
 
-fn is_crowded(s: Scene<'_>, tip: Tip) -> bool {
-    match tip {
-        Tip::Comp { comp, .. } => match comp_at(s, comp) {
-            Some(comp) => is_wide(comp),
-            None => false,
-        },
-        _ => false,
+// Whether several edges may end at one place there.
+fn is_crowded(end: End<'_>) -> bool {
+    match end {
+        End::Port(..) | End::Nothing => false,
+        End::Folded(_) | End::Beyond(..) => true,
+        End::Comp(_, node, _) => is_wide(node),
     }
 }
 
-fn comp_at(s: Scene<'_>, comp: u32) -> Option<&FlatComp> {
-    node_of(&s.net.comps, comp)
-}
-
-fn put_tip(text: &mut Text, s: Scene<'_>, d: &Drawing, tip: Tip) {
-    match tip {
-        Tip::Port(port) => text.say("p%", &[Piece::Number(port as usize)]),
-        Tip::Folded(instance) => {
-            if let Some(instance) = s.survey.places.instances().get(instance) {
-                text.say("i%", &[Piece::Path("_", instance)]);
+fn put_end(text: &mut Text, end: End<'_>) {
+    match end {
+        End::Port(port, _) => text.say("p%", &[Piece::Number(port as usize)]),
+        End::Folded(instance) => text.say("i%", &[Piece::Path("_", instance)]),
+        End::Beyond(comp, ..) => text.say("c%", &[Piece::Number(comp as usize)]),
+        End::Comp(comp, node, port) => {
+            let comp = Piece::Number(comp as usize);
+            match cell_of(node, port) {
+                Cell::Side => text.say("c%", &[comp]),
+                Cell::Port(port) => text.say("c%:p%", &[comp, Piece::Number(port as usize)]),
+                Cell::Row(name) => text.say("c%:%", &[comp, Piece::Text(name)]),
             }
         }
-        Tip::Comp { comp, port } => {
-            text.say("c%", &[Piece::Number(comp as usize)]);
-            if d.beyond.binary_search(&comp).is_err() {
-                put_cell(text, comp_at(s, comp), port);
-            }
-        }
+        End::Nothing => {}
     }
 }
 
-// The cell of a component's port: the cell of its row, or its own.
-fn put_cell(text: &mut Text, comp: Option<&FlatComp>, port: u32) {
-    match comp {
-        Some(wide) if is_wide(wide) => match port_at(&wide.kind, wide.sizes, port) {
-            Some(at) => text.say(":%", &[Piece::Text(at.row.name)]),
-            None => text.put(":"),
-        },
-        _ => text.say(":p%", &[Piece::Number(port as usize)]),
+// The same by its name.
+fn put_end_word(text: &mut Text, s: Scene<'_>, end: End<'_>) {
+    match end {
+        End::Port(_, name) => text.say("port %", &[Piece::Label(name)]),
+        End::Folded(instance) => put_place(text, s, instance),
+        End::Comp(comp, node, port) | End::Beyond(comp, node, port) => {
+            let kind = Piece::Bytes(kind_word(&node.kind));
+            let port = Piece::Port(port_at(&node.kind, node.sizes, port));
+            text.say("% % %", &[kind, Piece::Number(comp as usize), port]);
+        }
+        End::Nothing => {}
     }
 }

@@ -1,68 +1,49 @@
-//! Texts in labels.
+//! What the text knows of components and channels beside their numbers, in labels and where one points.
 
-use crate::piece::{RECORD, put_cut};
-use bz_arena::Arena;
+use crate::piece::{Piece, RECORD, put_cut};
+use crate::view::Scene;
 use bz_flat::FlatComp;
-use bz_model::{Chan, Kind, Param, low_bits, node_of};
-use bz_text::{Piece, Text};
+use bz_source::SourceAt;
+use bz_text::{Piece as Part, Text};
 
 /// The most letters of the second line of a component.
 const MOST_LETTERS: usize = 20;
 
-/// Adds the second line of a component's label, if the component has one.
-pub(crate) fn put_detail(text: &mut Text, chans: &Arena<Chan>, comp: &FlatComp, params: &[Param]) {
-    let mut detail = Text::new(text.alloc());
-    say_detail(&mut detail, chans, comp, first_text(params));
-    match detail.whole() {
+/// Adds the second line of a component's label, if the component has one: a variable's name, an operation, a constant.
+pub(crate) fn put_detail(text: &mut Text, s: Scene<'_>, number: u32, comp: &FlatComp) {
+    let mut line = Text::new(text.alloc());
+    if let Some(name) = s.survey.comp_name(number) {
+        line.put_pieces(&[Part::Name(name)]);
+    }
+    if let Some(detail) = s.survey.comp_detail(number, &comp.kind) {
+        if bz_source::put_detail(&mut line, detail).is_err() {
+            line.lose();
+        }
+    }
+    match line.whole() {
         Ok([]) => {}
-        Ok(detail) => {
+        Ok(line) => {
             text.put("\\n");
-            put_cut(text, detail, MOST_LETTERS, RECORD);
+            put_cut(text, line, MOST_LETTERS, RECORD);
         }
         Err(_) => text.lose(),
     }
 }
 
-// What the second line says, by the first text among the parameters; nothing where there is none.
-fn say_detail(text: &mut Text, chans: &Arena<Chan>, comp: &FlatComp, word: &[u8]) {
-    let name = Piece::Name(word);
-    match &comp.kind {
-        Kind::Variable | Kind::FalseVariable if word.is_empty() => {}
-        Kind::Variable
-        | Kind::FalseVariable
-        | Kind::UnaryFunc { .. }
-        | Kind::BinaryFunc { .. }
-        | Kind::Case(_)
-        | Kind::CaseFetch(_) => text.put_pieces(&[name]),
-        Kind::BinaryFuncConstR {
-            right_width,
-            right,
-            ..
-        } => text.put_pieces(&[name, Piece::Value(Some(low_bits(*right, *right_width)))]),
-        Kind::Slice(low) => text.put_pieces(&[Piece::Bytes(b"from bit "), Piece::Number(*low)]),
-        Kind::Constant(value) => {
-            let value = low_bits(*value, out_width(chans, comp));
-            text.put_pieces(&[Piece::Number(value)]);
-        }
-        _ => {}
+/// Adds a name, where there is one.
+pub(crate) fn put_name(text: &mut Text, name: Option<&[u8]>) {
+    if let Some(name) = name {
+        text.say(" %", &[Piece::Label(name)]);
     }
 }
 
-// The width of a component's first port.
-fn out_width(chans: &Arena<Chan>, comp: &FlatComp) -> u32 {
-    let chan = comp.chans.first().copied().unwrap_or(0);
-    match node_of(chans, chan) {
-        Some(chan) => chan.width,
-        None => 0,
+/// Adds a place in a source, where there is one.
+pub(crate) fn put_source(text: &mut Text, source: Option<SourceAt<'_>>) {
+    if let Some(at) = source {
+        let (line, column) = (
+            Piece::Number(at.line as usize),
+            Piece::Number(at.column as usize),
+        );
+        text.say(" (%:%:%)", &[Piece::Label(at.file), line, column]);
     }
-}
-
-// The first text among parameters, or the empty one.
-fn first_text(params: &[Param]) -> &[u8] {
-    for param in params {
-        if let Param::Word(word) = param {
-            return word.as_slice();
-        }
-    }
-    &[]
 }

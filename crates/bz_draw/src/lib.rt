@@ -1,6 +1,7 @@
 //! The command `draw`: the net of a part as a graph in the DOT language, for Graphviz.
 #![tactic(auto)]
 
+mod cells;
 mod command;
 mod drawing;
 mod edges;

@@ -1,6 +1,7 @@
 //! What stands for a mark in a form.
 
-use bz_source::Place;
+use bz_kind_rows::PortAt;
+use bz_source::PathAt;
 use bz_text::{Piece as Part, Put, Text};
 
 /// The most letters of a name in a label: Graphviz takes no more than some thousand.
@@ -22,8 +23,10 @@ pub(crate) enum Piece<'a> {
     Count(usize, &'static str),
     /// A name in name form, as a label has it, cut where it is too long.
     Label(&'a [u8]),
+    /// The name of a port, with its number where it is one of an array.
+    Port(Option<PortAt>),
     /// The path of an instance, with this between its steps.
-    Path(&'static str, &'a Place),
+    Path(&'static str, &'a PathAt),
     /// The blanks before what is within so many clusters.
     Pad(usize),
 }
@@ -36,6 +39,7 @@ impl Put for Piece<'_> {
             Piece::Number(number) => text.put_pieces(&[Part::Number(number as u128)]),
             Piece::Count(count, thing) => text.put_count(count, thing),
             Piece::Label(name) => put_label(text, name),
+            Piece::Port(at) => put_port(text, at),
             Piece::Path(between, place) => put_path(text, between, place),
             Piece::Pad(level) => put_pad(text, level),
         }
@@ -74,7 +78,16 @@ fn put_quoted(text: &mut Text, letters: &[u8], special: &[u8]) {
     }
 }
 
-fn put_path(text: &mut Text, between: &str, place: &Place) {
+fn put_port(text: &mut Text, at: Option<PortAt>) {
+    if let Some(at) = at {
+        text.put(at.row.name);
+        if let Some(member) = at.member {
+            text.put_pieces(&[Part::Number(u128::from(member))]);
+        }
+    }
+}
+
+fn put_path(text: &mut Text, between: &str, place: &PathAt) {
     for step in &place.path {
         let between = Part::Bytes(between.as_bytes());
         text.put_pieces(&[Part::Number(*step as u128), between]);

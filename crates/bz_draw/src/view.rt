@@ -1,5 +1,6 @@
 //! Which part of a net is drawn.
 
+use crate::drawing::Drawing;
 use bz_flat::Pieces;
 use bz_source::Survey;
 
@@ -23,9 +24,11 @@ impl View {
     }
 }
 
-/// The net that is drawn, and where everything in it stands.
+/// The net that is drawn, where everything in it stands, and what is drawn of it.
 #[derive(Clone, Copy)]
 pub(crate) struct Scene<'a> {
     pub net: &'a Pieces,
     pub survey: &'a Survey,
+    pub view: View,
+    pub drawing: &'a Drawing,
 }

@@ -22,3 +22,4 @@ pub mod Checking
 pub mod Items
 pub mod Looking
 pub mod Ranking
+pub mod Ending

@@ -122,7 +122,7 @@ odd_at ends k pair a b is below ea eb odd even =
     let same : a ≡ b = ea ∙ f ∙ sym eb in
     not_odd a b same odd
 
-port_at : (ports : List Port) (k : ℕ) (port : Port) → k < length ports → port ≡ get_or ports k port → port_is_passive (map external ports) (k + 1) ≡ port.passive
+pub port_at : (ports : List Port) (k : ℕ) (port : Port) → k < length ports → port ≡ get_or ports k port → port_is_passive (map external ports) (k + 1) ≡ port.passive
 port_at ports k port below is = let z : k + 1 - 1 ≡ k = omega arith in rw (z, port_is_passive) (ap (λ (e : External). e.passive) (get_or-map external ports k port _ below is))
 
 pub host_at : (ends : List Ends) (k : ℕ) (pair : Ends) (ports : List Port) (port : Port) (some : Bool) (host : Option ℕ) → port ≡ get_or ports k port → k < length ports → pair ≡ get_or ends k pair → k < length ends → some ≡ is_some host → some ≡ true

@@ -22,6 +22,11 @@ IsSeen parts chans c (Wrong f) = HasFault chans c (role parts c) f × NoneBefore
 IsSeen parts chans c Nothing = IsSound chans c (role parts c) × AddsNothing parts c
 IsSeen parts chans c (Adds item) = IsSound chans c (role parts c) × IsItem parts chans c item
 
+-- the first fault of a component; none where it is sound
+abbrev pub IsFirstFault : List Part → List Chan → Component → Option Fault → Type 0
+IsFirstFault parts chans c None = IsSound chans c (role parts c)
+IsFirstFault parts chans c (Some f) = HasFault chans c (role parts c) f × NoneBefore chans c (role parts c) f
+
 -- an instance of part n, whose entries name these channels
 abbrev pub IsSeenCopy : List Part → ℕ → List ℕ → Seen → Type 0
 IsSeenCopy parts n chans (Wrong f) = ⊥

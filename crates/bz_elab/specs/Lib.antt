@@ -1,4 +1,5 @@
 pub mod Seats
+pub mod EndFaults
 pub mod Entries
 pub mod Paths
 pub mod Faults

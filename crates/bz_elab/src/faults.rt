@@ -8,7 +8,7 @@ ghost use Rattle.bz_elab.specs.Faults.{error_at};
 ghost use Rattle.bz_elab.specs.Paths.{component};
 ghost use Rattle.bz_elab.specs.Refusals.{HasPortChannels, HasFault};
 ghost use Rattle.bz_elab.specs.Order.{order};
-ghost use Rattle.bz_elab.specs.Least.{IsSeen, IsSeenCopy, IsLeastFault, InMarked, LeastOn, lesser};
+ghost use Rattle.bz_elab.specs.Least.{IsFirstFault, IsSeen, IsSeenCopy, IsLeastFault, InMarked, LeastOn, lesser};
 ghost use Rattle.bz_elab.specs.Numbers.{is_marked};
 ghost use Rattle.bz_elab.specs.Readings.{AreRead, AreReadings, told};
 ghost use Rattle.bz_elab.specs.Totals.{AreTotals};
@@ -181,6 +181,39 @@ fn look(
         return Err(ElabError::Memory);
     }
     Ok(Seen::Wrong(fault))
+}
+
+/// The first fault of a component of a part with these channels, if it has one. The channels at its ports are gathered in
+/// `carried`, whatever that held.
+pub fn first_fault(
+    alloc: Global,
+    parts: &Parts,
+    channels: &[Chan],
+    component: &Component,
+    carried: &mut Vec<Chan>,
+) -> Result<Option<Fault>, AllocError>
+    ensures { IfOk result (IsFirstFault parts.now channels.now component.now) }
+{
+    let first = match find(parts, component.name.as_slice()) {
+        None => match leaf_of(alloc, channels, component, carried) {
+            Ok(_) => return Ok(None),
+            Err(fault) => fault,
+        },
+        Some(inner) => match instance_of(
+            alloc,
+            channels,
+            component,
+            &parts.list()[inner],
+            carried,
+        ) {
+            Ok(_) => return Ok(None),
+            Err(fault) => fault,
+        },
+    };
+    if first.order() == 0 {
+        return Err(AllocError);
+    }
+    Ok(Some(first))
 }
 
 // What an instance of a part adds, its entries naming these channels.

@@ -8,6 +8,8 @@ use bz_explain_notes::{Draft, put_source};
 pub struct Asked<'a, 't> {
     /// The netlist, as far as it was read.
     pub netlist: &'a [u8],
+    /// The name of its file, if it is one's.
+    pub file: Option<&'a str>,
     /// The name of the part.
     pub part: &'a [u8],
     pub words: Words<'a, 't>,

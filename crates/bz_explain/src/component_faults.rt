@@ -1,7 +1,9 @@
 //! Components that are at fault.
 
 use crate::data::Head;
-use crate::kind_words::{params_rule, put_kind, put_row, put_widths_expected};
+use crate::kind_words::{
+    is_left_out, operations_of, params_rule, put_kind, put_row, put_widths_expected,
+};
 use crate::site::Site;
 use bz_breeze_records::{Part, Parts, Slot};
 use bz_elab::{arranged, array_sizes};
@@ -14,6 +16,9 @@ use std::alloc::{AllocError, Global};
 
 /// The most of several things that a note lists.
 const MOST_LISTED: usize = 10;
+
+/// The most parts whose names are compared with one that is unknown.
+const MOST_NAMES: usize = 200_000;
 
 /// Tells the nearest name.
 pub(crate) const NEAREST: &str = "help: the nearest name is %";
@@ -70,13 +75,22 @@ impl Site<'_> {
     // A name that is unknown.
     fn explain_name(self, draft: &mut Draft) {
         let name = self.component.name.as_slice();
-        let names = draft.gathered(known_names(draft.alloc(), self.netlist.parts));
         draft.say(
             "found: the name %\n\
             expected: a part of this text, or a kind, whose name has $Brz in front",
             &[Name(name)],
         );
-        draft.say_nearest(NEAREST, name, &names);
+        if is_left_out(name) {
+            draft.say(
+                "help: % is a kind of Balsa's that is left out here",
+                &[Name(name)],
+            );
+            return;
+        }
+        if self.netlist.parts.list().len() <= MOST_NAMES {
+            let names = draft.gathered(known_names(draft.alloc(), self.netlist.parts));
+            draft.say_nearest(NEAREST, name, &names);
+        }
     }
 
     // Parameters that the kind does not take.
@@ -95,6 +109,12 @@ impl Site<'_> {
         }
         let args = [Name(name), Text(params_rule(name))];
         draft.say(")\nexpected: for % %", &args);
+        let operations = operations_of(name);
+        if let Some(word) = first_word(params) {
+            if !operations.iter().any(|operation| *operation == word) {
+                draft.say_nearest("help: the nearest operation is %", word, operations);
+            }
+        }
     }
 
     // An entry that is no channel of the part.
@@ -167,6 +187,7 @@ impl Site<'_> {
                 Aspect::Width => self.explain_widths(draft, &kind, &ports),
             }
         }
+        self.say_exchange(draft);
     }
 
     // The first port of an instance whose channel is not as in its part.
@@ -260,4 +281,13 @@ fn put_param(draft: &mut Draft, param: &Param) {
         Param::Flag(false) => draft.put("#f", &[]),
         Param::Word(text) => draft.put("\"%\"", &[Word(text.as_slice())]),
     }
+}
+
+fn first_word(params: &[Param]) -> Option<&[u8]> {
+    for param in params {
+        if let Param::Word(word) = param {
+            return Some(word.as_slice());
+        }
+    }
+    None
 }

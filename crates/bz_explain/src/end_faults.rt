@@ -2,21 +2,22 @@
 
 use crate::data::Head;
 use crate::site::{Netlist, put_place};
-use bz_arena::{Arena, Id};
-use bz_elab::components;
+use crate::wired::{EndCount, Wired};
+use bz_arena::Id;
 use bz_explain_notes::Arg::{Bytes, Name, Number, Path, Port, Text};
 use bz_explain_notes::Draft;
 use bz_flat::{ElabError, FlatComp};
-use bz_kind_rows::{PortAt, kind_word, port_at};
-use bz_model::ChanKind;
-use bz_source::{Place, Places, PlacesError};
+use bz_kind_rows::{PortAt, is_passive, kind_word, port_at};
+use bz_model::{Chan, ChanKind, numbered};
+use bz_source::PathAt;
 
 /// A channel of a net that is at fault, and the components at it: the first of each sense, and the second of either.
 #[derive(Clone, Copy)]
 struct Wire<'t> {
     netlist: Netlist<'t>,
-    places: &'t Places,
-    place: &'t Place,
+    wired: &'t Wired,
+    number: u32,
+    place: &'t PathAt,
     active: Option<End>,
     passive: Option<End>,
     second: Option<End>,
@@ -34,45 +35,36 @@ struct End {
 pub(crate) fn explain_ends(
     draft: &mut Draft,
     netlist: Netlist<'_>,
-    asked: &[u8],
+    wired: &Wired,
     error: ElabError,
     number: u32,
 ) {
-    let (alloc, parts) = (draft.alloc(), netlist.parts);
-    match (
-        Places::of(alloc, parts, asked),
-        components(alloc, parts, asked),
-    ) {
-        (Ok(places), Ok(comps)) => {
-            if let Some(place) = places.chan(number) {
-                let mut wire = Wire {
-                    netlist,
-                    places: &places,
-                    place,
-                    active: None,
-                    passive: None,
-                    second: None,
-                };
-                let mut comp = 0u32;
-                for place in 0..comps.len() {
-                    comp = comp.saturating_add(1);
-                    wire.meet(comps.get(Id::at(place)), comp, number);
-                }
-                wire.explain(draft, error, number);
-            }
+    if let Some(place) = wired.places.chan(number) {
+        let mut wire = Wire {
+            netlist,
+            wired,
+            number,
+            place,
+            active: None,
+            passive: None,
+            second: None,
+        };
+        let mut comp = 0u32;
+        for place in 0..wired.comps.len() {
+            comp = comp.saturating_add(1);
+            wire.meet(wired.comps.get(Id::at(place)), comp);
         }
-        (Err(PlacesError::Memory), _) | (_, Err(ElabError::Memory)) => draft.fail(),
-        _ => {}
+        wire.explain(draft, error);
     }
 }
 
 impl Wire<'_> {
-    // Notes the ends that a component of the net has of the channel of this number.
-    fn meet(&mut self, site: &FlatComp, comp: u32, number: u32) {
+    // Notes the ends that a component of the net has of the channel.
+    fn meet(&mut self, site: &FlatComp, comp: u32) {
         let mut port = 0u32;
         for chan in &site.chans {
             port = port.saturating_add(1);
-            if *chan == number {
+            if *chan == self.number {
                 if let Some(port) = port_at(&site.kind, site.sizes, port) {
                     let kind = kind_word(&site.kind);
                     self.add(End { comp, kind, port });
@@ -90,23 +82,27 @@ impl Wire<'_> {
         }
     }
 
-    fn explain(self, draft: &mut Draft, error: ElabError, number: u32) {
+    fn explain(self, draft: &mut Draft, error: ElabError) {
         match (error, self.second) {
-            (ElabError::TwoEnds(_), Some(second)) => self.explain_two(draft, second, number),
-            (ElabError::LooseEnd(_), _) => self.explain_loose(draft, number),
+            (ElabError::TwoEnds(_), Some(second)) => self.explain_two(draft, second),
+            (ElabError::LooseEnd(_), _) => self.explain_loose(draft),
             _ => self.explain_sense(draft),
         }
     }
 
     // Two ends of one sense.
-    fn explain_two(self, draft: &mut Draft, second: End, number: u32) {
+    fn explain_two(self, draft: &mut Draft, second: End) {
         let passive = second.port.row.passive;
-        self.put_place(draft, number);
+        let first = if passive { self.passive } else { self.active };
+        self.put_place(draft);
         draft.put("found: two % ends: ", &[Text(sense(passive))]);
-        self.put_end(draft, if passive { self.passive } else { self.active });
+        self.put_end(draft, first);
         draft.put(", ", &[]);
         self.put_end(draft, Some(second));
         draft.say("\nexpected: one active end and one passive end", &[]);
+        if self.say_exchange(draft, first) || self.say_exchange(draft, Some(second)) {
+            return;
+        }
         if !passive {
             let mixer = Text(mixer(second.port.row.kind));
             draft.say("help: a % brings several callers together to one", &[mixer]);
@@ -114,10 +110,10 @@ impl Wire<'_> {
     }
 
     // One end alone.
-    fn explain_loose(self, draft: &mut Draft, number: u32) {
+    fn explain_loose(self, draft: &mut Draft) {
         let passive = self.active.is_none();
         let (sense, other) = (Text(sense(passive)), Text(sense(!passive)));
-        self.put_place(draft, number);
+        self.put_place(draft);
         self.put_found(draft, passive);
         let deed = Text(if passive { "makes" } else { "takes" });
         let told = ", and no % one\nexpected: a component that % its requests";
@@ -167,28 +163,105 @@ impl Wire<'_> {
             return;
         };
         let port = Port(port.row.name, port.member);
-        draft.put("% % % (", &[Number(comp as usize), Bytes(kind), port]);
-        if let Some(place) = self.places.comp(comp) {
+        draft.put(
+            "% % % (",
+            &[Number(self.wired.shown(comp)), Bytes(kind), port],
+        );
+        if let Some(place) = self.wired.places.comp(comp) {
             let spot = netlist.spot_of(place.part, Head::Components, place.position);
             if !place.path.is_empty() {
                 draft.put("% %, ", &[Path(&place.path), netlist.name(place.part)]);
             }
             draft.put("%)", &[spot]);
+            draft.put_label(netlist.label(place.part, Head::Components, place.position));
         }
     }
 
     // Tells where the channel stands, in the outermost copy that has it.
-    fn put_place(self, draft: &mut Draft, number: u32) {
+    fn put_place(self, draft: &mut Draft) {
         let (netlist, place) = (self.netlist, self.place);
         if place.path.is_empty() {
             return netlist.put_listed(draft, place.part, Head::Channels, place.position);
         }
         if let Some(byte) = netlist.byte_of(place.part, Head::Channels, place.position) {
             let (name, path) = (netlist.name(place.part), Path(&place.path));
-            let (number, position) = (Number(number as usize), Number(place.position));
+            let (number, position) = (Number(self.number as usize), Number(place.position));
             let form = "channel % (% %, channel % of part %)";
             let args = [number, path, name, position, name];
             put_place(draft, netlist.text, byte, form, &args);
+        }
+    }
+}
+
+impl Wire<'_> {
+    // Tells the channels of the component at an end by whose exchange each of them has both ends, if there are such.
+    fn say_exchange(self, draft: &mut Draft, end: Option<End>) -> bool {
+        let Some(End { comp, kind, port }) = end else {
+            return false;
+        };
+        let place = (comp as usize).saturating_sub(1);
+        if place >= self.wired.comps.len() {
+            return false;
+        }
+        let site = self.wired.comps.get(Id::at(place));
+        let mut number = 0u32;
+        for chan in &site.chans {
+            number = number.saturating_add(1);
+            let passive = is_passive(&site.kind, site.sizes, number);
+            if passive != port.row.passive && self.is_mended(*chan, passive) {
+                let (one, other) = (Number(self.number as usize), Number(*chan as usize));
+                let args = [one, other, Number(self.wired.shown(comp)), Bytes(kind)];
+                let form = "help: with channels % and % of % % exchanged, both have their ends";
+                draft.say(form, &args);
+                return true;
+            }
+        }
+        false
+    }
+
+    // Whether this channel and another one of its sort have both ends, once an end of the other sense and one of that channel are
+    // exchanged.
+    fn is_mended(self, other: u32, passive: bool) -> bool {
+        let (this, that) = (self.wired.count(self.number), self.wired.count(other));
+        other != self.number
+            && self.carried(self.number) == self.carried(other)
+            && self.is_closed(self.number, moved(this, passive))
+            && self.is_closed(other, moved(that, !passive))
+    }
+
+    // What a channel carries.
+    fn carried(self, chan: u32) -> Option<Chan> {
+        let place = self.wired.places.chan(chan)?;
+        let part = self.netlist.parts.list().get(place.part)?;
+        part.channels.get(place.position.checked_sub(1)?).copied()
+    }
+
+    // Whether a channel with so many ends has what it needs. The host has one end of an external port.
+    fn is_closed(self, chan: u32, count: EndCount) -> bool {
+        let top = self.netlist.ports(self.wired.top);
+        let (active, passive) = match numbered(top, chan) {
+            Some(port) => (u32::from(!port.passive), u32::from(port.passive)),
+            None => (1, 1),
+        };
+        count.active == active && count.passive == passive
+    }
+}
+
+// The ends of a channel, once one more is of this sense and one less of the other.
+fn moved(count: EndCount, passive: bool) -> EndCount {
+    let EndCount {
+        active: a,
+        passive: p,
+    } = count;
+    if passive {
+        EndCount {
+            active: a.saturating_sub(1),
+            passive: p.saturating_add(1),
+        }
+    } else {
+        EndCount {
+            active: a.saturating_add(1),
+            passive: p.saturating_sub(1),
         }
     }
 }

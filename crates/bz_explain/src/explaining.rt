@@ -1,7 +1,9 @@
 //! What is told of each fault.
 
 use crate::asked::Asked;
+use crate::closings::say_closings;
 use crate::event_faults::{explain_event, explain_session};
+use crate::findings::no_findings;
 use crate::net_faults::explain_net;
 use crate::part_faults::explain_part;
 use crate::site::{Netlist, put_place};
@@ -9,28 +11,59 @@ use crate::told::told_of;
 use crate::word_faults::explain_word;
 use bz_breeze::parts_of;
 use bz_cli_input::Fault;
-use bz_explain_notes::Draft;
+use bz_explain_notes::{Draft, Findings};
 use bz_sexpr::{SexprError, read_forest};
+use bz_source::lines_of;
 use std::alloc::Global;
 
-/// The notes of a fault. Where memory is wanting for all of them there are none.
-pub fn explain(alloc: Global, fault: &Fault, asked: Asked<'_, '_>) -> Draft {
-    let mut draft = Draft::new(alloc);
+/// What is told behind the line of a fault.
+#[derive(Drop)]
+pub struct Explained {
+    /// Its notes. Where memory is wanting for all of them there are none.
+    pub notes: Draft,
+    /// The faults of the netlist beside it.
+    pub others: Findings,
+}
+
+/// What is told behind the line of a fault.
+pub fn explain(alloc: Global, fault: &Fault, asked: Asked<'_, '_>) -> Explained {
+    let mut draft = Draft::on(alloc, asked.file);
+    let others = explain_all(&mut draft, fault, asked);
+    Explained {
+        notes: draft,
+        others,
+    }
+}
+
+// The notes of a fault; and the faults beside it.
+fn explain_all(draft: &mut Draft, fault: &Fault, asked: Asked<'_, '_>) -> Findings {
     match fault {
-        Fault::Text(error) => put_mark(&mut draft, asked.netlist, *error),
-        Fault::Event { word, .. } => asked.words.put_place(&mut draft, *word),
+        Fault::Text(error) => put_mark(draft, asked.netlist, *error),
+        Fault::Event { word, .. } => asked.words.put_place(draft, *word),
         _ => {}
     }
     match (told_of(fault), fault) {
         (Some(told), _) => draft.say(told, &[]),
-        (None, Fault::Word(number)) => explain_word(&mut draft, asked.words, *number),
-        (None, _) => {
-            if let Err(Fault::Memory) = explain_data(&mut draft, fault, asked) {
+        (None, Fault::Word(number)) => explain_word(draft, asked.words, *number),
+        (None, _) => return explain_text(draft, fault, asked),
+    }
+    if let Fault::Text(SexprError::StrayClose(at)) = fault {
+        say_closings(draft, asked.netlist, *at);
+    }
+    no_findings(draft.alloc())
+}
+
+// A fault that the netlist tells more of, where memory suffices for that.
+fn explain_text(draft: &mut Draft, fault: &Fault, asked: Asked<'_, '_>) -> Findings {
+    match explain_data(draft, fault, asked) {
+        Ok(found) => found,
+        Err(error) => {
+            if let Fault::Memory = error {
                 draft.fail();
             }
+            no_findings(draft.alloc())
         }
     }
-    draft
 }
 
 // Tells where the text is at fault.
@@ -45,8 +78,8 @@ fn put_mark(draft: &mut Draft, text: &[u8], error: SexprError) {
     put_place(draft, text, at, mark, &[]);
 }
 
-// A fault of what the text spells, which is read once more.
-fn explain_data(draft: &mut Draft, fault: &Fault, asked: Asked<'_, '_>) -> Result<(), Fault> {
+// A fault of what the text spells, which is read once more. The faults beside it, where it is one of a net.
+fn explain_data(draft: &mut Draft, fault: &Fault, asked: Asked<'_, '_>) -> Result<Findings, Fault> {
     let text = asked.netlist;
     let forest = read_forest(draft.alloc(), text)?;
     let data = forest.forms();
@@ -54,16 +87,25 @@ fn explain_data(draft: &mut Draft, fault: &Fault, asked: Asked<'_, '_>) -> Resul
         if let Some(place) = error.place() {
             explain_part(draft, text, data, place);
         }
-        return Ok(());
+        return Ok(no_findings(draft.alloc()));
     }
     let parts = parts_of(draft.alloc(), data)?;
+    let lines = lines_of(draft.alloc(), text, data)?;
     let netlist = Netlist {
+        alloc: draft.alloc(),
+        file: asked.file,
         text,
         data,
         parts: &parts,
+        lines: lines.as_slice(),
     };
     match (fault, parts.find(asked.part)) {
-        (Fault::Net { error, .. }, _) => explain_net(draft, netlist, asked.part, *error),
+        (Fault::Net { error, .. }, _) => {
+            return match explain_net(draft, netlist, asked.part, *error) {
+                Ok(others) => Ok(others),
+                Err(_error) => Err(Fault::Memory),
+            };
+        }
         (Fault::Event { error, word }, Some(part)) => {
             explain_event(draft, part, asked.words, *word, *error);
         }
@@ -73,5 +115,5 @@ fn explain_data(draft: &mut Draft, fault: &Fault, asked: Asked<'_, '_>) -> Resul
         }
         _ => {}
     }
-    Ok(())
+    Ok(no_findings(draft.alloc()))
 }

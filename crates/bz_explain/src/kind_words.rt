@@ -5,6 +5,55 @@ use bz_explain_notes::Draft;
 use bz_kind_rows::{KindName, PortAt, PortRow, kind_named, kind_word, port_table};
 use bz_model::{ChanKind, Kind};
 
+/// Kinds of Balsa's that there are not here.
+const LEFT_OUT: [&str; 10] = [
+    "Memory",
+    "InitVariable",
+    "BuiltinVariable",
+    "Mask",
+    "Encode",
+    "NullAdapt",
+    "SynchPush",
+    "CallActive",
+    "CallDemuxPush",
+    "SplitEqual",
+];
+
+/// The operations: the first two are those of a UnaryFunc.
+const OPERATIONS: [&[u8]; 14] = [
+    b"Negate",
+    b"Invert",
+    b"Add",
+    b"Subtract",
+    b"ReverseSubtract",
+    b"Equals",
+    b"NotEquals",
+    b"LessThan",
+    b"GreaterThan",
+    b"LessOrEquals",
+    b"GreaterOrEquals",
+    b"And",
+    b"Or",
+    b"Xor",
+];
+
+/// Whether a name is that of a kind of Balsa's that there is not here.
+pub(crate) fn is_left_out(name: &[u8]) -> bool {
+    match name.strip_prefix(b"$Brz") {
+        Some(word) => LEFT_OUT.iter().any(|kind| kind.as_bytes() == word),
+        None => false,
+    }
+}
+
+/// The operations of the kind of a name, if it has any.
+pub(crate) fn operations_of(name: &[u8]) -> &'static [&'static [u8]] {
+    match kind_named(name) {
+        Some(KindName::UnaryFunc) => &OPERATIONS[..2],
+        Some(KindName::BinaryFunc | KindName::BinaryFuncConstR) => &OPERATIONS[2..],
+        _ => &[],
+    }
+}
+
 // A kind's article and word: `a Fetch`, `an Arbiter`.
 fn word_of(kind: &Kind) -> (Arg<'static>, Arg<'static>) {
     let article = match kind {

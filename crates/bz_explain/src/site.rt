@@ -4,17 +4,24 @@ use crate::data::{Head, members_of, nth, part_form, part_items};
 use bz_breeze_records::{Component, Part as PartRecord, Parts};
 use bz_elab::flattened;
 use bz_explain_notes::Arg::{self, At, Name, Number, Text};
-use bz_explain_notes::{Draft, put_source, spot_of};
+use bz_explain_notes::{Draft, Spot, put_source, spot_of};
 use bz_kind_rows::kind_of;
 use bz_model::{Chan, Kind, KindError, Port, numbered};
-use bz_sexpr::Forms;
+use bz_sexpr::{Forms, Span};
+use bz_source::{Label, PartLines};
+use std::alloc::Global;
 
 /// A netlist: its text, the data that this spells, and the parts that these name.
 #[derive(Clone, Copy)]
 pub(crate) struct Netlist<'t> {
+    pub(crate) alloc: Global,
+    /// The name of its file, if it is one's.
+    pub(crate) file: Option<&'t str>,
     pub(crate) text: &'t [u8],
     pub(crate) data: Forms<'t>,
     pub(crate) parts: &'t Parts,
+    /// What the records of each part are called, and where they come from.
+    pub(crate) lines: &'t [PartLines],
 }
 
 /// A component of a part.
@@ -71,18 +78,61 @@ impl<'t> Netlist<'t> {
         Some(part_form(self.data, number)?.span().from)
     }
 
+    /// The bytes of a record of a part.
+    pub(crate) fn span_of(self, number: usize, head: Head, position: usize) -> Option<Span> {
+        let part = part_items(part_form(self.data, number)?)?;
+        Some(nth(members_of(part, head)?, position)?.span())
+    }
+
     /// The byte at which a record of a part begins.
     pub(crate) fn byte_of(self, number: usize, head: Head, position: usize) -> Option<usize> {
-        let part = part_items(part_form(self.data, number)?)?;
-        Some(nth(members_of(part, head)?, position)?.span().from)
+        Some(self.span_of(number, head, position)?.from)
     }
 
     /// Tells where a record of a part stands, by what it is there.
     pub(crate) fn put_listed(self, draft: &mut Draft, number: usize, head: Head, position: usize) {
         let mark = [Text(head.member()), Number(position), self.name(number)];
         if let Some(byte) = self.byte_of(number, head, position) {
-            put_place(draft, self.text, byte, "% % of part %", &mark);
+            let Label { name, source } = self.label(number, head, position);
+            put_source(draft, self.text, byte, "");
+            draft.put("% %", &mark[..2]);
+            draft.put_label(Label { name, source: None });
+            draft.put(" of part %", &mark[2..]);
+            draft.put_label(Label { name: None, source });
+            draft.say("", &[]);
         }
+    }
+
+    /// What a record of a part is called, and where it comes from.
+    pub(crate) fn label(self, number: usize, head: Head, position: usize) -> Label<'t> {
+        let place = position.saturating_sub(1);
+        let (name, source) = match (self.lines.get(number), head) {
+            (Some(lines), Head::Channels) => {
+                let labels = &lines.labels;
+                (labels.names.get(place), labels.channels.get(place))
+            }
+            (Some(lines), Head::Components) => (None, lines.labels.components.get(place)),
+            _ => (None, None),
+        };
+        Label {
+            name: match name {
+                Some(Some(name)) => Some(name.as_slice()),
+                _ => None,
+            },
+            source: match source {
+                Some(Some(mark)) => Some(mark.at()),
+                _ => None,
+            },
+        }
+    }
+
+    /// Where the part of a name begins, or else the netlist.
+    pub(crate) fn spot_of_part(self, name: &[u8]) -> Spot {
+        let byte = match self.parts.number(name) {
+            Some(number) => self.byte_of_part(number),
+            None => None,
+        };
+        spot_of(self.text, byte.unwrap_or(0))
     }
 
     /// The line and column of a record.

@@ -1,7 +1,6 @@
 //! The notes that are the same whatever the netlist and the words.
 
 use bz_cli_input::Fault;
-use bz_flat::ElabError;
 use bz_model::{NetError, Who};
 use bz_sexpr::SexprError;
 
@@ -28,7 +27,6 @@ const WRITE: &str = "found: an output that took not all that was written\n\
 pub(crate) fn told_of(fault: &Fault) -> Option<&'static str> {
     match fault {
         Fault::Text(error) => Some(told_of_text(*error)),
-        Fault::Net { error, .. } => told_of_net(*error),
         Fault::Event { error, .. } if *error == NetError::JournalFull => Some(FULL),
         Fault::Ended { who, .. } if matches!(who, Who::Worker(_)) => Some(FULL),
         Fault::Discord { .. } => Some(DISCORD),
@@ -36,21 +34,11 @@ pub(crate) fn told_of(fault: &Fault) -> Option<&'static str> {
         Fault::Read => Some(READ),
         Fault::Write => Some(WRITE),
         Fault::Memory => Some(MEMORY),
-        Fault::Word(_) | Fault::Part(_) | Fault::Event { .. } | Fault::Ended { .. } => None,
-    }
-}
-
-fn told_of_net(error: ElabError) -> Option<&'static str> {
-    match error {
-        ElabError::TooDeep => Some(
-            "found: a path of more than 64 instances, each within the one before\n\
-            expected: at most 64 instances within one another",
-        ),
-        ElabError::TooBig => Some(
-            "found: more components, channels or ends than a net may have\n\
-            expected: at most 1000000 components, 2000000 channels and 4000000 ends of components",
-        ),
-        _ => None,
+        Fault::Word(_)
+        | Fault::Part(_)
+        | Fault::Net { .. }
+        | Fault::Event { .. }
+        | Fault::Ended { .. } => None,
     }
 }
 

@@ -1,9 +1,10 @@
 //! What notes are made of.
 
 use crate::spot::Spot;
-use bz_model::{Chan, ChanKind, Value};
+use bz_model::{Chan, Phase, Reply};
 use bz_source::put_path;
 use bz_text::{Piece, put_pieces};
+use std::io::Write;
 
 /// Enough blanks to stand below a line that is shown.
 static BLANKS: [u8; 128] = [b' '; 128];
@@ -35,6 +36,10 @@ pub enum Arg<'a> {
     Count(usize, &'a str, &'a str),
     /// A place, where there is one: `line 3, column 14`.
     At(Option<Spot>),
+    /// The phase of a channel, with its value where it has one.
+    Phase(Phase),
+    /// The reply of a net, with what it brings.
+    Reply(Reply),
     /// Positions, with a slash between.
     Path(&'a [usize]),
     /// So many blanks, 128 at most.
@@ -58,10 +63,12 @@ pub(crate) fn put_arg(line: &mut Vec<u8>, arg: Arg<'_>) -> bool {
         Arg::Wide(value) => put(line, &[Piece::Number(value)]),
         Arg::Spaced(value) => put(line, &[Piece::Value(value)]),
         Arg::Port(name, member) => put_port(line, name, member),
-        Arg::Carried(chan) => put_carried(line, chan),
+        Arg::Carried(chan) => write!(line, "{chan}").is_ok(),
         Arg::Count(count, one, many) => put_count(line, count, if count == 1 { one } else { many }),
         Arg::At(None) => true,
         Arg::At(Some(spot)) => put_spot(line, spot),
+        Arg::Phase(phase) => write!(line, "{phase}").is_ok(),
+        Arg::Reply(reply) => write!(line, "{reply}").is_ok(),
         Arg::Path(path) => put_path(line, path).is_ok(),
         Arg::Blanks(count) => put(line, &[Piece::Bytes(&BLANKS[..count.min(BLANKS.len())])]),
     }
@@ -87,15 +94,6 @@ fn put_port(line: &mut Vec<u8>, name: &str, member: Option<u32>) -> bool {
         Some(member) => is_put && put(line, &[Piece::Number(u128::from(member))]),
         None => is_put,
     }
-}
-
-fn put_carried(line: &mut Vec<u8>, chan: Chan) -> bool {
-    let width = match chan.kind {
-        ChanKind::Sync => None,
-        ChanKind::Push | ChanKind::Pull => Some(Value::from(chan.width)),
-    };
-    let word = chan.kind.word();
-    put(line, &[Piece::Bytes(word.as_bytes()), Piece::Value(width)])
 }
 
 fn put_count(line: &mut Vec<u8>, count: usize, noun: &str) -> bool {

@@ -3,6 +3,8 @@
 use crate::arg::{Arg, MOST_LISTED, put_arg, put_names};
 use crate::nearest::nearest_name;
 use crate::notes::Note;
+use crate::spot::Spot;
+use bz_source::Label;
 use std::alloc::{AllocError, Global};
 use std::mem;
 
@@ -12,6 +14,10 @@ pub struct Draft {
     alloc: Global,
     notes: Vec<Note>,
     line: Vec<u8>,
+    /// The name of the file that they speak of, empty where it has none.
+    file: Vec<u8>,
+    /// The first place that they tell.
+    spot: Option<Spot>,
     is_short: bool,
 }
 
@@ -22,8 +28,20 @@ impl Draft {
             alloc,
             notes: Vec::new(alloc),
             line: Vec::new(alloc),
+            file: Vec::new(alloc),
+            spot: None,
             is_short: false,
         }
+    }
+
+    /// No notes yet on the text of a file, if it is one's.
+    pub fn on(alloc: Global, file: Option<&str>) -> Draft {
+        let mut draft = Draft::new(alloc);
+        let name = file.unwrap_or("");
+        if draft.file.extend_from_slice(name.as_bytes()).is_err() {
+            draft.fail();
+        }
+        draft
     }
 
     /// What the notes lie in.
@@ -38,6 +56,11 @@ impl Draft {
         } else {
             self.notes.as_slice()
         }
+    }
+
+    /// The first place that they tell, if they tell one.
+    pub fn spot(&self) -> Option<Spot> {
+        self.spot
     }
 
     /// How many bytes the line has so far.
@@ -80,6 +103,37 @@ impl Draft {
     pub fn say(&mut self, form: &str, args: &[Arg<'_>]) {
         self.put(form, args);
         self.end();
+    }
+
+    /// Goes on with what something is called, and with the source that it comes from: ` x (two_place.balsa:7:5)`.
+    pub fn put_label(&mut self, label: Label<'_>) {
+        if let Some(name) = label.name {
+            self.put(" %", &[Arg::Name(name)]);
+        }
+        if let Some(at) = label.source {
+            let (line, column) = (
+                Arg::Number(at.line as usize),
+                Arg::Number(at.column as usize),
+            );
+            self.put(" (%:%:%)", &[Arg::Name(at.file), line, column]);
+        }
+    }
+
+    /// Goes on with a place in the file, or else in what `of` says.
+    pub(crate) fn put_spot(&mut self, spot: Spot, of: &str) {
+        self.spot = self.spot.or(Some(spot));
+        if of.is_empty() && !self.file.is_empty() {
+            let file = mem::replace(&mut self.file, Vec::new(self.alloc));
+            let args = [
+                Arg::Bytes(&file),
+                Arg::Number(spot.line),
+                Arg::Number(spot.column),
+            ];
+            self.put("%:%:%", &args);
+            self.file = file;
+        } else {
+            self.put("%%", &[Arg::At(Some(spot)), Arg::Text(of)]);
+        }
     }
 
     /// Goes on with the first ten of these names, behind a colon: `: a b`.

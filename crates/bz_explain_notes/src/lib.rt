@@ -4,6 +4,7 @@
 
 mod arg;
 mod draft;
+mod finding;
 mod keeping;
 mod nearest;
 mod notes;
@@ -13,6 +14,7 @@ mod telling;
 
 pub use arg::Arg;
 pub use draft::Draft;
+pub use finding::{Finding, Findings, Severity, tell_findings, tell_json};
 pub use keeping::Keeping;
 pub use nearest::nearest_name;
 pub use source::put_source;

@@ -44,7 +44,7 @@ fn put_note<W: Write>(alloc: Global, out: &mut W, note: &Note) -> Result<(), Wri
 }
 
 // The letters of a note as they are shown.
-fn shown(alloc: Global, note: &Note) -> Result<Vec<u8>, AllocError>
+pub(crate) fn shown(alloc: Global, note: &Note) -> Result<Vec<u8>, AllocError>
     ensures { IfOk result (λ v. v.items ≡ map shown note.now.letters.items) }
 {
     note.letters

@@ -1,6 +1,6 @@
 //! The line of a text at which something stands, with a caret below it.
 
-use crate::arg::Arg::{At, Blanks, Bytes, Number, Text};
+use crate::arg::Arg::{Blanks, Bytes, Number, Text};
 use crate::draft::Draft;
 use crate::spot::{before_in_line, spot_of};
 
@@ -23,13 +23,15 @@ struct Window<'t> {
     caret: usize,
 }
 
-/// Tells where a byte of a text stands: its line and column, with `of` behind them, then the line itself, and goes on behind a
-/// caret below it.
+/// Tells where a byte of a text stands: its line and column, with `of` behind them or the name of the file in front, then the
+/// line itself, and goes on behind a caret below it.
 pub fn put_source(draft: &mut Draft, text: &[u8], at: usize, of: &str) {
     let spot = spot_of(text, at);
     let window = window_of(text, at);
     let (before, behind) = (Text(window.before), Text(window.behind));
-    draft.put("at %%\n%", &[At(Some(spot)), Text(of), Number(spot.line)]);
+    draft.put("at ", &[]);
+    draft.put_spot(spot, of);
+    draft.put("\n%", &[Number(spot.line)]);
     let digits = draft.width();
     let shown = Bytes(window.shown);
     let (margin, caret) = (Blanks(digits), Blanks(window.caret));

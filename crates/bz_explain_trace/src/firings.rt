@@ -2,8 +2,7 @@
 
 use crate::reasons::{Firing, Misfire};
 use crate::scene::{Scene, put_line};
-use crate::words::{move_word, phase_words};
-use bz_explain_notes::Arg::{Count, Name, Number, Spaced, Text};
+use bz_explain_notes::Arg::{self, Count, Name, Number, Spaced, Text};
 use bz_explain_notes::Draft;
 use bz_model::{Move, Phase};
 
@@ -33,11 +32,23 @@ pub(crate) fn explain_firing(
     scene.put_placed(draft, firing.comp);
     draft.put("\nfound: ", &[]);
     match misfire {
-        Misfire::NoComp => put_count(draft, firing.comp, scene.flat.comp_count(), "component"),
-        Misfire::NoChan => put_count(draft, firing.chan, scene.flat.chan_count(), "channel"),
+        Misfire::NoComp => put_count(
+            draft,
+            firing.comp,
+            scene.flat.comp_count(),
+            "component",
+            "components",
+        ),
+        Misfire::NoChan => put_count(
+            draft,
+            firing.chan,
+            scene.flat.chan_count(),
+            "channel",
+            "channels",
+        ),
         Misfire::NoEnd => put_end(draft, scene, firing),
-        Misfire::NotNow(phase) => put_phase(draft, firing, phase, ""),
-        Misfire::OtherValue(phase) => put_value(draft, firing, phase),
+        Misfire::NotNow(phase) => put_chan(draft, scene, firing, phase),
+        Misfire::OtherValue(phase) => put_value(draft, scene, firing, phase),
     }
     put_expected(draft, scene, firing.comp);
 }
@@ -52,11 +63,7 @@ fn item_of(misfire: Misfire) -> usize {
 }
 
 // Tells a number that is none of the net's.
-fn put_count(draft: &mut Draft, number: u32, count: u32, thing: &str) {
-    let (one, many) = match thing {
-        "component" => ("component", "components"),
-        _ => ("channel", "channels"),
-    };
+fn put_count<'t>(draft: &mut Draft, number: u32, count: u32, one: &'t str, many: &'t str) {
     let args = [
         Text(one),
         Number(number as usize),
@@ -72,33 +79,28 @@ fn put_end(draft: &mut Draft, scene: Scene<'_>, firing: Firing) {
         (Move::Take | Move::Reply, Some(ends)) => ("passive", ends.passive),
         (_, None) => ("", None),
     };
-    let args = [
-        Text(move_word(firing.mv)),
-        Number(firing.chan as usize),
-        Text(sense),
-    ];
-    draft.put("% on channel %, whose % end is that of ", &args);
+    draft.put("% on ", &[Text(firing.mv.word())]);
+    scene.put_chan(draft, firing.chan);
+    draft.put(", whose % end is that of ", &[Text(sense)]);
     match holder {
         Some(comp) => scene.put_comp(draft, comp),
         None => draft.put("the host, at port %", &[Name(scene.port_name(firing.chan))]),
     }
 }
 
-fn put_phase(draft: &mut Draft, firing: Firing, phase: Phase, behind: &str) {
-    let (word, value) = phase_words(phase);
-    let args = [
-        Text(move_word(firing.mv)),
-        Number(firing.chan as usize),
-        Text(word),
-        Spaced(value),
-        Text(behind),
-    ];
-    draft.put("% on channel %, which is %%%", &args);
+fn put_chan(draft: &mut Draft, scene: Scene<'_>, firing: Firing, phase: Phase) {
+    draft.put("% on ", &[Text(firing.mv.word())]);
+    scene.put_chan(draft, firing.chan);
+    put_phase(draft, phase);
 }
 
-fn put_value(draft: &mut Draft, firing: Firing, phase: Phase) {
-    put_phase(draft, firing, phase, ", and the value");
-    draft.put("%", &[Spaced(firing.value)]);
+fn put_phase(draft: &mut Draft, phase: Phase) {
+    draft.put(", which is %", &[Arg::Phase(phase)]);
+}
+
+fn put_value(draft: &mut Draft, scene: Scene<'_>, firing: Firing, phase: Phase) {
+    put_chan(draft, scene, firing, phase);
+    draft.put(", and the value%", &[Spaced(firing.value)]);
 }
 
 // Tells what the component could do, or what others could where it can't move.

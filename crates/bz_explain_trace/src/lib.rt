@@ -15,7 +15,6 @@ mod reasons;
 mod replaying;
 mod replies;
 mod scene;
-mod words;
 
 pub use claim::Claim;
 pub use explaining::explain_trace;

@@ -1,7 +1,6 @@
 //! The moves that can be made.
 
 use crate::scene::Scene;
-use crate::words::move_word;
 use bz_explain_notes::Arg::{Number, Spaced, Text};
 use bz_explain_notes::Draft;
 use bz_model::{Move, Value};
@@ -64,7 +63,7 @@ fn put_move(draft: &mut Draft, comp: u32, made: (u32, Move, Option<Value>), told
     let before = if told == 0 { "" } else { ", " };
     let (chan, mv, value) = made;
     if told < MOST_TOLD {
-        let word = Text(move_word(mv));
+        let word = Text(mv.word());
         let args = [
             Text(before),
             Number(comp as usize),

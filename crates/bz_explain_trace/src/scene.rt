@@ -68,9 +68,20 @@ impl<'t> Scene<'t> {
         }
     }
 
-    /// Goes on with a component's kind and number.
+    /// Goes on with a component's kind and number, and its label.
     pub(crate) fn put_comp(self, draft: &mut Draft, comp: u32) {
         draft.put("% %", &[self.kind(comp), Number(comp as usize)]);
+        if let Some(place) = self.survey.places.comp(comp) {
+            draft.put_label(self.survey.comp_label(place));
+        }
+    }
+
+    /// Goes on with a channel's number, and what it is called.
+    pub(crate) fn put_chan(self, draft: &mut Draft, chan: u32) {
+        draft.put("channel %", &[Number(chan as usize)]);
+        if let Some(name) = self.survey.chan_name(chan) {
+            draft.put(" %", &[Name(name)]);
+        }
     }
 
     /// The same, and where it stands in the netlist: ` at buffer 2 line 8`, with ` in 4/1` behind it where it is in an instance.

@@ -1,170 +1,128 @@
 //! Lines as commands.
 
+use crate::answer::Answer;
 use crate::piece::Piece;
-use crate::table::{Begun, Name, begun_by, host_form, taken_at};
-use bz_text::Text;
+use crate::table::Form;
 use std::alloc::{AllocError, Global};
 
-/// What a line asks for: the command, and what stands behind its word.
+/// What a line asks for. A component or a port is a number as it was typed; a file is written over where that is asked for.
 #[derive(Clone, Copy)]
-pub(crate) struct Command<'w> {
-    pub name: Name,
-    /// The word behind its own, if there is one; of the host's commands their own.
-    pub word: Option<&'w str>,
-    /// That word as a number, where the command takes numbers.
-    pub first: Option<u64>,
-    /// The word behind that as a number.
-    pub second: Option<u64>,
-    /// Whether a file that is there is written over.
-    pub over: bool,
-}
-
-/// Why words are no command: a form, and what stands for its marks.
-#[derive(Clone, Copy)]
-pub(crate) struct Complaint<'w> {
-    pub form: &'static str,
-    pub first: Piece<'w>,
-    pub second: Piece<'w>,
-    pub third: Piece<'w>,
-}
-
-/// A word doesn't fit a command of this form; what it is instead.
-pub(crate) fn misfit<'w>(form: &'w str, word: &'w str, what: &'w str) -> Complaint<'w> {
-    let first = Piece::Text(form);
-    let second = Piece::Shown(word.as_bytes());
-    let third = Piece::Text(what);
-    Complaint {
-        form: "%: `%` is %\n",
-        first,
-        second,
-        third,
-    }
-}
-
-// What a command of this form needs is missing.
-fn missing<'w>(form: &'w str, wanting: &'w str) -> Complaint<'w> {
-    let first = Piece::Text(form);
-    let second = Piece::Text(wanting);
-    let third = Piece::Text("");
-    Complaint {
-        form: "%: % is missing\n",
-        first,
-        second,
-        third,
-    }
-}
-
-// A word of the host has no port; what may be the port.
-fn no_port<'w>(word: &'w str, port: &'w str) -> Complaint<'w> {
-    let first = Piece::Text(word);
-    let second = Piece::Shown(port.as_bytes());
-    let third = Piece::Text("");
-    Complaint {
-        form: "a port follows its word after a colon, as in %:%\n",
-        first,
-        second,
-        third,
-    }
-}
-
-/// Adds that what was typed is no command, and which one is the nearest.
-pub(crate) fn put_no_command(typed: &[u8], nearest: Option<&'static [u8]>, text: &mut Text) {
-    text.say("`%` is no command; ", &[Piece::Shown(typed)]);
-    match nearest {
-        None => text.put("`help` tells them\n"),
-        Some(word) => text.say("the nearest is `%`\n", &[Piece::Bytes(word)]),
-    }
+pub(crate) enum Command<'w> {
+    Moves,
+    Fire(u64, Option<u64>),
+    Run(u64),
+    Random(u64),
+    Seed(u64),
+    /// Something that the host does.
+    Host(&'w str),
+    Expect,
+    Waits(Option<&'w str>),
+    State(Option<&'w str>),
+    Undo(u64),
+    Trace(&'w str, bool),
+    Session(&'w str, bool),
+    Help(Option<&'w str>),
+    Quit,
 }
 
 /// The words of a line, up to a `#`.
 pub(crate) fn words_of<'l>(alloc: Global, line: &'l str) -> Result<Vec<&'l str>, AllocError> {
-    let before = match line.split_once('#') {
-        Some((words, _)) => words,
-        None => line,
-    };
+    let before = line.split('#').next().unwrap_or("");
     before.split_whitespace().collect(alloc)
 }
 
-/// The words with a blank between.
-pub(crate) fn joined(alloc: Global, words: &[&str]) -> Result<Vec<u8>, AllocError> {
-    let mut text = Vec::new(alloc);
-    for word in words {
-        if !text.is_empty() {
-            text.push(b' ')?;
-        }
-        text.extend_from_slice(word.as_bytes())?;
-    }
-    Ok(text)
-}
-
-/// The command that words ask for, if they ask for one.
-pub(crate) fn command_of<'w>(words: &[&'w str]) -> Result<Option<Command<'w>>, Complaint<'w>> {
-    let command = match words {
-        [] => return Ok(None),
-        [head, rest @ ..] => match begun_by(head) {
-            Some(begun) => command_begun(begun, rest)?,
-            None => host_command(head, rest)?,
+/// The command that words ask for, if they ask for one; why they ask for none is told.
+pub(crate) fn command_of<'w>(words: &[&'w str], answer: &mut Answer) -> Option<Command<'w>> {
+    match words {
+        [] => None,
+        [head, rest @ ..] => match Form::begun_by(head) {
+            None => host_command(head, rest, answer),
+            Some(form) if is_misfit(form, rest, answer) => None,
+            Some(form) => Some(command_begun(form, head.ends_with('!'), rest)),
         },
-    };
-    Ok(Some(command))
+    }
 }
 
 // What the host does is one word. One that is no word of its begins no command.
-fn host_command<'w>(head: &'w str, rest: &[&'w str]) -> Result<Command<'w>, Complaint<'w>> {
-    match (host_form(head), rest) {
-        (Some(form), [more, ..]) => Err(misfit(form, more, "too much")),
-        _ => Ok(Command {
-            name: Name::Host,
-            word: Some(head),
-            first: None,
-            second: None,
-            over: false,
-        }),
+fn host_command<'w>(head: &'w str, rest: &[&'w str], answer: &mut Answer) -> Option<Command<'w>> {
+    if let (Some(form), [more, ..]) = (Form::of_host(head), rest) {
+        answer.misfit(form, more, "too much");
+        return None;
+    }
+    Some(Command::Host(head))
+}
+
+// Whether the words behind that of a command aren't those that belong there, which is told.
+fn is_misfit(form: Form, words: &[&str], answer: &mut Answer) -> bool {
+    if form.is_host() {
+        let port = words.first().copied().unwrap_or("P");
+        let pieces = [Piece::Text(form.word()), Piece::Shown(port.as_bytes())];
+        answer.complain(
+            "a port follows its word after a colon, as in %:%\n",
+            &pieces,
+        );
+        return true;
+    }
+    match (form.taken_at(words.len()), words.get(form.most())) {
+        (Some(wanting), _) if !wanting.starts_with('[') => {
+            let pieces = [Piece::Text(form.0), Piece::Text(wanting)];
+            answer.complain("%: % is missing\n", &pieces);
+            true
+        }
+        // (a reply may be of two words)
+        (_, Some(more)) if form.word() != "expect" => {
+            answer.misfit(form, more, "too much");
+            true
+        }
+        _ => lacks_number(form, words, answer),
     }
 }
 
-// A command with the words behind its own, where as many stand there as belong to it.
-fn command_begun<'w>(begun: Begun, rest: &[&'w str]) -> Result<Command<'w>, Complaint<'w>> {
-    let word = rest.first().copied();
-    if begun.name == Name::Host {
-        return Err(no_port(begun.word, word.unwrap_or("P")));
-    }
-    if let Some(wanting) = taken_at(begun.form, rest.len()) {
-        if !wanting.starts_with('[') {
-            return Err(missing(begun.form, wanting));
+// Whether a word that stands for a number is none, which is told.
+fn lacks_number(form: Form, words: &[&str], answer: &mut Answer) -> bool {
+    for (place, word) in words.iter().enumerate() {
+        let is_number = matches!(form.taken_at(place), Some("C" | "N" | "[P]" | "[N]"));
+        if is_number && number(word).is_none() {
+            answer.misfit(form, word, "no number");
+            return true;
         }
     }
-    let surplus = rest.get(begun.form.split_whitespace().skip(1).count());
-    if let Some(more) = surplus {
-        if begun.name != Name::Expect {
-            return Err(misfit(begun.form, more, "too much"));
-        }
-    }
-    Ok(Command {
-        name: begun.name,
-        word,
-        first: number_at(begun, rest, 0)?,
-        second: number_at(begun, rest, 1)?,
-        over: begun.over,
-    })
+    false
 }
 
-// The number at a place behind the word of a command that takes numbers, if one stands there.
-fn number_at<'w>(
-    begun: Begun,
-    words: &[&'w str],
-    place: usize,
-) -> Result<Option<u64>, Complaint<'w>> {
-    let word = match (begun.name, words.get(place)) {
-        (_, None) => return Ok(None),
-        (Name::Expect, _) | (Name::Trace, _) | (Name::Session, _) | (Name::Help, _) => {
-            return Ok(None);
-        }
-        (Name::Waits, Some(word)) if *word == "all" => return Ok(None),
-        (_, Some(word)) => word,
-    };
+/// The number that a word is.
+pub(crate) fn number(word: &str) -> Option<u64> {
     match word.parse::<u64>() {
-        Ok(number) if !word.starts_with('+') => Ok(Some(number)),
-        _ => Err(misfit(begun.form, word, "no number")),
+        Ok(number) if !word.starts_with('+') => Some(number),
+        _ => None,
+    }
+}
+
+fn number_at(words: &[&str], place: usize) -> Option<u64> {
+    match words.get(place) {
+        Some(word) => number(word),
+        None => None,
+    }
+}
+
+// The command of a form, with the words behind its own, which belong there.
+fn command_begun<'w>(form: Form, over: bool, words: &[&'w str]) -> Command<'w> {
+    let first = words.first().copied();
+    let word = first.unwrap_or("");
+    let (one, other) = (number_at(words, 0), number_at(words, 1));
+    match form.word() {
+        "moves" => Command::Moves,
+        "fire" => Command::Fire(one.unwrap_or(0), other),
+        "run" => Command::Run(one.unwrap_or(u64::MAX)),
+        "random" => Command::Random(one.unwrap_or(0)),
+        "seed" => Command::Seed(one.unwrap_or(0)),
+        "expect" => Command::Expect,
+        "waits" => Command::Waits(first),
+        "state" => Command::State(first),
+        "undo" => Command::Undo(one.unwrap_or(1)),
+        "trace" => Command::Trace(word, over),
+        "session" => Command::Session(word, over),
+        "help" => Command::Help(first),
+        _ => Command::Quit,
     }
 }

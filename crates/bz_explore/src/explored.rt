@@ -4,8 +4,9 @@ ghost use Rattle.std.specs.Prelude.{◌≡◌};
 ghost use Rattle.bz_cli_input.specs.Reading.{ReadsWithin};
 ghost use Rattle.bz_explore.specs.Statuses.{status_of};
 
+use crate::answer::Answer;
 use crate::piece::Piece;
-use crate::session::{Goes, Session};
+use crate::session::Session;
 use bz_cli_input::{Fault, read_input};
 use bz_cli_source::survey_of;
 use bz_explore_net::Course;
@@ -102,12 +103,14 @@ fn explore_text<L: BufRead, W: Write, S: Shelf>(
     let mut session = Session {
         course: &mut course,
         survey: &survey,
-        line: None,
         typed: Vec::new(alloc),
-        text: Text::new(alloc),
+        answer: Answer {
+            text: Text::new(alloc),
+            line: None,
+            ending: Ending::Well,
+        },
         reply: None,
         undone: 0,
-        ending: Ending::Well,
     };
     play(part, prompts, &mut session, lines, shelf, output)
 }
@@ -122,18 +125,18 @@ fn play<L: BufRead, W: Write, S: Shelf>(
     output: &mut W,
 ) -> Result<Ending, Fault> {
     if prompts {
-        greet(part, session.course.flat(), &mut session.text);
-        tell(output, session.text.whole()?)?;
+        greet(part, session.course.flat(), &mut session.answer.text);
+        tell(output, session.answer.text.whole()?)?;
     }
     for number in 1..u64::MAX {
-        session.line = if prompts { None } else { Some(number) };
-        let line = read_line(session.text.alloc(), prompts, lines, output)?;
-        if line.is_empty() || session.answer(shelf, line.as_slice()) == Goes::Out {
+        session.answer.line = if prompts { None } else { Some(number) };
+        let line = read_line(session.answer.text.alloc(), prompts, lines, output)?;
+        if line.is_empty() || !session.follows(shelf, line.as_slice()) {
             break;
         }
-        tell(output, session.text.whole()?)?;
+        tell(output, session.answer.text.whole()?)?;
     }
-    Ok(session.ending)
+    Ok(session.answer.ending)
 }
 
 fn greet(part: &[u8], flat: &Flat, text: &mut Text) {

@@ -1,11 +1,12 @@
 //! Who waits for whom: the wait-for graph of a net.
 
-use crate::cycles::{at, cycles, set, zeros};
-use crate::naming::{chan_at, ends_of, phase_of, port_count};
-use bz_explore_net::Course;
+use crate::answer::gathered;
+use crate::cycles::{Table, cycles};
+use crate::view::{View, chan_at, port_count};
 use bz_flat::FlatComp;
 use bz_kind_rows::is_passive;
 use bz_model::{Kind, Move, Phase};
+use bz_text::Text;
 use std::alloc::{AllocError, Global};
 
 /// What a component waits for at one of its ports.
@@ -14,24 +15,27 @@ pub(crate) struct Wait {
     pub comp: u32,
     pub chan: u32,
     pub whom: Whom,
+    /// The component that it waits for, 0 where it waits for none.
+    pub other: u32,
     /// The move that has to come first on the channel.
     pub mv: Move,
     pub place: Place,
 }
 
 /// For whom a component waits.
-#[derive(Clone, Copy)]
+#[derive(Clone, Copy, PartialEq, Eq)]
 pub(crate) enum Whom {
     /// For nobody: it has halted.
     Nobody,
     Host,
-    Comp(u32),
     /// For a component that is idle.
-    Idle(u32),
+    Idle,
+    /// For one that is not.
+    Busy,
 }
 
 /// How what a component waits for goes with what else it waits for.
-#[derive(Clone, Copy)]
+#[derive(Clone, Copy, PartialEq, Eq)]
 pub(crate) enum Place {
     /// It has to come in any case.
     Each,
@@ -41,37 +45,35 @@ pub(crate) enum Place {
     Other,
 }
 
+/// How a component stands.
+#[derive(Clone, Copy, PartialEq, Eq)]
+enum Stand {
+    CanMove,
+    /// It can't move, waits for nobody and owes nothing.
+    Idle,
+    /// It waits where such a move is due.
+    Waits(Move),
+    /// It owes a reply on this channel, and has nothing left to do.
+    Halted(u32),
+}
+
 /// The wait-for graph of a net.
 #[derive(Drop)]
 pub(crate) struct Graph {
-    /// How many components there are.
-    pub comps: usize,
     /// What each component that can't move waits for, by components.
     pub waits: Vec<Wait>,
     /// The cycles of those that wait for one another in any case, each from its least member on.
     pub cycles: Vec<Vec<u32>>,
 }
 
-/// A component, and all on which it hangs.
-#[derive(Drop)]
-pub(crate) struct Hung {
-    /// It, whom it waits for, whom these wait for, and so on.
-    pub order: Vec<u32>,
-    // A mark for each that was met.
-    met: Vec<u32>,
-}
-
 impl Graph {
-    pub fn of(alloc: Global, course: &Course) -> Result<Graph, AllocError> {
-        let waits = waits_in(alloc, course)?;
-        let links = links_of(alloc, waits.as_slice())?;
-        let comps = course.flat().comp_count() as usize;
-        let cycles = cycles(alloc, comps, links.as_slice())?;
-        Ok(Graph {
-            comps,
-            waits,
-            cycles,
-        })
+    /// That of a net; where memory is refused for it the text is lost.
+    pub fn of(view: &View<'_>, text: &mut Text) -> Graph {
+        let (alloc, comps) = (text.alloc(), view.course.flat().comp_count());
+        let waits = gathered(waits_in(alloc, view), text);
+        let links = gathered(links_of(alloc, waits.as_slice()), text);
+        let cycles = gathered(cycles(alloc, comps, links.as_slice()), text);
+        Graph { waits, cycles }
     }
 
     /// What a component waits for.
@@ -83,8 +85,7 @@ impl Graph {
 
     /// How many components wait.
     pub fn count_waiting(&self) -> usize {
-        let mut count = 0usize;
-        let mut last = 0;
+        let (mut count, mut last) = (0usize, 0);
         for wait in &self.waits {
             if wait.comp != last {
                 count = count.saturating_add(1);
@@ -93,55 +94,42 @@ impl Graph {
         }
         count
     }
-}
 
-impl Hung {
-    /// Of a component.
-    pub fn of(alloc: Global, graph: &Graph, comp: u32) -> Result<Hung, AllocError> {
-        let mut hung = Hung {
-            order: Vec::new(alloc),
-            met: zeros(alloc, graph.comps)?,
-        };
-        hung.meet(comp)?;
-        for turn in 0..=graph.comps {
-            match hung.order.get(turn).copied() {
-                Some(comp) => hung.meet_all(graph.waits_of(comp))?,
-                None => break,
+    /// A component, whom it waits for, whom these wait for, and so on: all that were not `met`, which is noted.
+    pub fn hung(&self, alloc: Global, comp: u32, met: &mut Table) -> Result<Vec<u32>, AllocError> {
+        let mut order = Vec::new(alloc);
+        met.set(comp, 1);
+        order.push(comp)?;
+        for turn in 0..=self.waits.len() {
+            let Some(comp) = order.get(turn).copied() else {
+                break;
+            };
+            for wait in self.waits_of(comp) {
+                if wait.other > 0 && met.at(wait.other) == 0 {
+                    met.set(wait.other, 1);
+                    order.push(wait.other)?;
+                }
             }
         }
-        Ok(hung)
-    }
-
-    // Adds those for whom a component waits, and who were not met before.
-    fn meet_all(&mut self, waits: &[Wait]) -> Result<(), AllocError> {
-        for wait in waits {
-            match wait.whom {
-                Whom::Comp(next) | Whom::Idle(next) => self.meet(next)?,
-                _ => {}
-            }
-        }
-        Ok(())
-    }
-
-    fn meet(&mut self, comp: u32) -> Result<(), AllocError> {
-        if !self.has(comp) {
-            set(self.met.as_mut_slice(), comp, 1);
-            self.order.push(comp)?;
-        }
-        Ok(())
-    }
-
-    pub fn has(&self, comp: u32) -> bool {
-        at(self.met.as_slice(), comp) > 0
+        Ok(order)
     }
 }
 
 // What each component waits for.
-fn waits_in(alloc: Global, course: &Course) -> Result<Vec<Wait>, AllocError> {
+fn waits_in(alloc: Global, view: &View<'_>) -> Result<Vec<Wait>, AllocError> {
     let mut waits = Vec::new(alloc);
-    for comp in 1..=course.flat().comp_count() {
-        if let Some(site) = course.flat().comp(comp) {
-            add_waits(course, comp, site, &mut waits)?;
+    for comp in 1..=view.course.flat().comp_count() {
+        match stand_of(view, comp) {
+            Stand::Waits(mv) => add_due(view, comp, mv, &mut waits)?,
+            Stand::Halted(chan) => waits.push(Wait {
+                comp,
+                chan,
+                whom: Whom::Nobody,
+                other: 0,
+                mv: Move::Reply,
+                place: Place::Each,
+            })?,
+            _ => {}
         }
     }
     Ok(waits)
@@ -151,29 +139,31 @@ fn waits_in(alloc: Global, course: &Course) -> Result<Vec<Wait>, AllocError> {
 fn links_of(alloc: Global, waits: &[Wait]) -> Result<Vec<(u32, u32)>, AllocError> {
     let mut links = Vec::new(alloc);
     for wait in waits {
-        if let (Whom::Comp(from), Place::Each) = (wait.whom, wait.place) {
-            links.push((wait.comp, from))?;
+        if wait.whom == Whom::Busy && wait.place == Place::Each {
+            links.push((wait.comp, wait.other))?;
         }
     }
     Ok(links)
 }
 
-// Whether a component can't move, waits for nobody and owes nothing.
-fn is_idle(course: &Course, comp: u32) -> bool {
-    match course.flat().comp(comp) {
-        Some(site) if owed_chan(course, site).is_none() => {
-            !course.net().is_ready(comp) && count_due(course, comp, site, Move::Got) == 0
-        }
-        Some(_) => false,
-        None => true,
+fn stand_of(view: &View<'_>, comp: u32) -> Stand {
+    match view.course.flat().comp(comp) {
+        None => Stand::Idle,
+        Some(_) if view.course.net().is_ready(comp) => Stand::CanMove,
+        Some(site) if count_due(view, comp, site, Move::Got) > 0 => Stand::Waits(Move::Got),
+        Some(site) => match owed_chan(view, site) {
+            None => Stand::Idle,
+            Some(_) if count_due(view, comp, site, Move::Take) > 0 => Stand::Waits(Move::Take),
+            Some(chan) => Stand::Halted(chan),
+        },
     }
 }
 
 // The first channel whose request a component has taken and not replied to.
-fn owed_chan(course: &Course, site: &FlatComp) -> Option<u32> {
+fn owed_chan(view: &View<'_>, site: &FlatComp) -> Option<u32> {
     for port in 1..=port_count(site) {
         let chan = chan_at(site, port);
-        if is_passive(&site.kind, site.sizes, port) && phase_of(course, chan) == Phase::Taken {
+        if is_passive(&site.kind, site.sizes, port) && view.phase(chan) == Phase::Taken {
             return Some(chan);
         }
     }
@@ -181,60 +171,27 @@ fn owed_chan(course: &Course, site: &FlatComp) -> Option<u32> {
 }
 
 // At how many ports such a move is due.
-fn count_due(course: &Course, comp: u32, site: &FlatComp, mv: Move) -> usize {
+fn count_due(view: &View<'_>, comp: u32, site: &FlatComp, mv: Move) -> usize {
     let ports = 1..=port_count(site);
-    let due = ports.filter(|port| course.net().due(comp, *port) == Some(mv));
+    let due = ports.filter(|port| view.course.net().due(comp, *port) == Some(mv));
     due.count()
 }
 
-// What a component waits for. One that owes an acknowledgement and has nothing left to do has halted.
-fn add_waits(
-    course: &Course,
-    comp: u32,
-    site: &FlatComp,
-    waits: &mut Vec<Wait>,
-) -> Result<(), AllocError> {
-    if course.net().is_ready(comp) {
-        return Ok(());
-    }
-    if count_due(course, comp, site, Move::Got) > 0 {
-        return add_due(course, comp, site, Move::Got, waits);
-    }
-    match owed_chan(course, site) {
-        None => Ok(()),
-        Some(_) if count_due(course, comp, site, Move::Take) > 0 => {
-            add_due(course, comp, site, Move::Take, waits)
-        }
-        Some(chan) => {
-            waits.push(Wait {
-                comp,
-                chan,
-                whom: Whom::Nobody,
-                mv: Move::Reply,
-                place: Place::Each,
-            })?;
-            Ok(())
-        }
-    }
-}
-
 // What is waited for at each port at which such a move is due. A DecisionWait waits for one request of several.
-fn add_due(
-    course: &Course,
-    comp: u32,
-    site: &FlatComp,
-    mv: Move,
-    waits: &mut Vec<Wait>,
-) -> Result<(), AllocError> {
-    let is_choice = match (&site.kind, mv) {
-        (Kind::DecisionWait, Move::Take) => count_due(course, comp, site, mv) > 1,
-        _ => false,
+fn add_due(view: &View<'_>, comp: u32, mv: Move, waits: &mut Vec<Wait>) -> Result<(), AllocError> {
+    let Some(site) = view.course.flat().comp(comp) else {
+        return Ok(());
     };
-    let mut place = if is_choice { Place::First } else { Place::Each };
+    let (mut place, next) = match (&site.kind, mv) {
+        (Kind::DecisionWait, Move::Take) if count_due(view, comp, site, mv) > 1 => {
+            (Place::First, Place::Other)
+        }
+        _ => (Place::Each, Place::Each),
+    };
     for port in 1..=port_count(site) {
-        if course.net().due(comp, port) == Some(mv) {
-            waits.push(wait_on(course, comp, mv, chan_at(site, port), place))?;
-            place = if is_choice { Place::Other } else { Place::Each };
+        if view.course.net().due(comp, port) == Some(mv) {
+            waits.push(wait_on(view, comp, mv, chan_at(site, port), place))?;
+            place = next;
         }
     }
     Ok(())
@@ -242,22 +199,23 @@ fn add_due(
 
 // What has to come first where a move is due on a channel: a deed of who stands at one of its ends, the host where no
 // component does.
-fn wait_on(course: &Course, comp: u32, mv: Move, chan: u32, place: Place) -> Wait {
-    let ends = ends_of(course.flat(), chan);
-    let (end, mv) = match (mv, phase_of(course, chan)) {
-        (Move::Got, Phase::Asked(_)) => (ends.passive, Move::Take),
-        (Move::Got, _) => (ends.passive, Move::Reply),
-        _ => (ends.active, Move::Ask),
+fn wait_on(view: &View<'_>, comp: u32, due: Move, chan: u32, place: Place) -> Wait {
+    let mv = match (due, view.phase(chan)) {
+        (Move::Got, Phase::Asked(_)) => Move::Take,
+        (Move::Got, _) => Move::Reply,
+        _ => Move::Ask,
     };
+    let end = view.end(chan, due == Move::Got);
     let whom = match end {
         None => Whom::Host,
-        Some(end) if is_idle(course, end) => Whom::Idle(end),
-        Some(end) => Whom::Comp(end),
+        Some(other) if stand_of(view, other) == Stand::Idle => Whom::Idle,
+        Some(_) => Whom::Busy,
     };
     Wait {
         comp,
         chan,
         whom,
+        other: end.unwrap_or(0),
         mv,
         place,
     }

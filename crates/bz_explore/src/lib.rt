@@ -1,18 +1,19 @@
 //! The command `explore`: a net played by hand, line by line.
 #![tactic(auto)]
 
-mod answers;
+mod answer;
 mod commands;
 mod cycles;
 mod explored;
 mod graph;
 mod looking;
-mod naming;
 mod piece;
 mod refusals;
 mod saving;
 mod session;
 mod table;
+mod things;
+mod view;
 mod waits;
 
 pub use explored::{Ending, NoFile, Shelf, explore_cmd};

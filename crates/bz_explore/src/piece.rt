@@ -2,11 +2,12 @@
 
 use bz_kind_rows::PortAt;
 use bz_model::{Chan, Phase, Value, Verb};
+use bz_source::{Label, LineAt, SourceAt, put_path};
 use bz_text::{Piece as Part, Put, Text};
 use std::io::Write;
 
-/// The most bytes that are told of what was typed.
-pub(crate) const MOST_SHOWN: usize = 100;
+/// The most bytes that are told of a name, and of what was typed.
+const MOST_SHOWN: usize = 100;
 
 #[derive(Clone, Copy)]
 pub(crate) enum Piece<'a> {
@@ -14,17 +15,23 @@ pub(crate) enum Piece<'a> {
     Bytes(&'a [u8]),
     /// What was typed, at most a hundred bytes of it; for each byte that is no printable ASCII a `?` stands.
     Shown(&'a [u8]),
-    /// The name of a port as it is typed: in name form, but a `#` by its number too, since it would begin a comment.
+    /// A name as it is typed: in name form, but a `#` by its number too, since it would begin a comment.
     Typed(&'a [u8]),
-    Number(u32),
-    Long(u64),
-    Wide(Value),
+    /// The same, of a long one the front.
+    Name(&'a [u8]),
+    /// A place in a source.
+    Source(SourceAt<'a>),
+    /// The instance in which a component stands, and the part that it is one of.
+    Instance(LineAt<'a>),
+    Number(Value),
     /// A blank and the value, where there is one.
     Value(Option<Value>),
     /// So many things, as `1 line` and `2 lines`.
     Count(usize, &'static str),
-    /// A component: its kind and its number.
-    Comp(&'static [u8], u32),
+    /// A component: its kind and its number, and what the source has of it.
+    Comp(&'static [u8], u32, Label<'a>),
+    /// A channel: its number, and its name in the source.
+    Chan(u32, Option<&'a [u8]>),
     /// A component's port: its name, and its place where it is one of an array.
     Port(PortAt),
     /// What a channel carries, with its width where it has one.
@@ -43,26 +50,74 @@ impl Put for Piece<'_> {
             Piece::Bytes(bytes) => text.put_bytes(bytes),
             Piece::Shown(bytes) => put_shown(text, bytes),
             Piece::Typed(name) => put_typed(text, name),
-            Piece::Number(number) => put_number(text, number as Value),
-            Piece::Long(number) => put_number(text, number as Value),
-            Piece::Wide(number) => put_number(text, number),
+            Piece::Name(name) => put_name(text, name),
+            Piece::Source(at) => put_source(text, at),
+            Piece::Instance(at) => {
+                text.put("in ");
+                let _ = put_path(text, at.path);
+                text.put_pieces(&[Part::Bytes(b" "), Part::Name(at.part)]);
+            }
+            Piece::Number(number) => text.put_pieces(&[Part::Number(number)]),
             Piece::Value(value) => text.put_pieces(&[Part::Value(value)]),
             Piece::Count(count, thing) => text.put_count(count, thing),
-            Piece::Comp(kind, number) => put_comp(text, kind, number),
-            Piece::Port(at) => put_port(text, at),
-            Piece::Carried(chan) => put_carried(text, chan),
+            Piece::Comp(kind, number, label) => {
+                text.put_pieces(&[Part::Bytes(kind), Part::Value(Some(number.into()))]);
+                put_label(text, label);
+            }
+            Piece::Chan(number, name) => {
+                text.put_pieces(&[Part::Number(number.into())]);
+                put_label(text, Label { name, source: None });
+            }
+            Piece::Port(at) => {
+                text.put(at.row.name);
+                if let Some(member) = at.member {
+                    text.put_pieces(&[Part::Number(member.into())]);
+                }
+            }
+            Piece::Carried(chan) => {
+                let _ = write!(text, "{chan}");
+            }
             Piece::Host(name) => {
                 text.put("the host at ");
                 put_typed(text, name);
             }
-            Piece::Word(verb, name, has_value) => put_word(text, verb, name, has_value),
-            Piece::Phase(phase) => put_phase(text, phase),
+            Piece::Word(verb, name, has_value) => {
+                text.put(verb.word());
+                text.put(":");
+                put_typed(text, name);
+                text.put(if has_value { ":V" } else { "" });
+            }
+            Piece::Phase(phase) => {
+                let (word, value) = phase.parts();
+                text.put_pieces(&[Part::Bytes(word.as_bytes()), Part::Value(value)]);
+            }
         }
     }
 }
 
-fn put_number(text: &mut Text, number: Value) {
-    text.put_pieces(&[Part::Number(number)]);
+fn put_label(text: &mut Text, label: Label<'_>) {
+    if let Some(name) = label.name {
+        text.put(" ");
+        put_name(text, name);
+    }
+    if let Some(at) = label.source {
+        text.put(" (");
+        put_source(text, at);
+        text.put(")");
+    }
+}
+
+fn put_source(text: &mut Text, at: SourceAt<'_>) {
+    put_name(text, at.file);
+    text.put_pieces(&[Part::Bytes(b":"), Part::Number(at.line.into())]);
+    text.put_pieces(&[Part::Bytes(b":"), Part::Number(at.column.into())]);
+}
+
+fn put_name(text: &mut Text, name: &[u8]) {
+    put_typed(text, name.get(..MOST_SHOWN).unwrap_or(name));
+    if name.len() > MOST_SHOWN {
+        text.put("..");
+    }
 }
 
 fn put_shown(text: &mut Text, bytes: &[u8]) {
@@ -80,39 +135,9 @@ fn put_typed(text: &mut Text, name: &[u8]) {
         text.put("%");
     }
     for byte in name {
-        if *byte == b'#' {
-            text.put("%23");
-        } else {
-            text.put_pieces(&[Part::Name(&[*byte])]);
+        match byte {
+            b'#' => text.put("%23"),
+            byte => text.put_pieces(&[Part::Name(&[*byte])]),
         }
     }
-}
-
-fn put_comp(text: &mut Text, kind: &[u8], number: u32) {
-    text.put_pieces(&[Part::Bytes(kind), Part::Value(Some(number as Value))]);
-}
-
-fn put_port(text: &mut Text, at: PortAt) {
-    text.put(at.row.name);
-    if let Some(member) = at.member {
-        put_number(text, member as Value);
-    }
-}
-
-fn put_carried(text: &mut Text, chan: Chan) {
-    let _ = write!(text, "{chan}");
-}
-
-fn put_word(text: &mut Text, verb: Verb, name: &[u8], has_value: bool) {
-    text.put(verb.word());
-    text.put(":");
-    put_typed(text, name);
-    if has_value {
-        text.put(":V");
-    }
-}
-
-fn put_phase(text: &mut Text, phase: Phase) {
-    let (word, value) = phase.parts();
-    text.put_pieces(&[Part::Bytes(word.as_bytes()), Part::Value(value)]);
 }

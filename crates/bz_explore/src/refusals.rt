@@ -1,10 +1,8 @@
 //! Why the net doesn't follow a line.
 
-use crate::naming::{chan_at, chan_of, comp, phase_of, port, port_count};
-use crate::piece::{MOST_SHOWN, Piece};
-use bz_explore_net::Course;
-use bz_flat::Flat;
-use bz_model::{HostCmd, NetError, Value, low_bits, numbered};
+use crate::piece::Piece;
+use crate::view::{View, chan_at, port, port_count};
+use bz_model::{HostCmd, Names, NetError, Value, low_bits};
 use bz_text::Text;
 use std::io::Write;
 
@@ -12,31 +10,38 @@ use std::io::Write;
 const MOST_PORTS: usize = 10;
 
 /// Adds why the net refuses a command of the host.
-pub(crate) fn put_refusal(text: &mut Text, flat: &Flat, error: NetError, cmd: &HostCmd) {
+pub(crate) fn put_refusal(view: &View<'_>, error: NetError, cmd: &HostCmd, text: &mut Text) {
+    let names = view.course.net().names();
     let name = Piece::Typed(cmd.port.as_slice());
     let verb = Piece::Text(cmd.verb.word());
-    let number = flat.port(cmd.port.as_slice()).unwrap_or(0);
-    let chan = chan_of(flat, number);
+    let number = names.port(cmd.port.as_slice()).unwrap_or(0);
+    let chan = view.chan(number);
     let _ = write!(text, "{error}: ");
     match error {
-        NetError::UnknownPort => put_unknown(text, flat, cmd.port.as_slice()),
-        NetError::WrongSide => {
-            text.say("port % is %", &[name, Piece::Text(side_of(flat, number))]);
-        }
+        NetError::UnknownPort => put_unknown(names, cmd.port.as_slice(), text),
+        NetError::WrongSide => text.say(
+            match names.passive(number) {
+                Some(true) => "port % is passive: the words for it are offer and collect",
+                _ => "port % is active: the words for it are accept and answer",
+            },
+            &[name],
+        ),
         NetError::ValueMissing => text.say(
             "% needs a value below 2^%, as in %:%:0",
-            &[verb, Piece::Number(chan.width), verb, name],
+            &[verb, Piece::Number(chan.width.into()), verb, name],
         ),
         NetError::ValueUnwanted => text.say(
             "% takes no value at port %, which is a % port",
             &[verb, name, Piece::Text(chan.kind.word())],
         ),
         NetError::TooLarge => {
-            let value = Piece::Wide(cmd.value.unwrap_or(0));
+            let value = Piece::Number(cmd.value.unwrap_or(0));
             let bits = Piece::Count(chan.width as usize, "bit");
-            let greatest = Piece::Wide(low_bits(Value::MAX, chan.width));
-            text.say("% is too large: port % has %, and", &[value, name, bits]);
-            text.say(" the greatest value is %", &[greatest]);
+            let greatest = Piece::Number(low_bits(Value::MAX, chan.width));
+            text.say(
+                "% is too large: port % has %, and the greatest value is %",
+                &[value, name, bits, greatest],
+            );
         }
         _ => {}
     }
@@ -44,54 +49,37 @@ pub(crate) fn put_refusal(text: &mut Text, flat: &Flat, error: NetError, cmd: &H
 }
 
 // No port has the name; the ports that there are.
-fn put_unknown(text: &mut Text, flat: &Flat, name: &[u8]) {
-    text.put("no port is called ");
-    put_short(text, name);
-    text.put("; the ports are");
-    let ports = flat.ports();
-    for port in ports.iter().take(MOST_PORTS) {
-        text.put(" ");
-        put_short(text, port.name.as_slice());
+fn put_unknown(names: &Names, name: &[u8], text: &mut Text) {
+    text.say("no port is called %; the ports are", &[Piece::Name(name)]);
+    for port in names.ports().iter().take(MOST_PORTS) {
+        text.say(" %", &[Piece::Name(port.name.as_slice())]);
     }
-    let more = ports.len().saturating_sub(MOST_PORTS);
+    let more = names.ports().len().saturating_sub(MOST_PORTS);
     if more > 0 {
-        text.say(" and % more", &[Piece::Long(more as u64)]);
-    }
-}
-
-// The name of a port, or the front of a long one.
-fn put_short(text: &mut Text, name: &[u8]) {
-    let front = name.get(..MOST_SHOWN).unwrap_or(name);
-    let rest = if name.len() > MOST_SHOWN { ".." } else { "" };
-    text.say("%%", &[Piece::Typed(front), Piece::Text(rest)]);
-}
-
-fn side_of(flat: &Flat, port: u32) -> &'static str {
-    match numbered(flat.ports(), port) {
-        Some(port) if port.passive => "passive: the words for it are offer and collect",
-        _ => "active: the words for it are accept and answer",
+        text.say(" and % more", &[Piece::Number(more as Value)]);
     }
 }
 
 /// Adds why a component can't move at a port, or at any: what is due there, and the phase of its channel.
-pub(crate) fn put_stuck(text: &mut Text, course: &Course, number: u32, at: Option<u32>) {
-    let Some(site) = course.flat().comp(number) else {
+pub(crate) fn put_stuck(view: &View<'_>, comp: u32, at: Option<u32>, text: &mut Text) {
+    let (net, Some(site)) = (view.course.net(), view.course.flat().comp(comp)) else {
         return;
     };
     let there = Piece::Text(if at.is_some() { " there" } else { "" });
-    text.say("% can't move%: ", &[comp(course.flat(), number), there]);
-    let due = |port: &u32| course.net().due(number, *port).is_some();
+    text.say("% can't move%: ", &[view.comp(comp), there]);
+    let due = |port: &u32| net.due(comp, *port).is_some();
     let Some(at) = at.or((1..=port_count(site)).find(due)) else {
         text.put("nothing is due\n");
         return;
     };
-    let (chan, name) = (Piece::Number(chan_at(site, at)), port(site, at));
-    match course.net().due(number, at) {
+    let (chan, name) = (chan_at(site, at), port(site, at));
+    let (number, phase) = (Piece::Number(chan.into()), Piece::Phase(view.phase(chan)));
+    let chan = view.named_chan(chan);
+    match net.due(comp, at) {
         None => text.say("nothing is due at %\n", &[name]),
-        Some(mv) => {
-            text.say("% % is due at %", &[Piece::Text(mv.word()), chan, name]);
-            let phase = Piece::Phase(phase_of(course, chan_at(site, at)));
-            text.say(", and channel % is %\n", &[chan, phase]);
-        }
+        Some(mv) => text.say(
+            "% % is due at %, and channel % is %\n",
+            &[Piece::Text(mv.word()), number, name, chan, phase],
+        ),
     }
 }

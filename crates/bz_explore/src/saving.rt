@@ -3,7 +3,6 @@
 ghost use Rattle.std.specs.Prelude.{OnOk, OnErr};
 ghost use Rattle.bz_explore.specs.Saving.{SavesSome, SavesTrace};
 
-use crate::answers::entries_of;
 use crate::piece::Piece;
 use bz_cli_core::write_out;
 use bz_explore_net::{Course, Mark, Picker};
@@ -41,10 +40,30 @@ pub(crate) fn put_script(course: &Course, text: &mut Text) {
     put_seed(picker, course.picker(), text);
 }
 
+/// Adds the last `count` of the first `left` commands, which are to be taken back.
+pub(crate) fn put_undone(course: &Course, left: usize, count: usize, text: &mut Text) {
+    let mut upto = entries_of(course, left);
+    let marks = course.marks().get(..left).unwrap_or(&[]);
+    for mark in marks.iter().rev().take(count) {
+        let command = Piece::Bytes(mark.command.as_slice());
+        let lines = Piece::Count(upto.saturating_sub(mark.entries), "line");
+        text.say("undone: % (%)\n", &[command, lines]);
+        upto = mark.entries;
+    }
+}
+
+// How many entries the journal has once so many commands are left.
+fn entries_of(course: &Course, left: usize) -> usize {
+    match course.marks().get(left) {
+        Some(mark) => mark.entries,
+        None => course.net().journal().len(),
+    }
+}
+
 // A line that begins the picking anew, where it doesn't go on as it would.
 fn put_seed(goes_on: Picker, picker: Picker, text: &mut Text) {
     if goes_on != picker {
-        text.say("seed %\n", &[Piece::Long(picker.seed())]);
+        text.say("seed %\n", &[Piece::Number(picker.seed().into())]);
     }
 }
 

@@ -27,127 +27,89 @@ help [COMMAND]    the list of commands, or one of them; also `?`
 quit              leave, as the end of the input does; also `exit` and `q`
 ";
 
-/// The words that begin a command, and their names.
-const WORDS: [(&str, Name); 18] = [
-    ("moves", Name::Moves),
-    ("fire", Name::Fire),
-    ("run", Name::Run),
-    ("random", Name::Random),
-    ("seed", Name::Seed),
-    ("offer", Name::Host),
-    ("collect", Name::Host),
-    ("accept", Name::Host),
-    ("answer", Name::Host),
-    ("watch", Name::Host),
-    ("expect", Name::Expect),
-    ("waits", Name::Waits),
-    ("state", Name::State),
-    ("undo", Name::Undo),
-    ("trace", Name::Trace),
-    ("session", Name::Session),
-    ("help", Name::Help),
-    ("quit", Name::Quit),
-];
+/// What is told behind them all.
+const BEHIND: &str = "\
+C is a component's number; of `waits` and `state` also a name of the source, or FILE:LINE or FILE:LINE:COLUMN
+# begins a comment
+";
 
-/// Other words for commands.
-const ALIASES: [(&str, &str); 3] = [("?", "help"), ("exit", "quit"), ("q", "quit")];
-
-/// The name of a command.
-#[derive(Clone, Copy, PartialEq, Eq)]
-pub(crate) enum Name {
-    Moves,
-    Fire,
-    Run,
-    Random,
-    Seed,
-    /// Something that the host does, which is one word.
-    Host,
-    Expect,
-    Waits,
-    State,
-    Undo,
-    Trace,
-    Session,
-    Help,
-    Quit,
-}
-
-/// A command as a line begins it: its name, its word and its form, and whether a `!` stands behind its word.
+/// How a command is typed: its word, and what belongs behind it.
 #[derive(Clone, Copy)]
-pub(crate) struct Begun {
-    pub name: Name,
-    pub word: &'static str,
-    pub form: &'static str,
-    pub over: bool,
-}
+pub(crate) struct Form(pub &'static str);
 
-/// The command that a line's first word begins, if it begins one.
-pub(crate) fn begun_by(head: &str) -> Option<Begun> {
-    let (typed, over) = match head.strip_suffix('!') {
-        Some(word) => (word, true),
-        None => (unaliased(head), false),
-    };
-    for (word, name) in &WORDS {
-        if *word == typed && (!over || matches!(name, Name::Trace | Name::Session)) {
-            return Some(Begun {
-                name: *name,
-                word: *word,
-                form: form_of(word),
-                over,
-            });
+impl Form {
+    /// That of the command which a line's first word begins, if it begins one; of several the first.
+    pub fn begun_by(head: &str) -> Option<Form> {
+        let word = unaliased(head);
+        for line in COMMANDS.lines() {
+            let form = form_of(line);
+            if form.word() == word && (form.writes() || !head.ends_with('!')) {
+                return Some(form);
+            }
+        }
+        None
+    }
+
+    /// That of the host's word which stands in front of a colon.
+    pub fn of_host(word: &str) -> Option<Form> {
+        match Form::begun_by(word.split(':').next().unwrap_or("")) {
+            Some(form) if form.is_host() => Some(form),
+            _ => None,
         }
     }
-    None
+
+    /// The word of the command.
+    pub fn word(self) -> &'static str {
+        self.0.split([' ', ':', '[']).next().unwrap_or("")
+    }
+
+    /// Whether it is something that the host does, which is one word.
+    pub fn is_host(self) -> bool {
+        self.0.contains(':')
+    }
+
+    /// Whether it writes a file: over one that is there where a `!` follows its word.
+    fn writes(self) -> bool {
+        self.0.contains('!')
+    }
+
+    /// How many words can stand behind its own.
+    pub fn most(self) -> usize {
+        self.0.split_whitespace().skip(1).count()
+    }
+
+    /// What belongs at a place behind its word, in brackets where it may be left out.
+    pub fn taken_at(self, place: usize) -> Option<&'static str> {
+        self.0.split_whitespace().skip(1).nth(place)
+    }
 }
 
-// The word of a command for another word for it.
+// The word of the command that a line's first word begins, where it begins one.
 fn unaliased(head: &str) -> &str {
-    for (alias, word) in &ALIASES {
-        if *alias == head {
-            return *word;
-        }
-    }
-    head
-}
-
-// The first form of the command of a word.
-fn form_of(word: &str) -> &'static str {
-    for line in COMMANDS.lines() {
-        if begins(line, word) {
-            return line.split("  ").next().unwrap_or("");
-        }
-    }
-    ""
-}
-
-// Whether a line is one of the command of a word.
-fn begins(line: &str, word: &str) -> bool {
-    line.split([' ', ':', '[']).next() == Some(word)
-}
-
-/// The form of the host's word that stands in front of a colon.
-pub(crate) fn host_form(word: &str) -> Option<&'static str> {
-    match begun_by(word.split(':').next().unwrap_or("")) {
-        Some(begun) if begun.name == Name::Host => Some(begun.form),
-        _ => None,
+    match head.strip_suffix('!') {
+        Some(word) => word,
+        None => match head {
+            "?" => "help",
+            "exit" | "q" => "quit",
+            head => head,
+        },
     }
 }
 
-/// What a form takes at a place behind its word.
-pub(crate) fn taken_at(form: &'static str, place: usize) -> Option<&'static str> {
-    form.split_whitespace().skip(1).nth(place)
+fn form_of(line: &'static str) -> Form {
+    Form(line.split("  ").next().unwrap_or(""))
 }
 
 /// Adds the list of commands.
 pub(crate) fn put_help(text: &mut Text) {
     text.put(COMMANDS);
-    text.put("# begins a comment\n");
+    text.put(BEHIND);
 }
 
-/// Adds what the commands of a word do.
-pub(crate) fn put_help_of(begun: Begun, text: &mut Text) {
+/// Adds what the commands of this word do.
+pub(crate) fn put_help_of(word: &str, text: &mut Text) {
     for line in COMMANDS.lines() {
-        if begins(line, begun.word) {
+        if form_of(line).word() == word {
             text.put(line);
             text.put("\n");
         }
@@ -157,8 +119,8 @@ pub(crate) fn put_help_of(begun: Begun, text: &mut Text) {
 /// The words of the commands.
 pub(crate) fn words_of_commands(alloc: Global) -> Result<Vec<&'static [u8]>, AllocError> {
     let mut words = Vec::new(alloc);
-    for (word, _) in &WORDS {
-        words.push(word.as_bytes())?;
+    for line in COMMANDS.lines() {
+        words.push(form_of(line).word().as_bytes())?;
     }
     Ok(words)
 }

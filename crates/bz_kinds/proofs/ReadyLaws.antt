@@ -123,6 +123,14 @@ turning (Some passive) Open quiet due = absurd (false≢true due)
 turning (Some true) OpenDue quiet due = refl
 turning (Some false) OpenDue quiet due = refl
 
+-- and one that can be made is due
+was_due : (o : Option Bool) (x : PortState) (here : Bool) → IsTrue (can_go (move_by o x) here) → is_due x ≡ true
+was_due None x here can = absurd (false≢true can)
+was_due (Some passive) Closed here can = absurd (false≢true can)
+was_due (Some passive) ClosedDue here can = refl
+was_due (Some passive) Open here can = absurd (false≢true can)
+was_due (Some passive) OpenDue here can = refl
+
 module _ (plan : Plan) (n left : ℕ) (w : List PortState) (s : Store) (chans : List Chan) (c : Component) (view : record { proc = record { todo = todo_of plan n left w; store = s }; chans = chans; open_ports = map is_open w } ≡ c) (ok : IsAt plan n left w s) where
   abbrev next_at : ℕ → Option Move
   next_at p = option_map (λ (d : Due). d.mv) (plan_due plan n left p (get_or w p Closed))
@@ -172,6 +180,15 @@ module _ (plan : Plan) (n left : ℕ) (w : List PortState) (s : Store) (chans : 
   due_goes p due =
       (goes_on p true (next_at p) refl).0
       (subst (λ (o : Option Move). IsTrue (can_go o true)) (sym (due-move plan n left p (get_or w p Closed))) (turning (sense plan n p) (get_or w p Closed) (unsensed plan n left w s ok p) due))
+
+  -- and at no other
+  goes_due : (p : ℕ) → CanGo c.proc p true → is_due (get_or w p Closed) ≡ true
+  goes_due p can =
+      was_due (sense plan n p) (get_or w p Closed) true
+      (subst (λ (o : Option Move). IsTrue (can_go o true)) (due-move plan n left p (get_or w p Closed)) ((goes_on p true (next_at p) refl).1 can))
+
+  pub due_where : (p : ℕ) (b : Bool) → b ≡ is_due (get_or w p Closed) → IsTrue b ↔ CanGo c.proc p true
+  due_where p b is = (λ t. due_goes p (sym is ∙ t), λ can. is ∙ goes_due p can)
 
   pub stops_at : (from to : ℕ) → ((k : ℕ) → from ≤ k → k < to → NoneDueIn w k) → (length w ≤ 64 * to) ⊎ SomeDueIn w to → NoneDue c.proc to → (k : ℕ) → from ≤ k → NoneDue c.proc k
   stops_at from to even (inl past) quiet k le here =

@@ -1,6 +1,6 @@
 //! A component: where its ports are, and the values that it keeps.
 
-ghost use Rattle.std.specs.Prelude.{◌≡◌, ◌≤◌, ◌-◌, ◌^◌, ◌<◌, ◌↔◌, not, ℕ, Some, IsTrue, IfSome, IfOk, IfErr, length, slice_set, replicate};
+ghost use Rattle.std.specs.Prelude.{◌≡◌, ◌≤◌, ◌-◌, ◌^◌, ◌<◌, ◌↔◌, true, not, ℕ, Some, IsTrue, IfSome, IfOk, IfErr, length, slice_set, replicate};
 ghost use Rattle.std.specs.Option.{option_map};
 ghost use Rattle.bz_model.specs.declared.error.KindError.TheVariants.{Memory};
 ghost use Rattle.bz_model.specs.Heads.{Head, IsHeadOn, CanMove, Moves, Turns, HasOneHead, carried, opens, open_at};
@@ -11,7 +11,7 @@ ghost use Rattle.bz_model.specs.Widths.{Fitted, FitsAt, HoldsAt};
 ghost use Rattle.bz_kinds.specs.declared.ports.PortState.TheVariants.{Closed, ClosedDue};
 ghost use Rattle.bz_kinds.specs.Row.{seen};
 ghost use Rattle.bz_kinds.specs.Moves.{AreEnabled};
-ghost use Rattle.bz_kinds.specs.Ready.{AreReady, NoneDue};
+ghost use Rattle.bz_kinds.specs.Ready.{AreReady, CanGo, NoneDue};
 ghost use Rattle.bz_kinds.specs.Start.{BeginsAt, IsAllDue, IsDueBut, AreMembersDue};
 ghost use Rattle.bz_kinds.specs.Kept.{plan_of};
 ghost use Rattle.bz_kinds.specs.KeptLists.{slots_of};
@@ -108,6 +108,7 @@ pub fn enabled(comp: &Comp, port: u32, phase: Phase) -> bool
 }
 
 /// Makes the move at a port whose channel has this phase: the move, and the value that it carries.
+#[inline(always)]
 pub fn apply(comp: &mut Comp, port: u32, phase: Phase) -> (Move, Option<Value>)
     requires { CanMove comp.old.proc port phase }
     ensures moves { Moves comp.old.proc port phase result.0 result.1 comp.new.proc }
@@ -159,6 +160,15 @@ pub fn ready_word(comp: &Comp, at: u32, here: u64) -> u64
         sense_word(&comp.plan, comp.size, at)
     };
     word.ready(passive, here)
+}
+
+/// Whether a component has a move due at a port: it can be made there once what it may wait for is on its channel.
+#[inline(always)]
+pub fn has_move(comp: &Comp, port: u32) -> bool
+    ensures due { IsTrue result ↔ CanGo comp.now.proc port true }
+    ensures turns { (p : ℕ) (h : Head) → IsHeadOn comp.now.proc p h → opens h.move ≡ not (open_at comp.now p) }
+{
+    comp.ports.get(port).is_due()
 }
 
 /// The first word from `at` on with a port at which a component has a move due; past the last word where there is none.

@@ -1,5 +1,5 @@
 -- What a net was shared with.
-use Rattle.std.specs.Prelude.{◌≡◌, ℕ}
+use Rattle.std.specs.Prelude.{ℕ}
 use Rattle.bz_model.specs.Nets.{Wiring}
 
 -- its wiring, how many firings were allowed, and for how many sessions

@@ -9,10 +9,11 @@ use bz_net::Net;
 use std::alloc::AllocError;
 use thiserror::Error;
 
-/// The net at the end, with what each worker and each session has of it.
+/// The net at the end, whether it was stopped, and what each worker and each session has of it.
 #[derive(Drop)]
 pub struct Closed {
     pub net: Net,
+    pub stopped: bool,
     pub front: u64,
     pub shares: Vec<u64>,
     pub records: Vec<Vec<Entry>>,

@@ -10,9 +10,10 @@ use Rattle.bz_model.specs.Hosts.{host_after}
 use Rattle.bz_model.specs.Runs.{Follows, Run}
 use Rattle.bz_model.specs.Clashes.{phase_of, IsAsked, Clashes, ClashesIn}
 use Rattle.bz_flat.specs.Wires.{WellWired}
-use Rattle.bz_net.specs.Noted.{Notes, HoldsPassive, NotedAt}
+use Rattle.bz_net.specs.Noted.{Notes, HoldsPassive, MeetBefore, NotedAt, NotedMove}
 use Rattle.std.proofs.lemmas.Bool.{cases_eq}
 use Rattle.bz_model.specs.declared.channel.Move.{Move}
+use Rattle.bz_model.specs.declared.channel.Move.TheVariants as move
 use Rattle.bz_model.specs.declared.event.Who.{Who}
 use Rattle.bz_model.specs.declared.event.Verb.{Verb}
 use Rattle.bz_model.specs.declared.event.Reply.{Reply}
@@ -128,12 +129,57 @@ all_idle (suc n) (suc i) = all_idle n i
 pub none_opening : (w : Wiring) (c : ℕ) → ClashesIn w (opening w) [] c → ⊥
 none_opening w c x = x.first.busy (all_idle (length w.chans) (chan_at w.sites c x.one - 1))
 
-pub clashed_fired : (w : Wiring) (s next : State) (journal : List Entry) (who : Who) (c p k : ℕ) (mv : Move) (value : Option ℕ) → WellWired w → Run w (opening w) journal s → Step w.sites s c p k mv value next → (old new : Notes) → ((d : ℕ) → Contains old.numbers d ↔ ClashesIn w (opening w) journal d) → NotedAt w.sites next.phases old new k → (d : ℕ) → Contains new.numbers d ↔ ClashesIn w (opening w) (journal ++ Fired who c p k mv value ∷ []) d
-clashed_fired w s next journal who c p k mv value wired run step old new exact noted =
+-- where the channel was busy before, no requests meet that didn't
+pub met_before : (w : Wiring) (phases : List Phase) (k : ℕ) (phase : Phase) → WellWired w → 0 < k → phase_of phases k ≢ Idle → (c : ℕ) → Clashes w.sites (set phases (k - 1) phase) c → Clashes w.sites phases c
+met_before w phases k phase wired from busy c x = record {
+  mixes = x.mixes;
+  one = x.one;
+  other = x.other;
+  apart = x.apart;
+  first = asked x.one x.first;
+  second = asked x.other x.second;
+}
+  where
+    asked : (p : ℕ) → IsAsked w.sites (set phases (k - 1) phase) c p → IsAsked w.sites phases c p
+    asked p at = record {
+      is_port = at.is_port;
+      passive = at.passive;
+      busy = λ idle. elim (cases_eq (chan_at w.sites c p) k) [
+        | inl on ↦ busy (ap (phase_of phases) (sym on) ∙ idle)
+        | inr off ↦ at.busy (at_other phases k (chan_at w.sites c p) phase Idle from (wired.chan_from c p at.is_port) off ∙ idle)
+      ];
+    }
+
+-- no move but a request lets requests meet
+none_met : (w : Wiring) (s next : State) (journal : List Entry) (e : Entry) → Run w (opening w) journal s → Follows w s e next → (old new : Notes) → ((d : ℕ) → Contains old.numbers d ↔ ClashesIn w (opening w) journal d) → ((d : ℕ) → Clashes w.sites next.phases d → Clashes w.sites s.phases d) → new ≡ old → (d : ℕ) → Contains new.numbers d ↔ ClashesIn w (opening w) (journal ++ e ∷ []) d
+none_met w s next journal e run follows old new exact before same =
+    noted_after w (opening w) s next journal e run follows old.numbers new.numbers (λ d. ⊥) exact
+    (λ d. (λ has. inl (subst (λ (n : Notes). Contains n.numbers d) same has), λ x. subst (λ (n : Notes). Contains n.numbers d) (sym same) (was d x)))
+    (λ d x. inr (before d x))
+  where
+    was : (d : ℕ) → Contains old.numbers d ⊎ (⊥ × Clashes w.sites next.phases d) → Contains old.numbers d
+    was d (inl has) = has
+    was d (inr x) = absurd x.0
+
+asks_met : (w : Wiring) (s next : State) (journal : List Entry) (who : Who) (c p k : ℕ) (mv : Move) (value : Option ℕ) → WellWired w → Run w (opening w) journal s → Step w.sites s c p k mv value next → (old new : Notes) → ((d : ℕ) → Contains old.numbers d ↔ ClashesIn w (opening w) journal d) → NotedAt w.sites next.phases old new k → (d : ℕ) → Contains new.numbers d ↔ ClashesIn w (opening w) (journal ++ Fired who c p k mv value ∷ []) d
+asks_met w s next journal who c p k mv value wired run step old new exact noted =
     let from : 0 < k = subst (λ j. 0 < j) (sym step.chan_is) (wired.chan_from c p step.steps_at.is_port) in
     let after = set s.phases (k - 1) (phase_after (phase_of s.phases k) mv value) in
     noted_after w (opening w) s next journal (Fired who c p k mv value) run step old.numbers new.numbers (HoldsPassive w.sites k) exact noted.adds
     (λ d x. end_alone w s.phases k (phase_after (phase_of s.phases k) mv value) wired from d (at_phases w.sites next.phases after d (sym (follows_phases w s (Fired who c p k mv value) next step)) x))
+
+pub clashed_fired : (w : Wiring) (s next : State) (journal : List Entry) (who : Who) (c p k : ℕ) (mv : Move) (value : Option ℕ) → WellWired w → Run w (opening w) journal s → Step w.sites s c p k mv value next → (old new : Notes) → ((d : ℕ) → Contains old.numbers d ↔ ClashesIn w (opening w) journal d) → MeetBefore w.sites s.phases next.phases mv → NotedMove w.sites next.phases old new k mv → (d : ℕ) → Contains new.numbers d ↔ ClashesIn w (opening w) (journal ++ Fired who c p k mv value ∷ []) d
+clashed_fired w s next journal who c p k move.Ask value wired run step old new exact before noted = asks_met w s next journal who c p k move.Ask value wired run step old new exact noted
+clashed_fired w s next journal who c p k move.Take value wired run step old new exact before noted = none_met w s next journal (Fired who c p k move.Take value) run step old new exact before noted
+clashed_fired w s next journal who c p k move.Reply value wired run step old new exact before noted = none_met w s next journal (Fired who c p k move.Reply value) run step old new exact before noted
+clashed_fired w s next journal who c p k move.Got value wired run step old new exact before noted = none_met w s next journal (Fired who c p k move.Got value) run step old new exact before noted
+
+-- whatever the move, there are as many that may be noted
+pub noted_most : (sites : List Site) (phases : List Phase) (old new : Notes) (k : ℕ) (mv : Move) → NotedMove sites phases old new k mv → new.most ≡ old.most
+noted_most sites phases old new k move.Ask noted = noted.most
+noted_most sites phases old new k move.Take noted = ap (λ (n : Notes). n.most) noted
+noted_most sites phases old new k move.Reply noted = ap (λ (n : Notes). n.most) noted
+noted_most sites phases old new k move.Got noted = ap (λ (n : Notes). n.most) noted
 
 pub clashed_commanded : (w : Wiring) (s next : State) (journal : List Entry) (who : Who) (verb : Verb) (port : ℕ) (value : Option ℕ) (reply : Reply) → WellWired w → Run w (opening w) journal s → HostStep w s verb port value reply next → (old new : Notes) → ((d : ℕ) → Contains old.numbers d ↔ ClashesIn w (opening w) journal d) → NotedAt w.sites next.phases old new port → (d : ℕ) → Contains new.numbers d ↔ ClashesIn w (opening w) (journal ++ Host who verb port value reply ∷ []) d
 clashed_commanded w s next journal who verb port value reply wired run step old new exact noted =

@@ -4,6 +4,8 @@ use Rattle.std.proofs.lemmas.Bool.{cases_eq, cases_lt}
 use Rattle.std.proofs.lemmas.List.{map-set, length-map, get_or_append_left, get_or_past, get_or_push}
 use Rattle.bz_bits.specs.Row.{bit_of}
 use Rattle.bz_model.specs.declared.channel.Move.{Move}
+use Rattle.bz_model.specs.declared.channel.Move.TheVariants.{Ask, Take, Got}
+use Rattle.bz_model.specs.declared.channel.Move.TheVariants as move
 use Rattle.bz_model.specs.declared.channel.Phase.{Phase}
 use Rattle.bz_model.specs.declared.channel.Phase.TheVariants.{Idle}
 use Rattle.bz_model.specs.declared.event.Verb.{Verb}
@@ -26,7 +28,17 @@ use Rattle.bz_net.proofs.Hosts.{tied_command, side_from}
 use Rattle.bz_net.proofs.Readiness.{marks_after, changed_by_step, changed_by_host}
 use Rattle.bz_net.proofs.Soundness.{placed_from}
 use Rattle.bz_net.proofs.Soles.{SameStep, same_step}
+use Rattle.bz_model.specs.Clashes.{Clashes}
+use Rattle.bz_net.specs.Noted.{MeetBefore}
+use Rattle.bz_net.proofs.Clashing.{met_before}
+use Rattle.bz_net.proofs.Moving.{busy_before}
 use Rattle.bz_net.proofs.Telling.{chans_kept, told_kept, told_opening, sighted_from, stays_sighted, host_sighted}
+
+met_by : (sites : List Site) (phases phases' : List Phase) (mv : Move) → ((mv ≡ Ask → ⊥) → (d : ℕ) → Clashes sites phases' d → Clashes sites phases d) → MeetBefore sites phases phases' mv
+met_by sites phases phases' Ask before = tt
+met_by sites phases phases' Take before = before (λ e. cc)
+met_by sites phases phases' move.Reply before = before (λ e. cc)
+met_by sites phases phases' Got before = before (λ e. cc)
 
 module _ (w : Wiring) (phases : List Phase) (comps : List Component) (heres : List (List ℕ)) (ends : List Ends) (old : List Bool) (core : CoreSound w phases comps heres ends old) where
   pub core_placed : Placed w.sites phases comps
@@ -72,6 +84,14 @@ module _ (w : Wiring) (phases : List Phase) (comps : List Component) (heres : Li
 
     c_to : c ≤ length comps
     c_to = let to = does.steps_at.is_port.comp_to in let len = core.tied.comps_len in omega (arith, to, len)
+
+    -- where it was no request, no requests meet that didn't
+    pub core_met : MeetBefore w.sites phases phases' mv
+    core_met =
+        met_by w.sites phases phases' mv
+        (λ no_ask d x. met_before w phases k (phase_after (phase_in phases k) mv value) core.wired k_from
+        (busy_before w.sites phases comps heres c p k mv value does.rest core_sighted does.steps_at.is_port does.chan_is does.moves does.turns no_ask) d
+        (subst (λ (f : List Phase). Clashes w.sites f d) does.phases_is x))
 
     pub core_moved : CoreSound w phases' comps' heres' ends new
     core_moved = record {

@@ -15,8 +15,8 @@ use Rattle.bz_net.specs.Simulation.{Simulation}
 use Rattle.bz_net.specs.Replies.{RefusesEntry, RefusesFire, RefusesLowest}
 use Rattle.bz_flat.specs.Wires.{WellWired}
 use Rattle.bz_net.specs.Keeping.{Keeps}
-use Rattle.bz_net.specs.Noted.{Notes, NotedAt}
-use Rattle.bz_net.proofs.Clashing.{clashed_fired, clashed_commanded, clashed_rested, clashed_opening}
+use Rattle.bz_net.specs.Noted.{Notes, MeetBefore, NotedAt, NotedMove}
+use Rattle.bz_net.proofs.Clashing.{clashed_fired, clashed_commanded, clashed_rested, clashed_opening, noted_most}
 use Rattle.bz_net.proofs.Soundness.{Run-push}
 
 pub keeps_opening : (w : Wiring) (s : State) (journal : List Entry) (limit : ℕ) (notes : Notes) → WellWired w → s ≡ opening w → journal ≡ [] → notes.numbers ≡ [] → notes.most ≡ length w.sites → Keeps w s journal limit notes
@@ -32,15 +32,15 @@ keeps_opening w s journal limit notes wired opened none unnoted most = rw none (
 pub keeps_same : (w w' : Wiring) (s s' : State) (journal journal' : List Entry) (limit : ℕ) (notes notes' : Notes) → w' ≡ w → s' ≡ s → journal' ≡ journal → notes' ≡ notes → Keeps w s journal limit notes → Keeps w' s' journal' limit notes'
 keeps_same w w' s s' journal journal' limit notes notes' e f g h keeps = rw (e, f, g, h) keeps
 
-pub keeps_fired : (w w' : Wiring) (s next : State) (journal : List Entry) (limit : ℕ) (old new : Notes) (who : Who) (c p k : ℕ) (mv : Move) (value : Option ℕ) → w' ≡ w → Keeps w s journal limit old → length journal < limit → Step w.sites s c p k mv value next → NotedAt w'.sites next.phases old new k → Keeps w' next (journal ++ Fired who c p k mv value ∷ []) limit new
-keeps_fired w w' s next journal limit old new who c p k mv value same keeps place step noted =
-    let here : NotedAt w.sites next.phases old new k = subst (λ (v : Wiring). NotedAt v.sites next.phases old new k) same noted in
+pub keeps_fired : (w w' : Wiring) (s next : State) (journal : List Entry) (limit : ℕ) (old new : Notes) (who : Who) (c p k : ℕ) (mv : Move) (value : Option ℕ) → w' ≡ w → Keeps w s journal limit old → length journal < limit → Step w.sites s c p k mv value next → MeetBefore w.sites s.phases next.phases mv → NotedMove w'.sites next.phases old new k mv → Keeps w' next (journal ++ Fired who c p k mv value ∷ []) limit new
+keeps_fired w w' s next journal limit old new who c p k mv value same keeps place step before noted =
+    let here : NotedMove w.sites next.phases old new k mv = subst (λ (v : Wiring). NotedMove v.sites next.phases old new k mv) same noted in
     rw same (record {
       wired = keeps.wired;
       run = Run-push w (opening w) journal s (Fired who c p k mv value) next keeps.run step;
       within = simp length-append (omega arith);
-      most = here.most ∙ keeps.most;
-      clashed = clashed_fired w s next journal who c p k mv value keeps.wired keeps.run step old new keeps.clashed here;
+      most = noted_most w.sites next.phases old new k mv here ∙ keeps.most;
+      clashed = clashed_fired w s next journal who c p k mv value keeps.wired keeps.run step old new keeps.clashed before here;
     })
 
 pub keeps_commanded : (w w' : Wiring) (s next : State) (journal : List Entry) (limit : ℕ) (old new : Notes) (who : Who) (verb : Verb) (port : ℕ) (value : Option ℕ) (reply : Reply) → w' ≡ w → Keeps w s journal limit old → length journal < limit → HostStep w s verb port value reply next → NotedAt w'.sites next.phases old new port → Keeps w' next (journal ++ Host who verb port value reply ∷ []) limit new

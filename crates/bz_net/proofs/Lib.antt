@@ -17,6 +17,7 @@ pub mod Playing
 pub mod Nodes
 pub mod Marks
 pub mod Telling
+pub mod Moving
 pub mod Cores
 pub mod Foreseeing
 pub mod Kept

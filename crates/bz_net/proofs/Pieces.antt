@@ -11,7 +11,7 @@ use Rattle.bz_model.specs.Hosts.{HostStep}
 use Rattle.bz_model.specs.Runs.{Follows, Rest}
 use Rattle.bz_flat.specs.Wires.{WellWired}
 use Rattle.bz_net.specs.declared.event.RunEnd.TheVariants as ended
-use Rattle.bz_net.specs.Noted.{Notes, NotedAt}
+use Rattle.bz_net.specs.Noted.{Notes, MeetBefore, NotedAt, NotedMove}
 use Rattle.bz_net.specs.Progress.{Progress, IsToldBy, LeadsOn, Enters, RunsInto, with_journal}
 use Rattle.bz_net.specs.Replies.{IsPicked}
 use Rattle.bz_net.specs.Running.{Plays}
@@ -41,12 +41,12 @@ enters old new e wiring follows left leads = record {
 }
 
 module _ (w w' : Wiring) (s next : State) (old new : Notes) (left left' : ℕ) (same : w' ≡ w) (wired : WellWired w) (one : left ≡ left' + 1) where
-  pub enters_fired : (who : Who) (c p k : ℕ) (mv : Move) (value : Option ℕ) → Step w.sites s c p k mv value next → NotedAt w'.sites next.phases old new k → Enters (progress w s old left) (Fired who c p k mv value) (progress w' next new left')
-  enters_fired who c p k mv value step noted =
-      let here : NotedAt w.sites next.phases old new k = subst (λ (v : Wiring). NotedAt v.sites next.phases old new k) same noted in
+  pub enters_fired : (who : Who) (c p k : ℕ) (mv : Move) (value : Option ℕ) → Step w.sites s c p k mv value next → MeetBefore w.sites s.phases next.phases mv → NotedMove w'.sites next.phases old new k mv → Enters (progress w s old left) (Fired who c p k mv value) (progress w' next new left')
+  enters_fired who c p k mv value step before noted =
+      let here : NotedMove w.sites next.phases old new k mv = subst (λ (v : Wiring). NotedMove v.sites next.phases old new k mv) same noted in
       let leads : LeadsOn (progress w s old left) (Fired who c p k mv value ∷ []) (progress w next new left') = λ journal told. record {
         run = Run-push w (opening w) journal s (Fired who c p k mv value) next told.run step;
-        clashed = clashed_fired w s next journal who c p k mv value wired told.run step old new told.clashed here;
+        clashed = clashed_fired w s next journal who c p k mv value wired told.run step old new told.clashed before here;
       } in
       enters (progress w s old left) (progress w' next new left') (Fired who c p k mv value) same step one (subst (λ (v : Wiring). LeadsOn (progress w s old left) (Fired who c p k mv value ∷ []) (progress v next new left')) (sym same) leads)
 

@@ -174,20 +174,20 @@ not_both e = false≢true (sym e)
 
 -- both ends are told
 module _ (sites : List Site) (h h1 h2 : List (List ℕ)) (k : ℕ) (pair : Ends) (phase : Phase) (ends : AreEnds sites k pair) where
-  put_len : (a b : List (List ℕ)) (o : Option ℕ) (p : ℕ) (bit : Bool) → PutEnd a b o p bit → length b ≡ length a
+  pub put_len : (a b : List (List ℕ)) (o : Option ℕ) (p : ℕ) (bit : Bool) → PutEnd a b o p bit → length b ≡ length a
   put_len a b None p bit same = ap length same
   put_len a b (Some c) p bit put = put.len
 
-  put_room : (a b : List (List ℕ)) (o : Option ℕ) (p : ℕ) (bit : Bool) → PutEnd a b o p bit → (d : ℕ) → length (here_at b d) ≡ length (here_at a d)
+  pub put_room : (a b : List (List ℕ)) (o : Option ℕ) (p : ℕ) (bit : Bool) → PutEnd a b o p bit → (d : ℕ) → length (here_at b d) ≡ length (here_at a d)
   put_room a b None p bit same d = ap (λ (l : List (List ℕ)). length (here_at l d)) same
   put_room a b (Some c) p bit put d = put.room d
 
   -- a port that is not at that end stays
-  put_off : (a b : List (List ℕ)) (side : Bool) (o : Option ℕ) → o ≡ at_side pair side → (bit : Bool) → PutEnd a b o (port_of_side pair side) bit → (d q : ℕ) → 0 < d → (IsEnd sites k side d q → ⊥) → flag_of (here_at b d) q ≡ flag_of (here_at a d) q
+  pub put_off : (a b : List (List ℕ)) (side : Bool) (o : Option ℕ) → o ≡ at_side pair side → (bit : Bool) → PutEnd a b o (port_of_side pair side) bit → (d q : ℕ) → 0 < d → (IsEnd sites k side d q → ⊥) → flag_of (here_at b d) q ≡ flag_of (here_at a d) q
   put_off a b side None is bit same d q from off = ap (λ (l : List (List ℕ)). flag_of (here_at l d) q) same
   put_off a b side (Some c) is bit put d q from off = put.others d q from (λ e. off (subst (λ (x : ℕ). IsEnd sites k side x q) (sym e.0) (subst (λ (y : ℕ). IsEnd sites k side c y) (sym e.1) (ends.holds side c (sym is)))))
 
-  put_on : (a b : List (List ℕ)) (o : Option ℕ) (p : ℕ) (bit : Bool) (c : ℕ) → o ≡ Some c → PutEnd a b o p bit → flag_of (here_at b c) p ≡ bit
+  pub put_on : (a b : List (List ℕ)) (o : Option ℕ) (p : ℕ) (bit : Bool) (c : ℕ) → o ≡ Some c → PutEnd a b o p bit → flag_of (here_at b c) p ≡ bit
   put_on a b None p bit c is put = absurd (cc)
   put_on a b (Some d) p bit c is put = let e : d ≡ c = cc in subst (λ (x : ℕ). flag_of (here_at b x) p ≡ bit) e put.at_port
 

@@ -1,9 +1,10 @@
 -- What each component is told of its channels: whether what a take or a got at a port waits for is there.
-use Rattle.std.specs.Prelude.{◌≡◌, ◌≢◌, ◌==◌, ◌+◌, ◌*◌, ◌/◌, ◌-◌, ◌<◌, ◌≤◌, ◌^◌, ℕ, Bool, false, not, Option, Some, List, [], length, slice_index_or, slice_set, MatchOption, IfSome}
+use Rattle.std.specs.Prelude.{◌≡◌, ◌≢◌, ◌==◌, ◌+◌, ◌*◌, ◌/◌, ◌-◌, ◌<◌, ◌≤◌, ◌^◌, ◌↔◌, ℕ, Bool, false, true, not, if◌then◌else◌, Option, Some, List, [], length, slice_index_or, slice_set, MatchOption, IfSome, IsTrue}
 use Rattle.bz_bits.specs.Row.{bit_of}
 use Rattle.bz_model.specs.declared.channel.Phase.{Phase}
 use Rattle.bz_model.specs.declared.channel.Phase.TheVariants.{Idle, Asked, Taken, Replied, Broken}
 use Rattle.bz_model.specs.declared.channel.Move.{Move}
+use Rattle.bz_model.specs.declared.channel.Move.TheVariants.{Ask, Take, Reply, Got}
 use Rattle.bz_model.specs.Heads.{Component, Head, HasOneHead, IsHeadOn, Moves, Turns, opens, open_at}
 use Rattle.bz_model.specs.Phases.{phase_after}
 use Rattle.bz_model.specs.Nets.{Site, Wiring, IsPort, StepsAt, site_at, chan_at, passive_at}
@@ -84,6 +85,31 @@ PutEnd heres heres' end p bit = MatchOption end (heres' ≡ heres) (λ c. PutAt 
 -- an end's port has a bit
 abbrev pub HasBit : List (List ℕ) → Option ℕ → ℕ → Type 0
 HasBit heres end p = IfSome end (λ c. (0 < c) × (c ≤ length heres) × (p < 64 * length (here_at heres c)))
+
+-- component c, whose moves turn their ports, was marked where a move is due at its port p, and no other was
+pub record MarkedDue (comps : List Component) (old new : List Bool) (c p : ℕ) : Type 0 where
+  pub turning : IsTurning (comp_at comps c)
+  pub due : Bool
+  pub tells : IsTrue due ↔ CanGo (comp_at comps c).proc p true
+  pub row : new ≡ (if due then slice_set old c true else old)
+
+-- a request or a reply came to port p of the component at an end, where there is one
+pub record Came (comps : List Component) (heres heres' : List (List ℕ)) (old new : List Bool) (end : Option ℕ) (p : ℕ) : Type 0 where
+  pub put : PutEnd heres heres' end p true
+  pub marked : MatchOption end (new ≡ old) (λ c. MarkedDue comps old new c p)
+
+-- what port p of component c waited for was taken from there, and nothing came to the component at the other end
+pub record Went (comps : List Component) (heres heres' : List (List ℕ)) (old new : List Bool) (c p : ℕ) (other : Option ℕ) : Type 0 where
+  pub put : PutAt heres heres' c p false
+  pub turning : IfSome other (λ d. IsTurning (comp_at comps d))
+  pub row : new ≡ old
+
+-- the ends of a channel were told of a move at port p of component c, which is there
+abbrev pub ToldMove : List Component → List (List ℕ) → List (List ℕ) → List Bool → List Bool → Ends → ℕ → ℕ → Move → Type 0
+ToldMove comps heres heres' old new pair c p Ask = Came comps heres heres' old new pair.passive pair.passive_port
+ToldMove comps heres heres' old new pair c p Take = Went comps heres heres' old new c p pair.active
+ToldMove comps heres heres' old new pair c p Reply = Came comps heres heres' old new pair.active pair.active_port
+ToldMove comps heres heres' old new pair c p Got = Went comps heres heres' old new c p pair.passive
 
 -- each component has as many channels as its site
 abbrev pub HasChans : List Site → List Component → Type 0

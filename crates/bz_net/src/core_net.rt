@@ -9,7 +9,7 @@ ghost use Rattle.bz_flat.specs.Wires.{WellWired};
 ghost use Rattle.bz_net.specs.Core.{IsSole};
 ghost use Rattle.bz_net.specs.Due.{Foresees, TellsDue};
 ghost use Rattle.bz_net.specs.Ends.{TellsEnds, TellsPort, IsSolePort};
-ghost use Rattle.bz_net.specs.Noted.{NotedAt};
+ghost use Rattle.bz_net.specs.Noted.{MeetBefore, NotedAt, NotedMove};
 ghost use Rattle.bz_net.specs.Sides.{answers};
 
 use crate::here::{command, lowest_port, mark_all, move_comp};
@@ -248,6 +248,7 @@ impl Core {
     }
 
     /// Moves a component at a port: the channel, the move and its value.
+    #[inline(always)]
     pub(crate) fn fire(&mut self, comp: u32, port: u32) -> (u32, Move, Option<Value>)
         requires { StepsAt self.old.wiring.sites self.old.state comp port }
         ensures wiring { self.new.wiring ≡ self.old.wiring }
@@ -255,6 +256,7 @@ impl Core {
         ensures sole { IsSole self.old self.new comp port result.0 result.1 result.2 }
         ensures from { 0 < result.0 }
         ensures to { result.0 ≤ length self.old.wiring.chans }
+        ensures met { MeetBefore self.old.wiring.sites self.old.state.phases self.new.state.phases result.1 }
     {
         move_comp(
             &self.sites,
@@ -298,5 +300,19 @@ impl Core {
     {
         let pair = self.ends[chan as usize - 1];
         note_clash(&self.sites, &self.phases, noted, pair.passive);
+    }
+
+    /// The same after a move on the channel: where it was no request, no requests can have met by it.
+    #[inline(always)]
+    pub(crate) fn note_move(&self, chan: u32, mv: Move, noted: &mut Noted)
+        requires from { 0 < chan }
+        requires to { chan ≤ length self.now.wiring.chans }
+        requires most { noted.old.most ≡ length self.now.wiring.sites }
+        ensures { NotedMove self.now.wiring.sites self.now.state.phases noted.old noted.new chan mv }
+    {
+        match mv {
+            Move::Ask => self.note_clash(chan, noted),
+            Move::Take | Move::Reply | Move::Got => {}
+        }
     }
 }

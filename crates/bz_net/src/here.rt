@@ -1,15 +1,15 @@
 //! What each component is told of its channels, the lowest port at which it can move by that, and its moves.
 
-ghost use Rattle.std.specs.Prelude.{◌≡◌, ◌≤◌, ◌<◌, ◌*◌, ◌^◌, ℕ, suc, length, map, MatchOption, MatchBool, IfSome, IfOk};
+ghost use Rattle.std.specs.Prelude.{◌≡◌, ◌≤◌, ◌<◌, ◌*◌, ◌^◌, ℕ, suc, false, true, Some, length, map, MatchOption, MatchBool, IfSome, IfOk};
 ghost use Rattle.bz_model.specs.Nets.{StepsAt};
 ghost use Rattle.bz_flat.specs.Wires.{StandsIn, ends_in};
 ghost use Rattle.bz_flat.specs.Flats.{site_of};
 ghost use Rattle.bz_kinds.specs.Ready.{CanGo};
 ghost use Rattle.bz_model.specs.Runs.{CanStep, IsLowest};
-ghost use Rattle.bz_net.specs.Keeping.{state_of, Placed, Refreshed, RefreshedEnds, MarksAll, CommandedAt, phase_in};
+ghost use Rattle.bz_net.specs.Keeping.{comp_at, state_of, Exact, Placed, Refreshed, RefreshedEnds, MarksAll, CommandedAt, phase_in};
 ghost use Rattle.bz_model.specs.Hosts.{host_after};
 ghost use Rattle.bz_net.specs.Nodes.{comps_of, heres_of};
-ghost use Rattle.bz_net.specs.Told.{is_here, flag_of, Goes, NoneGoes, GoesFirst, IsTurning, Sighted, AreEnds, AllAreEnds, HasBit, PutEnd, Retold, Turned, StaysSighted, HostSighted};
+ghost use Rattle.bz_net.specs.Told.{is_here, flag_of, Goes, NoneGoes, GoesFirst, IsTurning, Sighted, AreEnds, AllAreEnds, HasBit, MarkedDue, PutAt, PutEnd, Retold, ToldMove, Turned, StaysSighted, HostSighted};
 
 use crate::kept_phases::Phases;
 use crate::moves::reply_to;
@@ -224,8 +224,8 @@ pub(crate) fn mark_all(
     Ok(ready)
 }
 
-/// Moves a component at a port, tells both ends of the channel, and looks again whether the components there can move.
-/// Answers the channel, the move and its value.
+/// Moves a component at a port, tells the ends of the channel what the move has changed, and looks again whether the components
+/// there can move where that may have changed. Answers the channel, the move and its value.
 #[inline(always)]
 pub(crate) fn move_comp(
     sites: &Arena<FlatComp>,
@@ -241,6 +241,7 @@ pub(crate) fn move_comp(
     requires stays { StaysSighted (map site_of sites.now) phases.old (comps_of nodes.old) (heres_of nodes.old) comp port }
     requires steps { StepsAt (map site_of sites.now) (state_of phases.old (comps_of nodes.old)) comp port }
     requires row { length ready.old.row ≡ suc (length sites.now) }
+    requires exact { (c : ℕ) → Exact (map site_of sites.now) (state_of phases.old (comps_of nodes.old)) ready.old.row c }
     requires ends_len { length ends.now ≡ length phases.old }
     requires stands { StandsIn (map site_of sites.now) ends.now }
     requires are_ends { AllAreEnds (map site_of sites.now) ends.now }
@@ -255,9 +256,87 @@ pub(crate) fn move_comp(
     let next = phase.after(mv, value);
     phases.put(chan as usize - 1, next);
     let pair = ends[chan as usize - 1];
-    retell(sites, nodes, chan, pair, next);
-    refresh_ends(sites, phases, nodes, ready, pair);
+    tell_move(nodes, ready, pair, comp, port, mv);
+    refresh(sites, phases, nodes, ready, comp, port);
     (chan, mv, value)
+}
+
+// Tells the ends of a channel of a move at a port there. What a take or a got waited for is gone from that port. What a request
+// or a reply brings is there for the other end.
+#[inline(always)]
+fn tell_move(
+    nodes: &mut Arena<Node>,
+    ready: &mut ReadySet,
+    pair: Ends,
+    comp: u32,
+    port: u32,
+    mv: Move,
+)
+    requires own { HasBit (heres_of nodes.old) (Some comp) port }
+    requires active { HasBit (heres_of nodes.old) pair.active pair.active_port }
+    requires passive { HasBit (heres_of nodes.old) pair.passive pair.passive_port }
+    requires row { length ready.old.row ≡ suc (length nodes.old) }
+    ensures told { ToldMove (comps_of nodes.old) (heres_of nodes.old) (heres_of nodes.new) ready.old.row ready.new.row pair comp port mv }
+    ensures comps { comps_of nodes.new ≡ comps_of nodes.old }
+{
+    match mv {
+        Move::Ask => tell_other(nodes, ready, pair.passive, pair.passive_port),
+        Move::Take => tell_own(nodes, comp, port, pair.active),
+        Move::Reply => tell_other(nodes, ready, pair.active, pair.active_port),
+        Move::Got => tell_own(nodes, comp, port, pair.passive),
+    }
+}
+
+// Nothing that a port may wait for is there. A look at the component at the other end brings what its type says of its moves.
+#[inline(always)]
+fn tell_own(nodes: &mut Arena<Node>, comp: u32, port: u32, other: Option<u32>)
+    requires own { HasBit (heres_of nodes.old) (Some comp) port }
+    requires other { IfSome other (λ c. (0 < c) × (c ≤ length nodes.old)) }
+    ensures put { PutAt (heres_of nodes.old) (heres_of nodes.new) comp port false }
+    ensures turning { IfSome other (λ c. IsTurning (comp_at (comps_of nodes.old) c)) }
+    ensures comps { comps_of nodes.new ≡ comps_of nodes.old }
+{
+    look_at(nodes, other);
+    tell_end(nodes, Some(comp), port, false);
+}
+
+#[inline(always)]
+fn look_at(nodes: &Arena<Node>, end: Option<u32>)
+    requires { IfSome end (λ c. (0 < c) × (c ≤ length nodes.now)) }
+    ensures { IfSome end (λ c. IsTurning (comp_at (comps_of nodes.now) c)) }
+{
+    if let Some(comp) = end {
+        let _due = bz_kinds::has_move(&nodes.get(node_id(comp)).comp, 1);
+    }
+}
+
+// What a port may wait for is there: where a move is due at it, its component can move.
+#[inline(always)]
+fn tell_other(nodes: &mut Arena<Node>, ready: &mut ReadySet, end: Option<u32>, port: u32)
+    requires bit { HasBit (heres_of nodes.old) end port }
+    requires row { length ready.old.row ≡ suc (length nodes.old) }
+    ensures put { PutEnd (heres_of nodes.old) (heres_of nodes.new) end port true }
+    ensures marked { MatchOption end (ready.new.row ≡ ready.old.row)
+        (λ c. MarkedDue (comps_of nodes.old) ready.old.row ready.new.row c port) }
+    ensures comps { comps_of nodes.new ≡ comps_of nodes.old }
+{
+    mark_due(nodes, ready, end, port);
+    tell_end(nodes, end, port, true);
+}
+
+// Marks the component at an end where a move is due at its port.
+#[inline(always)]
+fn mark_due(nodes: &Arena<Node>, ready: &mut ReadySet, end: Option<u32>, port: u32)
+    requires end { IfSome end (λ c. (0 < c) × (c ≤ length nodes.now)) }
+    requires row { length ready.old.row ≡ suc (length nodes.now) }
+    ensures { MatchOption end (ready.new.row ≡ ready.old.row)
+        (λ c. MarkedDue (comps_of nodes.now) ready.old.row ready.new.row c port) }
+{
+    if let Some(comp) = end {
+        if bz_kinds::has_move(&nodes.get(node_id(comp)).comp, port) {
+            ready.insert(comp);
+        }
+    }
 }
 
 /// Makes a host command at an external port, tells both ends of its channel, and looks again whether the components there

@@ -199,7 +199,7 @@ impl Net {
     {
         self.admit()?;
         let (chan, mv, value) = self.core.fire(comp, port);
-        self.core.note_clash(chan, &mut self.noted);
+        self.core.note_move(chan, mv, &mut self.noted);
         let entry = Entry::Fired {
             who,
             comp,

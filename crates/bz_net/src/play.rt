@@ -201,7 +201,7 @@ impl Play {
     {
         self.left -= 1;
         let (chan, mv, value) = self.core.fire(comp, port);
-        self.core.note_clash(chan, &mut self.noted);
+        self.core.note_move(chan, mv, &mut self.noted);
         Entry::Fired {
             who,
             comp,

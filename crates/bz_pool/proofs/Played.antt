@@ -1,5 +1,5 @@
 -- The plays of all sessions, in turn.
-use Rattle.std.proofs.Common.{Result, Ok, Err, ◌≡◌, ℕ, suc, ◌+◌, List, [], ◌∷◌, ◌++◌, length, map, get_or, refl, sym, ap, subst, ◌∙◌, arith, length-append}
+use Rattle.std.proofs.Common.{Result, Ok, Err, ◌≡◌, ℕ, suc, ◌+◌, List, [], ◌∷◌, ◌++◌, length, map, take, get_or, refl, sym, ap, subst, ◌∙◌, arith, length-append}
 use Rattle.std.specs.Prelude.{IfErr, IfOk}
 use Rattle.std.specs.List.{All}
 use Rattle.std.specs.declared.alloc.Global.{Global}
@@ -19,12 +19,20 @@ use Rattle.bz_locked.specs.declared.closing.CloseError.TheVariants as close
 use Rattle.bz_pool.specs.declared.pool.PoolError.{PoolError}
 use Rattle.bz_pool.specs.declared.pool.PoolError.TheVariants.{Close}
 use Rattle.bz_session.specs.declared.playing.End.{End}
-use Rattle.bz_pool.specs.Crews.{AddsWork, EachPlayed, HavePlayed, TellsDiscord}
-use Rattle.bz_pool.specs.Pooled.{ArePlayed, Differs, IsPlayed, PlayInTurn, RefusesPool, hands, hosts, in_turn}
+use Rattle.bz_past.specs.Moments.{Leads}
+use Rattle.bz_past.specs.declared.view.Moment.{Moment}
+use Rattle.bz_locked.proofs.Seeing.{once_on}
+use Rattle.bz_session.specs.Playing.{answered}
+use Rattle.bz_session.specs.declared.playing.End.TheVariants as end
+use Rattle.bz_words.specs.declared.words.SessionError.TheVariants as session
+use Rattle.bz_session.proofs.Turns.{answers_on, end_on}
+use Rattle.std.proofs.lemmas.List.Elements.{All-nil, All-cons, All-head, All-tail}
+use Rattle.bz_pool.specs.Crews.{AddsWork, EachPlayed, EachWorked, HavePlayed, TellsDiscord}
+use Rattle.bz_pool.specs.Pooled.{ArePlayed, Differs, IsPlayed, PlayInTurn, WorkEndIs, RefusesPool, hands, hosts, in_turn}
 use Rattle.bz_locked.specs.Terms.{Terms, terms}
 
 -- one session more
-pub played_more : (w : Terms) (ls : List (Vec HostCmd Global)) (ss : List SessionView) (es : List End) (l : Vec HostCmd Global) (s : SessionView) (e : End) → EachPlayed w ls ss es → IsPlayed w s.who l.items e s.own → EachPlayed w (ls ++ l ∷ []) (ss ++ s ∷ []) (es ++ e ∷ [])
+pub played_more : (w : Terms) (ls : List (Vec HostCmd Global)) (ss : List SessionView) (es : List End) (l : Vec HostCmd Global) (s : SessionView) (e : End) → EachPlayed w ls ss es → IsPlayed w s.seat.saw s.who l.items e s.own → EachPlayed w (ls ++ l ∷ []) (ss ++ s ∷ []) (es ++ e ∷ [])
 played_more w [] [] [] l s e all is = (is, tt)
 played_more w [] [] (y ∷ ys) l s e all is = absurd all
 played_more w [] (x ∷ xs) ys l s e all is = absurd all
@@ -46,43 +54,81 @@ abbrev behind : List Who → List Who
 behind [] = []
 behind (x ∷ xs) = xs
 
+-- what led to this has led to what comes of it
+played_on : (t : Terms) (a b : Moment) (who : Who) (words : List HostCmd) (end : End) (own : List Entry) → Leads a b → IsPlayed t a who words end own → IsPlayed t b who words end own
+played_on t a b who words end own on is = record {
+  answers = record {
+    entries = is.answers.entries;
+    grown = is.answers.grown;
+    answers = answers_on t a b who (take (answered end (length words)) words) is.answers.entries on is.answers.answers;
+  };
+  why = end_on t a b words end on is.why;
+  word = is.word;
+}
+
+work_on : (t : Terms) (a b : Moment) (end : End) → Leads a b → WorkEndIs t a end → WorkEndIs t b end
+work_on t a b end.Done on is = absurd is
+work_on t a b (end.Resting word) on is = (is.0, once_on t a b _ on is.1)
+work_on t a b (end.Spent word) on is = (is.0, once_on t a b _ on is.1)
+work_on t a b (end.Stopped word) on is = (is.0, once_on t a b _ on is.1)
+work_on t a b (end.Refused word (session.Event e)) on is = is
+work_on t a b (end.Refused word (session.BadWord at)) on is = absurd is
+work_on t a b (end.Refused word session.Memory) on is = absurd is
+
+-- one worker more
+pub worked_more : (t : Terms) (ws : List WorkerView) (es : List End) (v : WorkerView) (e : End) → EachWorked t ws es → WorkEndIs t v.seat.saw e → EachWorked t (ws ++ v ∷ []) (es ++ e ∷ [])
+worked_more t [] [] v e all is = (is, tt)
+worked_more t [] (y ∷ ys) v e all is = absurd all
+worked_more t (x ∷ xs) [] v e all is = absurd all
+worked_more t (x ∷ xs) (y ∷ ys) v e all is = (all.0, worked_more t xs ys v e all.1 is)
+
+all_worked : (t : Terms) (last : Moment) (ws : List WorkerView) (es : List End) → All (λ (v : WorkerView). Leads v.seat.saw last) ws → EachWorked t ws es → All (WorkEndIs t last) es
+all_worked t last [] [] saw all = All-nil (WorkEndIs t last)
+all_worked t last [] (y ∷ ys) saw all = absurd all
+all_worked t last (x ∷ xs) [] saw all = absurd all
+all_worked t last (x ∷ xs) (y ∷ ys) saw all =
+    let Saw : WorkerView → Type 0 = λ v. Leads v.seat.saw last in
+    All-cons (WorkEndIs t last) y ys (work_on t x.seat.saw last y (All-head Saw x xs saw) all.0) (all_worked t last xs ys (All-tail Saw x xs saw) all.1)
+
 -- where the sessions are Host k+1 and on, and each record is its part of the journal, they play in turn
-pub in_turn_played : (w : Terms) (journal : List Entry) (k : ℕ) (ls : List (Vec HostCmd Global)) (ss : List SessionView) (es : List End) → map (λ s. s.who) ss ≡ in_turn Host k (length ls) → All (RecordAgrees journal) ss → EachPlayed w ls ss es → PlayInTurn w journal k ls es
-in_turn_played w journal k [] [] [] whos own all = tt
-in_turn_played w journal k [] [] (y ∷ ys) whos own all = absurd all
-in_turn_played w journal k [] (x ∷ xs) ys whos own all = absurd all
-in_turn_played w journal k (z ∷ zs) [] ys whos own all = absurd all
-in_turn_played w journal k (z ∷ zs) (x ∷ xs) [] whos own all = absurd all
-in_turn_played w journal k (z ∷ zs) (x ∷ xs) (y ∷ ys) whos own all =
+pub in_turn_played : (w : Terms) (last : Moment) (k : ℕ) (ls : List (Vec HostCmd Global)) (ss : List SessionView) (es : List End) → map (λ s. s.who) ss ≡ in_turn Host k (length ls) → All (RecordAgrees last.net.journal) ss → All (λ (s : SessionView). Leads s.seat.saw last) ss → EachPlayed w ls ss es → PlayInTurn w last k ls es
+in_turn_played w last k [] [] [] whos own saw all = tt
+in_turn_played w last k [] [] (y ∷ ys) whos own saw all = absurd all
+in_turn_played w last k [] (x ∷ xs) ys whos own saw all = absurd all
+in_turn_played w last k (z ∷ zs) [] ys whos own saw all = absurd all
+in_turn_played w last k (z ∷ zs) (x ∷ xs) [] whos own saw all = absurd all
+in_turn_played w last k (z ∷ zs) (x ∷ xs) (y ∷ ys) whos own saw all =
     let who : x.who ≡ Host (suc k) = ap (λ (l : List Who). get_or l 0 x.who) whos in
-    let mine : x.own ≡ part_of (Host (suc k)) journal = own 0 x (omega arith) ∙ ap (λ h. part_of h journal) who in
-    let is : IsPlayed w (Host (suc k)) z.items y x.own = subst (λ (h : Who). IsPlayed w h z.items y x.own) who all.0 in
-    (subst (λ (l : List Entry). IsPlayed w (Host (suc k)) z.items y l) mine is, in_turn_played w journal (suc k) zs xs ys (ap behind whos) (λ i d lt. own (suc i) d (omega arith)) all.1)
+    let mine : x.own ≡ part_of (Host (suc k)) last.net.journal = own 0 x (omega arith) ∙ ap (λ h. part_of h last.net.journal) who in
+    let later : IsPlayed w last x.who z.items y x.own = played_on w x.seat.saw last x.who z.items y x.own (saw 0 x (omega arith)) all.0 in
+    let is : IsPlayed w last (Host (suc k)) z.items y x.own = subst (λ (h : Who). IsPlayed w last h z.items y x.own) who later in
+    (subst (λ (l : List Entry). IsPlayed w last (Host (suc k)) z.items y l) mine is, in_turn_played w last (suc k) zs xs ys (ap behind whos) (λ i d lt. own (suc i) d (omega arith)) (λ i d lt. saw (suc i) d (omega arith)) all.1)
 
 -- the sessions played their lists, and then come the ends of the workers
-pub have_played : (w : Terms) (mid lists : List (Vec HostCmd Global)) (ss : List SessionView) (n m : ℕ) (es ends : List End) → mid ≡ lists → n ≡ m → EachPlayed w mid ss es → AddsWork w n es ends → HavePlayed w lists ss m ends
-have_played w mid lists ss n m es ends same number played adds = record {
+pub have_played : (w : Terms) (mid lists : List (Vec HostCmd Global)) (ss : List SessionView) (vs : List WorkerView) (n m : ℕ) (es ends : List End) → mid ≡ lists → n ≡ m → EachPlayed w mid ss es → AddsWork w vs n es ends → HavePlayed w lists ss vs m ends
+have_played w mid lists ss vs n m es ends same number played adds = record {
   of_sessions = es;
   played = subst (λ (l : List (Vec HostCmd Global)). EachPlayed w l ss es) same played;
-  then = subst (λ k. AddsWork w k es ends) number adds;
+  then = subst (λ k. AddsWork w vs k es ends) number adds;
 }
 
 -- there is an end of each
-pub ends_count : (w : Terms) (lists : List (Vec HostCmd Global)) (ss : List SessionView) (m : ℕ) (ends : List End) → HavePlayed w lists ss m ends → length ends ≡ length lists + m
-ends_count w lists ss m ends have =
+pub ends_count : (w : Terms) (lists : List (Vec HostCmd Global)) (ss : List SessionView) (vs : List WorkerView) (m : ℕ) (ends : List End) → HavePlayed w lists ss vs m ends → length ends ≡ length lists + m
+ends_count w lists ss vs m ends have =
     let counts = played_count w lists ss have.of_sessions have.played in
     let grown = ap length have.then.grown ∙ length-append have.of_sessions have.then.of_workers in
     omega (arith, counts.1, grown, have.then.number)
 
 -- what the threads did, told of the journal
-pub all_played : (w : Terms) (journal : List Entry) (ls : List (Vec HostCmd Global)) (ss : List SessionView) (workers : ℕ) (ends : List End) → map (λ s. s.who) ss ≡ in_turn Host 0 (length ls) → All (RecordAgrees journal) ss → HavePlayed w ls ss workers ends → ArePlayed w ls workers journal ends
-all_played w journal ls ss workers ends whos own have = record {
+pub all_played : (w : Terms) (last : Moment) (ls : List (Vec HostCmd Global)) (ss : List SessionView) (vs : List WorkerView) (workers : ℕ) (ends : List End) → map (λ s. s.who) ss ≡ in_turn Host 0 (length ls) → All (RecordAgrees last.net.journal) ss
+    → All (λ (s : SessionView). Leads s.seat.saw last) ss → All (λ (v : WorkerView). Leads v.seat.saw last) vs → HavePlayed w ls ss vs workers ends → ArePlayed w ls workers last ends
+all_played w last ls ss vs workers ends whos own saw seen have = record {
   of_sessions = have.of_sessions;
   of_workers = have.then.of_workers;
   ends_are = have.then.grown;
-  played = in_turn_played w journal 0 ls ss have.of_sessions whos own have.played;
+  played = in_turn_played w last 0 ls ss have.of_sessions whos own saw have.played;
   count = have.then.number;
-  worked = have.then.worked;
+  worked = all_worked w last vs have.then.of_workers seen have.then.worked;
 }
 
 -- what holds of an answer, by two clauses of it

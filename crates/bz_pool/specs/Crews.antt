@@ -23,20 +23,27 @@ EachPlayed t [] [] (e ∷ es) = ⊥
 EachPlayed t [] (s ∷ ss) es = ⊥
 EachPlayed t (l ∷ ls) [] es = ⊥
 EachPlayed t (l ∷ ls) (s ∷ ss) [] = ⊥
-EachPlayed t (l ∷ ls) (s ∷ ss) (e ∷ es) = IsPlayed t s.who l.items e s.own × EachPlayed t ls ss es
+EachPlayed t (l ∷ ls) (s ∷ ss) (e ∷ es) = IsPlayed t s.seat.saw s.who l.items e s.own × EachPlayed t ls ss es
+
+-- each worker has ended as told
+abbrev pub EachWorked : Terms → List WorkerView → List End → Type 0
+EachWorked t [] [] = ⊤
+EachWorked t [] (e ∷ es) = ⊥
+EachWorked t (v ∷ vs) [] = ⊥
+EachWorked t (v ∷ vs) (e ∷ es) = WorkEndIs t v.seat.saw e × EachWorked t vs es
 
 -- the ends of so many workers more
-pub record AddsWork (t : Terms) (count : ℕ) (old new : List End) : Type 0 where
+pub record AddsWork (t : Terms) (workers : List WorkerView) (count : ℕ) (old new : List End) : Type 0 where
   pub of_workers : List End
   pub grown : new ≡ old ++ of_workers
   pub number : length of_workers ≡ count
-  pub worked : All (WorkEndIs t) of_workers
+  pub worked : EachWorked t workers of_workers
 
 -- The sessions have played their lists, and the ends are theirs and then those of so many workers.
-pub record HavePlayed (t : Terms) (lists : List (Vec HostCmd Global)) (sessions : List SessionView) (workers : ℕ) (ends : List End) : Type 0 where
+pub record HavePlayed (t : Terms) (lists : List (Vec HostCmd Global)) (sessions : List SessionView) (crew : List WorkerView) (workers : ℕ) (ends : List End) : Type 0 where
   pub of_sessions : List End
   pub played : EachPlayed t lists sessions of_sessions
-  pub then : AddsWork t workers of_sessions ends
+  pub then : AddsWork t crew workers of_sessions ends
 
 -- the error is a discord, which is first there
 pub record TellsDiscord (sessions : List SessionView) (workers : List WorkerView) (closed : Closed) (error : PoolError) : Type 0 where

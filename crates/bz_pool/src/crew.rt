@@ -25,7 +25,7 @@ impl<L: NetLedger> Promise<(Session, End)> for PlayOf<L> {
     ghost use Rattle.std.specs.Prelude.{◌≡◌};
     ghost use Rattle.bz_pool.specs.Pooled.{IsPlayed};
 
-    ghost kept_by = { λ p r. (r.0.seat.table ≡ p.0.value.table) × (r.0.who ≡ p.1) × IsPlayed L.terms r.0.who p.2.value.items r.1 r.0.own };
+    ghost kept_by = { λ p r. (r.0.seat.table ≡ p.0.value.table) × (r.0.who ≡ p.1) × IsPlayed L.terms r.0.seat.saw r.0.who p.2.value.items r.1 r.0.own };
 }
 
 /// What comes back is of this net and of this worker, which has ended for such a reason.
@@ -36,7 +36,7 @@ impl<L: NetLedger> Promise<(Worker<L>, End)> for WorkOf<L> {
     ghost use Rattle.std.specs.Prelude.{◌≡◌};
     ghost use Rattle.bz_pool.specs.Pooled.{WorkEndIs};
 
-    ghost kept_by = { λ p r. (r.0.seat.table ≡ p.0.value.table) × (r.0.who ≡ p.1) × WorkEndIs L.terms r.1 };
+    ghost kept_by = { λ p r. (r.0.seat.table ≡ p.0.value.table) × (r.0.who ≡ p.1) × WorkEndIs L.terms r.0.seat.saw r.1 };
 }
 
 fn session_thread<L: NetLedger, R: Wait>(
@@ -47,7 +47,7 @@ fn session_thread<L: NetLedger, R: Wait>(
 ) -> (Session, End)
     requires { (session.seat.table ≡ shared.now.table) × (session.own ≡ []) }
     ensures who { (result.0.seat.table ≡ shared.now.table) × (result.0.who ≡ session.who) }
-    ensures played { IsPlayed L.terms result.0.who words.items result.1 result.0.own }
+    ensures played { IsPlayed L.terms result.0.seat.saw result.0.who words.items result.1 result.0.own }
 {
     let mut session = session;
     let end = play(shared, rt, &mut session, &words);
@@ -71,7 +71,7 @@ pub fn start_session<'s, E, L: NetLedger + Send + Sync, R: Wait + Sync>(
         promise,
         move || -> (Session, End)
             requires { (session.seat.table ≡ shared.now.table) × (session.own ≡ []) }
-            ensures { (result.0.seat.table ≡ shared.entry.now.table) × (result.0.who ≡ session.who) × IsPlayed L.terms result.0.who words.items result.1 result.0.own }
+            ensures { (result.0.seat.table ≡ shared.entry.now.table) × (result.0.who ≡ session.who) × IsPlayed L.terms result.0.seat.saw result.0.who words.items result.1 result.0.own }
         { session_thread(shared, rt, session, words) },
     );
     started.ok()
@@ -85,7 +85,7 @@ fn worker_thread<L: NetLedger, G: Gate, R: Wait>(
 ) -> (Worker<L>, End)
     requires { job.worker.seat.table ≡ shared.now.table }
     ensures who { (result.0.seat.table ≡ shared.now.table) × (result.0.who ≡ job.worker.who) }
-    ensures end { WorkEndIs L.terms result.1 }
+    ensures end { WorkEndIs L.terms result.0.seat.saw result.1 }
 {
     let mut job = job;
     let end = job.work(shared, rt, gate);
@@ -114,7 +114,7 @@ pub fn start_worker<'s, E, L: NetLedger + Send + Sync, G: Gate + Sync, R: Wait +
         promise,
         move || -> (Worker<L>, End)
             requires { job.worker.seat.table ≡ shared.now.table }
-            ensures { (result.0.seat.table ≡ shared.entry.now.table) × (result.0.who ≡ job.worker.who) × WorkEndIs L.terms result.1 }
+            ensures { (result.0.seat.table ≡ shared.entry.now.table) × (result.0.who ≡ job.worker.who) × WorkEndIs L.terms result.0.seat.saw result.1 }
         { worker_thread(shared, rt, gate, job) },
     );
     started.ok()
@@ -155,7 +155,7 @@ pub fn join_workers<L: NetLedger, R: Threads>(
     requires room { (workers.old.items ≡ []) × (vec_len running ≤ vec_capacity workers.old) × (vec_len ends.old + vec_len running ≤ vec_capacity ends.old) }
     ensures who { map (λ w. w.who) workers.new.items ≡ map (λ h. h.promise.1) running.items }
     ensures workers { (vec_len workers.new ≡ vec_len running) × All (λ w. w.seat.table ≡ shared.now.table) workers.new.items }
-    ensures ends { AddsWork L.terms (vec_len running) ends.old.items ends.new.items }
+    ensures ends { AddsWork L.terms workers.new.items (vec_len running) ends.old.items ends.new.items }
 {
     for handle in running {
         let (worker, end) = handle.join(rt);

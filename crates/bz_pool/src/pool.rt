@@ -1,10 +1,11 @@
 //! The pool: a net, its sessions and its workers, from start to end.
 
-ghost use Rattle.std.specs.Prelude.{◌≡◌, ◌+◌, ◌≤◌, ◌<◌, [], length, map, vec_len, IfErr, IfOk, MatchResult};
+ghost use Rattle.std.specs.Prelude.{◌≡◌, ◌+◌, ◌≤◌, ◌<◌, [], false, length, map, vec_len, IfErr, IfOk, MatchResult};
 ghost use Rattle.std.specs.List.{All};
 ghost use Rattle.std.specs.Vec.{vec_capacity};
 ghost use Rattle.bz_locked.specs.Closing.{Gathers, Agrees};
 ghost use Rattle.bz_locked.specs.Terms.{terms};
+ghost use Rattle.bz_past.specs.Moments.{moment};
 ghost use Rattle.bz_locked.specs.declared.closing.Closed.{Closed};
 ghost use Rattle.bz_pool.specs.Crews.{HavePlayed, TellsDiscord};
 ghost use Rattle.bz_pool.specs.Pooled.{ArePlayed, IsPooled, RefusesPool, hosts, hands};
@@ -12,7 +13,7 @@ ghost use Rattle.bz_pool.specs.Pooled.{ArePlayed, IsPooled, RefusesPool, hosts, 
 use crate::crew::{PlayOf, WorkOf, join_sessions, join_workers, start_session, start_worker};
 use crate::raids::{all_raids, decks};
 use crate::work::{Gate, Job};
-use bz_locked::{CloseError, Closed, NetLedger, Session, SharedNet, Worker};
+use bz_locked::{CloseError, Closed, Keeper, NetLedger, Past, Session, SharedNet, Worker};
 use bz_model::HostCmd;
 use bz_net::Net;
 use bz_session::End;
@@ -191,7 +192,7 @@ fn run_threads<'s, E, L: NetLedger + Send + Sync, G: Gate + Sync, R: Threads + W
     requires workers { All (λ w. w.seat.table ≡ shared.now.table) workers.items }
     ensures sessions { IfOk result (λ c. (vec_len c.sessions ≡ vec_len sessions) × All (λ s. s.seat.table ≡ shared.now.table) c.sessions.items) }
     ensures workers { IfOk result (λ c. (vec_len c.workers ≡ vec_len workers) × All (λ w. w.seat.table ≡ shared.now.table) c.workers.items) }
-    ensures played { IfOk result (λ c. HavePlayed L.terms lists.items c.sessions.items (vec_len workers) c.ends.items) }
+    ensures played { IfOk result (λ c. HavePlayed L.terms lists.items c.sessions.items c.workers.items (vec_len workers) c.ends.items) }
     ensures who { IfOk result (λ c. (map (λ s. s.who) c.sessions.items ≡ map (λ s. s.who) sessions.items) × (map (λ w. w.who) c.workers.items ≡ map (λ w. w.who) workers.items)) }
 {
     let Ok(mut back) = Vec::with_capacity(alloc, sessions.len()) else {
@@ -231,7 +232,7 @@ fn in_scope<'x, L: NetLedger + Send + Sync, G: Gate + Sync, R: Threads + Wait + 
     requires workers { All (λ w. w.seat.table ≡ shared.now.table) workers.items }
     ensures sessions { IfOk result (λ c. (vec_len c.sessions ≡ vec_len sessions) × All (λ s. s.seat.table ≡ shared.now.table) c.sessions.items) }
     ensures workers { IfOk result (λ c. (vec_len c.workers ≡ vec_len workers) × All (λ w. w.seat.table ≡ shared.now.table) c.workers.items) }
-    ensures played { IfOk result (λ c. HavePlayed L.terms lists.items c.sessions.items (vec_len workers) c.ends.items) }
+    ensures played { IfOk result (λ c. HavePlayed L.terms lists.items c.sessions.items c.workers.items (vec_len workers) c.ends.items) }
     ensures who { IfOk result (λ c. (map (λ s. s.who) c.sessions.items ≡ map (λ s. s.who) sessions.items) × (map (λ w. w.who) c.workers.items ≡ map (λ w. w.who) workers.items)) }
 {
     thread::scope(
@@ -241,7 +242,7 @@ fn in_scope<'x, L: NetLedger + Send + Sync, G: Gate + Sync, R: Threads + Wait + 
             requires { All (λ s. (s.seat.table ≡ shared.now.table) × (s.own ≡ [])) sessions.items × (vec_len lists ≡ vec_len sessions) × All (λ w. w.seat.table ≡ shared.now.table) workers.items }
             ensures { IfOk result (λ c. (vec_len c.sessions ≡ vec_len sessions) × All (λ s. s.seat.table ≡ shared.entry.now.table) c.sessions.items × (vec_len c.workers ≡ vec_len workers) × All (λ w. w.seat.table ≡ shared.entry.now.table) c.workers.items
                 × (map (λ s. s.who) c.sessions.items ≡ map (λ s. s.who) sessions.items) × (map (λ w. w.who) c.workers.items ≡ map (λ w. w.who) workers.items)
-                × HavePlayed L.terms lists.items c.sessions.items (vec_len workers) c.ends.items) }
+                × HavePlayed L.terms lists.items c.sessions.items c.workers.items (vec_len workers) c.ends.items) }
         { run_threads(scope, rt, alloc, shared, gate, sessions, lists, workers) },
     )
 }
@@ -271,6 +272,7 @@ fn pool<L: NetLedger + Send + Sync, G: Gate + Sync, R: Threads + Wait + Sync>(
     rt: &R,
     alloc: Global,
     blank: Blank,
+    opened: (Past, Keeper),
     net: Net,
     workers: u8,
     fuel: u64,
@@ -279,14 +281,15 @@ fn pool<L: NetLedger + Send + Sync, G: Gate + Sync, R: Threads + Wait + Sync>(
 ) -> Result<(Closed, Vec<End>), PoolError>
     requires ledger { (blank.name ≡ L.name) × (blank.parts ≡ L.parts) × (L.parts ≡ workers) }
     requires counts { (1 ≤ vec_len lists) × (vec_len lists ≤ 16) × (1 ≤ workers) × (workers ≤ 8) }
+    requires past { (opened.0 ≡ L.past) × (opened.1.table ≡ L.past) × (opened.1.now ≡ moment net false) }
     requires opening { (net.wiring ≡ L.terms.wiring) × (fuel ≡ L.terms.fuel) × (vec_len lists ≡ L.terms.sessions) }
     requires unused { net.journal ≡ [] }
     ensures pooled { IfOk result (λ r. IsPooled net.wiring fuel (vec_len lists) workers r.0) }
-    ensures played { IfOk result (λ r. ArePlayed (terms net.wiring fuel (vec_len lists)) lists.items workers r.0.net.journal r.1.items) }
+    ensures played { IfOk result (λ r. ArePlayed (terms net.wiring fuel (vec_len lists)) lists.items workers (moment r.0.net r.0.stopped) r.1.items) }
     ensures ends { IfOk result (λ r. vec_len r.1 ≡ vec_len lists + workers) }
     ensures refused { IfErr result (RefusesPool net.wiring fuel (vec_len lists) workers) }
 {
-    let made = SharedNet::<L>::new(alloc, blank, net, fuel, lists.len() as u8, workers);
+    let made = SharedNet::<L>::new(alloc, blank, opened, net, fuel, lists.len() as u8, workers);
     let (net, sessions, crew) = match made {
         Ok(made) => made,
         Err(error) => return Err(PoolError::Close(error)),
@@ -313,14 +316,18 @@ pub fn run_pool<G: Gate + Sync, R: Threads + Wait + Sync>(
     requires counts { (1 ≤ vec_len lists) × (vec_len lists ≤ 16) × (1 ≤ workers) × (workers ≤ 8) }
     requires unused { net.journal ≡ [] }
     ensures pooled { IfOk result (λ r. IsPooled net.wiring fuel (vec_len lists) workers r.0) }
-    ensures played { IfOk result (λ r. ArePlayed (terms net.wiring fuel (vec_len lists)) lists.items workers r.0.net.journal r.1.items) }
+    ensures played { IfOk result (λ r. ArePlayed (terms net.wiring fuel (vec_len lists)) lists.items workers (moment r.0.net r.0.stopped) r.1.items) }
     ensures ends { IfOk result (λ r. vec_len r.1 ≡ vec_len lists + workers) }
     ensures refused { IfErr result (RefusesPool net.wiring fuel (vec_len lists) workers) }
 {
+    let Ok(opened) = Past::open(alloc, &net) else {
+        return Err(PoolError::Memory);
+    };
     pool::<Brand, G, R>(
         rt,
         alloc,
         Blank::new(workers as u64),
+        opened,
         net,
         workers,
         fuel,

@@ -32,7 +32,7 @@ impl<L: NetLedger> Job<L> {
     pub fn work<G: Gate, R: Wait>(&mut self, shared: &SharedNet<L>, rt: &R, gate: &G) -> End
         requires { self.old.worker.seat.table ≡ shared.now.table }
         ensures who { (self.new.worker.who ≡ self.old.worker.who) × (self.new.worker.seat.table ≡ self.old.worker.seat.table) }
-        ensures end { WorkEndIs L.terms result }
+        ensures end { WorkEndIs L.terms self.new.worker.seat.saw result }
     {
         match self.work_on(shared, rt, gate) {
             Ok(end) => end,
@@ -49,7 +49,7 @@ impl<L: NetLedger> Job<L> {
     ) -> Result<End, NetError>
         requires { self.old.worker.seat.table ≡ shared.now.table }
         ensures who { (self.new.worker.who ≡ self.old.worker.who) × (self.new.worker.seat.table ≡ self.old.worker.seat.table) }
-        ensures end { IfOk result (WorkEndIs L.terms) }
+        ensures end { IfOk result (WorkEndIs L.terms self.new.worker.seat.saw) }
     {
         for _ in rt.forever() {
             let goes_on = match self.next_comp(shared, rt)? {

@@ -7,6 +7,7 @@ use Rattle.bz_model.specs.declared.event.Entry.{Entry}
 use Rattle.bz_net.specs.Answering.{is_answer}
 use Rattle.bz_locked.specs.Commands.{IsEntryOf, RefusesPoll}
 use Rattle.bz_locked.specs.Terms.{Terms}
+use Rattle.bz_past.specs.declared.view.Moment.{Moment}
 use Rattle.bz_locked.specs.Working.{WasAdded, WasTold, WasRefused}
 use Rattle.bz_locked.specs.declared.locked.Work.TheVariants as work
 use Rattle.bz_words.specs.declared.words.SessionError.TheVariants.{BadWord, Event, Memory}
@@ -29,33 +30,34 @@ NamesWord (Spent word) count = (0 < word) × (word ≤ count)
 NamesWord (Stopped word) count = (0 < word) × (word ≤ count)
 NamesWord (Refused word e) count = (0 < word) × (word ≤ count)
 
--- the entry of a command that was answered, which was added to the journal
-abbrev pub IsAnswerTo : Terms → Who → HostCmd → Entry → Type 0
-IsAnswerTo t who cmd entry = (reply : Reply) × (is_answer reply ≡ true) × IsEntryOf t.wiring.ports who cmd reply entry × ((len : ℕ) × WasAdded t entry len)
+-- the entry of a command that was answered, which was added to the journal and has led to what was seen
+abbrev pub IsAnswerTo : Terms → Moment → Who → HostCmd → Entry → Type 0
+IsAnswerTo t saw who cmd entry = (reply : Reply) × (is_answer reply ≡ true) × IsEntryOf t.wiring.ports who cmd reply entry × ((len : ℕ) × WasAdded t saw entry len)
 
 -- an entry for each command, in order
-abbrev pub AreAnswers : Terms → Who → List HostCmd → List Entry → Type 0
-AreAnswers t who [] [] = ⊤
-AreAnswers t who [] (e ∷ es) = ⊥
-AreAnswers t who (cmd ∷ cmds) [] = ⊥
-AreAnswers t who (cmd ∷ cmds) (e ∷ es) = IsAnswerTo t who cmd e × AreAnswers t who cmds es
+abbrev pub AreAnswers : Terms → Moment → Who → List HostCmd → List Entry → Type 0
+AreAnswers t saw who [] [] = ⊤
+AreAnswers t saw who [] (e ∷ es) = ⊥
+AreAnswers t saw who (cmd ∷ cmds) [] = ⊥
+AreAnswers t saw who (cmd ∷ cmds) (e ∷ es) = IsAnswerTo t saw who cmd e × AreAnswers t saw who cmds es
 
 -- the record has grown by an entry for each command before the end, in order
-pub record Played (t : Terms) (who : Who) (words : List HostCmd) (end : End) (old new : List Entry) : Type 0 where
+pub record Played (t : Terms) (saw : Moment) (who : Who) (words : List HostCmd) (end : End) (old new : List Entry) : Type 0 where
   pub entries : List Entry
   pub grown : new ≡ old ++ entries
-  pub answers : AreAnswers t who (take (answered end (length words)) words) entries
+  pub answers : AreAnswers t saw who (take (answered end (length words)) words) entries
 
 -- what was found at the word that is named
 abbrev pub Found : (HostCmd → Type 0) → List HostCmd → ℕ → Type 0
 Found P words word = (cmd : HostCmd) × (slice_get words (word - 1) ≡ Some cmd) × P cmd
 
--- Why the play ended: at the word named the session was told so, or its command was refused.
-abbrev pub EndIs : Terms → List HostCmd → End → Type 0
-EndIs t words Done = ⊤
-EndIs t words (Resting word) = Found (λ cmd. WasTold t cmd work.Resting) words word
-EndIs t words (Spent word) = Found (λ cmd. WasTold t cmd work.Spent) words word
-EndIs t words (Stopped word) = Found (λ cmd. WasTold t cmd work.Stopped) words word
-EndIs t words (Refused word (Event e)) = Found (λ cmd. WasRefused t (λ net e. RefusesPoll net cmd e) e) words word
-EndIs t words (Refused word (BadWord at)) = ⊥
-EndIs t words (Refused word Memory) = ⊥
+-- Why the play ended: at the word named the session was told so, or its command was refused, at a moment that has led to what
+-- was seen.
+abbrev pub EndIs : Terms → Moment → List HostCmd → End → Type 0
+EndIs t saw words Done = ⊤
+EndIs t saw words (Resting word) = Found (λ cmd. WasTold t saw cmd work.Resting) words word
+EndIs t saw words (Spent word) = Found (λ cmd. WasTold t saw cmd work.Spent) words word
+EndIs t saw words (Stopped word) = Found (λ cmd. WasTold t saw cmd work.Stopped) words word
+EndIs t saw words (Refused word (Event e)) = Found (λ cmd. WasRefused t saw (λ net e. RefusesPoll net cmd e) e) words word
+EndIs t saw words (Refused word (BadWord at)) = ⊥
+EndIs t saw words (Refused word Memory) = ⊥

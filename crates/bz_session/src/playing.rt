@@ -1,6 +1,7 @@
 //! Commands that a session plays in turn.
 
 ghost use Rattle.std.specs.Prelude.{◌≡◌, length};
+ghost use Rattle.bz_locked.specs.Parts.{Stays};
 ghost use Rattle.bz_session.specs.Playing.{Played, NamesWord, EndIs};
 
 use bz_locked::{NetLedger, Session, SharedNet, WaitReply};
@@ -27,9 +28,9 @@ pub fn play<L: NetLedger, R: Wait>(
     words: &[HostCmd],
 ) -> End
     requires { session.old.seat.table ≡ shared.now.table }
-    ensures who { (session.new.who ≡ session.old.who) × (session.new.seat.table ≡ session.old.seat.table) }
-    ensures record { Played L.terms session.old.who words.now result session.old.own session.new.own }
-    ensures why { EndIs L.terms words.now result }
+    ensures who { (session.new.who ≡ session.old.who) × Stays session.old.seat session.new.seat }
+    ensures record { Played L.terms session.new.seat.saw session.old.who words.now result session.old.own session.new.own }
+    ensures why { EndIs L.terms session.new.seat.saw words.now result }
     ensures word { NamesWord result (length words.now) }
 {
     let end = play_words(shared, rt, session, words);
@@ -44,9 +45,9 @@ fn play_words<L: NetLedger, R: Wait>(
     words: &[HostCmd],
 ) -> End
     requires { session.old.seat.table ≡ shared.now.table }
-    ensures who { (session.new.who ≡ session.old.who) × (session.new.seat.table ≡ session.old.seat.table) }
-    ensures record { Played L.terms session.old.who words.now result session.old.own session.new.own }
-    ensures why { EndIs L.terms words.now result }
+    ensures who { (session.new.who ≡ session.old.who) × Stays session.old.seat session.new.seat }
+    ensures record { Played L.terms session.new.seat.saw session.old.who words.now result session.old.own session.new.own }
+    ensures why { EndIs L.terms session.new.seat.saw words.now result }
     ensures word { NamesWord result (length words.now) }
 {
     let mut word = 0;

@@ -1,3 +1,4 @@
 pub mod Walking
 pub mod LineCounts
 pub mod Net
+pub mod Fronts

@@ -11,7 +11,7 @@ use Rattle.bz_elab.specs.Paths as net
 use Rattle.bz_elab.specs.Paths.{each_from, most_instances, named}
 use Rattle.bz_elab.specs.Numbers.{number_named}
 use Rattle.bz_elab.proofs.Numbering.{named_number, named_within}
-use Rattle.bz_source.specs.Found.{Spot, Find, Located, component, channels_from, spot, told, found_at, found_in, below, inner_channels, top_channels, at_channel, at_component, located, found, Locates}
+use Rattle.bz_source.specs.Found.{PathAt, Find, Located, component, channels_from, record_at, told, found_at, found_in, below, inner_channels, top_channels, at_channel, at_component, located, found, Locates}
 use Rattle.bz_source.specs.Net.{place_at, leaf_at, own_leaf, FindsNet, FindsNamed}
 use Rattle.bz_source.proofs.Walking.{comps_are, chans_are, of_component, of_instance}
 
@@ -19,10 +19,10 @@ use Rattle.bz_source.proofs.Walking.{comps_are, chans_are, of_component, of_inst
 -- of the whole walk.
 module _ {B : Type 0} (parts : List Part) (pick : List Find → List B) (own : net.Stop → List B)
     (none : pick [] ≡ []) (both : (xs ys : List Find) → pick (xs ++ ys) ≡ pick xs ++ pick ys)
-    (of_told : (at : Spot) (xs : List Find) → pick (told at xs) ≡ pick xs)
+    (of_told : (at : PathAt) (xs : List Find) → pick (told at xs) ≡ pick xs)
     (of_copy : (n : ℕ) (part : Part) (path : List ℕ) (i : ℕ) (up : List ℕ) → slice_get parts n ≡ Some part → reverse path ≡ i ∷ up → pick (inner_channels parts path n) ≡ own (net.copy (i ∷ up) part))
     (of_leaf : (n : ℕ) (part : Part) (path : List ℕ) (k : ℕ) (c : Component) → slice_get parts n ≡ Some part → slice_get part.components.items k ≡ Some c
-    → pick (component (spot n path (suc k)) ∷ []) ≡ own (net.leaf (reverse path) c)) where
+    → pick (component (record_at n path (suc k)) ∷ []) ≡ own (net.leaf (reverse path) c)) where
   -- a walk below copies of this depth does
   abbrev Agrees : ℕ → Type 0
   Agrees d = (n : ℕ) (part : Part) (path : List ℕ) (i : ℕ) (up : List ℕ) → slice_get parts n ≡ Some part → reverse path ≡ i ∷ up → pick (found_in parts d path n) ≡ flat_map own (net.walk parts d (i ∷ up) part)
@@ -46,7 +46,7 @@ module _ {B : Type 0} (parts : List Part) (pick : List Find → List B) (own : n
           let name : named parts c.name.items ≡ Some p = named_number parts c.name.items ∙ ap (option_and_then (slice_get parts)) e ∙ f in
           let visits : net.visit parts (reverse path) (net.walk parts d) (suc k) c ≡ net.walk parts d (suc k ∷ reverse path) p = rw (name, net.visit) refl in
           let inside = path ++ suc k ∷ [] in
-          ap pick (of_instance parts n m path (found_in parts d) (suc k) c e) ∙ of_told (spot n path (suc k)) (found_in parts d inside m)
+          ap pick (of_instance parts n m path (found_in parts d) (suc k) c e) ∙ of_told (record_at n path (suc k)) (found_in parts d inside m)
           ∙ agrees m p inside (suc k) (reverse path) f (reverse-append path (suc k ∷ [])) ∙ ap (flat_map own) (sym visits)
 
   -- these are the components of a part behind the first j
@@ -96,13 +96,13 @@ chans_of xs = map place_at (filter_map at_channel xs)
 chans_both : (xs ys : List Find) → chans_of (xs ++ ys) ≡ chans_of xs ++ chans_of ys
 chans_both xs ys = ap (map place_at) (filter_map-append at_channel xs ys) ∙ map-append place_at (filter_map at_channel xs) (filter_map at_channel ys)
 
-chans_told : (at : Spot) (xs : List Find) → chans_of (told at xs) ≡ chans_of xs
+chans_told : (at : PathAt) (xs : List Find) → chans_of (told at xs) ≡ chans_of xs
 chans_told at [] = refl
 chans_told at (x ∷ xs) = refl
 
 chans_from : (n : ℕ) (path : List ℕ) (k count : ℕ) → chans_of (channels_from n path k count) ≡ net.places_from (reverse path) k count
 chans_from n path k zero = refl
-chans_from n path k (suc count) = ap (λ ps. place_at (spot n path k) ∷ ps) (chans_from n path (suc k) count)
+chans_from n path k (suc count) = ap (λ ps. place_at (record_at n path k) ∷ ps) (chans_from n path (suc k) count)
 
 chans_copy : (parts : List Part) (n : ℕ) (part : Part) (path : List ℕ) (i : ℕ) (up : List ℕ) → slice_get parts n ≡ Some part → reverse path ≡ i ∷ up → chans_of (inner_channels parts path n) ≡ net.own_places (net.copy (i ∷ up) part)
 chans_copy parts n part path i up at rev =
@@ -124,7 +124,7 @@ comps_of parts xs = map (leaf_at parts) (filter_map at_component xs)
 comps_both : (parts : List Part) (xs ys : List Find) → comps_of parts (xs ++ ys) ≡ comps_of parts xs ++ comps_of parts ys
 comps_both parts xs ys = ap (map (leaf_at parts)) (filter_map-append at_component xs ys) ∙ map-append (leaf_at parts) (filter_map at_component xs) (filter_map at_component ys)
 
-comps_told : (parts : List Part) (at : Spot) (xs : List Find) → comps_of parts (told at xs) ≡ comps_of parts xs
+comps_told : (parts : List Part) (at : PathAt) (xs : List Find) → comps_of parts (told at xs) ≡ comps_of parts xs
 comps_told parts at [] = refl
 comps_told parts at (x ∷ xs) = refl
 
@@ -143,9 +143,9 @@ comps_top parts n part at =
     ap (comps_of parts) tops ∙ ap (map (leaf_at parts)) (no_comps n [] 1 (length part.channels.items))
 
 comps_leaf : (parts : List Part) (n : ℕ) (part : Part) (path : List ℕ) (k : ℕ) (c : Component) → slice_get parts n ≡ Some part → slice_get part.components.items k ≡ Some c
-    → comps_of parts (component (spot n path (suc k)) ∷ []) ≡ own_leaf (net.leaf (reverse path) c)
+    → comps_of parts (component (record_at n path (suc k)) ∷ []) ≡ own_leaf (net.leaf (reverse path) c)
 comps_leaf parts n part path k c at here =
-    let is : leaf_at parts (spot n path (suc k)) ≡ Some (net.leaf (reverse path) c) =
+    let is : leaf_at parts (record_at n path (suc k)) ≡ Some (net.leaf (reverse path) c) =
     ap (λ o. option_map (net.leaf (reverse path)) (option_and_then (λ p. net.component p (suc k)) o)) at ∙ ap (option_map (net.leaf (reverse path))) here in
     ap (λ o. o ∷ []) is
 

@@ -11,8 +11,8 @@ use Rattle.bz_elab.specs.Paths.{each_from, most_instances}
 use Rattle.bz_elab.specs.Numbers.{number_named, inner_number, number_at}
 use Rattle.bz_elab.proofs.Counting.{each_from-push}
 use Rattle.bz_elab.proofs.Numbering.{named_within}
-use Rattle.bz_source.specs.declared.place.Find as code
-use Rattle.bz_source.specs.Found.{Spot, Find, channel, component, instance, channels_from, spot, told, found_at, found_in, below, inner_channels, components_of, IsDeeper, at_channel, at_component, at_instance, located, with_find, found, top_channels}
+use Rattle.bz_source.specs.declared.path_at.Find as code
+use Rattle.bz_source.specs.Found.{PathAt, Find, channel, component, instance, channels_from, record_at, told, found_at, found_in, below, inner_channels, components_of, IsDeeper, at_channel, at_component, at_instance, located, with_find, found, top_channels}
 use Rattle.bz_source.specs.Inner.{inner_of, AreInner, AreBare, BringsNothing, IsBare, is_marked}
 use Rattle.bz_source.specs.Views.{find_of, Settled}
 
@@ -104,16 +104,16 @@ inner_number_is parts n i m it = let e : i + 1 ≡ suc i = omega arith in rw (e,
 
 -- The finds of one component.
 
-pub of_component : (parts : List Part) (n : ℕ) (path : List ℕ) (go : List ℕ → ℕ → List Find) (i : ℕ) (c : Component) → number_named parts c.name.items ≡ None → found_at parts n path go i c ≡ component (spot n path i) ∷ []
+pub of_component : (parts : List Part) (n : ℕ) (path : List ℕ) (go : List ℕ → ℕ → List Find) (i : ℕ) (c : Component) → number_named parts c.name.items ≡ None → found_at parts n path go i c ≡ component (record_at n path i) ∷ []
 of_component parts n path go i c e = rw (e, found_at) refl
 
-pub of_instance : (parts : List Part) (n m : ℕ) (path : List ℕ) (go : List ℕ → ℕ → List Find) (i : ℕ) (c : Component) → number_named parts c.name.items ≡ Some m → found_at parts n path go i c ≡ told (spot n path i) (go (path ++ i ∷ []) m)
+pub of_instance : (parts : List Part) (n m : ℕ) (path : List ℕ) (go : List ℕ → ℕ → List Find) (i : ℕ) (c : Component) → number_named parts c.name.items ≡ Some m → found_at parts n path go i c ≡ told (record_at n path i) (go (path ++ i ∷ []) m)
 of_instance parts n m path go i c e = rw (e, found_at) refl
 
 -- in a bare copy there is nothing
 pub of_bare : (parts : List Part) (n m depth : ℕ) (path : List ℕ) (i : ℕ) (c : Component) (marks : List Bool) → number_named parts c.name.items ≡ Some m → AreBare parts marks → get_or marks m false ≡ true
     → found_at parts n path (found_in parts depth) i c ≡ []
-of_bare parts n m depth path i c marks e bare mark = of_instance parts n m path (found_in parts depth) i c e ∙ ap (told (spot n path i)) (bare.are m mark depth (path ++ i ∷ []))
+of_bare parts n m depth path i c marks e bare mark = of_instance parts n m path (found_in parts depth) i c e ∙ ap (told (record_at n path i)) (bare.are m mark depth (path ++ i ∷ []))
 
 -- a copy of depth d is its channels and what is below it
 pub copy_is : (parts : List Part) (d : ℕ) (path : List ℕ) (m : ℕ) → 0 < d → found_in parts d path m ≡ inner_channels parts path m ++ below parts (d - 1) path m
@@ -138,7 +138,7 @@ map_take f (suc n) [] = refl
 map_take f (suc n) (x ∷ xs) = ap (λ zs. f x ∷ zs) (map_take f n xs)
 
 -- an instance that was told is taken away where nothing came behind it
-pub settled : (old whole new : List code.Find) (upto : ℕ) (at : Spot) (fs : List Find) → upto ≡ length old + 1 → map find_of whole ≡ map find_of old ++ instance at ∷ fs → Settled upto whole new → map find_of new ≡ map find_of old ++ told at fs
+pub settled : (old whole new : List code.Find) (upto : ℕ) (at : PathAt) (fs : List Find) → upto ≡ length old + 1 → map find_of whole ≡ map find_of old ++ instance at ∷ fs → Settled upto whole new → map find_of new ≡ map find_of old ++ told at fs
 settled old whole new upto at [] n e s =
     let len : length whole ≡ upto = omega (arith, sym (length-map whole find_of) ∙ ap length e ∙ length-append (map find_of old) (instance at ∷ []), length-map old find_of, n) in
     let less : length whole - 1 ≡ length (map find_of old) = omega (arith, len, n, length-map old find_of) in
@@ -165,7 +165,7 @@ item_step parts n path d i o it a b c e f =
     more a b c (upto parts n path d i) (F (i + 1) it.item.comp) e f ∙ ap (λ fs. a ++ fs) (sym (each_more F (components_of parts n) i it.item.comp lt is))
 
 pub leaf_step : (parts : List Part) (n : ℕ) (path : List ℕ) (d i : ℕ) (old mid new : List code.Find) (f : code.Find) → ItemHere parts n i None → map find_of mid ≡ map find_of old ++ upto parts n path d i
-    → new ≡ mid ++ f ∷ [] → find_of f ≡ component (spot n path (i + 1)) → map find_of new ≡ map find_of old ++ upto parts n path d (i + 1)
+    → new ≡ mid ++ f ∷ [] → find_of f ≡ component (record_at n path (i + 1)) → map find_of new ≡ map find_of old ++ upto parts n path d (i + 1)
 leaf_step parts n path d i old mid new f it e push is =
     let one = of_component parts n path (found_in parts d) (i + 1) it.item.comp it.item.number in
     item_step parts n path d i None it (map find_of old) (map find_of mid) (map find_of new) e (ap (map find_of) push ∙ map-append find_of mid (f ∷ []) ∙ ap (λ g. map find_of mid ++ g ∷ []) is ∙ ap (λ fs. map find_of mid ++ fs) (sym one))
@@ -177,11 +177,11 @@ bare_step parts n path d i m marks old mid it bare mark e =
     item_step parts n path d i (Some m) it (map find_of old) (map find_of mid) (map find_of mid) e (sym (append-nil (map find_of mid)) ∙ ap (λ fs. map find_of mid ++ fs) (sym none))
 
 pub copy_step : (parts : List Part) (n : ℕ) (path : List ℕ) (d i m : ℕ) (old mid f1 f2 f3 new : List code.Find) (g : code.Find) (inside1 inside2 : List ℕ) (count : ℕ) → ItemHere parts n i (Some m) → 0 < d
-    → map find_of mid ≡ map find_of old ++ upto parts n path d i → f1 ≡ mid ++ g ∷ [] → find_of g ≡ instance (spot n path (i + 1)) → inside1 ≡ path ++ (i + 1) ∷ [] → inside2 ≡ path ++ (i + 1) ∷ []
+    → map find_of mid ≡ map find_of old ++ upto parts n path d i → f1 ≡ mid ++ g ∷ [] → find_of g ≡ instance (record_at n path (i + 1)) → inside1 ≡ path ++ (i + 1) ∷ [] → inside2 ≡ path ++ (i + 1) ∷ []
     → map find_of f2 ≡ map find_of f1 ++ inner_channels parts inside1 m → map find_of f3 ≡ map find_of f2 ++ below parts (d - 1) inside2 m → count ≡ length f1 → Settled count f3 new
     → map find_of new ≡ map find_of old ++ upto parts n path d (i + 1)
 copy_step parts n path d i m old mid f1 f2 f3 new g inside1 inside2 count it deep e push is path1 path2 own rest many s =
-    let at = spot n path (i + 1) in
+    let at = record_at n path (i + 1) in
     let inside = path ++ (i + 1) ∷ [] in
     let told_here : map find_of f1 ≡ map find_of mid ++ instance at ∷ [] = ap (map find_of) push ∙ map-append find_of mid (g ∷ []) ∙ ap (λ h. map find_of mid ++ h ∷ []) is in
     let copy : map find_of f3 ≡ map find_of f1 ++ found_in parts d inside m =
@@ -264,20 +264,20 @@ mark_here parts tables marks n part t inner bare lt is there nothing =
     one_mark parts marks n lt bare (bare_part parts n part t.items marks at (subst (λ p. t.items ≡ inner_of parts p) same here.inner_is) nothing bare)
 
 -- one channel more
-pub channel_more : (n : ℕ) (path : List ℕ) (k j : ℕ) → channels_from n path k (j + 1) ≡ channels_from n path k j ++ channel (spot n path (k + j)) ∷ []
+pub channel_more : (n : ℕ) (path : List ℕ) (k j : ℕ) → channels_from n path k (j + 1) ≡ channels_from n path k j ++ channel (record_at n path (k + j)) ∷ []
 channel_more n path k zero = let e : k + 0 ≡ k = omega arith in rw e refl
 channel_more n path k (suc j) =
     let e : suc j + 1 ≡ suc (j + 1) = omega arith in
     let f : suc k + j ≡ k + suc j = omega arith in
-    rw (e, ← f) (ap (λ fs. channel (spot n path k) ∷ fs) (channel_more n path (suc k) j))
+    rw (e, ← f) (ap (λ fs. channel (record_at n path k) ∷ fs) (channel_more n path (suc k) j))
 
-pub channels_more : (old mid new : List code.Find) (n : ℕ) (path : List ℕ) (ports k : ℕ) (f : code.Find) → ports ≤ k → find_of f ≡ channel (spot n path (k + 1))
+pub channels_more : (old mid new : List code.Find) (n : ℕ) (path : List ℕ) (ports k : ℕ) (f : code.Find) → ports ≤ k → find_of f ≡ channel (record_at n path (k + 1))
     → map find_of mid ≡ map find_of old ++ channels_from n path (suc ports) (k - ports) → new ≡ mid ++ f ∷ [] → map find_of new ≡ map find_of old ++ channels_from n path (suc ports) (k + 1 - ports)
 channels_more old mid new n path ports k f le is e push =
     let j : k + 1 - ports ≡ (k - ports) + 1 = omega arith in
     let at : suc ports + (k - ports) ≡ k + 1 = omega arith in
-    push_find old mid new (channels_from n path (suc ports) (k - ports)) f (channel (spot n path (k + 1))) e push is
-    ∙ ap (λ fs. map find_of old ++ fs) (ap (λ i. channels_from n path (suc ports) (k - ports) ++ channel (spot n path i) ∷ []) (sym at) ∙ sym (channel_more n path (suc ports) (k - ports)) ∙ ap (channels_from n path (suc ports)) (sym j))
+    push_find old mid new (channels_from n path (suc ports) (k - ports)) f (channel (record_at n path (k + 1))) e push is
+    ∙ ap (λ fs. map find_of old ++ fs) (ap (λ i. channels_from n path (suc ports) (k - ports) ++ channel (record_at n path i) ∷ []) (sym at) ∙ sym (channel_more n path (suc ports) (k - ports)) ∙ ap (channels_from n path (suc ports)) (sym j))
 
 -- what the walk found, in three lists
 pub located_more : (fs : List Find) (f : Find) → located (fs ++ f ∷ []) ≡ with_find (located fs) f

@@ -10,23 +10,23 @@ use Rattle.bz_source.specs.declared.error.PlacesError.TheVariants.{NoPart, TooDe
 
 -- A record of the text in one copy of its part: the number of the part, from 0, the position among the part's channels or
 -- components, from 1, and the positions of the instances on the way to the copy, from the top on.
-pub record Spot : Type 0 where
+pub record PathAt : Type 0 where
   pub part : ℕ
   pub position : ℕ
   pub path : List ℕ
 
-abbrev pub spot : ℕ → List ℕ → ℕ → Spot
-spot part path position = record { part = part; position = position; path = path }
+abbrev pub record_at : ℕ → List ℕ → ℕ → PathAt
+record_at part path position = record { part = part; position = position; path = path }
 
 pub data Find : Type 0 where
-  channel : Spot → Find
-  component : Spot → Find
-  instance : Spot → Find
+  channel : PathAt → Find
+  component : PathAt → Find
+  instance : PathAt → Find
 
 -- n channels of a copy, from channel k on
 abbrev pub channels_from : ℕ → List ℕ → ℕ → ℕ → List Find
 channels_from part path k zero = []
-channels_from part path k (suc n) = channel (spot part path k) ∷ channels_from part path (suc k) n
+channels_from part path k (suc n) = channel (record_at part path k) ∷ channels_from part path (suc k) n
 
 -- the channels of an inner copy, without its ports, since they are channels of the copy above
 abbrev pub inner_channels : List Part → List ℕ → ℕ → List Find
@@ -36,15 +36,15 @@ inner_channels parts path n = elim (slice_get parts n) [
 ]
 
 -- an instance is told before what is found in its copy, and it is not where nothing is
-abbrev pub told : Spot → List Find → List Find
+abbrev pub told : PathAt → List Find → List Find
 told at [] = []
 told at (f ∷ fs) = instance at ∷ f ∷ fs
 
 -- component i of part n: itself, or what `go` finds in the copy of its part
 abbrev pub found_at : List Part → ℕ → List ℕ → (List ℕ → ℕ → List Find) → ℕ → Component → List Find
 found_at parts n path go i c = elim (number_named parts c.name.items) [
-  | None ↦ component (spot n path i) ∷ []
-  | Some m ↦ told (spot n path i) (go (path ++ i ∷ []) m)
+  | None ↦ component (record_at n path i) ∷ []
+  | Some m ↦ told (record_at n path i) (go (path ++ i ∷ []) m)
 ]
 
 abbrev pub components_of : List Part → ℕ → List Component
@@ -68,19 +68,19 @@ found parts n = top_channels parts n ++ below parts most_instances [] n
 
 -- The places of a net, in the order of its numbers.
 pub record Located : Type 0 where
-  pub chans : List Spot
-  pub comps : List Spot
-  pub instances : List Spot
+  pub chans : List PathAt
+  pub comps : List PathAt
+  pub instances : List PathAt
 
-abbrev pub at_channel : Find → Option Spot
+abbrev pub at_channel : Find → Option PathAt
 at_channel (channel at) = Some at
 at_channel find = None
 
-abbrev pub at_component : Find → Option Spot
+abbrev pub at_component : Find → Option PathAt
 at_component (component at) = Some at
 at_component find = None
 
-abbrev pub at_instance : Find → Option Spot
+abbrev pub at_instance : Find → Option PathAt
 at_instance (instance at) = Some at
 at_instance find = None
 

@@ -4,14 +4,14 @@ use Rattle.std.specs.List.{flat_map}
 use Rattle.std.specs.Option.{option_map}
 use Rattle.bz_breeze_records.specs.declared.part.Part.{Part}
 use Rattle.bz_elab.specs.Paths as net
-use Rattle.bz_source.specs.Found.{Spot, Located}
+use Rattle.bz_source.specs.Found.{PathAt, Located}
 
 -- the place of a channel in the net by paths, where paths begin at the innermost instance
-abbrev pub place_at : Spot → net.Place
+abbrev pub place_at : PathAt → net.Place
 place_at at = record { path = reverse at.path; number = at.position }
 
 -- the component that stands there, in its copy
-abbrev pub leaf_at : List Part → Spot → Option net.Stop
+abbrev pub leaf_at : List Part → PathAt → Option net.Stop
 leaf_at parts at = option_map (net.leaf (reverse at.path)) (option_and_then (λ part. net.component part at.position) (slice_get parts at.part))
 
 -- a stop of the net's walk where it is a component

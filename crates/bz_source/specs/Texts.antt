@@ -7,7 +7,7 @@ use Rattle.bz_model.specs.Traces.{name_form}
 use Rattle.bz_kind_rows.specs.KindWords.{kind_word}
 
 -- where a record stands: the name of its part, its position there, its line, and its path from the top
-pub record Standing : Type 0 where
+pub record LineAt : Type 0 where
   pub part : List ℕ
   pub position : ℕ
   pub line : ℕ
@@ -30,15 +30,15 @@ in_text [] = []
 in_text (i ∷ is) = codes " in " ++ path_text (i ∷ is)
 
 -- the part, the position in it and the line
-abbrev pub record_text : Standing → List ℕ
+abbrev pub record_text : LineAt → List ℕ
 record_text s = codes " at " ++ (name_form s.part ++ (codes " " ++ (decimal s.position ++ (codes " line " ++ decimal s.line))))
 
-abbrev pub at_text : Standing → List ℕ
+abbrev pub at_text : LineAt → List ℕ
 at_text s = record_text s ++ in_text s.path
 
 -- component k: its kind, its channels in the order of its ports, and where it stands
 abbrev pub comp_head : ℕ → Kind → List ℕ
 comp_head k kind = codes "component " ++ (decimal k ++ (codes " " ++ kind_word kind))
 
-abbrev pub placed_comp_text : ℕ → Site → Standing → List ℕ
+abbrev pub placed_comp_text : ℕ → Site → LineAt → List ℕ
 placed_comp_text k site s = comp_head k site.kind ++ (flat_map spaced site.chans ++ at_text s)

@@ -2,20 +2,24 @@
 #![tactic(auto)]
 
 mod bare;
+mod detail;
 mod error;
 mod inner;
+mod labels;
 mod lines;
-mod place;
+mod path_at;
 mod places;
 mod source;
 mod survey;
 mod text;
 mod walk;
 
+pub use detail::{Detail, put_detail};
 pub use error::PlacesError;
+pub use labels::{Label, Labels, SourceAt, SourceMark, put_label, put_source};
 pub use lines::{LineCounter, PartLines, lines_of};
-pub use place::Place;
+pub use path_at::PathAt;
 pub use places::Places;
 pub use source::Source;
 pub use survey::Survey;
-pub use text::{Standing, chan_standing, comp_standing, put_comp, put_path, put_standing};
+pub use text::{LineAt, chan_line_at, comp_line_at, put_comp, put_line_at, put_path};

@@ -8,16 +8,18 @@ ghost use Rattle.bz_sexpr.specs.Forms.{form_view, forms_view};
 ghost use Rattle.bz_source.specs.Lines.{feeds, line_at, lines_in, member_lines};
 ghost use Rattle.bz_source.specs.Views.{part_lines_of};
 
+use crate::labels::{Labels, labels_of};
 use bz_sexpr::{Form, Forms, Leaf, Shape};
 use std::alloc::{AllocError, Global};
 
 /// The lines, counted from 1, at which the records of a part begin: its own, those of its channels and of its components, in
-/// order.
+/// order. And what these records say of names and of a source.
 #[derive(Debug, Drop)]
 pub struct PartLines {
     pub part: usize,
     pub channels: Vec<usize>,
     pub components: Vec<usize>,
+    pub labels: Labels,
 }
 
 /// The lines of a text. To ask for bytes in rising order takes one pass over the text.
@@ -97,10 +99,12 @@ pub fn lines_of(
     let mut rest = netlist;
     while let Some((form, after)) = rest.split_first() {
         if let Some(items) = headed(b"breeze-part", form) {
+            let (chans, comps) = (members(b"channels", items), members(b"components", items));
             lines.push(PartLines {
                 part: parts.line_of(form.span().from),
-                channels: member_lines(alloc, &mut channels, members(b"channels", items))?,
-                components: member_lines(alloc, &mut components, members(b"components", items))?,
+                channels: member_lines(alloc, &mut channels, chans)?,
+                components: member_lines(alloc, &mut components, comps)?,
+                labels: labels_of(alloc, chans, comps)?,
             })?;
         }
         rest = after;
@@ -125,8 +129,8 @@ fn member_lines(
     Ok(lines)
 }
 
-// The data of a list.
-fn inside(form: Form<'_>) -> Option<Forms<'_>>
+/// The data of a list.
+pub(crate) fn inside(form: Form<'_>) -> Option<Forms<'_>>
     ensures { option_map forms_view result ≡ inside (form_view form.entry) }
 {
     match form.shape() {
@@ -135,8 +139,8 @@ fn inside(form: Form<'_>) -> Option<Forms<'_>>
     }
 }
 
-// What follows the head in a list headed so.
-fn headed<'d>(head: &[u8], form: Form<'d>) -> Option<Forms<'d>>
+/// What follows the head in a list headed so.
+pub(crate) fn headed<'d>(head: &[u8], form: Form<'d>) -> Option<Forms<'d>>
     ensures { option_map forms_view result ≡ headed head.now (form_view form.entry) }
 {
     match inside(form) {

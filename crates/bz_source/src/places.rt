@@ -7,12 +7,12 @@ ghost use Rattle.bz_source.specs.declared.error.PlacesError.TheVariants.{Memory,
 ghost use Rattle.bz_elab.specs.Paths.{most_instances};
 ghost use Rattle.bz_source.specs.Found.{Locates, Misses, IsDeeper, found, located, with_find};
 ghost use Rattle.bz_source.specs.Net.{FindsNamed};
-ghost use Rattle.bz_source.specs.Views.{find_of, spot_of};
+ghost use Rattle.bz_source.specs.Views.{find_of, path_at_of};
 
 use crate::bare::bare_parts;
 use crate::error::PlacesError;
 use crate::inner::{inner_numbers, number_of};
-use crate::place::{Find, Place};
+use crate::path_at::{Find, PathAt};
 use crate::walk::{Ground, add_channels, descend};
 use bz_breeze_records::Parts;
 use bz_model::numbered;
@@ -24,9 +24,9 @@ const MOST_INSTANCES: u32 = 64;
 
 /// Where the components, the channels and the instances of a net stand.
 pub struct Places {
-    chans: Vec<Place>,
-    comps: Vec<Place>,
-    instances: Vec<Place>,
+    chans: Vec<PathAt>,
+    comps: Vec<PathAt>,
+    instances: Vec<PathAt>,
 }
 
 // By hand, so that who lets one go has one call to show and not all its parts.
@@ -43,11 +43,11 @@ impl Drop for Places {
 impl Model for Places {
     ghost use Rattle.std.specs.Prelude.{map};
     ghost use Rattle.bz_source.specs.Found.{Located};
-    ghost use Rattle.bz_source.specs.Views.{spot_of};
+    ghost use Rattle.bz_source.specs.Views.{path_at_of};
 
     ghost Value = { Located };
 
-    ghost view = { λ p. record { chans = map spot_of p.chans.items; comps = map spot_of p.comps.items; instances = map spot_of p.instances.items } };
+    ghost view = { λ p. record { chans = map path_at_of p.chans.items; comps = map path_at_of p.comps.items; instances = map path_at_of p.instances.items } };
 }
 
 impl Places {
@@ -65,36 +65,36 @@ impl Places {
     }
 
     /// The place of a component of the net, counted from 1.
-    pub fn comp(&self, comp: u32) -> Option<&Place>
-        ensures { option_map spot_of (option_copied result) ≡ numbered self.now.comps comp }
+    pub fn comp(&self, comp: u32) -> Option<&PathAt>
+        ensures { option_map path_at_of (option_copied result) ≡ numbered self.now.comps comp }
     {
         numbered(&self.comps, comp)
     }
 
     /// The place of a channel of the net, counted from 1.
-    pub fn chan(&self, chan: u32) -> Option<&Place>
-        ensures { option_map spot_of (option_copied result) ≡ numbered self.now.chans chan }
+    pub fn chan(&self, chan: u32) -> Option<&PathAt>
+        ensures { option_map path_at_of (option_copied result) ≡ numbered self.now.chans chan }
     {
         numbered(&self.chans, chan)
     }
 
     /// The places of all components, in order.
-    pub fn comps(&self) -> &[Place]
-        ensures { map spot_of result.now ≡ self.now.comps }
+    pub fn comps(&self) -> &[PathAt]
+        ensures { map path_at_of result.now ≡ self.now.comps }
     {
         self.comps.as_slice()
     }
 
     /// The places of all channels, in order.
-    pub fn chans(&self) -> &[Place]
-        ensures { map spot_of result.now ≡ self.now.chans }
+    pub fn chans(&self) -> &[PathAt]
+        ensures { map path_at_of result.now ≡ self.now.chans }
     {
         self.chans.as_slice()
     }
 
     /// The instances with a component or a channel of the net in their copies, by their paths.
-    pub fn instances(&self) -> &[Place]
-        ensures { map spot_of result.now ≡ self.now.instances }
+    pub fn instances(&self) -> &[PathAt]
+        ensures { map path_at_of result.now ≡ self.now.instances }
     {
         self.instances.as_slice()
     }

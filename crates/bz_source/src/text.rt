@@ -5,10 +5,10 @@ ghost use Rattle.std.specs.List.{flat_map};
 ghost use Rattle.bz_flat.specs.Flats.{site_of};
 ghost use Rattle.bz_text.specs.Writing.{Writes};
 ghost use Rattle.bz_source.specs.Texts.{at_text, comp_head, record_text, in_text, path_text, placed_comp_text, slashed, spaced};
-ghost use Rattle.bz_source.specs.Views.{spot_of, standing_of, standing_at, line_in, chan_standing, comp_standing};
+ghost use Rattle.bz_source.specs.Views.{path_at_of, line_at_of, record_line, line_in, chan_line_at, comp_line_at};
 
 use crate::lines::PartLines;
-use crate::place::Place;
+use crate::path_at::PathAt;
 use bz_breeze_records::Parts;
 use bz_flat::FlatComp;
 use bz_kind_rows::kind_word;
@@ -18,7 +18,7 @@ use std::io::Write;
 
 /// Where a record stands, as a text tells it.
 #[derive(Clone, Copy, Debug)]
-pub struct Standing<'a> {
+pub struct LineAt<'a> {
     /// The name of its part.
     pub part: &'a [u8],
     /// Its position in that part, counted from 1.
@@ -30,25 +30,25 @@ pub struct Standing<'a> {
 }
 
 /// Where a channel stands, the lines being those of the parts' text; line 0 and the empty name where there is no such part.
-pub fn chan_standing<'a>(parts: &'a Parts, lines: &[PartLines], place: &'a Place) -> Standing<'a>
-    ensures { standing_of result ≡ chan_standing parts.now lines.now (spot_of place.now) }
+pub fn chan_line_at<'a>(parts: &'a Parts, lines: &[PartLines], place: &'a PathAt) -> LineAt<'a>
+    ensures { line_at_of result ≡ chan_line_at parts.now lines.now (path_at_of place.now) }
 {
     let line = match lines.get(place.part) {
         Some(lines) => line_in(lines.channels.as_slice(), place.position),
         None => 0,
     };
-    standing_at(parts, place, line)
+    record_line(parts, place, line)
 }
 
 /// The same of a component or an instance.
-pub fn comp_standing<'a>(parts: &'a Parts, lines: &[PartLines], place: &'a Place) -> Standing<'a>
-    ensures { standing_of result ≡ comp_standing parts.now lines.now (spot_of place.now) }
+pub fn comp_line_at<'a>(parts: &'a Parts, lines: &[PartLines], place: &'a PathAt) -> LineAt<'a>
+    ensures { line_at_of result ≡ comp_line_at parts.now lines.now (path_at_of place.now) }
 {
     let line = match lines.get(place.part) {
         Some(lines) => line_in(lines.components.as_slice(), place.position),
         None => 0,
     };
-    standing_at(parts, place, line)
+    record_line(parts, place, line)
 }
 
 /// Writes the line of a component, counted from 1, and where it stands, without the end of the line.
@@ -56,12 +56,12 @@ pub fn put_comp<W: Write>(
     out: &mut W,
     number: u32,
     comp: &FlatComp,
-    standing: Standing<'_>,
+    at: LineAt<'_>,
 ) -> Result<(), WriteFault>
-    ensures { Writes (W.contents out.old) (W.contents out.new) result (placed_comp_text number (site_of comp.now) (standing_of standing.entry)) }
+    ensures { Writes (W.contents out.old) (W.contents out.new) result (placed_comp_text number (site_of comp.now) (line_at_of at.entry)) }
 {
     put_kind(out, number, &comp.kind)?;
-    put_chans(out, comp.chans.as_slice(), standing)
+    put_chans(out, comp.chans.as_slice(), at)
 }
 
 fn put_kind<W: Write>(out: &mut W, number: u32, kind: &Kind) -> Result<(), WriteFault>
@@ -76,31 +76,31 @@ fn put_kind<W: Write>(out: &mut W, number: u32, kind: &Kind) -> Result<(), Write
     put_pieces(out, &pieces)
 }
 
-fn put_chans<W: Write>(out: &mut W, chans: &[u32], standing: Standing<'_>) -> Result<(), WriteFault>
-    ensures { Writes (W.contents out.old) (W.contents out.new) result (flat_map spaced chans.now ++ at_text (standing_of standing.entry)) }
+fn put_chans<W: Write>(out: &mut W, chans: &[u32], at: LineAt<'_>) -> Result<(), WriteFault>
+    ensures { Writes (W.contents out.old) (W.contents out.new) result (flat_map spaced chans.now ++ at_text (line_at_of at.entry)) }
 {
     put_spaced(out, chans)?;
-    put_standing(out, standing)
+    put_line_at(out, at)
 }
 
 /// Writes where a record stands, from ` at ` on.
-pub fn put_standing<W: Write>(out: &mut W, standing: Standing<'_>) -> Result<(), WriteFault>
-    ensures { Writes (W.contents out.old) (W.contents out.new) result (at_text (standing_of standing.entry)) }
+pub fn put_line_at<W: Write>(out: &mut W, at: LineAt<'_>) -> Result<(), WriteFault>
+    ensures { Writes (W.contents out.old) (W.contents out.new) result (at_text (line_at_of at.entry)) }
 {
-    put_record(out, standing)?;
-    put_in(out, standing.path)
+    put_record(out, at)?;
+    put_in(out, at.path)
 }
 
-fn put_record<W: Write>(out: &mut W, standing: Standing<'_>) -> Result<(), WriteFault>
-    ensures { Writes (W.contents out.old) (W.contents out.new) result (record_text (standing_of standing.entry)) }
+fn put_record<W: Write>(out: &mut W, at: LineAt<'_>) -> Result<(), WriteFault>
+    ensures { Writes (W.contents out.old) (W.contents out.new) result (record_text (line_at_of at.entry)) }
 {
     let pieces = [
         Piece::Bytes(b" at "),
-        Piece::Name(standing.part),
+        Piece::Name(at.part),
         Piece::Bytes(b" "),
-        Piece::Number(standing.position as Value),
+        Piece::Number(at.position as Value),
         Piece::Bytes(b" line "),
-        Piece::Number(standing.line as Value),
+        Piece::Number(at.line as Value),
     ];
     put_pieces(out, &pieces)
 }
@@ -182,14 +182,14 @@ fn line_in(lines: &[usize], position: usize) -> usize
     lines.get(position - 1).copied().unwrap_or(0)
 }
 
-fn standing_at<'a>(parts: &'a Parts, place: &'a Place, line: usize) -> Standing<'a>
-    ensures { standing_of result ≡ standing_at parts.now (spot_of place.now) line }
+fn record_line<'a>(parts: &'a Parts, place: &'a PathAt, line: usize) -> LineAt<'a>
+    ensures { line_at_of result ≡ record_line parts.now (path_at_of place.now) line }
 {
     let part: &[u8] = match parts.list().get(place.part) {
         Some(part) => part.name.as_slice(),
         None => &[],
     };
-    Standing {
+    LineAt {
         part,
         position: place.position,
         line,

@@ -7,7 +7,7 @@ ghost use Rattle.bz_source.specs.Inner.{AreInner, AreBare};
 ghost use Rattle.bz_source.specs.Views.{Finds, Settled};
 
 use crate::error::PlacesError;
-use crate::place::{Find, inside, place_at};
+use crate::path_at::{Find, inside, place_at};
 use bz_breeze_records::Part;
 use std::alloc::{AllocError, Global};
 

@@ -1,3 +1,4 @@
 pub mod Writing
 pub mod Growing
 pub mod Pieces
+pub mod Json

@@ -13,6 +13,7 @@ pub fn play(rt: &HostRuntime) -> Result<(), Fail> {
     let wanted = fs::read_to_string(rt, "discord.told")?;
     let asked = Asked {
         netlist: b"",
+        file: None,
         part: b"buffer",
         words: Words {
             list: &[],
@@ -24,7 +25,7 @@ pub fn play(rt: &HostRuntime) -> Result<(), Fail> {
         who: Who::Host(1),
         at: 5,
     };
-    let notes = explain(alloc, &fault, asked);
+    let notes = explain(alloc, &fault, asked).notes;
     let mut text = Vec::new(alloc);
     let status = bz_explain_notes::tell(alloc, &fault, Some(&notes), &mut text);
     let mut tally = Tally::new();

@@ -1,10 +1,13 @@
 //! A shared net with its one session and its one worker.
 
-ghost use Rattle.std.specs.Prelude.{◌≡◌, ◌<◌, ◌≤◌, [], IfOk};
+ghost use Rattle.std.specs.Prelude.{◌≡◌, ◌<◌, ◌≤◌, [], false, IfOk};
 ghost use Rattle.std.specs.List.{All};
+ghost use Rattle.bz_past.specs.Moments.{moment};
 
 use crate::texts::opened;
-use bz_locked::{Closed, FireError, Fired, NetLedger, Session, SharedNet, WaitReply, Work, Worker};
+use bz_locked::{
+    Closed, FireError, Fired, Keeper, NetLedger, Past, Session, SharedNet, WaitReply, Work, Worker,
+};
 use bz_model::{Entry, HostCmd, NetError, Reply, Who};
 use bz_net::{Net, RestReply};
 use bz_session::{End, play};
@@ -56,11 +59,20 @@ pub struct Alone<L: NetLedger> {
 }
 
 impl<L: NetLedger> Alone<L> {
-    fn new(alloc: Global, blank: Blank, net: Net, fuel: u64) -> Result<Alone<L>, Fail>
+    fn new(
+        alloc: Global,
+        blank: Blank,
+        opened: (Past, Keeper),
+        net: Net,
+        fuel: u64,
+    ) -> Result<Alone<L>, Fail>
         requires ledger { (blank.name ≡ L.name) × (blank.parts ≡ L.parts) × (L.parts ≡ 1) }
+        requires past { (opened.0 ≡ L.past) × (opened.1.table ≡ L.past) × (opened.1.now ≡ moment net false) }
         requires opening { (net.wiring ≡ L.terms.wiring) × (fuel ≡ L.terms.fuel) × (L.terms.sessions ≡ 1) × (net.journal ≡ []) }
     {
-        let (shared, mut sessions, mut workers) = SharedNet::new(alloc, blank, net, fuel, 1, 1)?;
+        let (shared, mut sessions, mut workers) = SharedNet::new(
+            alloc, blank, opened, net, fuel, 1, 1,
+        )?;
         let session = last_session(&shared, &mut sessions)?;
         let worker = last_worker(&shared, &mut workers)?;
         Ok(Alone {
@@ -145,14 +157,16 @@ fn start<L: NetLedger, T: Turns, R: Wait + Abort>(
     rt: &R,
     alloc: Global,
     blank: Blank,
+    opened: (Past, Keeper),
     net: Net,
     fuel: u64,
     turns: &T,
 ) -> Result<Closed, Fail>
     requires ledger { (blank.name ≡ L.name) × (blank.parts ≡ L.parts) × (L.parts ≡ 1) }
+    requires past { (opened.0 ≡ L.past) × (opened.1.table ≡ L.past) × (opened.1.now ≡ moment net false) }
     requires opening { (net.wiring ≡ L.terms.wiring) × (fuel ≡ L.terms.fuel) × (L.terms.sessions ≡ 1) × (net.journal ≡ []) }
 {
-    let mut alone = Alone::<L>::new(alloc, blank, net, fuel)?;
+    let mut alone = Alone::<L>::new(alloc, blank, opened, net, fuel)?;
     turns.take(rt, alloc, &mut alone)?;
     alone.close(alloc)
 }
@@ -170,5 +184,8 @@ pub fn take_alone<T: Turns, R: Wait + Abort>(
     requires { (0 < limit) × (limit ≤ 16777216) }
 {
     let net = opened(alloc, netlist, part, limit)?;
-    start::<Brand, T, R>(rt, alloc, Blank::new(1), net, fuel, turns)
+    let Ok(past) = Past::open(alloc, &net) else {
+        return Err("a past".into());
+    };
+    start::<Brand, T, R>(rt, alloc, Blank::new(1), past, net, fuel, turns)
 }

@@ -1,10 +1,13 @@
 //! A shared net with two sessions and a worker, each on a thread of its own.
 
-ghost use Rattle.std.specs.Prelude.{◌≡◌, ◌<◌, ◌≤◌, []};
+ghost use Rattle.std.specs.Prelude.{◌≡◌, ◌<◌, ◌≤◌, [], false};
+ghost use Rattle.bz_past.specs.Moments.{moment};
 
 use crate::alone::{last_session, last_worker};
 use crate::texts::opened;
-use bz_locked::{Closed, FireError, NetLedger, Session, SharedNet, WaitReply, Work, Worker};
+use bz_locked::{
+    Closed, FireError, Keeper, NetLedger, Past, Session, SharedNet, WaitReply, Work, Worker,
+};
 use bz_model::{HostCmd, NetError};
 use bz_net::{Net, RestReply};
 use bz_session::{End, play};
@@ -215,11 +218,20 @@ pub struct Pair<L: NetLedger> {
 }
 
 impl<L: NetLedger + Send + Sync> Pair<L> {
-    fn new(alloc: Global, blank: Blank, net: Net, fuel: u64) -> Result<Pair<L>, Fail>
+    fn new(
+        alloc: Global,
+        blank: Blank,
+        opened: (Past, Keeper),
+        net: Net,
+        fuel: u64,
+    ) -> Result<Pair<L>, Fail>
         requires ledger { (blank.name ≡ L.name) × (blank.parts ≡ L.parts) × (L.parts ≡ 1) }
+        requires past { (opened.0 ≡ L.past) × (opened.1.table ≡ L.past) × (opened.1.now ≡ moment net false) }
         requires opening { (net.wiring ≡ L.terms.wiring) × (fuel ≡ L.terms.fuel) × (L.terms.sessions ≡ 2) × (net.journal ≡ []) }
     {
-        let (shared, mut sessions, mut workers) = SharedNet::new(alloc, blank, net, fuel, 2, 1)?;
+        let (shared, mut sessions, mut workers) = SharedNet::new(
+            alloc, blank, opened, net, fuel, 2, 1,
+        )?;
         let two = last_session(&shared, &mut sessions)?;
         let one = last_session(&shared, &mut sessions)?;
         let worker = last_worker(&shared, &mut workers)?;
@@ -292,15 +304,17 @@ fn start<L: NetLedger + Send + Sync, R: Threads + Wait + Sync>(
     rt: &R,
     alloc: Global,
     blank: Blank,
+    opened: (Past, Keeper),
     net: Net,
     fuel: u64,
     one_does: Does,
     two_does: Does,
 ) -> Result<(Closed, Ends), Fail>
     requires ledger { (blank.name ≡ L.name) × (blank.parts ≡ L.parts) × (L.parts ≡ 1) }
+    requires past { (opened.0 ≡ L.past) × (opened.1.table ≡ L.past) × (opened.1.now ≡ moment net false) }
     requires opening { (net.wiring ≡ L.terms.wiring) × (fuel ≡ L.terms.fuel) × (L.terms.sessions ≡ 2) × (net.journal ≡ []) }
 {
-    let pair = Pair::<L>::new(alloc, blank, net, fuel)?;
+    let pair = Pair::<L>::new(alloc, blank, opened, net, fuel)?;
     let (pair, ends) = pair.run(rt, one_does, two_does);
     Ok((pair.close(alloc)?, ends))
 }
@@ -315,5 +329,17 @@ pub fn run_pair<R: Threads + Wait + Sync>(
     two_does: Does,
 ) -> Result<(Closed, Ends), Fail> {
     let net = opened(alloc, netlist, part, 1000)?;
-    start::<Brand, R>(rt, alloc, Blank::new(1), net, 1000, one_does, two_does)
+    let Ok(past) = Past::open(alloc, &net) else {
+        return Err("a past".into());
+    };
+    start::<Brand, R>(
+        rt,
+        alloc,
+        Blank::new(1),
+        past,
+        net,
+        1000,
+        one_does,
+        two_does,
+    )
 }

@@ -2,8 +2,8 @@
 
 use bz_breeze_records::Parts;
 use bz_source::{
-    LineCounter, PartLines, Place, Places, PlacesError, chan_standing, comp_standing, lines_of,
-    put_path, put_standing,
+    LineCounter, PartLines, PathAt, Places, PlacesError, chan_line_at, comp_line_at, lines_of,
+    put_line_at, put_path,
 };
 use std::alloc::{AllocError, Global};
 use std::test::Fail;
@@ -55,7 +55,7 @@ fn put_place(
     text: &mut String,
     what: &str,
     number: u32,
-    place: Option<&Place>,
+    place: Option<&PathAt>,
 ) -> Result<(), AllocError> {
     match place {
         Some(place) => {
@@ -115,16 +115,16 @@ fn standings(alloc: Global, parts: &Parts) -> Result<Vec<u8>, Fail> {
 }
 
 fn standings_at(alloc: Global, parts: &Parts, lines: &[PartLines]) -> Result<Vec<u8>, Fail> {
-    let place = Place {
+    let place = PathAt {
         part: 0,
         position: 1,
         path: vec![in alloc; 1, 12]?,
     };
     let mut text = Vec::new(alloc);
-    let comp = comp_standing(parts, lines, &place);
-    let chan = chan_standing(parts, lines, &place);
-    let written = put_standing(&mut text, comp).is_ok()
-        && put_standing(&mut text, chan).is_ok()
+    let comp = comp_line_at(parts, lines, &place);
+    let chan = chan_line_at(parts, lines, &place);
+    let written = put_line_at(&mut text, comp).is_ok()
+        && put_line_at(&mut text, chan).is_ok()
         && put_path(&mut text, place.path.as_slice()).is_ok();
     if written {
         Ok(text)

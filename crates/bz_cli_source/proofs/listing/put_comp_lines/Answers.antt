@@ -1,7 +1,7 @@
 use Rattle.std.proofs.Common.{map, arith}
 use Rattle.std.proofs.lemmas.Result.{err_from_is_err_and}
 use Rattle.bz_flat.specs.Flats.{site_of}
-use Rattle.bz_source.specs.Views.{spot_of}
+use Rattle.bz_source.specs.Views.{path_at_of}
 use Rattle.bz_cli_source.specs.Listing.{comp_line}
 use Rattle.bz_cli_input.proofs.Lines.{sent_line, stops_in_line}
 use Rattle.bz_cli_source.proofs.listing.put_comp_lines.Goals as goal

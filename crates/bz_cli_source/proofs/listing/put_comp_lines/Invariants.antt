@@ -1,7 +1,7 @@
 use Rattle.std.proofs.Common.{map, take}
 use Rattle.std.specs.Io.KnownBytes.{Appends}
 use Rattle.bz_flat.specs.Flats.{site_of}
-use Rattle.bz_source.specs.Views.{spot_of}
+use Rattle.bz_source.specs.Views.{path_at_of}
 use Rattle.bz_cli_input.specs.Listing.{lines}
 use Rattle.bz_cli_source.specs.Listing.{comp_line}
 use Rattle.bz_cli_source.proofs.listing.put_comp_lines.Given as goal

@@ -8,7 +8,7 @@ use Rattle.bz_flat.specs.Flats.{site_of}
 use Rattle.bz_flat.specs.Wires.{ends_in}
 use Rattle.bz_text.proofs.Sent.{stops_before, writes_after}
 use Rattle.bz_source.specs.Texts.{at_text, placed_comp_text}
-use Rattle.bz_source.specs.Views.{chan_standing, comp_standing, spot_of, standing_of}
+use Rattle.bz_source.specs.Views.{chan_line_at, comp_line_at, path_at_of, line_at_of}
 use Rattle.bz_cli_input.specs.Listing.{head_text, lines, ports_text}
 use Rattle.bz_cli_source.specs.Listing.{chan_end, chan_head, chan_line, chans_text, comp_end, comp_line, comp_name, comps_text, count_line, end_text, ends_text, host_holds, inside_text, instance_head, instance_line, instances_text, stepped}
 use Rattle.bz_cli_source.proofs.listing.put_inside.Goals as goal

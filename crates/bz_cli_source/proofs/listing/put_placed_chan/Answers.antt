@@ -7,7 +7,7 @@ use Rattle.bz_flat.specs.Flats.{site_of}
 use Rattle.bz_flat.specs.Wires.{ends_in}
 use Rattle.bz_text.proofs.Sent.{stops_before, writes_after}
 use Rattle.bz_source.specs.Texts.{at_text, placed_comp_text}
-use Rattle.bz_source.specs.Views.{chan_standing, comp_standing, spot_of, standing_of}
+use Rattle.bz_source.specs.Views.{chan_line_at, comp_line_at, path_at_of, line_at_of}
 use Rattle.bz_cli_input.specs.Listing.{head_text, lines, ports_text}
 use Rattle.bz_cli_source.specs.Listing.{chan_end, chan_head, chan_line, chans_text, comp_end, comp_line, comp_name, comps_text, count_line, end_text, ends_text, host_holds, inside_text, instance_head, instance_line, instances_text, stepped}
 use Rattle.bz_cli_source.proofs.listing.put_placed_chan.Goals as goal
@@ -15,7 +15,7 @@ use Rattle.bz_cli_source.proofs.listing.put_placed_chan.Goals as goal
 pub returns-in_err-put_chan_head : goal.returns-in_err-put_chan_head
 returns-in_err-put_chan_head g c =
     let p = err_from_is_err_and c.from_residual.result c.from_residual.ensures.1 in
-    rw p.1 (stops_before _ _ (chan_head (c.args.i + 1) c.args.chan) (ends_text (map external c.args.net.now.ports.items) (c.args.i + 1) (ends_in c.args.net.now.ends.items (c.args.i + 1)) ++ chan_end c.args.s.now (spot_of c.args.place.now)) c.in_err-put_chan_head.ensures)
+    rw p.1 (stops_before _ _ (chan_head (c.args.i + 1) c.args.chan) (ends_text (map external c.args.net.now.ports.items) (c.args.i + 1) (ends_in c.args.net.now.ends.items (c.args.i + 1)) ++ chan_end c.args.s.now (path_at_of c.args.place.now)) c.in_err-put_chan_head.ensures)
 
 pub returns : goal.returns
-returns g c = writes_after _ _ _ _ (chan_head (c.args.i + 1) c.args.chan) (ends_text (map external c.args.net.now.ports.items) (c.args.i + 1) (ends_in c.args.net.now.ends.items (c.args.i + 1)) ++ chan_end c.args.s.now (spot_of c.args.place.now)) c.in_ok-put_chan_head.ensures c.put_chan_tail.ensures
+returns g c = writes_after _ _ _ _ (chan_head (c.args.i + 1) c.args.chan) (ends_text (map external c.args.net.now.ports.items) (c.args.i + 1) (ends_in c.args.net.now.ends.items (c.args.i + 1)) ++ chan_end c.args.s.now (path_at_of c.args.place.now)) c.in_ok-put_chan_head.ensures c.put_chan_tail.ensures

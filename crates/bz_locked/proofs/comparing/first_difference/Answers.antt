@@ -1,6 +1,5 @@
-use Rattle.std.proofs.Common.{◌≡◌, ◌++◌, ◌∷◌, [], rules, arith, true≢false, refl, sym, ap, ◌∙◌, length, take}
-use Rattle.std.specs.List.{filter}
-use Rattle.std.proofs.lemmas.List.{take_all, append-nil, take_more}
+use Rattle.std.proofs.Common.{arith, true≢false, sym, ap, ◌∙◌}
+use Rattle.std.proofs.lemmas.List.{take_all}
 use Rattle.bz_locked.specs.Journal.{who_of, same_who, part_of}
 use Rattle.bz_model.specs.declared.event.Entry.{Entry}
 use Rattle.bz_locked.proofs.Records.{differs_here, differs_after, agrees_more, agrees_still}

@@ -8,6 +8,7 @@ use Rattle.bz_locked.specs.Closing.{Agrees, Gathers}
 use Rattle.bz_locked.specs.Journal.{part_of, firings}
 use Rattle.bz_locked.specs.Parts.{SessionView, WorkerView}
 use Rattle.bz_locked.specs.Terms.{Terms, terms}
+use Rattle.bz_past.specs.Moments.{moment}
 use Rattle.bz_locked.specs.declared.closing.Closed.{Closed}
 use Rattle.bz_session.specs.declared.playing.End.{End}
 use Rattle.bz_pool.specs.Crews.{HavePlayed, TellsDiscord}
@@ -56,23 +57,31 @@ returns-in-Ok-in_scope-clause-played g c =
     let whos = c.in-Ok-in_scope.ensures.who.0 ∙ named (λ (s : SessionView). s.who) Host _ 0 (length c.args.lists.items) (omega (arith, made.sessions.0, count, c.args.lists.ok.0)) (λ k d lt. let e : k + 1 ≡ 0 + (k + 1) = omega arith in ap (λ (s : SessionView). s.who) (made.sessions.1 k d (omega (arith, lt, count, c.args.lists.ok.0))) ∙ ap Host e) in
     let t = terms c.args.net.wiring c.args.fuel (vec_len c.args.lists) in
     let same_terms = terms_are g.L.NetLedger.terms c.args.net.wiring c.args.fuel (vec_len c.args.lists) c.requires.opening.0 c.requires.opening.1 c.requires.opening.2 in
-    let have = subst (λ (u : Terms). HavePlayed u c.args.lists.items crew.sessions.items (vec_len c.in-Ok.made.2) crew.ends.items) same_terms c.in-Ok-in_scope.ensures.played in
-    let number = subst (λ n. HavePlayed t c.args.lists.items crew.sessions.items n crew.ends.items) made.workers.0 have in
+    let have = subst (λ (u : Terms). HavePlayed u c.args.lists.items crew.sessions.items crew.workers.items (vec_len c.in-Ok.made.2) crew.ends.items) same_terms c.in-Ok-in_scope.ensures.played in
+    let number = subst (λ n. HavePlayed t c.args.lists.items crew.sessions.items crew.workers.items n crew.ends.items) made.workers.0 have in
+    let Has : Closed × Vec End Global → Type 0 = λ r. Gathers g.L.NetLedger.terms.wiring g.L.NetLedger.terms.fuel crew.sessions.items crew.workers.items r.0 × Agrees crew.sessions.items crew.workers.items r.0 in
     of_ok
-    (λ (r : Closed × Vec End Global). Agrees crew.sessions.items crew.workers.items r.0)
+    Has
     (λ (r : Closed × Vec End Global). r.1 ≡ crew.ends)
-    (λ (r : Closed × Vec End Global). ArePlayed t c.args.lists.items c.args.workers r.0.net.journal r.1.items)
+    (λ (r : Closed × Vec End Global). ArePlayed t c.args.lists.items c.args.workers (moment r.0.net r.0.stopped) r.1.items)
     c.close.result
-    (λ r agrees same. subst (λ (es : Vec End Global). ArePlayed t c.args.lists.items c.args.workers r.0.net.journal es.items) (sym same)
-    (all_played t r.0.net.journal c.args.lists.items crew.sessions.items c.args.workers crew.ends.items whos agrees.records number))
-    c.close.ensures.agrees
+    (λ r has same. subst (λ (es : Vec End Global). ArePlayed t c.args.lists.items c.args.workers (moment r.0.net r.0.stopped) es.items) (sym same)
+    (all_played t (moment r.0.net r.0.stopped) c.args.lists.items crew.sessions.items crew.workers.items c.args.workers crew.ends.items whos has.1.records has.0.sessions_saw has.0.workers_saw number))
+    (of_ok
+    (λ (r : Closed × Vec End Global). Gathers g.L.NetLedger.terms.wiring g.L.NetLedger.terms.fuel crew.sessions.items crew.workers.items r.0)
+    (λ (r : Closed × Vec End Global). Agrees crew.sessions.items crew.workers.items r.0)
+    Has
+    c.close.result
+    (λ r gathers agrees. (gathers, agrees))
+    c.close.ensures.gathers
+    c.close.ensures.agrees)
     c.close.ensures.ends
 
 pub returns-in-Ok-in_scope-clause-ends : goal.returns-in-Ok-in_scope-clause-ends
 returns-in-Ok-in_scope-clause-ends g c =
     let crew = c.in-Ok-in_scope.crew in
     let made = c.in-Ok.ensures in
-    let count = ends_count g.L.NetLedger.terms c.args.lists.items crew.sessions.items (vec_len c.in-Ok.made.2) crew.ends.items c.in-Ok-in_scope.ensures.played in
+    let count = ends_count g.L.NetLedger.terms c.args.lists.items crew.sessions.items crew.workers.items (vec_len c.in-Ok.made.2) crew.ends.items c.in-Ok-in_scope.ensures.played in
     let number : vec_len crew.ends ≡ vec_len c.args.lists + c.args.workers = omega (arith, count, made.workers.0, c.args.lists.ok.0, crew.ends.ok.0) in
     of_ok
     (λ (r : Closed × Vec End Global). r.1 ≡ crew.ends)

@@ -5,7 +5,8 @@ use Rattle.bz_flat.specs.Wires.{ends_in}
 use Rattle.bz_net.specs.Core.{Standing}
 use Rattle.bz_net.specs.Keeping.{RefreshedEnds, state_of}
 use Rattle.bz_net.specs.Told.{Turned}
-use Rattle.bz_net.proofs.Cores.{core_placed, core_sighted, core_stays, core_moved, core_sole, core_step}
+use Rattle.bz_net.specs.Noted.{MeetBefore}
+use Rattle.bz_net.proofs.Cores.{core_met, core_placed, core_sighted, core_stays, core_moved, core_sole, core_step}
 use Rattle.bz_net.proofs.Telling.{all_are_ends}
 use Rattle.bz_net.specs.Nodes.{comps_of, heres_of}
 use Rattle.bz_net.proofs.core_net.Core.fire.Goals as goal
@@ -82,3 +83,17 @@ move_comp-requires-clause-are_ends c =
     let n = c.self.inside in
     let w : Wiring = record { chans = n.names.chans; sites = map site_of n.sites; ports = n.names.ports } in
     rw c.deref.ensures.value (all_are_ends w n.ends.items c.self.invariant.ends_of)
+
+pub move_comp-requires-clause-exact : goal.move_comp-requires-clause-exact
+move_comp-requires-clause-exact c = c.self.invariant.ready.exact
+
+pub returns-clause-met : goal.returns-clause-met
+returns-clause-met c =
+    let n = c.self.inside in let d = c.move_comp.new in let r = c.move_comp.result in
+    let w : Wiring = record { chans = n.names.chans; sites = map site_of n.sites; ports = n.names.ports } in
+    let told : Turned w.sites n.phases (comps_of n.nodes) (heres_of n.nodes) d.phases (comps_of d.nodes) (heres_of d.nodes) c.args.comp c.args.port r.0 r.1 r.2 =
+    c.move_comp.ensures.told in
+    let refreshed : RefreshedEnds w.sites (state_of d.phases (comps_of d.nodes)) n.ready.row d.ready.row (ends_in n.ends.items r.0) =
+    rw c.deref.ensures.value at c.move_comp.ensures.refreshed in
+    subst (λ (v : Standing). MeetBefore v.wiring.sites v.state.phases d.phases r.1) c.self.view_is
+    (core_met w n.phases (comps_of n.nodes) (heres_of n.nodes) n.ends.items n.ready.row c.self.invariant d.phases (comps_of d.nodes) (heres_of d.nodes) d.ready.row c.args.comp c.args.port r.0 r.1 r.2 told refreshed)

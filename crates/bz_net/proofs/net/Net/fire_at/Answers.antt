@@ -12,18 +12,18 @@ fire-chan-requires c =
     let same = c.self.view_is ∙ c.in_ok-admit.ensures.ok.rest_same in
     subst (λ (v : Simulation). StepsAt v.wiring.sites v.state c.args.comp c.args.port) (sym same) c.requires
 
-pub note_clash-requires-clause-to : goal.note_clash-requires-clause-to
-note_clash-requires-clause-to c = subst (λ (w : Wiring). c.fire-chan.result.0 ≤ length w.chans) (sym c.fire-chan.ensures.wiring) c.fire-chan.ensures.to
+pub note_move-requires-clause-to : goal.note_move-requires-clause-to
+note_move-requires-clause-to c = subst (λ (w : Wiring). c.fire-chan.result.0 ≤ length w.chans) (sym c.fire-chan.ensures.wiring) c.fire-chan.ensures.to
 
-pub note_clash-requires-clause-most : goal.note_clash-requires-clause-most
-note_clash-requires-clause-most c = c.self.invariant.most ∙ ap (λ (w : Wiring). length w.sites) (sym c.fire-chan.ensures.wiring)
+pub note_move-requires-clause-most : goal.note_move-requires-clause-most
+note_move-requires-clause-most c = c.self.invariant.most ∙ ap (λ (w : Wiring). length w.sites) (sym c.fire-chan.ensures.wiring)
 
 pub invariant_of-self : goal.invariant_of-self
 invariant_of-self c =
     let n = c.self.inside in let r = c.fire-chan.result in let core = c.fire-chan.new.self in
     let place : length n.journal.items < n.limit = subst (λ (v : Simulation). length v.journal < v.limit) (sym c.self.view_is) c.in_ok-admit.ensures.ok.has_place in
     rw (c.push.ensures.items, c.unwrap.ensures)
-    (keeps_fired n.core.wiring core.wiring n.core.state core.state n.journal.items n.limit n.noted c.note_clash.new.noted c.args.who c.args.comp c.args.port r.0 r.1 r.2 c.fire-chan.ensures.wiring c.self.invariant place c.fire-chan.ensures.step c.note_clash.ensures)
+    (keeps_fired n.core.wiring core.wiring n.core.state core.state n.journal.items n.limit n.noted c.note_move.new.noted c.args.who c.args.comp c.args.port r.0 r.1 r.2 c.fire-chan.ensures.wiring c.self.invariant place c.fire-chan.ensures.step c.fire-chan.ensures.met c.note_move.ensures)
 
 pub returns-clause-adds : goal.returns-clause-adds
 returns-clause-adds c =

@@ -8,19 +8,19 @@ use Rattle.bz_net.proofs.play.Play.fire.Goals as goal
 pub fire-chan-requires : goal.fire-chan-requires
 fire-chan-requires c = subst (λ (v : Progress). StepsAt v.wiring.sites v.state c.args.comp c.args.port) (sym c.self.view_is) c.requires.steps
 
-pub note_clash-requires-clause-to : goal.note_clash-requires-clause-to
-note_clash-requires-clause-to c = subst (λ (w : Wiring). c.fire-chan.result.0 ≤ length w.chans) (sym c.fire-chan.ensures.wiring) c.fire-chan.ensures.to
+pub note_move-requires-clause-to : goal.note_move-requires-clause-to
+note_move-requires-clause-to c = subst (λ (w : Wiring). c.fire-chan.result.0 ≤ length w.chans) (sym c.fire-chan.ensures.wiring) c.fire-chan.ensures.to
 
-pub note_clash-requires-clause-most : goal.note_clash-requires-clause-most
-note_clash-requires-clause-most c = c.self.invariant.most ∙ ap (λ (w : Wiring). length w.sites) (sym c.fire-chan.ensures.wiring)
+pub note_move-requires-clause-most : goal.note_move-requires-clause-most
+note_move-requires-clause-most c = c.self.invariant.most ∙ ap (λ (w : Wiring). length w.sites) (sym c.fire-chan.ensures.wiring)
 
 pub returns-clause-enters : goal.returns-clause-enters
 returns-clause-enters c =
     let n = c.self.inside in let r = c.fire-chan.result in let core = c.fire-chan.new.self in
     let place : 0 < n.left = subst (λ (v : Progress). 0 < v.left) (sym c.self.view_is) c.requires.place in
     let one : n.left ≡ (n.left - 1) + 1 = omega (arith, place) in
-    subst (λ (v : Progress). Enters v (Fired c.args.who c.args.comp c.args.port r.0 r.1 r.2) (progress core.wiring core.state c.note_clash.new.noted (n.left - 1))) c.self.view_is
-    (enters_fired n.core.wiring core.wiring n.core.state core.state n.noted c.note_clash.new.noted n.left (n.left - 1) c.fire-chan.ensures.wiring c.self.invariant.wired one c.args.who c.args.comp c.args.port r.0 r.1 r.2 c.fire-chan.ensures.step c.note_clash.ensures)
+    subst (λ (v : Progress). Enters v (Fired c.args.who c.args.comp c.args.port r.0 r.1 r.2) (progress core.wiring core.state c.note_move.new.noted (n.left - 1))) c.self.view_is
+    (enters_fired n.core.wiring core.wiring n.core.state core.state n.noted c.note_move.new.noted n.left (n.left - 1) c.fire-chan.ensures.wiring c.self.invariant.wired one c.args.who c.args.comp c.args.port r.0 r.1 r.2 c.fire-chan.ensures.step c.fire-chan.ensures.met c.note_move.ensures)
 
 pub returns-clause-sole : goal.returns-clause-sole
 returns-clause-sole c k mv value next other =

@@ -1,0 +1,5 @@
+use Rattle.bz_elab.specs.EndFaults.{Adds, OneAt}
+use Rattle.bz_elab.proofs.ends.add_loose.Given as goal
+
+abbrev pub invariant-loop-k : goal.invariant-loop-k
+invariant-loop-k l = Adds (OneAt l.ports l.ends) l.fn.faults.items l.faults.items

@@ -1,0 +1,177 @@
+//! What is found in a netlist, told with its place: as lines for people, and as JSON for tools.
+
+use crate::draft::Draft;
+use crate::notes::shown;
+use crate::spot::Spot;
+use crate::telling::tell_notes;
+use bz_model::Value;
+use bz_text::{Piece, Text, WriteFault, put, put_json, put_pieces};
+use std::alloc::Global;
+use std::io::Write;
+
+/// What a finding says of the netlist.
+#[derive(Clone, Copy, Debug, PartialEq, Eq)]
+pub enum Severity {
+    /// It is refused.
+    Fault,
+    /// It is accepted, and likely to be a mistake.
+    Warning,
+}
+
+/// A fault of a netlist, or a warning.
+#[derive(Drop)]
+pub struct Finding {
+    pub severity: Severity,
+    /// The code, the name and what follows these, one space apart.
+    pub line: Text,
+    pub spot: Spot,
+    pub notes: Draft,
+}
+
+/// The first findings, and how many there are beside them.
+#[derive(Drop)]
+pub struct Findings {
+    pub list: Vec<Finding>,
+    pub more: usize,
+    /// How many parts were to be opened and were not, since that would take too long.
+    pub unopened: usize,
+}
+
+impl Findings {
+    /// How many of this severity are among the first.
+    pub fn count(&self, severity: Severity) -> usize {
+        let list = self.list.iter();
+        list.filter(|finding| finding.severity == severity).count()
+    }
+}
+
+/// Writes findings in a file: each begins with `FILE:LINE:COLUMN: ` and has its notes behind it. Last notes say how many more
+/// there are, and how many parts were not opened, where there are such.
+pub fn tell_findings<W: Write>(
+    alloc: Global,
+    file: &str,
+    findings: &Findings,
+    out: &mut W,
+) -> Result<(), WriteFault> {
+    for finding in &findings.list {
+        tell_finding(alloc, file, finding, out)?;
+    }
+    tell_count(findings.more, b" more\n", out)?;
+    tell_count(findings.unopened, b" parts that were not opened\n", out)
+}
+
+// A note on how many there are beside what was told, where there are any.
+fn tell_count<W: Write>(count: usize, behind: &[u8], out: &mut W) -> Result<(), WriteFault> {
+    if count == 0 {
+        return Ok(());
+    }
+    let pieces = [
+        Piece::Bytes(b"breezesim: note: and "),
+        Piece::Number(count as Value),
+        Piece::Bytes(behind),
+    ];
+    put_pieces(out, &pieces)
+}
+
+fn tell_finding<'a, W: Write>(
+    alloc: Global,
+    file: &'a str,
+    finding: &'a Finding,
+    out: &mut W,
+) -> Result<(), WriteFault> {
+    let pieces = [
+        Piece::Bytes(file.as_bytes()),
+        Piece::Bytes(b":"),
+        Piece::Number(finding.spot.line as Value),
+        Piece::Bytes(b":"),
+        Piece::Number(finding.spot.column as Value),
+        Piece::Bytes(b": "),
+        Piece::Bytes(line_of(finding)),
+        Piece::Bytes(b"\n"),
+    ];
+    put_pieces(out, &pieces)?;
+    tell_notes(alloc, &finding.notes, out)
+}
+
+// The line of a finding, empty where memory was wanting for it.
+fn line_of(finding: &Finding) -> &[u8] {
+    match finding.line.whole() {
+        Ok(line) => line,
+        Err(_) => b"",
+    }
+}
+
+/// Writes findings in a file as one object of JSON, each finding on a line of its own.
+pub fn tell_json<W: Write>(
+    alloc: Global,
+    file: &str,
+    findings: &Findings,
+    out: &mut W,
+) -> Result<(), WriteFault> {
+    put(out, b"{\"version\": 1, \"findings\": [")?;
+    let mut before: &[u8] = b"\n";
+    for finding in &findings.list {
+        put(out, before)?;
+        json_finding(alloc, file, finding, out)?;
+        before = b",\n";
+    }
+    let pieces = [
+        Piece::Bytes(b"\n], \"more\": "),
+        Piece::Number(findings.more as Value),
+        Piece::Bytes(b", \"unopened\": "),
+        Piece::Number(findings.unopened as Value),
+        Piece::Bytes(b"}\n"),
+    ];
+    put_pieces(out, &pieces)
+}
+
+fn json_finding<W: Write>(
+    alloc: Global,
+    file: &str,
+    finding: &Finding,
+    out: &mut W,
+) -> Result<(), WriteFault> {
+    let severity: &[u8] = match finding.severity {
+        Severity::Fault => b"fault",
+        Severity::Warning => b"warning",
+    };
+    let (code, name) = code_of(line_of(finding));
+    put(out, b"{\"file\": ")?;
+    put_json(out, file.as_bytes())?;
+    let pieces = [
+        Piece::Bytes(b", \"line\": "),
+        Piece::Number(finding.spot.line as Value),
+        Piece::Bytes(b", \"column\": "),
+        Piece::Number(finding.spot.column as Value),
+        Piece::Bytes(b", \"severity\": \""),
+        Piece::Bytes(severity),
+        Piece::Bytes(b"\", \"code\": \""),
+        Piece::Bytes(code),
+        Piece::Bytes(b"\", \"name\": \""),
+        Piece::Bytes(name),
+        Piece::Bytes(b"\", \"text\": "),
+    ];
+    put_pieces(out, &pieces)?;
+    put_json(out, line_of(finding))?;
+    json_notes(alloc, &finding.notes, out)
+}
+
+fn json_notes<W: Write>(alloc: Global, notes: &Draft, out: &mut W) -> Result<(), WriteFault> {
+    put(out, b", \"notes\": [")?;
+    let mut before: &[u8] = b"";
+    for note in notes.notes() {
+        put(out, before)?;
+        match shown(alloc, note) {
+            Ok(letters) => put_json(out, letters.as_slice())?,
+            Err(_) => return Err(WriteFault),
+        }
+        before = b", ";
+    }
+    put(out, b"]}")
+}
+
+// The code and the name in a line: its first two words.
+fn code_of(line: &[u8]) -> (&[u8], &[u8]) {
+    let mut words = line.split(|byte| *byte == b' ');
+    (words.next().unwrap_or(b""), words.next().unwrap_or(b""))
+}

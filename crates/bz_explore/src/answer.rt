@@ -1,0 +1,128 @@
+//! The answer of a line.
+
+use crate::explored::Ending;
+use crate::piece::Piece;
+use crate::table::{Form, words_of_commands};
+use bz_explain_notes::nearest_name;
+use bz_model::Value;
+use bz_net::Net;
+use bz_text::Text;
+use bz_trace_text::put_entries;
+use std::alloc::{AllocError, Global};
+
+/// The most lines that are told of one command, and half of them.
+pub(crate) const MOST_LINES: usize = 40;
+
+pub(crate) const HALF: usize = MOST_LINES / 2;
+
+/// How many lines are left out.
+pub(crate) const MORE: &str = ".. % lines more\n";
+
+/// What is told of a line, and how the session went up to it.
+#[derive(Drop)]
+pub(crate) struct Answer {
+    pub text: Text,
+    /// The number of the line, where it is not typed at a prompt.
+    pub line: Option<u64>,
+    pub ending: Ending,
+}
+
+impl Answer {
+    /// Begins to tell why the line can't be followed.
+    pub fn begin_error(&mut self) {
+        self.ending = Ending::Bad;
+        match self.line {
+            Some(line) => self
+                .text
+                .say("error: line %: ", &[Piece::Number(line.into())]),
+            None => self.text.put("error: "),
+        }
+    }
+
+    /// Tells why the line can't be followed.
+    pub fn complain(&mut self, form: &str, pieces: &[Piece<'_>]) {
+        self.begin_error();
+        self.text.say(form, pieces);
+    }
+
+    /// Tells that a word doesn't fit a command of this form, and what it is instead.
+    pub fn misfit(&mut self, form: Form, word: &str, what: &str) {
+        let (form, word) = (Piece::Text(form.0), Piece::Shown(word.as_bytes()));
+        self.complain("%: `%` is %\n", &[form, word, Piece::Text(what)]);
+    }
+
+    /// Tells that what was typed is no command, and which one is near to its first word, or to what stands there before a colon.
+    pub fn no_command(&mut self, head: &str, typed: &[u8]) {
+        self.complain("`%` is no command; ", &[Piece::Shown(typed)]);
+        match nearest_command(self.text.alloc(), head) {
+            Ok(Some(word)) => self.text.say("the nearest is `%`\n", &[Piece::Bytes(word)]),
+            Ok(None) => self.text.put("`help` tells them\n"),
+            Err(_) => self.text.lose(),
+        }
+    }
+}
+
+fn nearest_command(alloc: Global, head: &str) -> Result<Option<&'static [u8]>, AllocError> {
+    let front = head.split(':').next().unwrap_or("");
+    nearest_name(
+        alloc,
+        front.as_bytes(),
+        words_of_commands(alloc)?.as_slice(),
+    )
+}
+
+/// The list, or an empty one where memory was refused for it, so that the text is lost.
+pub(crate) fn gathered<T: Drop>(list: Result<Vec<T>, AllocError>, text: &mut Text) -> Vec<T> {
+    match list {
+        Ok(list) => list,
+        Err(_) => {
+            text.lose();
+            Vec::new(text.alloc())
+        }
+    }
+}
+
+/// Adds lines; of more than forty so many of the first, how many are left out, and so many of the last.
+pub(crate) fn put_cut(lines: &Text, first: usize, last: usize, more: &str, text: &mut Text) {
+    let Ok(lines) = lines.whole() else {
+        text.lose();
+        return;
+    };
+    let count = count_lines(lines);
+    let end = if count > MOST_LINES {
+        count.saturating_sub(last)
+    } else {
+        first
+    };
+    for (place, line) in lines.split_inclusive(|byte| *byte == b'\n').enumerate() {
+        if place == first {
+            put_left_out(end.saturating_sub(first), more, text);
+        }
+        if place < first || place >= end {
+            text.put_bytes(line);
+        }
+    }
+}
+
+/// Adds the lines of the entries behind the first `before`; of more than forty the first and the last twenty.
+pub(crate) fn put_added(net: &Net, before: usize, text: &mut Text) {
+    let entries = net.journal().get(before..).unwrap_or(&[]);
+    let left_out = entries.len().saturating_sub(MOST_LINES);
+    let first = if left_out == 0 { entries.len() } else { HALF };
+    let rest = entries.get(first.saturating_add(left_out)..).unwrap_or(&[]);
+    let _ = put_entries(text, net.names(), entries.get(..first).unwrap_or(&[]));
+    put_left_out(left_out, MORE, text);
+    let _ = put_entries(text, net.names(), rest);
+}
+
+// Adds how many lines are left out, if any are.
+fn put_left_out(count: usize, form: &str, text: &mut Text) {
+    if count > 0 {
+        text.say(form, &[Piece::Number(count as Value)]);
+    }
+}
+
+/// How many lines end in a text.
+pub(crate) fn count_lines(text: &[u8]) -> usize {
+    text.iter().filter(|byte| **byte == b'\n').count()
+}

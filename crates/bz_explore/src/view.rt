@@ -1,0 +1,122 @@
+//! A net as it is told of, and how what is in it is called.
+
+use crate::piece::Piece;
+use bz_explore_net::Course;
+use bz_flat::FlatComp;
+use bz_kind_rows::{kind_word, port_at};
+use bz_model::{Chan, ChanKind, Phase, Verb, numbered};
+use bz_source::{Label, Survey};
+
+/// A net that is played, and where all of it stands in its text.
+#[derive(Clone, Copy)]
+pub(crate) struct View<'v> {
+    pub course: &'v Course,
+    pub survey: &'v Survey,
+}
+
+impl View<'_> {
+    /// How many components can move.
+    pub fn count_ready(&self) -> usize {
+        let comps = 1..=self.course.flat().comp_count();
+        comps
+            .filter(|comp| self.course.net().is_ready(*comp))
+            .count()
+    }
+
+    /// A channel, one without width where there is none of this number.
+    pub fn chan(&self, chan: u32) -> Chan {
+        self.course.flat().chan(chan).unwrap_or(Chan {
+            kind: ChanKind::Sync,
+            width: 0,
+        })
+    }
+
+    /// The phase of a channel, idle where there is none of this number.
+    pub fn phase(&self, chan: u32) -> Phase {
+        if chan == 0 || chan > self.course.flat().chan_count() {
+            return Phase::Idle;
+        }
+        self.course.net().phase(chan)
+    }
+
+    /// The component at the passive or the active end of a channel, if one stands there and not the host.
+    pub fn end(&self, chan: u32, passive: bool) -> Option<u32> {
+        match self.course.flat().ends(chan) {
+            Some(ends) if passive => ends.passive,
+            Some(ends) => ends.active,
+            None => None,
+        }
+    }
+
+    /// Who stands at an end of a channel: a component, or the host at the port.
+    pub fn holder(&self, chan: u32, passive: bool) -> Piece<'_> {
+        match self.end(chan, passive) {
+            Some(number) => self.comp(number),
+            None => Piece::Host(self.port_name(chan)),
+        }
+    }
+
+    /// A component, as it is called.
+    pub fn comp(&self, number: u32) -> Piece<'_> {
+        let kind: &'static [u8] = match self.course.flat().comp(number) {
+            Some(site) => kind_word(&site.kind),
+            None => b"",
+        };
+        let label = self.label(number);
+        Piece::Comp(kind, number, label)
+    }
+
+    /// What the source has of a component.
+    pub fn label(&self, comp: u32) -> Label<'_> {
+        Label {
+            name: self.survey.comp_name(comp),
+            source: self.survey.comp_source(comp),
+        }
+    }
+
+    /// A channel, as it is called.
+    pub fn named_chan(&self, chan: u32) -> Piece<'_> {
+        Piece::Chan(chan, self.survey.chan_name(chan))
+    }
+
+    /// What the source has of a channel.
+    pub fn chan_label(&self, chan: u32) -> Label<'_> {
+        Label {
+            name: self.survey.chan_name(chan),
+            source: self.survey.chan_source(chan),
+        }
+    }
+
+    // The name of an external port, empty where there is none of this number.
+    fn port_name(&self, port: u32) -> &[u8] {
+        let names = self.course.net().names();
+        match names.name(port) {
+            Some(name) => name,
+            None => b"",
+        }
+    }
+
+    /// A word of the host as it is typed, `V` standing for its value.
+    pub fn host_word(&self, verb: Verb, port: u32) -> Piece<'_> {
+        let has_value = verb.wants_value(self.chan(port).kind);
+        Piece::Word(verb, self.port_name(port), has_value)
+    }
+}
+
+/// The channel at a component's port, 0 where there is none.
+pub(crate) fn chan_at(comp: &FlatComp, port: u32) -> u32 {
+    numbered(comp.chans.as_slice(), port).copied().unwrap_or(0)
+}
+
+/// How many ports a component has.
+pub(crate) fn port_count(comp: &FlatComp) -> u32 {
+    u32::try_from(comp.chans.len()).unwrap_or(u32::MAX)
+}
+
+/// A component's port, as it is called.
+pub(crate) fn port(comp: &FlatComp, port: u32) -> Piece<'static> {
+    match port_at(&comp.kind, comp.sizes, port) {
+        Some(at) => Piece::Port(at),
+        None => Piece::Text(""),
+    }
+}

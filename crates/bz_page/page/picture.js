@@ -1,0 +1,365 @@
+// ---- the picture: the net as it stands behind the current line ------------------------------------------------------
+
+const $ = id => document.getElementById(id);
+
+// An element of SVG, and one of HTML. Text goes in as text alone, whatever stands in a name.
+function svg(name, attributes = {}, text) {
+  const element = document.createElementNS('http://www.w3.org/2000/svg', name);
+  for (const [key, value] of Object.entries(attributes)) element.setAttribute(key, value);
+  if (text !== undefined) element.textContent = text;
+  return element;
+}
+function html(tag, style, text) {
+  const element = document.createElement(tag);
+  if (style) element.className = style;
+  if (text !== undefined) element.textContent = text;
+  return element;
+}
+
+const startedAt = performance.now();
+const net = readNet(textOf('net'), textOf('rows')), trace = readTrace(textOf('trace'), net), found = audit(trace, net);
+const readAt = performance.now();
+
+// Above so many components a page begins in focus. In focus are at most so many, of so many lines around, and it is made anew
+// when the line has moved so far.
+const MANY = 300, IN_FOCUS = 90, NEAR = 40, REFOCUS = 25;
+const all = {components: net.components.slice(1), channels: net.channels.slice(1)};
+
+// What the reader chose. `selected` is `c5` for a component, `k7` for a channel, or null.
+const view = {line: 1, selected: null, isFocused: false, focusLine: 0, folded: new Set(), foldedInFocus: new Set(),
+  isStubbed: null, picture: null, box: null, isFollowing: false, isCharted: false, layoutTime: 0};
+
+// What is drawn, by number or path, and the line that it shows (0: nothing yet).
+const drawn = {channels: new Map(), components: new Map(), boxes: new Map(), ports: new Map(), line: 0, here: 0};
+
+const foldedNow = () => (view.isFocused ? view.foldedInFocus : view.folded);
+const isStubbedNow = () => (view.isStubbed === null ? net.shownComponents.length > 60 : view.isStubbed);
+const numberOf = selected => Number(selected.slice(1));
+
+// Chooses what is shown, lays it out and draws it.
+function draw() {
+  const before = performance.now();
+  if (view.isFocused) showNear(view.line); else showOnly(all.components, all.channels);
+  view.picture = layout(net, foldedNow(), isStubbedNow());
+  view.layoutTime = performance.now() - before;
+  for (const map of [drawn.channels, drawn.components, drawn.boxes, drawn.ports]) map.clear();
+  drawn.line = 0;
+  const layers = {frames: svg('g'), lines: svg('g'), nodes: svg('g'), marks: svg('g')}, {picture} = view;
+  for (const frame of picture.frames) layers.frames.append(frameOf(frame));
+  const labels = [];
+  for (const [number, points] of picture.lines) drawChannel(net.channels[number], points, layers, labels);
+  for (const [number, pieces] of picture.stubs) drawStub(net.channels[number], pieces, layers);
+  for (const node of picture.nodes) layers.nodes.append(nodeOf(node));
+  $('root').replaceChildren(layers.frames, layers.lines, layers.nodes, layers.marks);
+}
+
+// Shows these components and channels, and no others.
+function showOnly(components, channels) {
+  for (const item of [...net.shownComponents || all.components, ...net.shownChannels || all.channels]) item.isShown = false;
+  for (const item of components) item.isShown = true;
+  for (const item of channels) item.isShown = true;
+  Object.assign(net, {shownComponents: components, shownChannels: channels});
+}
+
+// In focus: what moves in the lines around this one, with who called it.
+function showNear(line) {
+  const kept = new Set(), keep = number => { if (kept.size < IN_FOCUS) kept.add(number); };
+  const keepEnd = (end, at) => {
+    if (!end || end === 'host') return;
+    keep(end.component);
+    for (const caller of callersOf(net, trace, net.components[end.component], at)) if (typeof caller === 'number') keep(caller);
+  };
+  for (let distance = 0; distance <= NEAR; distance++) for (const at of new Set([line - distance, line + distance])) {
+    const channel = at > 1 && at <= trace.count && net.channels[trace.channel[at]];
+    if (channel) for (const end of [channel.active, channel.passive]) keepEnd(end, at);
+  }
+  view.focusLine = line;
+  const components = [...kept].sort((a, b) => a - b).map(number => net.components[number]);
+  const isKept = end => end === 'host' || end !== null && kept.has(end.component);
+  const numbers = new Set(components.flatMap(component => component.channels.slice(1)));
+  const channels = [...numbers].sort((a, b) => a - b).map(number => net.channels[number]);
+  showOnly(components, channels.filter(it => it && isKept(it.active) && isKept(it.passive)));
+}
+
+// The frame of a copy that is unfolded.
+function frameOf({path, x, y, width, height}) {
+  const group = svg('g', {class: 'frame', 'data-copy': path});
+  group.append(svg('rect', {x, y, width, height, rx: 8}));
+  group.append(svg('text', {x: x + 8, y: y + 14}, `▾ ${path} ${net.instances.get(path).name}`));
+  return group;
+}
+
+const dot = (style, {x, y}) => svg('circle', {class: style, cx: x, cy: y, r: 3.6});
+const placed = ({x, y, angle = 0}, turn = 0) => `translate(${x.toFixed(1)} ${y.toFixed(1)}) rotate(${(angle + turn).toFixed(1)})`;
+const ARROW = 'M5 0L-5 -4.5L-5 4.5Z';
+
+// A channel: its line, a filled dot at the end that asks, an open one at the end that answers, an arrow for the way of its value,
+// and its number.
+function drawChannel(channel, points, layers, labels) {
+  const group = svg('g', {class: 'channel', 'data-channel': channel.number}), d = curve(points);
+  const walk = walkOf(points), length = walk[walk.length - 1].way;
+  group.append(svg('path', {class: 'hit', d}), svg('path', {class: 'line', d}));
+  group.append(dot('active', points[0]), dot('passive', points[points.length - 1]));
+  if (channel.kind === 'push') group.append(svg('path', {class: 'arrow', d: ARROW, transform: placed(onWalk(walk, length - 9))}));
+  if (channel.kind === 'pull') group.append(svg('path', {class: 'arrow', d: ARROW, transform: placed(onWalk(walk, 9), 180)}));
+  group.append(svg('title', {}, channelTitle(channel)));
+  layers.lines.append(group);
+  const place = labelPlace(walk, length, labels), text = `${channel.number}${channel.name ? ` ${cut(channel.name, 10)}` : ''}`;
+  const label = svg('text', {class: 'number', x: place.x.toFixed(1), y: (place.y - 6).toFixed(1)}, text);
+  const value = valueBox({x: place.x, y: place.y + 6});
+  layers.marks.append(label, value);
+  drawn.channels.set(channel.number, {group, walk, length, value, token: null});
+}
+
+// A place for a number on a line where no other number is near.
+function labelPlace(walk, length, labels) {
+  const places = [0.5, 0.38, 0.62, 0.28, 0.72].map(part => onWalk(walk, length * part));
+  const isFree = place => !labels.some(other => Math.abs(other.x - place.x) < 14 && Math.abs(other.y - place.y) < 11);
+  const place = places.find(isFree) || places[places.length - 1];
+  labels.push(place);
+  return place;
+}
+
+// The box for a value, which is hidden where there is none.
+function valueBox(place) {
+  const box = svg('g', {class: 'value', transform: placed(place)});
+  box.append(svg('rect', {rx: 4, y: -7, height: 15}), svg('text', {y: 4}));
+  return box;
+}
+
+// A channel as two short pieces, each with the name of the other end.
+function drawStub(channel, pieces, layers) {
+  const group = svg('g', {class: 'channel', 'data-channel': channel.number});
+  const d = pieces.map(({x, y, dx, isOut}) => (isOut ? `M${x} ${y}h${dx}` : `M${x + dx} ${y}h${-dx}`)).join('');
+  group.append(svg('path', {class: 'hit', d}), svg('path', {class: 'line', d}), svg('title', {}, channelTitle(channel)));
+  for (const piece of pieces) {
+    const {x, y, dx, isOut} = piece;
+    group.append(dot(isOut ? 'active' : 'passive', piece));
+    const style = `stub ${isOut ? 'starts' : 'ends'}`, name = stubName(isOut ? channel.passive : channel.active, isOut);
+    group.append(svg('text', {class: style, x: x + dx * 1.2, y: y + 3}, name));
+    const isArrow = channel.kind === (isOut ? 'pull' : 'push');
+    if (isArrow) group.append(svg('path', {class: 'arrow', d: ARROW, transform: placed({x: x + dx / 1.8, y}, isOut ? 180 : 0)}));
+  }
+  layers.lines.append(group);
+  const {x, y, dx, isOut} = pieces[0], tip = {x: x + dx, y};
+  const value = valueBox({x: x + dx * 2.4, y}), walk = walkOf(isOut ? [pieces[0], tip] : [tip, pieces[0]]);
+  layers.marks.append(value);
+  drawn.channels.set(channel.number, {group, walk, length: walk[walk.length - 1].way, value, token: null});
+}
+
+// How the other end of a stub is called: a folded copy by its path, a variable by its name, what answers by its sign and number,
+// who asks by its number.
+function stubName(end, isAnswering) {
+  const component = net.components[end.component], steps = component.path.split('/');
+  const box = steps.map((step, i) => steps.slice(0, i + 1).join('/')).find(path => foldedNow().has(path));
+  if (box) return `▸${box}`;
+  if (!isAnswering) return String(component.number);
+  return isVariable(component) && component.detail ? cut(component.detail, 6) : signOf(component) + component.number;
+}
+
+// A component, a port of the host, or a copy that is folded.
+function nodeOf(node) {
+  if (node.component) return drawComponent(node);
+  if (node.port) return drawPort(node);
+  return drawBox(node);
+}
+
+function drawComponent({component, x, y, width, height, isCut}) {
+  const group = svg('g', {'data-component': component.number, transform: placed({x, y})}), sign = signOf(component);
+  const oval = (style, edge) => svg('rect', {class: style, x: -width / 2 - edge, y: -height / 2 - edge,
+    width: width + 2 * edge, height: height + 2 * edge, rx: RADIUS + edge});
+  group.append(oval('ring', 5), oval('body', 0));
+  group.append(svg('text', {class: sign.length > 3 ? 'sign small' : 'sign', y: sign.length > 3 ? 4 : 6}, sign));
+  if (isCut) group.append(svg('text', {class: 'more', y: height / 2 - 5}, '…'));
+  const caption = svg('text', {class: 'caption', y: height / 2 + 13}, `${component.number} ${cut(component.kind, 14)}`);
+  group.append(caption, svg('title', {}, componentTitle(component)));
+  drawn.components.set(component.number, {group, caption});
+  return group;
+}
+
+function drawPort({port, x, y, width, height}) {
+  const group = svg('g', {'data-channel': port.number, transform: placed({x, y})});
+  group.append(svg('rect', {x: -width / 2, y: -height / 2, width, height, rx: 3}), svg('text', {y: 4}, port.port));
+  group.append(svg('title', {}, channelTitle(port)));
+  drawn.ports.set(port.number, group);
+  return group;
+}
+
+function drawBox({box, x, y, width, height}) {
+  const group = svg('g', {class: 'folded', 'data-copy': box, transform: placed({x, y})});
+  const inside = net.shownComponents.filter(({path}) => path === box || path.startsWith(`${box}/`)).length;
+  for (const [style, shift] of [['behind', 4], ['front', 0]])
+    group.append(svg('rect', {class: style, x: -width / 2 + shift, y: -height / 2 - shift, width, height, rx: 6}));
+  group.append(svg('text', {y: -2}, `▸ ${box} ${cut(net.instances.get(box).name, 12)}`));
+  group.append(svg('text', {y: 13, class: 'caption'}, `${inside} component${inside === 1 ? '' : 's'}`));
+  drawn.boxes.set(box, group);
+  return group;
+}
+
+// ---- the state behind a line ----------------------------------------------------------------------------------------
+
+// Shows the current line in the picture. Only what changed between the line shown last and this one is looked at.
+function markPicture() {
+  const {line} = view, steps = Math.abs(line - drawn.line), isAll = drawn.line === 0 || steps > 64;
+  const channels = new Set(isAll ? drawn.channels.keys() : []), components = new Set(isAll ? drawn.components.keys() : []);
+  for (let at = Math.min(line, drawn.line) + (isAll ? steps : 0); !isAll && at <= Math.max(line, drawn.line); at++) {
+    if (trace.channel[at]) channels.add(trace.channel[at]);
+    if (trace.component[at]) components.add(trace.component[at]);
+  }
+  for (const number of isAll ? [] : channels) for (const end of [net.channels[number].active, net.channels[number].passive])
+    if (end && end !== 'host') components.add(end.component);
+  for (const number of channels) markChannel(number);
+  for (const number of components) markComponent(number);
+  markBoxes();
+  markPorts(isAll);
+  drawn.line = line;
+}
+
+// The marks of a channel: colour, dashes and token by its phase, and its value.
+function markChannel(number) {
+  const mark = drawn.channels.get(number);
+  if (!mark) return;
+  const change = lastChange(trace, number, view.line), phase = phaseAfter(trace, change), value = valueAfter(trace, change);
+  const isHere = trace.channel[view.line] === number, isSelected = view.selected === `k${number}`;
+  const style = `channel ${net.channels[number].kind} ${PHASES[phase]}`;
+  mark.group.setAttribute('class', style + (isHere ? ' here' : '') + (isSelected ? ' selected' : ''));
+  mark.value.setAttribute('class', value === '' ? 'value' : 'value on');
+  if (value !== '') {
+    const [box, text] = mark.value.children, width = 8 + 7 * cut(value, 9).length;
+    text.textContent = cut(value, 9);
+    box.setAttribute('x', -width / 2);
+    box.setAttribute('width', width);
+  }
+  if (mark.token) mark.token.remove();
+  mark.token = tokenOf(mark, phase);
+  if (mark.token) mark.group.append(mark.token);
+}
+
+// A token: where a request or a reply is on its way a triangle that points there, and where a request is held a square.
+function tokenOf({walk, length}, phase) {
+  if (phase === IDLE) return null;
+  if (phase === TAKEN) {
+    const {x, y} = onWalk(walk, length - 7);
+    return svg('rect', {class: 'token', x: -5, y: -5, width: 10, height: 10, transform: placed({x, y})});
+  }
+  const place = onWalk(walk, length * (phase === ASKED ? 0.74 : 0.26));
+  return svg('path', {class: 'token', d: 'M8 0L-6 -7L-6 7Z', transform: placed(place, phase === REPLIED ? 180 : 0)});
+}
+
+// The component that a line moves, or 0.
+const moverAt = line => (isMove(trace.what[line]) ? trace.component[line] : 0);
+
+// The marks of a component: filled where it holds a request that it took, ringed where it moved, red where requests meet; and
+// what a variable holds.
+function markComponent(number) {
+  const mark = drawn.components.get(number);
+  if (!mark) return;
+  const {line} = view, component = net.components[number];
+  const phases = component.passive.map(p => phaseAfter(trace, lastChange(trace, component.channels[p], line)));
+  const open = phases.filter(phase => phase !== IDLE).length;
+  const isClash = CALLS.has(component.kind) && open > 1 || trace.what[line] === CLASH && trace.component[line] === number;
+  const isSelected = view.selected === `c${number}`;
+  const styles = {busy: phases.includes(TAKEN), moved: moverAt(line) === number, selected: isSelected, clash: isClash};
+  mark.group.setAttribute('class', ['component', ...Object.keys(styles).filter(style => styles[style])].join(' '));
+  if (isVariable(component)) mark.caption.textContent = `${number} ${component.kind} = ${cut(heldBy(trace, component, line), 9)}`;
+}
+
+// A folded copy is ringed where something in it moved.
+function markBoxes() {
+  const mover = moverAt(view.line), path = mover ? `${net.components[mover].path}/` : '';
+  for (const [box, group] of drawn.boxes) group.setAttribute('class', path.startsWith(`${box}/`) ? 'folded moved' : 'folded');
+}
+
+// Whether a host was told no.
+const isRefused = line => trace.what[line] === TOLD && / (busy|not-yet|not-taken)/.test(lineText(trace, line));
+
+// A port is ringed where the host moved there, and dashed red where it was told no.
+function markPorts(isAll) {
+  const {line} = view, here = trace.component[line] ? 0 : trace.channel[line];
+  for (const number of isAll ? drawn.ports.keys() : [drawn.here, here]) {
+    const group = drawn.ports.get(number);
+    if (!group) continue;
+    const style = number !== here ? '' : isRefused(line) ? ' refused' : ' moved';
+    group.setAttribute('class', `port${style}${view.selected === `k${number}` ? ' selected' : ''}`);
+  }
+  drawn.here = here;
+  $('svg').classList.toggle('resting', trace.what[line] === REST);
+}
+
+// Marks anew what was selected and what is selected now.
+function markSelection(before) {
+  for (const selected of [before, view.selected]) if (selected) {
+    if (selected[0] === 'c') markComponent(numberOf(selected));
+    else markChannel(numberOf(selected));
+  }
+  markPorts(true);
+}
+
+// ---- how much of the picture is seen --------------------------------------------------------------------------------
+
+const NEAR_SCALE = 1.5, FAR_SCALE = 0.55, FARTHEST_SCALE = 0.28;
+
+// How large the panels are. (Asked at each step, the browser would have to lay out the page each time.)
+const sizes = {};
+function measure() {
+  for (const id of ['svg', 'journal', 'chart', 'strip']) sizes[id] = $(id).getBoundingClientRect();
+}
+
+// Sets the part of the picture that is seen. From afar the small text is left out; names of ports are drawn when one is near.
+function setBox(box) {
+  view.box = box;
+  const scale = Math.min(sizes.svg.width / box.width, sizes.svg.height / box.height);
+  $('svg').setAttribute('viewBox', `${box.x} ${box.y} ${box.width} ${box.height}`);
+  if (scale > NEAR_SCALE) namePortsOfPicture();
+  $('svg').classList.toggle('far', scale < FAR_SCALE);
+  $('svg').classList.toggle('farthest', scale < FARTHEST_SCALE);
+  $('svg').classList.toggle('near', scale > NEAR_SCALE);
+}
+
+// Draws the names of ports, once. That of a port which is alone on its side would say nothing.
+function namePortsOfPicture() {
+  if (view.picture.isNamed) return;
+  view.picture.isNamed = true;
+  for (const {component, tips, inPorts, outPorts} of view.picture.nodes) if (component) {
+    const names = svg('g', {class: 'names'});
+    const sides = [[inPorts, -6, 'ends'], [outPorts, 6, 'starts']].filter(([ports]) => ports.length > 1);
+    for (const [ports, dx, style] of sides) for (const port of ports) {
+      const {x, y} = tips.get(port);
+      names.append(svg('text', {x: x + dx, y: y - 6, class: style}, component.ports[port].name));
+    }
+    drawn.components.get(component.number).group.append(names);
+  }
+}
+
+// The whole picture, but not more than 2.2 times as large as it is.
+function fit() {
+  const {picture} = view, {svg: place} = sizes;
+  const width = Math.max(picture.width, place.width / 2.2, 1), height = Math.max(picture.height, place.height / 2.2, 1);
+  setBox({x: (picture.width - width) / 2, y: (picture.height - height) / 2, width, height});
+}
+
+// How much of the picture a pixel of the screen is, and the point of the picture under a point of the screen.
+const pixel = (place, box) => Math.max(box.width / place.width, box.height / place.height);
+function pointAt(clientX, clientY) {
+  const {box} = view, place = $('svg').getBoundingClientRect(), size = pixel(place, box);
+  return {x: box.x + box.width / 2 + (clientX - place.left - place.width / 2) * size,
+    y: box.y + box.height / 2 + (clientY - place.top - place.height / 2) * size};
+}
+
+// Nearer or farther, around a point of the picture, or else the middle.
+function zoom(factor, point) {
+  const {x, y, width, height} = view.box, {x: px, y: py} = point || {x: x + width / 2, y: y + height / 2};
+  setBox({x: px - (px - x) * factor, y: py - (py - y) * factor, width: width * factor, height: height * factor});
+}
+
+// Moves the picture so that what moves is in sight.
+function follow() {
+  const mover = moverAt(view.line);
+  if (!mover) return;
+  const path = `${net.components[mover].path}/`, {box} = view;
+  const isMover = node => (node.component ? node.component.number === mover : node.box && path.startsWith(`${node.box}/`));
+  const node = view.picture.nodes.find(isMover);
+  const isIn = (at, from, size) => at > from + 0.08 * size && at < from + 0.92 * size;
+  if (!node || isIn(node.x, box.x, box.width) && isIn(node.y, box.y, box.height)) return;
+  setBox({...box, x: node.x - box.width / 2, y: node.y - box.height / 2});
+}

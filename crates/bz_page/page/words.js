@@ -1,0 +1,75 @@
+// ---- words: the names of what there is, its signs, and what a line of the trace says --------------------------------
+
+const cut = (text, most) => (text.length > most ? text.slice(0, most - 1) + '…' : text);
+const isVariable = component => component.kind === 'Variable' || component.kind === 'FalseVariable';
+
+// The sign in a component's circle, as handshake circuits are drawn.
+const SIGNS = {
+  Loop: '#', Sequence: ';', SequenceOptimised: ';', Concur: '‖', Fork: '⋔', WireFork: '⋔', ForkPush: '⋔', While: 'do', Bar: '[]',
+  Case: '@', CaseFetch: '@', Fetch: '→', Constant: 'k', Slice: '[ ]', Combine: '⟨⟩', CombineEqual: '⟨⟩', Split: '⟩⟨', Adapt: 'ad',
+  Variable: 'x', FalseVariable: 'fx', Call: '|', CallMux: '|', CallDemux: '|', Arbiter: 'arb', DecisionWait: 'DW',
+  Passivator: '•', PassivatorPush: '•', Synch: '•', SynchPull: '•', Halt: 'stop', HaltPush: 'stop',
+  Continue: 'run', ContinuePush: 'run', UnaryFunc: 'op', BinaryFunc: 'op', BinaryFuncConstR: 'op',
+};
+const OPERATIONS = {
+  Add: '+', Subtract: '−', ReverseSubtract: '−r', Negate: '−', Equals: '=', NotEquals: '≠', LessThan: '<', GreaterThan: '>',
+  LessOrEquals: '≤', GreaterOrEquals: '≥', And: '∧', Or: '∨', Xor: '⊕', Invert: '¬',
+};
+
+// A variable has its name in the circle, a constant its value, and an operation its sign, with its constant if it has one.
+function signOf(component) {
+  const [first, second] = component.detail.split(' ');
+  if (isVariable(component) && first) return cut(first, 5);
+  if (component.kind === 'Constant' && first) return cut(first, 5);
+  const operation = Object.hasOwn(OPERATIONS, first) ? OPERATIONS[first] : '';
+  if (operation) return operation + (component.kind === 'BinaryFuncConstR' && second ? cut(second, 4) : '');
+  return Object.hasOwn(SIGNS, component.kind) ? SIGNS[component.kind] : component.kind.slice(0, 4);
+}
+
+// The names by which components and channels are told. A variable goes by its name too, and so does a channel that has one.
+const componentName = it => `${it.kind} ${it.number}` + (isVariable(it) && it.detail ? ` ${it.detail.split(' ')[0]}` : '');
+const channelName = it => `channel ${it.number}` + (it.name ? ` ${it.name}` : '');
+
+// An end of a channel.
+function endName(channel, end) {
+  if (end === null) return 'nobody';
+  return end === 'host' ? `the host at ${channel.port}` : componentName(net.components[end.component]);
+}
+
+// Where a component or channel stands in the netlist, and where it comes from in the source.
+function placeOf(item) {
+  const inside = item.path ? ` (in ${item.path})` : '', source = item.source ? `, from ${item.source}` : '';
+  return `${item.part} ${item.position}, line ${item.line} of the netlist${inside}${source}`;
+}
+
+const endsOf = channel => `from ${endName(channel, channel.active)} to ${endName(channel, channel.passive)}`;
+const kindOf = channel => channel.kind + (channel.width ? ` ${channel.width}` : '');
+const channelTitle = channel => `${channelName(channel)} ${kindOf(channel)}: ${endsOf(channel)}\n${placeOf(channel)}`;
+const componentTitle = component => `${component.title}\n${placeOf(component)}`;
+
+// What a line says.
+function tell(line) {
+  if (line === 1) return 'The opening: every channel is idle.';
+  const what = trace.what[line], component = net.components[trace.component[line]];
+  if (what === REST) return 'Rest: a firing was still due, and no component can move.';
+  if (what === CLASH) {
+    const first = found.met.get(component.number);
+    return `Two requests met at ${component.title}${first ? `, first at line ${first}` : ''}.`;
+  }
+  return component ? tellFiring(line, component) : tellHost(lineText(trace, line).split(' '));
+}
+
+// What a component does: `Fetch 4 has the reply of Variable 1 on channel 13, value 2`.
+function tellFiring(line, component) {
+  const what = trace.what[line], channel = net.channels[trace.channel[line]], value = valueIn(trace, line);
+  const other = endName(channel, what === ASK || what === GOT ? channel.passive : channel.active);
+  const verb = ['', 'asks', 'takes the request of', 'replies to', 'has the reply of'][what];
+  return `${componentName(component)} ${verb} ${other} on ${channelName(channel)}${value ? `, value ${value}` : ''}`;
+}
+
+// What a host does, and what it is told.
+function tellHost([who, verb, port, ...told]) {
+  const host = who === 'h1' ? 'The host' : `Host ${who.slice(1)}`;
+  const does = {offer: 'asks at', collect: 'collects the reply at', accept: 'takes the request at', answer: 'replies at'}[verb];
+  return `${host} ${does || 'looks at'} ${port}: ${told.join(' ')}`;
+}

@@ -1,0 +1,17 @@
+//! The command `page`: a page of its own, on which a trace plays on the drawing of its net.
+#![tactic(auto)]
+
+mod around;
+mod command;
+mod details;
+mod escaping;
+mod fault;
+mod net_page;
+mod rows;
+mod template;
+
+pub use around::Template;
+pub use command::{page_cmd, page_trace_cmd};
+pub use escaping::put_escaped;
+pub use fault::PageFault;
+pub use net_page::put_page;

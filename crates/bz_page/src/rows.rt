@@ -1,0 +1,97 @@
+//! What a page is told beside the list and the trace: the ports of each kind in the net, and what parameters say.
+
+ghost use Rattle.std.specs.Prelude.{◌≡◌, ◌≤◌, drop, length, map, IfSome};
+ghost use Rattle.std.specs.List.{flat_map};
+ghost use Rattle.bz_text.specs.Growing.{Grows};
+ghost use Rattle.bz_flat.specs.Flats.{site_of};
+ghost use Rattle.bz_kind_rows.specs.Table.{seen};
+ghost use Rattle.bz_page.specs.Rows.{AreRows, array_mark, kind_line, kind_lines, line_of, port_word, sense_mark};
+
+use crate::details::put_details;
+use bz_arena::{Arena, Id};
+use bz_flat::{FlatComp, Pieces};
+use bz_kind_rows::{PortRow, kind_names, kind_word, port_table};
+use bz_model::Kind;
+use bz_source::Survey;
+use bz_text::{Piece, Text};
+use std::alloc::Global;
+
+/// The rows of a page; the lines that tell how the run ended stand at the end.
+pub(crate) fn rows_of(alloc: Global, net: &Pieces, survey: &Survey, ends: &[u8]) -> Text
+    requires { length net.now.comps ≤ 1000000 }
+    ensures { IfSome result (AreRows (map site_of net.now.comps) ends.now) }
+{
+    let mut rows = Text::new(alloc);
+    put_kinds(&mut rows, &net.comps);
+    put_details(&mut rows, net, survey);
+    rows.put_bytes(ends);
+    rows
+}
+
+// Adds a line for each kind in the net.
+fn put_kinds(rows: &mut Text, comps: &Arena<FlatComp>)
+    ensures { Grows rows.old rows.new (kind_lines (map site_of comps.now)) }
+{
+    for row in kind_names() {
+        put_line_of(rows, comps, short_name(row.0.as_bytes()));
+    }
+}
+
+// The name of a kind without `$Brz`.
+fn short_name(name: &[u8]) -> &[u8]
+    ensures { result.now ≡ drop 4 name.now }
+{
+    name.get(4..).unwrap_or(&[])
+}
+
+// Adds the line of the kind of this word, if a component is of it.
+fn put_line_of(rows: &mut Text, comps: &Arena<FlatComp>, word: &[u8])
+    ensures { Grows rows.old rows.new (line_of (map site_of comps.now) word.now) }
+{
+    for i in 0..comps.len() {
+        let comp = comps.get(Id::at(i));
+        if word == kind_word(&comp.kind) {
+            put_kind(rows, &comp.kind);
+            return;
+        }
+    }
+}
+
+// Adds the line of a kind.
+fn put_kind(rows: &mut Text, kind: &Kind)
+    ensures { Grows rows.old rows.new (kind_line kind.now) }
+{
+    rows.put_pieces(&[Piece::Bytes(b"row "), Piece::Bytes(kind_word(kind))]);
+    put_ports(rows, port_table(kind));
+    rows.put_bytes(b"\n");
+}
+
+fn put_ports(rows: &mut Text, ports: &[PortRow])
+    ensures { Grows rows.old rows.new (flat_map port_word (map seen ports.now)) }
+{
+    for port in ports {
+        put_port(rows, port);
+    }
+}
+
+fn put_port(rows: &mut Text, port: &PortRow)
+    ensures { Grows rows.old rows.new (port_word (seen port.now)) }
+{
+    rows.put_pieces(&[
+        Piece::Bytes(sense_mark(port.passive)),
+        Piece::Bytes(port.name.as_bytes()),
+        Piece::Bytes(array_mark(port.array)),
+    ]);
+}
+
+fn sense_mark(is_passive: bool) -> &'static [u8]
+    ensures { result.now ≡ sense_mark is_passive }
+{
+    if is_passive { b" p:" } else { b" a:" }
+}
+
+fn array_mark(is_array: bool) -> &'static [u8]
+    ensures { result.now ≡ array_mark is_array }
+{
+    if is_array { b"*" } else { b"" }
+}

@@ -1,0 +1,2468 @@
+//! The page without its data, made by `page/make` from the files of `page`.
+
+/// What stands before the list.
+pub(crate) const HEAD: &str = r##"<!doctype html>
+<html lang="en">
+<head>
+<meta charset="utf-8">
+<meta name="viewport" content="width=device-width">
+<meta http-equiv="Content-Security-Policy" content="default-src 'none'; style-src 'unsafe-inline'; script-src 'sha256-C5Wap4ISZvsx7jd1YhxAFlb9lQkyDlbnw7xERTlbErY='">
+<title>breezesim</title>
+<style>
+/* Colours: light, and dark where the reader's system or the reader says so. Phases are told by dashes and marks too. */
+:root {
+  color-scheme: light;
+  --ground: #fbfaf7; --panel: #ffffff; --body: #ffffff; --ink: #1d2126; --dim: #6a7078; --rule: #d9d7d0;
+  --idle: #b3b1aa; --asked: #c25e00; --taken: #0062a8; --replied: #00795a; --busy: #dcebf7;
+  --moved: #f5c400; --on-moved: #15181c; --clash: #c8102e; --selected: #8a3ffc; --selection: #d9c2fb; --found: #b8860b;
+  --rest: #c9c9c9; --resting: #f0efec; --frame: #f3f2ee; --push: #1a56a0; --pull: #b04a00;
+}
+:root[data-theme=dark] {
+  color-scheme: dark;
+  --ground: #15181c; --panel: #1d2126; --body: #20252b; --ink: #e8e6e1; --dim: #9aa1a9; --rule: #353b43;
+  --idle: #5d646d; --asked: #ffa347; --taken: #62b5f6; --replied: #3fd0a0; --busy: #1e3a52;
+  --moved: #f5c400; --on-moved: #15181c; --clash: #ff5c70; --selected: #be95ff; --selection: #4a3b68; --found: #e0b000;
+  --rest: #5a5f66; --resting: #23272c; --frame: #1b1e23; --push: #7db4ff; --pull: #ffab6b;
+}
+@media (prefers-color-scheme: dark) {
+  :root:not([data-theme=light]) {
+    color-scheme: dark;
+    --ground: #15181c; --panel: #1d2126; --body: #20252b; --ink: #e8e6e1; --dim: #9aa1a9; --rule: #353b43;
+    --idle: #5d646d; --asked: #ffa347; --taken: #62b5f6; --replied: #3fd0a0; --busy: #1e3a52;
+    --moved: #f5c400; --on-moved: #15181c; --clash: #ff5c70; --selected: #be95ff; --selection: #4a3b68; --found: #e0b000;
+    --rest: #5a5f66; --resting: #23272c; --frame: #1b1e23; --push: #7db4ff; --pull: #ffab6b;
+  }
+}
+
+/* The panels */
+* { box-sizing: border-box; }
+html, body { height: 100%; margin: 0; }
+body {
+  background: var(--ground); color: var(--ink); font: 13px/1.35 system-ui, "DejaVu Sans", sans-serif; display: grid;
+  grid-template: auto minmax(0, 1fr) auto auto / minmax(0, 1fr) 372px;
+  grid-template-areas: "top top" "net side" "chart side" "bar bar";
+}
+body.charted { grid-template-rows: auto minmax(0, 1fr) minmax(0, 46vh) auto; }
+header, aside, footer, #chart { background: var(--panel); }
+header { grid-area: top; display: flex; gap: 10px; align-items: center; padding: 6px 12px; border-bottom: 1px solid var(--rule); }
+#part { font-size: 15px; }
+#says { flex: 1; font-size: 15px; overflow: hidden; text-overflow: ellipsis; white-space: nowrap; }
+noscript { position: fixed; inset: 0; background: var(--panel); padding: 20px; z-index: 20; }
+button, input {
+  font: inherit; color: inherit; background: var(--panel); border: 1px solid var(--rule); border-radius: 5px; padding: 3px 8px;
+}
+button:not(:disabled) { cursor: pointer; }
+button:hover:not(:disabled) { border-color: var(--dim); }
+button:disabled { opacity: .4; }
+button.on { border-color: var(--selected); color: var(--selected); }
+:focus-visible { outline: 2px solid var(--selected); outline-offset: 1px; }
+
+/* Search */
+.find { position: relative; }
+#search { width: 190px; }
+#count { position: absolute; right: 8px; top: 5px; color: var(--dim); font-size: 11px; }
+#found {
+  position: absolute; right: 0; top: 100%; z-index: 5; background: var(--panel); border: 1px solid var(--rule);
+  border-radius: 5px; min-width: 260px; display: none; max-height: 60vh; overflow: auto;
+}
+.find:focus-within #found:not(:empty) { display: block; }
+#found .name { padding: 3px 8px; cursor: pointer; }
+#found .name:hover { background: var(--busy); }
+
+/* The journal and the details */
+#svg {
+  grid-area: net; width: 100%; height: 100%; min-height: 0; touch-action: none; user-select: none; -webkit-user-select: none;
+}
+aside {
+  grid-area: side; border-left: 1px solid var(--rule); min-height: 0;
+  display: grid; grid-template-rows: auto minmax(0, 1fr) minmax(0, 1.1fr);
+}
+aside h2 {
+  font-size: 11px; font-weight: 600; text-transform: uppercase; color: var(--dim); margin: 0; padding: 6px 10px 2px;
+}
+#journal, .history, #chart text { font-family: ui-monospace, "DejaVu Sans Mono", monospace; font-size: 12px; }
+#journal { overflow: hidden; border-bottom: 1px solid var(--rule); }
+div.row { height: 18px; display: flex; gap: 8px; padding: 0 10px; white-space: pre; cursor: pointer; overflow: hidden; }
+div.row .line { color: var(--dim); min-width: 52px; text-align: right; flex: none; }
+div.row.host { font-weight: 700; }
+div.row.rest { background: var(--resting); }
+div.row.bad { color: var(--clash); }
+div.row.later { opacity: .55; }
+div.row.mine .line { color: var(--selected); font-weight: 700; }
+div.row.now, div.row.now .line { background: var(--moved); color: var(--on-moved); }
+#details { padding: 8px 0; overflow: auto; }
+.title, .under, .hint, .ports { margin: 0 10px; }
+.title { font-weight: 700; font-size: 14px; overflow-wrap: anywhere; }
+.title.end { margin-top: 8px; }
+.under, .hint { color: var(--dim); font-size: 12px; overflow-wrap: anywhere; }
+.ports { margin-top: 6px; border-top: 1px solid var(--rule); }
+div.port {
+  display: grid; grid-template-columns: 14px 1fr 84px 116px; align-items: center;
+  border-bottom: 1px solid var(--rule); padding: 1px 0; cursor: pointer;
+}
+div.port > span { overflow: hidden; text-overflow: ellipsis; white-space: nowrap; }
+div.port > .phase:first-child { grid-column: 1 / 5; }
+.end.active, .end.passive { width: 8px; height: 8px; border-radius: 50%; border: 1.5px solid var(--ink); }
+.end.active { background: var(--ink); }
+span.channel { color: var(--dim); }
+.phase::before {
+  content: ""; display: inline-block; width: 9px; height: 9px; margin-right: 5px; background: var(--idle); border-radius: 2px;
+}
+.asked .phase { color: var(--asked); }
+.taken .phase { color: var(--taken); }
+.replied .phase { color: var(--replied); }
+.asked .phase::before { background: var(--asked); clip-path: polygon(0 0, 100% 50%, 0 100%); }
+.taken .phase::before { background: var(--taken); }
+.replied .phase::before { background: var(--replied); clip-path: polygon(100% 0, 0 50%, 100% 100%); }
+.callers[data-select] { cursor: pointer; }
+.events { margin: 8px 10px; display: flex; gap: 6px; align-items: center; }
+.history .row { font-family: inherit; height: auto; white-space: normal; }
+.wait { margin: 1px 10px; padding-left: 14px; text-indent: -14px; font-size: 12px; }
+.wait[data-select] { cursor: pointer; }
+.wait.cycle { color: var(--clash); font-weight: 700; }
+
+/* The foot */
+footer {
+  grid-area: bar; border-top: 1px solid var(--rule); padding: 4px 12px 6px;
+  display: grid; grid-template-columns: auto 1fr auto; gap: 2px 12px; align-items: center;
+}
+.buttons { display: flex; gap: 4px; align-items: center; }
+.buttons button { min-width: 32px; }
+#speed { min-width: 48px; text-align: center; color: var(--dim); }
+.track { min-width: 0; }
+#scrubber { width: 100%; margin: 0; accent-color: var(--selected); padding: 0; }
+#strip { width: 100%; height: 22px; display: block; }
+#line { width: 82px; }
+#foot { grid-column: 1 / 4; color: var(--dim); font-size: 11px; }
+#foot.bad { color: #ffffff; background: #c8102e; font-size: 14px; padding: 4px; }
+
+/* Help */
+#help { display: none; position: fixed; inset: 0; background: rgba(0, 0, 0, .5); z-index: 9; place-items: center; }
+#help.on { display: grid; }
+#help > div {
+  background: var(--panel); padding: 18px 22px; border-radius: 8px; max-width: 760px; max-height: 90vh; overflow: auto;
+}
+#help table { border-collapse: collapse; }
+#help td { padding: 2px 14px 2px 0; vertical-align: top; }
+kbd {
+  font: 12px ui-monospace, "DejaVu Sans Mono", monospace; border: 1px solid var(--rule); border-radius: 3px; padding: 0 4px;
+}
+
+/* The picture */
+svg text { fill: var(--ink); font-family: system-ui, "DejaVu Sans", sans-serif; text-anchor: middle; font-size: 11px; }
+svg .starts { text-anchor: start; }
+svg .ends { text-anchor: end; }
+svg .stub, svg .number, svg .caption, svg .names text {
+  paint-order: stroke; stroke: var(--ground); stroke-width: 3px; fill: var(--dim);
+}
+.frame rect { fill: var(--frame); stroke: var(--idle); stroke-dasharray: 4 3; }
+.frame text { text-anchor: start; fill: var(--dim); cursor: pointer; }
+.folded { cursor: pointer; }
+.folded rect { fill: var(--body); stroke: var(--dim); stroke-width: 1.4; }
+.folded.moved rect { stroke: var(--moved); stroke-width: 4; }
+.channel .line { fill: none; stroke: var(--idle); stroke-width: 1.4; }
+.channel.push .line, .channel.pull .line { stroke-width: 2.2; }
+.channel .hit { fill: none; stroke: transparent; stroke-width: 13; cursor: pointer; }
+.channel.asked .line { stroke: var(--asked); stroke-width: 3.2; stroke-dasharray: 7 4; }
+.channel.taken .line { stroke: var(--taken); stroke-width: 3.6; }
+.channel.replied .line { stroke: var(--replied); stroke-width: 3.2; stroke-dasharray: 2 3.5; }
+.channel.here .line { stroke-width: 5.5; }
+.channel.selected .hit { stroke: var(--selection); }
+circle.active { fill: var(--ink); stroke: var(--ink); stroke-width: 1.2; }
+circle.passive { fill: var(--ground); stroke: var(--ink); stroke-width: 1.4; }
+.arrow { fill: var(--dim); }
+.push .arrow { fill: var(--push); }
+.pull .arrow { fill: var(--pull); }
+.token { stroke: var(--ground); stroke-width: 1.2; }
+.asked .token { fill: var(--asked); }
+.taken .token { fill: var(--taken); }
+.replied .token { fill: var(--replied); }
+svg .stub { font-size: 8.5px; stroke-width: 2px; }
+svg .number { font-size: 9px; pointer-events: none; }
+.value { display: none; pointer-events: none; }
+.value.on { display: block; }
+.value rect { fill: var(--body); stroke: var(--ink); stroke-width: 1.2; }
+.value text { font-weight: 700; font-size: 11px; }
+.component { cursor: pointer; }
+.component .body { fill: var(--body); stroke: var(--ink); stroke-width: 1.5; }
+.component .ring { fill: none; stroke: none; }
+.component.busy .body { fill: var(--busy); }
+.component.moved .ring { stroke: var(--moved); stroke-width: 5; }
+.component.selected .body { stroke: var(--selected); stroke-width: 3; }
+.component.clash .body { stroke: var(--clash); stroke-width: 4; }
+.component.clash .ring { stroke: var(--clash); stroke-width: 2; stroke-dasharray: 3 3; }
+svg .sign { font-size: 17px; font-weight: 600; }
+svg .sign.small { font-size: 11px; }
+svg .caption { font-size: 9.5px; }
+.folded .caption { stroke: none; }
+.names { display: none; }
+.near .names { display: block; }
+svg .names text { font-size: 6.5px; stroke-width: 1px; }
+g.port { cursor: pointer; }
+g.port rect { fill: var(--body); stroke: var(--ink); stroke-width: 2.4; }
+g.port text { font-weight: 700; }
+g.port.moved rect { stroke: var(--moved); stroke-width: 5; }
+g.port.refused rect { stroke: var(--clash); stroke-width: 5; stroke-dasharray: 6 3; }
+g.port.selected rect { stroke: var(--selected); }
+.far .number, .far .caption, .far .stub, .farthest .sign { display: none; }
+.resting { box-shadow: inset 0 0 0 4px var(--rest); }
+
+/* The chart */
+#chart { grid-area: chart; display: none; overflow: auto; border-top: 1px solid var(--rule); }
+body.charted #chart { display: block; }
+g.row { cursor: pointer; }
+g.row rect { fill: transparent; }
+g.row.rest rect { fill: var(--resting); }
+g.row.now rect { fill: var(--moved); fill-opacity: .5; }
+#chart .row text { text-anchor: start; font-size: 11px; }
+#chart .row .line { text-anchor: end; fill: var(--dim); }
+#chart .row.host text { font-weight: 700; }
+#chart .row.bad text { fill: var(--clash); }
+.lifeline { stroke: var(--idle); }
+.head { font-weight: 700; cursor: pointer; }
+#chart .kind { font-size: 9px; font-weight: 400; fill: var(--dim); }
+.bar { fill: var(--busy); stroke: var(--taken); stroke-width: 1; }
+.stroke { cursor: pointer; }
+.stroke path { fill: none; stroke: var(--ink); stroke-width: 1.3; }
+.stroke.push path, .stroke.pull path { stroke-width: 2.6; }
+.stroke.push path { stroke: var(--push); }
+.stroke.pull path { stroke: var(--pull); }
+.stroke.replies path { stroke-dasharray: 4 3; }
+.stroke .tip { fill: var(--ink); stroke-width: 0; }
+.stroke.replies .tip { fill: var(--panel); stroke: var(--ink); stroke-dasharray: none; stroke-width: 1.2; }
+.stroke.selected path { stroke: var(--selected); }
+#chart .stroke text { font-size: 9.5px; paint-order: stroke; stroke: var(--panel); stroke-width: 3px; }
+#chart .stroke .starts { text-anchor: start; }
+#chart .stroke .ends { text-anchor: end; }
+
+/* Printers and narrow screens */
+@media print {
+  header button, .find, .buttons, #scrubber, #line, .events { display: none; }
+  body { grid-template-columns: minmax(0, 1fr) 250px; }
+}
+@media (max-width: 900px) {
+  body {
+    grid-template: auto minmax(0, 1.3fr) minmax(0, 1fr) auto / minmax(0, 1fr);
+    grid-template-areas: "top" "net" "side" "bar";
+  }
+  body.charted {
+    grid-template: auto minmax(0, 1fr) minmax(0, 1fr) auto / minmax(0, 1fr);
+    grid-template-areas: "top" "net" "chart" "bar";
+  }
+  body.charted aside { display: none; }
+  aside { border-left: 0; border-top: 1px solid var(--rule); grid-template-rows: auto minmax(0, 1fr); }
+  #details, .chosen #journal { display: none; }
+  .chosen #details { display: block; }
+  header { flex-wrap: wrap; }
+  #says { order: 9; flex-basis: 100%; white-space: normal; }
+  footer { grid-template-columns: 1fr; }
+  #foot { grid-column: 1; }
+  .track { grid-row: 1; }
+}
+</style>
+</head>
+<body>
+<noscript>This page plays a trace, and needs JavaScript. The trace stands in its source.</noscript>
+<header>
+<b id="part"></b>
+<span id="says" role="status" aria-live="polite"></span>
+<span class="find">
+<input id="search" placeholder="search (/)" aria-label="search lines, components, channels, ports"
+autocomplete="off" spellcheck="false">
+<span id="count"></span>
+<div id="found"></div>
+</span>
+<button id="charting" title="chart of the lines around (c)">chart</button>
+<button id="focus" title="only what moves around this line (o)">focus</button>
+<button id="fit" title="whole net (f)">fit</button>
+<button id="follow" title="keep what moves in sight (w)">follow</button>
+<button id="theme" title="light or dark (d)">◐</button>
+<button id="ask" title="keys (?)">?</button>
+</header>
+<svg id="svg" role="img" aria-label="the net"><g id="root"></g></svg>
+<div id="chart"></div>
+<aside>
+<h2>Trace</h2>
+<div id="journal"></div>
+<div id="details"></div>
+</aside>
+<footer>
+<span class="buttons">
+<button id="first" title="opening (Home)">|◂◂</button>
+<button id="back" title="back (left)">◂</button>
+<button id="play" title="play (space)">play</button>
+<button id="forward" title="forward (right)">▸</button>
+<button id="last" title="end (End)">▸▸|</button>
+<button id="slower" title="slower (&lt;)">−</button>
+<span id="speed"></span>
+<button id="faster" title="faster (&gt;)">+</button>
+</span>
+<span class="track">
+<canvas id="strip"></canvas>
+<input id="scrubber" type="range" min="1" step="1" aria-label="line of the trace">
+</span>
+<span><input id="line" inputmode="numeric" placeholder="line (g)" aria-label="go to line"> <span id="position"></span></span>
+<span id="foot"></span>
+</footer>
+<div id="help" role="dialog" aria-label="keys">
+<div>
+<b>Keys</b>
+<table>
+<tr><td><kbd>→</kbd> <kbd>←</kbd></td>
+<td>a line on, a line back (with Shift 10; <kbd>PgDn</kbd> <kbd>PgUp</kbd> 100; <kbd>Home</kbd> <kbd>End</kbd>)</td></tr>
+<tr><td><kbd>space</kbd> <kbd>&lt;</kbd> <kbd>&gt;</kbd></td><td>play or pause, slower, faster</td></tr>
+<tr><td><kbd>]</kbd> <kbd>[</kbd></td><td>next, last event of what is selected; with nothing selected of the host</td></tr>
+<tr><td><kbd>r</kbd> <kbd>R</kbd> <kbd>x</kbd></td><td>next rest, last rest, next clash</td></tr>
+<tr><td><kbd>/</kbd> <kbd>Enter</kbd> <kbd>n</kbd> <kbd>N</kbd></td><td>search, next, next, last line found</td></tr>
+<tr><td><kbd>g</kbd></td><td>go to a line by its number</td></tr>
+<tr><td><kbd>+</kbd> <kbd>-</kbd> <kbd>f</kbd> <kbd>w</kbd></td><td>nearer, farther, whole net, follow what moves</td></tr>
+<tr><td><kbd>o</kbd> <kbd>s</kbd></td><td>only what moves around this line; channels to hubs as stubs</td></tr>
+<tr><td><kbd>c</kbd> <kbd>d</kbd> <kbd>Esc</kbd></td><td>chart, light or dark, nothing selected</td></tr>
+</table>
+<p><b>Signs.</b> A circle is a component. A channel goes from a filled dot (the end that asks) to an open one (the end that
+answers). Its arrow says where a value goes.<br>
+Grey: idle. Orange, dashes, ▶: asked. Blue, ■: taken. Green, dots, ◀: replied. Blue circle: holds a request that it took.
+Yellow ring: what moved in this line. Red: requests met here. A click on a copy's name folds it, and on a box unfolds it.</p>
+<button id="close">close</button>
+</div>
+</div>
+<script type="text/plain" id="net">"##;
+
+/// What stands between the list and the rows of kinds.
+pub(crate) const MID1: &str = r##"</script>
+<script type="text/plain" id="rows">"##;
+
+/// What stands between the rows of kinds and the trace.
+pub(crate) const MID2: &str = r##"</script>
+<script type="text/plain" id="trace">"##;
+
+/// What stands after the trace: the script.
+pub(crate) const TAIL: &str = r##"</script>
+<script>'use strict';
+(() => {
+// ---- the three texts that the program wrote, as a net and a trace; nothing here touches the picture -----------------
+
+// The text of a block. LF and printable ASCII but `<` and `%` stand for themselves there; any other byte is `%` and two digits.
+function textOf(id) {
+  const text = document.getElementById(id).textContent;
+  if (!text.includes('%')) return text;
+  return text.replace(/%([0-9A-F]{2})/g, (all, digits) => String.fromCharCode(parseInt(digits, 16)));
+}
+
+// The kinds at which no two requests may meet.
+const CALLS = new Set(['Call', 'CallMux', 'CallDemux']);
+
+const IDLE = 0, ASKED = 1, TAKEN = 2, REPLIED = 3;
+const PHASES = ['idle', 'asked', 'taken', 'replied'];
+
+// The rows of ports of each kind, the details of components and who waits for whom at the end.
+function readRows(text) {
+  const found = {ports: new Map(), details: new Map(), end: []};
+  for (const line of text.split('\n')) {
+    const words = line.split(' ');
+    if (words[0] === 'row') found.ports.set(words[1], words.slice(2).map(readPort));
+    if (words[0] === 'detail') found.details.set(Number(words[1]), words.slice(2).join(' '));
+    if (words[0] === 'end') found.end.push(line.slice(4));
+  }
+  return found;
+}
+
+// A port of a row: `p:` or `a:` for passive or active, its name, and `*` for an array of ports.
+function readPort(word) {
+  return {isPassive: word[0] === 'p', isArray: word.endsWith('*'), name: word.slice(2).replace('*', '')};
+}
+
+const MEMBERS = new Map([['in', 'path'], ['name', 'name'], ['from', 'source']]);
+
+// Where a record stands: `at PART POSITION line LINE`, and then, where they are told, `in PATH`, `name NAME` and
+// `from FILE:LINE:COLUMN`.
+function readPlace(words, at) {
+  const place = {part: words[at + 1], position: Number(words[at + 2]), line: Number(words[at + 4])};
+  for (const member of MEMBERS.values()) place[member] = '';
+  for (let i = at + 5; i + 1 < words.length; i += 2) if (MEMBERS.has(words[i])) place[MEMBERS.get(words[i])] = words[i + 1];
+  return place;
+}
+
+// An end of a channel: null where nothing is there, 'host', or a component with its port.
+function readEnd(word) {
+  if (word === '-') return null;
+  if (word === 'host') return 'host';
+  const [component, port] = word.split('.').map(Number);
+  return {component, port};
+}
+
+// A channel of the list, with its ends: the active one asks, the passive one answers.
+function readChannel(words, ports) {
+  const number = Number(words[1]), kind = words[2], at = kind === 'sync' ? 3 : 4, port = ports[number];
+  return {number, kind, width: kind === 'sync' ? 0 : Number(words[3]), active: readEnd(words[at]),
+    passive: readEnd(words[at + 1]), port: port ? port.name : '', isHostCaller: Boolean(port && port.isPassive),
+    isShown: true, isStub: false, ...readPlace(words, at + 2)};
+}
+
+// A component of the list, with the channels at its ports, counted from 1, and the names of its ports.
+function readComponent(words, rows) {
+  const at = words.indexOf('at', 3), number = Number(words[1]), kind = words[2], place = readPlace(words, at);
+  const channels = [0, ...words.slice(3, at).map(Number)], detail = rows.details.get(number) || place.name;
+  const component = {number, kind, channels, detail, isShown: true, stubs: null, ...place};
+  namePorts(component, rows.ports.get(kind) || []);
+  component.title = `${number} ${kind}` + (component.detail ? ` ${component.detail}` : '');
+  return component;
+}
+
+// The ports of a component: its kind's row with each array as long as the number of channels tells.
+function namePorts(component, row) {
+  const arrays = row.filter(port => port.isArray).length, channels = component.channels.length - 1;
+  const size = arrays ? (channels - row.length + arrays) / arrays : 0;
+  component.ports = [null];
+  for (const {name, isPassive, isArray} of row)
+    for (let i = 1; i <= (isArray ? size : 1); i++) component.ports.push({name: isArray ? name + i : name, isPassive});
+  component.passive = [];
+  component.active = [];
+  component.ports.forEach((port, p) => { if (port) (port.isPassive ? component.passive : component.active).push(p); });
+}
+
+// The net of the list. Channels and components stand at their numbers, so the rows of both begin with null.
+function readNet(list, rowText) {
+  const rows = readRows(rowText);
+  const net = {part: '', ports: [], channels: [null], components: [null], instances: new Map(), end: rows.end};
+  for (const line of list.split('\n')) {
+    const words = line.split(' '), number = Number(words[1]);
+    if (words[0] === 'part') net.part = words[1];
+    if (words[0] === 'port') net.ports[number] = {number, name: words[2], isPassive: words[3] === 'passive'};
+    if (words[0] === 'channel') net.channels[number] = readChannel(words, net.ports);
+    if (words[0] === 'instance') net.instances.set(words[1], {path: words[1], name: words[2]});
+    if (words[0] === 'component') net.components[number] = readComponent(words, rows);
+  }
+  return net;
+}
+
+// What a line of a trace is: one of the four moves, a rest, a clash, or a host that was told without a move.
+const NONE = 0, ASK = 1, TAKE = 2, REPLY = 3, GOT = 4, REST = 5, CLASH = 6, TOLD = 7;
+const MOVES = {ask: ASK, take: TAKE, reply: REPLY, got: GOT};
+const HOST_MOVES = {offer: ASK, accept: TAKE, answer: REPLY, collect: GOT};
+const isMove = what => what >= ASK && what <= GOT;
+
+// The trace with an index: of each line, from 1, where it begins, what it is, its channel and its component (0 where none is).
+function readTrace(text, net) {
+  let count = 0;
+  for (let at = text.indexOf('\n'); at >= 0; at = text.indexOf('\n', at + 1)) count++;
+  const trace = {text, count, start: new Uint32Array(count + 2), what: new Uint8Array(count + 1),
+    channel: new Uint32Array(count + 1), component: new Uint32Array(count + 1), hostLines: [], rests: [], clashes: []};
+  const portChannels = new Map(net.ports.filter(port => port).map(port => [port.name, port.number]));
+  let start = 0;
+  for (let line = 1; line <= count; line++) {
+    const end = text.indexOf('\n', start);
+    trace.start[line] = start;
+    if (line > 1) readLine(trace, line, start, end, portChannels);
+    start = end + 1;
+  }
+  trace.start[count + 1] = start;
+  const {channels, components} = net, {what, channel, component} = trace;
+  trace.changesOf = linesBy(channel, channels.length, count, line => isMove(what[line]));
+  trace.linesOfChannel = linesBy(channel, channels.length, count, line => channel[line] > 0);
+  trace.linesOfComponent = linesBy(component, components.length, count, line => component[line] > 0 && isMove(what[line]));
+  return trace;
+}
+
+// Reads one line. A firing is read letter by letter, since there may be millions.
+function readLine(trace, line, start, end, portChannels) {
+  const {text} = trace, blank = text.indexOf(' ', start);
+  if (text.charCodeAt(blank + 1) === 102) {                                           // WHO fire
+    const at = text.indexOf(' ', blank + 6), letter = text.charCodeAt(at + 1);        // a, t, r, or g
+    trace.component[line] = numberAt(text, blank + 6, end);
+    trace.what[line] = letter === 97 ? ASK : letter === 116 ? TAKE : letter === 114 ? REPLY : GOT;
+    trace.channel[line] = numberAt(text, text.indexOf(' ', at + 1) + 1, end);
+    return;
+  }
+  const words = text.slice(start, end).split(' ');
+  if (words[0] === 'clash') {
+    trace.what[line] = CLASH;
+    trace.component[line] = Number(words[1]);
+    trace.clashes.push(line);
+  } else if (words[1] === 'rest') {
+    trace.what[line] = REST;
+    trace.rests.push(line);
+  } else {
+    const isDone = words[1] !== 'watch' && (words.includes('done', 3) || words.includes('value', 3));
+    trace.channel[line] = portChannels.get(words[2]) || 0;
+    trace.what[line] = isDone ? HOST_MOVES[words[1]] || NONE : TOLD;
+    trace.hostLines.push(line);
+  }
+}
+
+// The number that begins at a place of a text.
+function numberAt(text, at, end) {
+  let number = 0;
+  for (let i = at, digit; i < end && (digit = text.charCodeAt(i)) !== 32; i++) number = number * 10 + digit - 48;
+  return number;
+}
+
+// The lines of each key, rising: those of key k are list[first[k]] up to list[first[k + 1]].
+function linesBy(keys, keyCount, lineCount, isWanted) {
+  const first = new Uint32Array(keyCount + 2);
+  for (let line = 1; line <= lineCount; line++) if (isWanted(line)) first[keys[line] + 1]++;
+  for (let key = 0; key <= keyCount; key++) first[key + 1] += first[key];
+  const next = first.slice(), list = new Uint32Array(first[keyCount + 1]);
+  for (let line = 1; line <= lineCount; line++) if (isWanted(line)) list[next[keys[line]]++] = line;
+  return {first, list};
+}
+
+const lineText = (trace, line) => trace.text.slice(trace.start[line], trace.start[line + 1] - 1);
+
+// How many of the rising numbers list[from] up to list[to] are at or below a line.
+function countIn(list, from, to, line) {
+  let low = from, high = to;
+  while (low < high) {
+    const middle = (low + high) >> 1;
+    if (list[middle] <= line) low = middle + 1; else high = middle;
+  }
+  return low - from;
+}
+
+// Of the lines of a key: how many there are, how many are at or below a line, and the one at an index (0 where there is none).
+const countOf = (lines, key) => lines.first[key + 1] - lines.first[key];
+const countTo = (lines, key, line) => countIn(lines.list, lines.first[key], lines.first[key + 1], line);
+const nthOf = (lines, key, index) => (index < 0 || index >= countOf(lines, key) ? 0 : lines.list[lines.first[key] + index]);
+
+// The last line at or below a line that changed a channel; 0 where none did. From it the channel's phase and value.
+const lastChange = (trace, channel, line) => nthOf(trace.changesOf, channel, countTo(trace.changesOf, channel, line) - 1);
+const phaseAfter = (trace, change) => (change === 0 ? IDLE : trace.what[change] & 3);
+
+// The value that is on a channel after a change: one that came with the request or with the reply and was not yet taken over.
+function valueAfter(trace, change) {
+  if (change === 0 || trace.what[change] !== ASK && trace.what[change] !== REPLY) return '';
+  return valueIn(trace, change);
+}
+
+// The value that a line brings, or ''. `w1 fire 4 got 2 5`, `h1 answer i 5 done`, `h1 accept o value 5`.
+function valueIn(trace, line) {
+  const words = lineText(trace, line).split(' ');
+  if (trace.component[line]) return words[5] || '';
+  if (words[1] === 'offer' || words[1] === 'answer') return words[4] ? words[3] : '';
+  return words[words.length - 2] === 'value' ? words[words.length - 1] : '';
+}
+
+// What a variable holds: the value of the last write that it took, at first 0.
+function heldBy(trace, component, line) {
+  const write = component.channels[1], seen = countTo(trace.changesOf, write, line);
+  for (let i = seen - 1; i >= 0 && i >= seen - 4; i--) {
+    const change = nthOf(trace.changesOf, write, i);
+    if (trace.what[change] === TAKE) return valueIn(trace, change) || '?';
+  }
+  return '0';
+}
+
+// Who called, from a component up the requests that are taken: numbers of components, and last the host's port if it began there.
+function callersOf(net, trace, component, line) {
+  const callers = [], seen = new Set();
+  for (let at = component; at && !seen.has(at) && callers.length < 64;) {
+    seen.add(at);
+    callers.push(at.number);
+    const port = at.passive.find(p => phaseAfter(trace, lastChange(trace, at.channels[p], line)) === TAKEN);
+    const channel = port && net.channels[at.channels[port]];
+    if (channel && channel.active === 'host') return [...callers, channel.port];
+    at = channel && channel.active ? net.components[channel.active.component] : null;
+  }
+  return callers;
+}
+
+// Holds the trace against itself, apart from what the page shows of it: each line's move by the four-move table, values handed
+// over, phases and values that hosts were told, and the clash lines. `bad` is the first line that disagrees, or 0.
+function audit(trace, net) {
+  const seen = {phase: new Uint8Array(net.channels.length), change: new Uint32Array(net.channels.length), open: new Map()};
+  const found = {moves: 0, told: 0, values: 0, bad: 0, met: new Map()};
+  for (let line = 2; line <= trace.count && !found.bad; line++) {
+    const what = trace.what[line];
+    if (what === NONE || isMove(what) && !auditMove(trace, net, line, seen, found)) found.bad = line;
+    if (what === TOLD && !auditTold(trace, line, seen, found)) found.bad = line;
+  }
+  const due = [...found.met.keys()].sort((a, b) => a - b).join();
+  const written = trace.clashes.map(line => trace.component[line]).join();
+  // (a trace of version 1 has no clash lines)
+  if (!found.bad && due !== written && lineText(trace, 1) === 'trace 2') found.bad = trace.clashes[0] || trace.count;
+  return found;
+}
+
+// A move must find its channel in the phase before it, and bring on what was put there.
+function auditMove(trace, net, line, seen, found) {
+  const what = trace.what[line], number = trace.channel[line], channel = net.channels[number];
+  if (!channel || seen.phase[number] !== what - 1) return false;
+  if (channel.kind === 'push' && what === TAKE || channel.kind === 'pull' && what === GOT) {
+    found.values++;
+    if (valueIn(trace, line) !== valueIn(trace, seen.change[number])) return false;
+  }
+  seen.phase[number] = what & 3;
+  seen.change[number] = line;
+  found.moves++;
+  const callee = channel.passive && channel.passive !== 'host' ? channel.passive.component : 0;
+  if (callee && CALLS.has(net.components[callee].kind) && (what === ASK || what === GOT)) {
+    const open = (seen.open.get(callee) || 0) + (what === ASK ? 1 : -1);
+    seen.open.set(callee, open);
+    if (open === 2 && !found.met.has(callee)) found.met.set(callee, line);
+  }
+  return true;
+}
+
+// A host that was told a phase, and perhaps a value, must have been told those of its port.
+function auditTold(trace, line, seen, found) {
+  const words = lineText(trace, line).split(' '), at = words.findIndex((word, i) => i > 2 && PHASES.includes(word));
+  if (at < 0) return true;
+  const number = trace.channel[line];
+  found.told++;
+  return words[at] === PHASES[seen.phase[number]] && (words[at + 1] || '') === valueAfter(trace, seen.change[number]);
+}
+// ---- layout: layers from left to right, one copy of a part at a time ------------------------------------------------
+// A level is one copy of a part: its components, the boxes of its instances (each laid out alone before), and gates, where
+// channels come in at its left edge and go out at its right one. Neither chance nor time has a say: one net has one picture.
+
+// Kinds whose active ports have an order that says something. All other ports may change places on their side.
+const ORDERED = new Set(['Sequence', 'SequenceOptimised', 'Case', 'CaseFetch', 'While', 'BinaryFunc', 'Combine', 'CombineEqual',
+  'Split', 'DecisionWait', 'Bar']);
+// Kinds to which so much leads that their channels may be drawn as stubs.
+const HUBS = new Set(['Variable', 'FalseVariable', 'Call', 'CallMux', 'CallDemux']);
+
+const RADIUS = 21, PORT_STEP = 14, CAPTION = 15, STUB_SPACE = 34, LETTER = 5.4;
+const COLUMN_GAP = 46, NODE_GAP = 22, THREAD_GAP = 12;
+
+// The levels of what is shown, by path. Nodes: `c5` a component, `p3` a port, `i2/4` an instance's box, `o7` and `e7` the gates
+// by which channel 7 goes out of a copy and comes into one.
+class Levels {
+  constructor(net, folded) {
+    Object.assign(this, {net, folded, byPath: new Map()});
+    this.level('');
+    for (const component of net.shownComponents) {
+      const chain = this.seat(component.path), last = chain[chain.length - 1];
+      if (folded.has(last)) continue;
+      this.node(last, `c${component.number}`, {component, isShown: p => net.channels[component.channels[p]].isShown});
+    }
+    for (const channel of net.shownChannels) this.putChannel(channel);
+  }
+
+  // The level of a path.
+  level(path) {
+    if (!this.byPath.has(path)) this.byPath.set(path, {path, nodes: new Map(), edges: []});
+    return this.byPath.get(path);
+  }
+
+  // The node of a level, made where there is none yet.
+  node(path, id, members) {
+    const {nodes} = this.level(path);
+    if (!nodes.has(id)) nodes.set(id, {id, ...members});
+    return nodes.get(id);
+  }
+
+  // The copies from the outermost down to a path, or to the first that is folded; their boxes are made.
+  seat(path) {
+    const chain = [''];
+    if (path === '') return chain;
+    let at = '';
+    for (const step of path.split('/')) {
+      at = at === '' ? step : `${at}/${step}`;
+      this.node(chain[chain.length - 1], `i${at}`, {box: at, stubs: {o: [], e: []}});
+      chain.push(at);
+      if (this.folded.has(at)) break;
+    }
+    return chain;
+  }
+
+  // Where an end of a channel is seen: at the host's port, at a component, or at the box that is folded over it.
+  endOf(end, channel, side) {
+    if (end === 'host') return {chain: [''], id: `p${channel.number}`};
+    const chain = this.seat(this.net.components[end.component].path), last = chain[chain.length - 1];
+    if (!this.folded.has(last)) return {chain, id: `c${end.component}`, tip: end.port};
+    return {chain: chain.slice(0, -1), id: `i${last}`, tip: side + channel.number, isBox: true};
+  }
+
+  // Puts a channel into the deepest copy that holds both of its ends, and gates where it goes on inwards.
+  putChannel(channel) {
+    if (channel.port) this.node('', `p${channel.number}`, {port: channel});
+    if (!channel.active || !channel.passive) return;
+    const tail = this.endOf(channel.active, channel, 'o'), head = this.endOf(channel.passive, channel, 'e');
+    if (tail.id === head.id && (tail.isBox || channel.active === 'host')) return;
+    if (channel.isStub) {
+      this.putStub(tail, 'o', channel);
+      this.putStub(head, 'e', channel);
+      return;
+    }
+    let common = 0;
+    while (common + 1 < tail.chain.length && tail.chain[common + 1] === head.chain[common + 1]) common++;
+    const edge = {channel, tail: this.passGates(tail, common, channel, 'o'), head: this.passGates(head, common, channel, 'e')};
+    this.level(tail.chain[common]).edges.push(edge);
+  }
+
+  // A box keeps a place for a stub.
+  putStub(end, side, channel) {
+    if (end.isBox) this.node(end.chain[end.chain.length - 1], end.id).stubs[side].push(channel.number);
+  }
+
+  // From the copy where a channel is drawn down to its end: in each copy on the way a gate. Answers how it looks from above.
+  passGates(end, common, channel, side) {
+    const boxAt = i => ({id: `i${end.chain[i]}`, tip: side + channel.number});
+    for (let i = common + 1; i < end.chain.length; i++) {
+      const gate = {id: side + channel.number}, deeper = i + 1 < end.chain.length ? boxAt(i + 1) : end;
+      this.node(end.chain[i], gate.id, {gate: side, channel});
+      const [tail, head] = side === 'o' ? [deeper, gate] : [gate, deeper];
+      this.level(end.chain[i]).edges.push({channel, tail, head});
+    }
+    return common + 1 < end.chain.length ? boxAt(common + 1) : end;
+  }
+}
+
+// One level laid out: its nodes have their middles, its lines their points, the frame its size and the places of its gates.
+class LevelLayout {
+  constructor(level, inner, folded) {
+    this.isTop = level.path === '';
+    this.nodes = [...level.nodes.values()];
+    this.sizeNodes(inner, folded);
+    this.joinEdges(level);
+    this.turnCircles();
+    this.assignLayers();
+    this.standGatesApart();
+    this.threadEdges();
+    this.orderFirst();
+    this.orderBySweeps();
+    this.exchangeNeighbours();
+    this.settleHeights();
+    this.closeGaps();
+    this.placeColumns();
+    this.placeFrame();
+    this.drawLines();
+  }
+
+  // The size of each node, and where on it channels end.
+  sizeNodes(inner, folded) {
+    const isCrowded = this.nodes.length > 120;
+    for (const node of this.nodes) {
+      Object.assign(node, {below: 0, gap: isCrowded ? 8 : NODE_GAP, spaceLeft: 0, spaceRight: 0, captionWidth: 0, tips: null});
+      if (node.gate) Object.assign(node, {width: 0, height: 0, gap: 8});
+      else if (node.port) Object.assign(node, {width: Math.max(34, 14 + 7 * node.port.port.length), height: 26});
+      else if (node.component) sizeComponent(node);
+      else {
+        node.gap += 4;
+        node.layout = folded.has(node.box) ? null : inner(node.box);
+        if (node.layout) Object.assign(node, {width: node.layout.width, height: node.layout.height, tips: node.layout.gates});
+      }
+    }
+  }
+
+  // Edges between nodes, with the places where they end on them.
+  joinEdges(level) {
+    const boxes = this.nodes.filter(node => node.box && !node.layout);
+    const sides = new Map(boxes.map(node => [node.id, {o: node.stubs.o.slice(), e: node.stubs.e.slice()}]));
+    for (const {channel, tail, head} of level.edges) {
+      if (sides.has(tail.id)) sides.get(tail.id).o.push(channel.number);
+      if (sides.has(head.id)) sides.get(head.id).e.push(channel.number);
+    }
+    for (const node of boxes) sizeBox(node, sides.get(node.id));
+    this.edges = level.edges.map(({channel, tail, head}) => {
+      const ends = {tail: level.nodes.get(tail.id), head: level.nodes.get(head.id)};
+      const edge = {channel, ...ends, tailPort: tail.tip, headPort: head.tip};
+      edge.tailTip = tipOf(edge.tail, tail.tip, 1);
+      edge.headTip = tipOf(edge.head, head.tip, -1);
+      return edge;
+    });
+  }
+
+  // A channel back to a node that is on the way to it is turned round, so that all lead from left to right.
+  turnCircles() {
+    for (const node of this.nodes) Object.assign(node, {out: [], in: []});
+    for (const edge of this.edges) edge.tail.out.push(edge);
+    const OPEN = 1, DONE = 2, state = new Map();
+    const visit = root => {
+      const stack = [{node: root, next: 0}];
+      state.set(root, OPEN);
+      while (stack.length) {
+        const top = stack[stack.length - 1], edge = top.node.out[top.next++];
+        if (!edge) {
+          state.set(top.node, DONE);
+          stack.pop();
+        } else if (state.get(edge.head) === OPEN) edge.isBack = true;
+        else if (!state.has(edge.head)) {
+          state.set(edge.head, OPEN);
+          stack.push({node: edge.head, next: 0});
+        }
+      }
+    };
+    const heads = new Set(this.edges.map(edge => edge.head));
+    this.firsts = this.nodes.filter(node => node.gate === 'e' || node.port && node.port.isHostCaller);
+    const roots = [...this.firsts, ...this.nodes.filter(node => !heads.has(node)), ...this.nodes];
+    for (const node of roots) if (!state.has(node)) visit(node);
+    for (const node of this.nodes) node.out = [];
+    for (const edge of this.edges) {
+      [edge.from, edge.to] = edge.isBack ? [edge.head, edge.tail] : [edge.tail, edge.head];
+      if (edge.from === edge.to) continue;
+      edge.from.out.push(edge);
+      edge.to.in.push(edge);
+    }
+  }
+
+  // Layers: the longest way from the left, and then each node where its channels are shortest.
+  assignLayers() {
+    const order = this.nodes.filter(node => node.in.length === 0);
+    const waiting = new Map(this.nodes.map(node => [node, node.in.length]));
+    for (const node of order) {
+      node.layer = node.in.reduce((layer, edge) => Math.max(layer, edge.from.layer + 1), 0);
+      for (const {to} of node.out) {
+        waiting.set(to, waiting.get(to) - 1);
+        if (waiting.get(to) === 0) order.push(to);
+      }
+    }
+    this.last = this.nodes.reduce((last, node) => Math.max(last, node.layer), 0);
+    this.standHubsApart();
+    for (let turn = 0; turn < 8; turn++)
+      for (const node of turn % 2 ? order : order.slice().reverse()) if (!node.isHub) node.layer = this.bestLayer(node);
+  }
+
+  // Hubs whose channels are stubs stand in columns of their own at the right.
+  standHubsApart() {
+    const isHub = node => node.component && HUBS.has(node.component.kind);
+    const isApart = node => node.component.stubs && node.in.length === 0 && node.out.every(edge => isHub(edge.to));
+    const hubs = this.nodes.filter(node => isHub(node) && isApart(node));
+    if (this.last <= 2 || hubs.length === 0) return;
+    for (const hub of hubs) {
+      Object.assign(hub, {isHub: true, layer: hub.out.length ? this.last + 1 : this.last + 2});
+      for (const {to} of hub.out) Object.assign(to, {isHub: true, layer: this.last + 2});
+    }
+    this.last += 2;
+  }
+
+  // Nearest to the side to which more channels lead; gates and ports of the host at the edges.
+  bestLayer(node) {
+    if (node.gate === 'e') return 0;
+    if (node.gate || node.port && !node.port.isHostCaller && node.out.length === 0) return this.last;
+    const least = node.in.reduce((layer, edge) => Math.max(layer, edge.from.layer + 1), 0);
+    const most = node.out.reduce((layer, edge) => Math.min(layer, edge.to.layer - 1), this.last);
+    if (node.in.length > node.out.length) return least;
+    if (node.out.length > node.in.length) return most;
+    return node.in.length ? Math.min(Math.max(node.layer, least), most) : node.layer;
+  }
+
+  // Gates stand alone in the outermost layers. Then the rows of layers are made, still empty.
+  standGatesApart() {
+    const {nodes} = this, isIn = node => node.gate === 'e', isOut = node => node.gate === 'o';
+    if (nodes.some(isIn) && nodes.some(node => !node.gate && node.layer === 0)) {
+      for (const node of nodes) if (!isIn(node)) node.layer++;
+      this.last++;
+    }
+    if (nodes.some(isOut) && nodes.some(node => !node.gate && node.layer === this.last)) this.last++;
+    for (const node of nodes) if (isOut(node)) node.layer = this.last;
+    this.layers = Array.from({length: this.last + 1}, () => []);
+  }
+
+  // Each edge as threads between neighbouring layers, with a knot in each layer that it passes.
+  threadEdges() {
+    this.threads = [];
+    const knots = [];
+    for (const edge of this.edges) {
+      edge.knots = [];
+      if (edge.from === edge.to) continue;
+      const leaves = edge.isBack ? edge.headTip : edge.tailTip, arrives = edge.isBack ? edge.tailTip : edge.headTip;
+      let a = edge.from;
+      for (let layer = edge.from.layer + 1; layer <= edge.to.layer; layer++) {
+        const isEnd = layer === edge.to.layer;
+        const b = isEnd ? edge.to : {isKnot: true, layer, width: 0, height: 0, below: 0, gap: THREAD_GAP, tips: null};
+        const weight = isEnd ? (a.isKnot ? 2 : 1) : (a.isKnot ? 8 : 2);
+        this.threads.push({a, b, ay: a.isKnot ? 0 : leaves.y, by: isEnd ? arrives.y : 0, weight, edge,
+          tailAt: a.isKnot || edge.isBack ? null : a, headAt: isEnd && !edge.isBack ? b : null});
+        if (!isEnd) edge.knots.push(b);
+        a = b;
+      }
+      knots.push(...edge.knots);
+    }
+    this.all = [...this.nodes, ...knots];
+    for (const node of this.all) Object.assign(node, {left: [], right: []});
+    for (const thread of this.threads) {
+      thread.a.right.push(thread);
+      thread.b.left.push(thread);
+    }
+  }
+
+  // A first order within the layers: a walk from the left in the order of ports.
+  orderFirst() {
+    const seen = new Set();
+    for (const first of [...this.firsts, ...this.nodes.filter(node => node.left.length === 0), ...this.nodes]) {
+      const stack = [first];
+      while (stack.length) {
+        const node = stack.pop();
+        if (seen.has(node)) continue;
+        seen.add(node);
+        this.layers[node.layer].push(node);
+        stack.push(...node.right.slice().sort((x, y) => x.ay - y.ay).map(thread => thread.b).reverse());
+      }
+    }
+  }
+
+  // Gives each node its index in its layer, and turns ports so that their channels cross less.
+  numberNodes() {
+    for (const layer of this.layers) layer.forEach((node, index) => { node.index = index; });
+    this.untwist();
+  }
+
+  // Ports whose order says nothing change places, so that each stands on its side as what it leads to stands there.
+  untwist() {
+    for (const node of this.nodes) if (node.component) {
+      const goOut = node.right.filter(thread => thread.tailAt === node);
+      const comeIn = node.left.filter(thread => thread.headAt === node);
+      if (!ORDERED.has(node.component.kind)) turnSide(node, goOut, node.outPorts, 'b', 'tailPort', 'ay');
+      turnSide(node, comeIn, node.inPorts, 'a', 'headPort', 'by');
+    }
+  }
+
+  // How many pairs of threads cross.
+  crossings() {
+    let sum = 0;
+    for (const layer of this.layers) {
+      const threads = layer.flatMap(node => node.right).sort((x, y) => x.a.index - y.a.index || x.ay - y.ay);
+      const passed = [];
+      for (const {b, by} of threads) {
+        const key = b.index * 4096 + by + 2048, at = countIn(passed, 0, passed.length, key);
+        sum += passed.length - at;
+        passed.splice(at, 0, key);
+      }
+    }
+    return sum;
+  }
+
+  // Order within the layers by the middle of the neighbours, to and fro; the best of these orders is kept.
+  orderBySweeps() {
+    this.numberNodes();
+    let least = this.crossings(), best = this.layers.map(layer => layer.slice());
+    const sweeps = this.nodes.length > 3000 ? 6 : 20;
+    for (let turn = 0; turn < sweeps && least > 0; turn++) {
+      for (const layer of turn % 2 ? this.layers.slice().reverse() : this.layers) {
+        const keys = new Map(layer.map((node, index) => [node, middleOf(node, turn % 2 ? 'right' : 'left') ?? index]));
+        layer.sort((x, y) => keys.get(x) - keys.get(y) || x.index - y.index);
+        layer.forEach((node, index) => { node.index = index; });
+      }
+      this.untwist();
+      const found = this.crossings();
+      if (found < least) [least, best] = [found, this.layers.map(layer => layer.slice())];
+    }
+    this.layers = best;
+    this.numberNodes();
+  }
+
+  // Neighbours change places where that takes crossings away.
+  exchangeNeighbours() {
+    for (let turn = 0, isChanged = true; isChanged && turn < 8; turn++) {
+      isChanged = false;
+      for (const layer of this.layers) for (let i = 0; i + 1 < layer.length; i++) {
+        const [above, below] = [layer[i], layer[i + 1]];
+        if (pairCrossings(below, above) >= pairCrossings(above, below)) continue;
+        [layer[i], layer[i + 1]] = [below, above];
+        [below.index, above.index] = [i, i + 1];
+        isChanged = true;
+      }
+    }
+    this.untwist();
+    this.crossed = this.crossings();
+  }
+
+  // Heights: each node as near to where its channels want it as the others of its layer let it.
+  settleHeights() {
+    for (const layer of this.layers) {
+      let y = 0;
+      for (const node of layer) {
+        node.y = y + node.height / 2;
+        y += node.height + node.below + node.gap;
+      }
+    }
+    const back = this.layers.slice().reverse();
+    for (let turn = 0; turn < 12; turn++) {
+      for (const layer of this.layers) settle(layer, true, false);
+      for (const layer of back) settle(layer, false, true);
+    }
+    for (let turn = 0; turn < 6; turn++) for (const layer of turn % 2 ? back : this.layers) settle(layer, true, true);
+  }
+
+  // Groups that no channel joins are moved up until they meet what is above them.
+  closeGaps() {
+    const groups = joinedGroups(this.all, this.threads);
+    if (groups.length < 2) return;
+    const top = node => node.y - node.height / 2, floor = this.layers.map(() => -Infinity);
+    for (const group of groups) group.top = group.reduce((least, node) => Math.min(least, top(node)), Infinity);
+    for (const group of groups.sort((x, y) => x.top - y.top)) {
+      let rise = group.reduce((least, node) => Math.min(least, top(node) - node.gap - floor[node.layer]), Infinity);
+      if (rise === Infinity) rise = group.top;
+      for (const node of group) {
+        node.y -= rise;
+        floor[node.layer] = Math.max(floor[node.layer], node.y + node.height / 2 + node.below);
+      }
+    }
+  }
+
+  // Columns: each as wide as its widest node, and between two of them room for the steepest thread.
+  placeColumns() {
+    let x = 30;
+    this.columns = this.layers.map((layer, k) => {
+      const isInGate = k === 0 && !this.isTop && layer.every(node => node.gate);
+      const width = layer.reduce((most, node) =>
+        Math.max(most, node.width + 2 * Math.max(node.spaceLeft || 0, node.spaceRight || 0), (node.captionWidth || 0) - 6), 0);
+      const rise = thread => Math.abs(thread.a.y + thread.ay - thread.b.y - thread.by);
+      const steepest = layer.flatMap(node => node.right).reduce((most, thread) => Math.max(most, rise(thread)), 0);
+      const column = isInGate ? {left: 0, right: 0} : {left: x, right: x + width};
+      for (const node of layer) node.x = (column.left + column.right) / 2;
+      if (!isInGate) x += width + (k < this.last ? Math.min(130, COLUMN_GAP + steepest / 9) : 0);
+      return column;
+    });
+    this.width = x + 30;
+    for (const node of this.nodes) if (node.gate === 'o') node.x = this.width;
+    if (this.layers[this.last].some(node => node.gate === 'o')) this.columns[this.last] = {left: this.width, right: this.width};
+  }
+
+  // The frame: its height, and where channels come in and go out, from its middle.
+  placeFrame() {
+    const top = this.all.reduce((least, node) => Math.min(least, node.y - node.height / 2), Infinity);
+    const bottom = this.all.reduce((most, node) => Math.max(most, node.y + node.height / 2 + node.below), -Infinity);
+    const shift = this.all.length ? (this.isTop ? 14 : 30) - top : 30;
+    this.height = (this.all.length ? bottom : 0) + shift + 14;
+    this.gates = new Map();
+    for (const node of this.all) {
+      node.y += shift;
+      const side = node.gate === 'o' ? 1 : -1;
+      if (node.gate) this.gates.set(node.id, {x: side * this.width / 2, y: node.y - this.height / 2});
+    }
+  }
+
+  // The points of each channel. It is level where it passes a column, and so never runs under what stands there.
+  drawLines() {
+    this.lines = this.edges.map(edge => {
+      const start = {x: edge.tail.x + edge.tailTip.x, y: edge.tail.y + edge.tailTip.y};
+      const end = {x: edge.head.x + edge.headTip.x, y: edge.head.y + edge.headTip.y};
+      const out = edge.isBack || edge.from === edge.to ? 12 : 0, points = [start];
+      points.push({x: Math.max(start.x, this.columns[edge.tail.layer].right + out), y: start.y});
+      for (const knot of edge.isBack ? edge.knots.slice().reverse() : edge.knots) {
+        const {left, right} = this.columns[knot.layer];
+        points.push({x: edge.isBack ? right : left, y: knot.y}, {x: edge.isBack ? left : right, y: knot.y});
+      }
+      points.push({x: Math.min(end.x, this.columns[edge.head.layer].left - out), y: end.y}, end);
+      return {channel: edge.channel, points, isFirst: edge.tail.gate === undefined && !(edge.tail.box && edge.tail.layout)};
+    });
+  }
+}
+
+// A component is a circle, or taller where a side has many ports. Ports whose channel is not shown are left out.
+function sizeComponent(node) {
+  const {component, isShown} = node;
+  const inPorts = component.passive.filter(isShown), outPorts = component.active.filter(isShown);
+  const most = Math.max(inPorts.length, outPorts.length), height = Math.max(2 * RADIUS, most * PORT_STEP + 8);
+  const isStub = p => component.stubs !== null && component.stubs.has(p);
+  Object.assign(node, {inPorts, outPorts, width: 2 * RADIUS, height, below: CAPTION, tips: new Map(),
+    isCut: inPorts.length + outPorts.length < component.channels.length - 1,
+    captionWidth: LETTER * (component.number + ' ' + component.kind.slice(0, 14)).length,
+    spaceLeft: component.passive.some(isStub) ? STUB_SPACE : 0, spaceRight: component.active.some(isStub) ? STUB_SPACE : 0});
+  for (const [ports, sign] of [[inPorts, -1], [outPorts, 1]]) ports.forEach((port, i) => {
+    const step = most > 3 ? PORT_STEP : ports.length < 2 ? 0 : Math.min(PORT_STEP, (height - 12) / (ports.length - 1));
+    const y = (i - (ports.length - 1) / 2) * step, past = Math.max(0, Math.abs(y) - (height / 2 - RADIUS));
+    node.tips.set(port, {x: sign * Math.sqrt(Math.max(0, RADIUS * RADIUS - past * past)), y});
+  });
+}
+
+// A folded copy is a box with the channels that come in at its left side and those that go out at its right one.
+function sizeBox(node, sides) {
+  const most = Math.max(sides.o.length, sides.e.length);
+  Object.assign(node, {width: 96, height: Math.max(54, most * 12 + 14), tips: new Map(),
+    spaceLeft: node.stubs.e.length ? STUB_SPACE : 0, spaceRight: node.stubs.o.length ? STUB_SPACE : 0});
+  for (const side of ['o', 'e']) sides[side].forEach((channel, i) =>
+    node.tips.set(side + channel, {x: side === 'o' ? 48 : -48, y: (i - (sides[side].length - 1) / 2) * 12}));
+}
+
+// Where an edge ends on a node, from the node's middle.
+function tipOf(node, tip, sign) {
+  return node.tips ? node.tips.get(tip) : {x: node.gate ? 0 : sign * node.width / 2, y: 0};
+}
+
+// The ports of one side take the places of that side in the order of the nodes at their other ends.
+function turnSide(node, threads, ports, other, port, y) {
+  if (ports.length < 2 || threads.length !== ports.length) return;
+  const sorted = threads.slice().sort((x, z) => x[other].index - z[other].index);
+  const tips = sorted.map(thread => node.tips.get(thread.edge[port]));
+  const places = tips.map(tip => ({...tip})).sort((p, q) => p.y - q.y);
+  sorted.forEach((thread, i) => {
+    Object.assign(tips[i], places[i]);
+    thread[y] = places[i].y;
+  });
+}
+
+// The middle of the neighbours of a node on one side, in their order; null where there are none.
+function middleOf(node, side) {
+  const threads = node[side];
+  if (threads.length === 0) return null;
+  const places = threads.map(({a, b, ay, by}) => {
+    const [other, y] = side === 'left' ? [a, ay] : [b, by];
+    return other.index + 0.9 * y / Math.max(other.height || 1, 20);
+  });
+  return places.reduce((sum, place) => sum + place, 0) / places.length;
+}
+
+// How many threads of two neighbours cross where one stands above the other.
+function pairCrossings(above, below) {
+  let sum = 0;
+  for (const x of above.left) for (const y of below.left) if (y.a.index < x.a.index || y.a === x.a && y.ay < x.ay) sum++;
+  for (const x of above.right) for (const y of below.right) if (y.b.index < x.b.index || y.b === x.b && y.by < x.by) sum++;
+  return sum;
+}
+
+// Settles one layer by its neighbours at the left, at the right, or both. Nodes that push each other move as one block.
+function settle(layer, byLeft, byRight) {
+  const blocks = [];
+  let offset = 0;
+  layer.forEach((node, i) => {
+    const above = layer[i - 1];
+    if (above) {
+      const gap = above.isKnot || node.isKnot ? THREAD_GAP : Math.min(above.gap, node.gap);
+      offset += above.height / 2 + above.below + gap + node.height / 2;
+    }
+    node.offset = offset;
+    let sum = 0, weight = 0;
+    const wish = (thread, y) => { sum += thread.weight * y; weight += thread.weight; };
+    if (byLeft) for (const it of node.left) wish(it, it.a.y + it.ay - it.by);
+    if (byRight) for (const it of node.right) wish(it, it.b.y + it.by - it.ay);
+    if (weight === 0) [sum, weight] = [0.1 * node.y, 0.1];
+    blocks.push({sum: sum - weight * offset, weight, first: i});
+    while (blocks.length > 1) {
+      const [upper, lower] = blocks.slice(-2);
+      if (upper.sum / upper.weight <= lower.sum / lower.weight) break;
+      upper.sum += lower.sum;
+      upper.weight += lower.weight;
+      blocks.pop();
+    }
+  });
+  blocks.forEach((block, k) => {
+    const end = k + 1 < blocks.length ? blocks[k + 1].first : layer.length;
+    for (let i = block.first; i < end; i++) layer[i].y = block.sum / block.weight + layer[i].offset;
+  });
+}
+
+// The nodes in groups that threads join.
+function joinedGroups(nodes, threads) {
+  const leader = new Map(nodes.map(node => [node, node]));
+  const find = node => {
+    let root = node;
+    while (leader.get(root) !== root) root = leader.get(root);
+    for (let at = node; at !== root;) {
+      const next = leader.get(at);
+      leader.set(at, root);
+      at = next;
+    }
+    return root;
+  };
+  for (const {a, b} of threads) leader.set(find(b), find(a));
+  const groups = new Map();
+  for (const node of nodes) {
+    const root = find(node);
+    if (!groups.has(root)) groups.set(root, []);
+    groups.get(root).push(node);
+  }
+  return [...groups.values()];
+}
+
+// ---- the whole picture ----------------------------------------------------------------------------------------------
+
+// All levels laid out, each copy before the one around it. Answers the outermost ones: one for each set of its nodes.
+function layLevels(net, folded, columnOf) {
+  const levels = new Levels(net, folded), laid = new Map();
+  const inner = path => {
+    if (!laid.has(path)) laid.set(path, new LevelLayout(levels.level(path), inner, folded));
+    return laid.get(path);
+  };
+  if (!columnOf) return [inner('')];
+  const root = levels.level(''), count = 1 + Math.max(...columnOf.values());
+  return Array.from({length: count}, (none, column) => {
+    const nodes = new Map([...root.nodes].filter(([id]) => columnOf.get(id) === column));
+    return new LevelLayout({path: '', nodes, edges: root.edges.filter(edge => nodes.has(edge.tail.id))}, inner, folded);
+  });
+}
+
+// Channels to hubs become stubs: two short pieces, each with the name of the other end, as a signal in a schematic.
+function markStubs(net, isWanted) {
+  for (const component of net.shownComponents) component.stubs = null;
+  for (const channel of net.shownChannels) channel.isStub = false;
+  if (!isWanted) return;
+  for (const component of net.shownComponents) if (component.passive.length > 4 && HUBS.has(component.kind))
+    for (const port of component.passive) {
+      const channel = net.channels[component.channels[port]];
+      const {active} = channel, asker = active && active !== 'host' ? net.components[active.component] : null;
+      if (channel.isShown && asker && !CALLS.has(asker.kind)) makeStub(net, channel);
+    }
+}
+
+// Makes a channel a stub, known at the ports of both ends.
+function makeStub(net, channel) {
+  channel.isStub = true;
+  for (const end of [channel.active, channel.passive]) if (end && end !== 'host') {
+    const component = net.components[end.component];
+    component.stubs = component.stubs || new Set();
+    component.stubs.add(end.port);
+  }
+}
+
+// A tall picture, such as a long chain of copies, is cut across into columns that stand side by side. Answers the column of each
+// outermost node, and makes channels between columns stubs.
+function cutInColumns(net, whole, count) {
+  const columnOf = new Map();
+  const place = node => Math.min(count - 1, Math.max(0, Math.floor(count * node.y / whole.height)));
+  for (const node of whole.nodes) if (!node.port) columnOf.set(node.id, place(node));
+  for (const node of whole.nodes) if (node.port) {
+    const edge = [...node.out, ...node.in][0], other = edge && (edge.from === node ? edge.to : edge.from);
+    columnOf.set(node.id, other && columnOf.has(other.id) ? columnOf.get(other.id) : place(node));
+  }
+  for (const edge of whole.edges) if (columnOf.get(edge.tail.id) !== columnOf.get(edge.head.id)) makeStub(net, edge.channel);
+  return columnOf;
+}
+
+const TALL = 1400, WIDE_TO_HIGH = 1.5;
+
+// The picture of what is shown: nodes, frames, lines of channels and stubs, each with its place.
+function layout(net, folded, isStubbed) {
+  markStubs(net, isStubbed);
+  let levels = layLevels(net, folded);
+  const [{width, height}] = levels, columns = Math.round(Math.sqrt(WIDE_TO_HIGH * height / width));
+  if (height > TALL && columns > 1) levels = layLevels(net, folded, cutInColumns(net, levels[0], columns));
+  const picture = {width: 0, height: 0, nodes: [], frames: [], lines: new Map(), stubs: new Map(), crossed: 0};
+  const pieces = new Map();
+  for (const level of levels) {
+    placeLevel(level, picture.width, 0, picture, pieces);
+    picture.width += level.width;
+    picture.height = Math.max(picture.height, level.height);
+  }
+  for (const [channel, parts] of pieces) picture.lines.set(channel, joinPieces(parts));
+  placeStubs(net, picture);
+  return picture;
+}
+
+// Takes what a level and those within have into the picture, moved to where the level stands.
+function placeLevel(level, dx, dy, picture, pieces) {
+  picture.crossed += level.crossed;
+  for (const node of level.nodes) {
+    const x = node.x + dx, y = node.y + dy;
+    if (node.layout) {
+      const frame = {path: node.box, x: x - node.width / 2, y: y - node.height / 2, width: node.width, height: node.height};
+      picture.frames.push(frame);
+      placeLevel(node.layout, frame.x, frame.y, picture, pieces);
+    } else if (!node.gate) picture.nodes.push({...node, x, y});
+  }
+  for (const {channel, points, isFirst} of level.lines) {
+    if (!pieces.has(channel.number)) pieces.set(channel.number, []);
+    pieces.get(channel.number).push({points: points.map(point => ({x: point.x + dx, y: point.y + dy})), isFirst});
+  }
+}
+
+// The pieces of a channel as one line, from its active end out of the copies around it and into those around its passive end.
+function joinPieces(pieces) {
+  const isNear = (p, q) => Math.abs(p.x - q.x) < 0.6 && Math.abs(p.y - q.y) < 0.6;
+  const left = pieces.slice(), first = left.find(piece => piece.isFirst) || left[0], points = first.points.slice();
+  left.splice(left.indexOf(first), 1);
+  for (let next; (next = left.find(piece => isNear(piece.points[0], points[points.length - 1])));) {
+    points.push(...next.points.slice(1));
+    left.splice(left.indexOf(next), 1);
+  }
+  return points;
+}
+
+// The short pieces of each stub, where its ends are seen.
+function placeStubs(net, picture) {
+  const seats = new Map(picture.nodes.map(node => [node.id, node]));
+  const seatOf = (end, channel, side) => {
+    const seat = seats.get(`c${end.component}`);
+    if (seat) return {seat, tip: seat.tips.get(end.port)};
+    const {path} = net.components[end.component], steps = path.split('/');
+    const box = steps.map((step, i) => seats.get(`i${steps.slice(0, i + 1).join('/')}`)).find(it => it);
+    return box ? {seat: box, tip: box.tips.get(side + channel.number)} : null;
+  };
+  for (const channel of net.shownChannels) if (channel.isStub) {
+    const pieces = [];
+    for (const [end, side, dx] of [[channel.active, 'o', 16], [channel.passive, 'e', -16]]) {
+      const found = end === 'host' ? null : seatOf(end, channel, side);
+      if (!found || !found.tip) continue;
+      pieces.push({x: found.seat.x + found.tip.x, y: found.seat.y + found.tip.y, dx, isOut: side === 'o'});
+    }
+    if (pieces.length) picture.stubs.set(channel.number, pieces);
+  }
+}
+
+// ---- lines ----------------------------------------------------------------------------------------------------------
+
+const isLevel = (a, b) => Math.abs(a.y - b.y) < 0.5;
+const isSame = (a, b) => isLevel(a, b) && Math.abs(a.x - b.x) < 0.5;
+
+// How far the two inner points of a curve stand from its ends.
+function bendOf(a, b) {
+  const dx = b.x - a.x;
+  return dx > 0 ? dx / 2 : Math.max(18, Math.min(60, -dx / 2));
+}
+
+// A smooth line through points, level at each of them, as the text of a path.
+function curve(points) {
+  const at = (x, y) => `${Math.round(x * 10) / 10} ${Math.round(y * 10) / 10}`;
+  let text = `M${at(points[0].x, points[0].y)}`;
+  for (let i = 1; i < points.length; i++) {
+    const a = points[i - 1], b = points[i], bend = bendOf(a, b);
+    if (isSame(a, b)) continue;
+    text += isLevel(a, b) ? `L${at(b.x, b.y)}` : `C${at(a.x + bend, a.y)} ${at(b.x - bend, b.y)} ${at(b.x, b.y)}`;
+  }
+  return text;
+}
+
+// The same line as points close by, with the way to each: where a mark stands on it is found without asking the browser.
+function walkOf(points) {
+  const walk = [{x: points[0].x, y: points[0].y, way: 0}];
+  const go = (x, y) => {
+    const last = walk[walk.length - 1];
+    walk.push({x, y, way: last.way + Math.hypot(x - last.x, y - last.y)});
+  };
+  for (let i = 1; i < points.length; i++) {
+    const a = points[i - 1], b = points[i], bend = bendOf(a, b);
+    if (isSame(a, b)) continue;
+    if (isLevel(a, b)) go(b.x, b.y);
+    else for (let k = 1; k <= 16; k++) {
+      const t = k / 16, u = 1 - t, f0 = u * u * u, f1 = 3 * u * u * t, f2 = 3 * u * t * t, f3 = t * t * t;
+      go(f0 * a.x + f1 * (a.x + bend) + f2 * (b.x - bend) + f3 * b.x, (f0 + f1) * a.y + (f2 + f3) * b.y);
+    }
+  }
+  if (walk.length === 1) go(points[0].x + 1, points[0].y);
+  return walk;
+}
+
+// The place on a walk after some way, and the line's angle there.
+function onWalk(walk, way) {
+  let i = 1;
+  while (i < walk.length - 1 && walk[i].way < way) i++;
+  const a = walk[i - 1], b = walk[i], t = b.way > a.way ? (way - a.way) / (b.way - a.way) : 0;
+  return {x: a.x + t * (b.x - a.x), y: a.y + t * (b.y - a.y), angle: Math.atan2(b.y - a.y, b.x - a.x) * 180 / Math.PI};
+}
+// ---- words: the names of what there is, its signs, and what a line of the trace says --------------------------------
+
+const cut = (text, most) => (text.length > most ? text.slice(0, most - 1) + '…' : text);
+const isVariable = component => component.kind === 'Variable' || component.kind === 'FalseVariable';
+
+// The sign in a component's circle, as handshake circuits are drawn.
+const SIGNS = {
+  Loop: '#', Sequence: ';', SequenceOptimised: ';', Concur: '‖', Fork: '⋔', WireFork: '⋔', ForkPush: '⋔', While: 'do', Bar: '[]',
+  Case: '@', CaseFetch: '@', Fetch: '→', Constant: 'k', Slice: '[ ]', Combine: '⟨⟩', CombineEqual: '⟨⟩', Split: '⟩⟨', Adapt: 'ad',
+  Variable: 'x', FalseVariable: 'fx', Call: '|', CallMux: '|', CallDemux: '|', Arbiter: 'arb', DecisionWait: 'DW',
+  Passivator: '•', PassivatorPush: '•', Synch: '•', SynchPull: '•', Halt: 'stop', HaltPush: 'stop',
+  Continue: 'run', ContinuePush: 'run', UnaryFunc: 'op', BinaryFunc: 'op', BinaryFuncConstR: 'op',
+};
+const OPERATIONS = {
+  Add: '+', Subtract: '−', ReverseSubtract: '−r', Negate: '−', Equals: '=', NotEquals: '≠', LessThan: '<', GreaterThan: '>',
+  LessOrEquals: '≤', GreaterOrEquals: '≥', And: '∧', Or: '∨', Xor: '⊕', Invert: '¬',
+};
+
+// A variable has its name in the circle, a constant its value, and an operation its sign, with its constant if it has one.
+function signOf(component) {
+  const [first, second] = component.detail.split(' ');
+  if (isVariable(component) && first) return cut(first, 5);
+  if (component.kind === 'Constant' && first) return cut(first, 5);
+  const operation = Object.hasOwn(OPERATIONS, first) ? OPERATIONS[first] : '';
+  if (operation) return operation + (component.kind === 'BinaryFuncConstR' && second ? cut(second, 4) : '');
+  return Object.hasOwn(SIGNS, component.kind) ? SIGNS[component.kind] : component.kind.slice(0, 4);
+}
+
+// The names by which components and channels are told. A variable goes by its name too, and so does a channel that has one.
+const componentName = it => `${it.kind} ${it.number}` + (isVariable(it) && it.detail ? ` ${it.detail.split(' ')[0]}` : '');
+const channelName = it => `channel ${it.number}` + (it.name ? ` ${it.name}` : '');
+
+// An end of a channel.
+function endName(channel, end) {
+  if (end === null) return 'nobody';
+  return end === 'host' ? `the host at ${channel.port}` : componentName(net.components[end.component]);
+}
+
+// Where a component or channel stands in the netlist, and where it comes from in the source.
+function placeOf(item) {
+  const inside = item.path ? ` (in ${item.path})` : '', source = item.source ? `, from ${item.source}` : '';
+  return `${item.part} ${item.position}, line ${item.line} of the netlist${inside}${source}`;
+}
+
+const endsOf = channel => `from ${endName(channel, channel.active)} to ${endName(channel, channel.passive)}`;
+const kindOf = channel => channel.kind + (channel.width ? ` ${channel.width}` : '');
+const channelTitle = channel => `${channelName(channel)} ${kindOf(channel)}: ${endsOf(channel)}\n${placeOf(channel)}`;
+const componentTitle = component => `${component.title}\n${placeOf(component)}`;
+
+// What a line says.
+function tell(line) {
+  if (line === 1) return 'The opening: every channel is idle.';
+  const what = trace.what[line], component = net.components[trace.component[line]];
+  if (what === REST) return 'Rest: a firing was still due, and no component can move.';
+  if (what === CLASH) {
+    const first = found.met.get(component.number);
+    return `Two requests met at ${component.title}${first ? `, first at line ${first}` : ''}.`;
+  }
+  return component ? tellFiring(line, component) : tellHost(lineText(trace, line).split(' '));
+}
+
+// What a component does: `Fetch 4 has the reply of Variable 1 on channel 13, value 2`.
+function tellFiring(line, component) {
+  const what = trace.what[line], channel = net.channels[trace.channel[line]], value = valueIn(trace, line);
+  const other = endName(channel, what === ASK || what === GOT ? channel.passive : channel.active);
+  const verb = ['', 'asks', 'takes the request of', 'replies to', 'has the reply of'][what];
+  return `${componentName(component)} ${verb} ${other} on ${channelName(channel)}${value ? `, value ${value}` : ''}`;
+}
+
+// What a host does, and what it is told.
+function tellHost([who, verb, port, ...told]) {
+  const host = who === 'h1' ? 'The host' : `Host ${who.slice(1)}`;
+  const does = {offer: 'asks at', collect: 'collects the reply at', accept: 'takes the request at', answer: 'replies at'}[verb];
+  return `${host} ${does || 'looks at'} ${port}: ${told.join(' ')}`;
+}
+// ---- the picture: the net as it stands behind the current line ------------------------------------------------------
+
+const $ = id => document.getElementById(id);
+
+// An element of SVG, and one of HTML. Text goes in as text alone, whatever stands in a name.
+function svg(name, attributes = {}, text) {
+  const element = document.createElementNS('http://www.w3.org/2000/svg', name);
+  for (const [key, value] of Object.entries(attributes)) element.setAttribute(key, value);
+  if (text !== undefined) element.textContent = text;
+  return element;
+}
+function html(tag, style, text) {
+  const element = document.createElement(tag);
+  if (style) element.className = style;
+  if (text !== undefined) element.textContent = text;
+  return element;
+}
+
+const startedAt = performance.now();
+const net = readNet(textOf('net'), textOf('rows')), trace = readTrace(textOf('trace'), net), found = audit(trace, net);
+const readAt = performance.now();
+
+// Above so many components a page begins in focus. In focus are at most so many, of so many lines around, and it is made anew
+// when the line has moved so far.
+const MANY = 300, IN_FOCUS = 90, NEAR = 40, REFOCUS = 25;
+const all = {components: net.components.slice(1), channels: net.channels.slice(1)};
+
+// What the reader chose. `selected` is `c5` for a component, `k7` for a channel, or null.
+const view = {line: 1, selected: null, isFocused: false, focusLine: 0, folded: new Set(), foldedInFocus: new Set(),
+  isStubbed: null, picture: null, box: null, isFollowing: false, isCharted: false, layoutTime: 0};
+
+// What is drawn, by number or path, and the line that it shows (0: nothing yet).
+const drawn = {channels: new Map(), components: new Map(), boxes: new Map(), ports: new Map(), line: 0, here: 0};
+
+const foldedNow = () => (view.isFocused ? view.foldedInFocus : view.folded);
+const isStubbedNow = () => (view.isStubbed === null ? net.shownComponents.length > 60 : view.isStubbed);
+const numberOf = selected => Number(selected.slice(1));
+
+// Chooses what is shown, lays it out and draws it.
+function draw() {
+  const before = performance.now();
+  if (view.isFocused) showNear(view.line); else showOnly(all.components, all.channels);
+  view.picture = layout(net, foldedNow(), isStubbedNow());
+  view.layoutTime = performance.now() - before;
+  for (const map of [drawn.channels, drawn.components, drawn.boxes, drawn.ports]) map.clear();
+  drawn.line = 0;
+  const layers = {frames: svg('g'), lines: svg('g'), nodes: svg('g'), marks: svg('g')}, {picture} = view;
+  for (const frame of picture.frames) layers.frames.append(frameOf(frame));
+  const labels = [];
+  for (const [number, points] of picture.lines) drawChannel(net.channels[number], points, layers, labels);
+  for (const [number, pieces] of picture.stubs) drawStub(net.channels[number], pieces, layers);
+  for (const node of picture.nodes) layers.nodes.append(nodeOf(node));
+  $('root').replaceChildren(layers.frames, layers.lines, layers.nodes, layers.marks);
+}
+
+// Shows these components and channels, and no others.
+function showOnly(components, channels) {
+  for (const item of [...net.shownComponents || all.components, ...net.shownChannels || all.channels]) item.isShown = false;
+  for (const item of components) item.isShown = true;
+  for (const item of channels) item.isShown = true;
+  Object.assign(net, {shownComponents: components, shownChannels: channels});
+}
+
+// In focus: what moves in the lines around this one, with who called it.
+function showNear(line) {
+  const kept = new Set(), keep = number => { if (kept.size < IN_FOCUS) kept.add(number); };
+  const keepEnd = (end, at) => {
+    if (!end || end === 'host') return;
+    keep(end.component);
+    for (const caller of callersOf(net, trace, net.components[end.component], at)) if (typeof caller === 'number') keep(caller);
+  };
+  for (let distance = 0; distance <= NEAR; distance++) for (const at of new Set([line - distance, line + distance])) {
+    const channel = at > 1 && at <= trace.count && net.channels[trace.channel[at]];
+    if (channel) for (const end of [channel.active, channel.passive]) keepEnd(end, at);
+  }
+  view.focusLine = line;
+  const components = [...kept].sort((a, b) => a - b).map(number => net.components[number]);
+  const isKept = end => end === 'host' || end !== null && kept.has(end.component);
+  const numbers = new Set(components.flatMap(component => component.channels.slice(1)));
+  const channels = [...numbers].sort((a, b) => a - b).map(number => net.channels[number]);
+  showOnly(components, channels.filter(it => it && isKept(it.active) && isKept(it.passive)));
+}
+
+// The frame of a copy that is unfolded.
+function frameOf({path, x, y, width, height}) {
+  const group = svg('g', {class: 'frame', 'data-copy': path});
+  group.append(svg('rect', {x, y, width, height, rx: 8}));
+  group.append(svg('text', {x: x + 8, y: y + 14}, `▾ ${path} ${net.instances.get(path).name}`));
+  return group;
+}
+
+const dot = (style, {x, y}) => svg('circle', {class: style, cx: x, cy: y, r: 3.6});
+const placed = ({x, y, angle = 0}, turn = 0) => `translate(${x.toFixed(1)} ${y.toFixed(1)}) rotate(${(angle + turn).toFixed(1)})`;
+const ARROW = 'M5 0L-5 -4.5L-5 4.5Z';
+
+// A channel: its line, a filled dot at the end that asks, an open one at the end that answers, an arrow for the way of its value,
+// and its number.
+function drawChannel(channel, points, layers, labels) {
+  const group = svg('g', {class: 'channel', 'data-channel': channel.number}), d = curve(points);
+  const walk = walkOf(points), length = walk[walk.length - 1].way;
+  group.append(svg('path', {class: 'hit', d}), svg('path', {class: 'line', d}));
+  group.append(dot('active', points[0]), dot('passive', points[points.length - 1]));
+  if (channel.kind === 'push') group.append(svg('path', {class: 'arrow', d: ARROW, transform: placed(onWalk(walk, length - 9))}));
+  if (channel.kind === 'pull') group.append(svg('path', {class: 'arrow', d: ARROW, transform: placed(onWalk(walk, 9), 180)}));
+  group.append(svg('title', {}, channelTitle(channel)));
+  layers.lines.append(group);
+  const place = labelPlace(walk, length, labels), text = `${channel.number}${channel.name ? ` ${cut(channel.name, 10)}` : ''}`;
+  const label = svg('text', {class: 'number', x: place.x.toFixed(1), y: (place.y - 6).toFixed(1)}, text);
+  const value = valueBox({x: place.x, y: place.y + 6});
+  layers.marks.append(label, value);
+  drawn.channels.set(channel.number, {group, walk, length, value, token: null});
+}
+
+// A place for a number on a line where no other number is near.
+function labelPlace(walk, length, labels) {
+  const places = [0.5, 0.38, 0.62, 0.28, 0.72].map(part => onWalk(walk, length * part));
+  const isFree = place => !labels.some(other => Math.abs(other.x - place.x) < 14 && Math.abs(other.y - place.y) < 11);
+  const place = places.find(isFree) || places[places.length - 1];
+  labels.push(place);
+  return place;
+}
+
+// The box for a value, which is hidden where there is none.
+function valueBox(place) {
+  const box = svg('g', {class: 'value', transform: placed(place)});
+  box.append(svg('rect', {rx: 4, y: -7, height: 15}), svg('text', {y: 4}));
+  return box;
+}
+
+// A channel as two short pieces, each with the name of the other end.
+function drawStub(channel, pieces, layers) {
+  const group = svg('g', {class: 'channel', 'data-channel': channel.number});
+  const d = pieces.map(({x, y, dx, isOut}) => (isOut ? `M${x} ${y}h${dx}` : `M${x + dx} ${y}h${-dx}`)).join('');
+  group.append(svg('path', {class: 'hit', d}), svg('path', {class: 'line', d}), svg('title', {}, channelTitle(channel)));
+  for (const piece of pieces) {
+    const {x, y, dx, isOut} = piece;
+    group.append(dot(isOut ? 'active' : 'passive', piece));
+    const style = `stub ${isOut ? 'starts' : 'ends'}`, name = stubName(isOut ? channel.passive : channel.active, isOut);
+    group.append(svg('text', {class: style, x: x + dx * 1.2, y: y + 3}, name));
+    const isArrow = channel.kind === (isOut ? 'pull' : 'push');
+    if (isArrow) group.append(svg('path', {class: 'arrow', d: ARROW, transform: placed({x: x + dx / 1.8, y}, isOut ? 180 : 0)}));
+  }
+  layers.lines.append(group);
+  const {x, y, dx, isOut} = pieces[0], tip = {x: x + dx, y};
+  const value = valueBox({x: x + dx * 2.4, y}), walk = walkOf(isOut ? [pieces[0], tip] : [tip, pieces[0]]);
+  layers.marks.append(value);
+  drawn.channels.set(channel.number, {group, walk, length: walk[walk.length - 1].way, value, token: null});
+}
+
+// How the other end of a stub is called: a folded copy by its path, a variable by its name, what answers by its sign and number,
+// who asks by its number.
+function stubName(end, isAnswering) {
+  const component = net.components[end.component], steps = component.path.split('/');
+  const box = steps.map((step, i) => steps.slice(0, i + 1).join('/')).find(path => foldedNow().has(path));
+  if (box) return `▸${box}`;
+  if (!isAnswering) return String(component.number);
+  return isVariable(component) && component.detail ? cut(component.detail, 6) : signOf(component) + component.number;
+}
+
+// A component, a port of the host, or a copy that is folded.
+function nodeOf(node) {
+  if (node.component) return drawComponent(node);
+  if (node.port) return drawPort(node);
+  return drawBox(node);
+}
+
+function drawComponent({component, x, y, width, height, isCut}) {
+  const group = svg('g', {'data-component': component.number, transform: placed({x, y})}), sign = signOf(component);
+  const oval = (style, edge) => svg('rect', {class: style, x: -width / 2 - edge, y: -height / 2 - edge,
+    width: width + 2 * edge, height: height + 2 * edge, rx: RADIUS + edge});
+  group.append(oval('ring', 5), oval('body', 0));
+  group.append(svg('text', {class: sign.length > 3 ? 'sign small' : 'sign', y: sign.length > 3 ? 4 : 6}, sign));
+  if (isCut) group.append(svg('text', {class: 'more', y: height / 2 - 5}, '…'));
+  const caption = svg('text', {class: 'caption', y: height / 2 + 13}, `${component.number} ${cut(component.kind, 14)}`);
+  group.append(caption, svg('title', {}, componentTitle(component)));
+  drawn.components.set(component.number, {group, caption});
+  return group;
+}
+
+function drawPort({port, x, y, width, height}) {
+  const group = svg('g', {'data-channel': port.number, transform: placed({x, y})});
+  group.append(svg('rect', {x: -width / 2, y: -height / 2, width, height, rx: 3}), svg('text', {y: 4}, port.port));
+  group.append(svg('title', {}, channelTitle(port)));
+  drawn.ports.set(port.number, group);
+  return group;
+}
+
+function drawBox({box, x, y, width, height}) {
+  const group = svg('g', {class: 'folded', 'data-copy': box, transform: placed({x, y})});
+  const inside = net.shownComponents.filter(({path}) => path === box || path.startsWith(`${box}/`)).length;
+  for (const [style, shift] of [['behind', 4], ['front', 0]])
+    group.append(svg('rect', {class: style, x: -width / 2 + shift, y: -height / 2 - shift, width, height, rx: 6}));
+  group.append(svg('text', {y: -2}, `▸ ${box} ${cut(net.instances.get(box).name, 12)}`));
+  group.append(svg('text', {y: 13, class: 'caption'}, `${inside} component${inside === 1 ? '' : 's'}`));
+  drawn.boxes.set(box, group);
+  return group;
+}
+
+// ---- the state behind a line ----------------------------------------------------------------------------------------
+
+// Shows the current line in the picture. Only what changed between the line shown last and this one is looked at.
+function markPicture() {
+  const {line} = view, steps = Math.abs(line - drawn.line), isAll = drawn.line === 0 || steps > 64;
+  const channels = new Set(isAll ? drawn.channels.keys() : []), components = new Set(isAll ? drawn.components.keys() : []);
+  for (let at = Math.min(line, drawn.line) + (isAll ? steps : 0); !isAll && at <= Math.max(line, drawn.line); at++) {
+    if (trace.channel[at]) channels.add(trace.channel[at]);
+    if (trace.component[at]) components.add(trace.component[at]);
+  }
+  for (const number of isAll ? [] : channels) for (const end of [net.channels[number].active, net.channels[number].passive])
+    if (end && end !== 'host') components.add(end.component);
+  for (const number of channels) markChannel(number);
+  for (const number of components) markComponent(number);
+  markBoxes();
+  markPorts(isAll);
+  drawn.line = line;
+}
+
+// The marks of a channel: colour, dashes and token by its phase, and its value.
+function markChannel(number) {
+  const mark = drawn.channels.get(number);
+  if (!mark) return;
+  const change = lastChange(trace, number, view.line), phase = phaseAfter(trace, change), value = valueAfter(trace, change);
+  const isHere = trace.channel[view.line] === number, isSelected = view.selected === `k${number}`;
+  const style = `channel ${net.channels[number].kind} ${PHASES[phase]}`;
+  mark.group.setAttribute('class', style + (isHere ? ' here' : '') + (isSelected ? ' selected' : ''));
+  mark.value.setAttribute('class', value === '' ? 'value' : 'value on');
+  if (value !== '') {
+    const [box, text] = mark.value.children, width = 8 + 7 * cut(value, 9).length;
+    text.textContent = cut(value, 9);
+    box.setAttribute('x', -width / 2);
+    box.setAttribute('width', width);
+  }
+  if (mark.token) mark.token.remove();
+  mark.token = tokenOf(mark, phase);
+  if (mark.token) mark.group.append(mark.token);
+}
+
+// A token: where a request or a reply is on its way a triangle that points there, and where a request is held a square.
+function tokenOf({walk, length}, phase) {
+  if (phase === IDLE) return null;
+  if (phase === TAKEN) {
+    const {x, y} = onWalk(walk, length - 7);
+    return svg('rect', {class: 'token', x: -5, y: -5, width: 10, height: 10, transform: placed({x, y})});
+  }
+  const place = onWalk(walk, length * (phase === ASKED ? 0.74 : 0.26));
+  return svg('path', {class: 'token', d: 'M8 0L-6 -7L-6 7Z', transform: placed(place, phase === REPLIED ? 180 : 0)});
+}
+
+// The component that a line moves, or 0.
+const moverAt = line => (isMove(trace.what[line]) ? trace.component[line] : 0);
+
+// The marks of a component: filled where it holds a request that it took, ringed where it moved, red where requests meet; and
+// what a variable holds.
+function markComponent(number) {
+  const mark = drawn.components.get(number);
+  if (!mark) return;
+  const {line} = view, component = net.components[number];
+  const phases = component.passive.map(p => phaseAfter(trace, lastChange(trace, component.channels[p], line)));
+  const open = phases.filter(phase => phase !== IDLE).length;
+  const isClash = CALLS.has(component.kind) && open > 1 || trace.what[line] === CLASH && trace.component[line] === number;
+  const isSelected = view.selected === `c${number}`;
+  const styles = {busy: phases.includes(TAKEN), moved: moverAt(line) === number, selected: isSelected, clash: isClash};
+  mark.group.setAttribute('class', ['component', ...Object.keys(styles).filter(style => styles[style])].join(' '));
+  if (isVariable(component)) mark.caption.textContent = `${number} ${component.kind} = ${cut(heldBy(trace, component, line), 9)}`;
+}
+
+// A folded copy is ringed where something in it moved.
+function markBoxes() {
+  const mover = moverAt(view.line), path = mover ? `${net.components[mover].path}/` : '';
+  for (const [box, group] of drawn.boxes) group.setAttribute('class', path.startsWith(`${box}/`) ? 'folded moved' : 'folded');
+}
+
+// Whether a host was told no.
+const isRefused = line => trace.what[line] === TOLD && / (busy|not-yet|not-taken)/.test(lineText(trace, line));
+
+// A port is ringed where the host moved there, and dashed red where it was told no.
+function markPorts(isAll) {
+  const {line} = view, here = trace.component[line] ? 0 : trace.channel[line];
+  for (const number of isAll ? drawn.ports.keys() : [drawn.here, here]) {
+    const group = drawn.ports.get(number);
+    if (!group) continue;
+    const style = number !== here ? '' : isRefused(line) ? ' refused' : ' moved';
+    group.setAttribute('class', `port${style}${view.selected === `k${number}` ? ' selected' : ''}`);
+  }
+  drawn.here = here;
+  $('svg').classList.toggle('resting', trace.what[line] === REST);
+}
+
+// Marks anew what was selected and what is selected now.
+function markSelection(before) {
+  for (const selected of [before, view.selected]) if (selected) {
+    if (selected[0] === 'c') markComponent(numberOf(selected));
+    else markChannel(numberOf(selected));
+  }
+  markPorts(true);
+}
+
+// ---- how much of the picture is seen --------------------------------------------------------------------------------
+
+const NEAR_SCALE = 1.5, FAR_SCALE = 0.55, FARTHEST_SCALE = 0.28;
+
+// How large the panels are. (Asked at each step, the browser would have to lay out the page each time.)
+const sizes = {};
+function measure() {
+  for (const id of ['svg', 'journal', 'chart', 'strip']) sizes[id] = $(id).getBoundingClientRect();
+}
+
+// Sets the part of the picture that is seen. From afar the small text is left out; names of ports are drawn when one is near.
+function setBox(box) {
+  view.box = box;
+  const scale = Math.min(sizes.svg.width / box.width, sizes.svg.height / box.height);
+  $('svg').setAttribute('viewBox', `${box.x} ${box.y} ${box.width} ${box.height}`);
+  if (scale > NEAR_SCALE) namePortsOfPicture();
+  $('svg').classList.toggle('far', scale < FAR_SCALE);
+  $('svg').classList.toggle('farthest', scale < FARTHEST_SCALE);
+  $('svg').classList.toggle('near', scale > NEAR_SCALE);
+}
+
+// Draws the names of ports, once. That of a port which is alone on its side would say nothing.
+function namePortsOfPicture() {
+  if (view.picture.isNamed) return;
+  view.picture.isNamed = true;
+  for (const {component, tips, inPorts, outPorts} of view.picture.nodes) if (component) {
+    const names = svg('g', {class: 'names'});
+    const sides = [[inPorts, -6, 'ends'], [outPorts, 6, 'starts']].filter(([ports]) => ports.length > 1);
+    for (const [ports, dx, style] of sides) for (const port of ports) {
+      const {x, y} = tips.get(port);
+      names.append(svg('text', {x: x + dx, y: y - 6, class: style}, component.ports[port].name));
+    }
+    drawn.components.get(component.number).group.append(names);
+  }
+}
+
+// The whole picture, but not more than 2.2 times as large as it is.
+function fit() {
+  const {picture} = view, {svg: place} = sizes;
+  const width = Math.max(picture.width, place.width / 2.2, 1), height = Math.max(picture.height, place.height / 2.2, 1);
+  setBox({x: (picture.width - width) / 2, y: (picture.height - height) / 2, width, height});
+}
+
+// How much of the picture a pixel of the screen is, and the point of the picture under a point of the screen.
+const pixel = (place, box) => Math.max(box.width / place.width, box.height / place.height);
+function pointAt(clientX, clientY) {
+  const {box} = view, place = $('svg').getBoundingClientRect(), size = pixel(place, box);
+  return {x: box.x + box.width / 2 + (clientX - place.left - place.width / 2) * size,
+    y: box.y + box.height / 2 + (clientY - place.top - place.height / 2) * size};
+}
+
+// Nearer or farther, around a point of the picture, or else the middle.
+function zoom(factor, point) {
+  const {x, y, width, height} = view.box, {x: px, y: py} = point || {x: x + width / 2, y: y + height / 2};
+  setBox({x: px - (px - x) * factor, y: py - (py - y) * factor, width: width * factor, height: height * factor});
+}
+
+// Moves the picture so that what moves is in sight.
+function follow() {
+  const mover = moverAt(view.line);
+  if (!mover) return;
+  const path = `${net.components[mover].path}/`, {box} = view;
+  const isMover = node => (node.component ? node.component.number === mover : node.box && path.startsWith(`${node.box}/`));
+  const node = view.picture.nodes.find(isMover);
+  const isIn = (at, from, size) => at > from + 0.08 * size && at < from + 0.92 * size;
+  if (!node || isIn(node.x, box.x, box.width) && isIn(node.y, box.y, box.height)) return;
+  setBox({...box, x: node.x - box.width / 2, y: node.y - box.height / 2});
+}
+// ---- the journal: of the lines of the trace those around the current one --------------------------------------------
+
+const ROW_HEIGHT = 18;
+
+// A row with a line's number; a click goes there.
+function lineRow(line, text, style) {
+  const row = html('div', `row${style}`);
+  row.append(html('span', 'line', String(line)), html('span', '', text));
+  row.dataset.line = line;
+  return row;
+}
+
+// How a line looks in the journal and in the chart.
+function lineStyle(line) {
+  const what = trace.what[line], isHost = !trace.component[line] && trace.channel[line] > 0;
+  return (line === view.line ? ' now' : '') + (what === REST ? ' rest' : '') + (isHost ? ' host' : '')
+    + (what === CLASH || isRefused(line) ? ' bad' : '');
+}
+
+// Of so many rows around the current line the first.
+const firstRow = (rows, least) => Math.max(least, Math.min(view.line - (rows >> 1), trace.count - rows + 1));
+
+function showJournal() {
+  const rows = Math.max(5, Math.floor(sizes.journal.height / ROW_HEIGHT)), first = firstRow(rows, 1), shown = [];
+  for (let line = first; line < first + rows && line <= trace.count; line++)
+    shown.push(lineRow(line, lineText(trace, line), lineStyle(line) + (isOfSelected(line) ? ' mine' : '')));
+  $('journal').replaceChildren(...shown);
+}
+
+// Whether a line moves what is selected, or moves something on a channel of it.
+function isOfSelected(line) {
+  if (!view.selected) return false;
+  const number = numberOf(view.selected), channel = trace.channel[line];
+  if (view.selected[0] === 'k') return channel === number;
+  return trace.component[line] === number || channel > 0 && net.components[number].channels.includes(channel, 1);
+}
+
+// ---- what is selected, with its history -----------------------------------------------------------------------------
+
+const MOST_PORTS = 40, BEFORE = 6, HISTORY = 12;
+
+// The rising lines of what is selected, and their key.
+const selectedLines = () => [view.selected[0] === 'c' ? trace.linesOfComponent : trace.linesOfChannel, numberOf(view.selected)];
+
+function showDetails() {
+  const {selected} = view;
+  document.body.classList.toggle('chosen', selected !== null);
+  if (!selected) return $('details').replaceChildren(...endDetails());
+  const shown = selected[0] === 'c' ? componentDetails(numberOf(selected)) : channelDetails(numberOf(selected));
+  return $('details').replaceChildren(...shown, eventButtons(), history());
+}
+
+// Nothing is selected: at the end who waits for whom.
+function endDetails() {
+  const shown = [html('div', 'hint', 'Click a component or a channel to see its history.')];
+  let last = trace.count;
+  while (last > 1 && trace.what[last] >= REST) last--;
+  if (net.end.length === 0 || view.line < last) return shown;
+  shown.push(html('div', 'title end', 'Who waits for whom at the end'));
+  for (const line of net.end) {
+    const names = /^(?:wait|or|ended) \S+ (\d+)/.exec(line), isCycle = /^(circle|cycle)/.test(line);
+    const row = html('div', isCycle ? 'wait cycle' : 'wait', line.replace(/ +/g, ' '));
+    if (names && net.components[Number(names[1])]) row.dataset.select = `c${names[1]}`;
+    shown.push(row);
+  }
+  return shown;
+}
+
+// The phase of a channel and its value, in words.
+function phaseText(number) {
+  const change = lastChange(trace, number, view.line), value = valueAfter(trace, change);
+  return {change, phase: PHASES[phaseAfter(trace, change)], text: PHASES[phaseAfter(trace, change)] + (value ? ` ${value}` : '')};
+}
+
+function componentDetails(number) {
+  const component = net.components[number], more = component.channels.length - 1 - MOST_PORTS;
+  const shown = [html('div', 'title', component.title), html('div', 'under', placeOf(component))];
+  if (isVariable(component)) shown.push(html('div', 'under', `holds ${heldBy(trace, component, view.line)}`));
+  const ports = html('div', 'ports');
+  for (let p = 1; p < component.channels.length && p <= MOST_PORTS; p++) ports.append(portRow(component, p));
+  shown.push(ports);
+  if (more > 0) shown.push(html('div', 'under', `and ${more} more port${more === 1 ? '' : 's'}`));
+  const callers = callersOf(net, trace, component, view.line).slice(1);
+  const nameOf = caller => (typeof caller === 'number' ? componentName(net.components[caller]) : `the host at ${caller}`);
+  const names = callers.map(nameOf);
+  if (names.length) shown.push(callerRow(callers, names));
+  return shown;
+}
+
+// Who called it, up to the host. A click selects the nearest caller.
+function callerRow(callers, names) {
+  const row = html('div', 'under callers', `called by ${names.join(' ‹ ')}`);
+  if (typeof callers[0] === 'number') row.dataset.select = `c${callers[0]}`;
+  return row;
+}
+
+// A port of a component: its end, its name, its channel and what is on it. A click selects the channel.
+function portRow(component, p) {
+  const {isPassive, name} = component.ports[p] || {isPassive: false, name: `port ${p}`}, number = component.channels[p];
+  const {phase, text} = phaseText(number), row = html('div', `port ${phase}`), channel = net.channels[number];
+  row.append(html('span', `end ${isPassive ? 'passive' : 'active'}`), html('span', '', name));
+  row.append(html('span', 'channel', channelName(channel)), html('span', 'phase', text));
+  row.dataset.select = `k${number}`;
+  return row;
+}
+
+function channelDetails(number) {
+  const channel = net.channels[number], port = channel.port ? `, port ${channel.port}` : '';
+  const {change, phase, text} = phaseText(number);
+  const ports = html('div', 'ports'), row = html('div', `port ${phase}`);
+  row.append(html('span', 'phase', text + (change ? `, since line ${change}` : '')));
+  ports.append(row);
+  const title = `${channelName(channel)} ${kindOf(channel)}${port}`;
+  return [html('div', 'title', title), html('div', 'under', endsOf(channel)), html('div', 'under', placeOf(channel)), ports];
+}
+
+// Buttons to the last and the next line of what is selected, and how many there are.
+function eventButtons() {
+  const [lines, key] = selectedLines(), row = html('div', 'events');
+  for (const [text, direction] of [['◂ last event', -1], ['next event ▸', 1]]) {
+    const button = html('button', '', text), line = eventLine(direction);
+    button.title = direction > 0 ? ']' : '[';
+    button.disabled = !line;
+    button.onclick = () => go(line);
+    row.append(button);
+  }
+  row.append(html('span', 'under', `${countTo(lines, key, view.line)} of ${countOf(lines, key)}`));
+  return row;
+}
+
+// The lines of what is selected that are around the current one.
+function history() {
+  const [lines, key] = selectedLines(), list = html('div', 'history');
+  const first = Math.max(0, countTo(lines, key, view.line) - BEFORE);
+  for (let i = first; i < Math.min(countOf(lines, key), first + HISTORY); i++) {
+    const line = nthOf(lines, key, i), text = tell(line);
+    const style = line === view.line ? ' now' : line > view.line ? ' later' : '';
+    const own = view.selected[0] === 'c' ? componentName(net.components[key]) : '';
+    const row = lineRow(line, own && text.startsWith(`${own} `) ? text.slice(own.length + 1) : text, style);
+    row.title = text;
+    list.append(row);
+  }
+  return list;
+}
+
+// The next or last line of what is selected, or of the hosts where nothing is; 0 where there is none.
+function eventLine(direction) {
+  const {hostLines} = trace, ofHosts = [{first: [0, hostLines.length], list: hostLines}, 0];
+  const [lines, key] = view.selected ? selectedLines() : ofHosts;
+  const seen = countTo(lines, key, view.line), isHere = nthOf(lines, key, seen - 1) === view.line;
+  return nthOf(lines, key, direction > 0 ? seen : seen - (isHere ? 2 : 1));
+}
+
+// ---- the strip above the scrubber: hosts, rests, clashes, the events of what is selected, what the search found -----
+
+const STRIP_HEIGHT = 22;
+const strip = {key: ''};
+const clashLines = [...found.met.values()].sort((a, b) => a - b);
+
+function showStrip() {
+  const canvas = $('strip'), width = Math.round(sizes.strip.width), ratio = window.devicePixelRatio || 1;
+  const {theme} = document.documentElement.dataset;
+  const key = [width, ratio, view.selected, search.text, theme].join();
+  if (!width || strip.key === key) return;
+  strip.key = key;
+  canvas.width = width * ratio;
+  canvas.height = STRIP_HEIGHT * ratio;
+  const pen = canvas.getContext('2d'), colours = getComputedStyle(document.documentElement);
+  pen.scale(ratio, ratio);
+  const marks = (lines, from, to, top, bottom, colour) => {
+    pen.fillStyle = colours.getPropertyValue(colour).trim();
+    for (let i = from, last = -1; i < to; i++) {
+      const x = trace.count < 2 ? 0 : Math.round((lines[i] - 1) / (trace.count - 1) * (width - 1));
+      if (x !== last) pen.fillRect(x, top, 1.5, bottom - top);
+      last = x;
+    }
+  };
+  marks(trace.rests, 0, trace.rests.length, 0, STRIP_HEIGHT, '--rest');
+  marks(trace.hostLines, 0, trace.hostLines.length, 0, 8, '--ink');
+  marks(clashLines, 0, clashLines.length, 0, STRIP_HEIGHT, '--clash');
+  if (view.selected) {
+    const [lines, number] = selectedLines();
+    marks(lines.list, lines.first[number], lines.first[number + 1], 9, 15, '--selected');
+  }
+  if (search.hits) marks(search.hits, 0, search.hits.length, 16, STRIP_HEIGHT, '--found');
+}
+
+// ---- search ---------------------------------------------------------------------------------------------------------
+
+const MOST_HITS = 200000, MOST_NAMES = 12;
+const search = {text: '', hits: null, timer: 0};
+
+// Finds the lines that hold a text, and components, channels and ports by what they are called.
+function find(text) {
+  Object.assign(search, {text, hits: text === '' ? null : linesWith(text)});
+  $('count').textContent = text === '' ? '' : `${search.hits.length}${search.hits.length === MOST_HITS ? '+' : ''} lines`;
+  $('found').replaceChildren(...(text === '' ? [] : namesWith(text.toLowerCase()).map(([select, name]) => {
+    const row = html('div', 'name', name);
+    row.dataset.select = select;
+    return row;
+  })));
+  showStrip();
+}
+
+// The lines that hold a text, rising.
+function linesWith(text) {
+  const hits = [];
+  for (let at = trace.text.indexOf(text); at >= 0 && hits.length < MOST_HITS;) {
+    const line = countIn(trace.start, 1, trace.count + 1, at);
+    hits.push(line);
+    if (line === trace.count) break;
+    at = trace.text.indexOf(text, trace.start[line + 1]);
+  }
+  return hits;
+}
+
+// What is called so: by number, kind, name, copy, or place in the source.
+function namesWith(text) {
+  const names = [], holds = words => words.some(word => word && word.toLowerCase().includes(text));
+  const number = /^(?:ch|channel|k) ?(\d+)$/.exec(text);
+  if (number && net.channels[Number(number[1])]) names.push([`k${number[1]}`, channelName(net.channels[Number(number[1])])]);
+  for (const port of net.ports) if (port && names.length < MOST_NAMES && holds([port.name]))
+    names.push([`k${port.number}`, `port ${port.name}`]);
+  const most = names.length + MOST_NAMES;
+  for (const component of all.components) {
+    if (names.length >= most) break;
+    const {title, path, source} = component, part = path ? net.instances.get(path).name : '';
+    const told = [path && ` in ${path} ${part}`, source && ` (${source})`].filter(it => it).join('');
+    if (holds([title, source, path && `${path} ${part}`])) names.push([`c${component.number}`, title + told]);
+  }
+  for (const channel of all.channels) {
+    if (names.length >= most + MOST_NAMES) break;
+    const {name, source} = channel;
+    if (holds([name, source])) names.push([`k${channel.number}`, channelName(channel) + (source ? ` (${source})` : '')]);
+  }
+  return names;
+}
+
+// Goes to the next or last line found, and from the ends to the other end.
+function goToHit(direction) {
+  const {hits} = search;
+  if (!hits || hits.length === 0) return;
+  const seen = countIn(hits, 0, hits.length, view.line), isHere = hits[seen - 1] === view.line;
+  go(direction > 0 ? hits[seen] || hits[0] : hits[seen - (isHere ? 2 : 1)] || hits[hits.length - 1]);
+}
+
+// ---- the chart around the current line, as `chart` draws it ---------------------------------------------------------
+
+const CHART = {row: 15, left: 178, top: 34, widest: 110, named: 58, least: 24, label: 40};
+
+// What the chart shows: its lines, and its lifelines from left to right. Where too many take part, fewer lines are shown.
+function chartPlan(width, height) {
+  let rows = Math.max(9, Math.floor((height - CHART.top - 16) / CHART.row));
+  for (;; rows -= 2) {
+    const first = firstRow(rows, 2), last = Math.min(trace.count, first + rows - 1), keys = new Set();
+    for (let line = first; line <= last; line++) {
+      const channel = net.channels[trace.channel[line]];
+      if (channel) for (const end of [channel.active, channel.passive]) if (end) keys.add(lifelineOf(channel, end));
+    }
+    const room = (width - CHART.left - 12) / Math.max(1, keys.size);
+    if (room < CHART.least && rows > 9) continue;
+    const column = Math.max(CHART.least, Math.min(CHART.widest, room)), order = [...keys].sort((a, b) => rankOf(a) - rankOf(b));
+    const places = new Map(order.map((key, i) => [key, CHART.left + column * (i + 0.5)]));
+    const y = line => CHART.top + CHART.row * (Math.max(first - 0.7, Math.min(last + 0.9, line)) - first + 0.5);
+    return {first, last, column, places, y, width: CHART.left + column * order.length + 10, height: y(last) + CHART.row};
+  }
+}
+
+// A lifeline: `c5` of a component, `p2` of a port of the host. Ports where the host calls stand at the left, others at the right.
+const lifelineOf = (channel, end) => (end === 'host' ? `p${channel.number}` : `c${end.component}`);
+function rankOf(lifeline) {
+  const number = numberOf(lifeline);
+  if (lifeline[0] === 'c') return 1e6 + number;
+  return net.channels[number].isHostCaller ? number : 1e12 + number;
+}
+
+function showChart() {
+  const plan = chartPlan(Math.floor(sizes.chart.width), Math.floor(sizes.chart.height));
+  const picture = svg('svg', {width: plan.width, height: plan.height});
+  picture.append(...chartRows(plan), ...chartHeads(plan));
+  const bars = svg('g'), strokes = [];
+  for (const number of chartChannels(plan)) chartChannel(plan, net.channels[number], bars, strokes);
+  picture.append(bars, drawStrokes(plan, strokes));
+  $('chart').replaceChildren(picture);
+}
+
+// The lines with their texts.
+function chartRows({first, last, y, width}) {
+  const rows = [];
+  for (let line = first; line <= last; line++) {
+    const row = svg('g', {class: `row${lineStyle(line)}`, 'data-line': line});
+    row.append(svg('rect', {x: 0, y: y(line) - CHART.row / 2, width, height: CHART.row}));
+    row.append(svg('text', {x: 36, y: y(line) + 4, class: 'line'}, String(line)));
+    row.append(svg('text', {x: 44, y: y(line) + 4}, cut(lineText(trace, line), 22)));
+    rows.push(row);
+  }
+  return rows;
+}
+
+// The lifelines with their names; where there is little room the numbers stand by turns higher and lower, without kinds.
+function chartHeads({last, column, places, y}) {
+  const heads = [];
+  [...places].forEach(([key, x], i) => {
+    const number = numberOf(key), component = key[0] === 'c' ? net.components[number] : null, isNarrow = column < CHART.named;
+    heads.push(svg('line', {class: 'lifeline', x1: x, x2: x, y1: CHART.top - 4, y2: y(last) + CHART.row / 2}));
+    const head = svg('g', {class: 'head', 'data-select': component ? key : `k${number}`});
+    const name = component ? String(number) : cut(net.channels[number].port, isNarrow ? 6 : 14);
+    head.append(svg('text', {x, y: isNarrow && i % 2 ? 24 : 12}, name));
+    const room = Math.floor(column / 5.6);
+    if (component && !isNarrow) head.append(svg('text', {class: 'kind', x, y: 24}, cut(headOf(component), room)));
+    head.append(svg('title', {}, component ? componentTitle(component) : channelTitle(net.channels[number])));
+    heads.push(head);
+  });
+  return heads;
+}
+
+// What a head tells of a component beside its number.
+function headOf(component) {
+  const isTelling = isVariable(component) || component.kind.startsWith('Binary');
+  return isTelling && component.detail ? component.detail : component.kind;
+}
+
+// The channels that may have something to show: those of the lines, and those by which a component of the chart was called.
+function chartChannels({first, last, places}) {
+  const channels = new Set();
+  for (let line = first; line <= last; line++) if (trace.channel[line]) channels.add(trace.channel[line]);
+  for (const key of places.keys()) if (key[0] === 'c') {
+    const component = net.components[numberOf(key)];
+    for (const p of component.passive) channels.add(component.channels[p]);
+  }
+  return channels;
+}
+
+// Of one channel: a bar while a request is held, and strokes from ask to take and from reply to got.
+function chartChannel({first, last, places, y}, channel, bars, strokes) {
+  const lines = trace.changesOf, key = channel.number;
+  const [active, passive] = [channel.active, channel.passive].map(end => end && places.get(lifelineOf(channel, end)));
+  for (let i = Math.max(0, countTo(lines, key, first - 1) - 1), line; (line = nthOf(lines, key, i)) && line <= last; i++) {
+    const next = nthOf(lines, key, i + 1) || Infinity, what = trace.what[line];
+    if (next < first) continue;
+    if (what === TAKE && passive) {
+      const height = Math.max(2, y(next) - y(line));
+      bars.append(svg('rect', {class: 'bar', x: passive - 4, width: 8, y: y(line), height}));
+    }
+    if ((what === ASK || what === REPLY) && active && passive) {
+      const isAsk = what === ASK, isThick = channel.kind === (isAsk ? 'push' : 'pull');
+      strokes.push({channel, line, next, isAsk, isThick, from: isAsk ? active : passive, to: isAsk ? passive : active});
+    }
+  }
+}
+
+// The strokes. Where several wait beside one lifeline, each has a lane.
+function drawStrokes({first, last, y, column}, strokes) {
+  const group = svg('g'), lanes = new Map();
+  for (const {channel, line, next, isAsk, isThick, from, to} of strokes.sort((a, b) => a.line - b.line)) {
+    const sign = Math.sign(to - from) || 1, key = `${to} ${sign}`, isOpen = next > last;
+    const isSelected = view.selected === `k${channel.number}`;
+    if (!lanes.has(key)) lanes.set(key, []);
+    const busy = lanes.get(key), free = busy.findIndex(until => until <= line), lane = free < 0 ? busy.length : free;
+    busy[lane] = next;
+    const wait = to - sign * (7 + Math.min(5, column / 12) * lane);
+    const style = (isAsk ? 'asks' : 'replies') + (isThick ? ` ${channel.kind}` : '');
+    const stroke = svg('g', {class: `stroke ${style}${isSelected ? ' selected' : ''}`, 'data-select': `k${channel.number}`});
+    const way = `M${from + sign * 4} ${y(line)}L${wait} ${y(line)}L${wait} ${y(next)}`;
+    stroke.append(svg('path', {d: isOpen ? way : `${way}L${to - sign * 4} ${y(next)}`}));
+    if (!isOpen) stroke.append(svg('path', {class: 'tip', d: `M${to - sign * 3} ${y(next)}l${-sign * 7} -3.5l0 7z`}));
+    const isTold = line >= first && (column >= CHART.label || isSelected || line === view.line), value = valueAfter(trace, line);
+    if (isTold) {
+      const text = channel.number + (value ? ` = ${cut(value, 9)}` : '');
+      stroke.append(svg('text', {x: from + sign * 8, y: y(line) - 2, class: sign > 0 ? 'starts' : 'ends'}, text));
+    }
+    group.append(stroke);
+  }
+  return group;
+}
+// ---- what the reader does -------------------------------------------------------------------------------------------
+
+// Shows the current line in all panels.
+function show() {
+  if (view.isFocused && Math.abs(view.line - view.focusLine) > REFOCUS) {
+    draw();
+    fit();
+  }
+  markPicture();
+  if (view.isFollowing) follow();
+  $('says').textContent = tell(view.line);
+  $('position').textContent = `line ${view.line} of ${trace.count}`;
+  $('scrubber').value = view.line;
+  showJournal();
+  showDetails();
+  showStrip();
+  if (view.isCharted) showChart();
+  writeLink();
+}
+
+// Goes to a line, or to the nearest that there is.
+function go(line) {
+  const wanted = Math.max(1, Math.min(trace.count, Math.trunc(line) || 1));
+  if (wanted === view.line) return;
+  view.line = wanted;
+  show();
+}
+const step = lines => go(view.line + lines);
+const goTo = line => { if (line) go(line); };
+
+// Selects a component, a channel, or nothing.
+function select(selected) {
+  const before = view.selected;
+  view.selected = selected;
+  markSelection(before);
+  show();
+}
+
+// Draws anew, and shows all of it.
+function redraw() {
+  draw();
+  fit();
+  show();
+}
+
+function fold(path) {
+  const folded = foldedNow();
+  if (!folded.delete(path)) folded.add(path);
+  redraw();
+}
+
+function setFocus(isFocused) {
+  view.isFocused = isFocused;
+  $('focus').classList.toggle('on', isFocused);
+  redraw();
+}
+
+function setStubs(isStubbed) {
+  view.isStubbed = isStubbed;
+  redraw();
+}
+
+function setFollow(isFollowing) {
+  view.isFollowing = isFollowing;
+  $('follow').classList.toggle('on', isFollowing);
+  show();
+}
+
+function setChart(isCharted) {
+  view.isCharted = isCharted;
+  document.body.classList.toggle('charted', isCharted);
+  $('charting').classList.toggle('on', isCharted);
+  measure();
+  fit();
+  show();
+}
+
+function setTheme(theme) {
+  document.documentElement.dataset.theme = theme;
+  showStrip();
+}
+
+// Light where it is dark, and dark where it is light.
+function otherTheme() {
+  const isDark = window.matchMedia('(prefers-color-scheme: dark)').matches;
+  const now = document.documentElement.dataset.theme || (isDark ? 'dark' : 'light');
+  setTheme(now === 'dark' ? 'light' : 'dark');
+}
+
+const toggleHelp = isShown => $('help').classList.toggle('on', isShown);
+
+// Leaves the help, or else what is selected.
+function escape() {
+  if ($('help').classList.contains('on')) toggleHelp(false);
+  else select(null);
+}
+
+// ---- play: 1 to 1,000 lines a second, at most 50 pictures -----------------------------------------------------------
+
+const SPEEDS = [1, 2, 5, 10, 25, 100, 1000], PICTURES = 50;
+const player = {timer: 0, speed: 3};
+
+function play(isPlaying) {
+  clearInterval(player.timer);
+  const speed = SPEEDS[player.speed], lines = Math.max(1, Math.round(speed / PICTURES));
+  const next = () => {
+    step(lines);
+    if (view.line >= trace.count) play(false);
+  };
+  player.timer = isPlaying && view.line < trace.count ? setInterval(next, 1000 * lines / speed) : 0;
+  // (what is read aloud would come too late)
+  $('says').setAttribute('aria-live', player.timer ? 'off' : 'polite');
+  $('play').textContent = player.timer ? 'pause' : 'play';
+  $('speed').textContent = `${speed}/s`;
+}
+const togglePlay = () => play(!player.timer);
+
+function changeSpeed(by) {
+  player.speed = Math.max(0, Math.min(SPEEDS.length - 1, player.speed + by));
+  play(Boolean(player.timer));
+}
+
+// ---- links to a moment: `#line=120&at=c7` ---------------------------------------------------------------------------
+
+const link = {timer: 0};
+
+// Writes what is seen into the address, without a step in the browser's history.
+function writeLink() {
+  const parts = [`line=${view.line}`];
+  if (view.selected) parts.push(`at=${view.selected}`);
+  if (view.isCharted) parts.push('view=chart');
+  if (view.isFocused !== isLarge) parts.push(`focus=${Number(view.isFocused)}`);
+  const hash = `#${parts.join('&')}`;
+  clearTimeout(link.timer);
+  link.timer = setTimeout(() => {
+    if (window.location.hash !== hash) window.history.replaceState(null, '', hash);
+  }, 120);
+}
+
+// Whether there is a component or channel of this name.
+const thatIs = selected => (selected[0] === 'c' ? net.components : net.channels)[numberOf(selected)];
+const isThere = selected => /^[ck][0-9]+$/.test(selected) && Boolean(thatIs(selected));
+
+// Shows what an address says.
+function readLink(address) {
+  const said = new URLSearchParams(new URL(address).hash.slice(1)), at = said.get('at');
+  view.line = Math.max(1, Math.min(trace.count, Math.trunc(Number(said.get('line'))) || 1));
+  view.selected = at && isThere(at) ? at : null;
+  view.isFocused = said.has('focus') ? said.get('focus') === '1' : isLarge;
+  if (said.has('stubs')) view.isStubbed = said.get('stubs') === '1';
+  if (said.has('fold')) Object.assign(view, {folded: foldedBy(said), foldedInFocus: foldedBy(said)});
+  if (said.has('theme')) setTheme(said.get('theme') === 'dark' ? 'dark' : 'light');
+  if (said.has('find')) {
+    $('search').value = said.get('find');
+    find(said.get('find'));
+  }
+  $('focus').classList.toggle('on', view.isFocused);
+  draw();
+  setChart(said.get('view') === 'chart');
+}
+const foldedBy = said => new Set(said.get('fold').split(',').filter(path => net.instances.has(path)));
+
+// ---- keys and the mouse ---------------------------------------------------------------------------------------------
+
+const lastBefore = lines => lines[countIn(lines, 0, lines.length, view.line - 1) - 1];
+const firstAfter = lines => lines[countIn(lines, 0, lines.length, view.line)];
+
+const KEYS = {
+  ArrowRight: event => step(event.shiftKey ? 10 : 1), ArrowLeft: event => step(event.shiftKey ? -10 : -1),
+  l: () => step(1), h: () => step(-1), PageDown: () => step(100), PageUp: () => step(-100),
+  Home: () => go(1), End: () => go(trace.count), ' ': togglePlay, '>': () => changeSpeed(1), '<': () => changeSpeed(-1),
+  ']': () => goTo(eventLine(1)), '[': () => goTo(eventLine(-1)),
+  r: () => goTo(firstAfter(trace.rests)), R: () => goTo(lastBefore(trace.rests)),
+  x: () => goTo(firstAfter(clashLines) || clashLines[0]),
+  n: () => goToHit(1), N: () => goToHit(-1), '/': () => $('search').focus(), g: () => $('line').focus(),
+  '+': () => zoom(0.8), '-': () => zoom(1.25), f: fit, w: () => setFollow(!view.isFollowing),
+  o: () => setFocus(!view.isFocused), s: () => setStubs(!isStubbedNow()), c: () => setChart(!view.isCharted), d: otherTheme,
+  '?': () => toggleHelp(), Escape: escape,
+};
+
+// A key in a field that is typed in.
+function typed(event) {
+  const field = event.target;
+  if (event.key === 'Escape') field.blur();
+  if (event.key !== 'Enter') return;
+  event.preventDefault();
+  if (field.id === 'search') {
+    if (search.text !== field.value) find(field.value);
+    goToHit(event.shiftKey ? -1 : 1);
+  } else {
+    go(Number(field.value));
+    field.blur();
+  }
+}
+
+function pressed(event) {
+  if (event.ctrlKey || event.metaKey || event.altKey) return;
+  if (event.target.tagName === 'INPUT' && event.target.type !== 'range') typed(event);
+  else if (Object.hasOwn(KEYS, event.key)) {
+    event.preventDefault();
+    KEYS[event.key](event);
+  }
+}
+
+// Goes to or selects what was clicked. Answers whether there was anything.
+function clicked(event) {
+  const target = event.target.closest('[data-line],[data-select],[data-component],[data-channel],[data-copy]');
+  if (!target) return false;
+  const {line, select: selected, component, channel, copy} = target.dataset;
+  if (line) go(Number(line));
+  else if (selected) select(selected);
+  else if (component) select(`c${component}`);
+  else if (channel) select(`k${channel}`);
+  else fold(copy);
+  return true;
+}
+
+const drag = {from: null, box: null, isFar: false};
+
+function dragFrom(event) {
+  Object.assign(drag, {from: {x: event.clientX, y: event.clientY}, box: {...view.box}, isFar: false});
+}
+
+function dragTo(event) {
+  if (!drag.from) return;
+  const dx = event.clientX - drag.from.x, dy = event.clientY - drag.from.y;
+  if (Math.abs(dx) + Math.abs(dy) > 4) drag.isFar = true;
+  if (!drag.isFar) return;
+  const size = pixel($('svg').getBoundingClientRect(), drag.box);
+  setBox({...drag.box, x: drag.box.x - dx * size, y: drag.box.y - dy * size});
+}
+
+// Ends a drag. Where nothing was dragged it is a click, and one beside everything selects nothing.
+function dragEnd(event) {
+  const isClick = drag.from && !drag.isFar && $('svg').contains(event.target);
+  drag.from = null;
+  if (isClick && !clicked(event)) select(null);
+}
+
+function listen() {
+  document.addEventListener('keydown', pressed);
+  for (const id of ['journal', 'details', 'chart', 'found']) $(id).addEventListener('click', clicked);
+  // (what is found is shown for as long as the field has the focus)
+  $('found').addEventListener('mousedown', event => event.preventDefault());
+  $('svg').addEventListener('pointerdown', dragFrom);
+  window.addEventListener('pointermove', dragTo);
+  window.addEventListener('pointerup', dragEnd);
+  window.addEventListener('pointercancel', () => { drag.from = null; });
+  const onWheel = (id, turn) => $(id).addEventListener('wheel', event => {
+    event.preventDefault();
+    turn(event);
+  }, {passive: false});
+  onWheel('svg', event => zoom(Math.exp(event.deltaY * 0.0015), pointAt(event.clientX, event.clientY)));
+  onWheel('journal', event => step(Math.sign(event.deltaY) * 3));
+  $('scrubber').addEventListener('input', event => {
+    play(false);
+    go(Number(event.target.value));
+  });
+  $('search').addEventListener('input', event => {
+    clearTimeout(search.timer);
+    search.timer = setTimeout(() => find(event.target.value), trace.count > 100000 ? 200 : 30);
+  });
+  const buttons = {first: KEYS.Home, back: () => step(-1), play: togglePlay, forward: () => step(1), last: KEYS.End,
+    slower: KEYS['<'], faster: KEYS['>'], charting: KEYS.c, focus: KEYS.o, fit, follow: KEYS.w, theme: otherTheme,
+    ask: () => toggleHelp(true), close: () => toggleHelp(false)};
+  for (const [id, act] of Object.entries(buttons)) $(id).onclick = () => {
+    act();
+    $(id).blur();
+  };
+  window.addEventListener('hashchange', event => readLink(event.newURL));
+  const observer = new ResizeObserver(() => {
+    measure();
+    showJournal();
+    showStrip();
+  });
+  for (const id of ['svg', 'journal', 'strip']) observer.observe($(id));
+  window.addEventListener('resize', () => {
+    measure();
+    fit();
+    show();
+  });
+}
+
+// ---- the opening ----------------------------------------------------------------------------------------------------
+
+const isLarge = all.components.length > MANY;
+
+// What the page is of, and whether its trace agrees with itself.
+function showFoot() {
+  const hostMoves = trace.hostLines.filter(line => isMove(trace.what[line])).length, {moves, values, told, met, bad} = found;
+  const counts = [`${all.components.length} components, ${all.channels.length} channels`, `${moves - hostMoves} firings`,
+    `${trace.hostLines.length} host lines`, `${trace.rests.length} rests`].join('; ');
+  const audited = `${moves} moves by the four-move table, ${values} values handed over, ${told} phases told, ${met.size} clashes`;
+  $('foot').textContent = bad ? `THIS PAGE IS DAMAGED: line ${bad} is none of a run`
+    : `${counts}. Looked at again on opening: ${audited}: all agree.`;
+  $('foot').classList.toggle('bad', bad > 0);
+}
+
+// Opens the page: of a net with many components the outermost copies are folded.
+function open() {
+  document.title = `${net.part} · breezesim`;
+  $('part').textContent = net.part;
+  $('scrubber').max = trace.count;
+  if (all.components.length > MANY / 2) for (const path of net.instances.keys()) if (!path.includes('/')) view.folded.add(path);
+  showFoot();
+  play(false);
+  measure();
+  listen();
+  readLink(window.location.href);
+}
+
+open();
+// what tests look at
+window.breezesim = {net, trace, found, view, phaseAfter, lastChange, valueAfter, lineText, tell,
+  times: {read: readAt - startedAt, open: performance.now() - startedAt, layout: view.layoutTime}};
+})();
+</script>
+</body>
+</html>
+"##;

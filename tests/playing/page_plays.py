@@ -1,0 +1,546 @@
+"""What is done on pages in a browser: keys, clicks, links, pages of hostile names, pages that are spoilt."""
+
+import time
+
+from . import pages
+from .page_looks import Drawn, is_same, scrub
+from .page_oracle import wanted_of
+from .program import part_words
+
+LINE, SELECTED = "breezesim.view.line", "breezesim.view.selected"
+COMPONENTS = "[...document.querySelectorAll('.component')].map(it => it.dataset.component)"
+SHOWN = "document.querySelectorAll('.component').length"
+
+
+def middle(selector):
+    """A script: the middle of an element on the screen."""
+    return f"""(() => {{ const it = document.querySelector('{selector}').getBoundingClientRect();
+        return [it.x + it.width / 2, it.y + it.height / 2]; }})()"""
+
+
+def on_channel(number):
+    """A script: a point of the screen in the middle of a channel's line."""
+    return f"""(() => {{ const line = document.querySelector('[data-channel="{number}"] .line');
+        const at = line.getPointAtLength(line.getTotalLength() / 2).matrixTransform(line.getScreenCTM());
+        return [at.x, at.y]; }})()"""
+
+
+def shown(page, selector):
+    return page.do(f"getComputedStyle(document.querySelector('{selector}')).display !== 'none'")
+
+
+class Run:
+    """A page that is played on, with what was wrong so far."""
+
+    def __init__(self, browser, ground, name, link="", **how):
+        self.page, self.faults = browser.page(**how).open(ground.path(name), link), []
+
+    def found(self, what, script, wanted):
+        """A script has to have this value; it may need some time to get it."""
+        self.faults += is_same(what, self.page.until(script, wanted, 2), wanted)
+
+    def line(self, what, wanted):
+        self.found(what, LINE, wanted)
+
+    def ended(self):
+        self.faults += is_same("errors", self.page.errors, [])
+        self.page.close()
+        return self.faults
+
+
+def keys_that_step(browser, ground):
+    run = Run(browser, ground, "arbiter_tree")
+    key = run.page.key
+    run.line("the opening", 1)
+    steps = [(["ArrowRight", "ArrowRight"], 3), (["ArrowLeft"], 2), (["l", "l"], 4), (["h"], 3), (["End"], 66), (["Home"], 1)]
+    for keys, wanted in [*steps, (["ArrowLeft"], 1), (["PageDown"], 66), (["ArrowRight"], 66), (["PageUp"], 1)]:
+        key(*keys)
+        run.line(" ".join(keys), wanted)
+    key("ArrowRight", shift=True)
+    run.line("Shift and right", 11)
+    key("ArrowLeft", shift=True)
+    run.line("Shift and left", 1)
+    for keys, wanted in [(["]"], 2), (["]", "]"], 17), (["["], 3), (["r"], 16), (["r"], 19), (["R"], 16)]:
+        key(*keys)
+        run.line(f"hosts and rests, {' '.join(keys)}", wanted)
+    key("g", "4", "2", "Enter")
+    run.line("g", 42)
+    key("x")
+    run.line("no clash", 42)
+    return run.ended()
+
+
+def keys_of_clashes(browser, ground):
+    run = Run(browser, ground, "careless")
+    run.page.key("x")
+    run.line("x", 3)
+    run.found("the clash", "[...document.querySelectorAll('.component.clash')].map(it => it.dataset.component)", ["1"])
+    run.page.key("End")
+    run.found("the clash line", "document.getElementById('says').textContent", "Two requests met at 1 Call, first at line 3.")
+    return run.ended()
+
+
+def keys_of_looks(browser, ground):
+    """Chart, light and dark, help, following, near and far."""
+    run = Run(browser, ground, "arbiter_tree", "#line=20")
+    page = run.page
+    page.key("c")
+    run.found("c", "document.querySelectorAll('#chart .row').length > 10", True)
+    run.found("its line", "document.querySelector('#chart .row.now').dataset.line", "20")
+    run.found("heads", "document.querySelectorAll('#chart .head').length", 8)
+    page.key("c")
+    run.faults += is_same("c again", shown(page, "#chart"), False)
+    for wanted in ("dark", "light"):
+        page.key("d")
+        run.found("d", "document.documentElement.dataset.theme", wanted)
+    page.key("?")
+    run.faults += is_same("?", shown(page, "#help"), True)
+    page.key("Escape")
+    run.faults += is_same("Escape", shown(page, "#help"), False)
+    box = page.do("document.getElementById('svg').getAttribute('viewBox')")
+    page.key("+", "+")
+    run.found("+", "breezesim.view.box.width < " + box.split()[2], True)
+    page.key("-", "-", "-")
+    run.found("-", "breezesim.view.box.width > " + box.split()[2], True)
+    page.key("f")
+    run.found("f", "document.getElementById('svg').getAttribute('viewBox')", box)
+    page.key("w")
+    run.found("w", "document.getElementById('follow').classList.contains('on')", True)
+    page.key("w", "o")
+    run.found("o", "[document.getElementById('focus').classList.contains('on'), breezesim.view.isFocused]", [True, True])
+    page.key("o", "s")
+    run.found("s", "breezesim.view.isStubbed", True)
+    return run.ended()
+
+
+def play_and_speed(browser, ground):
+    run = Run(browser, ground, "arbiter_tree")
+    page = run.page
+    page.key(" ")
+    time.sleep(0.9)
+    page.key(" ")
+    paused = page.do(LINE)
+    run.faults += is_same("play", paused > 3, True)
+    time.sleep(0.3)
+    run.line("pause", paused)
+    page.key("<", "<")
+    run.found("slower", "document.getElementById('speed').textContent", "2/s")
+    page.key(">", ">", ">", ">", ">", ">", ">")
+    run.found("faster", "document.getElementById('speed').textContent", "1000/s")
+    page.key("Home", " ")
+    run.line("to the end", 66)
+    run.found("and no farther", "document.getElementById('play').textContent", "play")
+    return run.ended()
+
+
+def clicks(browser, ground):
+    run = Run(browser, ground, "arbiter_tree", "#line=16")
+    page = run.page
+    page.click(*page.do(middle('[data-component="5"] .body')))
+    run.found("a component", SELECTED, "c5")
+    page.key("]")
+    run.line("its next line", 23)
+    page.key("[", "[")
+    run.line("its last lines", 12)
+    page.click(*page.do(on_channel(7)))
+    run.found("a channel", SELECTED, "k7")
+    page.key("]")
+    run.line("the channel's next line", 26)
+    page.click(*page.do(middle('.events button:first-child')))
+    run.line("the button for the last event", 11)
+    page.key("Escape")
+    run.found("Escape", SELECTED, None)
+    page.click(*page.do(middle("#journal .row:nth-child(5)")))
+    run.line("a row", page.do("Number(document.querySelector('#journal .now').dataset.line)"))
+    page.click(*page.do(middle('.port[data-channel="2"] rect')))
+    run.found("a port", SELECTED, "k2")
+    page.click(*page.do("(({x, y}) => [x + 4, y + 4])(document.getElementById('svg').getBoundingClientRect())"))
+    run.found("nothing", SELECTED, None)
+    page.click(*page.do(middle('.frame[data-copy="1"] text')))
+    run.found("a copy is folded", "[...document.querySelectorAll('.folded')].map(it => it.dataset.copy)", ["1"])
+    run.found("and hides what is in it", "document.querySelector('[data-component=\"1\"]')", None)
+    page.click(*page.do(middle('.folded[data-copy="1"]')))
+    run.found("and unfolded", "document.querySelectorAll('.folded').length", 0)
+    for name, wanted in [("first", 1), ("forward", 2), ("last", 66), ("back", 65)]:
+        page.click(*page.do(middle(f"#{name}")))
+        run.line(f"the button {name}", wanted)
+    return run.ended()
+
+
+def drag_and_wheel(browser, ground):
+    run = Run(browser, ground, "arbiter_tree", "#line=16")
+    page, box = run.page, "(({x, y, width}) => [Math.round(x), Math.round(y), Math.round(width)])(breezesim.view.box)"
+    x, y, width = page.do(box)
+    page.mouse("mousePressed", 300, 700, button="left", clickCount=1)
+    for step in range(1, 6):
+        page.mouse("mouseMoved", 300 + 20 * step, 700, button="left", buttons=1)
+    page.mouse("mouseReleased", 400, 700, button="left", clickCount=1)
+    run.found("a drag", f"{box}[0] < {x}", True)
+    run.found("a drag selects nothing", SELECTED, None)
+    page.mouse("mouseWheel", 300, 400, deltaX=0, deltaY=-300)
+    run.found("the wheel", f"{box}[2] < {width}", True)
+    page.mouse("mouseWheel", 1300, 200, deltaX=0, deltaY=100)
+    run.line("the wheel on the journal", 19)
+    return run.ended()
+
+
+def links(browser, ground):
+    run = Run(browser, ground, "arbiter_tree", "#line=30&at=k7&view=chart&theme=dark&fold=1,3&find=fire%205")
+    page = run.page
+    run.found("a link", f"[{LINE}, {SELECTED}, breezesim.view.isCharted]", [30, "k7", True])
+    run.found("its theme", "document.documentElement.dataset.theme", "dark")
+    run.found("its copies", "[...document.querySelectorAll('.folded')].map(it => it.dataset.copy).sort()", ["1", "3"])
+    run.found("its search", "document.getElementById('count').textContent", "12 lines")
+    page.key("ArrowRight")
+    run.found("the address follows", "location.hash", "#line=31&at=k7&view=chart")
+    odd = [("#line=99999", [66, None]), ("#line=-4&at=c99", [1, None]), ("#line=x&at=k7", [1, "k7"])]
+    for link, wanted in [*odd, ("#at=%3Cb%3E&line=9", [9, None]), ("", [1, None])]:
+        page.do(f"location.hash = '{link}'")
+        run.found(f"the link {link}", f"[{LINE}, {SELECTED}]", wanted)
+    return run.ended()
+
+
+def searches(browser, ground):
+    run = Run(browser, ground, "arbiter_tree")
+    page, wanted = run.page, wanted_of(ground.program, *ground.made["arbiter_tree"])
+    lines = [n for n, text in enumerate(wanted.lines) if "fire 5" in text]
+    page.key("/")
+    page.type("fire 5")
+    run.found("the count", "document.getElementById('count').textContent", f"{len(lines)} lines")
+    ways = [("first", False, lines[0]), ("on", False, lines[1]), ("back", True, lines[0]), ("round", True, lines[-1])]
+    for what, shift, due in ways:
+        page.key("Enter", shift=shift)
+        run.line(what, due)
+    page.key("Escape", "n")
+    run.line("n", lines[0])
+    page.do("document.getElementById('search').value = ''")
+    page.key("/")
+    page.type("1 ")
+    twice = sum("1 " in text for text in wanted.lines)
+    run.found("lines that have it twice", "document.getElementById('count').textContent", f"{twice} lines")
+    page.do("document.getElementById('search').value = ''")
+    page.type("fire 5")
+    run.found("the count again", "document.getElementById('count').textContent", f"{len(lines)} lines")
+    page.key("Escape", "Home", "n")
+    page.key("N")
+    run.line("N", lines[-1])
+    for text, due in [("arb", "c1"), ("channel 12", "k12"), ("use", "k5"), ("pick", "c1")]:
+        page.do("document.getElementById('search').value = ''")
+        page.key("/")
+        page.type(text)
+        run.found(f"the search for {text}", "document.querySelector('#found .name')?.dataset.select", due)
+        page.click(*page.do(middle("#found .name")))
+        run.found(f"what is selected by {text}", SELECTED, due)
+        page.key("Escape", "Escape")
+    return run.ended()
+
+
+def callers(browser, ground):
+    """Who called a component, up to the host; and at the end who waits for whom, where the page is told."""
+    run = Run(browser, ground, "countdown", "#line=44&at=c1")
+    due = "called by BinaryFuncConstR 9 ‹ Fetch 8 ‹ Sequence 7 ‹ While 5 ‹ Sequence 3 ‹ the host at activate"
+    run.page.do("location.hash = '#line=43&at=c1'")
+    run.found("callers", "document.querySelector('.callers').textContent", due)
+    listed, rows, trace = ground.texts("cross")
+    rows = b"".join(line for line in rows.splitlines(True) if not line.startswith(b"end "))
+    rows += b"end wait Sequence 2 for Passivator 4 to reply on 4\nend cycle: Sequence 2 -> Passivator 4\n"
+    ground.put("ended", pages.page_text(ground.template, [listed, rows, trace]))
+    run.page.open(ground.path("ended"), "#line=12")
+    told = "[...document.querySelectorAll('#details .wait')].map(it => [it.className, it.dataset.select || ''])"
+    run.found("the end", told, [["wait", "c2"], ["wait cycle", ""]])
+    run.page.key("Home")
+    run.found("the beginning", told, [])
+    return run.ended()
+
+
+def names_and_sources(browser, ground):
+    """Names of channels and variables, and places in the source, where the list has them."""
+    listed, rows, trace = ground.texts("pipeline")
+    lines = listed.decode().splitlines()
+    lines = [line + {"channel 11 ": " name store from pipe.balsa:7:5", "component 5 ": " from pipe.balsa:9:3",
+                     "component 2 ": " name y from pipe.balsa:3:1"}.get(line[: line.find(" ", line.find(" ") + 1) + 1], "")
+             for line in lines]
+    rows = b"".join(line for line in rows.splitlines(True) if not line.startswith(b"detail 2 "))
+    ground.put("named", pages.page_text(ground.template, [("\n".join(lines) + "\n").encode(), rows, trace]))
+    run = Run(browser, ground, "named", "#line=60")
+    run.found("a channel's label", "[...document.querySelectorAll('.number')].some(it => it.textContent === '11 store')", True)
+    run.found("a variable's sign", "document.querySelector('[data-component=\"2\"] .sign').textContent", "y")
+    for text, due in [("store", "k11"), ("balsa:9", "c5"), ("pipe.balsa:3", "c2")]:
+        run.page.do("document.getElementById('search').value = ''")
+        run.page.key("/")
+        run.page.type(text)
+        run.found(f"the search for {text}", "document.querySelector('#found .name')?.dataset.select", due)
+        run.page.key("Escape")
+    run.page.do("location.hash = '#line=60&at=c5'")
+    told = "document.querySelector('#details .under').textContent"
+    run.found("a source", told, "buffer 4, line 11 of the netlist (in 2), from pipe.balsa:9:3")
+    run.page.do("location.hash = '#line=60&at=k11'")
+    run.found("a channel's name", "document.querySelector('#details .title').textContent", "channel 11 store push 8")
+    return run.ended()
+
+
+def large_nets(browser, ground):
+    """A large net begins in focus, is laid out anew as the line moves, and can be seen whole."""
+    run = Run(browser, ground, "large")
+    page, wanted = run.page, wanted_of(ground.program, *ground.made["large"])
+    run.found("focus", "breezesim.view.isFocused", True)
+    run.faults += is_same("few components", 0 < page.do(SHOWN) <= 90, True)
+    for line in (2, 30, 100, 400, 401, 1400, 700):
+        scrub(page, line)
+        drawn = Drawn(page, wanted)
+        run.faults += drawn.at("in focus,", line)
+        mover = wanted.mover(line)
+        run.faults += is_same(f"who moves at {line} is in focus", set(page.do("[...document.querySelectorAll('.component.moved')]"
+                              ".map(it => it.dataset.component)")), mover)
+        run.faults += is_same(f"who called it at {line} is in focus", wanted.callers(line) - set(page.do(COMPONENTS)), set())
+    page.key("o")
+    run.found("the whole net", f"{SHOWN} === breezesim.net.components.length - 1", True)
+    run.faults += Drawn(page, wanted).at("whole,", 700)
+    page.do("location.hash = '#line=9&focus=0'")
+    run.line("a link to the whole net", 9)
+    run.found("which is whole", f"{SHOWN} === breezesim.net.components.length - 1", True)
+    return run.ended()
+
+
+def long_chains(browser, ground):
+    """A long chain of copies is cut into columns, and folds."""
+    run = Run(browser, ground, "long", "#line=250&focus=0")
+    run.found("its shape", "breezesim.view.picture.height < 1.5 * breezesim.view.picture.width", True)
+    run.found("its copies", "document.querySelectorAll('.folded').length", 50)
+    wanted = wanted_of(ground.program, *ground.made["long"])
+    run.faults += Drawn(run.page, wanted).at("in columns,", 250)
+    return run.ended()
+
+
+def wide_charts(browser, ground):
+    """A chart with many lifelines needs no more room than there is."""
+    run = Run(browser, ground, "flat", "#line=600&view=chart")
+    for line in (100, 600, 1100):
+        scrub(run.page, line)
+        run.found("its width", "(it => it.scrollWidth <= it.clientWidth)(document.getElementById('chart'))", True)
+        run.found("its line", "document.querySelector('#chart .row.now').dataset.line", str(line))
+    run.page.call("Emulation.setDeviceMetricsOverride", width=480, height=900, deviceScaleFactor=1, mobile=False)
+    for line in range(100, 1100, 200):
+        scrub(run.page, line)
+        run.found("on a narrow screen", "(it => it.scrollWidth <= it.clientWidth)(document.getElementById('chart'))", True)
+    return run.ended()
+
+
+def strokes_of_charts(browser, ground):
+    """The strokes of a chart are the handshakes of its lines, each with its channel, and its bars what is held."""
+    run = Run(browser, ground, "countdown", "#line=44&view=chart")
+    wanted = wanted_of(ground.program, *ground.made["countdown"])
+    row = "it => [Number(it.dataset.line), it.lastChild.textContent]"
+    rows = run.page.do(f"[...document.querySelectorAll('#chart .row')].map({row})")
+    run.faults += is_same("rows", [text for _, text in rows], [wanted.lines[line] for line, _ in rows])
+    first, last = rows[0][0], rows[-1][0]
+    due = []
+    for channel in wanted.ends:
+        phases = [(line, wanted.states[line].get(channel, ("idle", ""))[0]) for line in range(0 if first == 0 else 1, last + 1)]
+        changes = [line for (_, a), (line, b) in zip(phases, phases[1:]) if a != b and b in ("asked", "replied")]
+        ends = [line for (_, a), (line, b) in zip(phases, phases[1:]) if a in ("asked", "replied") and a != b]
+        due += [f"k{channel}" for i, line in enumerate(changes) if i >= len(ends) or ends[i] >= first]
+    found = run.page.do("[...document.querySelectorAll('#chart .stroke')].map(it => it.dataset.select)")
+    heads = set(run.page.do("[...document.querySelectorAll('#chart .head')].map(it => it.dataset.select)"))
+
+    def is_in(channel):
+        ends = [f"k{channel}" if end == "host" else f"c{end.split('.')[0]}" for end in wanted.ends[channel]]
+        return all(end in heads for end in ends)
+
+    run.faults += is_same("strokes", sorted(found), sorted(it for it in due if is_in(it[1:])))
+    return run.ended()
+
+
+HOSTILE = [
+    b"</script><script>window.hit=1</script>",
+    b"<!--<script>",
+    b'"&lt;<img src=x onerror=window.hit=1>',
+    b"]]>",
+    b"a%3Cb",
+    b"",
+    b"</style>\r\n\0\xff<b>",
+]
+
+
+def hostile_names(browser, ground):
+    """Names that would end a script, open a comment or be markup are names."""
+    quoted = [b'"' + name.replace(b"\\", b"\\\\").replace(b'"', b'\\"') + b'"' for name in HOSTILE]
+    ports = b"".join(b"(sync-port " + name + b" passive)" for name in quoted)
+    inner = b"".join(b'(component "$BrzContinue" () (%d))' % (i + 1) for i in range(len(HOSTILE)))
+    channels = b" (sync)" * len(HOSTILE)
+    netlist = b"(breeze-part %b (ports %b) (channels%b) (components %b))\n" % (quoted[0], ports, channels, inner)
+    path, part = ground.file("hostile.breeze", netlist), part_words(HOSTILE[0])
+    listed = ground.program.run(["list", *part, "--netlist", path]).output.decode().splitlines()
+    names = [line.split()[2] for line in listed if line.startswith("port ")]
+    words = [f"offer:{name}" for name in names] + ["run:99"] + [f"watch:{name}" for name in names]
+    ran = ground.program.run(["run", *part, "--netlist", path, "--", *words])
+    ground.add("hostile", part, path, ground.file("hostile.trace", ran.output))
+    if ground.template != pages.constants():
+        ground.put("hostile", pages.page_text(ground.template, pages.texts_of(ground.get("hostile"), pages.constants())))
+    run = Run(browser, ground, "hostile", "#line=9")
+    run.found("names", "breezesim.net.ports.filter(it => it).map(it => it.name)", names)
+    run.found("trace", "breezesim.trace.text", ran.output.decode())
+    run.found("ports", "[...document.querySelectorAll('g.port text')].map(it => it.textContent).sort()", sorted(names))
+    run.found("what it is called", "document.title", f"{listed[0].split()[1]} · breezesim")
+    strange = "document.querySelectorAll('img, b:not(#part, #help b)').length"
+    run.found("nothing else ran", f"[typeof window.hit, {strange}]", ["undefined", 0])
+    return run.ended()
+
+
+def other_letters(browser, ground):
+    """Each byte that stands escaped is read back."""
+    listed, rows, trace = ground.texts("buffer")
+    letters = bytes(it for it in range(256) if it not in b"\n ")
+    rows += b"detail 1 " + letters + b"\n"
+    ground.put("letters", pages.page_text(ground.template, [listed, rows, trace]))
+    run = Run(browser, ground, "letters")
+    run.found("a detail", "[...breezesim.net.components[1].detail].map(it => it.charCodeAt(0))", list(letters))
+    return run.ended()
+
+
+SPOILT = [
+    ("a firing left out", lambda text: text.replace(b"w1 fire 3 ask 8\n", b"", 1)),
+    ("one doubled", lambda text: text.replace(b"w1 fire 3 ask 8\n", b"w1 fire 3 ask 8\n" * 2, 1)),
+    ("a value that came", lambda text: text.replace(b"got 2 7", b"got 2 9", 1)),
+    ("a value that was taken", lambda text: text.replace(b"take 11 7", b"take 11 6", 1)),
+    ("a clash put in", lambda text: text + b"clash 7\n"),
+    ("another channel", lambda text: text.replace(b"ask 9\n", b"ask 90\n", 1)),
+    ("a phase that the host was told", lambda text: text + b"h1 watch activate idle\n"),
+    ("a value that the host was told", lambda text: text.replace(b"ask 3 7\n", b"ask 3 7\nh1 watch o asked 9\n", 1)),
+]
+
+
+def spoilt_pages(browser, ground):
+    """A page whose trace was spoilt says so in red."""
+    faults, (listed, rows, trace) = [], ground.texts("pipeline")
+    bad = "[document.getElementById('foot').classList.contains('bad'), document.getElementById('foot').textContent.slice(0, 20)]"
+    for what, spoil in SPOILT:
+        if spoil(trace) == trace:
+            faults.append(f"{what}: nothing is spoilt")
+        ground.put("spoilt", pages.page_text(ground.template, [listed, rows, spoil(trace)]))
+        page = browser.page().open(ground.path("spoilt"))
+        faults += is_same(what, page.do(bad), [True, "THIS PAGE IS DAMAGED"])
+        page.close()
+    _, _, clashing = texts = ground.texts("careless")
+    ground.put("spoilt", pages.page_text(ground.template, [*texts[:2], clashing.replace(b"clash 1\n", b"")]))
+    page = browser.page().open(ground.path("spoilt"))
+    faults += is_same("a clash left out", page.do(bad), [True, "THIS PAGE IS DAMAGED"])
+    page.close()
+    return faults
+
+
+def policy(browser, ground):
+    """A script that was put in does not run, and nothing is fetched: neither a picture nor a style sheet nor an address."""
+    page_of = ground.get("buffer")
+    added = b"""<script>window.hit=1</script><img src="http://127.0.0.1:9/a.png">
+<link rel="stylesheet" href="http://127.0.0.1:9/a.css">
+<a onclick="window.hit=1" id="bait">x</a>"""
+    ground.put("added", page_of.replace(b"<header>", added + b"<header>", 1))
+    page = browser.page().open(ground.path("added"))
+    page.do("document.getElementById('bait').click()")
+    faults = is_same("an added script", [page.do("typeof window.hit"), page.do(LINE)], ["undefined", 1])
+    fetched = "fetch('http://127.0.0.1:9/').then(() => 'fetched', () => 'refused')"
+    faults += is_same("a call of fetch", page.do(fetched), "refused")
+    faults += is_same("requests", page.let_through(), [])
+    page.close()
+    changed = page_of.replace(b"'use strict';", b"'use strict'; ", 1)
+    ground.put("added", changed)
+    page = browser.page().open(ground.path("added"))
+    faults += is_same("a script that was changed", page.do("typeof window.breezesim"), "undefined")
+    page.close()
+    return faults
+
+
+def narrow_screens(browser, ground):
+    """On a phone the picture, the line in words and the buttons are there, and what is selected takes the journal's place."""
+    run = Run(browser, ground, "countdown", "#line=44", width=420, height=800)
+    page = run.page
+    run.found("no sideways scrolling", "document.documentElement.scrollWidth <= innerWidth", True)
+    for name in ("svg", "says", "play", "scrubber", "journal"):
+        run.found(name, f"(it => it.width > 0 && it.height > 0)(document.getElementById('{name}').getBoundingClientRect())", True)
+    page.click(*page.do(middle('[data-component="1"] .body')))
+    run.found("a component", SELECTED, "c1")
+    run.faults += is_same("details", [shown(page, "#details"), shown(page, "#journal")], [True, False])
+    return run.ended()
+
+
+def on_paper(browser, ground):
+    run = Run(browser, ground, "countdown", "#line=44")
+    run.page.call("Emulation.setEmulatedMedia", media="print")
+    seen = [shown(run.page, selector) for selector in (".buttons", ".find", "#svg")]
+    run.faults += is_same("buttons", seen, [False, False, True])
+    return run.ended()
+
+
+def read_aloud(browser, ground):
+    """The line in words is told as it changes, but not while it plays."""
+    run = Run(browser, ground, "countdown", "#line=44")
+    said, live = "document.getElementById('says').textContent", "document.getElementById('says').getAttribute('aria-live')"
+    run.found("a firing", said, "Variable 1 n replies to BinaryFuncConstR 9 on channel 13, value 2")
+    run.found("told", live, "polite")
+    scrub(run.page, 2)
+    run.found("a host", said, "The host asks at activate: done")
+    run.page.key("r")
+    run.found("a rest", said, "Rest: a firing was still due, and no component can move.")
+    run.page.key("<", "<", "<", " ")
+    run.found("not told", live, "off")
+    run.page.key(" ")
+    run.found("told again", live, "polite")
+    return run.ended()
+
+
+def marks_of_strip(browser, ground):
+    """The strip has a mark at each rest, each line of the host, each event of what is selected, each line found."""
+    run = Run(browser, ground, "arbiter_tree", "#line=1")
+    column = """(line => { const strip = document.getElementById('strip'), width = strip.clientWidth;
+        const x = Math.round((line - 1) / (breezesim.trace.count - 1) * (width - 1)), found = [];
+        const at = (top, bottom) => strip.getContext('2d').getImageData(x, top, 2, bottom - top).data.some(it => it > 0);
+        return [at(0, 8), at(9, 15), at(16, 22)]; })"""
+    run.found("a host", f"{column}(2)", [True, False, False])
+    run.found("a rest", f"{column}(16)", [True, True, True])
+    run.found("none", f"{column}(30)", [False, False, False])
+    run.page.do("location.hash = '#line=1&at=c5&find=fire%206'")
+    run.found("an event", f"{column}(12)", [False, True, False])
+    run.found("a hit", f"{column}(14)", [False, False, True])
+    return run.ended()
+
+
+def a_step_looks_at_little(browser, ground):
+    """A step changes the marks of what moved, and touches nothing else of the picture."""
+    run = Run(browser, ground, "large", "#line=500&focus=0")
+    changed = run.page.do("""(async () => {
+        const touched = new Set(), note = it => touched.add(it.target.closest('[data-channel],[data-component]'));
+        const watch = new MutationObserver(all => all.forEach(note));
+        watch.observe(document.getElementById('root'), {subtree: true, attributes: true, childList: true});
+        document.dispatchEvent(new KeyboardEvent('keydown', {key: 'ArrowRight'}));
+        await new Promise(then => setTimeout(then, 50));
+        return touched.size; })()""")
+    run.faults += is_same("what a step touches", 0 < changed <= 10, True)
+    return run.ended()
+
+
+PLAYS = [
+    keys_that_step,
+    keys_of_clashes,
+    keys_of_looks,
+    play_and_speed,
+    clicks,
+    drag_and_wheel,
+    links,
+    searches,
+    callers,
+    names_and_sources,
+    large_nets,
+    long_chains,
+    wide_charts,
+    strokes_of_charts,
+    hostile_names,
+    other_letters,
+    spoilt_pages,
+    policy,
+    narrow_screens,
+    on_paper,
+    read_aloud,
+    marks_of_strip,
+    a_step_looks_at_little,
+]

@@ -1,0 +1,144 @@
+"""Pages of traces: of what they are made, and where they are read apart from the program."""
+
+import hashlib
+import os
+import re
+
+from .tests import EXAMPLES, TOP
+
+CRATE = f"{TOP}/crates/bz_page"
+SOURCES = f"{CRATE}/page"
+TEMPLATE = f"{CRATE}/src/template.rt"
+# What the browser's tests saw last: the sums of the template's sources and of the pages of the examples.
+SEEN = f"{TOP}/tests/page-seen"
+NAMES = ["HEAD", "MID1", "MID2", "TAIL"]
+BLOCKS = ["list", "rows", "trace"]
+# The traces of `examples`, and the parts that they are of.
+EXAMPLE_PAGES = {
+    **{name: name for name in "arbiter_tree buffer careless countdown cross pipeline steer tee two_place".split()},
+    "clash": "m",
+    "wide_values": "row",
+}
+
+
+def constants():
+    """The four constants of the template, as bytes, from the crate's source."""
+    with open(TEMPLATE, encoding="utf-8", newline="") as file:
+        found = dict(re.findall(r'const (\w+): &str = r##"(.*?)"##;', file.read(), re.S))
+    return [found[name].encode() for name in NAMES]
+
+
+def constants_of(sources):
+    """The constants that the `make` of a folder of sources makes of them."""
+    maker = {"__name__": "make", "__file__": f"{sources}/make"}
+    with open(f"{sources}/make", encoding="utf-8") as file:
+        exec(compile(file.read(), f"{sources}/make", "exec"), maker)
+    made = maker["parts"]()
+    return [made[name][1].encode() for name in NAMES]
+
+
+def escaped(text):
+    """A text as it stands in a page: LF and bytes 32 to 126 but `<` and `%` as they are."""
+    keep = {*range(32, 127), 10} - {*b"<%"}
+    return b"".join(bytes([byte]) if byte in keep else b"%%%02X" % byte for byte in text)
+
+
+def read_back(text):
+    """The text that stands escaped."""
+    return re.sub(rb"%([0-9A-F]{2})", lambda found: bytes.fromhex(found[1].decode()), text)
+
+
+def page_text(template, texts):
+    """A page of three texts."""
+    head, before_rows, before_trace, tail = template
+    listed, rows, trace = map(escaped, texts)
+    return b"".join([head, listed, before_rows, rows, before_trace, trace, tail])
+
+
+def texts_of(page, template):
+    """The three texts of a page, or None where it isn't one of this template."""
+    head, before_rows, before_trace, tail = template
+    if not page.startswith(head) or not page.endswith(tail):
+        return None
+    inner = page[len(head) : len(page) - len(tail)].split(before_rows)
+    found = [inner[0], *inner[1].split(before_trace)] if len(inner) == 2 else []
+    return [read_back(text) for text in found] if len(found) == 3 else None
+
+
+def paths_of(name):
+    """The netlist and the trace of an example."""
+    return f"{EXAMPLES}/{name}.breeze", f"{EXAMPLES}/{name}.trace"
+
+
+def page_of(program, part, netlist, trace):
+    """What a call of `page` gives."""
+    return program.run(["page", *part, "--netlist", netlist, "--trace", trace])
+
+
+def kinds_of_language():
+    """The ports of each kind as docs/LANGUAGE.md has them: name, whether passive, whether an array."""
+    with open(f"{TOP}/docs/LANGUAGE.md", encoding="utf-8") as file:
+        rows = re.findall(r"^\| ([A-Z]\w*(?:, [A-Z]\w*)*) \| ([^|]* [PA]) \|", file.read(), re.M)
+    kinds = {}
+    for names, ports in rows:
+        found = [(name.strip("[]"), sense == "P", "[" in name) for name, sense in re.findall(r"(\S+) \w+ ([PA])", ports)]
+        for name in names.split(", "):
+            # (`inp sync P, inp push P` is of two kinds with one port each)
+            kinds[name] = found[:1] if found[1:] and found[0][0] == found[1][0] else found
+    return kinds
+
+
+def rows_wanted(listed):
+    """The lines of a page's rows that tell the ports of the kinds in a list."""
+    kinds, used = kinds_of_language(), {line.split()[2] for line in listed.decode().splitlines() if line.startswith("component ")}
+    words = {kind: [("p:" if passive else "a:") + name + "*" * array for name, passive, array in kinds[kind]] for kind in used}
+    return {" ".join(["row", kind, *ports]) for kind, ports in words.items()}
+
+
+def differs(program, name):
+    """How the page of an example differs from its list, its trace and the rows of its kinds between the template's constants."""
+    part, (netlist, trace), template = ["--part", EXAMPLE_PAGES[name]], paths_of(name), constants()
+    ran = page_of(program, part, netlist, trace)
+    if ran.status != 0 or ran.errors:
+        return f"status {ran.status}: {ran.errors!r}"
+    texts = texts_of(ran.output, template)
+    if texts is None or page_text(template, texts) != ran.output:
+        return "it is no page of this template"
+    listed = program.run(["list", *part, "--paths", "--netlist", netlist]).output
+    with open(trace, "rb") as file:
+        played = file.read()
+    if (texts[0], texts[2]) != (listed, played):
+        return "its list or its trace is another"
+    rows = {line for line in texts[1].decode().splitlines() if line.startswith("row ")}
+    return None if rows == rows_wanted(listed) else f"its rows are {sorted(rows ^ rows_wanted(listed))} otherwise"
+
+
+def sum_of(data):
+    return hashlib.sha256(data).hexdigest()
+
+
+def source_sums():
+    """The sums of the template and of all that it is made from."""
+    names = sorted(os.listdir(SOURCES))
+    paths = {**{name: f"{SOURCES}/{name}" for name in names if os.path.isfile(f"{SOURCES}/{name}")}, "template.rt": TEMPLATE}
+    sums = {}
+    for name, path in paths.items():
+        with open(path, "rb") as file:
+            sums[f"source {name}"] = sum_of(file.read())
+    return sums
+
+
+def seen():
+    """The sums that were seen last, by what they are of."""
+    if not os.path.isfile(SEEN):
+        return {}
+    with open(SEEN, encoding="utf-8") as file:
+        lines = [line.split() for line in file if line.strip() and not line.startswith("#")]
+    return {f"{kind} {name}": found for kind, name, found in lines}
+
+
+def write_seen(sums):
+    """Writes what was seen."""
+    with open(SEEN, "w", encoding="utf-8") as file:
+        file.write("# What ./test-page saw last in a browser: the template's sources, and the pages of the examples (SHA-256).\n")
+        file.writelines(f"{what} {found}\n" for what, found in sorted(sums.items()))
