@@ -31,4 +31,5 @@ def line_of(pick, ports, comps):
         f"seed {number(pick) % 2**64}", f"expect {pick.choice(REPLIES)}", f"expect {pick.choice(REPLIES)}", "waits", "waits", "waits all", f"waits {comp}", f"waits {comp}",
         "state", f"state {comp}", f"state {comp}", f"undo{few}", f"undo{few}", f"trace t{pick.randint(1, 3)}", f"trace! t{pick.randint(1, 3)}",
         f"session s{pick.randint(1, 3)}", f"session! s{pick.randint(1, 3)}", "session! /dev/stdout", "help", pick.choice(SLIPS),
+        f"page p{pick.randint(1, 3)}", f"page! p{pick.randint(1, 3)}",
     ])

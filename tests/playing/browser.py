@@ -112,13 +112,21 @@ class Page:
         browser._pages[self._session] = self
         for name in ("Page", "Runtime", "Log", "Network"):
             self.call(f"{name}.enable")
-        self.call("Emulation.setDeviceMetricsOverride", width=width, height=height, deviceScaleFactor=1, mobile=False)
+        self.resize(width, height)
         scheme = {"name": "prefers-color-scheme", "value": "dark" if is_dark else "light"}
         motion = {"name": "prefers-reduced-motion", "value": "reduce"}
         self.call("Emulation.setEmulatedMedia", features=[scheme, motion])
 
     def call(self, method, **given):
         return self.browser.call(method, self._session, **given)
+
+    def resize(self, width, height):
+        """Makes the screen as large as this."""
+        self.call("Emulation.setDeviceMetricsOverride", width=width, height=height, deviceScaleFactor=1, mobile=False)
+
+    def put_on_paper(self):
+        """Looks as it would be printed."""
+        self.call("Emulation.setEmulatedMedia", media="print")
 
     def note(self, method, told):
         """Notes what the browser tells of the page."""

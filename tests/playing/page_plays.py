@@ -253,6 +253,31 @@ def callers(browser, ground):
     return run.ended()
 
 
+def pages_of_sessions(browser, ground):
+    """A page that `explore` writes of a net in which nothing moves any more: who waits for whom, and the cycle in red."""
+    lines = f"offer:go\nrun\npage {ground.path('stuck')}\n".encode()
+    ground.program.run(["explore", "--part", "cross", "--netlist", pages.paths_of("cross")[0]], lines)
+    run = Run(browser, ground, "stuck", "#line=12")
+    told = "[...document.querySelectorAll('#details .wait')].map(it => [it.className, it.dataset.select || '', it.textContent])"
+    wanted = [
+        ["wait cycle", "", "cycle: Sequence 2 -> Passivator 4 -> Sequence 3 -> Passivator 5 -> Sequence 2"],
+        ["wait", "c1", "wait Concur 1 for Sequence 2 to reply on 2"],
+        ["wait", "c1", "wait Concur 1 for Sequence 3 to reply on 3"],
+        ["wait", "c2", "wait Sequence 2 for Passivator 4 to reply on 4"],
+        ["wait", "c3", "wait Sequence 3 for Passivator 5 to reply on 6"],
+        ["wait", "c4", "wait Passivator 4 for Sequence 3 to ask on 7"],
+        ["wait", "c5", "wait Passivator 5 for Sequence 2 to ask on 5"],
+        ["wait", "", "5 wait, 0 can move, 0 idle"],
+    ]
+    run.found("the end", told, wanted)
+    run.found("its colour", "getComputedStyle(document.querySelector('#details .cycle')).color", "rgb(200, 16, 46)")
+    run.page.key("ArrowLeft")
+    run.found("before the end", told, wanted)
+    run.page.key("Home")
+    run.found("the beginning", told, [])
+    return run.ended()
+
+
 def names_and_sources(browser, ground):
     """Names of channels and variables, and places in the source, where the list has them."""
     listed, rows, trace = ground.texts("pipeline")
@@ -276,6 +301,10 @@ def names_and_sources(browser, ground):
     run.found("a source", told, "buffer 4, line 11 of the netlist (in 2), from pipe.balsa:9:3")
     run.page.do("location.hash = '#line=60&at=k11'")
     run.found("a channel's name", "document.querySelector('#details .title').textContent", "channel 11 store push 8")
+    run.page.open(ground.path("two_place"))
+    labels = "[...document.querySelectorAll('.number')].map(it => it.textContent).sort()"
+    run.found("labels, without the names of ports", labels, sorted("1|2|3|4|5|6|7|8 x|9 x|10 y|11 y".split("|")))
+    run.found("signs of variables", "[...document.querySelectorAll('.sign')].map(it => it.textContent).join('')", "xy#;→→→")
     return run.ended()
 
 
@@ -319,7 +348,7 @@ def wide_charts(browser, ground):
         scrub(run.page, line)
         run.found("its width", "(it => it.scrollWidth <= it.clientWidth)(document.getElementById('chart'))", True)
         run.found("its line", "document.querySelector('#chart .row.now').dataset.line", str(line))
-    run.page.call("Emulation.setDeviceMetricsOverride", width=480, height=900, deviceScaleFactor=1, mobile=False)
+    run.page.resize(480, 900)
     for line in range(100, 1100, 200):
         scrub(run.page, line)
         run.found("on a narrow screen", "(it => it.scrollWidth <= it.clientWidth)(document.getElementById('chart'))", True)
@@ -460,13 +489,22 @@ def narrow_screens(browser, ground):
         run.found(name, f"(it => it.width > 0 && it.height > 0)(document.getElementById('{name}').getBoundingClientRect())", True)
     page.click(*page.do(middle('[data-component="1"] .body')))
     run.found("a component", SELECTED, "c1")
-    run.faults += is_same("details", [shown(page, "#details"), shown(page, "#journal")], [True, False])
+    places = ("#details", "#journal", "aside h2")
+    run.faults += is_same("details", [shown(page, place) for place in places], [True, False, False])
+    page.click(*page.do(middle(".leave")))
+    run.found("nothing selected", SELECTED, None)
+    run.faults += is_same("the journal", [shown(page, place) for place in places], [False, True, True])
+    listed, rows, trace = ground.texts("cross")
+    rows += b"end wait Sequence 2 for Passivator 4 to reply on 4\n"
+    ground.put("ended", pages.page_text(ground.template, [listed, rows, trace]))
+    page.open(ground.path("ended"), "#line=12")
+    run.faults += is_same("the end", [shown(page, place) for place in places], [True, True, True])
     return run.ended()
 
 
 def on_paper(browser, ground):
     run = Run(browser, ground, "countdown", "#line=44")
-    run.page.call("Emulation.setEmulatedMedia", media="print")
+    run.page.put_on_paper()
     seen = [shown(run.page, selector) for selector in (".buttons", ".find", "#svg")]
     run.faults += is_same("buttons", seen, [False, False, True])
     return run.ended()
@@ -529,6 +567,7 @@ PLAYS = [
     links,
     searches,
     callers,
+    pages_of_sessions,
     names_and_sources,
     large_nets,
     long_chains,

@@ -13,7 +13,8 @@ use bz_cli_program::{
     Cause, Given, chart, check, check_words, draw, is_file, kinds, list, netlist_in, open_file,
     page, part_named, parts, pool, run, tell_tops, text_of, tops_of,
 };
-use bz_explain::{Asked, Explained, Lint, WordFile, Words, explain, lint_cmd};
+use bz_explain::{Asked, Explained, WordFile, Words, explain};
+use bz_explain_lint::{Lint, lint_cmd};
 use bz_explain_notes::Arg::{Number, Text};
 use bz_explain_notes::{Draft, Keeping, tell, tell_findings, tell_notes};
 use bz_explain_trace::{Claim, explain_trace};

@@ -4,3 +4,4 @@ pub mod Outcomes
 pub mod Splitting
 pub mod Checks
 pub mod Pieces
+pub mod Running

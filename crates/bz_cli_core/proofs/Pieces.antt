@@ -1,31 +1,22 @@
 -- A play whose entries go out in pieces.
-use Rattle.std.proofs.Common.{◌≡◌, ◌≢◌, ◌<◌, ◌≤◌, ◌+◌, ℕ, zero, suc, Bool, true, false, Option, None, Some, Result, Ok, Err, List, [], ◌∷◌, ◌++◌, length, take, get_or, refl, sym, ap, subst, ◌∙◌, arith, append_assoc, append-nil, codes}
+use Rattle.std.proofs.Common.{◌≡◌, ◌≢◌, ◌<◌, ◌+◌, ℕ, Bool, true, false, Option, Some, Result, Ok, Err, List, [], ◌++◌, length, take, get_or, refl, sym, ap, subst, ◌∙◌, arith, append_assoc, append-nil, codes}
 use Rattle.std.specs.List.{flat_map}
 use Rattle.std.proofs.lemmas.Grind.{flat_map-append}
 use Rattle.std.specs.List.Sorted.{IsStrictlyIncreasing}
-use Rattle.std.specs.Result.{is_err}
 use Rattle.std.specs.Io.KnownBytes.{Appends}
-use Rattle.bz_model.specs.declared.channel.Move.{Move}
-use Rattle.bz_model.specs.declared.event.Who.{Who}
 use Rattle.bz_model.specs.declared.event.Entry.{Entry}
-use Rattle.bz_model.specs.declared.event.Entry.TheVariants.{Fired, Host, Rested}
 use Rattle.bz_model.specs.declared.event.Cmd.{Cmd}
 use Rattle.bz_model.specs.declared.event.HostCmd.{HostCmd}
 use Rattle.bz_model.specs.declared.event.NetError.{NetError}
 use Rattle.bz_model.specs.declared.event.NetError.TheVariants.{Memory}
 use Rattle.bz_model.specs.Clashes.{AreClashed}
 use Rattle.bz_model.specs.Names.{External}
-use Rattle.bz_model.specs.Nets.{Site, Wiring, State}
-use Rattle.bz_model.specs.Plays.{Firings, Stops}
+use Rattle.bz_model.specs.Nets.{Wiring}
+use Rattle.bz_model.specs.Plays.{Stops}
 use Rattle.bz_model.specs.Traces.{line_text, clash_text, trace_text}
-use Rattle.bz_text.specs.Writing.{AppendsFront}
-use Rattle.bz_trace_text.specs.Writing.{HasLines, WritesLines, first_lines}
-use Rattle.bz_net.specs.declared.event.Piece.{Piece}
-use Rattle.bz_net.specs.declared.event.RunEnd.{RunEnd}
-use Rattle.bz_net.specs.declared.event.RunEnd.TheVariants.{Rest, Spent, Refused}
-use Rattle.bz_net.specs.Progress.{Progress, IsToldBy, LeadsOn, RanTo, RunsInto, with_journal}
+use Rattle.bz_trace_text.specs.Writing.{HasLines, first_lines}
+use Rattle.bz_net.specs.Progress.{Progress, IsToldBy, LeadsOn, with_journal}
 use Rattle.bz_net.specs.Replies.{RefusesCommand, RefusesEntry}
-use Rattle.bz_net.specs.Running.{Plays, Ran}
 use Rattle.bz_net.specs.Simulation.{Simulation}
 use Rattle.bz_cli_core.specs.declared.pending.Pending.{Pending}
 use Rattle.bz_cli_core.specs.Playing.{Playing, PlaysOne, StopsOne}
@@ -34,7 +25,7 @@ use Rattle.bz_cli_core.specs.Running.{Played}
 use Rattle.bz_cli_input.specs.Stopping.{AppendsSome}
 use Rattle.bz_cli_core.specs.Sending.{GoesOut, IsSent, PlaysOut, PutsOut, SentUp}
 use Rattle.bz_cli_core.proofs.Played.{plays_on, stops_there}
-use Rattle.bz_cli_input.proofs.Written.{all_of, some_front}
+use Rattle.bz_cli_input.proofs.Written.{all_of}
 
 -- all of a text went out, whatever a flush answered
 pub puts_all : {A E : Type 0} (r : Result A E) (old new : Option (List ℕ)) (text : List ℕ) → Appends old new text → PutsOut old new r text
@@ -81,40 +72,6 @@ no_more p played told = subst (IsToldBy p) (sym (append-nil played)) told
 pub leads_then : (a b c : Progress) (es fs : List Entry) → LeadsOn a es b → LeadsOn b fs c → LeadsOn a (es ++ fs) c
 leads_then a b c es fs one two journal told = subst (IsToldBy c) (append_assoc journal es fs) (two (journal ++ es) (one journal told))
 
--- firings, and more from where they ended
-pub Firings-append : (sites : List Site) (who : Who) (s : State) (from n : ℕ) (es : List Entry) (mid : ℕ) (m : State) (k : ℕ) (fs : List Entry) (to : ℕ) (last : State) → Firings sites who s from n es mid m → Firings sites who m mid k fs to last → Firings sites who s from (n + k) (es ++ fs) to last
-Firings-append sites who s from zero es mid m k fs to last f g =
-    let all : k ≡ zero + k = omega arith in
-    subst (λ i. Firings sites who s from i (es ++ fs) to last) all
-    (subst (λ xs. Firings sites who s from k (xs ++ fs) to last) (sym f.0)
-    (subst (λ t. Firings sites who t from k fs to last) f.2 (subst (λ i. Firings sites who m i k fs to last) f.1 g)))
-Firings-append sites who s from (suc n) [] mid m k fs to last f g = absurd f
-Firings-append sites who s from (suc n) (Fired who' c p j mv value ∷ es) mid m k fs to last (same, is_next, lowest, (next, step, rest)) g =
-    let more : suc (n + k) ≡ suc n + k = omega arith in
-    subst (λ i. Firings sites who s from i (Fired who' c p j mv value ∷ (es ++ fs)) to last) more (same, is_next, lowest, (next, step, Firings-append sites who next (c + 1) n es mid m k fs to last rest g))
-Firings-append sites who s from (suc n) (Host who' verb port value reply ∷ es) mid m k fs to last f g = absurd f
-Firings-append sites who s from (suc n) (Rested who' ∷ es) mid m k fs to last f g = absurd f
-
-pub plays_then : (a b c : Simulation) (who : Who) (from n mid k to : ℕ) → Plays a b who from n mid → Plays b c who mid k to → Plays a c who from (n + k) to
-plays_then a b c who from n mid k to p q = record {
-  entries = p.entries ++ q.entries;
-  journal = q.journal ∙ (ap (λ es. es ++ q.entries) p.journal ∙ append_assoc a.journal p.entries q.entries);
-  firings =
-      Firings-append a.wiring.sites who a.state from n p.entries mid b.state k q.entries to c.state p.firings
-      (subst (λ (w : Wiring). Firings w.sites who b.state mid k q.entries to c.state) p.wiring q.firings);
-  wiring = q.wiring ∙ p.wiring;
-  limit = q.limit ∙ p.limit;
-  room = let one = p.room in let two = q.room in omega (arith, one, two);
-}
-
--- firings, and a run from where they ended
-module _ (a b c : Simulation) (who : Who) (from n mid due fuel k : ℕ) (fits : n + due ≤ fuel) (p : Plays a b who from n mid) where
-  pub rests_then : Ran b c who mid due (Rest k) → Ran a c who from fuel (Rest (n + k))
-  rests_then (fewer, (m, to, q, adds)) = (omega (arith, fewer, fits), (m, to, plays_then a b m who from n mid k to p q, adds))
-
-  pub stops_then : (e : NetError) → Ran b c who mid due (Refused k e) → Ran a c who from fuel (Refused (n + k) e)
-  stops_then e (fewer, (to, q, refuses)) = (omega (arith, fewer, fits), (to, plays_then a b c who from n mid k to p q, refuses))
-
 -- the same entries on the way, of which more is said
 pub goes_as : (old new : Progress) (a c : Option (List ℕ)) (before after : Pending) (Made Told : Simulation → Simulation → Type 0) → ((x y : Simulation) → Made x y → Told x y) → GoesOut old new a before c after Made → GoesOut old new a before c after Told
 goes_as old new a c before after Made Told tells goes = record {
@@ -129,43 +86,6 @@ pub sent_with : (ports : List External) (b : Option (List ℕ)) (between after :
 sent_with ports b between after more failed held start played sent =
     subst (λ (f : Bool). SentUp ports start (played ++ more) b f after.entries.items) (sym failed)
     (subst (λ es. SentUp ports start (played ++ more) b between.failed es) (sym held) (sent_more ports start between.failed b played between.entries.items more sent))
-
--- no firing yet
-pub none_fired : (p : Progress) (a : Option (List ℕ)) (pending : Pending) (who : Who) (from : ℕ) → GoesOut p p a pending a pending (λ x y. Plays x y who from 0 from)
-none_fired p a pending who from = record {
-  entries = [];
-  made = λ journal. subst (λ es. Plays (with_journal p journal) (with_journal p es) who from 0 from) (sym (append-nil journal))
-      (record { entries = []; journal = sym (append-nil journal); firings = (refl, refl, refl); wiring = refl; limit = refl; room = omega arith });
-  leads = no_more p;
-  sent = λ start played sent. subst (λ es. IsSent p.wiring.ports start es a pending) (sym (append-nil played)) sent;
-}
-
--- so many firings so far, and a buffer of them more
-module _ (old mid new : Progress) (a b c : Option (List ℕ)) (before between ready after : Pending) (who : Who) (from fired next due : ℕ) (piece : Piece) (so_far : GoesOut old mid a before b between (λ x y. Plays x y who from fired next)) (room : (start : Option (List ℕ)) (played : List Entry) → IsSent mid.wiring.ports start played b between → IsSent mid.wiring.ports start played c ready) (into : RunsInto mid new ready.entries.items after.entries.items who next due piece) (failed : after.failed ≡ ready.failed) where
-  pub piece_more : (Told : Simulation → Simulation → Type 0) → ((x y z : Simulation) → Plays x y who from fired next → RanTo y z who next due piece.next piece.end → Told x z) → GoesOut old new a before c after Told
-  piece_more Told tells = record {
-    entries = so_far.entries ++ into.entries;
-    made = λ journal. subst (λ es. Told (with_journal old journal) (with_journal new es)) (append_assoc journal so_far.entries into.entries)
-        (tells (with_journal old journal) (with_journal mid (journal ++ so_far.entries)) (with_journal new ((journal ++ so_far.entries) ++ into.entries)) (so_far.made journal) (into.ran (journal ++ so_far.entries)));
-    leads = leads_then old mid new so_far.entries into.entries so_far.leads into.leads;
-    sent = λ start played sent.
-        let wiring : mid.wiring ≡ old.wiring = (so_far.made []).wiring in
-        let here = subst (λ (w : Wiring). IsSent w.ports start (played ++ so_far.entries) b between) (sym wiring) (so_far.sent start played sent) in
-        let there = sent_with mid.wiring.ports c ready after into.entries failed into.buffer start (played ++ so_far.entries) (room start (played ++ so_far.entries) here) in
-        subst (λ (w : Wiring). IsSent w.ports start (played ++ (so_far.entries ++ into.entries)) c after) wiring
-        (subst (λ es. IsSent mid.wiring.ports start es c after) (append_assoc played so_far.entries into.entries) there);
-  }
-
--- a piece makes no more firings than were due
-abbrev pub count_of : RunEnd → ℕ
-count_of (Rest n) = n
-count_of (Spent n) = n
-count_of (Refused n e) = n
-
-pub counted : (x y : Simulation) (who : Who) (from due to : ℕ) (end : RunEnd) → RanTo x y who from due to end → count_of end ≤ due
-counted x y who from due to (Rest n) ran = let fewer = ran.0 in omega (arith, fewer)
-counted x y who from due to (Spent n) ran = let all = ran.0 in omega (arith, all)
-counted x y who from due to (Refused n e) ran = let fewer = ran.0 in omega (arith, fewer)
 
 -- Words so far, and their entries on the way.
 pub record WordsOut (old new : Progress) (old_now : Option (List ℕ)) (before : Pending) (new_now : Option (List ℕ)) (after : Pending) (cmds : List Cmd) : Type 0 where

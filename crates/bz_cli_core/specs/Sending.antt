@@ -4,7 +4,8 @@ use Rattle.std.specs.Io.KnownBytes.{Appends}
 use Rattle.bz_model.specs.declared.event.Cmd.{Cmd}
 use Rattle.bz_model.specs.declared.event.Entry.{Entry}
 use Rattle.bz_model.specs.Names.{External}
-use Rattle.bz_trace_text.specs.Writing.{HasLines, first_lines}
+use Rattle.bz_trace_text.specs.declared.outgoing.Outgoing.{Outgoing}
+use Rattle.bz_trace_text.specs.Writing.{HasLines, IsGone, first_lines}
 use Rattle.bz_net.specs.Progress.{Progress, IsToldBy, LeadsOn, with_journal}
 use Rattle.bz_net.specs.Simulation.{Simulation}
 use Rattle.bz_cli_core.specs.declared.pending.Pending.{Pending}
@@ -33,6 +34,13 @@ pub record GoesOut (old new : Progress) (old_now : Option (List ℕ)) (before : 
   pub made : (journal : List Entry) → Made (with_journal old journal) (with_journal new (journal ++ entries))
   pub leads : LeadsOn old entries new
   pub sent : (start : Option (List ℕ)) (played : List Entry) → IsSent old.wiring.ports start played old_now before → IsSent old.wiring.ports start (played ++ entries) new_now after
+
+-- The same of a run whose lines go out as they come: what comes before them has gone out, but for what waits on a page.
+pub record RunsOut (old new : Progress) (old_now : Option (List ℕ)) (before : Outgoing) (new_now : Option (List ℕ)) (after : Outgoing) (Made : Simulation → Simulation → Type 0) : Type 0 where
+  pub entries : List Entry
+  pub made : (journal : List Entry) → Made (with_journal old journal) (with_journal new (journal ++ entries))
+  pub leads : LeadsOn old entries new
+  pub gone : (ports : List External) (start : Option (List ℕ)) (played : List Entry) → IsGone start old_now before (first_lines ports played) → IsGone start new_now after (first_lines ports (played ++ entries))
 
 -- The words were played from the opening on, to their end or up to where they stop, and so their entries are on their way.
 pub record PlaysOut (old new : Progress) (old_now : Option (List ℕ)) (before : Pending) (new_now : Option (List ℕ)) (after : Pending) (cmds : List Cmd) (stop : Option Stop) : Type 0 where

@@ -12,8 +12,8 @@ use bz_text::WriteFault;
 use bz_trace::{put_clashes, put_entries, put_first_line};
 use std::io::Write;
 
-/// The entries of a play whose lines have yet to go out, in a buffer that is reserved before the first of them, and whether
-/// the writer has failed: then nothing more goes out.
+/// The entries of host commands whose lines have yet to go out, in a buffer that is reserved before the first of them, and
+/// whether the writer has failed: then nothing more goes out.
 #[derive(Drop)]
 pub(crate) struct Pending {
     pub(crate) entries: Vec<Entry>,
@@ -49,7 +49,7 @@ impl Pending {
     }
 
     /// Writes the lines of the entries, and has none left.
-    fn put<W: Write>(&mut self, names: &Names, out: &mut W)
+    pub(crate) fn put<W: Write>(&mut self, names: &Names, out: &mut W)
         ensures sent { (start : Option (List ℕ)) (played : List Entry) →
             IsSent names.now.ports start played (W.contents out.old) self.old →
             IsSent names.now.ports start played (W.contents out.new) self.new }

@@ -7,11 +7,12 @@ ghost use Rattle.bz_net.specs.Progress.{IsToldBy};
 ghost use Rattle.bz_net.specs.Running.{Ran};
 ghost use Rattle.bz_cli_core.specs.Playing.{PlaysOne, StopsOne};
 ghost use Rattle.bz_cli_core.specs.Running.{stop_of};
-ghost use Rattle.bz_cli_core.specs.Sending.{GoesOut, PlaysOut};
+ghost use Rattle.bz_cli_core.specs.Sending.{GoesOut, PlaysOut, RunsOut};
 
 use crate::pending::Pending;
-use bz_model::{Cmd, HostCmd, NetError, Who};
+use bz_model::{Cmd, Entry, HostCmd, NetError, Who};
 use bz_net::{Play, RunEnd};
+use bz_trace_text::Outgoing;
 use std::io::Write;
 
 /// Where a play stopped: at an event of this word, counted from 1, that the net refused.
@@ -94,25 +95,45 @@ fn command_out<W: Write>(
     }
 }
 
-// Fires so many times, or until no component can move, a buffer of entries at a time.
+// Fires so many times, or until no component can move. The lines go out as they come, behind those of the entries so far.
 fn run_out<W: Write>(play: &mut Play, fuel: u64, pending: &mut Pending, out: &mut W) -> RunEnd
-    requires { 0 < vec_capacity pending.old.entries }
     ensures goes { GoesOut play.old play.new (W.contents out.old) pending.old (W.contents out.new) pending.new (λ old new. Ran old new (who.Worker 1) 1 fuel result) }
     ensures room { vec_capacity pending.old.entries ≤ vec_capacity pending.new.entries }
 {
-    let mut fired = 0;
+    pending.put(play.names(), out);
+    let mut lines = Outgoing::new(pending.failed);
+    let end = fire_out(play, fuel, &mut lines, out);
+    pending.failed = lines.finish(out);
+    end
+}
+
+// The same, where all lines so far are on a page or have gone out.
+fn fire_out<W: Write>(play: &mut Play, fuel: u64, lines: &mut Outgoing, out: &mut W) -> RunEnd
+    ensures { RunsOut play.old play.new (W.contents out.old) lines.old (W.contents out.new) lines.new
+        (λ old new. Ran old new (who.Worker 1) 1 fuel result) }
+{
     let mut next = 1;
-    while fired < fuel {
-        pending.make_room(play.names(), out);
-        let piece = play.run_into(Who::Worker(1), next, fuel - fired, &mut pending.entries);
-        match piece.end {
-            RunEnd::Spent(count) => {
-                fired += count;
-                next = piece.next;
+    for fired in 0..fuel {
+        let Some(entry) = play.step(Who::Worker(1), next) else {
+            return RunEnd::Refused(fired, NetError::JournalFull);
+        };
+        match entry {
+            Entry::Fired {
+                who,
+                comp,
+                port: _,
+                chan,
+                mv,
+                value,
+            } => {
+                lines.fired(out, who, comp, mv, chan, value);
+                next = comp + 1;
             }
-            RunEnd::Rest(count) => return RunEnd::Rest(fired + count),
-            RunEnd::Refused(count, error) => return RunEnd::Refused(fired + count, error),
+            _ => {
+                lines.rested(out, Who::Worker(1));
+                return RunEnd::Rest(fired);
+            }
         }
     }
-    RunEnd::Spent(fired)
+    RunEnd::Spent(fuel)
 }

@@ -20,7 +20,7 @@ use bz_words::command;
 use std::alloc::Global;
 use std::io::{Read, Write};
 
-/// How many entries of a play go out at a time.
+/// How many entries of host commands go out at a time.
 const PIECE: usize = 2048;
 
 /// Plays the words on a part of the netlist that the reader gives, up to `journal` entries, and writes the trace as it goes.
@@ -44,7 +44,7 @@ pub fn run_cmd<R: Read, W: Write>(
     run_in_pieces(alloc, part, journal, PIECE, words, input, output)
 }
 
-/// `run_cmd` with pieces of `room` entries.
+/// `run_cmd` with a buffer of `room` entries.
 pub fn run_in_pieces<R: Read, W: Write>(
     alloc: Global,
     part: &[u8],
@@ -65,7 +65,7 @@ pub fn run_in_pieces<R: Read, W: Write>(
     play_text(alloc, part, journal, room, text, cmds.as_slice(), output)
 }
 
-// Plays the commands on a part of the text, and writes the trace in pieces of so many entries.
+// Plays the commands on a part of the text, and writes the trace through a buffer of so many entries.
 fn play_text<W: Write>(
     alloc: Global,
     part: &[u8],

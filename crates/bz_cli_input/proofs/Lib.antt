@@ -3,3 +3,4 @@ pub mod Written
 pub mod Outcomes
 pub mod Opened
 pub mod Lines
+pub mod ShortWords

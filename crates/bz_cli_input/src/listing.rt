@@ -1,13 +1,15 @@
 //! The text of a net: its ports and its components, a line for each.
 
-ghost use Rattle.std.specs.Prelude.{◌≡◌, ◌+◌, ◌<◌, ◌^◌, ◌++◌, length, map, codes};
+ghost use Rattle.std.specs.Prelude.{◌≡◌, ◌+◌, ◌<◌, ◌≤◌, ◌^◌, ◌++◌, length, map, codes};
 ghost use Rattle.std.specs.List.{flat_map};
 ghost use Rattle.bz_model.specs.Names.{external};
 ghost use Rattle.bz_model.specs.Nets.{chan_in};
 ghost use Rattle.bz_model.specs.Traces.{value_text};
 ghost use Rattle.bz_flat.specs.Flats.{site_of};
 ghost use Rattle.bz_text.specs.Writing.{Writes};
+ghost use Rattle.bz_trace_text.specs.Writing.{Composes};
 ghost use Rattle.bz_model.specs.Words.{carried_text, spaced};
+ghost use Rattle.bz_kind_rows.specs.KindWords.{kind_word};
 ghost use Rattle.bz_cli_input.specs.Listing.{sense_text, port_line, ports_text, comp_head, comp_line, lines, head_text, counts_text, comps_text, list_text};
 
 use bz_arena::{Arena, Id};
@@ -15,6 +17,7 @@ use bz_flat::{Flat, FlatComp};
 use bz_kind_rows::kind_word;
 use bz_model::{Chan, ChanKind, Kind, Port, Value};
 use bz_text::{Piece, WriteFault, put_pieces};
+use bz_trace_text::{Page, make_room};
 use std::io::Write;
 
 /// Writes the text of a net, under the name of its part. It takes no memory.
@@ -150,46 +153,100 @@ fn put_comps<W: Write>(out: &mut W, comps: &Arena<FlatComp>) -> Result<(), Write
     ensures { Writes (W.contents out.old) (W.contents out.new) result
         (lines comp_line 1 (map site_of comps.now)) }
 {
+    let mut page = Page::new();
     for place in 0..comps.len() {
-        put_comp(out, place, comps.get(Id::at(place)))?;
+        add_comp(&mut page, out, place, comps.get(Id::at(place)))?;
+    }
+    page.put(out)
+}
+
+// Composes the line of a component.
+fn add_comp<W: Write>(
+    page: &mut Page,
+    out: &mut W,
+    place: usize,
+    comp: &FlatComp,
+) -> Result<(), WriteFault>
+    ensures { Composes (W.contents out.old) (W.contents out.new) page.old page.new result
+        (comp_line (place + 1) (site_of comp.now)) }
+{
+    add_kind(page, out, place, &comp.kind)?;
+    add_line_of(page, out, &comp.chans)
+}
+
+#[inline(always)]
+fn add_kind<W: Write>(
+    page: &mut Page,
+    out: &mut W,
+    place: usize,
+    kind: &Kind,
+) -> Result<(), WriteFault>
+    ensures { Composes (W.contents out.old) (W.contents out.new) page.old page.new result
+        (comp_head (place + 1) kind.now) }
+{
+    make_room(page, out)?;
+    add_head(page, place, kind);
+    Ok(())
+}
+
+#[inline(always)]
+fn add_head(page: &mut Page, place: usize, kind: &Kind)
+    requires { length page.old + 96 ≤ 8192 }
+    ensures { page.new ≡ page.old ++ comp_head (place + 1) kind.now }
+{
+    page.word(*b"componen", 8);
+    page.word(*b"t       ", 2);
+    page.value(place as Value + 1);
+    page.byte(b' ');
+    page.text(short_word(kind));
+}
+
+#[inline(always)]
+fn short_word(kind: &Kind) -> &'static [u8]
+    ensures text { result.now ≡ kind_word kind.now }
+    ensures short { length result.now ≤ 17 }
+{
+    kind_word(kind)
+}
+
+// The numbers, a space before each, and the end of the line.
+#[inline(always)]
+fn add_line_of<W: Write>(page: &mut Page, out: &mut W, numbers: &[u32]) -> Result<(), WriteFault>
+    ensures { Composes (W.contents out.old) (W.contents out.new) page.old page.new result
+        (flat_map spaced numbers.now ++ codes "\n") }
+{
+    add_numbers(page, out, numbers)?;
+    add_end(page, out)
+}
+
+#[inline(always)]
+fn add_numbers<W: Write>(page: &mut Page, out: &mut W, numbers: &[u32]) -> Result<(), WriteFault>
+    ensures { Composes (W.contents out.old) (W.contents out.new) page.old page.new result
+        (flat_map spaced numbers.now) }
+{
+    for number in numbers {
+        add_spaced(page, out, *number)?;
     }
     Ok(())
 }
 
-fn put_comp<W: Write>(out: &mut W, place: usize, comp: &FlatComp) -> Result<(), WriteFault>
-    ensures { Writes (W.contents out.old) (W.contents out.new) result
-        (comp_line (place + 1) (site_of comp.now)) }
+#[inline(always)]
+fn add_spaced<W: Write>(page: &mut Page, out: &mut W, number: u32) -> Result<(), WriteFault>
+    ensures { Composes (W.contents out.old) (W.contents out.new) page.old page.new result
+        (spaced number) }
 {
-    put_kind(out, place, &comp.kind)?;
-    put_line_of(out, &comp.chans)
+    make_room(page, out)?;
+    page.byte(b' ');
+    page.number(number);
+    Ok(())
 }
 
-fn put_kind<W: Write>(out: &mut W, place: usize, kind: &Kind) -> Result<(), WriteFault>
-    ensures { Writes (W.contents out.old) (W.contents out.new) result
-        (comp_head (place + 1) kind.now) }
+#[inline(always)]
+fn add_end<W: Write>(page: &mut Page, out: &mut W) -> Result<(), WriteFault>
+    ensures { Composes (W.contents out.old) (W.contents out.new) page.old page.new result
+        (codes "\n") }
 {
-    let pieces = [
-        Piece::Bytes(b"component "),
-        Piece::Number(place as Value + 1),
-        Piece::Bytes(b" "),
-        Piece::Bytes(kind_word(kind)),
-    ];
-    put_pieces(out, &pieces)
-}
-
-// The numbers, a space before each, and the end of the line.
-fn put_line_of<W: Write>(out: &mut W, numbers: &[u32]) -> Result<(), WriteFault>
-    ensures { Writes (W.contents out.old) (W.contents out.new) result
-        (flat_map spaced numbers.now ++ codes "\n") }
-{
-    for number in numbers {
-        put_spaced(out, *number)?;
-    }
-    put_pieces(out, &[Piece::Bytes(b"\n")])
-}
-
-fn put_spaced<W: Write>(out: &mut W, number: u32) -> Result<(), WriteFault>
-    ensures { Writes (W.contents out.old) (W.contents out.new) result (spaced number) }
-{
-    put_pieces(out, &[Piece::Value(Some(Value::from(number)))])
+    make_room(page, out)?;
+    page.byte(b'\n');
+    Ok(())
 }

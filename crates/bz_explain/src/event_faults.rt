@@ -1,9 +1,9 @@
 //! Events that a net refuses.
 
 use crate::asked::Words;
-use crate::component_faults::{NEAREST, port_names};
 use crate::told::FULL;
-use bz_breeze_records::Part as PartRecord;
+use bz_breeze_records::Part;
+use bz_explain_net::{NEAREST, port_names};
 use bz_explain_notes::Arg::{Count, Name, Number, Text, Wide, Word};
 use bz_explain_notes::Draft;
 use bz_model::{Chan, Cmd, HostCmd, NetError, Port, Value, Verb, low_bits};
@@ -19,14 +19,14 @@ struct Outside<'t> {
 /// Goes on with the notes of an event of a word that was refused, by its number from 1.
 pub(crate) fn explain_event(
     draft: &mut Draft,
-    part: &PartRecord,
+    part: &Part,
     words: Words<'_, '_>,
     number: usize,
     error: NetError,
 ) {
     if let Some(word) = words.word(number) {
-        let found = Word(word.as_bytes());
-        draft.put("found: word % is %", &[Number(number), found]);
+        let args = [Number(number), Word(word.as_bytes())];
+        draft.put("found: word % is %", &args);
         explain_refused(draft, part, word, error);
     }
 }
@@ -34,7 +34,7 @@ pub(crate) fn explain_event(
 /// The notes of an event that ended a session of a pool: of its first word that is refused for such a reason.
 pub(crate) fn explain_session(
     draft: &mut Draft,
-    part: &PartRecord,
+    part: &Part,
     words: Words<'_, '_>,
     session: usize,
     error: NetError,
@@ -57,7 +57,7 @@ pub(crate) fn explain_session(
 }
 
 // Whether a word is refused for a reason, at any moment.
-fn is_refused(draft: &mut Draft, part: &PartRecord, word: &str, error: NetError) -> bool {
+fn is_refused(draft: &mut Draft, part: &Part, word: &str, error: NetError) -> bool {
     let Some(HostCmd { verb, port, value }) = host_cmd(draft, word) else {
         return false;
     };
@@ -81,7 +81,7 @@ fn host_cmd(draft: &mut Draft, word: &str) -> Option<HostCmd> {
 }
 
 // The external port of a name.
-fn port_named<'t>(part: &'t PartRecord, name: &[u8]) -> Option<Outside<'t>> {
+fn port_named<'t>(part: &'t Part, name: &[u8]) -> Option<Outside<'t>> {
     for (port, chan) in part.ports.iter().zip(part.channels.iter()) {
         if port.name.as_slice() == name {
             return Some(Outside { port, chan: *chan });
@@ -91,7 +91,7 @@ fn port_named<'t>(part: &'t PartRecord, name: &[u8]) -> Option<Outside<'t>> {
 }
 
 // Goes on with why a word of a host was refused.
-fn explain_refused(draft: &mut Draft, part: &PartRecord, word: &str, error: NetError) {
+fn explain_refused(draft: &mut Draft, part: &Part, word: &str, error: NetError) {
     if let Some(HostCmd { verb, port, .. }) = host_cmd(draft, word) {
         match port_named(part, &port) {
             None => explain_unknown(draft, part, &port),
@@ -101,7 +101,7 @@ fn explain_refused(draft: &mut Draft, part: &PartRecord, word: &str, error: NetE
 }
 
 // A port that there is not.
-fn explain_unknown(draft: &mut Draft, part: &PartRecord, name: &[u8]) {
+fn explain_unknown(draft: &mut Draft, part: &Part, name: &[u8]) {
     let names = draft.gathered(port_names(draft.alloc(), &part.ports));
     let args = [Name(name), Count(names.len(), "port", "ports")];
     draft.put(", and no port has the name %\nexpected: one of %", &args);
@@ -111,41 +111,35 @@ fn explain_unknown(draft: &mut Draft, part: &PartRecord, name: &[u8]) {
 
 impl Outside<'_> {
     // A word that the port doesn't take.
-    fn explain(self, draft: &mut Draft, verb: Verb, error: NetError) {
-        let name = Name(&self.port.name);
-        let width = self.chan.width;
+    fn explain(&self, draft: &mut Draft, verb: Verb, error: NetError) {
+        draft.put(", and port % ", &[Name(&self.port.name)]);
         match error {
             NetError::WrongSide if self.port.passive => {
-                let form =
-                    ", and port % is passive: there the host asks and the net answers\nexpected: ";
-                draft.put(form, &[name]);
-                self.put_words(draft, &[Verb::Offer, Verb::Collect]);
+                draft.put("is passive: there the host asks and the net answers", &[]);
+                self.say_words(draft, &[Verb::Offer, Verb::Collect]);
             }
             NetError::WrongSide => {
-                let form =
-                    ", and port % is active: there the net asks and the host answers\nexpected: ";
-                draft.put(form, &[name]);
-                self.put_words(draft, &[Verb::Accept, Verb::Answer]);
+                draft.put("is active: there the net asks and the host answers", &[]);
+                self.say_words(draft, &[Verb::Accept, Verb::Answer]);
             }
             NetError::ValueMissing | NetError::ValueUnwanted => {
                 let has_value = verb.wants_value(self.chan.kind);
                 let value = Text(if has_value { "a" } else { "no" });
-                draft.put(
-                    ", and port % carries % value there\nexpected: ",
-                    &[name, value],
-                );
-                self.put_words(draft, &[verb]);
+                draft.put("carries % value there", &[value]);
+                self.say_words(draft, &[verb]);
             }
             _ => {
+                let width = self.chan.width;
                 let bits = Count(width as usize, "bit", "bits");
-                let args = [name, bits, Wide(low_bits(Value::MAX, width))];
-                draft.say(", and port % has %\nexpected: a value up to %", &args);
+                let args = [bits, Wide(low_bits(Value::MAX, width))];
+                draft.say("has %\nexpected: a value up to %", &args);
             }
         }
     }
 
-    // Goes on with words at the port, one after the other: `accept:i, and then answer:i:V with V below 2^8`.
-    fn put_words(self, draft: &mut Draft, verbs: &[Verb]) {
+    // Tells words that fit at the port, one after the other: `accept:i, and then answer:i:V with V below 2^8`.
+    fn say_words(&self, draft: &mut Draft, verbs: &[Verb]) {
+        draft.put("\nexpected: ", &[]);
         let mut before = "";
         for verb in verbs {
             let form = if verb.wants_value(self.chan.kind) {

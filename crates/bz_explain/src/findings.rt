@@ -1,111 +1,104 @@
-//! Faults of a netlist that are told beside one another.
+//! Findings in a netlist, which are told beside one another.
 
 use crate::mended::Mended;
-use crate::net_faults::explain_refusal;
-use crate::site::Netlist;
-use crate::wired::Wired;
 use bz_breeze_records::Part;
-use bz_cli_input::in_part;
+use bz_cli_input::{Fault, in_part};
 use bz_elab::{CompAt, ElabError, first_fault};
-use bz_explain_notes::{Draft, Finding, Findings, Severity, Spot};
+use bz_explain_net::{Netlist, Wired, explain_refusal};
+use bz_explain_notes::{Draft, Finding, Findings, Severity};
 use bz_model::Chan;
 use bz_text::Text;
 use std::alloc::{AllocError, Global};
-use std::fmt::Display;
 use std::io::Write;
 
 /// The most findings that are told.
-pub(crate) const MOST_TOLD: usize = 20;
+const MOST_TOLD: usize = 20;
 
-/// Findings while they are gathered, up to the most that are told.
+/// Findings in a netlist while they are gathered, up to the most that are told.
 #[derive(Drop)]
-pub(crate) struct Gathered {
-    pub(crate) findings: Findings,
-    most: usize,
+pub struct Gathered<'t> {
+    pub netlist: Netlist<'t>,
+    pub findings: Findings,
     /// A refusal that is told elsewhere.
     told: Option<ElabError>,
     /// The components at fault, one more than are told at most.
     faulty: Vec<CompAt>,
 }
 
-impl Gathered {
+impl<'t> Gathered<'t> {
     /// No findings yet, where this refusal is told in front of them.
-    pub(crate) fn new(alloc: Global, told: Option<ElabError>) -> Gathered {
-        let most = match told {
-            Some(_) => MOST_TOLD - 1,
-            None => MOST_TOLD,
-        };
+    pub fn new(netlist: Netlist<'t>, told: Option<ElabError>) -> Gathered<'t> {
         Gathered {
-            findings: no_findings(alloc),
-            most,
+            netlist,
+            findings: no_findings(netlist.alloc),
             told,
-            faulty: Vec::new(alloc),
+            faulty: Vec::new(netlist.alloc),
         }
     }
 
     /// Whether nothing was found in all that was to be looked at.
-    pub(crate) fn is_empty(&self) -> bool {
+    pub fn is_empty(&self) -> bool {
         self.findings.list.is_empty() && self.findings.unopened == 0
     }
 
-    /// Whether what is found from now on is counted alone.
-    pub(crate) fn counts(&mut self) -> bool {
-        let is_full = self.findings.list.len() >= self.most;
-        if is_full {
+    /// Whether there is room for one finding more. What is found from then on is counted alone.
+    pub fn has_room(&mut self) -> bool {
+        let most = match self.told {
+            Some(_) => MOST_TOLD - 1,
+            None => MOST_TOLD,
+        };
+        let has_room = self.findings.list.len() < most;
+        if !has_room {
             self.findings.more = self.findings.more.saturating_add(1);
         }
-        is_full
+        has_room
     }
 
-    /// One finding more, for which there is room.
-    pub(crate) fn add(
+    /// One finding more, for which there is room. It stands where its notes say, or else where the part of this name begins.
+    pub fn add(
         &mut self,
         severity: Severity,
         line: Text,
-        spot: Spot,
+        part: &[u8],
         notes: Draft,
     ) -> Result<(), AllocError> {
-        let finding = Finding {
+        let spot = match notes.spot() {
+            Some(spot) => spot,
+            None => self.netlist.spot_of_part(part),
+        };
+        self.findings.list.push(Finding {
             severity,
             line,
             spot,
             notes,
-        };
-        Ok(self.findings.list.push(finding)?)
+        })?;
+        Ok(())
     }
 
-    /// A refusal of a part.
-    pub(crate) fn refuse(
+    /// A refusal of a part, whose net is at hand where it is one of ends.
+    pub fn refuse(
         &mut self,
-        netlist: Netlist<'_>,
         asked: &[u8],
         error: ElabError,
         wired: Option<&Wired>,
     ) -> Result<(), AllocError> {
-        if self.told == Some(error) || self.counts() {
+        if self.told == Some(error) || !self.has_room() {
             return Ok(());
         }
-        let alloc = netlist.alloc;
-        let mut notes = Draft::on(alloc, netlist.file);
+        let netlist = self.netlist;
+        let mut notes = Draft::on(netlist.alloc, netlist.file);
         explain_refusal(&mut notes, netlist, asked, error, wired);
-        let line = line_of(alloc, &in_part(alloc, netlist.parts.list(), asked, error));
-        let spot = match notes.spot() {
-            Some(spot) => spot,
-            None => netlist.spot_of_part(asked),
-        };
-        self.add(Severity::Fault, line, spot, notes)
+        let fault = in_part(netlist.alloc, netlist.parts.list(), asked, error);
+        let line = line_of(netlist.alloc, &fault);
+        self.add(Severity::Fault, line, asked, notes)
     }
 
     /// The first refusal of each component of the marked parts, in the order of the text.
-    pub(crate) fn refuse_components(
-        &mut self,
-        netlist: Netlist<'_>,
-        marks: &[bool],
-    ) -> Result<(), AllocError> {
-        let mut carried = Vec::new(netlist.alloc);
-        for (number, part) in netlist.parts.list().iter().enumerate() {
+    pub fn refuse_components(&mut self, marks: &[bool]) -> Result<(), AllocError> {
+        let mut carried = Vec::new(self.netlist.alloc);
+        for (number, part) in self.netlist.parts.list().iter().enumerate() {
             if marks.get(number).copied().unwrap_or(false) {
-                self.refuse_part(netlist, number, part, &mut carried)?;
+                self.refuse_part(number, part, &mut carried)?;
             }
         }
         Ok(())
@@ -113,49 +106,38 @@ impl Gathered {
 
     fn refuse_part(
         &mut self,
-        netlist: Netlist<'_>,
         number: usize,
         part: &Part,
         carried: &mut Vec<Chan>,
     ) -> Result<(), AllocError> {
-        let mut position = 0usize;
-        for component in &part.components {
-            position = position.saturating_add(1);
-            let fault = first_fault(
-                netlist.alloc,
-                netlist.parts,
-                &part.channels,
-                component,
-                carried,
-            )?;
+        let Netlist { alloc, parts, .. } = self.netlist;
+        for (place, component) in part.components.iter().enumerate() {
+            let fault = first_fault(alloc, parts, &part.channels, component, carried)?;
             if let Some(fault) = fault {
                 let at = CompAt {
                     part: number,
-                    position,
+                    position: place + 1,
                 };
                 if self.faulty.len() <= MOST_TOLD {
                     self.faulty.push(at)?;
                 }
-                self.refuse(netlist, part.name.as_slice(), fault.at(at), None)?;
+                self.refuse(&part.name, fault.at(at), None)?;
             }
         }
         Ok(())
     }
-}
 
-impl Gathered {
     /// The netlist without the components that were found to be at fault; none where nothing would be left to tell of it.
-    pub(crate) fn mended(&self, netlist: Netlist<'_>) -> Result<Option<Mended>, AllocError> {
+    pub fn mended(&self) -> Result<Option<Mended>, AllocError> {
         if self.faulty.is_empty() || self.faulty.len() > MOST_TOLD {
             return Ok(None);
         }
-        Mended::of(netlist, self.faulty.as_slice())
+        Mended::of(self.netlist, &self.faulty)
     }
 
     /// What is wrong with the ends of channels in the net of a part, whatever the components at fault turn out to be.
-    pub(crate) fn refuse_ends(
+    pub fn refuse_ends(
         &mut self,
-        netlist: Netlist<'_>,
         asked: &[u8],
         wired: &Wired,
         mended: Option<&Mended>,
@@ -166,7 +148,7 @@ impl Gathered {
                 None => true,
             };
             if is_certain {
-                self.refuse(netlist, asked, *error, Some(wired))?;
+                self.refuse(asked, *error, Some(wired))?;
             }
         }
         Ok(())
@@ -174,7 +156,7 @@ impl Gathered {
 }
 
 /// Nothing that was found.
-pub(crate) fn no_findings(alloc: Global) -> Findings {
+pub fn no_findings(alloc: Global) -> Findings {
     Findings {
         list: Vec::new(alloc),
         more: 0,
@@ -183,7 +165,7 @@ pub(crate) fn no_findings(alloc: Global) -> Findings {
 }
 
 /// What a fault writes of itself.
-pub(crate) fn line_of<D: Display>(alloc: Global, fault: &D) -> Text {
+pub fn line_of(alloc: Global, fault: &Fault) -> Text {
     let mut line = Text::new(alloc);
     let _ = write!(line, "{fault}");
     line

@@ -1,10 +1,8 @@
 //! Members of a part's forms that are at fault.
 
-use crate::data::{
-    Head, Members, Which, find, find_named, headed, inside, is_chan, name_in, nth, put_datum,
-    say_found,
-};
 use crate::part_faults::Wrong;
+use crate::reading::{find_named, name_in, put_datum, say_found};
+use bz_explain_net::{Head, Members, headed, inside, nth};
 use bz_explain_notes::Arg::{Name, Number, Wide};
 use bz_explain_notes::Draft;
 use bz_model::MAX_WIDTH;
@@ -22,13 +20,13 @@ enum Field {
 /// What a member of a form is: its head, one of two, what follows that, with the words for that place, and how notes put it.
 #[derive(Clone, Copy)]
 struct Rule {
-    heads: [&'static str; 2],
+    heads: [&'static [u8]; 2],
     fields: &'static [(Field, &'static str)],
     expected: &'static str,
 }
 
 static PORT: Rule = Rule {
-    heads: ["port", "sync-port"],
+    heads: [b"port", b"sync-port"],
     fields: &[
         (Field::Name, " where its name belongs"),
         (Field::Sense, " where its sense belongs"),
@@ -38,13 +36,13 @@ static PORT: Rule = Rule {
 
 // (a sync channel is never at fault)
 static CHANNEL: Rule = Rule {
-    heads: ["push", "pull"],
+    heads: [b"push", b"pull"],
     fields: &[(Field::Number, " where its width belongs")],
     expected: "expected: (sync), (push W) or (pull W), W from 1 to 128",
 };
 
 static COMPONENT: Rule = Rule {
-    heads: ["component", "component"],
+    heads: [b"component", b"component"],
     fields: &[
         (Field::Name, " where its name belongs"),
         (Field::List, " where its parameters belong"),
@@ -68,7 +66,7 @@ impl Field {
 }
 
 /// A member of a form that has none of the shapes, the name of an earlier port, or a width that is out of bounds.
-pub(crate) fn explain_member(draft: &mut Draft, part: Wrong<'_>, head: Head, member: Form<'_>) {
+pub(crate) fn explain_member(draft: &mut Draft, part: &Wrong<'_>, head: Head, member: Form<'_>) {
     let rule = match head {
         Head::Ports => PORT,
         Head::Channels => CHANNEL,
@@ -78,17 +76,16 @@ pub(crate) fn explain_member(draft: &mut Draft, part: Wrong<'_>, head: Head, mem
     match (inside(member), headed(member)) {
         (None, _) => say_found(draft, Some(member), ""),
         (Some(items), None) => say_found(draft, nth(items, 1), " where its head belongs"),
-        (_, Some((word, rest))) => {
-            let is_headed = word == one.as_bytes() || word == other.as_bytes();
-            match wrong_in(rule, member, rest) {
-                _ if !is_headed => draft.say("found: the head %", &[Name(word)]),
-                Some((form, place)) => say_found(draft, form, place),
-                None => {
-                    let last = nth(rest, rule.fields.len());
-                    return explain_whole(draft, part, member, last);
-                }
-            }
+        (_, Some((word, _))) if word != one && word != other => {
+            draft.say("found: the head %", &[Name(word)]);
         }
+        (_, Some((_, rest))) => match wrong_in(rule, member, rest) {
+            Some((form, place)) => say_found(draft, form, place),
+            None => {
+                let last = nth(rest, rule.fields.len());
+                return explain_whole(draft, part, member, last);
+            }
+        },
     }
     draft.say(rule.expected, &[]);
 }
@@ -99,13 +96,11 @@ fn wrong_in<'t>(
     member: Form<'t>,
     rest: Forms<'t>,
 ) -> Option<(Option<Form<'t>>, &'static str)> {
-    let mut number = 0usize;
-    for (field, place) in rule.fields {
-        number = number.saturating_add(1);
-        match nth(rest, number) {
+    for (before, (field, place)) in rule.fields.iter().enumerate() {
+        match nth(rest, before + 1) {
             Some(form) if field.is(form) => {}
             // (a component that lacks something is told as a whole, but for its name)
-            form if rule.fields.len() == 3 && rest.len() < 3 && (number > 1 || form.is_none()) => {
+            form if rule.fields.len() == 3 && rest.len() < 3 && (before > 0 || form.is_none()) => {
                 return Some((Some(member), ""));
             }
             form => return Some((form, place)),
@@ -116,7 +111,7 @@ fn wrong_in<'t>(
 
 // A member that has the shape: a width that is out of bounds, entries of which one is none, or a port of a name that is taken.
 // These are last in the shape, or a sense.
-fn explain_whole(draft: &mut Draft, part: Wrong<'_>, member: Form<'_>, last: Option<Form<'_>>) {
+fn explain_whole(draft: &mut Draft, part: &Wrong<'_>, member: Form<'_>, last: Option<Form<'_>>) {
     match shape(last) {
         Some(Shape::Leaf(Leaf::Num(width))) => {
             let args = [Wide(width), Number(MAX_WIDTH as usize)];
@@ -132,9 +127,8 @@ fn shape(form: Option<Form<'_>>) -> Option<Shape<'_>> {
 }
 
 // A port whose name an earlier port has.
-fn explain_taken(draft: &mut Draft, part: Wrong<'_>, member: Form<'_>) {
-    if let (Some(name), Some(ports)) = (name_in(member, None), part.members(Head::Ports)) {
-        let name = draft.gathered(name.bytes(draft.alloc()));
+fn explain_taken(draft: &mut Draft, part: &Wrong<'_>, member: Form<'_>) {
+    if let (Some(name), Some(ports)) = (name_in(draft, member, None), part.members(Head::Ports)) {
         if let Some((number, earlier)) = find_named(draft, ports, None, &name) {
             let found = "found: the name %, which port % has too (";
             draft.put(found, &[Name(&name), Number(number)]);
@@ -162,11 +156,25 @@ fn explain_entries(draft: &mut Draft, entries: Forms<'_>) {
 
 fn wrong_entry(entry: Form<'_>) -> Option<(&'static str, Form<'_>)> {
     match inside(entry) {
-        Some(members) => {
-            let (_, wrong) = find(members, Which::NoChannel)?;
-            Some(("found: entry % has ", wrong))
-        }
+        Some(members) => Some(("found: entry % has ", no_chan(members)?)),
         None if is_chan(entry) => None,
         None => Some(("found: entry % is ", entry)),
+    }
+}
+
+// The first datum that can't be the number of a channel.
+fn no_chan(data: Forms<'_>) -> Option<Form<'_>> {
+    for (_, form) in Members::of(data) {
+        if !is_chan(form) {
+            return Some(form);
+        }
+    }
+    None
+}
+
+fn is_chan(form: Form<'_>) -> bool {
+    match form.shape() {
+        Shape::Leaf(Leaf::Num(number)) => number <= u128::from(u32::MAX),
+        _ => false,
     }
 }

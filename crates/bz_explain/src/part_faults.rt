@@ -1,14 +1,12 @@
 //! Parts that are at fault: what stands at the byte that the fault tells.
 
-use crate::data::{
-    Head, Which, find, find_named, headed, members_of, name_in, nth, part_items, say_found,
-};
 use crate::member_faults::explain_member;
-use crate::site::put_place;
+use crate::reading::{find_named, name_in, say_found};
 use bz_breeze::ByteAt;
+use bz_explain_net::{Head, Which, find, headed, members_of, nth, part_items, put_place};
 use bz_explain_notes::Arg::{self, At, Count, Name, Number};
 use bz_explain_notes::{Draft, spot_of};
-use bz_sexpr::{Form, Forms, Text};
+use bz_sexpr::{Form, Forms};
 
 /// A part that is at fault.
 #[derive(Clone, Copy)]
@@ -43,7 +41,7 @@ pub(crate) fn explain_part(draft: &mut Draft, text: &[u8], netlist: Forms<'_>, p
 
 impl<'t> Wrong<'t> {
     // What stands at the byte, and why that is wrong.
-    fn explain(self, draft: &mut Draft, part: Form<'_>, netlist: Forms<'_>) {
+    fn explain(&self, draft: &mut Draft, part: Form<'_>, netlist: Forms<'_>) {
         match find(self.items, Which::Holding(self.at)) {
             _ if part.span().from == self.at => {
                 self.put_mark(draft, "this part", &[]);
@@ -64,7 +62,7 @@ impl<'t> Wrong<'t> {
     }
 
     // A form that is a second one of its head, or has a member that is at fault.
-    fn explain_form(self, draft: &mut Draft, item: Form<'_>) {
+    fn explain_form(&self, draft: &mut Draft, item: Form<'_>) {
         let (Some(head), Some((_, members))) = (Head::of(item), headed(item)) else {
             return;
         };
@@ -72,10 +70,9 @@ impl<'t> Wrong<'t> {
         if item.span().from == self.at {
             self.put_mark(draft, "the second %s form of part %", &[word, name]);
             self.put_first(draft, find(self.items, Which::Headed(head)));
-            draft.say(
-                "expected: each of ports, channels and components at most once in a part",
-                &[],
-            );
+            let expected =
+                "expected: each of ports, channels and components at most once in a part";
+            draft.say(expected, &[]);
         } else if let Some((number, member)) = find(members, Which::Holding(self.at)) {
             self.put_mark(draft, "% % of part %", &[word, Number(number), name]);
             explain_member(draft, self, head, member);
@@ -83,24 +80,24 @@ impl<'t> Wrong<'t> {
     }
 
     // Tells where it is at fault, and by a form what stands there.
-    fn put_mark(self, draft: &mut Draft, mark: &str, args: &[Arg<'_>]) {
+    fn put_mark(&self, draft: &mut Draft, mark: &str, args: &[Arg<'_>]) {
         put_place(draft, self.text, self.at, mark, args);
     }
 
     // Tells where the first one of two stands.
-    fn put_first(self, draft: &mut Draft, first: Option<(usize, Form<'_>)>) {
+    fn put_first(&self, draft: &mut Draft, first: Option<(usize, Form<'_>)>) {
         if let Some((_, first)) = first {
             draft.say("found: its first one is at %", &[self.spot_of(first)]);
         }
     }
 
     /// The line and column of a datum.
-    pub(crate) fn spot_of(self, form: Form<'_>) -> Arg<'static> {
+    pub(crate) fn spot_of(&self, form: Form<'_>) -> Arg<'static> {
         At(Some(spot_of(self.text, form.span().from)))
     }
 
     // Fewer channels than ports.
-    fn explain_missing(self, draft: &mut Draft) {
+    fn explain_missing(&self, draft: &mut Draft) {
         let channels = self.count(Head::Channels);
         let lacking = channels.saturating_add(1);
         let args = [
@@ -110,8 +107,7 @@ impl<'t> Wrong<'t> {
         ];
         self.put_mark(draft, "part % ends here", &[Name(self.name)]);
         draft.put("found: % and %: port %", &args);
-        if let Some(name) = self.name_of_port(lacking) {
-            let name = draft.gathered(name.bytes(draft.alloc()));
+        if let Some(name) = self.name_of_port(draft, lacking) {
             draft.put(", %,", &[Name(&name)]);
         }
         draft.say(
@@ -122,12 +118,12 @@ impl<'t> Wrong<'t> {
     }
 
     // The name of a port by its number, where it has one.
-    fn name_of_port(self, number: usize) -> Option<Text<'t>> {
-        name_in(nth(self.members(Head::Ports)?, number)?, None)
+    fn name_of_port(&self, draft: &mut Draft, number: usize) -> Option<Vec<u8>> {
+        name_in(draft, nth(self.members(Head::Ports)?, number)?, None)
     }
 
     // How many members one of its forms has.
-    fn count(self, head: Head) -> usize {
+    fn count(&self, head: Head) -> usize {
         match self.members(head) {
             Some(members) => members.len(),
             None => 0,

@@ -2,13 +2,12 @@
 
 use bz_cli_input::Fault;
 use bz_model::{NetError, Who};
-use bz_sexpr::SexprError;
 
 /// A journal without room for one entry more.
 pub(crate) const FULL: &str = "found: a journal that has as many entries as it may have\n\
     expected: fewer events, or --journal with a greater number, up to 16777216";
 
-const MEMORY: &str = "found: a want of memory\n\
+pub(crate) const MEMORY: &str = "found: a want of memory\n\
     expected: more memory, or a smaller netlist or journal";
 
 const DISCORD: &str = "found: a record or share that is no part of the journal\n\
@@ -26,7 +25,6 @@ const WRITE: &str = "found: an output that took not all that was written\n\
 /// What is told of a fault that says all by itself.
 pub(crate) fn told_of(fault: &Fault) -> Option<&'static str> {
     match fault {
-        Fault::Text(error) => Some(told_of_text(*error)),
         Fault::Event { error, .. } if *error == NetError::JournalFull => Some(FULL),
         Fault::Ended { who, .. } if matches!(who, Who::Worker(_)) => Some(FULL),
         Fault::Discord { .. } => Some(DISCORD),
@@ -34,32 +32,11 @@ pub(crate) fn told_of(fault: &Fault) -> Option<&'static str> {
         Fault::Read => Some(READ),
         Fault::Write => Some(WRITE),
         Fault::Memory => Some(MEMORY),
-        Fault::Word(_)
+        Fault::Text(_)
+        | Fault::Word(_)
         | Fault::Part(_)
         | Fault::Net { .. }
         | Fault::Event { .. }
         | Fault::Ended { .. } => None,
-    }
-}
-
-fn told_of_text(error: SexprError) -> &'static str {
-    match error {
-        SexprError::StrayClose(_) => {
-            "found: a closing parenthesis where no list is open\n\
-            expected: as many closing parentheses as opening ones"
-        }
-        SexprError::UnclosedText(_) => {
-            "found: the netlist ends before the text does\n\
-            expected: a closing quote, probably on this line"
-        }
-        SexprError::UnclosedList(_) => {
-            "found: the netlist ends before the list does\n\
-            expected: a closing parenthesis for each opening one"
-        }
-        SexprError::TooDeep(_) => {
-            "found: a list of the 257th level\n\
-            expected: lists of at most 256 levels"
-        }
-        SexprError::Memory => MEMORY,
     }
 }

@@ -40,10 +40,8 @@ fn rule_of(verb: &str) -> Option<&'static str> {
 fn explain_verb(draft: &mut Draft, verb: &str, is_pool: bool) {
     let verbs: [&[u8]; 6] = [b"offer", b"collect", b"accept", b"answer", b"watch", b"run"];
     let (firing, count) = if is_pool { ("", 5) } else { (" run:N", 6) };
-    draft.say(
-        "one of offer:P[:V] collect:P accept:P answer:P[:V] watch:P%",
-        &[Text(firing)],
-    );
+    let form = "one of offer:P[:V] collect:P accept:P answer:P[:V] watch:P%";
+    draft.say(form, &[Text(firing)]);
     let nearest = "help: the nearest verb is %";
     draft.say_nearest(nearest, verb.as_bytes(), &verbs[..count]);
 }

@@ -2,6 +2,7 @@
 
 use crate::claim::Claim;
 use crate::items::line_of;
+use bz_explain_notes::Arg::Text;
 use bz_explain_notes::{Draft, put_source};
 
 /// The bytes of a line that begins a trace.
@@ -42,7 +43,7 @@ pub(crate) fn explain_beginning(draft: &mut Draft, claim: Claim<'_>) {
 fn explain_first(draft: &mut Draft, trace: &[u8], line: &[u8]) {
     put_source(draft, trace, 0, " of the trace");
     match near_of(line) {
-        Some((_, near)) if !matches!(near, Near::Joined) => draft.say(told_of(near), &[]),
+        Some((_, near)) if !matches!(near, Near::Joined) => say_near(draft, near),
         _ => draft.say(
             "the first line\n\
             expected: a line that is exactly trace 1 or trace 2\n\
@@ -62,7 +63,7 @@ fn explain_netlist(draft: &mut Draft, netlist: &[u8]) {
     match nearest(netlist) {
         Some((at, near)) => {
             put_source(draft, netlist, at, "");
-            draft.say(told_of(near), &[]);
+            say_near(draft, near);
         }
         None => draft.say(
             "help: --trace FILE takes the trace from a file; or cat makes one text of a netlist and a trace",
@@ -75,40 +76,26 @@ fn is_version(line: &[u8]) -> bool {
     line == b"trace 1".as_slice() || line == b"trace 2".as_slice()
 }
 
-fn told_of(near: Near) -> &'static str {
-    match near {
-        Near::Joined => {
-            "this line almost begins one\n\
-            help: an end of line is missing in front of it: the netlist's last line has none"
-        }
-        Near::Return => {
-            "this line almost begins one\n\
-            help: a carriage return (CR) stands before its end"
-        }
-        Near::Blanks => {
-            "this line almost begins one\n\
-            help: blanks stand beside it"
-        }
-        Near::Version => {
-            "this line almost begins one\n\
-            help: the versions of traces are 1 and 2"
-        }
-    }
+// Tells that a line almost begins a trace, and why it doesn't.
+fn say_near(draft: &mut Draft, near: Near) {
+    let help = match near {
+        Near::Joined =>
+            "an end of line is missing in front of it: the netlist's last line has none",
+        Near::Return => "a carriage return (CR) stands before its end",
+        Near::Blanks => "blanks stand beside it",
+        Near::Version => "the versions of traces are 1 and 2",
+    };
+    draft.say("this line almost begins one\nhelp: %", &[Text(help)]);
 }
 
 // The first line that almost begins a trace: the byte at which it does, and why it doesn't.
 fn nearest(text: &[u8]) -> Option<(usize, Near)> {
     let mut start = 0usize;
-    for (place, byte) in text.iter().enumerate() {
-        if place == start {
-            let (_, rest) = text.split_at(place.min(text.len()));
-            if let Some((before, near)) = near_of(line_of(rest)) {
-                return Some((place.saturating_add(before), near));
-            }
+    for line in text.split(|byte| *byte == b'\n') {
+        if let Some((before, near)) = near_of(line) {
+            return Some((start.saturating_add(before), near));
         }
-        if *byte == b'\n' {
-            start = place.saturating_add(1);
-        }
+        start = start.saturating_add(line.len()).saturating_add(1);
     }
     None
 }

@@ -1,18 +1,17 @@
 //! Clash lines that no run has.
 
-use crate::scene::{Scene, put_line};
+use crate::scene::Scene;
 use bz_explain_notes::Arg::Number;
 use bz_explain_notes::Draft;
 
 /// The notes of a clash line, or of the end of the trace, where the line of a component is due, or none is.
 pub(crate) fn explain_clash(
     draft: &mut Draft,
-    scene: Scene<'_>,
-    place: (&[u8], usize),
+    scene: &Scene<'_>,
     found: Option<u32>,
     due: Option<u32>,
 ) {
-    put_line(draft, place, 2);
+    scene.line.put(draft, 2);
     match found {
         Some(comp) => {
             scene.put_placed(draft, comp);
@@ -22,16 +21,14 @@ pub(crate) fn explain_clash(
     }
     match due {
         Some(comp) => {
-            draft.put(
-                "expected: clash %, since requests met at ",
-                &[Number(comp as usize)],
-            );
+            let form = "expected: clash %, since requests met at ";
+            draft.put(form, &[Number(comp as usize)]);
             scene.put_placed(draft, comp);
         }
-        None => draft.put(
-            "expected: the end of the trace: requests met nowhere else",
-            &[],
-        ),
+        None => {
+            let form = "expected: the end of the trace: requests met nowhere else";
+            draft.put(form, &[]);
+        }
     }
     draft.say("", &[]);
 }

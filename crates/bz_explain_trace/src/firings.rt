@@ -1,10 +1,34 @@
 //! Firings and rests that no run has.
 
-use crate::reasons::{Firing, Misfire};
-use crate::scene::{Scene, put_line};
+use crate::scene::{Scene, phase_of};
 use bz_explain_notes::Arg::{self, Count, Name, Number, Spaced, Text};
 use bz_explain_notes::Draft;
-use bz_model::{Move, Phase};
+use bz_model::{Move, Phase, Value};
+use std::alloc::Global;
+
+/// A firing, as a line has it.
+#[derive(Clone, Copy)]
+pub(crate) struct Firing {
+    pub(crate) comp: u32,
+    pub(crate) chan: u32,
+    pub(crate) mv: Move,
+    pub(crate) value: Option<Value>,
+}
+
+/// What is wrong with a firing.
+#[derive(Clone, Copy)]
+enum Misfire {
+    /// The net has no such component.
+    NoComp,
+    /// The net has no such channel.
+    NoChan,
+    /// The component doesn't hold the end of the channel at which such a move is made.
+    NoEnd,
+    /// It can't make this move while the channel is in this phase.
+    NotNow(Phase),
+    /// It can make this move, and with another value, while the channel is in this phase.
+    OtherValue(Phase),
+}
 
 /// The items of a firing: its component, its move, its channel and its value.
 const COMP: usize = 3;
@@ -16,64 +40,65 @@ const CHAN: usize = 5;
 const VALUE: usize = 6;
 
 /// The notes of a firing.
-pub(crate) fn explain_firing(
-    draft: &mut Draft,
-    scene: Scene<'_>,
-    place: (&[u8], usize),
-    firing: Firing,
-    misfire: Misfire,
-) {
-    let misfire = if scene.flat.comp(firing.comp).is_none() {
-        Misfire::NoComp
-    } else {
-        misfire
-    };
-    put_line(draft, place, item_of(misfire));
-    scene.put_placed(draft, firing.comp);
-    draft.put("\nfound: ", &[]);
-    match misfire {
-        Misfire::NoComp => put_count(
-            draft,
-            firing.comp,
-            scene.flat.comp_count(),
-            "component",
-            "components",
-        ),
-        Misfire::NoChan => put_count(
-            draft,
-            firing.chan,
-            scene.flat.chan_count(),
-            "channel",
-            "channels",
-        ),
-        Misfire::NoEnd => put_end(draft, scene, firing),
-        Misfire::NotNow(phase) => put_chan(draft, scene, firing, phase),
-        Misfire::OtherValue(phase) => put_value(draft, scene, firing, phase),
-    }
-    put_expected(draft, scene, firing.comp);
-}
-
-fn item_of(misfire: Misfire) -> usize {
-    match misfire {
+pub(crate) fn explain_firing(draft: &mut Draft, scene: &Scene<'_>, firing: Firing) {
+    let Firing { comp, chan, .. } = firing;
+    let misfire = scene.misfire(draft.alloc(), firing);
+    let item = match misfire {
         Misfire::NoComp => COMP,
         Misfire::NoChan | Misfire::NoEnd => CHAN,
         Misfire::NotNow(_) => MOVE,
         Misfire::OtherValue(_) => VALUE,
+    };
+    scene.line.put(draft, item);
+    scene.put_placed(draft, comp);
+    draft.put("\nfound: ", &[]);
+    match misfire {
+        Misfire::NoComp => {
+            let comps = Count(scene.flat.comp_count() as usize, "component", "components");
+            put_number(draft, "component", comp, comps);
+        }
+        Misfire::NoChan => {
+            let chans = Count(scene.flat.chan_count() as usize, "channel", "channels");
+            put_number(draft, "channel", chan, chans);
+        }
+        Misfire::NoEnd => put_end(draft, scene, firing),
+        Misfire::NotNow(phase) => put_move(draft, scene, firing, phase),
+        Misfire::OtherValue(phase) => {
+            put_move(draft, scene, firing, phase);
+            draft.put(", and the value%", &[Spaced(firing.value)]);
+        }
+    }
+    put_expected(draft, scene, comp);
+}
+
+impl Scene<'_> {
+    // What is wrong with a firing.
+    fn misfire(&self, alloc: Global, firing: Firing) -> Misfire {
+        let Firing { comp, chan, mv, .. } = firing;
+        if self.flat.comp(comp).is_none() {
+            return Misfire::NoComp;
+        }
+        let Some(phase) = phase_of(self.net, chan) else {
+            return Misfire::NoChan;
+        };
+        match self.net.port_at(comp, chan, mv) {
+            None => Misfire::NoEnd,
+            Some(port) => match self.net.foresee(alloc, comp, port) {
+                Ok(Some((_, due, _))) if due == mv => Misfire::OtherValue(phase),
+                _ => Misfire::NotNow(phase),
+            },
+        }
     }
 }
 
 // Tells a number that is none of the net's.
-fn put_count<'t>(draft: &mut Draft, number: u32, count: u32, one: &'t str, many: &'t str) {
-    let args = [
-        Text(one),
-        Number(number as usize),
-        Count(count as usize, one, many),
-    ];
+fn put_number<'t>(draft: &mut Draft, thing: &'t str, number: u32, count: Arg<'t>) {
+    let args = [Text(thing), Number(number as usize), count];
     draft.put("% %, and the net has %", &args);
 }
 
 // Tells whose the end is at which such a move is made.
-fn put_end(draft: &mut Draft, scene: Scene<'_>, firing: Firing) {
+fn put_end(draft: &mut Draft, scene: &Scene<'_>, firing: Firing) {
     let (sense, holder) = match (firing.mv, scene.flat.ends(firing.chan)) {
         (Move::Ask | Move::Got, Some(ends)) => ("active", ends.active),
         (Move::Take | Move::Reply, Some(ends)) => ("passive", ends.passive),
@@ -88,7 +113,8 @@ fn put_end(draft: &mut Draft, scene: Scene<'_>, firing: Firing) {
     }
 }
 
-fn put_chan(draft: &mut Draft, scene: Scene<'_>, firing: Firing, phase: Phase) {
+// Tells the move, and in what phase its channel is.
+fn put_move(draft: &mut Draft, scene: &Scene<'_>, firing: Firing, phase: Phase) {
     draft.put("% on ", &[Text(firing.mv.word())]);
     scene.put_chan(draft, firing.chan);
     put_phase(draft, phase);
@@ -98,18 +124,11 @@ fn put_phase(draft: &mut Draft, phase: Phase) {
     draft.put(", which is %", &[Arg::Phase(phase)]);
 }
 
-fn put_value(draft: &mut Draft, scene: Scene<'_>, firing: Firing, phase: Phase) {
-    put_chan(draft, scene, firing, phase);
-    draft.put(", and the value%", &[Spaced(firing.value)]);
-}
-
 // Tells what the component could do, or what others could where it can't move.
-fn put_expected(draft: &mut Draft, scene: Scene<'_>, comp: u32) {
+fn put_expected(draft: &mut Draft, scene: &Scene<'_>, comp: u32) {
     if scene.net.is_ready(comp) {
-        draft.put(
-            "\nexpected: what % % can do: ",
-            &[scene.kind(comp), Number(comp as usize)],
-        );
+        let args = [scene.kind(comp), Number(comp as usize)];
+        draft.put("\nexpected: what % % can do: ", &args);
         scene.put_moves_of(draft, comp, 0);
     } else if scene.net.next_ready(1).is_some() {
         draft.put("\nexpected: what others can do: ", &[]);
@@ -121,8 +140,8 @@ fn put_expected(draft: &mut Draft, scene: Scene<'_>, comp: u32) {
 }
 
 /// The notes of a rest while a component can move.
-pub(crate) fn explain_rest(draft: &mut Draft, scene: Scene<'_>, place: (&[u8], usize), comp: u32) {
-    put_line(draft, place, 2);
+pub(crate) fn explain_rest(draft: &mut Draft, scene: &Scene<'_>, comp: u32) {
+    scene.line.put(draft, 2);
     scene.put_placed(draft, comp);
     draft.put(
         " can move\nfound: a rest where a component can move\nexpected: ",

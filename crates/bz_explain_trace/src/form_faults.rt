@@ -1,8 +1,7 @@
 //! Lines that have none of the forms of a trace.
 
 use crate::forms::{Line, Misfit, Want};
-use crate::items::{item_of, line_of};
-use crate::scene::put_line;
+use crate::items::{LineAt, item_of, line_of};
 use bz_explain_notes::Arg::{Count, Number, Word};
 use bz_explain_notes::Draft;
 use bz_flat::Flat;
@@ -11,9 +10,8 @@ use std::alloc::{AllocError, Global};
 
 /// The notes of a line, by its number, that has none of the forms, or stands where none of its form may.
 pub(crate) fn explain_form(draft: &mut Draft, flat: &Flat, trace: &[u8], number: usize) {
-    let at = start_of_line(trace, number);
-    let (_, rest) = trace.split_at(at.min(trace.len()));
-    let text = line_of(rest);
+    let at = LineAt::of(trace, start_of_line(trace, number));
+    let text = line_of(at.rest);
     let line = Line {
         alloc: draft.alloc(),
         flat,
@@ -22,7 +20,7 @@ pub(crate) fn explain_form(draft: &mut Draft, flat: &Flat, trace: &[u8], number:
     match line.misfit() {
         _ if text.last() == Some(&b'\r') => {
             let items = text.iter().filter(|byte| **byte == b' ').count();
-            put_line(draft, (trace, at), items.saturating_add(1));
+            at.put(draft, items.saturating_add(1));
             draft.say(
                 "the last item\n\
                 found: a carriage return (CR) at the end of the line\n\
@@ -30,8 +28,8 @@ pub(crate) fn explain_form(draft: &mut Draft, flat: &Flat, trace: &[u8], number:
                 &[],
             );
         }
-        Some(misfit) => explain_misfit(draft, line, (trace, at), misfit),
-        None => explain_place(draft, (trace, at), text, number, rest.len() > text.len()),
+        Some(misfit) => explain_misfit(draft, line, at, misfit),
+        None => explain_place(draft, at, number),
     }
 }
 
@@ -50,8 +48,8 @@ fn start_of_line(trace: &[u8], number: usize) -> usize {
 }
 
 // An item that doesn't fit.
-fn explain_misfit(draft: &mut Draft, line: Line<'_>, place: (&[u8], usize), misfit: Misfit) {
-    put_line(draft, place, misfit.item);
+fn explain_misfit(draft: &mut Draft, line: Line<'_>, at: LineAt<'_>, misfit: Misfit) {
+    at.put(draft, misfit.item);
     draft.put("item %\nfound: ", &[Number(misfit.item)]);
     let item = item_of(line.text, misfit.item);
     match item {
@@ -59,11 +57,11 @@ fn explain_misfit(draft: &mut Draft, line: Line<'_>, place: (&[u8], usize), misf
         Some([]) => draft.put("no item: items are one space apart", &[]),
         Some(word) => draft.put("%", &[Word(word)]),
     }
-    if misfit.want == Want::Port {
+    draft.put("\nexpected: ", &[]);
+    if let Want::Port(_) = misfit.want {
         say_ports(draft, line.flat, item.unwrap_or(b""));
     } else {
         let (form, number) = wanted(misfit.want);
-        draft.put("\nexpected: ", &[]);
         draft.say(form, &[Number(number as usize)]);
     }
 }
@@ -71,10 +69,7 @@ fn explain_misfit(draft: &mut Draft, line: Line<'_>, place: (&[u8], usize), misf
 // Tells the names of the ports, and the nearest.
 fn say_ports(draft: &mut Draft, flat: &Flat, word: &[u8]) {
     let names = draft.gathered(port_names(draft.alloc(), flat));
-    draft.put(
-        "\nexpected: one of %",
-        &[Count(names.len(), "port", "ports")],
-    );
+    draft.put("one of %", &[Count(names.len(), "port", "ports")]);
     draft.say_names(&names);
     draft.say_nearest("help: the nearest name is %", word, &names);
 }
@@ -89,42 +84,32 @@ fn port_names(alloc: Global, flat: &Flat) -> Result<Vec<&[u8]>, AllocError> {
 
 // What belongs at an item, and the number of a channel that it speaks of.
 fn wanted(want: Want) -> (&'static str, u32) {
+    let form = match want {
+        Want::Who => "h1 to h16 for a host, w1 to w8 for a worker, or clash",
+        Want::HostEvent => "offer, collect, accept, answer, watch, fire or rest",
+        Want::WorkerEvent => "fire or rest",
+        Want::Clash | Want::Comp => "the number of a component, without leading zeros",
+        Want::Move => "ask, take, reply or got",
+        Want::Chan(_) => "the number of a channel, without leading zeros",
+        Want::Port(_) => "the name of a port",
+        Want::Reply(_) => "done, value V, not-yet, busy PHASE, not-taken PHASE or a phase",
+        Want::Phase => "idle, asked, taken, replied or broken",
+        Want::Value | Want::Held => "a value below 2^128, without leading zeros",
+        Want::Carried(_) => "a value below 2^128: on channel % this move carries one",
+        Want::NoValue(_) => "the end of the line: on channel % this move carries no value",
+        Want::End => "the end of the line",
+    };
     match want {
-        Want::Who => ("h1 to h16 for a host, w1 to w8 for a worker, or clash", 0),
-        Want::HostEvent => ("offer, collect, accept, answer, watch, fire or rest", 0),
-        Want::WorkerEvent => ("fire or rest", 0),
-        Want::Comp => ("the number of a component, without leading zeros", 0),
-        Want::Move => ("ask, take, reply or got", 0),
-        Want::Chan => ("the number of a channel, without leading zeros", 0),
-        Want::Port => ("the name of a port", 0),
-        Want::Reply => (
-            "done, value V, not-yet, busy PHASE, not-taken PHASE or a phase",
-            0,
-        ),
-        Want::Phase => ("idle, asked, taken, replied or broken", 0),
-        Want::Value => ("a value below 2^128, without leading zeros", 0),
-        Want::Carried(chan) => (
-            "a value below 2^128: on channel % this move carries one",
-            chan,
-        ),
-        Want::NoValue(chan) => (
-            "the end of the line: on channel % this move carries no value",
-            chan,
-        ),
-        Want::End => ("the end of the line", 0),
+        Want::Carried(chan) | Want::NoValue(chan) => (form, chan),
+        _ => (form, 0),
     }
 }
 
 // A line whose items fit, and which may not stand there.
-fn explain_place(
-    draft: &mut Draft,
-    place: (&[u8], usize),
-    text: &[u8],
-    number: usize,
-    has_end: bool,
-) {
-    let item = if has_end { 1 } else { usize::MAX };
-    put_line(draft, place, item);
+fn explain_place(draft: &mut Draft, line: LineAt<'_>, number: usize) {
+    let text = line_of(line.rest);
+    let has_end = line.rest.len() > text.len();
+    line.put(draft, if has_end { 1 } else { usize::MAX });
     let told = if !has_end {
         "the end of the text\n\
         found: a last line without an end\n\

@@ -8,19 +8,29 @@ use bz_model::{Move, Value, carries};
 use bz_text::put_name;
 use std::alloc::Global;
 
+/// The most items of a line, and one more.
+const MOST_ITEMS: usize = 8;
+
 /// What belongs at an item.
 #[derive(Clone, Copy, PartialEq, Eq)]
 pub(crate) enum Want {
     Who,
     HostEvent,
     WorkerEvent,
+    /// The component of a clash line.
+    Clash,
     Comp,
     Move,
-    Chan,
-    Port,
-    Reply,
+    /// The channel on which this move is made.
+    Chan(Move),
+    /// The port of a command, and whether this may bring a value.
+    Port(bool),
+    /// The reply to a command, and whether a value may stand in front of it.
+    Reply(bool),
     Phase,
     Value,
+    /// A value, or the end of the line.
+    Held,
     /// A value, since the move carries one on this channel.
     Carried(u32),
     /// The end of the line, since the move carries no value on this channel.
@@ -44,127 +54,66 @@ pub(crate) struct Misfit {
     pub(crate) want: Want,
 }
 
-impl<'t> Line<'t> {
+impl Line<'_> {
     /// The first item that doesn't fit.
     pub(crate) fn misfit(self) -> Option<Misfit> {
-        match item_of(self.text, 1) {
-            Some(word) if word == b"clash".as_slice() => self.clash_misfit(),
-            Some(word) => match is_host(word) {
-                Some(host) => self.event_misfit(host),
-                None => unfit(1, Want::Who),
-            },
-            None => unfit(1, Want::Who),
-        }
-    }
-
-    fn item(self, item: usize) -> &'t [u8] {
-        item_of(self.text, item).unwrap_or(b"")
-    }
-
-    fn clash_misfit(self) -> Option<Misfit> {
-        if number_of(self.item(2), Value::from(u32::MAX)).is_none() {
-            return unfit(2, Want::Comp);
-        }
-        self.end_misfit(3, Want::End)
-    }
-
-    fn event_misfit(self, host: bool) -> Option<Misfit> {
-        let word = self.item(2);
-        if word == b"rest".as_slice() {
-            self.end_misfit(3, Want::End)
-        } else if word == b"fire".as_slice() {
-            self.firing_misfit()
-        } else if host && is_verb(word) {
-            self.command_misfit(brings(word))
-        } else if host {
-            unfit(2, Want::HostEvent)
-        } else {
-            unfit(2, Want::WorkerEvent)
-        }
-    }
-
-    fn firing_misfit(self) -> Option<Misfit> {
-        let most = Value::from(u32::MAX);
-        if number_of(self.item(3), most).is_none() {
-            return unfit(3, Want::Comp);
-        }
-        match (move_of(self.item(4)), number_of(self.item(5), most)) {
-            (None, _) => unfit(4, Want::Move),
-            (_, None) => unfit(5, Want::Chan),
-            (Some(mv), Some(chan)) => self.carried_misfit(mv, chan as u32),
-        }
-    }
-
-    fn carried_misfit(self, mv: Move, chan: u32) -> Option<Misfit> {
-        let carried = match self.flat.chan(chan) {
-            Some(found) => carries(found.kind, mv),
-            None => false,
-        };
-        if !carried {
-            self.end_misfit(6, Want::NoValue(chan))
-        } else if number_of(self.item(6), Value::MAX).is_none() {
-            unfit(6, Want::Carried(chan))
-        } else {
-            self.end_misfit(7, Want::End)
-        }
-    }
-
-    fn command_misfit(self, brings: bool) -> Option<Misfit> {
-        if !self.is_port(self.item(3)) {
-            return unfit(3, Want::Port);
-        }
-        if !brings || !begins_digit(self.item(4)) {
-            return self.reply_misfit(4);
-        }
-        match number_of(self.item(4), Value::MAX) {
-            Some(_) => self.reply_misfit(5),
-            None => unfit(4, Want::Value),
-        }
-    }
-
-    fn reply_misfit(self, item: usize) -> Option<Misfit> {
-        let word = self.item(item);
-        let next = item.saturating_add(1);
-        if word == b"done".as_slice() || word == b"not-yet".as_slice() {
-            self.end_misfit(next, Want::End)
-        } else if word == b"value".as_slice() {
-            self.value_misfit(next)
-        } else if word == b"busy".as_slice() || word == b"not-taken".as_slice() {
-            self.phase_misfit(next, Want::Phase)
-        } else {
-            self.phase_misfit(item, Want::Reply)
-        }
-    }
-
-    fn phase_misfit(self, item: usize, want: Want) -> Option<Misfit> {
-        let word = self.item(item);
-        let next = item.saturating_add(1);
-        if word == b"idle".as_slice()
-            || word == b"taken".as_slice()
-            || word == b"broken".as_slice()
-        {
-            self.end_misfit(next, Want::End)
-        } else if word == b"asked".as_slice() || word == b"replied".as_slice() {
-            match item_of(self.text, next) {
-                Some(_) => self.value_misfit(next),
-                None => None,
+        let mut want = Want::Who;
+        for item in 1..=MOST_ITEMS {
+            let word = item_of(self.text, item);
+            if word.is_none() && matches!(want, Want::Held | Want::NoValue(_) | Want::End) {
+                return None;
             }
-        } else {
-            unfit(item, want)
+            match self.after(want, word.unwrap_or(b"")) {
+                Ok(next) => want = next,
+                Err(want) => return Some(Misfit { item, want }),
+            }
+        }
+        None
+    }
+
+    // What belongs behind an item that fits; or else what belongs in its place.
+    fn after(self, want: Want, item: &[u8]) -> Result<Want, Want> {
+        let word = word_of(item);
+        let next = match want {
+            Want::Who if word == "clash" => Some(Want::Clash),
+            Want::HostEvent => behind_event(word, true),
+            Want::WorkerEvent => behind_event(word, false),
+            Want::Move => behind_move(word),
+            Want::Reply(_) => behind_reply(word),
+            Want::Phase => behind_phase(word),
+            _ => None,
+        };
+        match next {
+            Some(next) => Ok(next),
+            None => self.after_value(want, item),
         }
     }
 
-    fn value_misfit(self, item: usize) -> Option<Misfit> {
-        match number_of(self.item(item), Value::MAX) {
-            Some(_) => self.end_misfit(item.saturating_add(1), Want::End),
-            None => unfit(item, Want::Value),
+    // The same of an item that is none of the words.
+    fn after_value(self, want: Want, item: &[u8]) -> Result<Want, Want> {
+        let most = match want {
+            Want::Clash | Want::Comp | Want::Chan(_) => Value::from(u32::MAX),
+            _ => Value::MAX,
+        };
+        match (want, number_of(item, most)) {
+            (Want::Who, _) => event_of(item),
+            (Want::Port(brings), _) if self.is_port(item) => Ok(Want::Reply(brings)),
+            (Want::Comp, Some(_)) => Ok(Want::Move),
+            (Want::Chan(mv), Some(chan)) => Ok(self.behind_chan(mv, chan)),
+            (Want::Reply(true), Some(_)) => Ok(Want::Reply(false)),
+            (Want::Reply(true), None) if begins_digit(item) => Err(Want::Value),
+            (Want::Clash | Want::Carried(_) | Want::Value | Want::Held, Some(_)) => Ok(Want::End),
+            (Want::Held, None) => Err(Want::Value),
+            _ => Err(want),
         }
     }
 
-    fn end_misfit(self, item: usize, want: Want) -> Option<Misfit> {
-        match item_of(self.text, item) {
-            Some(_) => unfit(item, want),
-            None => None,
+    // What belongs behind a channel on which a move is made.
+    fn behind_chan(self, mv: Move, chan: Value) -> Want {
+        let number = u32::try_from(chan).unwrap_or(0);
+        match self.flat.chan(number) {
+            Some(found) if carries(found.kind, mv) => Want::Carried(number),
+            _ => Want::NoValue(number),
         }
     }
 
@@ -180,16 +129,55 @@ impl<'t> Line<'t> {
     }
 }
 
-fn unfit(item: usize, want: Want) -> Option<Misfit> {
-    Some(Misfit { item, want })
+fn word_of(item: &[u8]) -> &str {
+    match str::from_utf8(item) {
+        Ok(word) => word,
+        Err(_) => "",
+    }
 }
 
-// Whether an item names a host, and not a worker; nothing where it names neither.
-fn is_host(word: &[u8]) -> Option<bool> {
-    match word.split_first() {
-        Some((b'h', number)) if is_within(number, 16) => Some(true),
-        Some((b'w', number)) if is_within(number, 8) => Some(false),
+fn behind_event(word: &str, is_host: bool) -> Option<Want> {
+    match word {
+        "rest" => Some(Want::End),
+        "fire" => Some(Want::Comp),
+        "offer" | "answer" if is_host => Some(Want::Port(true)),
+        "collect" | "accept" | "watch" if is_host => Some(Want::Port(false)),
         _ => None,
+    }
+}
+
+fn behind_move(word: &str) -> Option<Want> {
+    for mv in [Move::Ask, Move::Take, Move::Reply, Move::Got] {
+        if mv.word() == word {
+            return Some(Want::Chan(mv));
+        }
+    }
+    None
+}
+
+fn behind_reply(word: &str) -> Option<Want> {
+    match word {
+        "done" | "not-yet" => Some(Want::End),
+        "value" => Some(Want::Value),
+        "busy" | "not-taken" => Some(Want::Phase),
+        _ => behind_phase(word),
+    }
+}
+
+fn behind_phase(word: &str) -> Option<Want> {
+    match word {
+        "idle" | "taken" | "broken" => Some(Want::End),
+        "asked" | "replied" => Some(Want::Held),
+        _ => None,
+    }
+}
+
+// What belongs behind the item that names a host or a worker.
+fn event_of(item: &[u8]) -> Result<Want, Want> {
+    match item.split_first() {
+        Some((b'h', number)) if is_within(number, 16) => Ok(Want::HostEvent),
+        Some((b'w', number)) if is_within(number, 8) => Ok(Want::WorkerEvent),
+        _ => Err(Want::Who),
     }
 }
 
@@ -197,32 +185,6 @@ fn is_within(number: &[u8], most: Value) -> bool {
     match number_of(number, most) {
         Some(number) => number > 0,
         None => false,
-    }
-}
-
-fn is_verb(word: &[u8]) -> bool {
-    brings(word)
-        || word == b"collect".as_slice()
-        || word == b"accept".as_slice()
-        || word == b"watch".as_slice()
-}
-
-// Whether a value may stand with a verb.
-fn brings(word: &[u8]) -> bool {
-    word == b"offer".as_slice() || word == b"answer".as_slice()
-}
-
-fn move_of(word: &[u8]) -> Option<Move> {
-    if word == b"ask".as_slice() {
-        Some(Move::Ask)
-    } else if word == b"take".as_slice() {
-        Some(Move::Take)
-    } else if word == b"reply".as_slice() {
-        Some(Move::Reply)
-    } else if word == b"got".as_slice() {
-        Some(Move::Got)
-    } else {
-        None
     }
 }
 

@@ -1,4 +1,30 @@
-//! The items of a line, which are one space apart.
+//! The lines of a trace, and their items, which are one space apart.
+
+use bz_explain_notes::{Draft, put_source};
+
+/// A line of a trace.
+#[derive(Clone, Copy)]
+pub(crate) struct LineAt<'t> {
+    trace: &'t [u8],
+    /// The byte at which it begins.
+    at: usize,
+    /// What the trace has from there on.
+    pub(crate) rest: &'t [u8],
+}
+
+impl<'t> LineAt<'t> {
+    /// The line that begins at a byte.
+    pub(crate) fn of(trace: &'t [u8], at: usize) -> LineAt<'t> {
+        let (_, rest) = trace.split_at(at.min(trace.len()));
+        LineAt { trace, at, rest }
+    }
+
+    /// Tells where the line stands, and goes on behind a caret below one of its items.
+    pub(crate) fn put(self, draft: &mut Draft, item: usize) {
+        let at = self.at.saturating_add(start_of(self.rest, item));
+        put_source(draft, self.trace, at, " of the trace");
+    }
+}
 
 /// A line without its end.
 pub(crate) fn line_of(text: &[u8]) -> &[u8] {
@@ -8,8 +34,8 @@ pub(crate) fn line_of(text: &[u8]) -> &[u8] {
     }
 }
 
-/// How many bytes of the line at the front of a text stand before an item, counted from 1, or before the end of the line.
-pub(crate) fn start_of(text: &[u8], item: usize) -> usize {
+// How many bytes of the line at the front of a text stand before an item, counted from 1, or before the end of the line.
+fn start_of(text: &[u8], item: usize) -> usize {
     let line = line_of(text);
     let mut number = 1usize;
     for (place, byte) in line.iter().enumerate() {
@@ -23,21 +49,15 @@ pub(crate) fn start_of(text: &[u8], item: usize) -> usize {
     line.len()
 }
 
-/// An item of a line without its end, counted from 1, where there are so many.
+/// An item of a line without its end, counted from 1, where there are so many. A line without letters has none.
 pub(crate) fn item_of(line: &[u8], item: usize) -> Option<&[u8]> {
-    let start = start_of(line, item);
-    let (_, rest) = line.split_at(start.min(line.len()));
-    if rest.is_empty() && !ends_with_blank(line, item) {
+    if line.is_empty() {
         return None;
     }
-    match rest.iter().position(|byte| *byte == b' ') {
-        Some(end) => Some(&rest[..end]),
-        None => Some(rest),
+    for (before, word) in line.split(|byte| *byte == b' ').enumerate() {
+        if before + 1 == item {
+            return Some(word);
+        }
     }
-}
-
-// Whether so many items stand before the end of a line, the last of them empty.
-fn ends_with_blank(line: &[u8], item: usize) -> bool {
-    let blanks = line.iter().filter(|byte| **byte == b' ').count();
-    blanks.saturating_add(1) == item && line.last() == Some(&b' ')
+    None
 }

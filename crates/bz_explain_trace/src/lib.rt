@@ -9,12 +9,11 @@ mod firings;
 mod form_faults;
 mod forms;
 mod items;
-mod judging;
 mod moves;
-mod reasons;
 mod replaying;
 mod replies;
 mod scene;
+mod stops;
 
 pub use claim::Claim;
 pub use explaining::explain_trace;

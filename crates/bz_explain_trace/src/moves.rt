@@ -10,7 +10,7 @@ const MOST_TOLD: usize = 10;
 
 impl Scene<'_> {
     /// Goes on with the moves that a component can make, behind so many others: how many there are then.
-    pub(crate) fn put_moves_of(self, draft: &mut Draft, comp: u32, before: usize) -> usize {
+    pub(crate) fn put_moves_of(&self, draft: &mut Draft, comp: u32, before: usize) -> usize {
         let mut told = before;
         if self.net.is_ready(comp) {
             for port in 1..=self.port_count(comp) {
@@ -21,7 +21,7 @@ impl Scene<'_> {
     }
 
     /// Goes on with the moves that components can make, and two dots where there are more than ten: how many were looked at.
-    pub(crate) fn put_moves(self, draft: &mut Draft) -> usize {
+    pub(crate) fn put_moves(&self, draft: &mut Draft) -> usize {
         let mut told = 0usize;
         let mut from = 1u32;
         for _ in 0..=MOST_TOLD {
@@ -36,7 +36,7 @@ impl Scene<'_> {
         told
     }
 
-    fn put_move_at(self, draft: &mut Draft, comp: u32, port: u32, told: usize) -> usize {
+    fn put_move_at(&self, draft: &mut Draft, comp: u32, port: u32, told: usize) -> usize {
         match self.net.foresee(draft.alloc(), comp, port) {
             Ok(Some((chan, mv, value))) => {
                 put_move(draft, comp, (chan, mv, value), told);
@@ -50,7 +50,7 @@ impl Scene<'_> {
         }
     }
 
-    fn port_count(self, comp: u32) -> u32 {
+    fn port_count(&self, comp: u32) -> u32 {
         match self.flat.comp(comp) {
             Some(site) => u32::try_from(site.chans.len()).unwrap_or(u32::MAX),
             None => 0,

@@ -1,84 +1,79 @@
 //! Commands of hosts that no run has.
 
-use crate::reasons::Command;
-use crate::scene::{Scene, put_line};
+use crate::scene::Scene;
 use bz_explain_notes::Arg::{self, Name, Number, Spaced, Text, Wide};
 use bz_explain_notes::Draft;
-use bz_model::{NetError, Phase, Reply, Value, low_bits};
+use bz_model::{NetError, Phase, Reply, Value, Verb, low_bits};
+
+/// A host's command, as a line has it.
+#[derive(Clone, Copy)]
+pub(crate) struct Command {
+    pub(crate) verb: Verb,
+    pub(crate) port: u32,
+    pub(crate) value: Option<Value>,
+    pub(crate) reply: Reply,
+}
 
 /// The notes of a command that the port doesn't take.
 pub(crate) fn explain_refused(
     draft: &mut Draft,
-    scene: Scene<'_>,
-    place: (&[u8], usize),
+    scene: &Scene<'_>,
     command: Command,
     error: NetError,
 ) {
-    put_line(
-        draft,
-        place,
-        if error == NetError::WrongSide { 2 } else { 4 },
-    );
-    put_port(draft, scene, command);
-    let chan = scene.flat.chan(command.port);
-    match (error, is_passive(scene, command.port), chan) {
-        (NetError::WrongSide, true, _) => draft.say(
+    let item = if error == NetError::WrongSide { 2 } else { 4 };
+    put_command(draft, scene, command, item);
+    let Some(chan) = scene.flat.chan(command.port) else {
+        return draft.say("", &[]);
+    };
+    let most = Wide(low_bits(Value::MAX, chan.width));
+    let kind = Text(chan.kind.word());
+    let (form, first) = match error {
+        NetError::WrongSide if scene.net.names().passive(command.port) == Some(true) => (
             "which is passive: there the host asks and the net answers\nexpected: offer or collect",
-            &[],
+            kind,
         ),
-        (NetError::WrongSide, false, _) => draft.say(
+        NetError::WrongSide => (
             "which is active: there the net asks and the host answers\nexpected: accept or answer",
-            &[],
+            kind,
         ),
-        (NetError::ValueMissing, _, Some(chan)) => draft.say(
-            "and no value\nexpected: a value up to %",
-            &[Wide(low_bits(Value::MAX, chan.width))],
-        ),
-        (NetError::ValueUnwanted, _, Some(chan)) => draft.say(
+        NetError::ValueMissing => ("and no value\nexpected: a value up to %", most),
+        NetError::ValueUnwanted => (
             "which is a % port, and the value%\nexpected: no value",
-            &[Text(chan.kind.word()), Spaced(command.value)],
+            kind,
         ),
-        (_, _, Some(chan)) => draft.say(
+        _ => (
             "which has % bits, and the value%\nexpected: a value up to %",
-            &[
-                Number(chan.width as usize),
-                Spaced(command.value),
-                Wide(low_bits(Value::MAX, chan.width)),
-            ],
+            Number(chan.width as usize),
         ),
-        (_, _, None) => draft.say("", &[]),
-    }
-}
-
-// Goes on with what was found: a command at a port.
-fn put_port(draft: &mut Draft, scene: Scene<'_>, command: Command) {
-    let name = Name(scene.port_name(command.port));
-    let args = [name, Text(command.verb.word()), name];
-    draft.put("port %\nfound: % at port %, ", &args);
-}
-
-fn is_passive(scene: Scene<'_>, port: u32) -> bool {
-    scene.net.names().passive(port) == Some(true)
+    };
+    let args = [first, Spaced(command.value), most];
+    draft.say(form, &args);
 }
 
 /// The notes of a command whose reply is another one, by the phase of the port's channel.
 pub(crate) fn explain_reply(
     draft: &mut Draft,
-    scene: Scene<'_>,
-    place: (&[u8], usize),
+    scene: &Scene<'_>,
     command: Command,
-    due: (Phase, Reply),
+    phase: Phase,
+    due: Reply,
 ) {
     let item = if command.value.is_some() { 5 } else { 4 };
-    put_line(draft, place, item);
-    put_port(draft, scene, command);
-    let (phase, reply) = due;
-    draft.say(
-        "whose channel is %, and the reply %\nexpected: the reply %",
-        &[
-            Arg::Phase(phase),
-            Arg::Reply(command.reply),
-            Arg::Reply(reply),
-        ],
-    );
+    put_command(draft, scene, command, item);
+    let form = "whose channel is %, and the reply %\nexpected: the reply %";
+    let args = [
+        Arg::Phase(phase),
+        Arg::Reply(command.reply),
+        Arg::Reply(due),
+    ];
+    draft.say(form, &args);
+}
+
+// Tells the line, and goes on with what was found: a command at a port.
+fn put_command(draft: &mut Draft, scene: &Scene<'_>, command: Command, item: usize) {
+    let name = Name(scene.port_name(command.port));
+    let args = [name, Text(command.verb.word()), name];
+    scene.line.put(draft, item);
+    draft.put("port %\nfound: % at port %, ", &args);
 }

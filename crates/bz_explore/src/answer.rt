@@ -4,11 +4,10 @@ use crate::explored::Ending;
 use crate::piece::Piece;
 use crate::table::{Form, words_of_commands};
 use bz_explain_notes::nearest_name;
-use bz_model::Value;
 use bz_net::Net;
 use bz_text::Text;
 use bz_trace_text::put_entries;
-use std::alloc::{AllocError, Global};
+use std::alloc::AllocError;
 
 /// The most lines that are told of one command, and half of them.
 pub(crate) const MOST_LINES: usize = 40;
@@ -31,11 +30,9 @@ impl Answer {
     /// Begins to tell why the line can't be followed.
     pub fn begin_error(&mut self) {
         self.ending = Ending::Bad;
-        match self.line {
-            Some(line) => self
-                .text
-                .say("error: line %: ", &[Piece::Number(line.into())]),
-            None => self.text.put("error: "),
+        self.text.put("error: ");
+        if let Some(line) = self.line {
+            self.text.say("line %: ", &[Piece::Number(line.into())]);
         }
     }
 
@@ -54,21 +51,15 @@ impl Answer {
     /// Tells that what was typed is no command, and which one is near to its first word, or to what stands there before a colon.
     pub fn no_command(&mut self, head: &str, typed: &[u8]) {
         self.complain("`%` is no command; ", &[Piece::Shown(typed)]);
-        match nearest_command(self.text.alloc(), head) {
+        let alloc = self.text.alloc();
+        let words = gathered(words_of_commands(alloc), &mut self.text);
+        let front = head.split(':').next().unwrap_or("");
+        match nearest_name(alloc, front.as_bytes(), words.as_slice()) {
             Ok(Some(word)) => self.text.say("the nearest is `%`\n", &[Piece::Bytes(word)]),
             Ok(None) => self.text.put("`help` tells them\n"),
             Err(_) => self.text.lose(),
         }
     }
-}
-
-fn nearest_command(alloc: Global, head: &str) -> Result<Option<&'static [u8]>, AllocError> {
-    let front = head.split(':').next().unwrap_or("");
-    nearest_name(
-        alloc,
-        front.as_bytes(),
-        words_of_commands(alloc)?.as_slice(),
-    )
 }
 
 /// The list, or an empty one where memory was refused for it, so that the text is lost.
@@ -82,18 +73,20 @@ pub(crate) fn gathered<T: Drop>(list: Result<Vec<T>, AllocError>, text: &mut Tex
     }
 }
 
+/// Adds to a list; where memory is refused for it the text is lost.
+pub(crate) fn add<T: Drop>(list: &mut Vec<T>, item: T, text: &mut Text) {
+    if list.push(item).is_err() {
+        text.lose();
+    }
+}
+
 /// Adds lines; of more than forty so many of the first, how many are left out, and so many of the last.
 pub(crate) fn put_cut(lines: &Text, first: usize, last: usize, more: &str, text: &mut Text) {
     let Ok(lines) = lines.whole() else {
         text.lose();
         return;
     };
-    let count = count_lines(lines);
-    let end = if count > MOST_LINES {
-        count.saturating_sub(last)
-    } else {
-        first
-    };
+    let (first, end) = kept(count_lines(lines), first, last);
     for (place, line) in lines.split_inclusive(|byte| *byte == b'\n').enumerate() {
         if place == first {
             put_left_out(end.saturating_sub(first), more, text);
@@ -107,18 +100,25 @@ pub(crate) fn put_cut(lines: &Text, first: usize, last: usize, more: &str, text:
 /// Adds the lines of the entries behind the first `before`; of more than forty the first and the last twenty.
 pub(crate) fn put_added(net: &Net, before: usize, text: &mut Text) {
     let entries = net.journal().get(before..).unwrap_or(&[]);
-    let left_out = entries.len().saturating_sub(MOST_LINES);
-    let first = if left_out == 0 { entries.len() } else { HALF };
-    let rest = entries.get(first.saturating_add(left_out)..).unwrap_or(&[]);
+    let (first, end) = kept(entries.len(), HALF, HALF);
     let _ = put_entries(text, net.names(), entries.get(..first).unwrap_or(&[]));
-    put_left_out(left_out, MORE, text);
-    let _ = put_entries(text, net.names(), rest);
+    put_left_out(end.saturating_sub(first), MORE, text);
+    let _ = put_entries(text, net.names(), entries.get(end..).unwrap_or(&[]));
+}
+
+// Of so many lines: where those that are left out begin, and where they end.
+fn kept(count: usize, first: usize, last: usize) -> (usize, usize) {
+    if count > MOST_LINES {
+        (first, count.saturating_sub(last))
+    } else {
+        (count, count)
+    }
 }
 
 // Adds how many lines are left out, if any are.
 fn put_left_out(count: usize, form: &str, text: &mut Text) {
     if count > 0 {
-        text.say(form, &[Piece::Number(count as Value)]);
+        text.say(form, &[Piece::many(count)]);
     }
 }
 

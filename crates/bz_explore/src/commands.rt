@@ -5,24 +5,22 @@ use crate::piece::Piece;
 use crate::table::Form;
 use std::alloc::{AllocError, Global};
 
-/// What a line asks for. A component or a port is a number as it was typed; a file is written over where that is asked for.
+/// What a line asks for: a command of this form.
 #[derive(Clone, Copy)]
-pub(crate) enum Command<'w> {
-    Moves,
-    Fire(u64, Option<u64>),
-    Run(u64),
-    Random(u64),
-    Seed(u64),
-    /// Something that the host does.
-    Host(&'w str),
-    Expect,
-    Waits(Option<&'w str>),
-    State(Option<&'w str>),
-    Undo(u64),
-    Trace(&'w str, bool),
-    Session(&'w str, bool),
-    Help(Option<&'w str>),
-    Quit,
+pub(crate) struct Call<'w> {
+    pub form: Form,
+    /// Whether a file is written over.
+    pub over: bool,
+    /// The first word behind that of the command; of what the host does the one word that it is.
+    pub first: Option<&'w str>,
+    pub second: Option<&'w str>,
+}
+
+impl Call<'_> {
+    /// The number that stands first, as it was typed.
+    pub fn number(self) -> Option<u64> {
+        number(self.first.unwrap_or(""))
+    }
 }
 
 /// The words of a line, up to a `#`.
@@ -32,50 +30,62 @@ pub(crate) fn words_of<'l>(alloc: Global, line: &'l str) -> Result<Vec<&'l str>,
 }
 
 /// The command that words ask for, if they ask for one; why they ask for none is told.
-pub(crate) fn command_of<'w>(words: &[&'w str], answer: &mut Answer) -> Option<Command<'w>> {
-    match words {
-        [] => None,
-        [head, rest @ ..] => match Form::begun_by(head) {
-            None => host_command(head, rest, answer),
-            Some(form) if is_misfit(form, rest, answer) => None,
-            Some(form) => Some(command_begun(form, head.ends_with('!'), rest)),
-        },
-    }
+pub(crate) fn call_of<'w>(
+    words: &[&'w str],
+    typed: &[u8],
+    answer: &mut Answer,
+) -> Option<Call<'w>> {
+    let [head, rest @ ..] = words else {
+        return None;
+    };
+    let (over, first, second) = (head.ends_with('!'), rest.first(), rest.get(1));
+    let (form, first) = match (Form::begun_by(head), Form::of_host(head)) {
+        (Some(form), _) if is_misfit(form, rest, answer) => return None,
+        (Some(form), _) => (form, first.copied()),
+        (None, Some(form)) if is_more(form, rest, answer) => return None,
+        (None, Some(form)) => (form, Some(*head)),
+        (None, None) => {
+            answer.no_command(head, typed);
+            return None;
+        }
+    };
+    Some(Call {
+        form,
+        over,
+        first,
+        second: second.copied(),
+    })
 }
 
-// What the host does is one word. One that is no word of its begins no command.
-fn host_command<'w>(head: &'w str, rest: &[&'w str], answer: &mut Answer) -> Option<Command<'w>> {
-    if let (Some(form), [more, ..]) = (Form::of_host(head), rest) {
-        answer.misfit(form, more, "too much");
-        return None;
+// Whether words stand behind that of the host, which is one word; that is told.
+fn is_more(form: Form, words: &[&str], answer: &mut Answer) -> bool {
+    match words.first() {
+        Some(more) => answer.misfit(form, more, "too much"),
+        None => return false,
     }
-    Some(Command::Host(head))
+    true
 }
 
 // Whether the words behind that of a command aren't those that belong there, which is told.
 fn is_misfit(form: Form, words: &[&str], answer: &mut Answer) -> bool {
-    if form.is_host() {
-        let port = words.first().copied().unwrap_or("P");
-        let pieces = [Piece::Text(form.word()), Piece::Shown(port.as_bytes())];
-        answer.complain(
-            "a port follows its word after a colon, as in %:%\n",
-            &pieces,
-        );
-        return true;
-    }
     match (form.taken_at(words.len()), words.get(form.most())) {
+        _ if form.is_host() => {
+            let port = words.first().copied().unwrap_or("P");
+            let pieces = [Piece::Text(form.word()), Piece::Shown(port.as_bytes())];
+            answer.complain(
+                "a port follows its word after a colon, as in %:%\n",
+                &pieces,
+            );
+        }
         (Some(wanting), _) if !wanting.starts_with('[') => {
             let pieces = [Piece::Text(form.0), Piece::Text(wanting)];
             answer.complain("%: % is missing\n", &pieces);
-            true
         }
         // (a reply may be of two words)
-        (_, Some(more)) if form.word() != "expect" => {
-            answer.misfit(form, more, "too much");
-            true
-        }
-        _ => lacks_number(form, words, answer),
+        (_, Some(more)) if form.word() != "expect" => answer.misfit(form, more, "too much"),
+        _ => return lacks_number(form, words, answer),
     }
+    true
 }
 
 // Whether a word that stands for a number is none, which is told.
@@ -95,34 +105,5 @@ pub(crate) fn number(word: &str) -> Option<u64> {
     match word.parse::<u64>() {
         Ok(number) if !word.starts_with('+') => Some(number),
         _ => None,
-    }
-}
-
-fn number_at(words: &[&str], place: usize) -> Option<u64> {
-    match words.get(place) {
-        Some(word) => number(word),
-        None => None,
-    }
-}
-
-// The command of a form, with the words behind its own, which belong there.
-fn command_begun<'w>(form: Form, over: bool, words: &[&'w str]) -> Command<'w> {
-    let first = words.first().copied();
-    let word = first.unwrap_or("");
-    let (one, other) = (number_at(words, 0), number_at(words, 1));
-    match form.word() {
-        "moves" => Command::Moves,
-        "fire" => Command::Fire(one.unwrap_or(0), other),
-        "run" => Command::Run(one.unwrap_or(u64::MAX)),
-        "random" => Command::Random(one.unwrap_or(0)),
-        "seed" => Command::Seed(one.unwrap_or(0)),
-        "expect" => Command::Expect,
-        "waits" => Command::Waits(first),
-        "state" => Command::State(first),
-        "undo" => Command::Undo(one.unwrap_or(1)),
-        "trace" => Command::Trace(word, over),
-        "session" => Command::Session(word, over),
-        "help" => Command::Help(first),
-        _ => Command::Quit,
     }
 }

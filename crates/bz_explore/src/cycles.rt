@@ -3,17 +3,19 @@
 //! Components that wait for no other are taken out of the graph again and again (Kahn's algorithm). Whoever is left waits
 //! for one that is left, and from each the way to the least of these ends in a cycle.
 
-use std::alloc::{AllocError, Global};
+use crate::answer::{add, gathered};
+use crate::graph::Wait;
+use bz_text::Text;
 
 /// A number for each component, counted from 1.
 #[derive(Drop)]
 pub(crate) struct Table(Vec<u32>);
 
 impl Table {
-    /// One of zeros, for so many components.
-    pub fn new(alloc: Global, comps: u32) -> Result<Table, AllocError> {
-        let numbers = vec![in alloc; 0u32; (comps as usize).saturating_add(1)]?;
-        Ok(Table(numbers))
+    /// One of zeros, for so many components; where memory is refused for it the text is lost.
+    pub fn new(comps: u32, text: &mut Text) -> Table {
+        let length = (comps as usize).saturating_add(1);
+        Table(gathered(vec![in text.alloc(); 0u32; length], text))
     }
 
     fn comps(&self) -> u32 {
@@ -33,39 +35,44 @@ impl Table {
     }
 }
 
-/// The cycles among so many components, each from its least member on. A link leads from one that waits to one that it waits
-/// for. From each component the step goes to the least that is in a cycle or leads to one.
-pub(crate) fn cycles(
-    alloc: Global,
-    comps: u32,
-    links: &[(u32, u32)],
-) -> Result<Vec<Vec<u32>>, AllocError> {
-    let mut left = Table::new(alloc, comps)?;
-    let mut back = Vec::with_capacity(alloc, links.len())?;
-    for (from, to) in links {
-        let more = left.at(*from).saturating_add(1);
-        left.set(*from, more);
-        back.push((*to, *from))?;
-    }
-    back.sort()?;
-    take_out(alloc, back.as_slice(), &mut left)?;
-    let mut next = Table::new(alloc, comps)?;
-    for (from, to) in links {
-        let least = next.at(*from);
-        if left.at(*from) > 0 && left.at(*to) > 0 && (least == 0 || *to < least) {
-            next.set(*from, *to);
+/// The cycles among so many components that wait for one another in any case, each from its least member on. From each component
+/// the step goes to the least that is in a cycle or leads to one.
+pub(crate) fn cycles(comps: u32, waits: &[Wait], text: &mut Text) -> Vec<Vec<u32>> {
+    let left = those_left(comps, waits, text);
+    let mut next = Table::new(comps, text);
+    for wait in waits {
+        let (least, to) = (next.at(wait.comp), wait.link().unwrap_or(0));
+        if left.at(wait.comp) > 0 && left.at(to) > 0 && (least == 0 || to < least) {
+            next.set(wait.comp, to);
         }
     }
-    find_cycles(alloc, &next)
+    find_cycles(&next, text)
 }
 
-// Takes out those that wait for none, and then those that waited for these alone. `left` has for each how many it waits for,
-// and the links lead back to who waits.
-fn take_out(alloc: Global, back: &[(u32, u32)], left: &mut Table) -> Result<(), AllocError> {
-    let mut gone = Vec::new(alloc);
+// For each component how many it waits for that are left, once those are taken out that wait for none, and then those that waited
+// for these alone.
+fn those_left(comps: u32, waits: &[Wait], text: &mut Text) -> Table {
+    let (mut left, mut back) = (Table::new(comps, text), Vec::new(text.alloc()));
+    for wait in waits {
+        if let Some(to) = wait.link() {
+            let more = left.at(wait.comp).saturating_add(1);
+            left.set(wait.comp, more);
+            add(&mut back, (to, wait.comp), text);
+        }
+    }
+    if back.sort().is_err() {
+        text.lose();
+    }
+    take_out(back.as_slice(), &mut left, text);
+    left
+}
+
+// Takes out who waits for none. The links lead back to who waits.
+fn take_out(back: &[(u32, u32)], left: &mut Table, text: &mut Text) {
+    let mut gone = Vec::new(text.alloc());
     for comp in 1..=left.comps() {
         if left.at(comp) == 0 {
-            gone.push(comp)?;
+            add(&mut gone, comp, text);
         }
     }
     for turn in 0..left.comps() {
@@ -78,24 +85,23 @@ fn take_out(alloc: Global, back: &[(u32, u32)], left: &mut Table) -> Result<(), 
             let waits = left.at(*from).saturating_sub(1);
             left.set(*from, waits);
             if waits == 0 {
-                gone.push(*from)?;
+                add(&mut gone, *from, text);
             }
         }
     }
-    Ok(())
 }
 
 // The cycles to which the steps lead.
-fn find_cycles(alloc: Global, next: &Table) -> Result<Vec<Vec<u32>>, AllocError> {
-    let mut met = Table::new(alloc, next.comps())?;
-    let mut found = Vec::new(alloc);
+fn find_cycles(next: &Table, text: &mut Text) -> Vec<Vec<u32>> {
+    let mut met = Table::new(next.comps(), text);
+    let mut found = Vec::new(text.alloc());
     for start in 1..=next.comps() {
         let last = walk(next, start, &mut met);
         if met.at(last) == start {
-            found.push(cycle_of(alloc, next, last)?)?;
+            add(&mut found, cycle_of(next, last, text), text);
         }
     }
-    Ok(found)
+    found
 }
 
 // Walks on until there is no step, or to one that was met. `met` has for each from which component it was met first, so far 0.
@@ -112,11 +118,11 @@ fn walk(next: &Table, start: u32, met: &mut Table) -> u32 {
 }
 
 // The cycle of a member, from its least member on.
-fn cycle_of(alloc: Global, next: &Table, member: u32) -> Result<Vec<u32>, AllocError> {
-    let mut cycle = Vec::new(alloc);
+fn cycle_of(next: &Table, member: u32, text: &mut Text) -> Vec<u32> {
+    let mut cycle = Vec::new(text.alloc());
     let (mut comp, mut least) = (member, 0);
     for place in 0..next.comps() as usize {
-        cycle.push(comp)?;
+        add(&mut cycle, comp, text);
         if comp < cycle.get(least).copied().unwrap_or(0) {
             least = place;
         }
@@ -127,5 +133,5 @@ fn cycle_of(alloc: Global, next: &Table, member: u32) -> Result<Vec<u32>, AllocE
     }
     let front = least.min(cycle.len());
     cycle.as_mut_slice().rotate_left(front);
-    Ok(cycle)
+    cycle
 }

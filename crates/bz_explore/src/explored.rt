@@ -18,7 +18,7 @@ use std::io::{BufRead, Read, Write};
 /// The most entries of the journal.
 const JOURNAL: u32 = 1_000_000;
 
-/// Where traces and sessions are written.
+/// Where traces, pages and sessions are written.
 pub trait Shelf {
     type File: Write + Drop;
 
@@ -103,6 +103,7 @@ fn explore_text<L: BufRead, W: Write, S: Shelf>(
     let mut session = Session {
         course: &mut course,
         survey: &survey,
+        part,
         typed: Vec::new(alloc),
         answer: Answer {
             text: Text::new(alloc),
@@ -112,12 +113,11 @@ fn explore_text<L: BufRead, W: Write, S: Shelf>(
         reply: None,
         undone: 0,
     };
-    play(part, prompts, &mut session, lines, shelf, output)
+    play(prompts, &mut session, lines, shelf, output)
 }
 
 // Follows the lines, behind a greeting at a prompt.
 fn play<L: BufRead, W: Write, S: Shelf>(
-    part: &[u8],
     prompts: bool,
     session: &mut Session<'_>,
     lines: &mut L,
@@ -125,7 +125,11 @@ fn play<L: BufRead, W: Write, S: Shelf>(
     output: &mut W,
 ) -> Result<Ending, Fault> {
     if prompts {
-        greet(part, session.course.flat(), &mut session.answer.text);
+        greet(
+            session.part,
+            session.course.flat(),
+            &mut session.answer.text,
+        );
         tell(output, session.answer.text.whole()?)?;
     }
     for number in 1..u64::MAX {

@@ -1,13 +1,12 @@
 //! Who waits for whom: the wait-for graph of a net.
 
-use crate::answer::gathered;
+use crate::answer::add;
 use crate::cycles::{Table, cycles};
 use crate::view::{View, chan_at, port_count};
 use bz_flat::FlatComp;
 use bz_kind_rows::is_passive;
 use bz_model::{Kind, Move, Phase};
 use bz_text::Text;
-use std::alloc::{AllocError, Global};
 
 /// What a component waits for at one of its ports.
 #[derive(Clone, Copy)]
@@ -45,16 +44,26 @@ pub(crate) enum Place {
     Other,
 }
 
-/// How a component stands.
-#[derive(Clone, Copy, PartialEq, Eq)]
-enum Stand {
-    CanMove,
-    /// It can't move, waits for nobody and owes nothing.
-    Idle,
-    /// It waits where such a move is due.
-    Waits(Move),
-    /// It owes a reply on this channel, and has nothing left to do.
-    Halted(u32),
+impl Wait {
+    // That of a component which has halted, and owes a reply on this channel.
+    fn halted(comp: u32, chan: u32) -> Wait {
+        Wait {
+            comp,
+            chan,
+            whom: Whom::Nobody,
+            other: 0,
+            mv: Move::Reply,
+            place: Place::Each,
+        }
+    }
+
+    /// Whom it waits for in any case, where that is a component that waits or can move itself.
+    pub fn link(self) -> Option<u32> {
+        match (self.whom, self.place) {
+            (Whom::Busy, Place::Each) => Some(self.other),
+            _ => None,
+        }
+    }
 }
 
 /// The wait-for graph of a net.
@@ -62,6 +71,8 @@ enum Stand {
 pub(crate) struct Graph {
     /// What each component that can't move waits for, by components.
     pub waits: Vec<Wait>,
+    /// How many components these are.
+    pub waiting: usize,
     /// The cycles of those that wait for one another in any case, each from its least member on.
     pub cycles: Vec<Vec<u32>>,
 }
@@ -69,11 +80,21 @@ pub(crate) struct Graph {
 impl Graph {
     /// That of a net; where memory is refused for it the text is lost.
     pub fn of(view: &View<'_>, text: &mut Text) -> Graph {
-        let (alloc, comps) = (text.alloc(), view.course.flat().comp_count());
-        let waits = gathered(waits_in(alloc, view), text);
-        let links = gathered(links_of(alloc, waits.as_slice()), text);
-        let cycles = gathered(cycles(alloc, comps, links.as_slice()), text);
-        Graph { waits, cycles }
+        let comps = view.course.flat().comp_count();
+        let (mut waits, mut waiting) = (Vec::new(text.alloc()), 0usize);
+        for comp in 1..=comps {
+            let before = waits.len();
+            add_waits(view, comp, &mut waits, text);
+            if waits.len() > before {
+                waiting = waiting.saturating_add(1);
+            }
+        }
+        let cycles = cycles(comps, waits.as_slice(), text);
+        Graph {
+            waits,
+            waiting,
+            cycles,
+        }
     }
 
     /// What a component waits for.
@@ -83,23 +104,11 @@ impl Graph {
         self.waits.get(first..end).unwrap_or(&[])
     }
 
-    /// How many components wait.
-    pub fn count_waiting(&self) -> usize {
-        let (mut count, mut last) = (0usize, 0);
-        for wait in &self.waits {
-            if wait.comp != last {
-                count = count.saturating_add(1);
-            }
-            last = wait.comp;
-        }
-        count
-    }
-
     /// A component, whom it waits for, whom these wait for, and so on: all that were not `met`, which is noted.
-    pub fn hung(&self, alloc: Global, comp: u32, met: &mut Table) -> Result<Vec<u32>, AllocError> {
-        let mut order = Vec::new(alloc);
+    pub fn hung(&self, comp: u32, met: &mut Table, text: &mut Text) -> Vec<u32> {
+        let mut order = Vec::new(text.alloc());
         met.set(comp, 1);
-        order.push(comp)?;
+        add(&mut order, comp, text);
         for turn in 0..=self.waits.len() {
             let Some(comp) = order.get(turn).copied() else {
                 break;
@@ -107,55 +116,39 @@ impl Graph {
             for wait in self.waits_of(comp) {
                 if wait.other > 0 && met.at(wait.other) == 0 {
                     met.set(wait.other, 1);
-                    order.push(wait.other)?;
+                    add(&mut order, wait.other, text);
                 }
             }
         }
-        Ok(order)
+        order
     }
 }
 
-// What each component waits for.
-fn waits_in(alloc: Global, view: &View<'_>) -> Result<Vec<Wait>, AllocError> {
-    let mut waits = Vec::new(alloc);
-    for comp in 1..=view.course.flat().comp_count() {
-        match stand_of(view, comp) {
-            Stand::Waits(mv) => add_due(view, comp, mv, &mut waits)?,
-            Stand::Halted(chan) => waits.push(Wait {
-                comp,
-                chan,
-                whom: Whom::Nobody,
-                other: 0,
-                mv: Move::Reply,
-                place: Place::Each,
-            })?,
-            _ => {}
-        }
-    }
-    Ok(waits)
-}
-
-// The links from who waits to whom it waits for in any case.
-fn links_of(alloc: Global, waits: &[Wait]) -> Result<Vec<(u32, u32)>, AllocError> {
-    let mut links = Vec::new(alloc);
-    for wait in waits {
-        if wait.whom == Whom::Busy && wait.place == Place::Each {
-            links.push((wait.comp, wait.other))?;
-        }
-    }
-    Ok(links)
-}
-
-fn stand_of(view: &View<'_>, comp: u32) -> Stand {
+// Adds what a component waits for that can't move: what is due at its ports, or nobody where it owes a reply and has nothing left
+// to do.
+fn add_waits(view: &View<'_>, comp: u32, waits: &mut Vec<Wait>, text: &mut Text) {
     match view.course.flat().comp(comp) {
-        None => Stand::Idle,
-        Some(_) if view.course.net().is_ready(comp) => Stand::CanMove,
-        Some(site) if count_due(view, comp, site, Move::Got) > 0 => Stand::Waits(Move::Got),
-        Some(site) => match owed_chan(view, site) {
-            None => Stand::Idle,
-            Some(_) if count_due(view, comp, site, Move::Take) > 0 => Stand::Waits(Move::Take),
-            Some(chan) => Stand::Halted(chan),
-        },
+        Some(site) if !view.course.net().is_ready(comp) => {
+            let gets = count_due(view, comp, site, Move::Got);
+            let takes = count_due(view, comp, site, Move::Take);
+            match owed_chan(view, site) {
+                _ if gets > 0 => add_due(view, comp, site, Move::Got, waits, text),
+                Some(_) if takes > 0 => add_due(view, comp, site, Move::Take, waits, text),
+                Some(chan) => add(waits, Wait::halted(comp, chan), text),
+                None => {}
+            }
+        }
+        _ => {}
+    }
+}
+
+// Whether a component can't move, waits for nobody and owes nothing.
+fn is_idle(view: &View<'_>, comp: u32) -> bool {
+    match view.course.flat().comp(comp) {
+        Some(_) if view.course.net().is_ready(comp) => false,
+        Some(site) if count_due(view, comp, site, Move::Got) > 0 => false,
+        Some(site) => owed_chan(view, site).is_none(),
+        None => true,
     }
 }
 
@@ -177,11 +170,15 @@ fn count_due(view: &View<'_>, comp: u32, site: &FlatComp, mv: Move) -> usize {
     due.count()
 }
 
-// What is waited for at each port at which such a move is due. A DecisionWait waits for one request of several.
-fn add_due(view: &View<'_>, comp: u32, mv: Move, waits: &mut Vec<Wait>) -> Result<(), AllocError> {
-    let Some(site) = view.course.flat().comp(comp) else {
-        return Ok(());
-    };
+// Adds what is waited for at each port at which such a move is due. A DecisionWait waits for one request of several.
+fn add_due(
+    view: &View<'_>,
+    comp: u32,
+    site: &FlatComp,
+    mv: Move,
+    waits: &mut Vec<Wait>,
+    text: &mut Text,
+) {
     let (mut place, next) = match (&site.kind, mv) {
         (Kind::DecisionWait, Move::Take) if count_due(view, comp, site, mv) > 1 => {
             (Place::First, Place::Other)
@@ -190,11 +187,11 @@ fn add_due(view: &View<'_>, comp: u32, mv: Move, waits: &mut Vec<Wait>) -> Resul
     };
     for port in 1..=port_count(site) {
         if view.course.net().due(comp, port) == Some(mv) {
-            waits.push(wait_on(view, comp, mv, chan_at(site, port), place))?;
+            let wait = wait_on(view, comp, mv, chan_at(site, port), place);
+            add(waits, wait, text);
             place = next;
         }
     }
-    Ok(())
 }
 
 // What has to come first where a move is due on a channel: a deed of who stands at one of its ends, the host where no
@@ -208,7 +205,7 @@ fn wait_on(view: &View<'_>, comp: u32, due: Move, chan: u32, place: Place) -> Wa
     let end = view.end(chan, due == Move::Got);
     let whom = match end {
         None => Whom::Host,
-        Some(other) if stand_of(view, other) == Stand::Idle => Whom::Idle,
+        Some(other) if is_idle(view, other) => Whom::Idle,
         Some(_) => Whom::Busy,
     };
     Wait {

@@ -1,16 +1,15 @@
 //! What can come next, and how far the net is.
 
 use crate::answer::{Answer, gathered};
-use crate::commands::Command;
-use crate::piece::Piece;
-use crate::table::Form;
-use crate::things::{Thing, asked};
-use crate::view::{View, chan_at, port, port_count};
+use crate::commands::Call;
+use crate::piece::{Piece, say_number, say_phase};
+use crate::things::asked;
+use crate::view::{Thing, View, chan_at, port, port_count};
 use crate::waits::{put_all_waits, put_chain, put_held, put_waits};
-use bz_explore_net::{HostOffer, Offer, answered_words, offers_of};
+use bz_explore_net::{HostOffer, Offer, answered_words, busy_chans, offers_of};
 use bz_flat::FlatComp;
 use bz_kind_rows::kind_word;
-use bz_model::{Entry, Kind, Move, Phase, Value};
+use bz_model::{Entry, Kind, Move, Value};
 use bz_source::{Survey, put_comp, put_label};
 use bz_text::Text;
 use bz_trace_text::counts;
@@ -22,36 +21,28 @@ components: %, % can move
 channels: %, % not idle
 clashes:";
 
-/// How the commands are typed that look at a part of a net.
-const STATE: Form = Form("state [C]");
-
-const WAITS: Form = Form("waits [C]");
-
 /// Answers a command that looks at the net and moves nothing.
-pub(crate) fn look(view: &View<'_>, command: Command<'_>, answer: &mut Answer) {
-    let text = &mut answer.text;
-    match command {
-        Command::Moves => put_moves(view, text),
-        Command::State(None) => put_totals(view, text),
-        Command::Waits(None) => put_waits(view, text),
-        Command::Waits(Some("all")) => put_all_waits(view, text),
-        Command::State(Some(word)) => {
-            for thing in &asked(view, STATE, word, answer) {
-                match *thing {
-                    Thing::Comp(comp) => put_state(view, comp, &mut answer.text),
-                    Thing::Chan(chan) => put_chan_state(view, chan, &mut answer.text),
-                }
+pub(crate) fn look(view: &View<'_>, call: Call<'_>, answer: &mut Answer) {
+    match (call.form.word(), call.first) {
+        ("moves", _) => put_moves(view, &mut answer.text),
+        ("waits", None) => put_waits(view, &mut answer.text),
+        ("waits", Some("all")) => put_all_waits(view, &mut answer.text),
+        (_, None) => put_totals(view, &mut answer.text),
+        (command, Some(word)) => {
+            for thing in &asked(view, call.form, word, answer) {
+                put_thing(view, command == "waits", *thing, &mut answer.text);
             }
         }
-        Command::Waits(Some(word)) => {
-            for thing in &asked(view, WAITS, word, answer) {
-                match *thing {
-                    Thing::Comp(comp) => put_chain(view, comp, &mut answer.text),
-                    Thing::Chan(chan) => put_held(view, chan, &mut answer.text),
-                }
-            }
-        }
-        _ => {}
+    }
+}
+
+// How a component or a channel stands, or on what it hangs.
+fn put_thing(view: &View<'_>, hangs: bool, thing: Thing, text: &mut Text) {
+    match thing {
+        Thing::Comp(comp) if hangs => put_chain(view, comp, text),
+        Thing::Comp(comp) => put_state(view, comp, text),
+        Thing::Chan(chan) if hangs => put_held(view, chan, text),
+        Thing::Chan(chan) => put_chan_state(view, chan, text),
     }
 }
 
@@ -116,45 +107,40 @@ fn put_in(piece: Piece<'_>, form: &str, column: &mut usize, text: &mut Text) {
 fn put_word(view: &View<'_>, word: HostOffer, text: &mut Text) {
     text.say("%", &[view.host_word(word.verb, word.port)]);
     text.fill(28);
-    let (number, carried) = (
-        Piece::Number(word.port.into()),
-        Piece::Carried(view.chan(word.port)),
-    );
-    let phase = Piece::Phase(view.phase(word.port));
-    text.say("port % %, %\n", &[number, carried, phase]);
+    let carried = Piece::Carried(view.chan(word.port));
+    let number = Piece::Number(word.port.into());
+    text.say("port % %", &[number, carried]);
+    say_phase(text, ", %\n", view.phase(word.port));
 }
 
 // Adds how far the net is.
 fn put_totals(view: &View<'_>, text: &mut Text) {
-    let (course, flat) = (view.course, view.course.flat());
-    let counts = counts(course.net().journal());
-    let busy = (1..=flat.chan_count()).filter(|chan| view.phase(*chan) != Phase::Idle);
+    let (course, flat, net) = (view.course, view.course.flat(), view.course.net());
+    let counts = counts(net.journal());
+    let busy = gathered(busy_chans(text.alloc(), flat, net), text);
     let totals = [
-        Piece::Number(counts.fired as Value),
-        Piece::Number(counts.host as Value),
-        Piece::Number(counts.rests as Value),
+        Piece::many(counts.fired),
+        Piece::many(counts.host),
+        Piece::many(counts.rests),
         Piece::Number(flat.comp_count().into()),
-        Piece::Number(view.count_ready() as Value),
+        Piece::many(view.count_ready()),
         Piece::Number(flat.chan_count().into()),
-        Piece::Number(busy.count() as Value),
+        Piece::many(busy.len()),
     ];
     text.say(TOTALS, &totals);
-    if course.net().clashes().is_empty() {
+    if net.clashes().is_empty() {
         text.put(" none");
     }
-    for comp in course.net().clashes() {
-        text.say(" %", &[Piece::Number((*comp).into())]);
+    for comp in net.clashes() {
+        say_number(text, " %", (*comp).into());
     }
     let next = if course.next() > flat.comp_count() {
         1
     } else {
         course.next()
     };
-    let pieces = [
-        Piece::Number(next.into()),
-        Piece::Number(course.picker().seed().into()),
-    ];
-    text.say("\nrun goes on at component %\nseed %\n", &pieces);
+    say_number(text, "\nrun goes on at component %\n", next.into());
+    say_number(text, "seed %\n", course.picker().seed().into());
 }
 
 // Adds a component's place, the value that it keeps, and its ports with what is due there.
@@ -164,7 +150,7 @@ fn put_state(view: &View<'_>, comp: u32, text: &mut Text) {
     };
     if let Some(at) = view.survey.comp(comp) {
         let _ = put_comp(text, comp, site, at);
-        let _ = put_label(text, view.label(comp));
+        let _ = put_label(text, view.label(Thing::Comp(comp)));
         text.put("\n");
     }
     if matches!(site.kind, Kind::Variable | Kind::FalseVariable) {
@@ -193,13 +179,16 @@ fn kept(journal: &[Entry], variable: u32) -> Value {
     0
 }
 
+// What a channel carries.
+fn put_carried(view: &View<'_>, chan: u32, text: &mut Text) {
+    let carried = Piece::Carried(view.chan(chan));
+    text.say("channel % %", &[view.named_chan(chan), carried]);
+}
+
 // The phase of a channel, and who stands at its ends.
 fn put_chan_state(view: &View<'_>, chan: u32, text: &mut Text) {
-    let (carried, phase) = (
-        Piece::Carried(view.chan(chan)),
-        Piece::Phase(view.phase(chan)),
-    );
-    text.say("channel % %, %: ", &[view.named_chan(chan), carried, phase]);
+    put_carried(view, chan, text);
+    say_phase(text, ", %: ", view.phase(chan));
     let ends = [view.holder(chan, false), view.holder(chan, true)];
     text.say("% asks %\n", &ends);
 }
@@ -209,18 +198,17 @@ fn put_port_state(view: &View<'_>, site: &FlatComp, comp: u32, at: u32, text: &m
     let (number, place) = (Piece::Number(comp.into()), Piece::Number(at.into()));
     text.say("%.% %", &[number, place, port(site, at)]);
     text.fill(18);
-    let carried = Piece::Carried(view.chan(chan));
-    text.say("channel % %", &[view.named_chan(chan), carried]);
+    put_carried(view, chan, text);
     text.fill(40);
-    text.say("%", &[Piece::Phase(view.phase(chan))]);
+    say_phase(text, "%", view.phase(chan));
     if let Some(mv) = net.due(comp, at) {
         text.fill(54);
-        let waits = if net.can_fire(comp, at) {
+        text.say("due: %", &[Piece::Text(mv.word())]);
+        text.put(if net.can_fire(comp, at) {
             ""
         } else {
             ", waits"
-        };
-        text.say("due: %%", &[Piece::Text(mv.word()), Piece::Text(waits)]);
+        });
     }
     text.put("\n");
 }

@@ -43,6 +43,22 @@ pub(crate) enum Piece<'a> {
     Phase(Phase),
 }
 
+impl Piece<'_> {
+    pub fn many(count: usize) -> Piece<'static> {
+        Piece::Number(count as Value)
+    }
+}
+
+/// Adds a form with a phase in it.
+pub(crate) fn say_phase(text: &mut Text, form: &str, phase: Phase) {
+    text.say(form, &[Piece::Phase(phase)]);
+}
+
+/// Adds a form with a number in it.
+pub(crate) fn say_number(text: &mut Text, form: &str, number: Value) {
+    text.say(form, &[Piece::Number(number)]);
+}
+
 impl Put for Piece<'_> {
     fn put(&self, text: &mut Text) {
         match *self {

@@ -56,7 +56,7 @@ fn put_unknown(names: &Names, name: &[u8], text: &mut Text) {
     }
     let more = names.ports().len().saturating_sub(MOST_PORTS);
     if more > 0 {
-        text.say(" and % more", &[Piece::Number(more as Value)]);
+        text.say(" and % more", &[Piece::many(more)]);
     }
 }
 

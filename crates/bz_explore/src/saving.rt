@@ -1,15 +1,22 @@
-//! What is written to files: the trace of a net so far, and the commands that stand.
+//! What is written to files: the trace of a net so far, a page on which it plays, and the commands that stand.
 
 ghost use Rattle.std.specs.Prelude.{OnOk, OnErr};
 ghost use Rattle.bz_explore.specs.Saving.{SavesSome, SavesTrace};
 
 use crate::piece::Piece;
+use crate::view::View;
+use crate::waits::put_ends;
 use bz_cli_core::write_out;
+use bz_cli_input::Fault;
 use bz_explore_net::{Course, Mark, Picker};
 use bz_model::Entry;
 use bz_net::Net;
+use bz_page::put_page;
 use bz_text::{Text, WriteFault, put};
 use std::io::Write;
+
+/// The most components of a net that a page holds.
+pub(crate) const MOST_COMPS: usize = 100_000;
 
 /// Writes the trace of what a net's journal tells, down to the last byte.
 pub fn save<W: Write>(net: &Net, out: &mut W) -> Result<(), WriteFault>
@@ -17,6 +24,31 @@ pub fn save<W: Write>(net: &Net, out: &mut W) -> Result<(), WriteFault>
     ensures err { OnErr result (SavesSome net.now (W.contents out.old) (W.contents out.new)) }
 {
     write_out(net.names(), net.journal(), net.clashes(), out)
+}
+
+/// Adds a page on which the trace of a net so far plays, with who waits for whom at its end.
+pub(crate) fn put_trace_page(view: &View<'_>, part: &[u8], text: &mut Text) {
+    let (mut trace, mut ends) = (Text::new(text.alloc()), Text::new(text.alloc()));
+    let saved = save(view.course.net(), &mut trace);
+    put_ends(view, &mut ends);
+    match (saved, trace.whole(), ends.whole()) {
+        (Ok(()), Ok(trace), Ok(ends)) => put_page_of(view, part, trace, ends, text),
+        _ => text.lose(),
+    }
+}
+
+fn put_page_of(view: &View<'_>, part: &[u8], trace: &[u8], ends: &[u8], text: &mut Text) {
+    let alloc = text.alloc();
+    let paged = match view.course.flat().dup(alloc) {
+        Ok(flat) => {
+            let net = flat.into_pieces();
+            put_page(alloc, part, &net, view.survey, trace, ends, text)
+        }
+        Err(_) => Err(Fault::Memory),
+    };
+    if paged.is_err() {
+        text.lose();
+    }
 }
 
 /// Writes a text, down to the last byte.

@@ -1,21 +1,22 @@
 //! A session: a net that is played line by line.
 
 use crate::answer::{Answer, count_lines, gathered, put_added};
-use crate::commands::{Command, command_of, words_of};
+use crate::commands::{Call, call_of, number, words_of};
 use crate::explored::{Ending, NoFile, Shelf};
 use crate::looking::look;
 use crate::piece::Piece;
 use crate::refusals::{put_refusal, put_stuck};
-use crate::saving::{put_script, put_undone, save, save_text};
-use crate::table::{Form, put_help, put_help_of};
+use crate::saving::{MOST_COMPS, put_script, put_trace_page, put_undone, save, save_text};
+use crate::table::{Form, put_help};
 use crate::things::place_asked;
 use crate::view::View;
 use bz_explore_net::Course;
 use bz_model::{Cmd, HostCmd, NetError, Reply};
 use bz_net::RunEnd;
+use bz_page::PageFault;
 use bz_source::Survey;
 use bz_text::Text;
-use std::alloc::AllocError;
+use std::io::Write;
 
 const NO_REPLY: &str = "there is no reply to compare: the last command was none of the host's\n";
 
@@ -26,6 +27,8 @@ const FULL: &str = "N7 JournalFull: the trace holds % lines; `undo` makes room\n
 pub(crate) struct Session<'s> {
     pub course: &'s mut Course,
     pub survey: &'s Survey,
+    /// The name of the part whose net it is.
+    pub part: &'s [u8],
     /// The words of the line, with a blank between.
     pub typed: Vec<u8>,
     pub answer: Answer,
@@ -53,42 +56,39 @@ impl<'s> Session<'s> {
         let words = gathered(words_of(alloc, line), &mut self.answer.text);
         let typed = words.as_slice().join(alloc, " ").map(String::into_bytes);
         self.typed = gathered(typed, &mut self.answer.text);
-        match command_of(words.as_slice(), &mut self.answer) {
-            Some(Command::Quit) => return false,
-            Some(command) => self.follow(shelf, command),
-            None => {}
+        match call_of(words.as_slice(), self.typed.as_slice(), &mut self.answer) {
+            Some(call) => self.follow(shelf, call),
+            None => true,
         }
-        true
     }
 
-    fn follow<S: Shelf>(&mut self, shelf: &mut S, command: Command<'_>) {
-        match command {
-            Command::Help(_) | Command::Undo(_) => {}
-            _ => self.go_back(),
+    // Does what a line asks for; whether the session goes on.
+    fn follow<S: Shelf>(&mut self, shelf: &mut S, call: Call<'_>) -> bool {
+        let word = call.form.word();
+        if !matches!(word, "help" | "undo" | "quit") {
+            self.go_back();
         }
-        let (alloc, before) = (self.answer.text.alloc(), self.entries());
-        match command {
-            Command::Fire(comp, port) => self.fire(comp, port),
-            Command::Run(fuel) => {
-                let end = self.course.run(alloc, self.typed.as_slice(), fuel);
-                self.fired(before, end);
+        match word {
+            "fire" => self.fire(call),
+            "run" => self.run(false, call.number().unwrap_or(u64::MAX)),
+            "random" => self.run(true, call.number().unwrap_or(0)),
+            "seed" => self.seed(call.number().unwrap_or(0)),
+            "expect" => self.expect(),
+            "undo" => self.undo(call.number().unwrap_or(1)),
+            "trace" | "session" => self.write(shelf, call),
+            "page" => self.page(shelf, call),
+            "help" => self.help(call.first),
+            "moves" | "waits" | "state" => {
+                look(
+                    &View::of(&*self.course, self.survey),
+                    call,
+                    &mut self.answer,
+                );
             }
-            Command::Random(count) => {
-                let end = self.course.random(alloc, self.typed.as_slice(), count);
-                self.fired(before, end);
-            }
-            Command::Seed(seed) => self.seed(seed),
-            Command::Host(word) => self.word(word),
-            Command::Expect => self.expect(),
-            Command::Undo(count) => self.undo(count),
-            Command::Trace(path, over) => self.trace(shelf, path, over),
-            Command::Session(path, over) => self.script(shelf, path, over),
-            Command::Help(word) => self.help(word),
-            command => {
-                let (course, survey) = (&*self.course, self.survey);
-                look(&View { course, survey }, command, &mut self.answer);
-            }
+            "quit" => {}
+            _ => self.word(call),
         }
+        word != "quit"
     }
 
     // Takes back in the net what is undone: of several commands in a row it is played but once again.
@@ -101,24 +101,19 @@ impl<'s> Session<'s> {
     }
 
     fn help(&mut self, word: Option<&str>) {
-        let Some(word) = word else {
-            put_help(&mut self.answer.text);
-            return;
-        };
-        match Form::begun_by(word) {
-            Some(form) => put_help_of(form.word(), &mut self.answer.text),
-            None => self.answer.no_command(word, word.as_bytes()),
+        match (word, Form::begun_by(word.unwrap_or(""))) {
+            (Some(word), None) => self.answer.no_command(word, word.as_bytes()),
+            (_, form) => put_help(form, &mut self.answer.text),
         }
     }
 
     // Follows a word of the host, if it is one.
-    fn word(&mut self, word: &str) {
-        let command = bz_words::command(self.answer.text.alloc(), word);
-        match (command, Form::of_host(word)) {
-            (Ok(Some(Cmd::Host(cmd))), _) => self.host(&cmd),
-            (Ok(_), Some(form)) => self.answer.misfit(form, word, "not of this form"),
-            (Ok(_), None) => self.answer.no_command(word, self.typed.as_slice()),
-            (Err(_), _) => self.answer.text.lose(),
+    fn word(&mut self, call: Call<'_>) {
+        let word = call.first.unwrap_or("");
+        match bz_words::command(self.answer.text.alloc(), word) {
+            Ok(Some(Cmd::Host(cmd))) => self.host(&cmd),
+            Ok(_) => self.answer.misfit(call.form, word, "not of this form"),
+            Err(_) => self.answer.text.lose(),
         }
     }
 
@@ -127,19 +122,23 @@ impl<'s> Session<'s> {
         let (alloc, typed) = (self.answer.text.alloc(), self.typed.as_slice());
         match self.course.command(alloc, typed, cmd) {
             Ok(reply) => self.played(before, Some(reply)),
-            Err(NetError::Memory) => self.answer.text.lose(),
-            Err(NetError::JournalFull) => self.full(),
             Err(error) => {
-                let (course, survey) = (&*self.course, self.survey);
-                self.answer.begin_error();
-                put_refusal(&View { course, survey }, error, cmd, &mut self.answer.text);
+                if !self.is_spent(error) {
+                    self.answer.begin_error();
+                    let view = View::of(&*self.course, self.survey);
+                    put_refusal(&view, error, cmd, &mut self.answer.text);
+                }
             }
         }
     }
 
-    fn fire(&mut self, number: u64, port: Option<u64>) {
-        let (course, survey) = (&*self.course, self.survey);
-        match place_asked(&View { course, survey }, number, port, &mut self.answer) {
+    fn fire(&mut self, call: Call<'_>) {
+        let view = View::of(&*self.course, self.survey);
+        let (comp, port) = (
+            call.number().unwrap_or(0),
+            number(call.second.unwrap_or("")),
+        );
+        match place_asked(&view, comp, port, &mut self.answer) {
             Some((comp, port)) => self.fire_at(comp, port),
             None => {}
         }
@@ -150,18 +149,25 @@ impl<'s> Session<'s> {
         let (alloc, typed) = (self.answer.text.alloc(), self.typed.as_slice());
         match self.course.fire(alloc, typed, comp, port) {
             Ok(()) => self.played(before, None),
-            Err(NetError::Memory) => self.answer.text.lose(),
-            Err(NetError::JournalFull) => self.full(),
-            Err(_) => {
-                let (course, survey) = (&*self.course, self.survey);
-                self.answer.begin_error();
-                put_stuck(&View { course, survey }, comp, port, &mut self.answer.text);
+            Err(error) => {
+                if !self.is_spent(error) {
+                    self.answer.begin_error();
+                    let view = View::of(&*self.course, self.survey);
+                    put_stuck(&view, comp, port, &mut self.answer.text);
+                }
             }
         }
     }
 
-    // Adds what was fired behind the first `before` entries, and how it ended.
-    fn fired(&mut self, before: usize, end: Result<RunEnd, AllocError>) {
+    // Fires up to `count` times, by chance or in turn, and adds what was fired and how it ended.
+    fn run(&mut self, by_chance: bool, count: u64) {
+        let before = self.entries();
+        let (alloc, typed) = (self.answer.text.alloc(), self.typed.as_slice());
+        let end = if by_chance {
+            self.course.random(alloc, typed, count)
+        } else {
+            self.course.run(alloc, typed, count)
+        };
         self.played(before, None);
         match end {
             Ok(RunEnd::Rest(fired) | RunEnd::Spent(fired)) => {
@@ -171,8 +177,10 @@ impl<'s> Session<'s> {
                 };
                 self.answer.text.say(form, &[Piece::Number(fired.into())]);
             }
-            Ok(RunEnd::Refused(_, NetError::Memory)) | Err(_) => self.answer.text.lose(),
-            Ok(RunEnd::Refused(_, _)) => self.full(),
+            Ok(RunEnd::Refused(_, error)) => {
+                self.is_spent(error);
+            }
+            Err(_) => self.answer.text.lose(),
         }
     }
 
@@ -182,28 +190,32 @@ impl<'s> Session<'s> {
         put_added(self.course.net(), before, &mut self.answer.text);
     }
 
-    fn full(&mut self) {
-        let limit = Piece::Number(self.course.limit().into());
-        self.answer.complain(FULL, &[limit]);
+    // Whether there is no memory for an entry, or no room in the journal, which is told.
+    fn is_spent(&mut self, error: NetError) -> bool {
+        match error {
+            NetError::Memory => self.answer.text.lose(),
+            NetError::JournalFull => {
+                let limit = Piece::Number(self.course.limit().into());
+                self.answer.complain(FULL, &[limit]);
+            }
+            _ => return false,
+        }
+        true
     }
 
     fn seed(&mut self, seed: u64) {
         self.course.seed(seed);
-        self.answer
-            .text
-            .say("seed %\n", &[Piece::Number(seed.into())]);
+        let seed = Piece::Number(seed.into());
+        self.answer.text.say("seed %\n", &[seed]);
     }
 
     // Takes back the last commands of those that aren't undone already.
     fn undo(&mut self, count: u64) {
         let left = self.course.marks().len().saturating_sub(self.undone);
         if count > left as u64 {
-            let form = if left == 1 {
-                "there is % to undo\n"
-            } else {
-                "there are % to undo\n"
-            };
-            self.answer.complain(form, &[Piece::Count(left, "command")]);
+            let be = Piece::Text(if left == 1 { "is" } else { "are" });
+            let left = Piece::Count(left, "command");
+            self.answer.complain("there % % to undo\n", &[be, left]);
             return;
         }
         let count = count as usize;
@@ -232,38 +244,57 @@ impl<'s> Session<'s> {
         }
     }
 
-    fn trace<S: Shelf>(&mut self, shelf: &mut S, path: &str, over: bool) {
-        let net = self.course.net();
-        let lines = net.journal().len().saturating_add(net.clashes().len());
-        let saved = match shelf.create(path, over) {
-            Ok(mut file) => save(net, &mut file).map_err(|_| NoFile::Unwritable),
-            Err(cause) => Err(cause),
-        };
-        self.saved(saved, path, "trace", lines.saturating_add(1));
+    fn page<S: Shelf>(&mut self, shelf: &mut S, call: Call<'_>) {
+        let comps = self.course.flat().comp_count() as usize;
+        if comps > MOST_COMPS {
+            self.answer.begin_error();
+            let _ = writeln!(self.answer.text, "{}", PageFault::TooLarge(comps));
+        } else {
+            self.write(shelf, call);
+        }
     }
 
-    // Writes the commands that stand.
-    fn script<S: Shelf>(&mut self, shelf: &mut S, path: &str, over: bool) {
-        let mut script = Text::new(self.answer.text.alloc());
-        put_script(&*self.course, &mut script);
-        let Ok(bytes) = script.whole() else {
+    // Writes a file: the trace so far, a page on which it plays, or the commands that stand. What is not the trace is made whole
+    // before there is a file.
+    fn write<S: Shelf>(&mut self, shelf: &mut S, call: Call<'_>) {
+        let (word, net) = (call.form.word(), self.course.net());
+        let path = call.first.unwrap_or("");
+        let mut made = Text::new(self.answer.text.alloc());
+        match word {
+            "page" => put_trace_page(&View::of(&*self.course, self.survey), self.part, &mut made),
+            "session" => put_script(&*self.course, &mut made),
+            _ => {}
+        }
+        let Ok(bytes) = made.whole() else {
             self.answer.text.lose();
             return;
         };
-        let saved = match shelf.create(path, over) {
-            Ok(mut file) => save_text(bytes, &mut file).map_err(|_| NoFile::Unwritable),
-            Err(cause) => Err(cause),
+        let saved = match (shelf.create(path, call.over), word) {
+            (Ok(mut file), "trace") => save(net, &mut file).map_err(|_| NoFile::Unwritable),
+            (Ok(mut file), _) => save_text(bytes, &mut file).map_err(|_| NoFile::Unwritable),
+            (Err(cause), _) => Err(cause),
         };
-        self.saved(saved, path, "session", count_lines(bytes));
+        let lines = match word {
+            "session" => count_lines(bytes),
+            _ => 1usize
+                .saturating_add(net.journal().len())
+                .saturating_add(net.clashes().len()),
+        };
+        self.saved(saved, word, path, lines);
     }
 
-    // Tells that a file of so many lines was written by the command of this word, or why not.
-    fn saved(&mut self, saved: Result<(), NoFile>, path: &str, word: &str, lines: usize) {
+    // Tells that a file of so many lines was written, or why not.
+    fn saved(&mut self, saved: Result<(), NoFile>, word: &str, path: &str, lines: usize) {
         let path = Piece::Shown(path.as_bytes());
         let form = match saved {
             Ok(()) => {
-                let pieces = [path, Piece::Count(lines, "line")];
-                self.answer.text.say("wrote %: %\n", &pieces);
+                let plays = Piece::Text(if word == "page" {
+                    "a page that plays "
+                } else {
+                    ""
+                });
+                let lines = Piece::Count(lines, "line");
+                self.answer.text.say("wrote %: %%\n", &[path, plays, lines]);
                 return;
             }
             Err(NoFile::Exists) => "% exists; `%! %` writes over it\n",

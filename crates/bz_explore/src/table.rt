@@ -22,6 +22,7 @@ waits all         who holds each channel that is not idle, and for whom each com
 state [C]         how far it is; of component C its place, its ports and what is due there
 undo [N]          take back the last N commands that moved something; without N one
 trace[!] FILE     write the trace so far; only with the `!` over a file that is there
+page[!] FILE      write a page on which the trace so far plays in a browser, with who waits for whom at its end
 session[!] FILE   write the commands that stand, each host word with its reply to `expect`
 help [COMMAND]    the list of commands, or one of them; also `?`
 quit              leave, as the end of the input does; also `exit` and `q`
@@ -100,16 +101,15 @@ fn form_of(line: &'static str) -> Form {
     Form(line.split("  ").next().unwrap_or(""))
 }
 
-/// Adds the list of commands.
-pub(crate) fn put_help(text: &mut Text) {
-    text.put(COMMANDS);
-    text.put(BEHIND);
-}
-
-/// Adds what the commands of this word do.
-pub(crate) fn put_help_of(word: &str, text: &mut Text) {
+/// Adds what the commands of a form's word do, or the list of all.
+pub(crate) fn put_help(form: Option<Form>, text: &mut Text) {
+    let Some(form) = form else {
+        text.put(COMMANDS);
+        text.put(BEHIND);
+        return;
+    };
     for line in COMMANDS.lines() {
-        if form_of(line).word() == word {
+        if form_of(line).word() == form.word() {
             text.put(line);
             text.put("\n");
         }

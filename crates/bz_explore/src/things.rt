@@ -1,32 +1,23 @@
 //! What a word stands for: components by their numbers, and components and channels by their names and places in the source.
 
-use crate::answer::{Answer, gathered};
+use crate::answer::{Answer, add};
 use crate::commands::number;
 use crate::piece::Piece;
 use crate::table::Form;
-use crate::view::{View, port_count};
+use crate::view::{Thing, View, port_count};
 use bz_explain_notes::nearest_name;
-use bz_model::Value;
-use bz_source::Label;
+use bz_source::{Label, Survey};
 use bz_text::Text;
-use std::alloc::{AllocError, Global};
-
-/// A component or a channel of a net.
-#[derive(Clone, Copy)]
-pub(crate) enum Thing {
-    Comp(u32),
-    Chan(u32),
-}
 
 /// What a word behind a command of this form stands for. That it stands for nothing is told, and that it stands for several.
 pub(crate) fn asked(view: &View<'_>, form: Form, word: &str, answer: &mut Answer) -> Vec<Thing> {
-    let things = gathered(things_of(answer.text.alloc(), view, word), &mut answer.text);
+    let things = things_of(view, word, &mut answer.text);
     match (number(word), things.len()) {
         (Some(number), 0) => no_component(view, number, answer),
         (None, 0) => no_thing(view, form, word, answer),
         (_, 1) => {}
         (_, count) => {
-            let pieces = [Piece::Number(count as Value), Piece::Shown(word.as_bytes())];
+            let pieces = [Piece::many(count), Piece::Shown(word.as_bytes())];
             answer.text.say("% match `%`:\n", &pieces);
         }
     }
@@ -76,15 +67,14 @@ fn no_component(view: &View<'_>, number: u64, answer: &mut Answer) {
 
 // Tells that a word is no number, and where the netlist has names, that it is none of them, and which one is near.
 fn no_thing(view: &View<'_>, form: Form, word: &str, answer: &mut Answer) {
-    let alloc = answer.text.alloc();
-    let names = gathered(names_in(alloc, view), &mut answer.text);
+    let names = names_in(view, &mut answer.text);
     if names.is_empty() {
         answer.misfit(form, word, "no number");
         return;
     }
     let (form, shown) = (Piece::Text(form.0), Piece::Shown(word.as_bytes()));
     answer.complain("%: `%` is no number, name or place", &[form, shown]);
-    match nearest_name(alloc, word.as_bytes(), names.as_slice()) {
+    match nearest_name(answer.text.alloc(), word.as_bytes(), names.as_slice()) {
         Ok(Some(name)) => answer
             .text
             .say("; the nearest is `%`\n", &[Piece::Name(name)]),
@@ -94,37 +84,56 @@ fn no_thing(view: &View<'_>, form: Form, word: &str, answer: &mut Answer) {
 }
 
 // The component of a number, or else what is called so.
-fn things_of(alloc: Global, view: &View<'_>, word: &str) -> Result<Vec<Thing>, AllocError> {
-    let mut things = Vec::new(alloc);
-    if let Some(number) = number(word) {
-        if let Some(comp) = numbered_comp(view, number) {
-            things.push(Thing::Comp(comp))?;
+fn things_of(view: &View<'_>, word: &str, text: &mut Text) -> Vec<Thing> {
+    let mut things = Vec::new(text.alloc());
+    match number(word) {
+        Some(number) => {
+            if let Some(comp) = numbered_comp(view, number) {
+                add(&mut things, Thing::Comp(comp), text);
+            }
         }
-        return Ok(things);
-    }
-    for comp in 1..=view.course.flat().comp_count() {
-        if is_called(alloc, word, view.label(comp))? {
-            things.push(Thing::Comp(comp))?;
+        None => {
+            for place in 0..thing_count(view) {
+                let thing = thing_at(view, place);
+                if is_called(word, view.label(thing), text) {
+                    add(&mut things, thing, text);
+                }
+            }
         }
     }
-    for chan in 1..=view.course.flat().chan_count() {
-        if is_called(alloc, word, view.chan_label(chan))? {
-            things.push(Thing::Chan(chan))?;
-        }
+    things
+}
+
+// How many components and channels a net has.
+fn thing_count(view: &View<'_>) -> u32 {
+    let flat = view.course.flat();
+    flat.comp_count().saturating_add(flat.chan_count())
+}
+
+// The components of a net, and behind them its channels.
+fn thing_at(view: &View<'_>, place: u32) -> Thing {
+    match place.checked_sub(view.course.flat().comp_count()) {
+        None => Thing::Comp(place.saturating_add(1)),
+        Some(behind) => Thing::Chan(behind.saturating_add(1)),
     }
-    Ok(things)
 }
 
 // Whether a word is a name as it is told, without the bits behind a variable's, or a place, with or without its column.
-fn is_called(alloc: Global, word: &str, label: Label<'_>) -> Result<bool, AllocError> {
-    let (mut name, mut place) = (Text::new(alloc), Text::new(alloc));
+fn is_called(word: &str, label: Label<'_>, text: &mut Text) -> bool {
+    let (mut name, mut place) = (Text::new(text.alloc()), Text::new(text.alloc()));
     if let Some(called) = label.name {
         name.say("%", &[Piece::Name(called)]);
     }
     if let Some(at) = label.source {
         place.say("%", &[Piece::Source(at)]);
     }
-    Ok(begins_with(name.whole()?, word) || begins_with(place.whole()?, word))
+    match (name.whole(), place.whole()) {
+        (Ok(name), Ok(place)) => begins_with(name, word) || begins_with(place, word),
+        _ => {
+            text.lose();
+            false
+        }
+    }
 }
 
 // Whether what is told is a word, or the word and a last part behind it: a name has no colon, and a file has none.
@@ -136,20 +145,26 @@ fn begins_with(told: &[u8], word: &str) -> bool {
     }
 }
 
-// The names of the components and the channels of a net, those of variables without their bits.
-fn names_in<'v>(alloc: Global, view: &View<'v>) -> Result<Vec<&'v [u8]>, AllocError> {
-    let (survey, flat) = (view.survey, view.course.flat());
-    let mut names = Vec::new(alloc);
-    for comp in 1..=flat.comp_count() {
-        if let Some(name) = survey.comp_name(comp) {
+// The names of the components and the channels of a net.
+fn names_in<'v>(view: &View<'v>, text: &mut Text) -> Vec<&'v [u8]> {
+    let mut names = Vec::new(text.alloc());
+    for place in 0..thing_count(view) {
+        match name_of(view.survey, thing_at(view, place)) {
+            Some(name) => add(&mut names, name, text),
+            None => {}
+        }
+    }
+    names
+}
+
+// The name of a component or a channel, that of a variable without its bits.
+fn name_of(survey: &Survey, thing: Thing) -> Option<&[u8]> {
+    match thing {
+        Thing::Comp(comp) => {
+            let name = survey.comp_name(comp)?;
             let bits = name.iter().position(|byte| *byte == b'[');
-            names.push(name.get(..bits.unwrap_or(name.len())).unwrap_or(name))?;
+            name.get(..bits.unwrap_or(name.len()))
         }
+        Thing::Chan(chan) => survey.chan_name(chan),
     }
-    for chan in 1..=flat.chan_count() {
-        if let Some(name) = survey.chan_name(chan) {
-            names.push(name)?;
-        }
-    }
-    Ok(names)
 }

@@ -14,7 +14,18 @@ pub(crate) struct View<'v> {
     pub survey: &'v Survey,
 }
 
-impl View<'_> {
+/// A component or a channel of a net.
+#[derive(Clone, Copy)]
+pub(crate) enum Thing {
+    Comp(u32),
+    Chan(u32),
+}
+
+impl<'v> View<'v> {
+    pub fn of(course: &'v Course, survey: &'v Survey) -> View<'v> {
+        View { course, survey }
+    }
+
     /// How many components can move.
     pub fn count_ready(&self) -> usize {
         let comps = 1..=self.course.flat().comp_count();
@@ -62,16 +73,7 @@ impl View<'_> {
             Some(site) => kind_word(&site.kind),
             None => b"",
         };
-        let label = self.label(number);
-        Piece::Comp(kind, number, label)
-    }
-
-    /// What the source has of a component.
-    pub fn label(&self, comp: u32) -> Label<'_> {
-        Label {
-            name: self.survey.comp_name(comp),
-            source: self.survey.comp_source(comp),
-        }
+        Piece::Comp(kind, number, self.label(Thing::Comp(number)))
     }
 
     /// A channel, as it is called.
@@ -79,12 +81,14 @@ impl View<'_> {
         Piece::Chan(chan, self.survey.chan_name(chan))
     }
 
-    /// What the source has of a channel.
-    pub fn chan_label(&self, chan: u32) -> Label<'_> {
-        Label {
-            name: self.survey.chan_name(chan),
-            source: self.survey.chan_source(chan),
-        }
+    /// What the source has of a component or a channel.
+    pub fn label(&self, thing: Thing) -> Label<'_> {
+        let survey = self.survey;
+        let (name, source) = match thing {
+            Thing::Comp(comp) => (survey.comp_name(comp), survey.comp_source(comp)),
+            Thing::Chan(chan) => (survey.chan_name(chan), survey.chan_source(chan)),
+        };
+        Label { name, source }
     }
 
     // The name of an external port, empty where there is none of this number.

@@ -3,10 +3,10 @@
 use crate::answer::{HALF, MORE, MOST_LINES, gathered, put_cut};
 use crate::cycles::Table;
 use crate::graph::{Graph, Place, Wait, Whom};
-use crate::piece::Piece;
+use crate::piece::{Piece, say_phase};
 use crate::view::View;
 use bz_explore_net::busy_chans;
-use bz_model::{Move, Phase, Value, Verb};
+use bz_model::{Move, Phase, Verb};
 use bz_text::Text;
 
 /// The column of what holds a channel, and of what is waited for.
@@ -14,6 +14,9 @@ const COLUMN: usize = 26;
 
 /// The most members of a cycle that are told, where not all is asked for.
 const MOST_MEMBERS: usize = 20;
+
+/// The most cycles, and the most waits, that a page tells at its end.
+const MOST_TOLD: usize = 1000;
 
 /// Adds why nothing moves: the cycles of waiting, then who waits for nobody, for the host or for one that is idle, and how
 /// many wait.
@@ -49,25 +52,36 @@ pub(crate) fn put_all_waits(view: &View<'_>, text: &mut Text) {
     put_counts(view, &graph, text);
 }
 
+/// Adds lines of a page, each behind `end`: the cycles, for whom each component waits, or behind `ended` that it has halted, and
+/// how many there are.
+pub(crate) fn put_ends(view: &View<'_>, text: &mut Text) {
+    let graph = Graph::of(view, text);
+    for cycle in graph.cycles.iter().take(MOST_TOLD) {
+        text.put("end ");
+        put_cycle(view, cycle.as_slice(), MOST_MEMBERS, text);
+    }
+    for wait in graph.waits.iter().take(MOST_TOLD) {
+        let has_halted = wait.whom == Whom::Nobody;
+        text.put(if has_halted { "end ended " } else { "end " });
+        put_wait(view, *wait, text);
+    }
+    text.put("end ");
+    put_counts(view, &graph, text);
+}
+
 /// Adds on what a component hangs: for whom each waits, or that it can move or is idle; then the cycles among these, each of
 /// which is met with all of its members or with none.
 pub(crate) fn put_chain(view: &View<'_>, comp: u32, text: &mut Text) {
     let graph = Graph::of(view, text);
     let mut lines = Text::new(text.alloc());
-    match Table::new(text.alloc(), view.course.flat().comp_count()) {
-        Ok(mut met) => {
-            for number in &gathered(graph.hung(text.alloc(), comp, &mut met), text) {
-                put_standing(view, &graph, *number, &mut lines);
-            }
-            for cycle in graph
-                .cycles
-                .iter()
-                .filter(|cycle| met.at(first_of(cycle.as_slice())) > 0)
-            {
-                put_cycle(view, cycle.as_slice(), MOST_MEMBERS, &mut lines);
-            }
+    let mut met = Table::new(view.course.flat().comp_count(), text);
+    for number in &graph.hung(comp, &mut met, text) {
+        put_standing(view, &graph, *number, &mut lines);
+    }
+    for cycle in &graph.cycles {
+        if met.at(first_of(cycle.as_slice())) > 0 {
+            put_cycle(view, cycle.as_slice(), MOST_MEMBERS, &mut lines);
         }
-        Err(_) => lines.lose(),
     }
     put_cut(&lines, HALF, HALF, MORE, text);
 }
@@ -82,14 +96,11 @@ fn put_standing(view: &View<'_>, graph: &Graph, number: u32, text: &mut Text) {
 }
 
 fn put_counts(view: &View<'_>, graph: &Graph, text: &mut Text) {
-    let (waiting, ready) = (graph.count_waiting(), view.count_ready());
+    let (waiting, ready) = (graph.waiting, view.count_ready());
     let comps = view.course.flat().comp_count() as usize;
     let idle = comps.saturating_sub(waiting).saturating_sub(ready);
-    let (waiting, ready) = (
-        Piece::Number(waiting as Value),
-        Piece::Number(ready as Value),
-    );
-    let counts = [waiting, ready, Piece::Number(idle as Value)];
+    let (waiting, ready) = (Piece::many(waiting), Piece::many(ready));
+    let counts = [waiting, ready, Piece::many(idle)];
     text.say("% wait, % can move, % idle\n", &counts);
 }
 
@@ -107,7 +118,7 @@ fn put_cycle(view: &View<'_>, cycle: &[u32], most: usize, text: &mut Text) {
     }
     let more = cycle.len().saturating_sub(most);
     if more > 0 {
-        text.say(".. % more -> ", &[Piece::Number(more as Value)]);
+        text.say(".. % more -> ", &[Piece::many(more)]);
     }
     text.say("%\n", &[view.comp(first_of(cycle))]);
 }
@@ -118,7 +129,10 @@ fn first_of(cycle: &[u32]) -> u32 {
 
 /// Adds the phase of a channel, and who holds it.
 pub(crate) fn put_held(view: &View<'_>, chan: u32, text: &mut Text) {
-    put_chan(view, chan, text);
+    text.say("channel %", &[view.named_chan(chan)]);
+    text.fill(13);
+    say_phase(text, "%", view.phase(chan));
+    text.fill(COLUMN);
     let (active, passive) = (view.holder(chan, false), view.holder(chan, true));
     match view.phase(chan) {
         Phase::Idle => text.say("between % and %\n", &[active, passive]),
@@ -126,18 +140,6 @@ pub(crate) fn put_held(view: &View<'_>, chan: u32, text: &mut Text) {
         Phase::Replied(_) => text.say("% has not got the reply of %\n", &[active, passive]),
         _ => text.say("% has not replied to %\n", &[passive, active]),
     }
-}
-
-// A channel and its phase, in columns.
-fn put_chan(view: &View<'_>, chan: u32, text: &mut Text) {
-    text.say("channel %", &[view.named_chan(chan)]);
-    text.fill(13);
-    put_phase(view.phase(chan), text);
-    text.fill(COLUMN);
-}
-
-fn put_phase(phase: Phase, text: &mut Text) {
-    text.say("%", &[Piece::Phase(phase)]);
 }
 
 fn put_each(view: &View<'_>, waits: &[Wait], text: &mut Text) {

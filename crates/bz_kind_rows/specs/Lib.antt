@@ -3,3 +3,4 @@ pub mod Texts
 pub mod Naming
 pub mod Table
 pub mod KindWords
+pub mod Lengths

@@ -1,11 +1,12 @@
 //! Kinds by the names and parameters that netlists give them.
 
-ghost use Rattle.std.specs.Prelude.{◌≡◌, ◌⊎◌, ◌%◌, ◌^◌, map, IfOk, IfErr, Ok, Err};
+ghost use Rattle.std.specs.Prelude.{◌≡◌, ◌⊎◌, ◌%◌, ◌^◌, map, bytes_eq, IfOk, IfErr, Ok, Err};
 ghost use Rattle.bz_model.specs.declared.kind.Kind.TheVariants.{Adapt};
 ghost use Rattle.bz_model.specs.declared.error.KindError.TheVariants.{Memory};
 ghost use Rattle.std.specs.Option.{option_copied};
 ghost use Rattle.bz_kind_rows.specs.Naming.{name_rows, named, meant, kind_by, kind_with, text, number, flag, given_flag, case_by, case_fetch_by, variable_by, false_variable_by, reads_whole, last_text, constant_by, unary_by, binary_by, const_by, slice_by, given, unary_named, binary_named};
 
+use crate::by_length::names_of_length;
 use crate::specification::specification;
 use bz_model::{BinaryOp, Kind, KindError, MAX_WIDTH, Param, UnaryOp};
 use std::alloc::{AllocError, Global};
@@ -135,7 +136,7 @@ pub fn kind_names() -> &'static [(&'static str, KindName)]
 pub fn kind_named(name: &[u8]) -> Option<KindName>
     ensures { result ≡ named name.now }
 {
-    meant(kind_names(), name)
+    meant(names_of_length(name.len()), name)
 }
 
 // What stands beside a name in a table.
@@ -143,11 +144,21 @@ fn meant<T: Copy>(table: &[(&str, T)], name: &[u8]) -> Option<T>
     ensures { result ≡ meant (map (λ row. (row.0.now, row.1)) table.now) name.now }
 {
     for row in table {
-        if name == row.0.as_bytes() {
+        if is(name, row.0.as_bytes()) {
             return Some(row.1);
         }
     }
     None
+}
+
+// Whether a name is this text. Most others have another fifth byte, behind the `$Brz` that all names of kinds begin with.
+fn is(name: &[u8], text: &[u8]) -> bool
+    ensures { result ≡ bytes_eq name.now text.now }
+{
+    if name.len() > 4 && text.len() > 4 && name[4] != text[4] {
+        return false;
+    }
+    name == text
 }
 
 // The kind of this name, unless it cannot have these parameters.

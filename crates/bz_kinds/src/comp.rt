@@ -15,6 +15,8 @@ ghost use Rattle.bz_kinds.specs.Ready.{AreReady, CanGo, NoneDue};
 ghost use Rattle.bz_kinds.specs.Start.{BeginsAt, IsAllDue, IsDueBut, AreMembersDue};
 ghost use Rattle.bz_kinds.specs.Kept.{plan_of};
 ghost use Rattle.bz_kinds.specs.KeptLists.{slots_of};
+ghost use Rattle.bz_model.specs.declared.channel.Phase.{Phase};
+ghost use Rattle.bz_kinds.specs.Riding.{riding, taken};
 ghost use Rattle.bz_kinds.specs.Comp.{IsAt, IsDue, IsFor, Goes, plan_due};
 
 use crate::kept::KeptPlan;
@@ -117,10 +119,26 @@ pub fn apply(comp: &mut Comp, port: u32, phase: Phase) -> (Move, Option<Value>)
     ensures chans { comp.new.chans ≡ comp.old.chans }
     ensures fits { Fitted comp.old → HoldsAt comp.old.chans port phase → FitsAt comp.old.chans port result.0 result.1 × Fitted comp.new }
 {
+    fire(comp, port, riding(phase))
+}
+
+/// Makes the move at a port where it can be made: the move, and the value that it carries. `rides` is the value that rides
+/// on the port's channel.
+#[inline(always)]
+pub fn fire(comp: &mut Comp, port: u32, rides: Option<Value>) -> (Move, Option<Value>)
+    requires { (phase : Phase) × CanMove comp.old.proc port phase × (rides ≡ riding phase) }
+    ensures moves { (phase : Phase) → CanMove comp.old.proc port phase → rides ≡ riding phase →
+        Moves comp.old.proc port phase result.0 result.1 comp.new.proc }
+    ensures turns { Turns comp.old port result.0 comp.new }
+    ensures one { HasOneHead comp.old.proc.todo }
+    ensures chans { comp.new.chans ≡ comp.old.chans }
+    ensures fits { (phase : Phase) → CanMove comp.old.proc port phase → rides ≡ riding phase →
+        Fitted comp.old → HoldsAt comp.old.chans port phase → FitsAt comp.old.chans port result.0 result.1 × Fitted comp.new }
+{
     let Some(due) = due_at(&comp.plan, comp.size, comp.left, port, comp.ports.get(port)) else {
         unreachable!()
     };
-    let incoming = phase.incoming(due.mv);
+    let incoming = taken(due.mv, rides);
     let value = carried(&due, comp.slots.get(), incoming);
     store(&mut comp.slots, due.into, incoming);
     advance(
@@ -132,6 +150,28 @@ pub fn apply(comp: &mut Comp, port: u32, phase: Phase) -> (Move, Option<Value>)
         comp.slots.get(),
     );
     (due.mv, value)
+}
+
+// The value that rides on a channel in this phase.
+#[inline(always)]
+fn riding(phase: Phase) -> Option<Value>
+    ensures { result ≡ riding phase }
+{
+    match phase {
+        Phase::Asked(value) | Phase::Replied(value) => value,
+        Phase::Idle | Phase::Taken | Phase::Broken => None,
+    }
+}
+
+// What a move takes of the value that rides on its channel.
+#[inline(always)]
+fn taken(mv: Move, rides: Option<Value>) -> Option<Value>
+    ensures { result ≡ taken mv rides }
+{
+    match mv {
+        Move::Ask | Move::Reply => None,
+        Move::Take | Move::Got => rides,
+    }
 }
 
 /// The ports at which a component can move, rising. `phases` are those of the channels at its ports, in their order.

@@ -55,3 +55,10 @@ fires sites phases comps c p k x b len port on is tells = decided b moves
     decided : (a : Bool) → IsTrue a ↔ CanMove (proc_at (state_of phases comps) c) p (phase_in phases (chan_at sites c p)) → MatchBool a (StepsAt sites (state_of phases comps) c p) (StepsAt sites (state_of phases comps) c p → ⊥)
     decided true t = record { is_port = port; can = t.0 refl }
     decided false t = λ steps. false≢true (t.1 steps.can)
+
+-- a component that was read has a step where its port's channel lets it
+pub can_read : (sites : List Site) (phases : List Phase) (comps : List Component) (c p k : ℕ) (x : Component) → length comps ≡ length sites → StepsAt sites (state_of phases comps) c p → k ≡ chan_at sites c p → x ≡ get_or comps (c - 1) x → CanMove x.proc p (phase_in phases k)
+can_read sites phases comps c p k x len steps on is =
+    let from = steps.is_port.comp_from in let to = steps.is_port.comp_to in
+    let proc_read : x.proc ≡ proc_at (state_of phases comps) c = ap proc_of (get_or_read comps (c - 1) x (omega (arith, from, to, len)) is no_comp) ∙ sym (proc_is phases comps c) in
+    subst (λ (j : ℕ). CanMove x.proc p (phase_in phases j)) (sym on) (subst (λ (o : Proc). CanMove o p (phase_in phases (chan_at sites c p))) (sym proc_read) steps.can)

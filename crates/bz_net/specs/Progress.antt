@@ -1,11 +1,11 @@
 -- What contracts see of a net that keeps no journal. Whoever plays it may keep one: then it is a net with that journal.
-use Rattle.std.specs.Prelude.{◌≡◌, ℕ, ◌+◌, Option, Some, None, List, [], ◌∷◌, ◌++◌, length, Contains, ◌↔◌}
+use Rattle.std.specs.Prelude.{◌≡◌, ℕ, ◌+◌, ◌^◌, ◌<◌, ⊤, Option, Some, None, List, [], ◌∷◌, ◌++◌, length, Contains, ◌↔◌}
 use Rattle.bz_model.specs.declared.event.NetError.{NetError}
 use Rattle.bz_model.specs.declared.event.NetError.TheVariants.{JournalFull}
 use Rattle.bz_model.specs.declared.event.Verb.{Verb}
 use Rattle.bz_model.specs.declared.event.Who.{Who}
 use Rattle.bz_model.specs.declared.event.Entry.{Entry}
-use Rattle.bz_model.specs.declared.event.Entry.TheVariants.{Rested}
+use Rattle.bz_model.specs.declared.event.Entry.TheVariants.{Fired, Host, Rested}
 use Rattle.bz_model.specs.Nets.{Wiring, State, opening}
 use Rattle.bz_model.specs.Hosts.{refusal_at}
 use Rattle.bz_model.specs.Runs.{CanStep, IsNext, Run}
@@ -54,6 +54,12 @@ EntersRest old new who (asked.Ready c) = IsNext (CanStep old.wiring.sites old.st
 abbrev pub RefusesAt : Progress → Verb → ℕ → Option ℕ → NetError → Type 0
 RefusesAt old verb port value JournalFull = (refusal_at old.wiring verb port value ≡ None) × (old.left ≡ 0)
 RefusesAt old verb port value e = refusal_at old.wiring verb port value ≡ Some e
+
+-- the number after that of the component that moved is one of 32 bits
+abbrev pub IsBelowLast : Entry → Type 0
+IsBelowLast (Fired who c p k mv value) = c + 1 < 2 ^ 32
+IsBelowLast (Host who verb port value reply) = ⊤
+IsBelowLast (Rested who) = ⊤
 
 -- a number of firings in a row; where all that were due are made, the next search begins at `next`
 abbrev pub RanTo : Simulation → Simulation → Who → ℕ → ℕ → ℕ → RunEnd → Type 0

@@ -17,10 +17,10 @@ use crate::kept_phases::Phases;
 use crate::moves::{answers, can_fire, due_at, foresee, note_clash, port_in, refusal_of};
 use crate::node::{Node, dup_all, start_all};
 use crate::noted::Noted;
+use crate::ready_row::{Keeping, ReadyRow};
 use bz_arena::Arena;
 use bz_flat::{Ends, Flat, FlatComp, dup_comps};
 use bz_model::{Move, Names, NetError, Phase, Reply, Value, Verb};
-use bz_ready::ReadySet;
 use std::alloc::{AllocError, Global};
 use std::marker::Model;
 
@@ -31,7 +31,7 @@ pub(crate) struct Core {
     ends: Vec<Ends>,
     nodes: Arena<Node>,
     phases: Phases,
-    ready: ReadySet,
+    ready: ReadyRow,
 }
 
 // By hand, so that who lets a net go has one call to show and not all its parts.
@@ -72,13 +72,13 @@ impl Model for Core {
     ghost invariant = { λ n. CoreSound
         (record { chans = n.names.chans; sites = map site_of n.sites; ports = n.names.ports })
         n.phases (comps_of n.nodes) (heres_of n.nodes)
-        n.ends.items n.ready.row };
+        n.ends.items n.ready };
 }
 
 impl Core {
     /// A flat net at its opening: all channels are idle, and each component is at its start. Where memory is refused, the
     /// flat net is gone.
-    pub(crate) fn open(alloc: Global, flat: Flat) -> Result<Core, NetError>
+    pub(crate) fn open(alloc: Global, flat: Flat, keeping: Keeping) -> Result<Core, NetError>
         ensures wiring { IfOk result (λ core. core.wiring ≡ flat.wiring) }
         ensures state { IfOk result (λ core. core.state ≡ opening flat.wiring) }
         ensures wired { IfOk result (λ core. WellWired core.wiring) }
@@ -90,7 +90,7 @@ impl Core {
             Ok(phases) => phases,
             Err(_) => return Err(NetError::Memory),
         };
-        let ready = match mark_all(alloc, &pieces.comps, &phases, &nodes) {
+        let ready = match mark_all(alloc, &pieces.comps, &phases, &nodes, keeping) {
             Ok(ready) => ready,
             Err(_) => return Err(NetError::Memory),
         };
@@ -113,7 +113,8 @@ impl Core {
         let ends = Vec::from_slice(alloc, &self.ends)?;
         let nodes = dup_all(alloc, &self.nodes)?;
         let phases = self.phases.dup(alloc)?;
-        let ready = mark_all(alloc, &self.sites, &self.phases, &self.nodes)?;
+        let keeping = self.ready.keeping();
+        let ready = mark_all(alloc, &self.sites, &self.phases, &self.nodes, keeping)?;
         Ok(Core {
             names,
             sites,

@@ -14,12 +14,12 @@ ghost use Rattle.bz_net.specs.Told.{is_here, flag_of, Goes, NoneGoes, GoesFirst,
 use crate::kept_phases::Phases;
 use crate::moves::reply_to;
 use crate::node::{Node, node_id, site_in};
+use crate::ready_row::{Keeping, ReadyRow};
 use bz_arena::Arena;
 use bz_bits::PortBits;
 use bz_flat::{Ends, FlatComp};
 use bz_kinds::{Comp, next_due, ready_word};
 use bz_model::{Move, Phase, Reply, Value, Verb};
-use bz_ready::ReadySet;
 use std::alloc::{AllocError, Global};
 
 /// Whether what a passive port waits for, or an active one, is on a channel in this phase.
@@ -165,15 +165,15 @@ fn refresh(
     sites: &Arena<FlatComp>,
     phases: &Phases,
     nodes: &Arena<Node>,
-    ready: &mut ReadySet,
+    ready: &mut ReadyRow,
     comp: u32,
     port: u32,
 )
     requires sighted { Sighted (map site_of sites.now) phases.now (comps_of nodes.now) (heres_of nodes.now) }
     requires from { 0 < comp }
     requires to { comp ≤ length sites.now }
-    requires row { length ready.old.row ≡ suc (length sites.now) }
-    ensures { Refreshed (map site_of sites.now) (state_of phases.now (comps_of nodes.now)) ready.old.row ready.new.row comp }
+    requires row { length ready.old ≡ suc (length sites.now) }
+    ensures { Refreshed (map site_of sites.now) (state_of phases.now (comps_of nodes.now)) ready.old ready.new comp }
 {
     if can_step(sites, phases, nodes, comp, port) {
         ready.insert(comp);
@@ -188,14 +188,14 @@ fn refresh_ends(
     sites: &Arena<FlatComp>,
     phases: &Phases,
     nodes: &Arena<Node>,
-    ready: &mut ReadySet,
+    ready: &mut ReadyRow,
     ends: Ends,
 )
     requires sighted { Sighted (map site_of sites.now) phases.now (comps_of nodes.now) (heres_of nodes.now) }
-    requires row { length ready.old.row ≡ suc (length sites.now) }
+    requires row { length ready.old ≡ suc (length sites.now) }
     requires active { IfSome ends.active (λ c. (0 < c) × (c ≤ length sites.now)) }
     requires passive { IfSome ends.passive (λ c. (0 < c) × (c ≤ length sites.now)) }
-    ensures { RefreshedEnds (map site_of sites.now) (state_of phases.now (comps_of nodes.now)) ready.old.row ready.new.row ends }
+    ensures { RefreshedEnds (map site_of sites.now) (state_of phases.now (comps_of nodes.now)) ready.old ready.new ends }
 {
     if let Some(comp) = ends.active {
         refresh(sites, phases, nodes, ready, comp, ends.active_port);
@@ -211,13 +211,14 @@ pub(crate) fn mark_all(
     sites: &Arena<FlatComp>,
     phases: &Phases,
     nodes: &Arena<Node>,
-) -> Result<ReadySet, AllocError>
+    keeping: Keeping,
+) -> Result<ReadyRow, AllocError>
     requires sighted { Sighted (map site_of sites.now) phases.now (comps_of nodes.now) (heres_of nodes.now) }
     requires few { length sites.now ≤ 1000000 }
-    ensures { IfOk result (λ ready. MarksAll (map site_of sites.now) (state_of phases.now (comps_of nodes.now)) ready.row (length sites.now)) }
+    ensures { IfOk result (λ ready. MarksAll (map site_of sites.now) (state_of phases.now (comps_of nodes.now)) ready (length sites.now)) }
 {
     let count = sites.len() as u32;
-    let mut ready = ReadySet::new(alloc, count)?;
+    let mut ready = ReadyRow::new(alloc, count, keeping)?;
     for place in 0..count {
         refresh(sites, phases, nodes, &mut ready, place + 1, 1);
     }
@@ -232,7 +233,7 @@ pub(crate) fn move_comp(
     ends: &[Ends],
     nodes: &mut Arena<Node>,
     phases: &mut Phases,
-    ready: &mut ReadySet,
+    ready: &mut ReadyRow,
     comp: u32,
     port: u32,
 ) -> (u32, Move, Option<Value>)
@@ -240,22 +241,22 @@ pub(crate) fn move_comp(
     requires sighted { Sighted (map site_of sites.now) phases.old (comps_of nodes.old) (heres_of nodes.old) }
     requires stays { StaysSighted (map site_of sites.now) phases.old (comps_of nodes.old) (heres_of nodes.old) comp port }
     requires steps { StepsAt (map site_of sites.now) (state_of phases.old (comps_of nodes.old)) comp port }
-    requires row { length ready.old.row ≡ suc (length sites.now) }
-    requires exact { (c : ℕ) → Exact (map site_of sites.now) (state_of phases.old (comps_of nodes.old)) ready.old.row c }
+    requires row { length ready.old ≡ suc (length sites.now) }
+    requires exact { (c : ℕ) → Exact (map site_of sites.now) (state_of phases.old (comps_of nodes.old)) ready.old c }
     requires ends_len { length ends.now ≡ length phases.old }
     requires stands { StandsIn (map site_of sites.now) ends.now }
     requires are_ends { AllAreEnds (map site_of sites.now) ends.now }
     ensures told { Turned (map site_of sites.now)
         phases.old (comps_of nodes.old) (heres_of nodes.old) phases.new (comps_of nodes.new) (heres_of nodes.new) comp port result.0 result.1 result.2 }
     ensures refreshed { RefreshedEnds (map site_of sites.now) (state_of phases.new (comps_of nodes.new))
-        ready.old.row ready.new.row (ends_in ends.now result.0) }
+        ready.old ready.new (ends_in ends.now result.0) }
 {
     let chan = site_in(sites, comp).chans[port as usize - 1];
-    let phase = phases.get(chan as usize - 1);
-    let (mv, value) = bz_kinds::apply(&mut nodes.get_mut(node_id(comp)).comp, port, phase);
-    let next = phase.after(mv, value);
-    phases.put(chan as usize - 1, next);
-    let pair = ends[chan as usize - 1];
+    let place = chan as usize - 1;
+    let rides = phases.riding(place);
+    let (mv, value) = bz_kinds::fire(&mut nodes.get_mut(node_id(comp)).comp, port, rides);
+    phases.make(place, mv, value);
+    let pair = ends[place];
     tell_move(nodes, ready, pair, comp, port, mv);
     refresh(sites, phases, nodes, ready, comp, port);
     (chan, mv, value)
@@ -266,7 +267,7 @@ pub(crate) fn move_comp(
 #[inline(always)]
 fn tell_move(
     nodes: &mut Arena<Node>,
-    ready: &mut ReadySet,
+    ready: &mut ReadyRow,
     pair: Ends,
     comp: u32,
     port: u32,
@@ -275,8 +276,8 @@ fn tell_move(
     requires own { HasBit (heres_of nodes.old) (Some comp) port }
     requires active { HasBit (heres_of nodes.old) pair.active pair.active_port }
     requires passive { HasBit (heres_of nodes.old) pair.passive pair.passive_port }
-    requires row { length ready.old.row ≡ suc (length nodes.old) }
-    ensures told { ToldMove (comps_of nodes.old) (heres_of nodes.old) (heres_of nodes.new) ready.old.row ready.new.row pair comp port mv }
+    requires row { length ready.old ≡ suc (length nodes.old) }
+    ensures told { ToldMove (comps_of nodes.old) (heres_of nodes.old) (heres_of nodes.new) ready.old ready.new pair comp port mv }
     ensures comps { comps_of nodes.new ≡ comps_of nodes.old }
 {
     match mv {
@@ -312,12 +313,12 @@ fn look_at(nodes: &Arena<Node>, end: Option<u32>)
 
 // What a port may wait for is there: where a move is due at it, its component can move.
 #[inline(always)]
-fn tell_other(nodes: &mut Arena<Node>, ready: &mut ReadySet, end: Option<u32>, port: u32)
+fn tell_other(nodes: &mut Arena<Node>, ready: &mut ReadyRow, end: Option<u32>, port: u32)
     requires bit { HasBit (heres_of nodes.old) end port }
-    requires row { length ready.old.row ≡ suc (length nodes.old) }
+    requires row { length ready.old ≡ suc (length nodes.old) }
     ensures put { PutEnd (heres_of nodes.old) (heres_of nodes.new) end port true }
-    ensures marked { MatchOption end (ready.new.row ≡ ready.old.row)
-        (λ c. MarkedDue (comps_of nodes.old) ready.old.row ready.new.row c port) }
+    ensures marked { MatchOption end (ready.new ≡ ready.old)
+        (λ c. MarkedDue (comps_of nodes.old) ready.old ready.new c port) }
     ensures comps { comps_of nodes.new ≡ comps_of nodes.old }
 {
     mark_due(nodes, ready, end, port);
@@ -326,11 +327,11 @@ fn tell_other(nodes: &mut Arena<Node>, ready: &mut ReadySet, end: Option<u32>, p
 
 // Marks the component at an end where a move is due at its port.
 #[inline(always)]
-fn mark_due(nodes: &Arena<Node>, ready: &mut ReadySet, end: Option<u32>, port: u32)
+fn mark_due(nodes: &Arena<Node>, ready: &mut ReadyRow, end: Option<u32>, port: u32)
     requires end { IfSome end (λ c. (0 < c) × (c ≤ length nodes.now)) }
-    requires row { length ready.old.row ≡ suc (length nodes.now) }
-    ensures { MatchOption end (ready.new.row ≡ ready.old.row)
-        (λ c. MarkedDue (comps_of nodes.now) ready.old.row ready.new.row c port) }
+    requires row { length ready.old ≡ suc (length nodes.now) }
+    ensures { MatchOption end (ready.new ≡ ready.old)
+        (λ c. MarkedDue (comps_of nodes.now) ready.old ready.new c port) }
 {
     if let Some(comp) = end {
         if bz_kinds::has_move(&nodes.get(node_id(comp)).comp, port) {
@@ -346,7 +347,7 @@ pub(crate) fn command(
     ends: &[Ends],
     nodes: &mut Arena<Node>,
     phases: &mut Phases,
-    ready: &mut ReadySet,
+    ready: &mut ReadyRow,
     verb: Verb,
     port: u32,
     value: Option<Value>,
@@ -355,13 +356,13 @@ pub(crate) fn command(
     requires stays { HostSighted (map site_of sites.now) phases.old (comps_of nodes.old) (heres_of nodes.old) port (host_after verb value (phase_in phases.old port)) }
     requires from { 0 < port }
     requires to { port ≤ length phases.old }
-    requires row { length ready.old.row ≡ suc (length sites.now) }
+    requires row { length ready.old ≡ suc (length sites.now) }
     requires ends_len { length ends.now ≡ length phases.old }
     requires stands { StandsIn (map site_of sites.now) ends.now }
     requires are_ends { AllAreEnds (map site_of sites.now) ends.now }
     ensures commanded { CommandedAt (map site_of sites.now) ends.now
         (comps_of nodes.old) phases.old phases.new
-        ready.old.row ready.new.row verb port value result }
+        ready.old ready.new verb port value result }
     ensures told { Retold (map site_of sites.now) (heres_of nodes.old) (heres_of nodes.new) port (host_after verb value (phase_in phases.old port)) }
     ensures comps { comps_of nodes.new ≡ comps_of nodes.old }
 {

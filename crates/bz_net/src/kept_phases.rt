@@ -1,10 +1,12 @@
 //! The phases of a net's channels, in little room: a mark for each channel, and the values in a row of their own.
 
-ghost use Rattle.std.specs.Prelude.{◌≡◌, ◌<◌, IfOk, length, replicate, slice_index_or, slice_set};
+ghost use Rattle.std.specs.Prelude.{◌≡◌, ◌<◌, ℕ, IfOk, length, replicate, slice_index_or, slice_set};
 ghost use Rattle.bz_model.specs.declared.channel.Phase.TheVariants.{Idle};
+ghost use Rattle.bz_model.specs.Phases.{phase_after};
+ghost use Rattle.bz_kinds.specs.Riding.{riding};
 ghost use Rattle.bz_net.specs.KeptPhases.{phase_of, MarksPhase};
 
-use bz_model::{Phase, Value};
+use bz_model::{Move, Phase, Value};
 use std::alloc::{AllocError, Global};
 use std::marker::Model;
 
@@ -38,6 +40,8 @@ impl Drop for Phases {
 impl Model for Phases {
     ghost use Rattle.std.specs.Prelude.{◌≡◌, List, length};
     ghost use Rattle.bz_model.specs.declared.channel.Phase.{Phase};
+    ghost use Rattle.bz_model.specs.Phases.{phase_after};
+    ghost use Rattle.bz_kinds.specs.Riding.{riding};
     ghost use Rattle.bz_net.specs.KeptPhases.{phases_of};
 
     ghost Value = { List Phase };
@@ -84,6 +88,30 @@ impl Phases {
         phase_of(self.marks[place], &self.values[place])
     }
 
+    /// The value that rides on the channel in a place, counted from 0.
+    #[inline(always)]
+    #[tactic(auto, using(crate::proofs::Marks::length_phases, crate::proofs::Marks::riding_read))]
+    pub(crate) fn riding(&self, place: usize) -> Option<Value>
+        requires { place < length self.now }
+        ensures { result ≡ riding (slice_index_or self.now place Idle) }
+    {
+        riding(self.marks[place], &self.values[place])
+    }
+
+    /// Makes a move on the channel in a place, counted from 0, with this value.
+    #[inline(always)]
+    #[tactic(auto, using(crate::proofs::Marks::length_phases))]
+    pub(crate) fn make(&mut self, place: usize, mv: Move, value: Option<Value>)
+        requires { place < length self.old }
+        ensures { self.new ≡ slice_set self.old place (phase_after (slice_index_or self.old place Idle) mv value) }
+    {
+        let (mark, kept) = mark_after(self.marks[place], mv, value);
+        self.marks[place] = mark;
+        if let Some(value) = kept {
+            self.values[place] = value;
+        }
+    }
+
     /// Puts a phase into a place, counted from 0.
     #[inline(always)]
     #[tactic(auto, using(crate::proofs::Marks::length_phases, crate::proofs::Marks::mark_put, crate::proofs::Marks::both_put))]
@@ -112,6 +140,37 @@ fn phase_of(mark: Mark, value: &Value) -> Phase
         Mark::Replied => Phase::Replied(None),
         Mark::RepliedWith => Phase::Replied(Some(*value)),
         Mark::Broken => Phase::Broken,
+    }
+}
+
+// The value that rides where a mark stands, by the value beside it.
+#[inline(always)]
+fn riding(mark: Mark, value: &Value) -> Option<Value>
+    ensures { result ≡ riding (phase_of mark value.now) }
+{
+    match mark {
+        Mark::AskedWith | Mark::RepliedWith => Some(*value),
+        _ => None,
+    }
+}
+
+// The mark after a move that carries this value, and the value that is kept beside it.
+#[inline(always)]
+fn mark_after(mark: Mark, mv: Move, value: Option<Value>) -> (Mark, Option<Value>)
+    ensures { (v : ℕ) → MarksPhase (phase_after (phase_of mark v) mv value) result.0 result.1 }
+{
+    match (mv, mark) {
+        (Move::Ask, Mark::Idle) => match value {
+            None => (Mark::Asked, None),
+            Some(value) => (Mark::AskedWith, Some(value)),
+        },
+        (Move::Reply, Mark::Taken) => match value {
+            None => (Mark::Replied, None),
+            Some(value) => (Mark::RepliedWith, Some(value)),
+        },
+        (Move::Ask | Move::Reply, _) => (Mark::Broken, None),
+        (Move::Take, _) => (Mark::Taken, None),
+        (Move::Got, _) => (Mark::Idle, None),
     }
 }
 

@@ -10,7 +10,7 @@ ghost use Rattle.bz_model.specs.Nets.{StepsAt, outside};
 ghost use Rattle.bz_model.specs.Runs.{Rest};
 ghost use Rattle.bz_flat.specs.Wires.{WellWired};
 ghost use Rattle.bz_net.specs.Ends.{TellsPort, IsSolePort};
-ghost use Rattle.bz_net.specs.Progress.{Enters, EntersRest, IsToldBy, LeadsOn, RefusesAt, RunsInto, with_journal};
+ghost use Rattle.bz_net.specs.Progress.{Enters, EntersRest, IsBelowLast, IsToldBy, LeadsOn, RefusesAt, RunsInto, with_journal};
 ghost use Rattle.bz_net.specs.Replies.{IsFiring, IsPicked, IsSoleStep, RefusesCommand, RefusesEntry, RefusesFire, Replies};
 ghost use Rattle.bz_net.specs.Sides.{answers};
 
@@ -18,6 +18,7 @@ use crate::core_net::Core;
 use crate::event::{Piece, RestReply, RunEnd};
 use crate::moves::refusal_of;
 use crate::noted::Noted;
+use crate::ready_row::Keeping;
 use bz_flat::Flat;
 use bz_model::{Entry, HostCmd, Move, Names, NetError, Reply, Value, Verb, Who};
 use std::alloc::Global;
@@ -71,7 +72,7 @@ impl Play {
         ensures told { IfOk result (λ play. IsToldBy play []) }
         ensures err { IfErr result (λ e. e ≡ NetError.Memory) }
     {
-        let core = Core::open(alloc, flat)?;
+        let core = Core::open(alloc, flat, Keeping::Marked)?;
         match Noted::new(alloc, core.comp_count()) {
             Ok(noted) => Ok(Play {
                 core,
@@ -172,12 +173,15 @@ impl Play {
         Piece { end, next }
     }
 
-    /// Fires the next component at its lowest port, or finds that none can move. `None` where no more entry is let in.
+    /// Fires the next component from this number on at its lowest port, or finds that none can move. `None` where no more
+    /// entry is let in. What `run_into` does many times.
     #[inline(always)]
-    fn step(&mut self, who: Who, from: u32) -> Option<Entry>
+    pub fn step(&mut self, who: Who, from: u32) -> Option<Entry>
         ensures picked { IfSome result (IsPicked (with_journal self.old []) who from) }
         ensures enters { IfSome result (λ entry. Enters self.old entry self.new) }
         ensures full { IfNone result ((self.new ≡ self.old) × (self.old.left ≡ 0)) }
+        // So the next search can begin at the number after that of the component.
+        ensures above { IfSome result IsBelowLast }
     {
         if self.left == 0 {
             return None;

@@ -272,8 +272,9 @@ function listen() {
     measure();
     showJournal();
     showStrip();
+    if (view.isCharted) showChart();
   });
-  for (const id of ['svg', 'journal', 'strip']) observer.observe($(id));
+  for (const id of ['svg', 'journal', 'chart', 'strip']) observer.observe($(id));
   window.addEventListener('resize', () => {
     measure();
     fit();
@@ -288,11 +289,12 @@ const isLarge = all.components.length > MANY;
 // What the page is of, and whether its trace agrees with itself.
 function showFoot() {
   const hostMoves = trace.hostLines.filter(line => isMove(trace.what[line])).length, {moves, values, told, met, bad} = found;
-  const counts = [`${all.components.length} components, ${all.channels.length} channels`, `${moves - hostMoves} firings`,
-    `${trace.hostLines.length} host lines`, `${trace.rests.length} rests`].join('; ');
-  const audited = `${moves} moves by the four-move table, ${values} values handed over, ${told} phases told, ${met.size} clashes`;
+  const counts = [`${counted(all.components.length, 'component')}, ${counted(all.channels.length, 'channel')}`,
+    counted(moves - hostMoves, 'firing'), counted(trace.hostLines.length, 'host line'), counted(trace.rests.length, 'rest')];
+  const audited = [`${counted(moves, 'move')} by the four-move table`, `${counted(values, 'value')} handed over`,
+    `${counted(told, 'phase')} told`, counted(met.size, 'clash', 'clashes')].join(', ');
   $('foot').textContent = bad ? `THIS PAGE IS DAMAGED: line ${bad} is none of a run`
-    : `${counts}. Looked at again on opening: ${audited}: all agree.`;
+    : `${counts.join('; ')}. Looked at again on opening: ${audited}: all agree.`;
   $('foot').classList.toggle('bad', bad > 0);
 }
 

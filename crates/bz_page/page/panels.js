@@ -45,17 +45,23 @@ const selectedLines = () => [view.selected[0] === 'c' ? trace.linesOfComponent :
 function showDetails() {
   const {selected} = view;
   document.body.classList.toggle('chosen', selected !== null);
+  document.body.classList.toggle('ended', selected === null && isEndTold());
   if (!selected) return $('details').replaceChildren(...endDetails());
   const shown = selected[0] === 'c' ? componentDetails(numberOf(selected)) : channelDetails(numberOf(selected));
   return $('details').replaceChildren(...shown, eventButtons(), history());
 }
 
+// Whether the current line is behind the last move, and it is told who waits for whom then.
+function isEndTold() {
+  let last = trace.count;
+  while (last > 1 && trace.what[last] >= REST) last--;
+  return net.end.length > 0 && view.line >= last;
+}
+
 // Nothing is selected: at the end who waits for whom.
 function endDetails() {
   const shown = [html('div', 'hint', 'Click a component or a channel to see its history.')];
-  let last = trace.count;
-  while (last > 1 && trace.what[last] >= REST) last--;
-  if (net.end.length === 0 || view.line < last) return shown;
+  if (!isEndTold()) return shown;
   shown.push(html('div', 'title end', 'Who waits for whom at the end'));
   for (const line of net.end) {
     const names = /^(?:wait|or|ended) \S+ (\d+)/.exec(line), isCycle = /^(circle|cycle)/.test(line);
@@ -79,7 +85,7 @@ function componentDetails(number) {
   const ports = html('div', 'ports');
   for (let p = 1; p < component.channels.length && p <= MOST_PORTS; p++) ports.append(portRow(component, p));
   shown.push(ports);
-  if (more > 0) shown.push(html('div', 'under', `and ${more} more port${more === 1 ? '' : 's'}`));
+  if (more > 0) shown.push(html('div', 'under', `and ${counted(more, 'more port')}`));
   const callers = callersOf(net, trace, component, view.line).slice(1);
   const nameOf = caller => (typeof caller === 'number' ? componentName(net.components[caller]) : `the host at ${caller}`);
   const names = callers.map(nameOf);
@@ -114,7 +120,7 @@ function channelDetails(number) {
   return [html('div', 'title', title), html('div', 'under', endsOf(channel)), html('div', 'under', placeOf(channel)), ports];
 }
 
-// Buttons to the last and the next line of what is selected, and how many there are.
+// Buttons to the last and the next line of what is selected, how many there are, and a button that leaves it.
 function eventButtons() {
   const [lines, key] = selectedLines(), row = html('div', 'events');
   for (const [text, direction] of [['◂ last event', -1], ['next event ▸', 1]]) {
@@ -124,7 +130,10 @@ function eventButtons() {
     button.onclick = () => go(line);
     row.append(button);
   }
-  row.append(html('span', 'under', `${countTo(lines, key, view.line)} of ${countOf(lines, key)}`));
+  const leave = html('button', 'leave', '×');
+  leave.title = 'nothing selected (Esc)';
+  leave.onclick = () => select(null);
+  row.append(html('span', 'under', `${countTo(lines, key, view.line)} of ${countOf(lines, key)}`), leave);
   return row;
 }
 
@@ -189,11 +198,12 @@ function showStrip() {
 
 const MOST_HITS = 200000, MOST_NAMES = 12;
 const search = {text: '', hits: null, timer: 0};
+const countedHits = count => (count === MOST_HITS ? `${count}+ lines` : counted(count, 'line'));
 
 // Finds the lines that hold a text, and components, channels and ports by what they are called.
 function find(text) {
   Object.assign(search, {text, hits: text === '' ? null : linesWith(text)});
-  $('count').textContent = text === '' ? '' : `${search.hits.length}${search.hits.length === MOST_HITS ? '+' : ''} lines`;
+  $('count').textContent = text === '' ? '' : countedHits(search.hits.length);
   $('found').replaceChildren(...(text === '' ? [] : namesWith(text.toLowerCase()).map(([select, name]) => {
     const row = html('div', 'name', name);
     row.dataset.select = select;

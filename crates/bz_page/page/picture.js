@@ -104,7 +104,9 @@ function drawChannel(channel, points, layers, labels) {
   if (channel.kind === 'pull') group.append(svg('path', {class: 'arrow', d: ARROW, transform: placed(onWalk(walk, 9), 180)}));
   group.append(svg('title', {}, channelTitle(channel)));
   layers.lines.append(group);
-  const place = labelPlace(walk, length, labels), text = `${channel.number}${channel.name ? ` ${cut(channel.name, 10)}` : ''}`;
+  // (a name that stands in the port's box is not told again)
+  const name = channel.name && channel.name !== channel.port ? ` ${cut(channel.name, 10)}` : '';
+  const place = labelPlace(walk, length, labels), text = `${channel.number}${name}`;
   const label = svg('text', {class: 'number', x: place.x.toFixed(1), y: (place.y - 6).toFixed(1)}, text);
   const value = valueBox({x: place.x, y: place.y + 6});
   layers.marks.append(label, value);
@@ -154,7 +156,7 @@ function stubName(end, isAnswering) {
   const box = steps.map((step, i) => steps.slice(0, i + 1).join('/')).find(path => foldedNow().has(path));
   if (box) return `▸${box}`;
   if (!isAnswering) return String(component.number);
-  return isVariable(component) && component.detail ? cut(component.detail, 6) : signOf(component) + component.number;
+  return isVariable(component) && component.detail ? signOf(component) : signOf(component) + component.number;
 }
 
 // A component, a port of the host, or a copy that is folded.
@@ -191,7 +193,7 @@ function drawBox({box, x, y, width, height}) {
   for (const [style, shift] of [['behind', 4], ['front', 0]])
     group.append(svg('rect', {class: style, x: -width / 2 + shift, y: -height / 2 - shift, width, height, rx: 6}));
   group.append(svg('text', {y: -2}, `▸ ${box} ${cut(net.instances.get(box).name, 12)}`));
-  group.append(svg('text', {y: 13, class: 'caption'}, `${inside} component${inside === 1 ? '' : 's'}`));
+  group.append(svg('text', {y: 13, class: 'caption'}, counted(inside, 'component')));
   drawn.boxes.set(box, group);
   return group;
 }

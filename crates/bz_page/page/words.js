@@ -1,6 +1,7 @@
 // ---- words: the names of what there is, its signs, and what a line of the trace says --------------------------------
 
 const cut = (text, most) => (text.length > most ? text.slice(0, most - 1) + '…' : text);
+const counted = (count, one, many = `${one}s`) => `${count} ${count === 1 ? one : many}`;
 const isVariable = component => component.kind === 'Variable' || component.kind === 'FalseVariable';
 
 // The sign in a component's circle, as handshake circuits are drawn.
@@ -16,10 +17,13 @@ const OPERATIONS = {
   LessOrEquals: '≤', GreaterOrEquals: '≥', And: '∧', Or: '∨', Xor: '⊕', Invert: '¬',
 };
 
+// A name that fits in a circle: `x` of `x[0..7]`, since a compiler's names end so.
+const shortName = name => cut(name.length > 5 ? name.replace(/(.)\[.*$/, '$1') : name, 5);
+
 // A variable has its name in the circle, a constant its value, and an operation its sign, with its constant if it has one.
 function signOf(component) {
   const [first, second] = component.detail.split(' ');
-  if (isVariable(component) && first) return cut(first, 5);
+  if (isVariable(component) && first) return shortName(first);
   if (component.kind === 'Constant' && first) return cut(first, 5);
   const operation = Object.hasOwn(OPERATIONS, first) ? OPERATIONS[first] : '';
   if (operation) return operation + (component.kind === 'BinaryFuncConstR' && second ? cut(second, 4) : '');

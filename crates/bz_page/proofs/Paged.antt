@@ -1,9 +1,8 @@
 -- What the command `page` answers.
-use Rattle.std.proofs.Common.{◌≡◌, ◌≤◌, ℕ, List, [], Option, Some, None, length, map, inl, inr, refl, sym, subst}
+use Rattle.std.proofs.Common.{◌≡◌, ◌≤◌, ℕ, List, [], Option, Some, None, length, inl, inr, refl, sym, subst}
 use Rattle.std.specs.Prelude.{Result, Ok, Err, IfSome, IsErrAnd}
-use Rattle.std.specs.Io.KnownBytes.{Appends, Keeps}
-use Rattle.bz_model.specs.Nets.{Wiring}
-use Rattle.bz_flat.specs.Flats.{Plan, site_of}
+use Rattle.std.specs.Io.KnownBytes.{Keeps}
+use Rattle.bz_flat.specs.Flats.{Plan}
 use Rattle.bz_flat.specs.declared.flat.Pieces.{Pieces}
 use Rattle.bz_source.specs.declared.source.Source.{Source}
 use Rattle.bz_source.specs.declared.survey.Survey.{Survey}
@@ -16,17 +15,19 @@ use Rattle.bz_cli_input.specs.declared.input.InputFault.TheVariants as input
 use Rattle.bz_cli_input.specs.Limits.{input_limit}
 use Rattle.bz_cli_input.specs.Opening.{Denotes}
 use Rattle.bz_cli_input.specs.Statuses.{of_input}
-use Rattle.bz_cli_source.specs.Listing.{paths_text}
-use Rattle.bz_cli_source.specs.Surveys.{IsPlaced, IsRead, IsSurvey, wiring_in}
+use Rattle.bz_cli_source.specs.Surveys.{IsRead, wiring_in}
 use Rattle.bz_page.specs.declared.fault.PageFault.{PageFault}
 use Rattle.bz_page.specs.declared.fault.PageFault.TheVariants.{Command, NotRun, NotTrace, TooLarge}
 use Rattle.bz_page.specs.Pages.{Blank, page_text}
-use Rattle.bz_page.specs.Rows.{AreRows}
-use Rattle.bz_page.specs.Paging.{Finds, HasPage, IsOfInput, IsPaged, IsPlacedOf, Judged, Pages, PagesApart, PagesNet, PagesText, PagesTrace, Places, Refuses}
+use Rattle.bz_page.specs.Paging.{Finds, HasPage, IsOfInput, Pages, PagesApart, PagesNet, PagesText, PagesTrace, Places, Refuses}
 
 pub keeps_same : (o : Option (List ℕ)) → Keeps o o
 keeps_same None = tt
 keeps_same (Some xs) = refl
+
+-- a page of texts that are known to be these
+pub page_of : (Out : List ℕ → Type 0) (b : Blank) (list listed rows told trace : List ℕ) → list ≡ listed → rows ≡ told → Out (page_text b list rows trace) → Out (page_text b listed told trace)
+page_of Out b list listed rows told trace is are out = subst (λ l. Out (page_text b l told trace)) is (subst (λ r. Out (page_text b list r trace)) are out)
 
 -- what the reader had is the text
 pub pages_on : {A : Type 0} (b : Blank) (known : Option (List ℕ)) (items part : List ℕ) (old new : Option (List ℕ)) (answer : Result A PageFault) → IfSome known (λ xs. items ≡ xs) → length items ≤ input_limit → PagesText b items part old new answer

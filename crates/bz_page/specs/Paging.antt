@@ -24,7 +24,7 @@ use Rattle.bz_cli_source.specs.Listing.{paths_text}
 use Rattle.bz_page.specs.declared.fault.PageFault.{PageFault}
 use Rattle.bz_page.specs.declared.fault.PageFault.TheVariants.{Command, NotRun, NotTrace, TooLarge}
 use Rattle.bz_page.specs.Pages.{Blank, page_text}
-use Rattle.bz_page.specs.Rows.{AreRows}
+use Rattle.bz_page.specs.Rows.{rows_text}
 
 abbrev pub status_of : PageFault → ℕ
 status_of (Command fault) = command.status_of fault
@@ -72,20 +72,20 @@ Places name plan source (Err (TooLarge comps)) = (comps ≡ length plan.wiring.s
 Places name plan source (Err (Command Memory)) = ⊤
 Places name plan source (Err fault) = ⊥
 
--- The page of a net and a trace went out as `Out` says: its list is what `list --paths` writes of the net.
-abbrev pub IsPaged : Blank → List ℕ → Pieces → Survey → List ℕ → List ℕ → (List ℕ → Type 0) → Type 0
-IsPaged b part net s trace ends Out = (rows : List ℕ) × AreRows (map site_of net.comps) ends rows × Out (page_text b (paths_text net s part) rows trace)
+-- the page of a net and a trace: its list is what `list --paths` writes of the net
+abbrev pub net_page : Blank → List ℕ → Pieces → Survey → List ℕ → List ℕ → List ℕ
+net_page b part net s trace ends = page_text b (paths_text net s part) (rows_text s (map site_of net.comps) ends) trace
 
--- The page went out; where the writer failed, a front of it; where memory was refused, nothing.
+-- It went out; where the writer failed, a front of it; where memory was refused, nothing.
 abbrev pub PagesNet : {A : Type 0} → Blank → List ℕ → Pieces → Survey → List ℕ → List ℕ → Option (List ℕ) → Option (List ℕ) → Result A Fault → Type 0
-PagesNet b part net s trace ends old new (Ok u) = IsPaged b part net s trace ends (Appends old new)
-PagesNet b part net s trace ends old new (Err Write) = IsPaged b part net s trace ends (AppendsSome old new)
+PagesNet b part net s trace ends old new (Ok u) = Appends old new (net_page b part net s trace ends)
+PagesNet b part net s trace ends old new (Err Write) = AppendsSome old new (net_page b part net s trace ends)
 PagesNet b part net s trace ends old new (Err Memory) = Keeps old new
 PagesNet b part net s trace ends old new (Err fault) = ⊥
 
--- The same of the net that a netlist denotes, and of a trace that is that of a run of it.
+-- The page of the net that a netlist denotes went out as `Out` says, with a trace that is that of a run of it.
 abbrev pub IsPagedRun : Blank → List ℕ → List ℕ → List ℕ → (List ℕ → Type 0) → Type 0
-IsPagedRun b netlist trace part Out = (net : Pieces) × (s : Survey) × HasPage netlist trace part net s × IsPaged b part net s trace [] Out
+IsPagedRun b netlist trace part Out = (net : Pieces) × (s : Survey) × HasPage netlist trace part net s × Out (net_page b part net s trace [])
 
 -- Only the trace of a run is played. Its page went out; where the writer failed, a front of it; where there is none, nothing.
 abbrev pub PagesTrace : {A : Type 0} → Blank → List ℕ → List ℕ → List ℕ → Option (List ℕ) → Option (List ℕ) → Result A PageFault → Type 0

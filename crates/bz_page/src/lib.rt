@@ -3,7 +3,6 @@
 
 mod around;
 mod command;
-mod details;
 mod escaping;
 mod fault;
 mod net_page;

@@ -1,29 +1,31 @@
 //! What a page is told beside the list and the trace: the ports of each kind in the net, and what parameters say.
 
-ghost use Rattle.std.specs.Prelude.{◌≡◌, ◌≤◌, drop, length, map, IfSome};
+ghost use Rattle.std.specs.Prelude.{◌≡◌, ◌≤◌, drop, length, map, IfOk, IfSome};
 ghost use Rattle.std.specs.List.{flat_map};
 ghost use Rattle.bz_text.specs.Growing.{Grows};
 ghost use Rattle.bz_flat.specs.Flats.{site_of};
 ghost use Rattle.bz_kind_rows.specs.Table.{seen};
-ghost use Rattle.bz_page.specs.Rows.{AreRows, array_mark, kind_line, kind_lines, line_of, port_word, sense_mark};
+ghost use Rattle.bz_source.specs.Details.{detail_text};
+ghost use Rattle.bz_source.specs.Views.{detail_of};
+ghost use Rattle.bz_cli_input.specs.Listing.{lines};
+ghost use Rattle.bz_page.specs.Rows.{array_mark, detail_line, kind_line, kind_lines, line_of, port_word, rows_text, sense_mark, told_detail};
 
-use crate::details::put_details;
 use bz_arena::{Arena, Id};
 use bz_flat::{FlatComp, Pieces};
 use bz_kind_rows::{PortRow, kind_names, kind_word, port_table};
-use bz_model::Kind;
-use bz_source::Survey;
-use bz_text::{Piece, Text};
-use std::alloc::Global;
+use bz_model::{Kind, Value};
+use bz_source::{Detail, Survey, put_detail};
+use bz_text::{Piece, Text, WriteFault};
+use std::alloc::{AllocError, Global};
 
 /// The rows of a page; the lines that tell how the run ended stand at the end.
 pub(crate) fn rows_of(alloc: Global, net: &Pieces, survey: &Survey, ends: &[u8]) -> Text
     requires { length net.now.comps ≤ 1000000 }
-    ensures { IfSome result (AreRows (map site_of net.now.comps) ends.now) }
+    ensures { IfSome result (λ rows. rows ≡ rows_text survey.now (map site_of net.now.comps) ends.now) }
 {
     let mut rows = Text::new(alloc);
     put_kinds(&mut rows, &net.comps);
-    put_details(&mut rows, net, survey);
+    put_details(&mut rows, &net.comps, survey);
     rows.put_bytes(ends);
     rows
 }
@@ -94,4 +96,50 @@ fn array_mark(is_array: bool) -> &'static [u8]
     ensures { result.now ≡ array_mark is_array }
 {
     if is_array { b"*" } else { b"" }
+}
+
+// Adds a line for each component of which the parameters say more than its kind and its name.
+fn put_details(rows: &mut Text, comps: &Arena<FlatComp>, survey: &Survey)
+    requires { length comps.now ≤ 1000000 }
+    ensures { Grows rows.old rows.new (lines (detail_line survey.now) 1 (map site_of comps.now)) }
+{
+    for place in 0..comps.len() {
+        put_detail_line(rows, survey, place as u32 + 1, comps.get(Id::at(place)));
+    }
+}
+
+// Adds the line of a component, counted from 1, if it has one.
+fn put_detail_line(rows: &mut Text, survey: &Survey, number: u32, comp: &FlatComp)
+    ensures { Grows rows.old rows.new (detail_line survey.now number (site_of comp.now)) }
+{
+    match survey.comp_detail(number, &comp.kind) {
+        Some(detail) => put_told_detail(rows, number, detail),
+        None => {}
+    }
+}
+
+fn put_told_detail(rows: &mut Text, number: u32, detail: Detail<'_>)
+    ensures { Grows rows.old rows.new (told_detail number (detail_of detail.entry)) }
+{
+    match detail_bytes(rows.alloc(), detail) {
+        Ok(bytes) => rows.put_pieces(&[
+            Piece::Bytes(b"detail "),
+            Piece::Number(Value::from(number)),
+            Piece::Bytes(b" "),
+            Piece::Bytes(bytes.as_slice()),
+            Piece::Bytes(b"\n"),
+        ]),
+        Err(AllocError) => rows.lose(),
+    }
+}
+
+fn detail_bytes(alloc: Global, detail: Detail<'_>) -> Result<Vec<u8>, AllocError>
+    ensures { IfOk result (λ bytes. bytes.items ≡ detail_text (detail_of detail.entry)) }
+{
+    let mut bytes = Vec::new(alloc);
+    match put_detail(&mut bytes, detail) {
+        Ok(()) => Ok(bytes),
+        // a vector is refused for memory alone
+        Err(WriteFault) => Err(AllocError),
+    }
 }

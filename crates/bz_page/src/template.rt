@@ -6,7 +6,7 @@ pub(crate) const HEAD: &str = r##"<!doctype html>
 <head>
 <meta charset="utf-8">
 <meta name="viewport" content="width=device-width">
-<meta http-equiv="Content-Security-Policy" content="default-src 'none'; style-src 'unsafe-inline'; script-src 'sha256-C5Wap4ISZvsx7jd1YhxAFlb9lQkyDlbnw7xERTlbErY='">
+<meta http-equiv="Content-Security-Policy" content="default-src 'none'; style-src 'unsafe-inline'; script-src 'sha256-NWfGlC9+8Z46ANHlLDn+Lbc8cAtoh7MQMlrNy+6O8+Y='">
 <title>breezesim</title>
 <style>
 /* Colours: light, and dark where the reader's system or the reader says so. Phases are told by dashes and marks too. */
@@ -39,6 +39,7 @@ pub(crate) const HEAD: &str = r##"<!doctype html>
 html, body { height: 100%; margin: 0; }
 body {
   background: var(--ground); color: var(--ink); font: 13px/1.35 system-ui, "DejaVu Sans", sans-serif; display: grid;
+  scrollbar-color: var(--idle) var(--panel);
   grid-template: auto minmax(0, 1fr) auto auto / minmax(0, 1fr) 372px;
   grid-template-areas: "top top" "net side" "chart side" "bar bar";
 }
@@ -59,7 +60,7 @@ button.on { border-color: var(--selected); color: var(--selected); }
 
 /* Search */
 .find { position: relative; }
-#search { width: 190px; }
+#search { width: clamp(130px, 12vw, 190px); }
 #count { position: absolute; right: 8px; top: 5px; color: var(--dim); font-size: 11px; }
 #found {
   position: absolute; right: 0; top: 100%; z-index: 5; background: var(--panel); border: 1px solid var(--rule);
@@ -116,6 +117,7 @@ span.channel { color: var(--dim); }
 .replied .phase::before { background: var(--replied); clip-path: polygon(100% 0, 0 50%, 100% 100%); }
 .callers[data-select] { cursor: pointer; }
 .events { margin: 8px 10px; display: flex; gap: 6px; align-items: center; }
+.leave { margin-left: auto; }
 .history .row { font-family: inherit; height: auto; white-space: normal; }
 .wait { margin: 1px 10px; padding-left: 14px; text-indent: -14px; font-size: 12px; }
 .wait[data-select] { cursor: pointer; }
@@ -251,8 +253,11 @@ g.row.now rect { fill: var(--moved); fill-opacity: .5; }
   }
   body.charted aside { display: none; }
   aside { border-left: 0; border-top: 1px solid var(--rule); grid-template-rows: auto minmax(0, 1fr); }
-  #details, .chosen #journal { display: none; }
+  #details, .chosen #journal, .chosen h2 { display: none; }
   .chosen #details { display: block; }
+  .chosen aside { grid-template-rows: minmax(0, 1fr); }
+  .ended #details { display: block; }
+  .ended aside { grid-template-rows: auto minmax(0, 1fr) minmax(0, 1fr); }
   header { flex-wrap: wrap; }
   #says { order: 9; flex-basis: 100%; white-space: normal; }
   footer { grid-template-columns: 1fr; }
@@ -1334,6 +1339,7 @@ function onWalk(walk, way) {
 // ---- words: the names of what there is, its signs, and what a line of the trace says --------------------------------
 
 const cut = (text, most) => (text.length > most ? text.slice(0, most - 1) + '…' : text);
+const counted = (count, one, many = `${one}s`) => `${count} ${count === 1 ? one : many}`;
 const isVariable = component => component.kind === 'Variable' || component.kind === 'FalseVariable';
 
 // The sign in a component's circle, as handshake circuits are drawn.
@@ -1349,10 +1355,13 @@ const OPERATIONS = {
   LessOrEquals: '≤', GreaterOrEquals: '≥', And: '∧', Or: '∨', Xor: '⊕', Invert: '¬',
 };
 
+// A name that fits in a circle: `x` of `x[0..7]`, since a compiler's names end so.
+const shortName = name => cut(name.length > 5 ? name.replace(/(.)\[.*$/, '$1') : name, 5);
+
 // A variable has its name in the circle, a constant its value, and an operation its sign, with its constant if it has one.
 function signOf(component) {
   const [first, second] = component.detail.split(' ');
-  if (isVariable(component) && first) return cut(first, 5);
+  if (isVariable(component) && first) return shortName(first);
   if (component.kind === 'Constant' && first) return cut(first, 5);
   const operation = Object.hasOwn(OPERATIONS, first) ? OPERATIONS[first] : '';
   if (operation) return operation + (component.kind === 'BinaryFuncConstR' && second ? cut(second, 4) : '');
@@ -1512,7 +1521,9 @@ function drawChannel(channel, points, layers, labels) {
   if (channel.kind === 'pull') group.append(svg('path', {class: 'arrow', d: ARROW, transform: placed(onWalk(walk, 9), 180)}));
   group.append(svg('title', {}, channelTitle(channel)));
   layers.lines.append(group);
-  const place = labelPlace(walk, length, labels), text = `${channel.number}${channel.name ? ` ${cut(channel.name, 10)}` : ''}`;
+  // (a name that stands in the port's box is not told again)
+  const name = channel.name && channel.name !== channel.port ? ` ${cut(channel.name, 10)}` : '';
+  const place = labelPlace(walk, length, labels), text = `${channel.number}${name}`;
   const label = svg('text', {class: 'number', x: place.x.toFixed(1), y: (place.y - 6).toFixed(1)}, text);
   const value = valueBox({x: place.x, y: place.y + 6});
   layers.marks.append(label, value);
@@ -1562,7 +1573,7 @@ function stubName(end, isAnswering) {
   const box = steps.map((step, i) => steps.slice(0, i + 1).join('/')).find(path => foldedNow().has(path));
   if (box) return `▸${box}`;
   if (!isAnswering) return String(component.number);
-  return isVariable(component) && component.detail ? cut(component.detail, 6) : signOf(component) + component.number;
+  return isVariable(component) && component.detail ? signOf(component) : signOf(component) + component.number;
 }
 
 // A component, a port of the host, or a copy that is folded.
@@ -1599,7 +1610,7 @@ function drawBox({box, x, y, width, height}) {
   for (const [style, shift] of [['behind', 4], ['front', 0]])
     group.append(svg('rect', {class: style, x: -width / 2 + shift, y: -height / 2 - shift, width, height, rx: 6}));
   group.append(svg('text', {y: -2}, `▸ ${box} ${cut(net.instances.get(box).name, 12)}`));
-  group.append(svg('text', {y: 13, class: 'caption'}, `${inside} component${inside === 1 ? '' : 's'}`));
+  group.append(svg('text', {y: 13, class: 'caption'}, counted(inside, 'component')));
   drawn.boxes.set(box, group);
   return group;
 }
@@ -1818,17 +1829,23 @@ const selectedLines = () => [view.selected[0] === 'c' ? trace.linesOfComponent :
 function showDetails() {
   const {selected} = view;
   document.body.classList.toggle('chosen', selected !== null);
+  document.body.classList.toggle('ended', selected === null && isEndTold());
   if (!selected) return $('details').replaceChildren(...endDetails());
   const shown = selected[0] === 'c' ? componentDetails(numberOf(selected)) : channelDetails(numberOf(selected));
   return $('details').replaceChildren(...shown, eventButtons(), history());
 }
 
+// Whether the current line is behind the last move, and it is told who waits for whom then.
+function isEndTold() {
+  let last = trace.count;
+  while (last > 1 && trace.what[last] >= REST) last--;
+  return net.end.length > 0 && view.line >= last;
+}
+
 // Nothing is selected: at the end who waits for whom.
 function endDetails() {
   const shown = [html('div', 'hint', 'Click a component or a channel to see its history.')];
-  let last = trace.count;
-  while (last > 1 && trace.what[last] >= REST) last--;
-  if (net.end.length === 0 || view.line < last) return shown;
+  if (!isEndTold()) return shown;
   shown.push(html('div', 'title end', 'Who waits for whom at the end'));
   for (const line of net.end) {
     const names = /^(?:wait|or|ended) \S+ (\d+)/.exec(line), isCycle = /^(circle|cycle)/.test(line);
@@ -1852,7 +1869,7 @@ function componentDetails(number) {
   const ports = html('div', 'ports');
   for (let p = 1; p < component.channels.length && p <= MOST_PORTS; p++) ports.append(portRow(component, p));
   shown.push(ports);
-  if (more > 0) shown.push(html('div', 'under', `and ${more} more port${more === 1 ? '' : 's'}`));
+  if (more > 0) shown.push(html('div', 'under', `and ${counted(more, 'more port')}`));
   const callers = callersOf(net, trace, component, view.line).slice(1);
   const nameOf = caller => (typeof caller === 'number' ? componentName(net.components[caller]) : `the host at ${caller}`);
   const names = callers.map(nameOf);
@@ -1887,7 +1904,7 @@ function channelDetails(number) {
   return [html('div', 'title', title), html('div', 'under', endsOf(channel)), html('div', 'under', placeOf(channel)), ports];
 }
 
-// Buttons to the last and the next line of what is selected, and how many there are.
+// Buttons to the last and the next line of what is selected, how many there are, and a button that leaves it.
 function eventButtons() {
   const [lines, key] = selectedLines(), row = html('div', 'events');
   for (const [text, direction] of [['◂ last event', -1], ['next event ▸', 1]]) {
@@ -1897,7 +1914,10 @@ function eventButtons() {
     button.onclick = () => go(line);
     row.append(button);
   }
-  row.append(html('span', 'under', `${countTo(lines, key, view.line)} of ${countOf(lines, key)}`));
+  const leave = html('button', 'leave', '×');
+  leave.title = 'nothing selected (Esc)';
+  leave.onclick = () => select(null);
+  row.append(html('span', 'under', `${countTo(lines, key, view.line)} of ${countOf(lines, key)}`), leave);
   return row;
 }
 
@@ -1962,11 +1982,12 @@ function showStrip() {
 
 const MOST_HITS = 200000, MOST_NAMES = 12;
 const search = {text: '', hits: null, timer: 0};
+const countedHits = count => (count === MOST_HITS ? `${count}+ lines` : counted(count, 'line'));
 
 // Finds the lines that hold a text, and components, channels and ports by what they are called.
 function find(text) {
   Object.assign(search, {text, hits: text === '' ? null : linesWith(text)});
-  $('count').textContent = text === '' ? '' : `${search.hits.length}${search.hits.length === MOST_HITS ? '+' : ''} lines`;
+  $('count').textContent = text === '' ? '' : countedHits(search.hits.length);
   $('found').replaceChildren(...(text === '' ? [] : namesWith(text.toLowerCase()).map(([select, name]) => {
     const row = html('div', 'name', name);
     row.dataset.select = select;
@@ -2420,8 +2441,9 @@ function listen() {
     measure();
     showJournal();
     showStrip();
+    if (view.isCharted) showChart();
   });
-  for (const id of ['svg', 'journal', 'strip']) observer.observe($(id));
+  for (const id of ['svg', 'journal', 'chart', 'strip']) observer.observe($(id));
   window.addEventListener('resize', () => {
     measure();
     fit();
@@ -2436,11 +2458,12 @@ const isLarge = all.components.length > MANY;
 // What the page is of, and whether its trace agrees with itself.
 function showFoot() {
   const hostMoves = trace.hostLines.filter(line => isMove(trace.what[line])).length, {moves, values, told, met, bad} = found;
-  const counts = [`${all.components.length} components, ${all.channels.length} channels`, `${moves - hostMoves} firings`,
-    `${trace.hostLines.length} host lines`, `${trace.rests.length} rests`].join('; ');
-  const audited = `${moves} moves by the four-move table, ${values} values handed over, ${told} phases told, ${met.size} clashes`;
+  const counts = [`${counted(all.components.length, 'component')}, ${counted(all.channels.length, 'channel')}`,
+    counted(moves - hostMoves, 'firing'), counted(trace.hostLines.length, 'host line'), counted(trace.rests.length, 'rest')];
+  const audited = [`${counted(moves, 'move')} by the four-move table`, `${counted(values, 'value')} handed over`,
+    `${counted(told, 'phase')} told`, counted(met.size, 'clash', 'clashes')].join(', ');
   $('foot').textContent = bad ? `THIS PAGE IS DAMAGED: line ${bad} is none of a run`
-    : `${counts}. Looked at again on opening: ${audited}: all agree.`;
+    : `${counts.join('; ')}. Looked at again on opening: ${audited}: all agree.`;
   $('foot').classList.toggle('bad', bad > 0);
 }
 

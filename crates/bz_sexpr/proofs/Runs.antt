@@ -1,11 +1,8 @@
--- Which bytes a run is made of.
-use Rattle.std.proofs.Common.{◌≡◌, ◌<◌, ◌≢◌, ◌==◌, ℕ, not, refl, arith}
-use Rattle.std.proofs.lemmas.Bool.{ne_eqb}
-use Rattle.bz_sexpr.specs.Bytes.{is_blank, is_run_byte}
+-- Which bytes a run is made of, told by a table of all bytes.
+use Rattle.std.proofs.Common.{◌≡◌, ◌<◌, ℕ, Bool, false, List, map, slice_index_or, ap, ◌∙◌, arith}
+use Rattle.std.specs.List.{range_with_len}
+use Rattle.std.proofs.lemmas.List.FromFn.{get_or-map-range_with_len}
+use Rattle.bz_sexpr.specs.Bytes.{is_run_byte}
 
--- above the parentheses all but the semicolon
-pub run_above : (b : ℕ) → 41 < b → not (b == 59) ≡ is_run_byte b
-unfolding is_run_byte is_blank
-run_above b above =
-    let other : (k : ℕ) → k < 42 → b ≢ k = λ k low e. omega arith in
-    rw (ne_eqb b 32 (other 32 (omega arith)), ne_eqb b 9 (other 9 (omega arith)), ne_eqb b 10 (other 10 (omega arith)), ne_eqb b 13 (other 13 (omega arith)), ne_eqb b 12 (other 12 (omega arith)), ne_eqb b 40 (other 40 (omega arith)), ne_eqb b 41 (other 41 (omega arith)), ne_eqb b 34 (other 34 (omega arith))) refl
+pub told : (table : List Bool) (b : ℕ) → b < 256 → table ≡ map is_run_byte (range_with_len 0 256) → slice_index_or table b false ≡ is_run_byte b
+told table b below is = ap (λ t. slice_index_or t b false) is ∙ get_or-map-range_with_len is_run_byte 0 256 b b false below (omega arith)

@@ -142,6 +142,7 @@ impl<'t> Leaf<'t> {
 
     /// What a run is.
     #[tactic(auto, unfolding(crate::specs::Data::leaf_of))]
+    #[inline(always)]
     fn of_run(run: &'t [u8]) -> Leaf<'t>
         ensures { leaf_view result ≡ leaf_of run.now }
     {

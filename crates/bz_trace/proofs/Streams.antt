@@ -185,3 +185,15 @@ pub first_bad_of : (old new : Option (List ℕ)) (net : Outside) (held later tex
 first_bad_of old new net held later text came empty r is none =
     let taken = subst (λ p. Consumes old new p) (sym (r.2 ∙ ap (λ h. h ++ r.0) empty)) r.1 in
     first_bad old new net later taken (comes_long new came r.0 later 8 r.3) (λ v rest e. none v rest (is ∙ e))
+
+-- what was said of the lines behind the first one, of which a front was held, holds of all that the reader had
+pub judged_behind : (w : Wiring) (old mid : Option (List ℕ)) (held later text lines front : List ℕ) (version : Version) (goal : ℕ) (came : Bool) (answer : Result (Verdict × Counts) ReadFault)
+    → held ≡ [] → ReadsMore old mid held later goal came → text ≡ later → text ≡ first_line version ++ lines → front ≡ lines
+    → IfOk answer (λ said. IfSome mid (λ more. JudgesBy w (first_line version ++ (front ++ more)) said.1 said.0))
+    → IfOk answer (λ said. IfSome old (λ text. JudgesBy w text said.1 said.0))
+judged_behind w old mid held later text lines front version goal came (Err e) empty reads whole begins front_is judged = tt
+judged_behind w None mid held later text lines front version goal came (Ok said) empty reads whole begins front_is judged = tt
+judged_behind w (Some xs) None held later text lines front version goal came (Ok said) empty (piece, taken, is, comes) whole begins front_is judged = absurd taken
+judged_behind w (Some xs) (Some ys) held later text lines front version goal came (Ok said) empty (piece, taken, is, comes) whole begins front_is judged =
+    let piece_is : piece ≡ first_line version ++ front = ap (λ (l : List ℕ). l ++ piece) (sym empty) ∙ sym is ∙ sym whole ∙ begins ∙ ap (λ (l : List ℕ). first_line version ++ l) (sym front_is) in
+    subst (λ (t : List ℕ). JudgesBy w t said.1 said.0) (sym (taken ∙ ap (λ (l : List ℕ). l ++ ys) piece_is ∙ append_assoc (first_line version) front ys)) judged

@@ -1,4 +1,5 @@
 pub mod Pages
+pub mod Going
 pub mod Digits
 pub mod Strips
 pub mod Numbers

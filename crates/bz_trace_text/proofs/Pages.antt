@@ -1,5 +1,5 @@
 -- Texts that go out by pages.
-use Rattle.std.proofs.Common.{◌≡◌, ℕ, List, [], ◌++◌, Option, Result, Ok, Err, sym, ap, ◌∙◌, subst, append_assoc, take, drop, get_or, length, ◌<◌, suc, ◌+◌, ◌≤◌}
+use Rattle.std.proofs.Common.{◌≡◌, ℕ, List, [], ◌++◌, Option, Some, None, Result, Ok, Err, sym, ap, ◌∙◌, subst, append_assoc, take, drop, get_or, length, ◌<◌, suc, ◌+◌, ◌≤◌}
 use Rattle.std.proofs.lemmas.List.{append-nil, take_all, take_more, flat_map_more}
 use Rattle.std.specs.List.{flat_map}
 use Rattle.std.specs.Io.KnownBytes.{Appends}
@@ -35,3 +35,43 @@ composes_last a b c r f xs i p h (s, e, m) w = subst (Writes a c r) (sym e ∙ a
 -- a page that stopped before the text that was to be put on it
 pub stops_on : (a b : Option (List ℕ)) (p t : List ℕ) → AppendsFront a b (p ++ []) → AppendsFront a b (p ++ t)
 stops_on a b p t w = stops_before a b p t (subst (AppendsFront a b) (append-nil p) w)
+
+-- a text that was put on a page, and one after it
+pub composes_two : (a b c : Option (List ℕ)) (p q n t u : List ℕ) → (sent : List ℕ) × (p ++ t ≡ sent ++ q) × Appends a b sent → (sent : List ℕ) × (q ++ u ≡ sent ++ n) × Appends b c sent
+    → (sent : List ℕ) × (p ++ (t ++ u) ≡ sent ++ n) × Appends a c sent
+composes_two a b c p q n t u (s, e, m) (s', e', m') =
+    (s ++ s', sym (append_assoc p t u) ∙ ap (λ v. v ++ u) e ∙ append_assoc s q u ∙ ap (λ v. s ++ v) e' ∙ sym (append_assoc s s' n), appends_then a b c s s' m m')
+
+-- the same, stopped within the second
+pub composes_part : (a b c : Option (List ℕ)) (p q t u : List ℕ) → (sent : List ℕ) × (p ++ t ≡ sent ++ q) × Appends a b sent → AppendsFront b c (q ++ u) → AppendsFront a c (p ++ (t ++ u))
+composes_part a b c p q t u (s, e, m) w =
+    subst (AppendsFront a c) (sym (sym (append_assoc p t u) ∙ ap (λ v. v ++ u) e ∙ append_assoc s q u)) (stops_after a b c s (q ++ u) m w)
+
+pub composes_then : {A E : Type 0} (a b c : Option (List ℕ)) (r : Result A E) (p q n t u : List ℕ) → (sent : List ℕ) × (p ++ t ≡ sent ++ q) × Appends a b sent → Composes b c q n r u → Composes a c p n r (t ++ u)
+composes_then a b c (Ok x) p q n t u d w = composes_two a b c p q n t u d w
+composes_then a b c (Err x) p q n t u d w = composes_part a b c p q t u d w
+
+-- a text that stopped, of which more was to be put on the page
+pub composes_less : (a b : Option (List ℕ)) (p t u : List ℕ) → AppendsFront a b (p ++ t) → AppendsFront a b (p ++ (t ++ u))
+composes_less a b p t u w = subst (AppendsFront a b) (append_assoc p t u) (stops_before a b (p ++ t) u w)
+
+pub composes_none : (a : Option (List ℕ)) (p : List ℕ) → (sent : List ℕ) × (p ++ [] ≡ sent ++ p) × Appends a a sent
+composes_none None p = ([], append-nil p, tt)
+composes_none (Some xs) p = ([], append-nil p, sym (append-nil xs))
+
+module _ {X : Type 0} (a b c : Option (List ℕ)) (f : X → List ℕ) (xs : List X) (i : ℕ) (o p : List ℕ) where
+  -- a list of texts that were put on a page after what it had, `o`, and the one at i
+  pub composes_on : (d : X) (q : List ℕ) → i < length xs → (sent : List ℕ) × (o ++ flat_map f (take i xs) ≡ sent ++ p) × Appends a b sent → (sent : List ℕ) × (p ++ f (get_or xs i d) ≡ sent ++ q) × Appends b c sent
+      → (sent : List ℕ) × (o ++ flat_map f (take (i + 1) xs) ≡ sent ++ q) × Appends a c sent
+  composes_on d q h so_far next =
+      let all : flat_map f (take (i + 1) xs) ≡ flat_map f (take i xs) ++ f (get_or xs i d) = ap (flat_map f) (take_more xs i d h) ∙ sym (flat_map_more f [] (take i xs) (get_or xs i d)) in
+      subst (λ t. (sent : List ℕ) × (o ++ t ≡ sent ++ q) × Appends a c sent) (sym all) (composes_two a b c o p q (flat_map f (take i xs)) (f (get_or xs i d)) so_far next)
+
+  -- the same, stopped within that one
+  pub composes_off : (d : X) → i < length xs → (sent : List ℕ) × (o ++ flat_map f (take i xs) ≡ sent ++ p) × Appends a b sent → AppendsFront b c (p ++ f (get_or xs i d)) → AppendsFront a c (o ++ flat_map f xs)
+  composes_off d h so_far w =
+      subst (λ t. AppendsFront a c (o ++ t)) (sym (flat_map_at f xs i d h)) (composes_less a c o (flat_map f (take i xs) ++ f (get_or xs i d)) (flat_map f (drop (suc i) xs)) (composes_part a b c o p (flat_map f (take i xs)) (f (get_or xs i d)) so_far w))
+
+  -- the same, where that were all
+  pub composes_all : length xs ≤ i → (sent : List ℕ) × (o ++ flat_map f (take i xs) ≡ sent ++ p) × Appends a b sent → (sent : List ℕ) × (o ++ flat_map f xs ≡ sent ++ p) × Appends a b sent
+  composes_all h so_far = subst (λ t. (sent : List ℕ) × (o ++ flat_map f t ≡ sent ++ p) × Appends a b sent) (take_all i xs h) so_far

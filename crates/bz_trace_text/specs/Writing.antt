@@ -1,11 +1,12 @@
 -- What a call that writes lines of a trace leaves in a writer.
-use Rattle.std.specs.Prelude.{◌≡◌, ℕ, List, ◌++◌, codes, Option, Result, Ok, Err}
+use Rattle.std.specs.Prelude.{◌≡◌, ℕ, Bool, true, false, List, ◌++◌, codes, Option, Result, Ok, Err}
 use Rattle.std.specs.List.{flat_map}
 use Rattle.std.specs.Io.KnownBytes.{Appends}
 use Rattle.bz_model.specs.declared.event.Entry.{Entry}
 use Rattle.bz_model.specs.Names.{External}
 use Rattle.bz_model.specs.Traces.{line_text}
 use Rattle.bz_text.specs.Writing.{AppendsFront, Writes}
+use Rattle.bz_trace_text.specs.declared.outgoing.Outgoing.{Outgoing}
 
 -- The text was put after what a page had, `before`. At Ok some of all this went out, and the rest is what it has now,
 -- `after`; at Err only a front of it went out.
@@ -24,3 +25,12 @@ HasLines ports start now entries = Appends start now (first_lines ports entries)
 -- at Ok they have gone out since `start`, and only a front of them at Err
 abbrev pub WritesLines : {A E : Type 0} → List External → Option (List ℕ) → Option (List ℕ) → Result A E → List Entry → Type 0
 WritesLines ports start new answer entries = Writes start new answer (first_lines ports entries)
+
+-- The text has gone out since `start`, but for what waits. Where the writer has failed, a front of it went out.
+abbrev pub GoneBut : Option (List ℕ) → Option (List ℕ) → Bool → List ℕ → List ℕ → Type 0
+GoneBut start now false waits text = (sent : List ℕ) × (text ≡ sent ++ waits) × Appends start now sent
+GoneBut start now true waits text = (front rest : List ℕ) × (text ≡ front ++ rest) × Appends start now front
+
+-- the same of what waits on a page
+abbrev pub IsGone : Option (List ℕ) → Option (List ℕ) → Outgoing → List ℕ → Type 0
+IsGone start now outgoing text = GoneBut start now outgoing.failed outgoing.page text

@@ -1,7 +1,8 @@
-//! The lines of a trace: written, read back, and counted.
+//! The lines of a trace: written, read back, and counted; and the page that lines are composed on.
 #![tactic(auto)]
 
 mod counting;
+mod outgoing;
 mod page;
 mod ports;
 mod reading;
@@ -10,10 +11,12 @@ mod text;
 mod trace;
 
 pub use counting::counts;
+pub use outgoing::Outgoing;
+pub use page::Page;
 pub use ports::LineNames;
 pub use reading::{clash_at, line_at, strip};
 pub use tally::Counts;
 pub use text::{
     MAX_ENTRIES, TraceError, Version, one_spelling, other_line, read_trace, version_at,
 };
-pub use trace::{put_clashes, put_entries, put_first_line, write_trace, write_trace_1};
+pub use trace::{make_room, put_clashes, put_entries, put_first_line, write_trace, write_trace_1};

@@ -66,6 +66,16 @@ impl Page {
         self.at += len;
     }
 
+    /// Composes a text that there is room for.
+    #[inline(always)]
+    pub fn text(&mut self, text: &[u8])
+        requires { length self.old + length text.now ≤ 8192 }
+        ensures { self.new ≡ self.old ++ text.now }
+    {
+        set_text(&mut self.bytes, self.at, text);
+        self.at += text.len();
+    }
+
     #[inline(always)]
     pub fn number(&mut self, n: u32)
         requires { length self.old + 10 ≤ 8192 }
@@ -107,6 +117,15 @@ fn set_word(bytes: &mut [u8], at: usize, word: [u8; 8])
     ensures { bytes.new ≡ take at bytes.old ++ (word ++ drop (at + 8) bytes.old) }
 {
     bytes[at..at + 8].copy_from_slice(&word);
+}
+
+// Writes a text at a place.
+#[inline(always)]
+fn set_text(bytes: &mut [u8], at: usize, text: &[u8])
+    requires { at + length text.now ≤ length bytes.old }
+    ensures { bytes.new ≡ take at bytes.old ++ (text.now ++ drop (at + length text.now) bytes.old) }
+{
+    bytes[at..at + text.len()].copy_from_slice(text);
 }
 
 // Writes the digits at a place, and answers the place after them.

@@ -156,9 +156,9 @@ fn add_entry<W: Write>(
     }
 }
 
-// Makes room for a line, where there is too little.
+/// Makes room for 96 bytes, where there is less.
 #[inline(always)]
-fn make_room<W: Write>(page: &mut Page, out: &mut W) -> Result<(), WriteFault>
+pub fn make_room<W: Write>(page: &mut Page, out: &mut W) -> Result<(), WriteFault>
     ensures text { Composes (W.contents out.old) (W.contents out.new) page.old page.new result [] }
     ensures room { IfOk result (λ _. length page.new + 96 ≤ 8192) }
 {
@@ -180,7 +180,14 @@ fn name_of(names: &Names, port: u32) -> &[u8]
 
 // Composes the line of a firing: 88 bytes at most.
 #[inline(always)]
-fn add_fired(page: &mut Page, who: Who, comp: u32, mv: Move, chan: u32, value: Option<Value>)
+pub(crate) fn add_fired(
+    page: &mut Page,
+    who: Who,
+    comp: u32,
+    mv: Move,
+    chan: u32,
+    value: Option<Value>,
+)
     requires { length page.old + 96 ≤ 8192 }
     ensures { page.new ≡ page.old ++ fired_text who comp mv chan value }
 {
@@ -192,6 +199,15 @@ fn add_fired(page: &mut Page, who: Who, comp: u32, mv: Move, chan: u32, value: O
     page.number(chan);
     add_value(page, value);
     page.byte(b'\n');
+}
+
+// Composes the line that tells of rest.
+pub(crate) fn add_rested(page: &mut Page, who: Who)
+    requires { length page.old + 96 ≤ 8192 }
+    ensures { page.new ≡ page.old ++ rested_text who }
+{
+    add_who(page, who);
+    page.word(*b" rest\n  ", 6);
 }
 
 #[inline(always)]

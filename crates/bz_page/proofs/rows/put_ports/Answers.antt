@@ -1,4 +1,4 @@
-use Rattle.std.proofs.Common.{map, arith}
+use Rattle.std.proofs.Common.{arith}
 use Rattle.std.proofs.lemmas.List.Folds.{flat_map-map}
 use Rattle.bz_kind_rows.specs.Table.{seen}
 use Rattle.bz_page.specs.Rows.{port_word}

@@ -9,4 +9,4 @@ pub can_fire-requires : goal.can_fire-requires
 can_fire-requires c =
     let n = c.self.inside in
     let w : Wiring = record { chans = n.names.chans; sites = map site_of n.sites; ports = n.names.ports } in
-    (core_placed w n.phases (comps_of n.nodes) (heres_of n.nodes) n.ends.items n.ready.row c.self.invariant)
+    (core_placed w n.phases (comps_of n.nodes) (heres_of n.nodes) n.ends.items n.ready c.self.invariant)

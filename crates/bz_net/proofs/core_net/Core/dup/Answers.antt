@@ -11,20 +11,20 @@ use Rattle.bz_net.proofs.core_net.Core.dup.Goals as goal
 pub mark_all-requires-clause-sighted : goal.mark_all-requires-clause-sighted
 mark_all-requires-clause-sighted c =
     let n = c.self.inside in
-    (core_sighted (record { chans = n.names.chans; sites = map site_of n.sites; ports = n.names.ports }) n.phases (comps_of n.nodes) (heres_of n.nodes) n.ends.items n.ready.row c.self.invariant)
+    (core_sighted (record { chans = n.names.chans; sites = map site_of n.sites; ports = n.names.ports }) n.phases (comps_of n.nodes) (heres_of n.nodes) n.ends.items n.ready c.self.invariant)
 
 pub invariant_of-result : goal.invariant_of-result
 invariant_of-result c =
     let n = c.self.inside in
     let w : Wiring = record { chans = n.names.chans; sites = map site_of n.sites; ports = n.names.ports } in
-    let all : MarksAll w.sites (state_of n.phases (comps_of n.nodes)) c.in_ok-ready.ready.row (length n.sites) = c.in_ok-ready.ensures in
+    let all : MarksAll w.sites (state_of n.phases (comps_of n.nodes)) c.in_ok-ready.ready (length n.sites) = c.in_ok-ready.ensures in
     let sites = c.in_ok-sites.ensures in
     let names = c.in_ok-names.ensures in
-    core_same w _ n.phases _ (comps_of n.nodes) _ (heres_of n.nodes) _ n.ends.items _ n.ready.row c.in_ok-ready.ready.row
+    core_same w _ n.phases _ (comps_of n.nodes) _ (heres_of n.nodes) _ n.ends.items _ n.ready c.in_ok-ready.ready
     (λ i. record { chans = (names i).chans; sites = sites i; ports = (names i).ports })
     c.in_ok-phases.ensures
     (ap comps_of c.in_ok-nodes.ensures)
     (ap heres_of c.in_ok-nodes.ensures)
     (c.in_ok-ends.ensures.items ∙ c.deref.ensures.value)
     c.self.invariant
-    (marks_ready w (state_of n.phases (comps_of n.nodes)) c.in_ok-ready.ready.row (length n.sites) (sym (length-map n.sites site_of)) all)
+    (marks_ready w (state_of n.phases (comps_of n.nodes)) c.in_ok-ready.ready (length n.sites) (sym (length-map n.sites site_of)) all)

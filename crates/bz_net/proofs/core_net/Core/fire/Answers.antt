@@ -14,12 +14,12 @@ use Rattle.bz_net.proofs.core_net.Core.fire.Goals as goal
 pub move_comp-requires-clause-sighted : goal.move_comp-requires-clause-sighted
 move_comp-requires-clause-sighted c =
     let n = c.self.inside in
-    (core_sighted (record { chans = n.names.chans; sites = map site_of n.sites; ports = n.names.ports }) n.phases (comps_of n.nodes) (heres_of n.nodes) n.ends.items n.ready.row c.self.invariant)
+    (core_sighted (record { chans = n.names.chans; sites = map site_of n.sites; ports = n.names.ports }) n.phases (comps_of n.nodes) (heres_of n.nodes) n.ends.items n.ready c.self.invariant)
 
 pub move_comp-requires-clause-stays : goal.move_comp-requires-clause-stays
 move_comp-requires-clause-stays c =
     let n = c.self.inside in
-    (core_stays (record { chans = n.names.chans; sites = map site_of n.sites; ports = n.names.ports }) n.phases (comps_of n.nodes) (heres_of n.nodes) n.ends.items n.ready.row c.self.invariant c.args.comp c.args.port)
+    (core_stays (record { chans = n.names.chans; sites = map site_of n.sites; ports = n.names.ports }) n.phases (comps_of n.nodes) (heres_of n.nodes) n.ends.items n.ready c.self.invariant c.args.comp c.args.port)
 
 pub invariant_of-self : goal.invariant_of-self
 invariant_of-self c =
@@ -27,9 +27,9 @@ invariant_of-self c =
     let w : Wiring = record { chans = n.names.chans; sites = map site_of n.sites; ports = n.names.ports } in
     let told : Turned w.sites n.phases (comps_of n.nodes) (heres_of n.nodes) d.phases (comps_of d.nodes) (heres_of d.nodes) c.args.comp c.args.port r.0 r.1 r.2 =
     c.move_comp.ensures.told in
-    let refreshed : RefreshedEnds w.sites (state_of d.phases (comps_of d.nodes)) n.ready.row d.ready.row (ends_in n.ends.items r.0) =
+    let refreshed : RefreshedEnds w.sites (state_of d.phases (comps_of d.nodes)) n.ready d.ready (ends_in n.ends.items r.0) =
     rw c.deref.ensures.value at c.move_comp.ensures.refreshed in
-    (core_moved w n.phases (comps_of n.nodes) (heres_of n.nodes) n.ends.items n.ready.row c.self.invariant d.phases (comps_of d.nodes) (heres_of d.nodes) d.ready.row c.args.comp c.args.port r.0 r.1 r.2 told refreshed)
+    (core_moved w n.phases (comps_of n.nodes) (heres_of n.nodes) n.ends.items n.ready c.self.invariant d.phases (comps_of d.nodes) (heres_of d.nodes) d.ready c.args.comp c.args.port r.0 r.1 r.2 told refreshed)
 
 pub returns-clause-step : goal.returns-clause-step
 returns-clause-step c =
@@ -37,10 +37,10 @@ returns-clause-step c =
     let w : Wiring = record { chans = n.names.chans; sites = map site_of n.sites; ports = n.names.ports } in
     let told : Turned w.sites n.phases (comps_of n.nodes) (heres_of n.nodes) d.phases (comps_of d.nodes) (heres_of d.nodes) c.args.comp c.args.port r.0 r.1 r.2 =
     c.move_comp.ensures.told in
-    let refreshed : RefreshedEnds w.sites (state_of d.phases (comps_of d.nodes)) n.ready.row d.ready.row (ends_in n.ends.items r.0) =
+    let refreshed : RefreshedEnds w.sites (state_of d.phases (comps_of d.nodes)) n.ready d.ready (ends_in n.ends.items r.0) =
     rw c.deref.ensures.value at c.move_comp.ensures.refreshed in
     let step : Step w.sites (state_of n.phases (comps_of n.nodes)) c.args.comp c.args.port r.0 r.1 r.2 (state_of d.phases (comps_of d.nodes)) =
-    core_step w n.phases (comps_of n.nodes) (heres_of n.nodes) n.ends.items n.ready.row c.self.invariant d.phases (comps_of d.nodes) (heres_of d.nodes) d.ready.row c.args.comp c.args.port r.0 r.1 r.2 told refreshed in
+    core_step w n.phases (comps_of n.nodes) (heres_of n.nodes) n.ends.items n.ready c.self.invariant d.phases (comps_of d.nodes) (heres_of d.nodes) d.ready c.args.comp c.args.port r.0 r.1 r.2 told refreshed in
     (subst (λ (v : Standing). Step v.wiring.sites v.state c.args.comp c.args.port r.0 r.1 r.2 (state_of d.phases (comps_of d.nodes))) c.self.view_is step)
 
 pub returns-clause-sole : goal.returns-clause-sole
@@ -49,11 +49,11 @@ returns-clause-sole c j mw other next step =
     let w : Wiring = record { chans = n.names.chans; sites = map site_of n.sites; ports = n.names.ports } in
     let told : Turned w.sites n.phases (comps_of n.nodes) (heres_of n.nodes) d.phases (comps_of d.nodes) (heres_of d.nodes) c.args.comp c.args.port r.0 r.1 r.2 =
     c.move_comp.ensures.told in
-    let refreshed : RefreshedEnds w.sites (state_of d.phases (comps_of d.nodes)) n.ready.row d.ready.row (ends_in n.ends.items r.0) =
+    let refreshed : RefreshedEnds w.sites (state_of d.phases (comps_of d.nodes)) n.ready d.ready (ends_in n.ends.items r.0) =
     rw c.deref.ensures.value at c.move_comp.ensures.refreshed in
     let back : Step w.sites (state_of n.phases (comps_of n.nodes)) c.args.comp c.args.port j mw other next =
     subst (λ (v : Standing). Step v.wiring.sites v.state c.args.comp c.args.port j mw other next) (sym c.self.view_is) step in
-    let same = core_sole w n.phases (comps_of n.nodes) (heres_of n.nodes) n.ends.items n.ready.row c.self.invariant d.phases (comps_of d.nodes) (heres_of d.nodes) d.ready.row c.args.comp c.args.port r.0 r.1 r.2 told refreshed j mw other next back in
+    let same = core_sole w n.phases (comps_of n.nodes) (heres_of n.nodes) n.ends.items n.ready c.self.invariant d.phases (comps_of d.nodes) (heres_of d.nodes) d.ready c.args.comp c.args.port r.0 r.1 r.2 told refreshed j mw other next back in
     (same.chan, same.move, same.value_is, same.next_is)
 
 pub returns-clause-from : goal.returns-clause-from
@@ -76,7 +76,7 @@ returns-clause-to c =
 pub move_comp-requires-clause-placed : goal.move_comp-requires-clause-placed
 move_comp-requires-clause-placed c =
     let n = c.self.inside in
-    (core_placed (record { chans = n.names.chans; sites = map site_of n.sites; ports = n.names.ports }) n.phases (comps_of n.nodes) (heres_of n.nodes) n.ends.items n.ready.row c.self.invariant)
+    (core_placed (record { chans = n.names.chans; sites = map site_of n.sites; ports = n.names.ports }) n.phases (comps_of n.nodes) (heres_of n.nodes) n.ends.items n.ready c.self.invariant)
 
 pub move_comp-requires-clause-are_ends : goal.move_comp-requires-clause-are_ends
 move_comp-requires-clause-are_ends c =
@@ -93,7 +93,7 @@ returns-clause-met c =
     let w : Wiring = record { chans = n.names.chans; sites = map site_of n.sites; ports = n.names.ports } in
     let told : Turned w.sites n.phases (comps_of n.nodes) (heres_of n.nodes) d.phases (comps_of d.nodes) (heres_of d.nodes) c.args.comp c.args.port r.0 r.1 r.2 =
     c.move_comp.ensures.told in
-    let refreshed : RefreshedEnds w.sites (state_of d.phases (comps_of d.nodes)) n.ready.row d.ready.row (ends_in n.ends.items r.0) =
+    let refreshed : RefreshedEnds w.sites (state_of d.phases (comps_of d.nodes)) n.ready d.ready (ends_in n.ends.items r.0) =
     rw c.deref.ensures.value at c.move_comp.ensures.refreshed in
     subst (λ (v : Standing). MeetBefore v.wiring.sites v.state.phases d.phases r.1) c.self.view_is
-    (core_met w n.phases (comps_of n.nodes) (heres_of n.nodes) n.ends.items n.ready.row c.self.invariant d.phases (comps_of d.nodes) (heres_of d.nodes) d.ready.row c.args.comp c.args.port r.0 r.1 r.2 told refreshed)
+    (core_met w n.phases (comps_of n.nodes) (heres_of n.nodes) n.ends.items n.ready c.self.invariant d.phases (comps_of d.nodes) (heres_of d.nodes) d.ready c.args.comp c.args.port r.0 r.1 r.2 told refreshed)

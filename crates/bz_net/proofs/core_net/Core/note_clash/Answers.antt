@@ -15,7 +15,7 @@ pub note_clash-requires-clause-reads : goal.note_clash-requires-clause-reads
 note_clash-requires-clause-reads c =
     let n = c.self.inside in
     let w : Wiring = record { chans = n.names.chans; sites = map site_of n.sites; ports = n.names.ports } in
-    (core_reads w n.phases (comps_of n.nodes) (heres_of n.nodes) n.ends.items n.ready.row c.self.invariant)
+    (core_reads w n.phases (comps_of n.nodes) (heres_of n.nodes) n.ends.items n.ready c.self.invariant)
 
 pub note_clash-requires-clause-end : goal.note_clash-requires-clause-end
 note_clash-requires-clause-end c =

@@ -1,0 +1,9 @@
+//! The command `lint`: all faults of a netlist, whichever parts are looked at, and warnings of what is likely to be a mistake.
+#![tactic(auto)]
+
+mod lint;
+mod opening;
+mod unreached;
+mod warnings;
+
+pub use lint::{Lint, lint_cmd};

@@ -1,0 +1,113 @@
+//! All that is wrong with a netlist, whichever parts are looked at.
+
+use crate::opening::Linted;
+use bz_breeze::parts_of;
+use bz_cli_input::{Fault, in_part, read_input};
+use bz_elab::ElabError;
+use bz_explain::{Asked, Words, explain, line_of, no_findings};
+use bz_explain_net::Netlist;
+use bz_explain_notes::{Finding, Findings, Severity, Spot, tell_findings, tell_json};
+use bz_sexpr::read_forest;
+use bz_source::lines_of;
+use bz_text::WriteFault;
+use std::alloc::{AllocError, Global};
+use std::io::{Read, Write};
+
+/// What `lint` is asked.
+#[derive(Clone, Copy)]
+pub struct Lint<'a> {
+    /// The name of the part that is meant to be used, where it is named.
+    pub part: Option<&'a [u8]>,
+    /// The name of the netlist's file, if it is one's.
+    pub file: Option<&'a str>,
+    /// Whether findings are told as JSON.
+    pub is_json: bool,
+}
+
+/// Tells all findings in the netlist that the reader gives. Whether no fault is among them.
+pub fn lint_cmd<R: Read, W: Write>(
+    alloc: Global,
+    lint: Lint<'_>,
+    input: &mut R,
+    output: &mut W,
+) -> Result<bool, Fault> {
+    let text = read_input(alloc, input)?;
+    let findings = findings_in(alloc, lint, text.as_slice())?;
+    tell(alloc, lint, &findings, output)
+}
+
+fn tell<W: Write>(
+    alloc: Global,
+    lint: Lint<'_>,
+    findings: &Findings,
+    output: &mut W,
+) -> Result<bool, Fault> {
+    let file = lint.file.unwrap_or("-");
+    if lint.is_json {
+        tell_json(alloc, file, findings, output)?;
+    } else {
+        tell_findings(alloc, file, findings, output)?;
+    }
+    match output.flush() {
+        Ok(()) => Ok(findings.count(Severity::Fault) == 0),
+        Err(_) => Err(Fault::from(WriteFault)),
+    }
+}
+
+// A text that is refused as a whole has one finding.
+fn findings_in<'a>(alloc: Global, lint: Lint<'a>, text: &'a [u8]) -> Result<Findings, Fault> {
+    match findings_of_parts(alloc, lint, text) {
+        Err(fault) if matches!(fault, Fault::Text(_) | Fault::Part(_)) => {
+            Ok(finding_of_text(alloc, lint, text, &fault)?)
+        }
+        findings => findings,
+    }
+}
+
+fn finding_of_text<'a>(
+    alloc: Global,
+    lint: Lint<'a>,
+    text: &'a [u8],
+    fault: &Fault,
+) -> Result<Findings, AllocError> {
+    let asked = Asked {
+        netlist: text,
+        file: lint.file,
+        part: b"",
+        words: Words {
+            list: &[],
+            is_pool: false,
+            file: None,
+        },
+    };
+    let notes = explain(alloc, fault, asked).notes;
+    let mut findings = no_findings(alloc);
+    findings.list.push(Finding {
+        severity: Severity::Fault,
+        line: line_of(alloc, fault),
+        spot: notes.spot().unwrap_or(Spot { line: 1, column: 1 }),
+        notes,
+    })?;
+    Ok(findings)
+}
+
+fn findings_of_parts<'a>(alloc: Global, lint: Lint<'a>, text: &'a [u8]) -> Result<Findings, Fault> {
+    let forest = read_forest(alloc, text)?;
+    let data = forest.forms();
+    let parts = parts_of(alloc, data)?;
+    let lines = lines_of(alloc, text, data)?;
+    let netlist = Netlist {
+        alloc,
+        file: lint.file,
+        text,
+        data,
+        parts: &parts,
+        lines: lines.as_slice(),
+    };
+    match lint.part {
+        Some(part) if parts.number(part).is_none() => {
+            Err(in_part(alloc, parts.list(), part, ElabError::NoPart))
+        }
+        _ => Ok(Linted::of(netlist, lint.part)?),
+    }
+}

@@ -1,0 +1,152 @@
+//! A netlist while it is looked through: each part is opened, by itself or within another one.
+
+use crate::unreached::mark_reached;
+use crate::warnings::warn;
+use bz_breeze_records::{Part, Parts};
+use bz_elab::ElabError;
+use bz_explain::{Gathered, Marks, Mended, marks_of, set};
+use bz_explain_net::{Head, Netlist, Wired};
+use bz_explain_notes::Findings;
+use std::alloc::{AllocError, Global};
+
+/// How much is opened at most: parts of the text for each part that is opened, and components and channels of its net.
+const MOST_WORK: usize = 50_000_000;
+
+/// A netlist while it is looked through.
+#[derive(Drop)]
+pub(crate) struct Linted<'t> {
+    gathered: Gathered<'t>,
+    /// The netlist without the components at fault, if there are such.
+    mended: Option<Mended>,
+    /// For each part whether one that was opened reaches it.
+    covered: Vec<bool>,
+    /// The components that can be asked for something.
+    reached: Marks,
+    /// How much was opened so far.
+    work: usize,
+}
+
+impl<'t> Linted<'t> {
+    /// All that is found in a netlist. `part` is the one that is meant to be used, where one is named.
+    pub(crate) fn of(netlist: Netlist<'t>, part: Option<&[u8]>) -> Result<Findings, AllocError> {
+        let (alloc, count) = (netlist.alloc, netlist.parts.list().len());
+        let covered = vec![in alloc; false; count]?;
+        let reached = Marks::none(alloc, netlist.parts, Head::Components)?;
+        let mut linted = Linted {
+            gathered: Gathered::new(netlist, None),
+            mended: None,
+            covered,
+            reached,
+            work: 0,
+        };
+        linted.look(part)?;
+        let Linted {
+            gathered,
+            mended: _,
+            covered: _,
+            reached: _,
+            work: _,
+        } = linted;
+        Ok(gathered.findings)
+    }
+
+    fn look(&mut self, part: Option<&[u8]>) -> Result<(), AllocError> {
+        self.refuse_components()?;
+        self.mended = self.gathered.mended()?;
+        self.open_all()?;
+        if self.gathered.is_empty() {
+            warn(&mut self.gathered, part, &self.reached)?;
+        }
+        Ok(())
+    }
+
+    // The faults of the components of all parts.
+    fn refuse_components(&mut self) -> Result<(), AllocError> {
+        let all = vec![in self.gathered.netlist.alloc; true; self.covered.len()]?;
+        self.gathered.refuse_components(&all)
+    }
+
+    // Opens the parts on top, and then those that none of these reaches.
+    fn open_all(&mut self) -> Result<(), AllocError> {
+        let parts = self.gathered.netlist.parts;
+        let used = used_parts(self.gathered.netlist.alloc, parts)?;
+        for is_top in [true, false] {
+            for (number, part) in parts.list().iter().enumerate() {
+                let seen = if is_top {
+                    used.get(number).copied()
+                } else {
+                    self.covered.get(number).copied()
+                };
+                if seen == Some(false) {
+                    self.open(part)?;
+                }
+            }
+        }
+        Ok(())
+    }
+
+    // Opens a part, unless enough was opened before.
+    fn open(&mut self, part: &Part) -> Result<(), AllocError> {
+        if self.work > MOST_WORK {
+            let unopened = self.gathered.findings.unopened;
+            self.gathered.findings.unopened = unopened.saturating_add(1);
+            return Ok(());
+        }
+        self.cover(&part.name)?;
+        let netlist = self.gathered.netlist;
+        let wired = match &self.mended {
+            Some(mended) => mended.wired(netlist, &part.name),
+            None => Wired::of(netlist.alloc, netlist.parts, &part.name),
+        };
+        match wired {
+            Ok(wired) => self.wire(part, &wired),
+            Err(ElabError::Memory) => Err(AllocError),
+            Err(error @ (ElabError::Recursive(_) | ElabError::TooDeep | ElabError::TooBig)) => {
+                self.gathered.refuse(&part.name, error, None)
+            }
+            // (the faults of components were told before)
+            Err(_) => Ok(()),
+        }
+    }
+
+    fn cover(&mut self, name: &[u8]) -> Result<(), AllocError> {
+        let marks = marks_of(self.gathered.netlist, name)?;
+        for (place, is_reached) in marks.iter().enumerate() {
+            if *is_reached {
+                set(&mut self.covered, place);
+            }
+        }
+        self.work = self.work.saturating_add(marks.len());
+        Ok(())
+    }
+
+    // A part that has components.
+    fn wire(&mut self, part: &Part, wired: &Wired) -> Result<(), AllocError> {
+        self.gathered
+            .refuse_ends(&part.name, wired, self.mended.as_ref())?;
+        let size = wired.comps.len().saturating_add(wired.places.chans().len());
+        self.work = self.work.saturating_add(size);
+        mark_reached(
+            self.gathered.netlist.alloc,
+            &part.ports,
+            wired,
+            &mut self.reached,
+        )
+    }
+}
+
+// For each part whether another one has an instance of it.
+fn used_parts(alloc: Global, parts: &Parts) -> Result<Vec<bool>, AllocError> {
+    let mut used = vec![in alloc; false; parts.list().len()]?;
+    for (user, part) in parts.list().iter().enumerate() {
+        for component in &part.components {
+            match parts.number(&component.name) {
+                Some(number) if number != user => {
+                    set(&mut used, number);
+                }
+                _ => {}
+            }
+        }
+    }
+    Ok(used)
+}

@@ -1,0 +1,139 @@
+//! What is accepted, and likely to be a mistake.
+
+use bz_explain::{Gathered, Marks, marks_of};
+use bz_explain_net::{Head, Netlist};
+use bz_explain_notes::Arg::{self, Bytes, Name};
+use bz_explain_notes::{Draft, Severity};
+use bz_model::Value;
+use bz_text::{Piece, Text};
+use std::alloc::AllocError;
+
+/// What is found at a component that no request can reach.
+const UNREACHED: &str =
+    "found: %, which no request can reach: none that a host makes at a port leads to it";
+
+/// Warns of parts, channels and components of a netlist that has no fault. `part` is the one that is meant to be used, where
+/// one is named, and `reached` are the components that can be asked for something.
+pub(crate) fn warn(
+    gathered: &mut Gathered<'_>,
+    part: Option<&[u8]>,
+    reached: &Marks,
+) -> Result<(), AllocError> {
+    if let Some(part) = part {
+        warn_of_parts(gathered, part)?;
+    }
+    let named = named_chans(gathered.netlist)?;
+    warn_of_channels(gathered, &named)?;
+    warn_of_components(gathered, reached)
+}
+
+// Warns of parts of which the one that is meant to be used has no instance.
+fn warn_of_parts(gathered: &mut Gathered<'_>, asked: &[u8]) -> Result<(), AllocError> {
+    let netlist = gathered.netlist;
+    let marks = marks_of(netlist, asked)?;
+    for (number, is_reached) in marks.iter().enumerate() {
+        if !*is_reached && gathered.has_room() {
+            let mut notes = Draft::on(netlist.alloc, netlist.file);
+            netlist.put_part(&mut notes, number);
+            let found = "found: no instance of it in part %, nor in any part that this one uses";
+            notes.say(found, &[Name(asked)]);
+            add(gathered, b"W1 UnusedPart ", number, None, notes)?;
+        }
+    }
+    Ok(())
+}
+
+// Warns of channels that no entry names.
+fn warn_of_channels(gathered: &mut Gathered<'_>, named: &Marks) -> Result<(), AllocError> {
+    for (number, part) in gathered.netlist.parts.list().iter().enumerate() {
+        let mut ports = part.ports.iter();
+        for position in 1..=part.channels.len() {
+            let (form, name) = match ports.next() {
+                Some(port) => (
+                    "found: port %, which no component of the part is at",
+                    &port.name,
+                ),
+                None => (
+                    "found: a channel that no component of the part is at",
+                    &part.name,
+                ),
+            };
+            if !named.has(number, position) && gathered.has_room() {
+                warn_of(gathered, Head::Channels, number, position, form, Name(name))?;
+            }
+        }
+    }
+    Ok(())
+}
+
+// Warns of components that no request can reach.
+fn warn_of_components(gathered: &mut Gathered<'_>, reached: &Marks) -> Result<(), AllocError> {
+    let parts = gathered.netlist.parts;
+    for (number, part) in parts.list().iter().enumerate() {
+        for (place, component) in part.components.iter().enumerate() {
+            let (position, name) = (place + 1, component.name.as_slice());
+            let is_instance = parts.number(name).is_some();
+            if !is_instance && !reached.has(number, position) && gathered.has_room() {
+                warn_of(
+                    gathered,
+                    Head::Components,
+                    number,
+                    position,
+                    UNREACHED,
+                    Bytes(name),
+                )?;
+            }
+        }
+    }
+    Ok(())
+}
+
+// The channels of each part that its components name.
+fn named_chans(netlist: Netlist<'_>) -> Result<Marks, AllocError> {
+    let mut named = Marks::none(netlist.alloc, netlist.parts, Head::Channels)?;
+    for (number, part) in netlist.parts.list().iter().enumerate() {
+        for component in &part.components {
+            named.set_named(number, component);
+        }
+    }
+    Ok(named)
+}
+
+// Warns of a channel or a component of a part, by what a form says of it.
+fn warn_of(
+    gathered: &mut Gathered<'_>,
+    sort: Head,
+    number: usize,
+    position: usize,
+    form: &str,
+    arg: Arg<'_>,
+) -> Result<(), AllocError> {
+    let netlist = gathered.netlist;
+    let mut notes = Draft::on(netlist.alloc, netlist.file);
+    netlist.put_listed(&mut notes, number, sort, position);
+    notes.say(form, &[arg]);
+    let code: &'static [u8] = match sort {
+        Head::Components => b"W3 Unreached ",
+        _ => b"W2 UnusedChannel ",
+    };
+    add(gathered, code, number, Some(position as Value), notes)
+}
+
+// A warning, by its code and name, and what it is about: a part, or a position there.
+fn add(
+    gathered: &mut Gathered<'_>,
+    code: &'static [u8],
+    number: usize,
+    position: Option<Value>,
+    notes: Draft,
+) -> Result<(), AllocError> {
+    let name = gathered.netlist.name(number);
+    let pieces = [
+        Piece::Bytes(code),
+        Piece::Name(name),
+        Piece::Value(position),
+    ];
+    let mut line = Text::new(gathered.netlist.alloc);
+    line.put_pieces(&pieces);
+    gathered.add(Severity::Warning, line, name, notes)
+}

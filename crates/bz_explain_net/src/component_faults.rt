@@ -1,0 +1,264 @@
+//! Components that are at fault.
+
+use crate::data::Head;
+use crate::kind_words::{
+    is_left_out, operations_of, params_rule, put_counts, put_kind, put_row, put_widths,
+};
+use crate::site::Site;
+use bz_breeze_records::{Part, Parts, Slot};
+use bz_elab::{arranged, array_sizes};
+use bz_explain_notes::Arg::{self, Carried, Count, Name, Number, Port, Text, Wide, Word};
+use bz_explain_notes::Draft;
+use bz_flat::ElabError;
+use bz_kind_rows::{PortAt, kind_names, port_at};
+use bz_model::{Chan, ChanKind, Kind, Param, Port as External};
+use std::alloc::{AllocError, Global};
+
+/// The most of several things that a note lists.
+const MOST_LISTED: usize = 10;
+
+/// The most parts whose names are compared with one that is unknown.
+const MOST_NAMES: usize = 200_000;
+
+/// Tells the nearest name.
+pub const NEAREST: &str = "help: the nearest name is %";
+
+/// What of a channel is not as its port asks.
+#[derive(Clone, Copy)]
+enum Aspect {
+    Kind,
+    Width,
+}
+
+/// The names of the parts.
+pub(crate) fn part_names(alloc: Global, parts: &Parts) -> Result<Vec<&[u8]>, AllocError> {
+    let parts = parts.list().iter();
+    parts.map(|part| part.name.as_slice()).collect(alloc)
+}
+
+/// The names of ports.
+pub fn port_names(alloc: Global, ports: &[External]) -> Result<Vec<&[u8]>, AllocError> {
+    ports.iter().map(|port| port.name.as_slice()).collect(alloc)
+}
+
+// The names of the parts, and behind these those of the kinds.
+fn known_names(alloc: Global, parts: &Parts) -> Result<Vec<&[u8]>, AllocError> {
+    let mut names = part_names(alloc, parts)?;
+    for (name, _) in kind_names() {
+        names.push(name.as_bytes())?;
+    }
+    Ok(names)
+}
+
+impl Site<'_> {
+    /// The notes of a component that is at fault.
+    pub(crate) fn explain(&self, draft: &mut Draft, error: ElabError) {
+        self.netlist
+            .put_listed(draft, self.number, Head::Components, self.position);
+        match error {
+            ElabError::UnknownComponent(_, _) => self.explain_name(draft),
+            ElabError::BadParameter(_, _) => self.explain_params(draft),
+            ElabError::BadChannel(_, _) => self.explain_channel(draft),
+            ElabError::PortCount(_, _) => self.explain_count(draft),
+            ElabError::KindMismatch(_, _) => self.explain_misfit(draft, Aspect::Kind),
+            _ => self.explain_misfit(draft, Aspect::Width),
+        }
+    }
+
+    // A name that is unknown.
+    fn explain_name(&self, draft: &mut Draft) {
+        let name = self.component.name.as_slice();
+        draft.say(
+            "found: the name %\n\
+            expected: a part of this text, or a kind, whose name has $Brz in front",
+            &[Name(name)],
+        );
+        if is_left_out(name) {
+            let left_out = "help: % is a kind of Balsa's that is left out here";
+            draft.say(left_out, &[Name(name)]);
+        } else if self.netlist.parts.list().len() <= MOST_NAMES {
+            let names = draft.gathered(known_names(draft.alloc(), self.netlist.parts));
+            draft.say_nearest(NEAREST, name, &names);
+        }
+    }
+
+    // Parameters that the kind does not take.
+    fn explain_params(&self, draft: &mut Draft) {
+        let params = self.component.params.as_slice();
+        let name = self.component.name.as_slice();
+        draft.put("found: the parameters (", &[]);
+        for (place, param) in params.iter().take(MOST_LISTED).enumerate() {
+            if place > 0 {
+                draft.put(" ", &[]);
+            }
+            put_param(draft, param);
+        }
+        if params.len() > MOST_LISTED {
+            draft.put(" ..", &[]);
+        }
+        let args = [Name(name), Text(params_rule(name))];
+        draft.say(")\nexpected: for % %", &args);
+        let operations = operations_of(name);
+        if let Some(word) = first_word(params) {
+            if !operations.iter().any(|operation| *operation == word) {
+                draft.say_nearest("help: the nearest operation is %", word, operations);
+            }
+        }
+    }
+
+    // An entry that is no channel of the part.
+    fn explain_channel(&self, draft: &mut Draft) {
+        let count = self.part.channels.len();
+        for chan in &self.named(draft) {
+            if self.channel(*chan).is_none() {
+                let part = Name(&self.part.name);
+                let channels = Count(count, "channel", "channels");
+                let args = [Number(*chan as usize), part, channels];
+                draft.say("found: channel %, and part % has %", &args);
+                break;
+            }
+        }
+        draft.say("expected: channels from 1 to %", &[Number(count)]);
+    }
+
+    // More or fewer entries than there are ports, or lists of other lengths.
+    fn explain_count(&self, draft: &mut Draft) {
+        if let Some(inner) = self.inner() {
+            let ports = draft.gathered(port_names(draft.alloc(), &inner.ports));
+            let entries = Count(self.named(draft).len(), "entry", "entries");
+            let args = [
+                entries,
+                Name(&inner.name),
+                Count(ports.len(), "port", "ports"),
+            ];
+            let form = "found: %\nexpected: one for each port of part %, which has %";
+            draft.put(form, &args);
+            draft.put_names(&ports);
+            draft.say("", &[]);
+        } else if let Some(kind) = self.kind(draft) {
+            self.put_lengths(draft);
+            put_row(draft, &kind);
+        }
+    }
+
+    // Tells the numbers of entries, and the lengths of the lists.
+    fn put_lengths(&self, draft: &mut Draft) {
+        let entries = self.component.entries.as_slice();
+        let lists = entries
+            .iter()
+            .filter(|entry| matches!(entry, Slot::Many(_)));
+        draft.put("found: ", &[]);
+        put_counts(draft, entries.len(), lists.count());
+        let mut form = ", of %";
+        for entry in entries {
+            if let Slot::Many(chans) = entry {
+                draft.put(form, &[Count(chans.len(), "channel", "channels")]);
+                form = " and %";
+            }
+        }
+        draft.say("", &[]);
+    }
+
+    // A channel of another kind or width than its port asks for.
+    fn explain_misfit(&self, draft: &mut Draft, aspect: Aspect) {
+        if let Some(inner) = self.inner() {
+            self.explain_instance(draft, inner, aspect);
+        } else if let Some(kind) = self.kind(draft) {
+            let entries = self.component.entries.as_slice();
+            let alloc = draft.alloc();
+            let chans = draft.gathered(arranged(alloc, &kind, &self.part.channels, entries));
+            let sizes = array_sizes(entries).unwrap_or([0, 0]);
+            match aspect {
+                Aspect::Kind => self.explain_kind(draft, &kind, sizes, &chans),
+                Aspect::Width => self.explain_widths(draft, &kind, sizes, &chans),
+            }
+        }
+        self.say_exchange(draft);
+    }
+
+    // The first port of an instance whose channel is not as in its part.
+    fn explain_instance(&self, draft: &mut Draft, inner: &Part, aspect: Aspect) {
+        let named = self.named(draft);
+        let ports = inner.ports.iter().zip(inner.channels.iter());
+        for (number, (port, asked)) in named.iter().zip(ports) {
+            if self.differs(*number, *asked, aspect) {
+                self.put_carried(draft, Name(&port.name), *number);
+                let (form, asked) = match aspect {
+                    Aspect::Kind => ("expected: a % channel", Text(asked.kind.word())),
+                    Aspect::Width => ("expected: %", Count(asked.width as usize, "bit", "bits")),
+                };
+                draft.put(form, &[asked]);
+                draft.say(", as in part %", &[Name(&inner.name)]);
+                break;
+            }
+        }
+    }
+
+    fn differs(&self, number: u32, asked: Chan, aspect: Aspect) -> bool {
+        match (self.channel(number), aspect) {
+            (None, _) => false,
+            (Some(chan), Aspect::Kind) => chan.kind != asked.kind,
+            (Some(chan), Aspect::Width) => chan.width != asked.width,
+        }
+    }
+
+    // The first port of a component of this kind whose channel is of another one. The channels are in the order of the ports.
+    fn explain_kind(&self, draft: &mut Draft, kind: &Kind, sizes: [u32; 2], chans: &[u32]) {
+        for (number, chan) in (1..=u32::MAX).zip(chans.iter()) {
+            let carried = (port_at(kind, sizes, number), self.channel(*chan));
+            if let (Some(port), Some(found)) = carried {
+                if found.kind != port.row.kind {
+                    self.put_carried(draft, Port(port.row.name, port.member), *chan);
+                    return put_kind(draft, kind, port);
+                }
+            }
+        }
+    }
+
+    // The ports that carry values, with their channels and how many bits these have.
+    fn explain_widths(&self, draft: &mut Draft, kind: &Kind, sizes: [u32; 2], chans: &[u32]) {
+        let mut listed = 0usize;
+        for (number, chan) in (1..=u32::MAX).zip(chans.iter()) {
+            let carried = (port_at(kind, sizes, number), self.channel(*chan));
+            if let (Some(PortAt { row, member }), Some(Chan { width, .. })) = carried {
+                if row.kind != ChanKind::Sync && listed < MOST_LISTED {
+                    let before = Text(if listed == 0 { "found: " } else { "; " });
+                    let (name, number) = (Port(row.name, member), Number(*chan as usize));
+                    let bits = Count(width as usize, "bit", "bits");
+                    draft.put("%% is channel %, %", &[before, name, number, bits]);
+                    listed = listed.saturating_add(1);
+                }
+            }
+        }
+        draft.say("", &[]);
+        put_widths(draft, kind);
+    }
+
+    // Tells what a port's channel is and where it stands.
+    fn put_carried(&self, draft: &mut Draft, port: Arg<'_>, number: u32) {
+        if let Some(chan) = self.channel(number) {
+            let place = number as usize;
+            let at = self.netlist.spot_of(self.number, Head::Channels, place);
+            let args = [port, Number(place), Carried(chan), at];
+            draft.say("found: port % is channel %, which is % (%)", &args);
+        }
+    }
+}
+
+fn put_param(draft: &mut Draft, param: &Param) {
+    match param {
+        Param::Num(number) => draft.put("%", &[Wide(*number)]),
+        Param::Flag(true) => draft.put("#t", &[]),
+        Param::Flag(false) => draft.put("#f", &[]),
+        Param::Word(text) => draft.put("\"%\"", &[Word(text)]),
+    }
+}
+
+fn first_word(params: &[Param]) -> Option<&[u8]> {
+    for param in params {
+        if let Param::Word(word) = param {
+            return Some(word.as_slice());
+        }
+    }
+    None
+}

@@ -1,0 +1,72 @@
+//! Parts that have no net.
+
+use crate::component_faults::{NEAREST, part_names};
+use crate::end_faults::explain_ends;
+use crate::site::Netlist;
+use crate::wired::Wired;
+use bz_elab::ElabError;
+use bz_explain_notes::Arg::{Count, Name};
+use bz_explain_notes::Draft;
+
+/// The notes of one reason why a part has no net.
+pub fn explain_refusal(
+    draft: &mut Draft,
+    netlist: Netlist<'_>,
+    asked: &[u8],
+    error: ElabError,
+    wired: Option<&Wired>,
+) {
+    match error {
+        ElabError::NoPart => explain_no_part(draft, netlist, asked),
+        ElabError::Recursive(number) => explain_recursive(draft, netlist, number),
+        ElabError::TwoEnds(chan) | ElabError::LooseEnd(chan) | ElabError::PortSense(chan) => {
+            if let Some(wired) = wired {
+                explain_ends(draft, netlist, wired, error, chan);
+            }
+        }
+        ElabError::UnknownComponent(number, position)
+        | ElabError::BadParameter(number, position)
+        | ElabError::PortCount(number, position)
+        | ElabError::BadChannel(number, position)
+        | ElabError::KindMismatch(number, position)
+        | ElabError::WidthMismatch(number, position) => {
+            if let Some(site) = netlist.site(number, position) {
+                site.explain(draft, error);
+            }
+        }
+        ElabError::TooDeep => draft.say(
+            "found: a path of more than 64 instances, each within the one before\n\
+            expected: at most 64 instances within one another",
+            &[],
+        ),
+        ElabError::TooBig => draft.say(
+            "found: more components, channels or ends than a net may have\n\
+            expected: at most 1000000 components, 2000000 channels and 4000000 ends of components",
+            &[],
+        ),
+        ElabError::Memory => {}
+    }
+}
+
+// No part has the name asked for.
+fn explain_no_part(draft: &mut Draft, netlist: Netlist<'_>, asked: &[u8]) {
+    let names = draft.gathered(part_names(draft.alloc(), netlist.parts));
+    let found = if names.is_empty() {
+        "found: part %\nexpected: the name of a part, of which the text has none"
+    } else {
+        "found: part %\nexpected: one of %"
+    };
+    draft.put(found, &[Name(asked), Count(names.len(), "part", "parts")]);
+    draft.say_names(&names);
+    draft.say_nearest(NEAREST, asked, &names);
+}
+
+// A part that reaches itself.
+fn explain_recursive(draft: &mut Draft, netlist: Netlist<'_>, number: usize) {
+    netlist.put_part(draft, number);
+    draft.say(
+        "found: an instance of part % within itself\n\
+        expected: instances of other parts, which have none of this one within them",
+        &[Name(netlist.name(number))],
+    );
+}

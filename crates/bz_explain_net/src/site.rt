@@ -1,0 +1,191 @@
+//! A netlist that was read, and where its records stand.
+
+use crate::data::{Head, members_of, nth, part_form, part_items};
+use bz_breeze_records::{Component, Part, Parts};
+use bz_elab::flattened;
+use bz_explain_notes::Arg::{self, At, Name, Number, Text};
+use bz_explain_notes::{Draft, Spot, put_source, spot_of};
+use bz_kind_rows::kind_of;
+use bz_model::{Chan, Kind, KindError, Port, numbered};
+use bz_sexpr::{Forms, Span};
+use bz_source::{Label, PartLines};
+use std::alloc::Global;
+
+/// A netlist: its text, the data that this spells, and the parts that these name.
+#[derive(Clone, Copy)]
+pub struct Netlist<'t> {
+    pub alloc: Global,
+    /// The name of its file, if it is one's.
+    pub file: Option<&'t str>,
+    pub text: &'t [u8],
+    pub data: Forms<'t>,
+    pub parts: &'t Parts,
+    /// What the records of each part are called, and where they come from.
+    pub lines: &'t [PartLines],
+}
+
+/// A component of a part.
+#[derive(Clone, Copy)]
+pub struct Site<'t> {
+    pub(crate) netlist: Netlist<'t>,
+    /// The number of its part, from 0.
+    pub(crate) number: usize,
+    pub(crate) part: &'t Part,
+    /// Its position in that part, from 1.
+    pub(crate) position: usize,
+    pub component: &'t Component,
+}
+
+/// Tells where a byte of the text stands: its line and column, then the line itself, and below it a caret with what stands
+/// there, by a form.
+pub fn put_place(draft: &mut Draft, text: &[u8], at: usize, mark: &str, args: &[Arg<'_>]) {
+    put_source(draft, text, at, "");
+    draft.say(mark, args);
+}
+
+impl<'t> Netlist<'t> {
+    fn part(self, number: usize) -> Option<&'t Part> {
+        self.parts.list().get(number)
+    }
+
+    /// The component at a position of a part.
+    pub fn site(self, number: usize, position: usize) -> Option<Site<'t>> {
+        let part = self.part(number)?;
+        let component = part.components.get(position.checked_sub(1)?)?;
+        Some(Site {
+            netlist: self,
+            number,
+            part,
+            position,
+            component,
+        })
+    }
+
+    /// The name of a part.
+    pub fn name(self, number: usize) -> &'t [u8] {
+        match self.part(number) {
+            Some(part) => part.name.as_slice(),
+            None => &[],
+        }
+    }
+
+    /// The external ports of a part.
+    pub fn ports(self, number: usize) -> &'t [Port] {
+        match self.part(number) {
+            Some(part) => part.ports.as_slice(),
+            None => &[],
+        }
+    }
+
+    // The byte at which a part begins.
+    fn byte_of_part(&self, number: usize) -> Option<usize> {
+        Some(part_form(self.data, number)?.span().from)
+    }
+
+    // The bytes of a record of a part.
+    fn span_of(&self, number: usize, head: Head, position: usize) -> Option<Span> {
+        let part = part_items(part_form(self.data, number)?)?;
+        Some(nth(members_of(part, head)?, position)?.span())
+    }
+
+    /// The byte at which a record of a part begins.
+    pub(crate) fn byte_of(&self, number: usize, head: Head, position: usize) -> Option<usize> {
+        Some(self.span_of(number, head, position)?.from)
+    }
+
+    /// Tells where a part stands.
+    pub fn put_part(&self, draft: &mut Draft, number: usize) {
+        if let Some(byte) = self.byte_of_part(number) {
+            put_place(draft, self.text, byte, "part %", &[Name(self.name(number))]);
+        }
+    }
+
+    /// Tells where a record of a part stands, by what it is there.
+    pub fn put_listed(&self, draft: &mut Draft, number: usize, head: Head, position: usize) {
+        let part = Name(self.name(number));
+        let mark = [Text(head.member()), Number(position), part];
+        if let Some(byte) = self.byte_of(number, head, position) {
+            let Label { name, source } = self.label(number, head, position);
+            put_source(draft, self.text, byte, "");
+            draft.put("% %", &mark[..2]);
+            draft.put_label(Label { name, source: None });
+            draft.put(" of part %", &mark[2..]);
+            draft.put_label(Label { name: None, source });
+            draft.say("", &[]);
+        }
+    }
+
+    /// What a record of a part is called, and where it comes from.
+    pub(crate) fn label(&self, number: usize, head: Head, position: usize) -> Label<'_> {
+        let mut label = Label {
+            name: None,
+            source: None,
+        };
+        if let (Some(lines), Some(place)) = (self.lines.get(number), position.checked_sub(1)) {
+            let marks = match head {
+                Head::Channels => lines.labels.channels.get(place),
+                Head::Components => lines.labels.components.get(place),
+                Head::Ports => None,
+            };
+            if let Some(Some(mark)) = marks {
+                label.source = Some(mark.at());
+            }
+            if let (Head::Channels, Some(Some(name))) = (head, lines.labels.names.get(place)) {
+                label.name = Some(name.as_slice());
+            }
+        }
+        label
+    }
+
+    /// Where the part of a name begins, or else the netlist.
+    pub fn spot_of_part(&self, name: &[u8]) -> Spot {
+        let byte = match self.parts.number(name) {
+            Some(number) => self.byte_of_part(number),
+            None => None,
+        };
+        spot_of(self.text, byte.unwrap_or(0))
+    }
+
+    /// The line and column of a record.
+    pub(crate) fn spot_of(&self, number: usize, head: Head, position: usize) -> Arg<'static> {
+        At(match self.byte_of(number, head, position) {
+            Some(byte) => Some(spot_of(self.text, byte)),
+            None => None,
+        })
+    }
+}
+
+impl<'t> Site<'t> {
+    /// The bytes of its record.
+    pub fn span(self) -> Option<Span> {
+        self.netlist
+            .span_of(self.number, Head::Components, self.position)
+    }
+
+    /// The part that it is an instance of.
+    pub fn inner(self) -> Option<&'t Part> {
+        self.netlist.parts.find(&self.component.name)
+    }
+
+    /// Its kind, where its name and parameters are those of one.
+    pub(crate) fn kind(&self, draft: &mut Draft) -> Option<Kind> {
+        match kind_of(draft.alloc(), &self.component.name, &self.component.params) {
+            Ok(kind) => Some(kind),
+            Err(KindError::Memory) => {
+                draft.fail();
+                None
+            }
+            Err(_) => None,
+        }
+    }
+
+    /// All channels that its entries name, in order.
+    pub(crate) fn named(&self, draft: &mut Draft) -> Vec<u32> {
+        draft.gathered(flattened(draft.alloc(), &self.component.entries))
+    }
+
+    /// The channel of its part of a number, from 1.
+    pub(crate) fn channel(&self, number: u32) -> Option<Chan> {
+        numbered(&self.part.channels, number).copied()
+    }
+}

@@ -1,0 +1,18 @@
+-- The value on a channel: what rides there in each phase, and which moves take it.
+use Rattle.std.specs.Prelude.{ℕ, Option, None}
+use Rattle.bz_model.specs.declared.channel.Move.{Move}
+use Rattle.bz_model.specs.declared.channel.Move.TheVariants.{Ask, Take, Reply, Got}
+use Rattle.bz_model.specs.declared.channel.Phase.{Phase}
+use Rattle.bz_model.specs.declared.channel.Phase.TheVariants.{Asked, Replied}
+
+abbrev pub riding : Phase → Option ℕ
+riding (Asked v) = v
+riding (Replied v) = v
+riding phase = None
+
+-- what a move takes of what rides
+abbrev pub taken : Move → Option ℕ → Option ℕ
+taken Ask v = None
+taken Take v = v
+taken Reply v = None
+taken Got v = v

@@ -1,0 +1,127 @@
+//! Which components of a net can move, as the core keeps it.
+
+ghost use Rattle.std.specs.Prelude.{◌≡◌, ◌+◌, ◌<◌, ◌≤◌, ◌^◌, true, false, length, replicate, slice_index_or, slice_set, IfOk};
+ghost use Rattle.bz_ready.specs.Set.{IsNextFrom};
+
+use bz_bits::SummedRow;
+use bz_ready::ReadySet;
+use std::alloc::{AllocError, Global};
+use std::marker::Model;
+
+/// How a core keeps which components can move: listed by place too, as a net with a journal has them, or as a row of bits
+/// alone.
+#[derive(Clone, Copy)]
+pub(crate) enum Keeping {
+    Listed,
+    Marked,
+}
+
+#[derive(Drop)]
+pub(crate) enum KeptReady {
+    Listed(ReadySet),
+    Marked(SummedRow),
+}
+
+/// A bit for each component, and one for the number 0, that tells whether it can move. Only `new` takes memory.
+pub(crate) struct ReadyRow {
+    kept: KeptReady,
+}
+
+impl Drop for ReadyRow {
+    fn drop(self) {
+        let ReadyRow { kept: _ } = self;
+    }
+}
+
+impl Model for ReadyRow {
+    ghost use Rattle.std.specs.Prelude.{List, Bool};
+    ghost use Rattle.bz_net.specs.ReadyRow.{bits_of};
+
+    ghost Value = { List Bool };
+
+    ghost view = { λ r. bits_of r.kept };
+
+    ghost use Rattle.std.specs.Prelude.{◌≤◌, ◌^◌, length};
+
+    ghost invariant = { λ r. length (bits_of r.kept) ≤ 2 ^ 32 };
+}
+
+impl ReadyRow {
+    /// None can move, of the components up to `limit`.
+    pub(crate) fn new(alloc: Global, limit: u32, keeping: Keeping) -> Result<ReadyRow, AllocError>
+        requires { limit + 1 < 2 ^ 32 }
+        ensures { IfOk result (λ r. r ≡ replicate (limit + 1) false) }
+    {
+        let kept = match keeping {
+            Keeping::Listed => KeptReady::Listed(ReadySet::new(alloc, limit)?),
+            Keeping::Marked => KeptReady::Marked(SummedRow::new(alloc, limit as usize + 1)?),
+        };
+        Ok(ReadyRow { kept })
+    }
+
+    /// How it is kept.
+    pub(crate) fn keeping(&self) -> Keeping {
+        match &self.kept {
+            KeptReady::Listed(_) => Keeping::Listed,
+            KeptReady::Marked(_) => Keeping::Marked,
+        }
+    }
+
+    pub(crate) fn contains(&self, comp: u32) -> bool
+        requires { comp < length self.now }
+        ensures { result ≡ slice_index_or self.now comp false }
+    {
+        match &self.kept {
+            KeptReady::Listed(set) => set.contains(comp),
+            KeptReady::Marked(row) => row.get(comp as usize),
+        }
+    }
+
+    #[inline(always)]
+    pub(crate) fn insert(&mut self, comp: u32)
+        requires { comp < length self.old }
+        ensures { self.new ≡ slice_set self.old comp true }
+    {
+        match &mut self.kept {
+            KeptReady::Listed(set) => set.insert(comp),
+            KeptReady::Marked(row) => row.set(comp as usize, true),
+        }
+    }
+
+    #[inline(always)]
+    pub(crate) fn remove(&mut self, comp: u32)
+        requires { comp < length self.old }
+        ensures { self.new ≡ slice_set self.old comp false }
+    {
+        match &mut self.kept {
+            KeptReady::Listed(set) => set.remove(comp),
+            KeptReady::Marked(row) => row.set(comp as usize, false),
+        }
+    }
+
+    /// The least that can move at or above `from`, else the least of all.
+    pub(crate) fn next_from(&self, from: u32) -> Option<u32>
+        ensures { IsNextFrom self.now from result }
+    {
+        match &self.kept {
+            KeptReady::Listed(set) => set.next_from(from),
+            KeptReady::Marked(row) => next_in(row, from),
+        }
+    }
+}
+
+// The place of the first 1 from a place on, else of the first of all.
+#[inline(always)]
+#[tactic(auto, using(bz_ready::proofs::Nexts::above, bz_ready::proofs::Nexts::around))]
+fn next_in(row: &SummedRow, from: u32) -> Option<u32>
+    requires { length row.now ≤ 2 ^ 32 }
+    ensures { IsNextFrom row.now from result }
+{
+    if let Some(place) = row.next_from(from as usize) {
+        return Some(place as u32);
+    }
+    match row.next_from(0) {
+        Some(place) => Some(place as u32),
+        None => None,
+    }
+}

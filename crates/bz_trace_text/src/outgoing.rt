@@ -1,0 +1,94 @@
+//! The lines of a run, composed as they come.
+
+ghost use Rattle.std.specs.Prelude.{◌≡◌, ◌+◌, ◌≤◌, ◌++◌, ℕ, List, [], Option, length};
+ghost use Rattle.bz_model.specs.Traces.{fired_text, rested_text};
+ghost use Rattle.bz_trace_text.specs.Writing.{GoneBut, IsGone};
+
+use crate::page::Page;
+use crate::trace::{add_fired, add_rested};
+use bz_model::{Move, Value, Who};
+use std::io::Write;
+
+/// Lines of a trace on a page that goes out when it is full, and whether the writer has failed: then nothing more goes out.
+#[derive(Drop)]
+pub struct Outgoing {
+    page: Page,
+    failed: bool,
+}
+
+impl Outgoing {
+    /// No line yet, for a writer that has failed before or has not.
+    #[inline(always)]
+    pub fn new(failed: bool) -> Outgoing
+        ensures { (start now : Option (List ℕ)) (text : List ℕ) →
+            GoneBut start now failed [] text → IsGone start now result text }
+    {
+        Outgoing {
+            page: Page::new(),
+            failed,
+        }
+    }
+
+    /// Composes the line of a firing.
+    #[inline(always)]
+    pub fn fired<W: Write>(
+        &mut self,
+        out: &mut W,
+        who: Who,
+        comp: u32,
+        mv: Move,
+        chan: u32,
+        value: Option<Value>,
+    )
+        ensures { (start : Option (List ℕ)) (text : List ℕ) → IsGone start (W.contents out.old) self.old text →
+            IsGone start (W.contents out.new) self.new (text ++ fired_text who comp mv chan value) }
+    {
+        self.make_room(out);
+        add_fired(&mut self.page, who, comp, mv, chan, value);
+    }
+
+    /// Composes the line that tells of rest.
+    pub fn rested<W: Write>(&mut self, out: &mut W, who: Who)
+        ensures { (start : Option (List ℕ)) (text : List ℕ) → IsGone start (W.contents out.old) self.old text →
+            IsGone start (W.contents out.new) self.new (text ++ rested_text who) }
+    {
+        self.make_room(out);
+        add_rested(&mut self.page, who);
+    }
+
+    /// Lets what waits go out. Whether the writer has failed, now or before.
+    pub fn finish<W: Write>(&mut self, out: &mut W) -> bool
+        ensures { (start : Option (List ℕ)) (text : List ℕ) → IsGone start (W.contents out.old) self.old text →
+            GoneBut start (W.contents out.new) result [] text }
+    {
+        self.put(out);
+        // (where it failed, nothing waits)
+        self.failed
+    }
+
+    // Makes room for a line, where there is too little.
+    #[inline(always)]
+    fn make_room<W: Write>(&mut self, out: &mut W)
+        ensures gone { (start : Option (List ℕ)) (text : List ℕ) →
+            IsGone start (W.contents out.old) self.old text → IsGone start (W.contents out.new) self.new text }
+        ensures room { length self.new.page + 96 ≤ 8192 }
+    {
+        if !self.page.has_room() {
+            self.put(out);
+        }
+    }
+
+    // Lets the page go out.
+    #[inline(never)]
+    fn put<W: Write>(&mut self, out: &mut W)
+        ensures gone { (start : Option (List ℕ)) (text : List ℕ) →
+            IsGone start (W.contents out.old) self.old text → IsGone start (W.contents out.new) self.new text }
+        ensures empty { self.new.page ≡ [] }
+    {
+        if self.failed {
+            self.page = Page::new();
+        } else {
+            self.failed = self.page.put(out).is_err();
+        }
+    }
+}
