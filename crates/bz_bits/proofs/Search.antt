@@ -94,3 +94,21 @@ sums_none n m room small = record {
 } where
   get_or_none : (n i : ℕ) → get_or (replicate n false) i false ≡ false
   get_or_none n i = elim (cases_lt i n) [ inl lt ↦ get_or-replicate n i false false lt | inr ge ↦ get_or_past (replicate n false) i false (omega (arith, length-replicate n false)) ]
+
+-- the word of a bit that was raised has a 1
+pub raised_one : (xs : List Bool) (k : ℕ) → k < length xs → HasOne (set xs k true) (k / 64) true
+raised_one xs k lt = (k, refl, get_or-set_same xs k true false lt)
+
+-- where a word still has a 1 after a bit was lowered, the row above told of one
+pub lowered_told : (xs ys : List Bool) → Sums xs ys → (k at : ℕ) → k < length xs → HasOne (set xs k false) at true → get_or ys at false ≡ true
+lowered_told xs ys s k at lt (j, e, is) = by_told (get_or ys at false) (s.told at)
+  where
+    apart : j ≢ k
+    apart same = true≢false (sym is ∙ ap (λ (i : ℕ). get_or (set xs k false) i false) same ∙ get_or-set_same xs k false false lt)
+
+    was : get_or xs j false ≡ true
+    was = sym (get_or-set_other xs k j false false apart) ∙ is
+
+    by_told : (b : Bool) → HasOne xs at b → b ≡ true
+    by_told true has = refl
+    by_told false has = absurd (true≢false (sym was ∙ has j e))

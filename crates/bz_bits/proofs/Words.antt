@@ -328,3 +328,16 @@ module _ (ws vs : List ℕ) (port v : ℕ) (b : ℕ) (is : vs ≡ set ws (port /
 pub mask_with : (v w m b n : ℕ) → ((i : ℕ) → i < 64 → bit_at v i ≡ (if bit_at m i == 1 then b else bit_at w i)) → ((i : ℕ) → i < 64 → (bit_at m i == 1) ≡ between n (n + 1) i) → (u : ℕ) → w ≡ u → (i : ℕ) → i < 64 → bit_at v i ≡ (if between n (n + 1) i then b else bit_at u i)
 mask_with v w m b n bits masks u is i lt =
     bits i lt ∙ ap (λ (c : Bool). if c then b else bit_at w i) (masks i lt) ∙ ap (λ (x : ℕ). if between n (n + 1) i then b else bit_at x i) is
+
+-- a number of two bits is 2 or 3 where its higher bit is 1
+high_is : (low high : ℕ) → low < 2 → high < 2 → (high == 1) ≡ nat_le 2 (low + 2 * high)
+high_is zero zero l h = refl
+high_is zero (suc zero) l h = refl
+high_is (suc zero) zero l h = refl
+high_is (suc zero) (suc zero) l h = refl
+high_is (suc (suc low)) high l h = absurd (omega (arith, l))
+high_is zero (suc (suc high)) l h = absurd (omega (arith, h))
+high_is (suc zero) (suc (suc high)) l h = absurd (omega (arith, h))
+
+pub number_high : (w : PortWord) (i : ℕ) → (bit_at w.opened i == 1) ≡ nat_le 2 (number_in w i)
+number_high w i = high_is (bit_at w.due i) (bit_at w.opened i) (bit_at-lt w.due i) (bit_at-lt w.opened i)

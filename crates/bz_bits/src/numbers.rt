@@ -1,5 +1,5 @@
 //! The numbers of a component's ports, two bits each, of which the first 64 take no memory of their own.
-ghost use Rattle.std.specs.Prelude.{◌≡◌, ◌≢◌, ◌⊎◌, ◌+◌, ◌*◌, ◌/◌, ◌<◌, ◌≤◌, ◌∷◌, ℕ, length, replicate, slice_index, slice_index_or, slice_set, take, if◌then◌else◌, All, IfOk};
+ghost use Rattle.std.specs.Prelude.{◌≡◌, ◌≢◌, ◌⊎◌, ◌+◌, ◌*◌, ◌/◌, ◌<◌, ◌≤◌, ◌∷◌, ℕ, length, replicate, slice_index, slice_index_or, slice_set, take, nat_le, if◌then◌else◌, All, IfOk};
 ghost use Rattle.bz_bits.specs.PortWords.{between, no_ports, number_at, number_in, HasOdd, IsEven};
 
 use crate::word::{NO_PORTS, PortWord, one_place, places};
@@ -57,10 +57,19 @@ impl<A: Allocator + Copy> PortNumbers<A> {
     }
 
     /// The number of a port, 0 where there is no such port.
+    #[inline(always)]
     pub fn get(&self, port: usize) -> u8
         ensures { result ≡ slice_index self.now port }
     {
         word_at(&self.first, &self.more, port / 64).number(port % 64)
+    }
+
+    /// Whether the number of a port is 2 or 3.
+    #[inline(always)]
+    pub fn is_high(&self, port: usize) -> bool
+        ensures { result ≡ nat_le 2 (slice_index self.now port) }
+    {
+        word_at(&self.first, &self.more, port / 64).is_high(port % 64)
     }
 
     /// The numbers of 64 ports, 0 where there is no such port.
@@ -85,6 +94,7 @@ impl<A: Allocator + Copy> PortNumbers<A> {
     }
 
     /// Gives a port a number; nothing where there is no such port.
+    #[inline(always)]
     pub fn set(&mut self, port: usize, number: u8)
         requires { number < 4 }
         ensures { self.new ≡ slice_set self.old port number }
@@ -123,6 +133,7 @@ fn count_even(words: &[PortWord]) -> usize
 }
 
 // The word at a place, without ports where there is no such word.
+#[inline(always)]
 fn word_at(first: &PortWord, more: &[PortWord], at: usize) -> PortWord
     ensures { result ≡ slice_index_or (first.now ∷ more.now) at no_ports }
 {
@@ -136,6 +147,7 @@ fn word_at(first: &PortWord, more: &[PortWord], at: usize) -> PortWord
 }
 
 #[tactic(auto, using(crate::proofs::Words::set_tail, crate::proofs::Words::set_past))]
+#[inline(always)]
 fn put_word(first: &mut PortWord, more: &mut [PortWord], at: usize, word: PortWord)
     ensures { first.new ∷ more.new ≡ slice_set (first.old ∷ more.old) at word }
 {
@@ -146,6 +158,7 @@ fn put_word(first: &mut PortWord, more: &mut [PortWord], at: usize, word: PortWo
     }
 }
 
+#[inline(always)]
 fn fill_one(first: &mut PortWord, more: &mut [PortWord], port: usize, number: u8)
     requires number { number < 4 }
     requires fits { port < 64 * length (first.old ∷ more.old) }

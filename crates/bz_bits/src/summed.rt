@@ -1,6 +1,6 @@
 //! A row of bits that can be searched without reading all its words.
-ghost use Rattle.std.specs.Prelude.{◌≡◌, ◌<◌, false, length, replicate, slice_index_or, slice_set, IfOk};
-ghost use Rattle.bz_bits.specs.Row.{IsNext, Sums};
+ghost use Rattle.std.specs.Prelude.{◌≡◌, ◌<◌, true, false, None, length, replicate, slice_index_or, slice_set, IfOk};
+ghost use Rattle.bz_bits.specs.Row.{IsNext, IsNextInWord, Sums};
 
 use crate::row::BitRow;
 use std::alloc::{AllocError, Allocator, Global};
@@ -50,28 +50,64 @@ impl<A: Allocator + Copy> SummedRow<A> {
         self.row.get(place)
     }
 
-    #[inline(always)]
     pub fn set(&mut self, place: usize, bit: bool)
         requires { place < length self.old }
         ensures { self.new ≡ slice_set self.old place bit }
     {
-        self.row.set(place, bit);
+        if bit {
+            self.raise(place);
+        } else {
+            self.lower(place);
+        }
+    }
+
+    #[inline(always)]
+    pub fn raise(&mut self, place: usize)
+        requires { place < length self.old }
+        ensures { self.new ≡ slice_set self.old place true }
+    {
+        self.row.raise(place);
         let word = place / 64;
-        let has_one = self.row.has_one(place);
-        if self.words.get(word) == has_one {
+        if !self.words.get(word) {
+            self.words.raise(word);
+            self.blocks.raise(word / 64);
+        }
+    }
+
+    #[inline(always)]
+    pub fn lower(&mut self, place: usize)
+        requires { place < length self.old }
+        ensures { self.new ≡ slice_set self.old place false }
+    {
+        self.row.lower(place);
+        if self.row.has_one(place) {
             return;
         }
-        self.words.set(word, has_one);
-        self.blocks.set(word / 64, self.words.has_one(word));
+        let word = place / 64;
+        self.words.lower(word);
+        if self.words.has_one(word) {
+            return;
+        }
+        self.blocks.lower(word / 64);
     }
 
     /// The first place at or above `from` whose bit is 1.
+    #[inline(always)]
     pub fn next_from(&self, from: usize) -> Option<usize>
         ensures { IsNext self.now from result }
     {
         if let Some(place) = self.row.next_in_word(from) {
             return Some(place);
         }
+        self.next_beyond(from)
+    }
+
+    // The same where its own word has none.
+    #[inline(never)]
+    fn next_beyond(&self, from: usize) -> Option<usize>
+        requires { IsNextInWord self.now from None }
+        ensures { IsNext self.now from result }
+    {
         match next_word(&self.words, &self.blocks, from / 64 + 1) {
             Some(word) => self.row.next_in_word(64 * word),
             None => None,

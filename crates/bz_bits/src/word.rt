@@ -24,6 +24,14 @@ impl PortWord {
         ((self.due >> place) & 1) as u8 + 2 * ((self.opened >> place) & 1) as u8
     }
 
+    /// Whether the number of the port in a place is 2 or 3.
+    pub(crate) fn is_high(self, place: usize) -> bool
+        requires { place < 64 }
+        ensures { result ≡ nat_le 2 (number_in self place) }
+    {
+        has_bit(self.opened, place)
+    }
+
     /// The same but for the ports of `mask`, which all get this number.
     pub(crate) fn filled(self, mask: u64, number: u8) -> PortWord
         requires { number < 4 }
@@ -48,6 +56,13 @@ fn ready_ports(due: u64, opened: u64, passive: u64, here: u64) -> u64
     ensures { (i : ℕ) → i < 64 → (bit_at result i == 1) ≡ goes (bit_at due i == 1) (bit_at opened i == 1) (bit_at passive i == 1) (bit_at here i == 1) }
 {
     due & (here | !(passive ^ opened))
+}
+
+fn has_bit(word: u64, place: usize) -> bool
+    requires { place < 64 }
+    ensures { result ≡ (bit_at word place == 1) }
+{
+    (word >> place) & 1 == 1
 }
 
 /// Gives the places of `mask` one bit.

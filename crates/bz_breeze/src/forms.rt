@@ -1,6 +1,6 @@
 //! The members of a part's lists.
 
-ghost use Rattle.std.specs.Prelude.{◌≡◌, map, IfOk, IfErr, Ok, Some};
+ghost use Rattle.std.specs.Prelude.{◌≡◌, ◌∷◌, map, IfOk, IfErr, Ok, Some};
 ghost use Rattle.std.specs.List.{filter_map};
 ghost use Rattle.std.specs.Option.{option_map};
 ghost use Rattle.bz_model.specs.Names.{external};
@@ -22,18 +22,27 @@ use std::alloc::{AllocError, Global};
 pub(crate) fn inside(form: Form<'_>) -> Option<Forms<'_>>
     ensures { option_map forms_view result ≡ inside (form_view form.entry) }
 {
-    match form.shape() {
-        Shape::Items(items) => Some(items),
-        _ => None,
-    }
+    form.items()
 }
 
 /// The symbol at the head of a list, and what follows it.
+#[tactic(auto, using(crate::proofs::Heads::headed_by_word))]
 #[inline(always)]
 pub(crate) fn headed(items: Forms<'_>) -> Option<(&[u8], Forms<'_>)>
     ensures { option_map (λ p. (p.0.now, forms_view p.1)) result ≡ head_and_rest (forms_view items.entry) }
 {
     let (first, rest) = items.split_first()?;
+    match first.word() {
+        Some(head) => Some((head, rest)),
+        None => headed_by(first, rest),
+    }
+}
+
+/// The same, whatever the first datum is.
+#[inline(never)]
+fn headed_by<'d>(first: Form<'d>, rest: Forms<'d>) -> Option<(&'d [u8], Forms<'d>)>
+    ensures { option_map (λ p. (p.0.now, forms_view p.1)) result ≡ head_and_rest (form_view first.entry ∷ forms_view rest.entry) }
+{
     match first.shape() {
         Shape::Leaf(Leaf::Symbol(head)) => Some((head, rest)),
         _ => None,
@@ -213,8 +222,20 @@ fn params(alloc: Global, list: Forms<'_>) -> Result<Vec<Param>, AllocError>
 }
 
 /// The number of a channel.
+#[tactic(auto, using(crate::proofs::Heads::number_is))]
 #[inline(always)]
 fn number(form: Form<'_>) -> Result<u32, Code>
+    ensures { result ≡ number (form_view form.entry) }
+{
+    match form.short_number() {
+        Some(n) => Ok(n),
+        None => long_number(form),
+    }
+}
+
+/// The same, whatever its length.
+#[inline(never)]
+fn long_number(form: Form<'_>) -> Result<u32, Code>
     ensures { result ≡ number (form_view form.entry) }
 {
     match form.shape() {

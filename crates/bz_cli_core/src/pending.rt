@@ -91,5 +91,8 @@ fn put_piece<W: Write>(failed: bool, names: &Names, entries: &[Entry], out: &mut
     if failed {
         return true;
     }
+    if entries.is_empty() {
+        return false;
+    }
     put_entries(out, names, entries).is_err()
 }

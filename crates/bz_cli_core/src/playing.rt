@@ -28,6 +28,7 @@ pub(crate) fn play_out<W: Write>(
     play: &mut Play,
     cmds: &[Cmd],
     pending: &mut Pending,
+    lines: &mut Outgoing,
     out: &mut W,
 ) -> Result<(), Stop>
     requires told { IsToldBy play.old [] }
@@ -36,7 +37,7 @@ pub(crate) fn play_out<W: Write>(
     ensures memory { IfErr result (λ stop. stop.error ≢ NetError.Memory) }
 {
     for (place, cmd) in cmds.iter().enumerate() {
-        match word_out(play, cmd, pending, out) {
+        match word_out(play, cmd, pending, lines, out) {
             Ok(()) => {}
             Err(error) => {
                 return Err(Stop {
@@ -54,6 +55,7 @@ fn word_out<W: Write>(
     play: &mut Play,
     cmd: &Cmd,
     pending: &mut Pending,
+    lines: &mut Outgoing,
     out: &mut W,
 ) -> Result<(), NetError>
     requires { 0 < vec_capacity pending.old.entries }
@@ -64,7 +66,7 @@ fn word_out<W: Write>(
 {
     match cmd {
         Cmd::Host(cmd) => command_out(play, cmd, pending, out),
-        Cmd::Run(fuel) => match run_out(play, *fuel, pending, out) {
+        Cmd::Run(fuel) => match run_out(play, *fuel, pending, lines, out) {
             RunEnd::Rest(_) => Ok(()),
             RunEnd::Spent(_) => Ok(()),
             RunEnd::Refused(_, error) => Err(error),
@@ -96,13 +98,19 @@ fn command_out<W: Write>(
 }
 
 // Fires so many times, or until no component can move. The lines go out as they come, behind those of the entries so far.
-fn run_out<W: Write>(play: &mut Play, fuel: u64, pending: &mut Pending, out: &mut W) -> RunEnd
+fn run_out<W: Write>(
+    play: &mut Play,
+    fuel: u64,
+    pending: &mut Pending,
+    lines: &mut Outgoing,
+    out: &mut W,
+) -> RunEnd
     ensures goes { GoesOut play.old play.new (W.contents out.old) pending.old (W.contents out.new) pending.new (λ old new. Ran old new (who.Worker 1) 1 fuel result) }
     ensures room { vec_capacity pending.old.entries ≤ vec_capacity pending.new.entries }
 {
     pending.put(play.names(), out);
-    let mut lines = Outgoing::new(pending.failed);
-    let end = fire_out(play, fuel, &mut lines, out);
+    lines.begin(pending.failed);
+    let end = fire_out(play, fuel, lines, out);
     pending.failed = lines.finish(out);
     end
 }

@@ -16,6 +16,7 @@ use bz_model::{Cmd, Entry, Names, NetError};
 use bz_net::Play;
 use bz_text::WriteFault;
 use bz_trace::write_trace;
+use bz_trace_text::Outgoing;
 use bz_words::command;
 use std::alloc::Global;
 use std::io::{Read, Write};
@@ -80,16 +81,20 @@ fn play_text<W: Write>(
 {
     let buffer = Vec::with_capacity(alloc, room)?;
     let flat = flat_of_input(alloc, part, text)?;
+    // Lines tell components and channels by number.
+    let numbers = flat.chan_count().max(flat.comp_count()) as usize + 1;
+    let mut lines = Outgoing::new(alloc, numbers, false);
     let Ok(play) = Play::open(alloc, flat, journal) else {
         return Err(Fault::Memory);
     };
-    play_net(play, buffer, cmds, output)
+    play_net(play, buffer, &mut lines, cmds, output)
 }
 
 // Plays the commands on a net that was just opened, and writes the trace through a buffer.
 fn play_net<W: Write>(
     mut play: Play,
     buffer: Vec<Entry>,
+    lines: &mut Outgoing,
     cmds: &[Cmd],
     output: &mut W,
 ) -> Result<(), Fault>
@@ -100,7 +105,7 @@ fn play_net<W: Write>(
     ensures memory { IfErr result (λ fault. fault ≢ Fault.Memory) }
 {
     let mut pending = Pending::begin(buffer, output);
-    let played = play_out(&mut play, cmds, &mut pending, output);
+    let played = play_out(&mut play, cmds, &mut pending, lines, output);
     pending.finish(play.names(), play.clashes(), output)?;
     match played {
         Ok(()) => Ok(()),

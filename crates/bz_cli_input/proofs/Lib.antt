@@ -4,3 +4,5 @@ pub mod Outcomes
 pub mod Opened
 pub mod Lines
 pub mod ShortWords
+pub mod Marked
+mod Users

@@ -1,5 +1,5 @@
 -- Numbered lines, written one after another.
-use Rattle.std.proofs.Common.{◌≡◌, ℕ, zero, suc, ◌+◌, ◌<◌, ◌≤◌, Result, List, [], ◌∷◌, ◌++◌, Option, map, length, take, drop, get_or, take-append-drop, drop-cons, append_assoc, append-nil, refl, sym, ap, ◌∙◌, subst, arith}
+use Rattle.std.proofs.Common.{◌≡◌, ℕ, suc, ◌+◌, ◌<◌, ◌≤◌, Result, List, [], ◌∷◌, ◌++◌, Option, map, length, take, drop, get_or, take-append-drop, drop-cons, append_assoc, append-nil, sym, ap, ◌∙◌, subst, arith}
 use Rattle.std.proofs.lemmas.List.{take_all, take_more, length-map, map-append, map_push, length-take-le}
 use Rattle.std.specs.Io.KnownBytes.{Appends}
 use Rattle.bz_text.specs.Writing.{AppendsFront, Writes}

@@ -5,3 +5,5 @@ pub mod Stopping
 pub mod Opening
 pub mod Listing
 pub mod Listed
+pub mod Uses
+pub mod Marking

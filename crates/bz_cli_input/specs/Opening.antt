@@ -2,7 +2,7 @@
 use Rattle.std.specs.Prelude.{◌≡◌, ℕ, List, map, Option, Some, None, unwrap_or, slice_get, option_and_then, Ok, Err, MatchOption, ⊤}
 use Rattle.std.specs.Option.{option_map}
 use Rattle.bz_sexpr.specs.Data.{Datum}
-use Rattle.bz_sexpr.specs.Spelling.{Outcome, data_are, ComesTo}
+use Rattle.bz_sexpr.specs.Spelling.{data_are, ComesTo}
 use Rattle.bz_sexpr.specs.Views.{outcome_of}
 use Rattle.bz_breeze_records.specs.declared.part.Part.{Part}
 use Rattle.bz_breeze_records.specs.Records.{part_record}

@@ -80,8 +80,8 @@ pub fn put_ports<W: Write>(
     Ok(())
 }
 
-// The channel at a place, one without width where there is none.
-fn chan_at(chans: &Arena<Chan>, place: usize) -> Chan
+/// The channel at a place, counted from 0; one without width where there is none.
+pub fn chan_at(chans: &Arena<Chan>, place: usize) -> Chan
     ensures { result ≡ chan_in chans.now (place + 1) }
 {
     if place < chans.len() {

@@ -2,7 +2,7 @@
 
 use bz_breeze::parts_of;
 use bz_breeze_records::Parts;
-use bz_cli_input::Fault;
+use bz_cli_input::{Fault, used_by_others};
 use bz_model::Value;
 use bz_sexpr::read_forest;
 use bz_text::{Piece, WriteFault, put_pieces};
@@ -20,28 +20,8 @@ const SEVERAL_TOPS: &[u8] = b"error: --part is missing, and no other part uses a
 pub fn tops_of(alloc: Global, netlist: &[u8]) -> Result<Vec<Vec<u8>>, Fault> {
     let forest = read_forest(alloc, netlist)?;
     let parts = parts_of(alloc, forest.forms())?;
-    let used = used_parts(alloc, &parts)?;
+    let used = used_by_others(alloc, &parts)?;
     Ok(names_of(alloc, &parts, used.as_slice())?)
-}
-
-// For each part whether another one has an instance of it.
-fn used_parts(alloc: Global, parts: &Parts) -> Result<Vec<bool>, AllocError> {
-    let mut used = vec![in alloc; false; parts.list().len()]?;
-    for (user, part) in parts.list().iter().enumerate() {
-        for component in &part.components {
-            match parts.number(component.name.as_slice()) {
-                Some(number) if number != user => mark(&mut used, number),
-                _ => {}
-            }
-        }
-    }
-    Ok(used)
-}
-
-fn mark(used: &mut Vec<bool>, number: usize) {
-    if let Some(place) = used.get_mut(number) {
-        *place = true;
-    }
 }
 
 fn names_of(alloc: Global, parts: &Parts, used: &[bool]) -> Result<Vec<Vec<u8>>, AllocError> {

@@ -2,4 +2,3 @@ pub mod Surveys
 pub mod Listing
 pub mod Listed
 pub mod PartLists
-pub mod Marking

@@ -1,11 +1,10 @@
 -- What the command `parts` reads and writes: of each part what its own record has, in the order of the text.
-use Rattle.std.specs.Prelude.{◌≡◌, ℕ, ◌-◌, ◌==◌, ◌≤◌, ◌⊎◌, Bool, true, false, List, ◌++◌, length, map, codes, decimal, count_by, is_some, slice_get, Option, None, Some, Result, Ok, Err}
+use Rattle.std.specs.Prelude.{◌≡◌, ℕ, ◌-◌, ◌≤◌, ◌⊎◌, Bool, true, false, List, ◌++◌, length, map, codes, decimal, count_by, is_some, slice_get, Option, None, Some, Result, Ok, Err}
 use Rattle.std.specs.List.{list_any}
 use Rattle.std.specs.Io.KnownBytes.{Appends, Keeps}
 use Rattle.bz_sexpr.specs.Data.{Datum}
 use Rattle.bz_sexpr.specs.Spelling.{ComesTo, data_are}
 use Rattle.bz_breeze_records.specs.declared.part.Part.{Part}
-use Rattle.bz_breeze_records.specs.declared.part.Component.{Component}
 use Rattle.bz_breeze_records.specs.Parts.{number_named}
 use Rattle.bz_breeze_records.specs.Records.{part_record}
 use Rattle.bz_breeze.specs.Parts.{parts}
@@ -20,16 +19,9 @@ use Rattle.bz_cli_input.specs.Limits.{input_limit}
 use Rattle.bz_cli_input.specs.Listing.{lines, ports_text}
 use Rattle.bz_cli_input.specs.Opening.{RefusesText}
 use Rattle.bz_cli_input.specs.Stopping.{AppendsSome, StopsAtInput}
+use Rattle.bz_cli_input.specs.Uses.{has_instance_of}
 
--- a component is an instance of part n, counted from 0
-abbrev pub is_instance_of : List Part → ℕ → Component → Bool
-is_instance_of listed n c = elim (number_named listed c.name.items) [ None ↦ false | Some k ↦ k == n ]
-
--- a part has an instance of part n
-abbrev pub has_instance_of : List Part → ℕ → Part → Bool
-has_instance_of listed n part = list_any (is_instance_of listed n) part.components.items
-
--- some part has
+-- some part has an instance of part n
 abbrev pub is_used : List Part → ℕ → Bool
 is_used listed n = list_any (has_instance_of listed n) listed
 

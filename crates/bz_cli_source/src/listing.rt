@@ -3,7 +3,6 @@
 ghost use Rattle.std.specs.Prelude.{◌≡◌, ◌<◌, ◌≤◌, ◌+◌, ◌^◌, ◌++◌, codes, decimal, length, map, not, if◌then◌else◌};
 ghost use Rattle.std.specs.List.{flat_map};
 ghost use Rattle.bz_model.specs.Names.{external};
-ghost use Rattle.bz_model.specs.Nets.{chan_in};
 ghost use Rattle.bz_model.specs.Traces.{name_form};
 ghost use Rattle.bz_flat.specs.Flats.{site_of};
 ghost use Rattle.bz_flat.specs.Wires.{ends_in};
@@ -15,9 +14,9 @@ ghost use Rattle.bz_cli_input.specs.Listing.{lines, ports_text};
 ghost use Rattle.bz_cli_source.specs.Listing.{chan_end, chan_head, chan_line, comp_end, comp_line, comp_name, comps_text, count_line, end_text, ends_text, host_holds, inside_text, instance_head, instance_line, instances_text, paths_text, placed_chan, placed_comp, stepped};
 
 use bz_arena::{Arena, Id};
-use bz_cli_input::{carried_parts, put_head, put_ports};
+use bz_cli_input::{carried_parts, chan_at, put_head, put_ports};
 use bz_flat::{Ends, FlatComp, Pieces};
-use bz_model::{Chan, ChanKind, Port, Value};
+use bz_model::{Chan, Port, Value};
 use bz_source::{
     Label, LineAt, PathAt, Survey, chan_line_at, comp_line_at, put_comp, put_label, put_line_at,
 };
@@ -125,19 +124,6 @@ fn put_chan_line<W: Write>(
     ensures { Writes (W.contents out.old) (W.contents out.new) result (chan_line net.now s.now (i + 1) (path_at_of place.now)) }
 {
     put_placed_chan(out, net, s, i, chan_at(&net.chans, i), place)
-}
-
-// The channel at a place, one without width where there is none.
-fn chan_at(chans: &Arena<Chan>, place: usize) -> Chan
-    ensures { result ≡ chan_in chans.now (place + 1) }
-{
-    if place < chans.len() {
-        return *chans.get(Id::at(place));
-    }
-    Chan {
-        kind: ChanKind::Sync,
-        width: 0,
-    }
 }
 
 fn put_placed_chan<W: Write>(

@@ -6,13 +6,13 @@ ghost use Rattle.bz_model.specs.Names.{external};
 ghost use Rattle.bz_model.specs.Nets.{chan_in};
 ghost use Rattle.bz_text.specs.Writing.{Writes};
 ghost use Rattle.bz_cli_input.specs.Listing.{ports_text};
+ghost use Rattle.bz_cli_input.specs.Marking.{Marks};
 ghost use Rattle.bz_cli_input.specs.Reading.{ReadsWithin};
 ghost use Rattle.bz_cli_input.specs.Stopping.{AppendsSome};
-ghost use Rattle.bz_cli_source.specs.Marking.{Marks};
-ghost use Rattle.bz_cli_source.specs.PartLists.{ListsParts, TellsParts, counts_text, has_instance_of, head_text, instance_count, is_instance_of, is_used, line_of_part, numbered_text, own_ports_text, part_text, parts_text, top_text};
+ghost use Rattle.bz_cli_source.specs.PartLists.{ListsParts, TellsParts, counts_text, head_text, instance_count, is_used, line_of_part, numbered_text, own_ports_text, part_text, parts_text, top_text};
 
-use bz_breeze_records::{Component, Part as PartRecord, Parts};
-use bz_cli_input::{Fault, put_port, read_input};
+use bz_breeze_records::{Part as PartRecord, Parts};
+use bz_cli_input::{Fault, mark_used, put_port, read_input};
 use bz_model::{Chan, ChanKind, Port, Value};
 use bz_source::{PartLines, lines_of};
 use bz_text::{Piece, WriteFault, put_pieces};
@@ -52,29 +52,16 @@ fn used_parts(alloc: Global, parts: &Parts) -> Result<Vec<bool>, AllocError>
     ensures { IfOk result (λ v. Marks (replicate (length parts.now) false) v.items (is_used parts.now)) }
 {
     let mut used = vec![in alloc; false; parts.list().len()]?;
-    for part in parts.list() {
-        mark_parts(parts, part, &mut used);
-    }
+    mark_all(parts, &mut used);
     Ok(used)
 }
 
-// Marks those that a part has an instance of.
-fn mark_parts(parts: &Parts, part: &PartRecord, used: &mut [bool])
-    ensures { Marks used.old used.new (λ n. has_instance_of parts.now n part.now) }
+// Marks those that some part has an instance of.
+fn mark_all(parts: &Parts, used: &mut [bool])
+    ensures { Marks used.old used.new (is_used parts.now) }
 {
-    for component in &part.components {
-        mark_part(parts, component, used);
-    }
-}
-
-// Marks the one that a component is an instance of, if it is one.
-fn mark_part(parts: &Parts, component: &Component, used: &mut [bool])
-    ensures { Marks used.old used.new (λ n. is_instance_of parts.now n component.now) }
-{
-    if let Some(number) = parts.number(component.name.as_slice()) {
-        if number < used.len() {
-            used[number] = true;
-        }
+    for part in parts.list() {
+        mark_used(parts, part, used);
     }
 }
 

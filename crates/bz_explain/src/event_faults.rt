@@ -3,9 +3,8 @@
 use crate::asked::Words;
 use crate::told::FULL;
 use bz_breeze_records::Part;
-use bz_explain_net::{NEAREST, port_names};
 use bz_explain_notes::Arg::{Count, Name, Number, Text, Wide, Word};
-use bz_explain_notes::Draft;
+use bz_explain_notes::{Draft, port_names};
 use bz_model::{Chan, Cmd, HostCmd, NetError, Port, Value, Verb, low_bits};
 use bz_words::command;
 
@@ -103,10 +102,9 @@ fn explain_refused(draft: &mut Draft, part: &Part, word: &str, error: NetError) 
 // A port that there is not.
 fn explain_unknown(draft: &mut Draft, part: &Part, name: &[u8]) {
     let names = draft.gathered(port_names(draft.alloc(), &part.ports));
-    let args = [Name(name), Count(names.len(), "port", "ports")];
-    draft.put(", and no port has the name %\nexpected: one of %", &args);
-    draft.say_names(&names);
-    draft.say_nearest(NEAREST, name, &names);
+    let count = Count(names.len(), "port", "ports");
+    draft.put(", and no port has the name %\nexpected: ", &[Name(name)]);
+    draft.say_one_of(count, &names, name);
 }
 
 impl Outside<'_> {

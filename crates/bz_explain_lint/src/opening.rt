@@ -2,7 +2,8 @@
 
 use crate::unreached::mark_reached;
 use crate::warnings::warn;
-use bz_breeze_records::{Part, Parts};
+use bz_breeze_records::Part;
+use bz_cli_input::used_by_others;
 use bz_elab::ElabError;
 use bz_explain::{Gathered, Marks, Mended, marks_of, set};
 use bz_explain_net::{Head, Netlist, Wired};
@@ -69,7 +70,7 @@ impl<'t> Linted<'t> {
     // Opens the parts on top, and then those that none of these reaches.
     fn open_all(&mut self) -> Result<(), AllocError> {
         let parts = self.gathered.netlist.parts;
-        let used = used_parts(self.gathered.netlist.alloc, parts)?;
+        let used = used_by_others(self.gathered.netlist.alloc, parts)?;
         for is_top in [true, false] {
             for (number, part) in parts.list().iter().enumerate() {
                 let seen = if is_top {
@@ -133,20 +134,4 @@ impl<'t> Linted<'t> {
             &mut self.reached,
         )
     }
-}
-
-// For each part whether another one has an instance of it.
-fn used_parts(alloc: Global, parts: &Parts) -> Result<Vec<bool>, AllocError> {
-    let mut used = vec![in alloc; false; parts.list().len()]?;
-    for (user, part) in parts.list().iter().enumerate() {
-        for component in &part.components {
-            match parts.number(&component.name) {
-                Some(number) if number != user => {
-                    set(&mut used, number);
-                }
-                _ => {}
-            }
-        }
-    }
-    Ok(used)
 }

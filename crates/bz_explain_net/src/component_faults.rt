@@ -8,10 +8,10 @@ use crate::site::Site;
 use bz_breeze_records::{Part, Parts, Slot};
 use bz_elab::{arranged, array_sizes};
 use bz_explain_notes::Arg::{self, Carried, Count, Name, Number, Port, Text, Wide, Word};
-use bz_explain_notes::Draft;
+use bz_explain_notes::{Draft, NEAREST, port_names};
 use bz_flat::ElabError;
 use bz_kind_rows::{PortAt, kind_names, port_at};
-use bz_model::{Chan, ChanKind, Kind, Param, Port as External};
+use bz_model::{Chan, ChanKind, Kind, Param};
 use std::alloc::{AllocError, Global};
 
 /// The most of several things that a note lists.
@@ -19,9 +19,6 @@ const MOST_LISTED: usize = 10;
 
 /// The most parts whose names are compared with one that is unknown.
 const MOST_NAMES: usize = 200_000;
-
-/// Tells the nearest name.
-pub const NEAREST: &str = "help: the nearest name is %";
 
 /// What of a channel is not as its port asks.
 #[derive(Clone, Copy)]
@@ -34,11 +31,6 @@ enum Aspect {
 pub(crate) fn part_names(alloc: Global, parts: &Parts) -> Result<Vec<&[u8]>, AllocError> {
     let parts = parts.list().iter();
     parts.map(|part| part.name.as_slice()).collect(alloc)
-}
-
-/// The names of ports.
-pub fn port_names(alloc: Global, ports: &[External]) -> Result<Vec<&[u8]>, AllocError> {
-    ports.iter().map(|port| port.name.as_slice()).collect(alloc)
 }
 
 // The names of the parts, and behind these those of the kinds.

@@ -10,7 +10,6 @@ mod net_faults;
 mod site;
 mod wired;
 
-pub use component_faults::{NEAREST, port_names};
 pub use data::{Head, Members, Which, find, headed, inside, members_of, nth, part_items};
 pub use net_faults::explain_refusal;
 pub use site::{Netlist, Site, put_place};

@@ -1,6 +1,6 @@
 //! Parts that have no net.
 
-use crate::component_faults::{NEAREST, part_names};
+use crate::component_faults::part_names;
 use crate::end_faults::explain_ends;
 use crate::site::Netlist;
 use crate::wired::Wired;
@@ -51,14 +51,12 @@ pub fn explain_refusal(
 // No part has the name asked for.
 fn explain_no_part(draft: &mut Draft, netlist: Netlist<'_>, asked: &[u8]) {
     let names = draft.gathered(part_names(draft.alloc(), netlist.parts));
-    let found = if names.is_empty() {
-        "found: part %\nexpected: the name of a part, of which the text has none"
+    draft.put("found: part %\nexpected: ", &[Name(asked)]);
+    if names.is_empty() {
+        draft.say("the name of a part, of which the text has none", &[]);
     } else {
-        "found: part %\nexpected: one of %"
-    };
-    draft.put(found, &[Name(asked), Count(names.len(), "part", "parts")]);
-    draft.say_names(&names);
-    draft.say_nearest(NEAREST, asked, &names);
+        draft.say_one_of(Count(names.len(), "part", "parts"), &names, asked);
+    }
 }
 
 // A part that reaches itself.

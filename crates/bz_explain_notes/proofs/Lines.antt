@@ -5,13 +5,12 @@ use Rattle.std.specs.List.{flat_map}
 use Rattle.std.specs.Io.KnownBytes.{Appends}
 use Rattle.bz_text.specs.Writing.{AppendsFront}
 use Rattle.bz_text.proofs.Sent.{appends_then, stops_at}
-use Rattle.bz_explain_notes.specs.declared.notes.Note.{Note}
-use Rattle.bz_explain_notes.specs.Notes.{note_line}
+use Rattle.bz_explain_notes.specs.Notes.{letters_of, note_line}
 
 -- the lines of notes that lie in memory are those of their letters
-pub lines_are : (notes : List Note) → flat_map (λ n. note_line n.letters.items) notes ≡ flat_map note_line (map (λ n. n.letters.items) notes)
+pub lines_are : (notes : List (Option (List ℕ))) → flat_map (λ n. note_line (letters_of n)) notes ≡ flat_map note_line (map letters_of notes)
 lines_are [] = refl
-lines_are (note ∷ notes) = ap (λ t. note_line note.letters.items ++ t) (lines_are notes)
+lines_are (note ∷ notes) = ap (λ t. note_line (letters_of note) ++ t) (lines_are notes)
 
 -- the text of the element x at i went out behind those before it
 pub sent_at : {X : Type 0} (a b c : Option (List ℕ)) (f : X → List ℕ) (xs : List X) (i : ℕ) (x : X) → i < length xs → get_or xs i x ≡ x → Appends a b (flat_map f (take i xs)) → Appends b c (f x) → Appends a c (flat_map f (take (i + 1) xs))

@@ -1,11 +1,16 @@
 -- What notes look like.
-use Rattle.std.specs.Prelude.{ℕ, List, ◌++◌, Option, Result, codes, map, nat_le, ◌&&◌, if◌then◌else◌}
+use Rattle.std.specs.Prelude.{ℕ, List, [], ◌++◌, Option, None, Some, Result, codes, map, nat_le, ◌&&◌, if◌then◌else◌}
 use Rattle.std.specs.List.{flat_map}
 use Rattle.bz_text.specs.Writing.{Writes}
 
 -- a letter as it is shown: one that isn't printable is a question mark
 abbrev pub shown : ℕ → ℕ
 shown byte = if nat_le 32 byte && nat_le byte 126 then byte else 63
+
+-- the letters of a note, of which none may be lost
+abbrev pub letters_of : Option (List ℕ) → List ℕ
+letters_of None = []
+letters_of (Some letters) = letters
 
 abbrev pub note_line : List ℕ → List ℕ
 note_line note = codes "breezesim: note: " ++ (map shown note ++ codes "\n")

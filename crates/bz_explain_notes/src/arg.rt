@@ -3,7 +3,7 @@
 use crate::spot::Spot;
 use bz_model::{Chan, Phase, Reply};
 use bz_source::put_path;
-use bz_text::{Piece, put_pieces};
+use bz_text::{Piece, Put, Text};
 use std::io::Write;
 
 /// Enough blanks to stand below a line that is shown.
@@ -11,9 +11,6 @@ static BLANKS: [u8; 128] = [b' '; 128];
 
 /// The most bytes of a word that are shown.
 const MOST_SHOWN: usize = 100;
-
-/// The most names that are listed.
-pub(crate) const MOST_LISTED: usize = 10;
 
 /// What stands for a `%` of a form.
 #[derive(Clone, Copy)]
@@ -46,31 +43,37 @@ pub enum Arg<'a> {
     Blanks(usize),
 }
 
-/// Goes on with an argument. Answers whether there was memory for all of it.
-pub(crate) fn put_arg(line: &mut Vec<u8>, arg: Arg<'_>) -> bool {
-    match arg {
-        Arg::Text(text) => put(line, &[Piece::Bytes(text.as_bytes())]),
-        Arg::Bytes(bytes) => put(line, &[Piece::Bytes(bytes)]),
-        Arg::Word(word) => put(
-            line,
-            &[Piece::Bytes(shown(word)), Piece::Bytes(rest_of(word))],
-        ),
-        Arg::Name(name) => put(
-            line,
-            &[Piece::Name(shown(name)), Piece::Bytes(rest_of(name))],
-        ),
-        Arg::Number(number) => put(line, &[Piece::Number(number as u128)]),
-        Arg::Wide(value) => put(line, &[Piece::Number(value)]),
-        Arg::Spaced(value) => put(line, &[Piece::Value(value)]),
-        Arg::Port(name, member) => put_port(line, name, member),
-        Arg::Carried(chan) => write!(line, "{chan}").is_ok(),
-        Arg::Count(count, one, many) => put_count(line, count, if count == 1 { one } else { many }),
-        Arg::At(None) => true,
-        Arg::At(Some(spot)) => put_spot(line, spot),
-        Arg::Phase(phase) => write!(line, "{phase}").is_ok(),
-        Arg::Reply(reply) => write!(line, "{reply}").is_ok(),
-        Arg::Path(path) => put_path(line, path).is_ok(),
-        Arg::Blanks(count) => put(line, &[Piece::Bytes(&BLANKS[..count.min(BLANKS.len())])]),
+impl Put for Arg<'_> {
+    fn put(&self, text: &mut Text) {
+        match *self {
+            Arg::Text(words) => text.put(words),
+            Arg::Bytes(bytes) => text.put_bytes(bytes),
+            Arg::Word(word) => text.put_pieces(&[Piece::Bytes(shown(word)), rest_of(word)]),
+            Arg::Name(name) => text.put_pieces(&[Piece::Name(shown(name)), rest_of(name)]),
+            Arg::Number(number) => text.put_pieces(&[Piece::Number(number as u128)]),
+            Arg::Wide(value) => text.put_pieces(&[Piece::Number(value)]),
+            Arg::Spaced(value) => text.put_pieces(&[Piece::Value(value)]),
+            Arg::Port(name, member) => put_port(text, name, member),
+            Arg::Carried(chan) => {
+                let _ = write!(text, "{chan}");
+            }
+            Arg::Count(count, one, many) => {
+                text.put_pieces(&[Piece::Number(count as u128), Piece::Bytes(b" ")]);
+                text.put(if count == 1 { one } else { many });
+            }
+            Arg::At(None) => {}
+            Arg::At(Some(spot)) => put_spot(text, spot),
+            Arg::Phase(phase) => {
+                let _ = write!(text, "{phase}");
+            }
+            Arg::Reply(reply) => {
+                let _ = write!(text, "{reply}");
+            }
+            Arg::Path(path) => {
+                let _ = put_path(text, path);
+            }
+            Arg::Blanks(count) => text.put_bytes(&BLANKS[..count.min(BLANKS.len())]),
+        }
     }
 }
 
@@ -80,52 +83,23 @@ fn shown(word: &[u8]) -> &[u8] {
 }
 
 // What stands for the rest of it.
-fn rest_of(word: &[u8]) -> &'static [u8] {
-    if word.len() > MOST_SHOWN { b".." } else { b"" }
+fn rest_of(word: &[u8]) -> Piece<'static> {
+    Piece::Bytes(if word.len() > MOST_SHOWN { b".." } else { b"" })
 }
 
-fn put(line: &mut Vec<u8>, parts: &[Piece<'_>]) -> bool {
-    put_pieces(line, parts).is_ok()
-}
-
-fn put_port(line: &mut Vec<u8>, name: &str, member: Option<u32>) -> bool {
-    let is_put = put(line, &[Piece::Bytes(name.as_bytes())]);
-    match member {
-        Some(member) => is_put && put(line, &[Piece::Number(u128::from(member))]),
-        None => is_put,
+fn put_port(text: &mut Text, name: &str, member: Option<u32>) {
+    text.put(name);
+    if let Some(member) = member {
+        text.put_pieces(&[Piece::Number(u128::from(member))]);
     }
 }
 
-fn put_count(line: &mut Vec<u8>, count: usize, noun: &str) -> bool {
-    put(
-        line,
-        &[
-            Piece::Number(count as u128),
-            Piece::Bytes(b" "),
-            Piece::Bytes(noun.as_bytes()),
-        ],
-    )
-}
-
-fn put_spot(line: &mut Vec<u8>, spot: Spot) -> bool {
-    put(
-        line,
-        &[
-            Piece::Bytes(b"line "),
-            Piece::Number(spot.line as u128),
-            Piece::Bytes(b", column "),
-            Piece::Number(spot.column as u128),
-        ],
-    )
-}
-
-/// The same of the first ten of these names, behind a colon.
-pub(crate) fn put_names(line: &mut Vec<u8>, names: &[&[u8]]) -> bool {
-    let mut is_whole = true;
-    let mut sign: &[u8] = b": ";
-    for name in names.iter().take(MOST_LISTED) {
-        is_whole = put(line, &[Piece::Bytes(sign)]) && put_arg(line, Arg::Name(name)) && is_whole;
-        sign = b" ";
-    }
-    is_whole
+fn put_spot(text: &mut Text, spot: Spot) {
+    let pieces = [
+        Piece::Bytes(b"line "),
+        Piece::Number(spot.line as u128),
+        Piece::Bytes(b", column "),
+        Piece::Number(spot.column as u128),
+    ];
+    text.put_pieces(&pieces);
 }

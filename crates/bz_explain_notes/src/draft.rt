@@ -1,19 +1,25 @@
 //! The notes of a fault while they are gathered.
 
-use crate::arg::{Arg, MOST_LISTED, put_arg, put_names};
+use crate::arg::Arg;
 use crate::nearest::nearest_name;
-use crate::notes::Note;
 use crate::spot::Spot;
 use bz_source::Label;
+use bz_text::{Put, Text};
 use std::alloc::{AllocError, Global};
 use std::mem;
 
-/// Notes, and the letters of one that goes on. Where memory was wanting for some of it there are no notes at all.
+/// The most names that are listed.
+const MOST_LISTED: usize = 10;
+
+/// Tells the nearest name.
+pub const NEAREST: &str = "help: the nearest name is %";
+
+/// Notes, and the text of one that goes on. Where memory was wanting for some of it there are no notes at all.
 #[derive(Drop)]
 pub struct Draft {
     alloc: Global,
-    notes: Vec<Note>,
-    line: Vec<u8>,
+    notes: Vec<Text>,
+    line: Text,
     /// The name of the file that they speak of, empty where it has none.
     file: Vec<u8>,
     /// The first place that they tell.
@@ -27,7 +33,7 @@ impl Draft {
         Draft {
             alloc,
             notes: Vec::new(alloc),
-            line: Vec::new(alloc),
+            line: Text::new(alloc),
             file: Vec::new(alloc),
             spot: None,
             is_short: false,
@@ -50,8 +56,8 @@ impl Draft {
     }
 
     /// The notes that were ended.
-    pub(crate) fn notes(&self) -> &[Note] {
-        if self.is_short {
+    pub(crate) fn notes(&self) -> &[Text] {
+        if self.is_short || self.line.whole().is_err() {
             &[]
         } else {
             self.notes.as_slice()
@@ -64,8 +70,11 @@ impl Draft {
     }
 
     /// How many bytes the line has so far.
-    pub fn width(&self) -> usize {
-        self.line.len()
+    pub(crate) fn width(&self) -> usize {
+        match self.line.whole() {
+            Ok(line) => line.len(),
+            Err(_) => 0,
+        }
     }
 
     /// Memory was wanting.
@@ -91,10 +100,12 @@ impl Draft {
             match *byte {
                 b'\n' => self.end(),
                 b'%' => {
-                    self.put_next(args.get(next));
+                    if let Some(arg) = args.get(next) {
+                        arg.put(&mut self.line);
+                    }
                     next = next.saturating_add(1);
                 }
-                _ => self.put_byte(*byte),
+                _ => self.line.put_bytes(&[*byte]),
             }
         }
     }
@@ -123,14 +134,12 @@ impl Draft {
     pub(crate) fn put_spot(&mut self, spot: Spot, of: &str) {
         self.spot = self.spot.or(Some(spot));
         if of.is_empty() && !self.file.is_empty() {
-            let file = mem::replace(&mut self.file, Vec::new(self.alloc));
             let args = [
-                Arg::Bytes(&file),
+                Arg::Bytes(&self.file),
                 Arg::Number(spot.line),
                 Arg::Number(spot.column),
             ];
-            self.put("%:%:%", &args);
-            self.file = file;
+            self.line.say("%:%:%", &args);
         } else {
             self.put("%%", &[Arg::At(Some(spot)), Arg::Text(of)]);
         }
@@ -138,18 +147,21 @@ impl Draft {
 
     /// Goes on with the first ten of these names, behind a colon: `: a b`.
     pub fn put_names(&mut self, names: &[&[u8]]) {
-        if !put_names(&mut self.line, names) {
-            self.fail();
+        for (place, name) in names.iter().take(MOST_LISTED).enumerate() {
+            self.put(name_form(place), &[Arg::Name(name)]);
         }
     }
 
-    /// The same, tells how many names there are beside these, if any, and ends the note.
-    pub fn say_names(&mut self, names: &[&[u8]]) {
+    /// Goes on with so many names, of which one was to be given, ends the note, and tells which one was probably meant:
+    /// `one of 2 parts: a b`.
+    pub fn say_one_of(&mut self, count: Arg<'_>, names: &[&[u8]], name: &[u8]) {
+        self.put("one of %", &[count]);
         self.put_names(names);
         match names.len().checked_sub(MOST_LISTED) {
             Some(more) if more > 0 => self.say(" and % more", &[Arg::Number(more)]),
             _ => self.end(),
         }
+        self.say_nearest(NEAREST, name, names);
     }
 
     /// Tells by a form which of several names was probably meant, where one is near enough.
@@ -161,24 +173,15 @@ impl Draft {
         }
     }
 
-    fn put_byte(&mut self, byte: u8) {
-        if self.line.push(byte).is_err() {
-            self.fail();
-        }
-    }
-
-    fn put_next(&mut self, arg: Option<&Arg<'_>>) {
-        if let Some(arg) = arg {
-            if !put_arg(&mut self.line, *arg) {
-                self.fail();
-            }
-        }
-    }
-
     fn end(&mut self) {
-        let letters = mem::replace(&mut self.line, Vec::new(self.alloc));
-        if self.notes.push(Note { letters }).is_err() {
+        let line = mem::replace(&mut self.line, Text::new(self.alloc));
+        if line.whole().is_err() || self.notes.push(line).is_err() {
             self.fail();
         }
     }
+}
+
+// How the name in a place of several goes on.
+fn name_form(place: usize) -> &'static str {
+    if place == 0 { ": %" } else { " %" }
 }

@@ -13,10 +13,10 @@ mod spot;
 mod telling;
 
 pub use arg::Arg;
-pub use draft::Draft;
+pub use draft::{Draft, NEAREST};
 pub use finding::{Finding, Findings, Severity, tell_findings, tell_json};
 pub use keeping::Keeping;
-pub use nearest::nearest_name;
+pub use nearest::{nearest_name, port_names};
 pub use source::put_source;
 pub use spot::{Spot, before_in_line, spot_of};
 pub use telling::{tell, tell_notes};

@@ -1,9 +1,10 @@
-//! Which name of several was probably meant.
+//! Names, and which one of several was probably meant.
 
 ghost use Rattle.std.specs.Prelude.{◌≡◌, map, IfOk};
 ghost use Rattle.std.specs.Char.{to_ascii_lowercase};
 ghost use Rattle.bz_explain_notes.specs.Edits.{edits};
 
+use bz_model::Port;
 use std::alloc::{AllocError, Global};
 use strsim::generic_levenshtein;
 
@@ -15,6 +16,11 @@ const MOST_EDITS: usize = 2;
 
 /// What stands in front of the name of a kind.
 const PREFIX: &[u8] = b"$Brz";
+
+/// The names of ports.
+pub fn port_names(alloc: Global, ports: &[Port]) -> Result<Vec<&[u8]>, AllocError> {
+    ports.iter().map(|port| port.name.as_slice()).collect(alloc)
+}
 
 /// The name of several that was probably meant, where one is near enough: the first of those that are as near.
 pub fn nearest_name<'c>(

@@ -3,25 +3,19 @@
 ghost use Rattle.std.specs.Prelude.{◌≡◌, map, IfOk};
 ghost use Rattle.std.specs.List.{flat_map};
 ghost use Rattle.bz_text.specs.Writing.{Writes};
-ghost use Rattle.bz_explain_notes.specs.Notes.{note_line, shown};
+ghost use Rattle.bz_explain_notes.specs.Notes.{letters_of, note_line, shown};
 
-use bz_text::{Piece, WriteFault, put_pieces};
+use bz_text::{Piece, Text, WriteFault, put_pieces};
 use std::alloc::{AllocError, Global};
 use std::io::Write;
-
-/// A line that tells something of a fault.
-#[derive(Drop)]
-pub(crate) struct Note {
-    pub(crate) letters: Vec<u8>,
-}
 
 /// Writes notes, each as a line of its own. A want of memory is told as a fault of the writer.
 pub(crate) fn put_notes<W: Write>(
     alloc: Global,
     out: &mut W,
-    notes: &[Note],
+    notes: &[Text],
 ) -> Result<(), WriteFault>
-    ensures { Writes (W.contents out.old) (W.contents out.new) result (flat_map (λ n. note_line n.letters.items) notes.now) }
+    ensures { Writes (W.contents out.old) (W.contents out.new) result (flat_map (λ n. note_line (letters_of n)) notes.now) }
 {
     for note in notes {
         put_note(alloc, out, note)?;
@@ -29,8 +23,8 @@ pub(crate) fn put_notes<W: Write>(
     Ok(())
 }
 
-fn put_note<W: Write>(alloc: Global, out: &mut W, note: &Note) -> Result<(), WriteFault>
-    ensures { Writes (W.contents out.old) (W.contents out.new) result (note_line note.now.letters.items) }
+fn put_note<W: Write>(alloc: Global, out: &mut W, note: &Text) -> Result<(), WriteFault>
+    ensures { Writes (W.contents out.old) (W.contents out.new) result (note_line (letters_of note.now)) }
 {
     let Ok(letters) = shown(alloc, note) else {
         return Err(WriteFault);
@@ -44,10 +38,10 @@ fn put_note<W: Write>(alloc: Global, out: &mut W, note: &Note) -> Result<(), Wri
 }
 
 // The letters of a note as they are shown.
-pub(crate) fn shown(alloc: Global, note: &Note) -> Result<Vec<u8>, AllocError>
-    ensures { IfOk result (λ v. v.items ≡ map shown note.now.letters.items) }
+pub(crate) fn shown(alloc: Global, note: &Text) -> Result<Vec<u8>, AllocError>
+    ensures { IfOk result (λ v. v.items ≡ map shown (letters_of note.now)) }
 {
-    note.letters
+    note.whole()?
         .iter()
         .map(|byte| shown_byte(*byte))
         .collect(alloc)

@@ -3,10 +3,9 @@
 use crate::forms::{Line, Misfit, Want};
 use crate::items::{LineAt, item_of, line_of};
 use bz_explain_notes::Arg::{Count, Number, Word};
-use bz_explain_notes::Draft;
+use bz_explain_notes::{Draft, port_names};
 use bz_flat::Flat;
 use bz_trace_text::MAX_ENTRIES;
-use std::alloc::{AllocError, Global};
 
 /// The notes of a line, by its number, that has none of the forms, or stands where none of its form may.
 pub(crate) fn explain_form(draft: &mut Draft, flat: &Flat, trace: &[u8], number: usize) {
@@ -59,27 +58,13 @@ fn explain_misfit(draft: &mut Draft, line: Line<'_>, at: LineAt<'_>, misfit: Mis
     }
     draft.put("\nexpected: ", &[]);
     if let Want::Port(_) = misfit.want {
-        say_ports(draft, line.flat, item.unwrap_or(b""));
+        let names = draft.gathered(port_names(draft.alloc(), line.flat.ports()));
+        let count = Count(names.len(), "port", "ports");
+        draft.say_one_of(count, &names, item.unwrap_or(b""));
     } else {
         let (form, number) = wanted(misfit.want);
         draft.say(form, &[Number(number as usize)]);
     }
-}
-
-// Tells the names of the ports, and the nearest.
-fn say_ports(draft: &mut Draft, flat: &Flat, word: &[u8]) {
-    let names = draft.gathered(port_names(draft.alloc(), flat));
-    draft.put("one of %", &[Count(names.len(), "port", "ports")]);
-    draft.say_names(&names);
-    draft.say_nearest("help: the nearest name is %", word, &names);
-}
-
-fn port_names(alloc: Global, flat: &Flat) -> Result<Vec<&[u8]>, AllocError> {
-    let mut names = Vec::new(alloc);
-    for port in flat.ports() {
-        names.push(port.name.as_slice())?;
-    }
-    Ok(names)
 }
 
 // What belongs at an item, and the number of a channel that it speaks of.

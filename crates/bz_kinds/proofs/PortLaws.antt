@@ -1,7 +1,7 @@
 -- States and the numbers that they are kept as.
-use Rattle.std.proofs.Common.{◌≡◌, ◌≢◌, ◌⊎◌, inl, inr, ℕ, zero, suc, ◌+◌, ◌*◌, ◌<◌, ◌≤◌, Bool, true, false, ◌&&◌, List, ◌∷◌, length, get_or, set, map, refl, ap, sym, ◌∙◌, arith}
-use Rattle.std.specs.Prelude.{if◌then◌else◌, nat_le, nat_lt, replicate}
-use Rattle.std.proofs.lemmas.Bool.{le-leb, lt-leb, lt-ltb, le-ltb}
+use Rattle.std.proofs.Common.{◌≡◌, ◌≢◌, ◌⊎◌, inl, inr, ℕ, zero, suc, ◌+◌, ◌*◌, ◌<◌, ◌≤◌, Bool, true, false, ◌&&◌, List, ◌∷◌, length, get_or, set, map, refl, ap, sym, subst, ◌∙◌, arith}
+use Rattle.std.specs.Prelude.{if◌then◌else◌, nat_le, nat_lt, not, replicate, MatchBool}
+use Rattle.std.proofs.lemmas.Bool.{false≢true, le-leb, lt-leb, lt-ltb, le-ltb}
 use Rattle.std.proofs.Math.ListN.{get_or-map}
 use Rattle.std.proofs.lemmas.List.{length-map, map-set}
 use Rattle.bz_bits.specs.PortWords.{between, HasOdd, IsEven}
@@ -81,3 +81,15 @@ closed_or Closed = inl refl
 closed_or ClosedDue = inr (begins_up ClosedDue refl)
 closed_or Open = inr (λ z. cc)
 closed_or OpenDue = inr (ends_up OpenDue refl)
+
+-- the move that is due at a port opens it where the port's number is not 2 or 3
+pub opens_next : (xs : List ℕ) (p : ℕ) (high : Bool) → high ≡ nat_le 2 (get_or xs p 0) → is_due (state_at (map state_of xs) p) ≡ true → MatchBool (not high) (state_at (map state_of xs) p ≡ ClosedDue) (state_at (map state_of xs) p ≡ OpenDue)
+opens_next xs p high e due =
+    let same = state_map xs p in
+    subst (λ (a : PortState). MatchBool (not high) (a ≡ ClosedDue) (a ≡ OpenDue)) (sym same) (by_number (get_or xs p 0) high e (sym (ap is_due same) ∙ due))
+  where
+    by_number : (n : ℕ) (high : Bool) → high ≡ nat_le 2 n → is_due (state_of n) ≡ true → MatchBool (not high) (state_of n ≡ ClosedDue) (state_of n ≡ OpenDue)
+    by_number zero high e due = absurd (false≢true due)
+    by_number (suc zero) high e due = subst (λ (b : Bool). MatchBool (not b) (ClosedDue ≡ ClosedDue) (ClosedDue ≡ OpenDue)) (sym e) refl
+    by_number (suc (suc zero)) high e due = absurd (false≢true due)
+    by_number (suc (suc (suc n))) high e due = subst (λ (b : Bool). MatchBool (not b) (OpenDue ≡ ClosedDue) (OpenDue ≡ OpenDue)) (sym (e ∙ le-leb 2 (suc (suc (suc n))) (omega arith))) refl

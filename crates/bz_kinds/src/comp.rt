@@ -4,26 +4,27 @@ ghost use Rattle.std.specs.Prelude.{◌≡◌, ◌≤◌, ◌-◌, ◌^◌, ◌<
 ghost use Rattle.std.specs.Option.{option_map};
 ghost use Rattle.bz_model.specs.declared.error.KindError.TheVariants.{Memory};
 ghost use Rattle.bz_model.specs.Heads.{Head, IsHeadOn, CanMove, Moves, Turns, HasOneHead, carried, opens, open_at};
-ghost use Rattle.bz_model.specs.Terms.{stored, IsNarrow};
+ghost use Rattle.bz_model.specs.Terms.{IsNarrow};
 ghost use Rattle.bz_model.specs.Rows.{MeetsRow};
 ghost use Rattle.bz_model.specs.Processes.{member, start_of};
 ghost use Rattle.bz_model.specs.Widths.{Fitted, FitsAt, HoldsAt};
 ghost use Rattle.bz_kinds.specs.declared.ports.PortState.TheVariants.{Closed, ClosedDue};
-ghost use Rattle.bz_kinds.specs.Row.{seen};
+ghost use Rattle.bz_kinds.specs.Row.{Due, seen};
 ghost use Rattle.bz_kinds.specs.Moves.{AreEnabled};
 ghost use Rattle.bz_kinds.specs.Ready.{AreReady, CanGo, NoneDue};
 ghost use Rattle.bz_kinds.specs.Start.{BeginsAt, IsAllDue, IsDueBut, AreMembersDue};
 ghost use Rattle.bz_kinds.specs.Kept.{plan_of};
 ghost use Rattle.bz_kinds.specs.KeptLists.{slots_of};
 ghost use Rattle.bz_model.specs.declared.channel.Phase.{Phase};
-ghost use Rattle.bz_kinds.specs.Riding.{riding, taken};
-ghost use Rattle.bz_kinds.specs.Comp.{IsAt, IsDue, IsFor, Goes, plan_due};
+ghost use Rattle.bz_kinds.specs.Ports.{state_at};
+ghost use Rattle.bz_kinds.specs.Riding.{riding, taken, Made};
+ghost use Rattle.bz_kinds.specs.Comp.{IsAt, IsDue, IsNarrowDue, StaysAt, IsFor, Goes, plan_due};
 
 use crate::kept::KeptPlan;
 use crate::kept_lists::{KeptChans, KeptSlots};
 use crate::move_iter::MoveIter;
 use crate::ports::{PortState, Ports};
-use crate::row::DueMove;
+use crate::row::{DueMove, Script};
 use crate::sense::{move_at, sense_word};
 use crate::shape::shape_of;
 use crate::{
@@ -135,20 +136,76 @@ pub fn fire(comp: &mut Comp, port: u32, rides: Option<Value>) -> (Move, Option<V
     ensures fits { (phase : Phase) → CanMove comp.old.proc port phase → rides ≡ riding phase →
         Fitted comp.old → HoldsAt comp.old.chans port phase → FitsAt comp.old.chans port result.0 result.1 × Fitted comp.new }
 {
-    let Some(due) = due_at(&comp.plan, comp.size, comp.left, port, comp.ports.get(port)) else {
-        unreachable!()
-    };
-    let incoming = taken(due.mv, rides);
-    let value = carried(&due, comp.slots.get(), incoming);
-    store(&mut comp.slots, due.into, incoming);
-    advance(
+    turn(
         &comp.plan,
         comp.size,
         &mut comp.left,
         &mut comp.ports,
         port,
-        comp.slots.get(),
-    );
+        &mut comp.slots,
+        rides,
+    )
+}
+
+// Makes the move that is due at a port of a plan. Of the families that most moves are of, a move is told, sent and followed by
+// the ports in one look at the port.
+#[inline(always)]
+fn turn(
+    plan: &KeptPlan,
+    size: u32,
+    left: &mut u32,
+    ports: &mut Ports,
+    port: u32,
+    slots: &mut KeptSlots,
+    rides: Option<Value>,
+) -> (Move, Option<Value>)
+    requires place { IsAt (plan_of plan.now) size left.old ports.old (slots_of slots.old) }
+    requires small { size < 2 ^ 30 }
+    requires due { IsNarrowDue (plan_of plan.now) size left.old port ports.old }
+    requires still { StaysAt (plan_of plan.now) size left.old ports.old port rides (slots_of slots.old) }
+    ensures made { (d : Due) → plan_due (plan_of plan.now) size left.old port (state_at ports.old port) ≡ Some d →
+        Made d rides (slots_of slots.old) (slots_of slots.new) result.0 result.1 }
+    ensures goes { Goes (plan_of plan.now) size left.old ports.old port left.new ports.new (slots_of slots.new) }
+{
+    match plan {
+        KeptPlan::InTurn(row) => in_turn::fire(row.get(), ports, left, size, port, slots, rides),
+        KeptPlan::OwnInTurn(row) => in_turn::fire(row, ports, left, size, port, slots, rides),
+        KeptPlan::Together(row) => together::fire(row.get(), ports, left, size, port, slots, rides),
+        KeptPlan::Cells => cells::fire(ports, size, port, slots, rides),
+        KeptPlan::OneByOne(Script::Loop) => script::fire_loop(ports, left, port, slots, rides),
+        KeptPlan::Meeting(meet) => {
+            meeting::fire(meet.get(), ports, left, size, port, slots, rides)
+        }
+        _ => turn_by_due(plan, size, left, ports, port, slots, rides),
+    }
+}
+
+// The same by what is due there, of any plan.
+#[inline(always)]
+fn turn_by_due(
+    plan: &KeptPlan,
+    size: u32,
+    left: &mut u32,
+    ports: &mut Ports,
+    port: u32,
+    slots: &mut KeptSlots,
+    rides: Option<Value>,
+) -> (Move, Option<Value>)
+    requires place { IsAt (plan_of plan.now) size left.old ports.old (slots_of slots.old) }
+    requires small { size < 2 ^ 30 }
+    requires due { IsNarrowDue (plan_of plan.now) size left.old port ports.old }
+    requires still { StaysAt (plan_of plan.now) size left.old ports.old port rides (slots_of slots.old) }
+    ensures made { (d : Due) → plan_due (plan_of plan.now) size left.old port (state_at ports.old port) ≡ Some d →
+        Made d rides (slots_of slots.old) (slots_of slots.new) result.0 result.1 }
+    ensures goes { Goes (plan_of plan.now) size left.old ports.old port left.new ports.new (slots_of slots.new) }
+{
+    let Some(due) = due_at(plan, size, *left, port, ports.get(port)) else {
+        unreachable!()
+    };
+    let incoming = taken(due.mv, rides);
+    let value = carried(&due, slots.get(), incoming);
+    slots.keep(due.into, incoming);
+    advance(plan, size, left, ports, port, slots.get());
     (due.mv, value)
 }
 
@@ -320,15 +377,6 @@ fn carried(due: &DueMove<'_>, slots: &[Value], incoming: Option<Value>) -> Optio
     match due.mv {
         Move::Ask | Move::Reply => due.gives.value(slots),
         Move::Take | Move::Got => incoming,
-    }
-}
-
-// Puts a value that came in into its slot.
-fn store(slots: &mut KeptSlots, slot: u32, value: Option<Value>)
-    ensures { slots_of slots.new ≡ stored slot value (slots_of slots.old) }
-{
-    if let Some(value) = value {
-        slots.put(slot, value);
     }
 }
 

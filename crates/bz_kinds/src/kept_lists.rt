@@ -1,9 +1,10 @@
 //! The values and the channels of a component: few, which lie in it, or a list.
 
 ghost use Rattle.std.specs.Prelude.{◌≡◌, IfOk, IfSome, replicate, slice_set};
+ghost use Rattle.bz_model.specs.Terms.{stored, value_of, IsNarrow};
 ghost use Rattle.bz_kinds.specs.KeptLists.{chan_of, chans_of, slots_of};
 
-use bz_model::{Chan, ChanKind, Value};
+use bz_model::{Chan, ChanKind, Expr, Value};
 use std::alloc::{AllocError, Global};
 
 /// The values that a component keeps: two, as most do, or another number of them.
@@ -41,6 +42,7 @@ impl KeptSlots {
         Ok(KeptSlots::List(list))
     }
 
+    #[inline(always)]
     pub fn get(&self) -> &[Value]
         ensures { result.now ≡ slots_of self.now }
     {
@@ -50,7 +52,50 @@ impl KeptSlots {
         }
     }
 
+    /// Puts a value that came in into its slot.
+    #[inline(always)]
+    pub fn keep(&mut self, slot: u32, value: Option<Value>)
+        ensures { slots_of self.new ≡ stored slot value (slots_of self.old) }
+    {
+        if let Some(value) = value {
+            self.put(slot, value);
+        }
+    }
+
+    /// What an expression is worth over these.
+    #[inline(always)]
+    pub fn worth(&self, gives: &Expr) -> Option<Value>
+        requires { IsNarrow gives.now }
+        ensures { result ≡ value_of gives.now (slots_of self.now) }
+    {
+        match gives {
+            Expr::Nothing => None,
+            _ => self.worth_some(gives),
+        }
+    }
+
+    // The same, where it is most often the first of two values.
+    #[inline(always)]
+    fn worth_some(&self, gives: &Expr) -> Option<Value>
+        requires { IsNarrow gives.now }
+        ensures { result ≡ value_of gives.now (slots_of self.now) }
+    {
+        match (gives, self) {
+            (Expr::Slot(0), KeptSlots::Two(two)) => Some(two[0]),
+            _ => self.worth_far(gives),
+        }
+    }
+
+    #[inline(never)]
+    fn worth_far(&self, gives: &Expr) -> Option<Value>
+        requires { IsNarrow gives.now }
+        ensures { result ≡ value_of gives.now (slots_of self.now) }
+    {
+        gives.value(self.get())
+    }
+
     /// Puts a value into a slot, where there is such a slot.
+    #[inline(always)]
     pub fn put(&mut self, slot: u32, value: Value)
         ensures { slots_of self.new ≡ slice_set (slots_of self.old) slot value }
     {

@@ -1,6 +1,6 @@
 -- What a call on the locked value did leads on to what is seen after it, and is told of that.
 use Rattle.std.proofs.Common.{◌≡◌, ℕ, ◌+◌, ◌<◌, Bool, true, List, length, refl, sym, ◌∙◌, subst, inl, inr, Option, Some, None, arith, Result, Ok, Err}
-use Rattle.std.specs.Prelude.{IfOk, IfErr, IfSome, OnOk, OnErr, MatchOption, MatchResult}
+use Rattle.std.specs.Prelude.{IfOk, IfErr, OnOk, OnErr, MatchOption, MatchResult}
 use Rattle.bz_model.specs.declared.event.Who.{Who}
 use Rattle.bz_model.specs.declared.event.Reply.{Reply}
 use Rattle.bz_model.specs.declared.event.HostCmd.{HostCmd}
@@ -26,7 +26,7 @@ use Rattle.bz_locked.specs.declared.locked.Polled.TheVariants as told
 use Rattle.bz_locked.specs.Terms.{Terms}
 use Rattle.bz_locked.specs.Commands.{IsEntryOf}
 use Rattle.bz_locked.specs.Waking.{FiresFor, Wakes}
-use Rattle.bz_locked.specs.Working.{IsHeld, Once, HasFired, IsTurn, PollIs, RefusesRest, TellsFirst, WasAdded, WasFirst, WorkIs, stops}
+use Rattle.bz_locked.specs.Working.{IsHeld, Once, HasFired, IsTurn, MustWait, PollIs, RefusesRest, TellsFirst, WasAdded, WasFirst, WorkIs, stops}
 use Rattle.bz_locked.proofs.Seeing.{known, leads_added, leads_same, once}
 
 -- what the keeper knew leads on, where what lay there does
@@ -74,7 +74,8 @@ polled_told t old new fuel a b standings who cmd told.Spent held same is =
     inr (once t (moment new b) _ old fuel a standings held (leads_same old new a b is.1 (λ h. same ∙ h)) (is.0, is.2))
 polled_told t old new fuel a b standings who cmd told.Stopped held same is =
     inr (once t (moment new b) _ old fuel a standings held (leads_same old new a b is.1 (λ h. same ∙ h)) (is.0, is.2))
-polled_told t old new fuel a b standings who cmd told.Wait held same is = inl refl
+polled_told t old new fuel a b standings who cmd told.Wait held same is =
+    inl (refl, once t (moment new b) _ old fuel a standings held (leads_same old new a b is.1 (λ h. same ∙ h)) (is.0, is.2))
 
 pub turn_told : (t : Terms) (saw : Moment) (old new : Simulation) (fuel : ℕ) (a b : Bool) (standings : List Standing) (who : Who) (cmd : HostCmd) (r : Result Polled NetError) → IsHeld t old fuel standings → b ≡ a → saw ≡ moment new b
     → IfOk r (PollIs old new fuel a standings who cmd) → IfOk r (IsTurn t saw who cmd)
@@ -137,9 +138,12 @@ rest_refused t saw old new fuel a b standings (Err e) held is leads resting caus
     subst (λ m. Once t m (λ net fuel stopped standings. RefusesRest net e)) (sym is) (once t (moment new b) (λ net fuel stopped standings. RefusesRest net e) old fuel a standings held leads (resting, cause))
 
 -- what a waiting worker was told
-pub work_told : (Q : Type 0) (t : Terms) (saw : Moment) (net : Simulation) (fuel : ℕ) (stopped : Bool) (standings : List Standing) (r : Option Work) → IsHeld t net fuel standings → saw ≡ moment net stopped
-    → MatchOption r Q (WorkIs net fuel stopped standings) → IfSome r (λ work. Once t saw (λ net fuel stopped standings. WorkIs net fuel stopped standings work))
-work_told Q t saw net fuel stopped standings None held is told = tt
-work_told Q t saw net fuel stopped standings (Some work) held is told =
+pub work_told : (t : Terms) (saw : Moment) (net : Simulation) (fuel : ℕ) (stopped : Bool) (standings : List Standing) (r : Option Work) → IsHeld t net fuel standings → saw ≡ moment net stopped
+    → MatchOption r (MustWait net fuel stopped standings) (WorkIs net fuel stopped standings)
+    → MatchOption r (Once t saw (λ net fuel stopped standings. MustWait net fuel stopped standings)) (λ work. Once t saw (λ net fuel stopped standings. WorkIs net fuel stopped standings work))
+work_told t saw net fuel stopped standings None held is told =
+    subst (λ m. Once t m (λ net fuel stopped standings. MustWait net fuel stopped standings)) (sym is)
+    (once t (moment net stopped) (λ net fuel stopped standings. MustWait net fuel stopped standings) net fuel stopped standings held (here (moment net stopped)) told)
+work_told t saw net fuel stopped standings (Some work) held is told =
     subst (λ m. Once t m (λ net fuel stopped standings. WorkIs net fuel stopped standings work)) (sym is)
     (once t (moment net stopped) (λ net fuel stopped standings. WorkIs net fuel stopped standings work) net fuel stopped standings held (here (moment net stopped)) told)

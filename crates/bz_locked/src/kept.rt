@@ -1,6 +1,6 @@
 //! What lies under the lock, with the keeper of its past: what each call saw there is told to a witness.
 
-ghost use Rattle.std.specs.Prelude.{◌≡◌, ◌+◌, ◌<◌, ◌≤◌, ◌⊎◌, true, length, IfOk, IfErr, IfSome, OnErr, OnOk};
+ghost use Rattle.std.specs.Prelude.{◌≡◌, ◌+◌, ◌<◌, ◌≤◌, ◌⊎◌, true, length, IfOk, IfErr, OnErr, OnOk, MatchOption};
 ghost use Rattle.std.specs.Coded.{codes};
 ghost use Rattle.bz_model.specs.Codes.{term_code};
 ghost use Rattle.bz_past.specs.Moments.{moment, Leads};
@@ -8,7 +8,7 @@ ghost use Rattle.bz_net.specs.Simulation.{Simulation};
 ghost use Rattle.bz_net.specs.Replies.{RefusesCommand};
 ghost use Rattle.bz_locked.specs.Commands.{IsEntryOf, RefusesPoll};
 ghost use Rattle.bz_locked.specs.Waking.{FiresFor};
-ghost use Rattle.bz_locked.specs.Working.{Once, HasFired, IsTurn, WasAdded, WasFirst, WorkIs, RefusesFiring, RefusesRest};
+ghost use Rattle.bz_locked.specs.Working.{Once, HasFired, IsTurn, WasAdded, WasFirst, MustWait, WorkIs, RefusesFiring, RefusesRest};
 
 use crate::ledger::NetLedger;
 use crate::locked::{FireError, Fired, Locked, Polled, Work};
@@ -120,7 +120,9 @@ impl<L: NetLedger> Kept<L> {
     pub fn work(&mut self, past: &Past, witness: &mut Witness) -> Option<Work>
         requires { (past.now ≡ L.past) × (witness.old.table ≡ L.past) }
         ensures witness { (witness.new.table ≡ witness.old.table) × Leads witness.old.seen witness.new.seen }
-        ensures told { IfSome result (λ work. Once L.terms witness.new.seen (λ net fuel stopped standings. WorkIs net fuel stopped standings work)) }
+        ensures told { MatchOption result
+            (Once L.terms witness.new.seen (λ net fuel stopped standings. MustWait net fuel stopped standings))
+            (λ work. Once L.terms witness.new.seen (λ net fuel stopped standings. WorkIs net fuel stopped standings work)) }
     {
         let work = self.locked.work();
         note(past, &mut self.keeper, &self.locked, witness);

@@ -1,7 +1,7 @@
 -- What a move changes: one bit at one end of its channel, and whether the components at its ends can move.
-use Rattle.std.proofs.Common.{◌≡◌, ◌≢◌, ℕ, suc, ◌-◌, ◌<◌, ◌≤◌, inl, inr, Bool, true, false, Option, Some, None, List, length, get_or, set, IsTrue, ◌↔◌, refl, sym, ap, subst, ◌∙◌, arith}
-use Rattle.std.specs.Prelude.{not, if◌then◌else◌, MatchOption, IfSome}
-use Rattle.std.proofs.lemmas.List.{get_or-set_same, get_or-set_other, length-map, length-set, get_or_read}
+use Rattle.std.proofs.Common.{◌≡◌, ◌≢◌, ℕ, suc, ◌-◌, ◌<◌, ◌≤◌, inl, inr, Bool, true, false, Option, Some, None, List, [], length, get_or, set, IsTrue, ◌↔◌, refl, sym, ap, subst, ◌∙◌, arith}
+use Rattle.std.specs.Prelude.{not, if◌then◌else◌, MatchBool, MatchOption, IfSome}
+use Rattle.std.proofs.lemmas.List.{get_or-set_same, get_or-set_other, length-map, length-set, get_or_read, set-get_or}
 use Rattle.std.proofs.lemmas.Bool.{cases_eq, false≢true}
 use Rattle.bz_model.specs.declared.channel.Move.{Move}
 use Rattle.bz_model.specs.declared.channel.Move.TheVariants.{Ask, Take, Reply, Got}
@@ -17,11 +17,24 @@ use Rattle.bz_net.specs.Sides.{answers}
 use Rattle.bz_net.specs.Keeping.{Exact, Refreshed, RefreshedEnds, comp_at, flag_at, is_open, no_comp, phase_in, state_of}
 use Rattle.bz_net.specs.declared.node.Node.{Node}
 use Rattle.bz_net.specs.Nodes.{comp_of, comps_of, here_of, heres_of}
-use Rattle.bz_net.specs.Told.{AreEnds, Came, HasBit, IsTurning, MarkedDue, PutAt, PutEnd, Retold, Sighted, ToldMove, Turned, Went, flag_of, here_at, is_here}
-use Rattle.bz_net.proofs.Nodes.{comp_read}
+use Rattle.bz_net.specs.Told.{AreEnds, Came, Goes, HasBit, IsTurning, Left, MarkedDue, NoneGoes, PutAt, PutEnd, Retold, Sighted, ToldOther, Turned, flag_of, here_at, is_here}
+use Rattle.bz_net.proofs.Nodes.{bits_read, comp_read}
 use Rattle.bz_net.proofs.Sides.{sided-head}
 use Rattle.bz_net.proofs.Ties.{at_other, either_of, not_same}
-use Rattle.bz_net.proofs.Telling.{goes_where, put_len, put_off, put_on, put_room, steps_where, turned_by}
+use Rattle.bz_net.proofs.Telling.{goes_where, put_at, put_len, put_off, put_on, put_room, steps_where, turned_by}
+
+-- what port p of component c waited for was taken from there, and nothing came to the component at the other end
+pub record Went (comps : List Component) (heres heres' : List (List ℕ)) (old new : List Bool) (c p : ℕ) (other : Option ℕ) : Type 0 where
+  pub put : PutAt heres heres' c p false
+  pub turning : IfSome other (λ d. IsTurning (comp_at comps d))
+  pub row : new ≡ old
+
+-- the ends of a channel were told of a move at port p of component c, which is there
+abbrev pub ToldMove : List Component → List (List ℕ) → List (List ℕ) → List Bool → List Bool → Ends → ℕ → ℕ → Move → Type 0
+ToldMove comps heres heres' old new pair c p Ask = Came comps heres heres' old new pair.passive pair.passive_port
+ToldMove comps heres heres' old new pair c p Take = Went comps heres heres' old new c p pair.active
+ToldMove comps heres heres' old new pair c p Reply = Came comps heres heres' old new pair.active pair.active_port
+ToldMove comps heres heres' old new pair c p Got = Went comps heres heres' old new c p pair.passive
 
 -- whether a move brings what the other end waits for
 abbrev comes : Move → Bool
@@ -173,6 +186,28 @@ retold_read sites phases comps comps' heres heres' c p k mv value x rest next pa
 pub comp_is : (nodes : List Node) (c i : ℕ) (x : Node) → 0 < c → c ≤ length nodes → i ≡ c - 1 → x ≡ get_or nodes i x → x.comp ≡ comp_at (comps_of nodes) c
 comp_is nodes c i x from to at is =
     get_or_read (comps_of nodes) (c - 1) x.comp (let len = length-map nodes comp_of in omega (arith, from, to, len)) (comp_read nodes c i x at is) no_comp
+
+pub bits_at : (nodes : List Node) (c i : ℕ) (x : Node) → 0 < c → c ≤ length nodes → i ≡ c - 1 → x ≡ get_or nodes i x → x.here ≡ here_at (heres_of nodes) c
+bits_at nodes c i x from to at is =
+    get_or_read (heres_of nodes) (c - 1) x.here (let len = length-map nodes here_of in omega (arith, from, to, len)) (bits_read nodes c i x at is) []
+
+-- a move leaves as many bits
+pub left_long : (mv : Move) (here here' : List ℕ) (p : ℕ) → Left mv here here' p → length here' ≡ length here
+left_long Ask here here' p left = ap length left
+left_long Take here here' p left = left.long
+left_long Reply here here' p left = ap length left
+left_long Got here here' p left = left.long
+
+-- so an end's port has its bit still
+pub bit_stays : (heres heres' : List (List ℕ)) (c : ℕ) (h : List ℕ) → 0 < c → c ≤ length heres → heres' ≡ set heres (c - 1) h → length h ≡ length (here_at heres c) → (o : Option ℕ) (p : ℕ) → HasBit heres o p → HasBit heres' o p
+bit_stays heres heres' c h from to is long None p has = tt
+bit_stays heres heres' c h from to is long (Some d) p (above, below, room) =
+    let count : length heres' ≡ length heres = ap length is ∙ length-set heres (c - 1) h in
+    let words : length (here_at heres' d) ≡ length (here_at heres d) = ap (λ (l : List (List ℕ)). length (here_at l d)) is ∙ elim (cases_eq (d - 1) (c - 1)) [
+      | inl e ↦ ap (λ (j : ℕ). length (get_or (set heres (c - 1) h) j [])) e ∙ ap length (get_or-set_same heres (c - 1) h [] (omega (arith, from, to))) ∙ long ∙ ap (λ (j : ℕ). length (get_or heres j [])) (sym e)
+      | inr f ↦ ap length (get_or-set_other heres (c - 1) (d - 1) h [] f)
+    ] in
+    (above, omega (arith, below, count), omega (arith, room, words))
 
 -- where there is a bit there is a component
 pub end_there : (nodes : List Node) (end : Option ℕ) (p : ℕ) → HasBit (heres_of nodes) end p → IfSome end (λ c. (0 < c) × (c ≤ length nodes))
@@ -355,6 +390,171 @@ module _ (sites : List Site) (phases : List Phase) (comps : List Component) (her
         others = λ e passive active. refreshed.others e (at_neither mv own e passive active) ∙ mid_apart mv told e passive active;
       }
 
+-- The component c that moved, whose own flag was kept by its node alone, before the other end was told: h is what its move left
+-- there, and goes tells whether it can go by that.
+module _ (comps' : List Component) (heres heres1 heres' : List (List ℕ)) (c p : ℕ) (pair : Ends) (old row new : List Bool) (h : List ℕ) (goes : Bool) (from : 0 < c) (to : c ≤ length heres) (heres_is : heres1 ≡ set heres (c - 1) h) (row_is : row ≡ (if goes then old else set old c false)) where
+  -- the row, had the other end alone been told
+  abbrev came_row : (end : Option ℕ) (r : ℕ) → Came comps' heres1 heres' row new end r → List Bool
+  came_row None r told = old
+  came_row (Some d) r told = if told.marked.due then set old d true else old
+
+  abbrev pub other_row : (mv : Move) → ToldOther comps' heres1 heres' row new pair mv → List Bool
+  other_row Ask told = came_row pair.passive pair.passive_port told
+  other_row Take told = old
+  other_row Reply told = came_row pair.active pair.active_port told
+  other_row Got told = old
+
+  heres_same : h ≡ here_at heres c → heres1 ≡ heres
+  heres_same same = heres_is ∙ ap (set heres (c - 1)) same ∙ set-get_or heres (c - 1) []
+
+  came_told : (end : Option ℕ) (r : ℕ) (told : Came comps' heres1 heres' row new end r) → heres1 ≡ heres → Came comps' heres heres' old (came_row end r told) end r
+  came_told None r told same = record { put = told.put ∙ same; marked = refl }
+  came_told (Some d) r told same = record {
+    put = subst (λ (l : List (List ℕ)). PutAt l heres' d r true) same told.put;
+    marked = record { turning = told.marked.turning; due = told.marked.due; tells = told.marked.tells; row = refl };
+  }
+
+  went_told : (other : Option ℕ) (bits : heres' ≡ heres1) → IfSome other (λ d. IsTurning (comp_at comps' d)) → length h ≡ length (here_at heres c) → flag_of h p ≡ false → ((q : ℕ) → q ≢ p → flag_of h q ≡ flag_of (here_at heres c) q) → Went comps' heres heres' old old c p other
+  went_told other bits turning long at others = record {
+    put = subst (λ (l : List (List ℕ)). PutAt heres l c p false) (sym (bits ∙ heres_is)) (put_at heres c p h false from to long at others);
+    turning = turning;
+    row = refl;
+  }
+
+  pub told_move : (mv : Move) → Left mv (here_at heres c) h p → (told : ToldOther comps' heres1 heres' row new pair mv) → ToldMove comps' heres heres' old (other_row mv told) pair c p mv
+  told_move Ask left told = came_told pair.passive pair.passive_port told (heres_same left)
+  told_move Take left told = went_told pair.active told.bits told.turning left.long left.at_port left.others
+  told_move Reply left told = came_told pair.active pair.active_port told (heres_same left)
+  told_move Got left told = went_told pair.passive told.bits told.turning left.long left.at_port left.others
+
+  -- its flag tells whether it can move, once the other end was told
+  module _ (sites : List Site) (phases' : List Phase) (k : ℕ) (after : Sighted sites phases' comps' heres') (ends : AreEnds sites k pair) (within : c ≤ length sites) (long : length old ≡ suc (length sites)) (was : flag_at old c ≡ true) (turning : IsTurning (comp_at comps' c)) (tells : MatchBool goes (Goes (comp_at comps' c) h) (NoneGoes (comp_at comps' c) h)) where
+    abbrev x : Component
+    x = comp_at comps' c
+
+    bits_are : here_at heres1 c ≡ h
+    bits_are = ap (λ (l : List (List ℕ)). here_at l c) heres_is ∙ get_or-set_same heres (c - 1) h [] (omega (arith, from, to))
+
+    row_flag : flag_at row c ≡ goes
+    row_flag = ap (λ (l : List Bool). flag_at l c) row_is ∙ by_goes goes
+      where
+        by_goes : (b : Bool) → flag_at (if b then old else set old c false) c ≡ b
+        by_goes true = was
+        by_goes false = get_or-set_same old c false false (omega (arith, within, long))
+
+    row_apart : (e : ℕ) → e ≢ c → flag_at row e ≡ flag_at old e
+    row_apart e apart = ap (λ (l : List Bool). flag_at l e) row_is ∙ by_goes goes
+      where
+        by_goes : (b : Bool) → flag_at (if b then old else set old c false) e ≡ flag_at old e
+        by_goes true = refl
+        by_goes false = get_or-set_other old c e false false apart
+
+    row_long : length row ≡ length old
+    row_long = ap length row_is ∙ by_goes goes
+      where
+        by_goes : (b : Bool) → length (if b then old else set old c false) ≡ length old
+        by_goes true = refl
+        by_goes false = length-set old c false
+
+    port_at : (q : ℕ) → 0 < q → q ≤ length x.chans → IsPort sites c q
+    port_at q above last = record { comp_from = from; comp_to = within; port_from = above; port_to = (let len = after.chans_of c from within in omega (arith, last, len)) }
+
+    below : (q : ℕ) → IsPort sites c q → q ≤ length x.chans
+    below q port = let last = port.port_to in let len = after.chans_of c from within in omega (arith, last, len)
+
+    -- by what its move left it can go at a port, or at none
+    go_at : goes ≡ true → Goes x h
+    go_at is = by_goes goes tells is
+      where
+        by_goes : (b : Bool) → MatchBool b (Goes x h) (NoneGoes x h) → b ≡ true → Goes x h
+        by_goes true go e = go
+        by_goes false none e = absurd (false≢true e)
+
+    gone_at : (q : ℕ) → q ≤ length x.chans → CanGo x.proc q (flag_of h q) → goes ≡ true
+    gone_at q le can = by_goes goes tells
+      where
+        by_goes : (b : Bool) → MatchBool b (Goes x h) (NoneGoes x h) → b ≡ true
+        by_goes true go = refl
+        by_goes false none = absurd (none q le can)
+
+    -- nothing came to it
+    own_still : ((q : ℕ) → flag_of (here_at heres' c) q ≡ flag_of h q) → flag_at new c ≡ goes → Exact sites (state_of phases' comps') new c
+    own_still bits flag = record {
+      marked = λ e.
+          let (q, above, last, can) = go_at (sym flag ∙ e) in
+          (q, steps_where sites phases' comps' heres' after c turning q (port_at q above last) (subst (λ (b : Bool). CanGo x.proc q b) (sym (bits q)) can));
+      marks = λ (q, at).
+          flag ∙ gone_at q (below q at.is_port) (subst (λ (b : Bool). CanGo x.proc q b) (bits q) (goes_where sites phases' comps' heres' after c turning q at));
+    }
+
+    -- it stands at both ends, and something came to its port r
+    module _ (r : ℕ) (port : IsPort sites c r) (here : flag_of (here_at heres' c) r ≡ true) (others : (q : ℕ) → q ≢ r → flag_of (here_at heres' c) q ≡ flag_of h q) where
+      goes_there : (q : ℕ) → q ≡ r → (b : Bool) → CanGo x.proc q b → CanGo x.proc r true
+      goes_there q is b can = subst (λ (n : ℕ). CanGo x.proc n true) is (let (m, on, free) = can in (m, on, freer m.move b free))
+
+      own_came : (due : Bool) → IsTrue due ↔ CanGo x.proc r true → flag_at new c ≡ (if due then true else goes) → Exact sites (state_of phases' comps') new c
+      own_came true can flag = record {
+        marked = λ e. (r, steps_where sites phases' comps' heres' after c turning r port (subst (λ (b : Bool). CanGo x.proc r b) (sym here) (can.0 refl)));
+        marks = λ step. flag;
+      }
+      own_came false can flag = record {
+        marked = λ e. let (q, above, last, go) = go_at (sym flag ∙ e) in elim (cases_eq q r) [
+          | inl is ↦ absurd (false≢true (can.1 (goes_there q is (flag_of h q) go)))
+          | inr apart ↦ (q, steps_where sites phases' comps' heres' after c turning q (port_at q above last) (subst (λ (b : Bool). CanGo x.proc q b) (sym (others q apart)) go))
+        ];
+        marks = λ (q, at). let go = goes_where sites phases' comps' heres' after c turning q at in elim (cases_eq q r) [
+          | inl is ↦ absurd (false≢true (can.1 (goes_there q is (flag_of (here_at heres' c) q) go)))
+          | inr apart ↦ flag ∙ gone_at q (below q at.is_port) (subst (λ (b : Bool). CanGo x.proc q b) (others q apart) go)
+        ];
+      }
+
+    own_unchanged : heres' ≡ heres1 → new ≡ row → Refreshed sites (state_of phases' comps') old new c
+    own_unchanged bits same = record {
+      len = ap length same ∙ row_long;
+      here = own_still (λ q. ap (λ (l : List (List ℕ)). flag_of (here_at l c) q) bits ∙ ap (λ (l : List ℕ). flag_of l q) bits_are) (ap (λ (l : List Bool). flag_at l c) same ∙ row_flag);
+      others = λ e apart. ap (λ (l : List Bool). flag_at l e) same ∙ row_apart e apart;
+    }
+
+    came_here : (side : Bool) (d : ℕ) → at_side pair side ≡ Some d → (told : Came comps' heres1 heres' row new (Some d) (port_of_side pair side)) → Exact sites (state_of phases' comps') new c
+    came_here side d at told = elim (cases_eq d c) [
+      | inl same ↦
+          let port = (ends.holds side d at).is_port in
+          let put : PutAt heres1 heres' c (port_of_side pair side) true = subst (λ (n : ℕ). PutAt heres1 heres' n (port_of_side pair side) true) same told.put in
+          own_came (port_of_side pair side) (subst (λ (n : ℕ). IsPort sites n (port_of_side pair side)) same port) put.at_port
+          (λ q ne. put.others c q from (λ e. ne e.1) ∙ ap (λ (l : List ℕ). flag_of l q) bits_are)
+          told.marked.due (subst (λ (n : ℕ). IsTrue told.marked.due ↔ CanGo (comp_at comps' n).proc (port_of_side pair side) true) same told.marked.tells)
+          (subst (λ (n : ℕ). flag_at new n ≡ (if told.marked.due then true else flag_at row n)) same (due_flag row new d told.marked.due (let n = row_long in omega (arith, same, within, long, n)) told.marked.row)
+          ∙ ap (λ (b : Bool). if told.marked.due then true else b) row_flag)
+      | inr apart ↦
+          own_still (λ q. told.put.others c q from (λ e. apart (sym e.0)) ∙ ap (λ (l : List ℕ). flag_of l q) bits_are)
+          (due_apart row new d c told.marked.due (λ e. apart (sym e)) told.marked.row ∙ row_flag)
+    ]
+
+    came_refreshed : (side : Bool) (end : Option ℕ) → at_side pair side ≡ end → (told : Came comps' heres1 heres' row new end (port_of_side pair side)) → Refreshed sites (state_of phases' comps') (came_row end (port_of_side pair side) told) new c
+    came_refreshed side None at told = own_unchanged told.put told.marked
+    came_refreshed side (Some d) at told =
+        let due = told.marked.due in
+        let mid : List Bool = if due then set old d true else old in
+        let from_end = (ends.holds side d at).is_port.comp_to in
+        record {
+          len = due_long row new d due told.marked.row ∙ row_long ∙ sym (due_long old mid d due refl);
+          here = came_here side d at told;
+          others = λ e apart. elim (cases_eq e d) [
+            | inl is ↦
+                subst (λ (n : ℕ). flag_at new n ≡ flag_at mid n) (sym is)
+                (due_flag row new d due (let n = row_long in omega (arith, from_end, long, n)) told.marked.row
+                ∙ ap (λ (b : Bool). if due then true else b) (row_apart d (λ z. apart (is ∙ z)))
+                ∙ sym (due_flag old mid d due (omega (arith, from_end, long)) refl))
+            | inr ne ↦ due_apart row new d e due ne told.marked.row ∙ row_apart e apart ∙ sym (due_apart old mid d e due ne refl)
+          ];
+        }
+
+    pub own_refreshed : (mv : Move) (told : ToldOther comps' heres1 heres' row new pair mv) → Refreshed sites (state_of phases' comps') (other_row mv told) new c
+    own_refreshed Ask told = came_refreshed true pair.passive refl told
+    own_refreshed Take told = own_unchanged told.bits told.row
+    own_refreshed Reply told = came_refreshed false pair.active refl told
+    own_refreshed Got told = own_unchanged told.bits told.row
+
 -- a move by what was read and written: x is the component before it, and the ends were told when it had been moved
 module _ (sites : List Site) (phases : List Phase) (comps moved told_comps : List Component) (heres same_heres heres' : List (List ℕ)) (c p k : ℕ) (mv : Move) (value : Option ℕ) (x rest : Component) (next : Phase) (pair : Ends) (old mid : List Bool) (sighted : Sighted sites phases comps heres) (steps : StepsAt sites (state_of phases comps) c p) (chan_is : k ≡ chan_at sites c p) (x_is : x ≡ get_or comps (c - 1) x) (moves : Moves x.proc p (phase_in phases k) mv value rest.proc) (turns : Turns x p mv rest) (one : HasOneHead x.proc.todo) (chans : rest.chans ≡ x.chans) (next_is : next ≡ phase_after (phase_in phases k) mv value) (ends : AreEnds sites k pair) (moved_is : moved ≡ set comps (c - 1) rest) (heres_is : same_heres ≡ heres) (comps_stay : told_comps ≡ moved) (told : ToldMove moved same_heres heres' old mid pair c p mv) where
   pub told_here : ToldMove told_comps heres heres' old mid pair c p mv
@@ -369,3 +569,32 @@ module _ (sites : List Site) (phases : List Phase) (comps moved told_comps : Lis
   pub moved_refreshed : Sighted sites (set phases (k - 1) next) told_comps heres' → (new : List Bool) → length old ≡ suc (length sites) → ((d : ℕ) → Exact sites (state_of phases comps) old d) → Refreshed sites (state_of (set phases (k - 1) next) told_comps) mid new c → RefreshedEnds sites (state_of (set phases (k - 1) next) told_comps) old new pair
   moved_refreshed after new long exact refreshed =
       refreshed_by_move sites phases comps heres (set phases (k - 1) next) told_comps heres' c p k value pair old mid new sighted after ends long exact refreshed mv moved_turned told_here
+
+-- a move by its node, which holds the component as rest and the bits h after it, and then at the other end
+module _ (sites : List Site) (phases : List Phase) (comps comps' : List Component) (heres heres1 heres' : List (List ℕ)) (c p k : ℕ) (mv : Move) (value : Option ℕ) (x rest : Component) (pair : Ends) (old row new : List Bool) (h : List ℕ) (goes : Bool) (sighted : Sighted sites phases comps heres) (steps : StepsAt sites (state_of phases comps) c p) (chan_is : k ≡ chan_at sites c p) (x_is : x ≡ get_or comps (c - 1) x) (moves : Moves x.proc p (phase_in phases k) mv value rest.proc) (turns : Turns x p mv rest) (one : HasOneHead x.proc.todo) (chans : rest.chans ≡ x.chans) (ends : AreEnds sites k pair) (comps_is : comps' ≡ set comps (c - 1) rest) (heres_is : heres1 ≡ set heres (c - 1) h) (row_is : row ≡ (if goes then old else set old c false)) (left : Left mv (here_at heres c) h p) (told : ToldOther comps' heres1 heres' row new pair mv) where
+  from : 0 < c
+  from = steps.is_port.comp_from
+
+  stands : c ≤ length heres
+  stands = let to = steps.is_port.comp_to in let len = sighted.heres_len in omega (arith, to, len)
+
+  abbrev next : Phase
+  next = phase_after (phase_in phases k) mv value
+
+  abbrev mid : List Bool
+  mid = other_row comps' heres heres1 heres' c p pair old row new h goes from stands heres_is row_is mv told
+
+  both : ToldMove comps' heres heres' old mid pair c p mv
+  both = told_move comps' heres heres1 heres' c p pair old row new h goes from stands heres_is row_is mv left told
+
+  pub node_turned : Turned sites phases comps heres (set phases (k - 1) next) comps' heres' c p k mv value
+  node_turned = moved_turned sites phases comps comps' comps' heres heres heres' c p k mv value x rest next pair old mid sighted steps chan_is x_is moves turns one chans refl ends comps_is refl refl both
+
+  rest_at : rest ≡ comp_at comps' c
+  rest_at = let to = steps.is_port.comp_to in let len = sighted.comps_len in sym (ap (λ (l : List Component). comp_at l c) comps_is ∙ get_or-set_same comps (c - 1) rest no_comp (omega (arith, from, to, len)))
+
+  pub node_refreshed : Sighted sites (set phases (k - 1) next) comps' heres' → length old ≡ suc (length sites) → ((d : ℕ) → Exact sites (state_of phases comps) old d) → IsTurning rest → MatchBool goes (Goes rest h) (NoneGoes rest h) → RefreshedEnds sites (state_of (set phases (k - 1) next) comps') old new pair
+  node_refreshed after long exact turning tells =
+      moved_refreshed sites phases comps comps' comps' heres heres heres' c p k mv value x rest next pair old mid sighted steps chan_is x_is moves turns one chans refl ends comps_is refl refl both after new long exact
+      (own_refreshed comps' heres heres1 heres' c p pair old row new h goes from stands heres_is row_is sites (set phases (k - 1) next) k after ends steps.is_port.comp_to long ((exact c).marks (p, steps))
+      (subst IsTurning rest_at turning) (subst (λ (y : Component). MatchBool goes (Goes y h) (NoneGoes y h)) rest_at tells) mv told)

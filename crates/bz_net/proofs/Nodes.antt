@@ -24,6 +24,13 @@ module _ (nodes : List Node) (c i : ℕ) (x : Node) (at : i ≡ c - 1) (is : x �
   pub bits_read : x.here ≡ get_or (heres_of nodes) (c - 1) x.here
   bits_read = ap here_of here ∙ sym (get_or-map here_of nodes (c - 1) x)
 
+  -- another one was put there
+  pub node_comps : (y : Node) → comps_of (set nodes i y) ≡ set (comps_of nodes) (c - 1) y.comp
+  node_comps y = map-set comp_of nodes i y ∙ ap (λ (k : ℕ). set (comps_of nodes) k y.comp) at
+
+  pub node_heres : (y : Node) → heres_of (set nodes i y) ≡ set (heres_of nodes) (c - 1) y.here
+  node_heres y = map-set here_of nodes i y ∙ ap (λ (k : ℕ). set (heres_of nodes) k y.here) at
+
   -- its component was changed
   module _ (comp : Component) where
     pub comps_changed : comps_of (set nodes i (record { here = x.here; comp = comp })) ≡ set (comps_of nodes) (c - 1) comp

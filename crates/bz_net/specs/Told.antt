@@ -79,6 +79,12 @@ pub record PutAt (heres heres' : List (List ℕ)) (c p : ℕ) (bit : Bool) : Typ
   pub at_port : flag_of (here_at heres' c) p ≡ bit
   pub others : (d q : ℕ) → 0 < d → ((d ≡ c) × (q ≡ p) → ⊥) → flag_of (here_at heres' d) q ≡ flag_of (here_at heres d) q
 
+-- the same of the bits of one component
+pub record PutBit (here here' : List ℕ) (p : ℕ) (bit : Bool) : Type 0 where
+  pub long : length here' ≡ length here
+  pub at_port : flag_of here' p ≡ bit
+  pub others : (q : ℕ) → q ≢ p → flag_of here' q ≡ flag_of here q
+
 abbrev pub PutEnd : List (List ℕ) → List (List ℕ) → Option ℕ → ℕ → Bool → Type 0
 PutEnd heres heres' end p bit = MatchOption end (heres' ≡ heres) (λ c. PutAt heres heres' c p bit)
 
@@ -98,18 +104,25 @@ pub record Came (comps : List Component) (heres heres' : List (List ℕ)) (old n
   pub put : PutEnd heres heres' end p true
   pub marked : MatchOption end (new ≡ old) (λ c. MarkedDue comps old new c p)
 
--- what port p of component c waited for was taken from there, and nothing came to the component at the other end
-pub record Went (comps : List Component) (heres heres' : List (List ℕ)) (old new : List Bool) (c p : ℕ) (other : Option ℕ) : Type 0 where
-  pub put : PutAt heres heres' c p false
-  pub turning : IfSome other (λ d. IsTurning (comp_at comps d))
-  pub row : new ≡ old
+-- the bits of a component that moved at port p: what a take or a got waited for is gone from there
+abbrev pub Left : Move → List ℕ → List ℕ → ℕ → Type 0
+Left Ask here here' p = here' ≡ here
+Left Take here here' p = PutBit here here' p false
+Left Reply here here' p = here' ≡ here
+Left Got here here' p = PutBit here here' p false
 
--- the ends of a channel were told of a move at port p of component c, which is there
-abbrev pub ToldMove : List Component → List (List ℕ) → List (List ℕ) → List Bool → List Bool → Ends → ℕ → ℕ → Move → Type 0
-ToldMove comps heres heres' old new pair c p Ask = Came comps heres heres' old new pair.passive pair.passive_port
-ToldMove comps heres heres' old new pair c p Take = Went comps heres heres' old new c p pair.active
-ToldMove comps heres heres' old new pair c p Reply = Came comps heres heres' old new pair.active pair.active_port
-ToldMove comps heres heres' old new pair c p Got = Went comps heres heres' old new c p pair.passive
+-- nothing came to the component at an end, whose moves turn their ports
+pub record Unchanged (comps : List Component) (heres heres' : List (List ℕ)) (old new : List Bool) (end : Option ℕ) : Type 0 where
+  pub bits : heres' ≡ heres
+  pub row : new ≡ old
+  pub turning : IfSome end (λ c. IsTurning (comp_at comps c))
+
+-- the other end of a channel was told of a move
+abbrev pub ToldOther : List Component → List (List ℕ) → List (List ℕ) → List Bool → List Bool → Ends → Move → Type 0
+ToldOther comps heres heres' old new pair Ask = Came comps heres heres' old new pair.passive pair.passive_port
+ToldOther comps heres heres' old new pair Take = Unchanged comps heres heres' old new pair.active
+ToldOther comps heres heres' old new pair Reply = Came comps heres heres' old new pair.active pair.active_port
+ToldOther comps heres heres' old new pair Got = Unchanged comps heres heres' old new pair.passive
 
 -- each component has as many channels as its site
 abbrev pub HasChans : List Site → List Component → Type 0

@@ -1,6 +1,9 @@
 //! What each component is told of its channels, the lowest port at which it can move by that, and its moves.
 
-ghost use Rattle.std.specs.Prelude.{◌≡◌, ◌≤◌, ◌<◌, ◌*◌, ◌^◌, ℕ, suc, false, true, Some, length, map, MatchOption, MatchBool, IfSome, IfOk};
+ghost use Rattle.std.specs.Prelude.{◌≡◌, ◌≤◌, ◌<◌, ◌*◌, ◌^◌, ℕ, suc, false, length, map, slice_set, if◌then◌else◌, MatchOption, MatchBool, IfSome, IfOk};
+ghost use Rattle.bz_model.specs.declared.channel.Phase.{Phase};
+ghost use Rattle.bz_model.specs.Heads.{CanMove, HasOneHead, Moves, Turns};
+ghost use Rattle.bz_kinds.specs.Riding.{riding};
 ghost use Rattle.bz_model.specs.Nets.{StepsAt};
 ghost use Rattle.bz_flat.specs.Wires.{StandsIn, ends_in};
 ghost use Rattle.bz_flat.specs.Flats.{site_of};
@@ -9,7 +12,7 @@ ghost use Rattle.bz_model.specs.Runs.{CanStep, IsLowest};
 ghost use Rattle.bz_net.specs.Keeping.{comp_at, state_of, Exact, Placed, Refreshed, RefreshedEnds, MarksAll, CommandedAt, phase_in};
 ghost use Rattle.bz_model.specs.Hosts.{host_after};
 ghost use Rattle.bz_net.specs.Nodes.{comps_of, heres_of};
-ghost use Rattle.bz_net.specs.Told.{is_here, flag_of, Goes, NoneGoes, GoesFirst, IsTurning, Sighted, AreEnds, AllAreEnds, HasBit, MarkedDue, PutAt, PutEnd, Retold, ToldMove, Turned, StaysSighted, HostSighted};
+ghost use Rattle.bz_net.specs.Told.{is_here, flag_of, Goes, NoneGoes, GoesFirst, IsTurning, Sighted, AreEnds, AllAreEnds, HasBit, Came, Left, PutEnd, Retold, ToldOther, Turned, StaysSighted, HostSighted};
 
 use crate::kept_phases::Phases;
 use crate::moves::reply_to;
@@ -254,53 +257,78 @@ pub(crate) fn move_comp(
     let chan = site_in(sites, comp).chans[port as usize - 1];
     let place = chan as usize - 1;
     let rides = phases.riding(place);
-    let (mv, value) = bz_kinds::fire(&mut nodes.get_mut(node_id(comp)).comp, port, rides);
+    let (mv, value, goes) = move_node(nodes.get_mut(node_id(comp)), port, rides);
+    keep_marked(ready, comp, goes);
     phases.make(place, mv, value);
     let pair = ends[place];
-    tell_move(nodes, ready, pair, comp, port, mv);
-    refresh(sites, phases, nodes, ready, comp, port);
+    tell_other(nodes, ready, pair, mv);
     (chan, mv, value)
 }
 
-// Tells the ends of a channel of a move at a port there. What a take or a got waited for is gone from that port. What a request
-// or a reply brings is there for the other end.
+// Moves the component of a node at a port, and tells whether it can move then. What a take or a got waited for is gone from
+// the port.
 #[inline(always)]
-fn tell_move(
-    nodes: &mut Arena<Node>,
-    ready: &mut ReadyRow,
-    pair: Ends,
-    comp: u32,
-    port: u32,
-    mv: Move,
-)
-    requires own { HasBit (heres_of nodes.old) (Some comp) port }
-    requires active { HasBit (heres_of nodes.old) pair.active pair.active_port }
-    requires passive { HasBit (heres_of nodes.old) pair.passive pair.passive_port }
-    requires row { length ready.old ≡ suc (length nodes.old) }
-    ensures told { ToldMove (comps_of nodes.old) (heres_of nodes.old) (heres_of nodes.new) ready.old ready.new pair comp port mv }
-    ensures comps { comps_of nodes.new ≡ comps_of nodes.old }
+fn move_node(node: &mut Node, port: u32, rides: Option<Value>) -> (Move, Option<Value>, bool)
+    requires can { (phase : Phase) × CanMove node.old.comp.proc port phase × (rides ≡ riding phase) }
+    requires bit { port < 64 * length node.old.here }
+    requires room { length node.old.comp.chans < 64 * length node.old.here }
+    requires few { length node.old.here ≤ 2 ^ 26 }
+    ensures moves { (phase : Phase) → CanMove node.old.comp.proc port phase → rides ≡ riding phase →
+        Moves node.old.comp.proc port phase result.0 result.1 node.new.comp.proc }
+    ensures turns { Turns node.old.comp port result.0 node.new.comp }
+    ensures one { HasOneHead node.old.comp.proc.todo }
+    ensures chans { node.new.comp.chans ≡ node.old.comp.chans }
+    ensures left { Left result.0 node.old.here node.new.here port }
+    ensures goes { MatchBool result.2 (Goes node.new.comp node.new.here) (NoneGoes node.new.comp node.new.here) }
+    ensures turning { IsTurning node.new.comp }
+{
+    let (mv, value) = bz_kinds::fire(&mut node.comp, port, rides);
+    leave(&mut node.here, port, mv);
+    let goes = can_go(&node.comp, &node.here, port);
+    (mv, value, goes)
+}
+
+// What a move leaves at its own port.
+#[inline(always)]
+fn leave(here: &mut PortBits, port: u32, mv: Move)
+    requires { port < 64 * length here.old }
+    ensures { Left mv here.old here.new port }
 {
     match mv {
-        Move::Ask => tell_other(nodes, ready, pair.passive, pair.passive_port),
-        Move::Take => tell_own(nodes, comp, port, pair.active),
-        Move::Reply => tell_other(nodes, ready, pair.active, pair.active_port),
-        Move::Got => tell_own(nodes, comp, port, pair.passive),
+        Move::Take | Move::Got => here.put(port as usize, false),
+        Move::Ask | Move::Reply => {}
     }
 }
 
-// Nothing that a port may wait for is there. A look at the component at the other end brings what its type says of its moves.
+// Of a component that was marked, keeps the mark where it can move still.
 #[inline(always)]
-fn tell_own(nodes: &mut Arena<Node>, comp: u32, port: u32, other: Option<u32>)
-    requires own { HasBit (heres_of nodes.old) (Some comp) port }
-    requires other { IfSome other (λ c. (0 < c) × (c ≤ length nodes.old)) }
-    ensures put { PutAt (heres_of nodes.old) (heres_of nodes.new) comp port false }
-    ensures turning { IfSome other (λ c. IsTurning (comp_at (comps_of nodes.old) c)) }
-    ensures comps { comps_of nodes.new ≡ comps_of nodes.old }
+fn keep_marked(ready: &mut ReadyRow, comp: u32, goes: bool)
+    requires { comp < length ready.old }
+    ensures { ready.new ≡ (if goes then ready.old else slice_set ready.old comp false) }
 {
-    look_at(nodes, other);
-    tell_end(nodes, Some(comp), port, false);
+    if !goes {
+        ready.remove(comp);
+    }
 }
 
+// Tells the other end of a channel of a move: a request or a reply comes there.
+#[inline(always)]
+fn tell_other(nodes: &mut Arena<Node>, ready: &mut ReadyRow, pair: Ends, mv: Move)
+    requires active { HasBit (heres_of nodes.old) pair.active pair.active_port }
+    requires passive { HasBit (heres_of nodes.old) pair.passive pair.passive_port }
+    requires row { length ready.old ≡ suc (length nodes.old) }
+    ensures told { ToldOther (comps_of nodes.old) (heres_of nodes.old) (heres_of nodes.new) ready.old ready.new pair mv }
+    ensures comps { comps_of nodes.new ≡ comps_of nodes.old }
+{
+    match mv {
+        Move::Ask => come(nodes, ready, pair.passive, pair.passive_port),
+        Move::Take => look_at(nodes, pair.active),
+        Move::Reply => come(nodes, ready, pair.active, pair.active_port),
+        Move::Got => look_at(nodes, pair.passive),
+    }
+}
+
+// Nothing comes to the component at an end. A look at it brings what its type says of its moves.
 #[inline(always)]
 fn look_at(nodes: &Arena<Node>, end: Option<u32>)
     requires { IfSome end (λ c. (0 < c) × (c ≤ length nodes.now)) }
@@ -311,32 +339,22 @@ fn look_at(nodes: &Arena<Node>, end: Option<u32>)
     }
 }
 
-// What a port may wait for is there: where a move is due at it, its component can move.
+// What a port may wait for comes there: where a move is due at it, its component can move.
 #[inline(always)]
-fn tell_other(nodes: &mut Arena<Node>, ready: &mut ReadyRow, end: Option<u32>, port: u32)
+fn come(nodes: &mut Arena<Node>, ready: &mut ReadyRow, end: Option<u32>, port: u32)
     requires bit { HasBit (heres_of nodes.old) end port }
     requires row { length ready.old ≡ suc (length nodes.old) }
-    ensures put { PutEnd (heres_of nodes.old) (heres_of nodes.new) end port true }
-    ensures marked { MatchOption end (ready.new ≡ ready.old)
-        (λ c. MarkedDue (comps_of nodes.old) ready.old ready.new c port) }
+    ensures came { Came (comps_of nodes.old) (heres_of nodes.old) (heres_of nodes.new) ready.old ready.new end port }
     ensures comps { comps_of nodes.new ≡ comps_of nodes.old }
 {
-    mark_due(nodes, ready, end, port);
-    tell_end(nodes, end, port, true);
-}
-
-// Marks the component at an end where a move is due at its port.
-#[inline(always)]
-fn mark_due(nodes: &Arena<Node>, ready: &mut ReadyRow, end: Option<u32>, port: u32)
-    requires end { IfSome end (λ c. (0 < c) × (c ≤ length nodes.now)) }
-    requires row { length ready.old ≡ suc (length nodes.now) }
-    ensures { MatchOption end (ready.new ≡ ready.old)
-        (λ c. MarkedDue (comps_of nodes.now) ready.old ready.new c port) }
-{
-    if let Some(comp) = end {
-        if bz_kinds::has_move(&nodes.get(node_id(comp)).comp, port) {
-            ready.insert(comp);
-        }
+    let Some(comp) = end else {
+        return;
+    };
+    let node = nodes.get_mut(node_id(comp));
+    let is_due = bz_kinds::has_move(&node.comp, port);
+    node.here.put(port as usize, true);
+    if is_due {
+        ready.insert(comp);
     }
 }
 

@@ -84,7 +84,7 @@ impl ReadyRow {
     {
         match &mut self.kept {
             KeptReady::Listed(set) => set.insert(comp),
-            KeptReady::Marked(row) => row.set(comp as usize, true),
+            KeptReady::Marked(row) => row.raise(comp as usize),
         }
     }
 
@@ -95,7 +95,7 @@ impl ReadyRow {
     {
         match &mut self.kept {
             KeptReady::Listed(set) => set.remove(comp),
-            KeptReady::Marked(row) => row.set(comp as usize, false),
+            KeptReady::Marked(row) => row.lower(comp as usize),
         }
     }
 

@@ -1,11 +1,9 @@
 -- What the threads of a pool have done, before the net is closed.
 use Rattle.std.specs.Prelude.{◌≡◌, ℕ, ⊤, List, [], ◌∷◌, ◌++◌, length}
-use Rattle.std.specs.List.{All}
 use Rattle.std.specs.declared.alloc.Global.{Global}
 use Rattle.std.specs.declared.vec.Vec.{Vec}
 use Rattle.bz_model.specs.declared.event.HostCmd.{HostCmd}
 use Rattle.bz_model.specs.declared.event.Who.{Who}
-use Rattle.bz_model.specs.Nets.{Wiring}
 use Rattle.bz_locked.specs.Closing.{FirstDiscord}
 use Rattle.bz_locked.specs.Parts.{SessionView, WorkerView}
 use Rattle.bz_locked.specs.declared.closing.Closed.{Closed}

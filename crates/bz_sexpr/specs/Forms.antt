@@ -1,7 +1,7 @@
 -- How contracts see data that are read one at a time.
 use Rattle.std.specs.Prelude.{ℕ, List, [], ◌∷◌, map, Option, Some, None}
 use Rattle.bz_sexpr.specs.Data as spec
-use Rattle.bz_sexpr.specs.Views.{data_of, datum_view}
+use Rattle.bz_sexpr.specs.Views.{list_of, data_of, datum_view}
 use Rattle.bz_sexpr.specs.Nodes.{between, unquoted, leaf_in, datum_at, forest}
 use Rattle.bz_sexpr.specs.declared.datum.Span.{Span}
 use Rattle.bz_sexpr.specs.declared.form.Form.{Form}
@@ -38,6 +38,18 @@ leaf_view (leaf.Symbol s) = spec.symbol s.now
 abbrev pub shape_view : Shape → Span → spec.Datum
 shape_view (shape.Leaf l) span = spec.leaf (leaf_view l) span
 shape_view (shape.Items f) span = spec.items (data_of (forms_view f)) span
+
+-- the data in a datum that is a list
+abbrev pub items_in : spec.Datum → Option (List spec.Datum)
+items_in (spec.items ds span) = Some (list_of ds)
+items_in (spec.leaf l span) = None
+
+-- a number and a symbol that are pieces of a text
+abbrev pub number_at : ℕ → Span → spec.Datum
+number_at n span = spec.leaf (spec.num n) span
+
+abbrev pub symbol_at : List ℕ → Span → spec.Datum
+symbol_at s span = spec.leaf (spec.symbol s) span
 
 -- the first datum and those behind it, where there is one
 abbrev pub first_and_rest : Option (Form × Forms) → List spec.Datum

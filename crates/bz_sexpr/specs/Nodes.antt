@@ -1,7 +1,7 @@
 -- Data laid out as the nodes of a text, and the data that nodes stand for.
-use Rattle.std.specs.Prelude.{ℕ, ◌+◌, ◌-◌, ◌==◌, List, [], ◌∷◌, ◌++◌, length, take, drop, Option, Some, None, if◌then◌else◌}
-use Rattle.bz_sexpr.specs.Bytes.{open_paren, quote, backslash, kept}
-use Rattle.bz_sexpr.specs.Data.{Leaf, text, symbol, leaf_of, Datum, leaf, items, Data, none, more}
+use Rattle.std.specs.Prelude.{ℕ, ◌-◌, ◌==◌, List, [], ◌∷◌, ◌++◌, length, take, drop, Option, Some, None, if◌then◌else◌}
+use Rattle.bz_sexpr.specs.Bytes.{open_paren, quote, backslash, kept, is_number, decimal_value}
+use Rattle.bz_sexpr.specs.Data.{Leaf, num, text, symbol, leaf_of, Datum, leaf, items, Data, none, more}
 use Rattle.bz_sexpr.specs.Views.{list_of, data_of}
 use Rattle.bz_sexpr.specs.declared.datum.Span.{Span}
 use Rattle.bz_sexpr.specs.declared.node.Node.{Node}
@@ -32,6 +32,10 @@ unquoted (b ∷ c ∷ raw) = if b == backslash then kept c ∷ unquoted raw else
 -- all but the last
 abbrev pub but_last : List ℕ → List ℕ
 but_last bytes = take (length bytes - 1) bytes
+
+-- what a run stands for that is no truth value
+abbrev pub unmarked : List ℕ → Leaf
+unmarked run = if is_number run then num (decimal_value run) else symbol run
 
 -- the leaf that a piece of a text spells; none where it spells a list
 unfoldable pub leaf_in : List ℕ → Option Leaf

@@ -1,9 +1,10 @@
 //! Data as they are read: those of a tree, or those that the nodes of a text stand for.
 
-ghost use Rattle.std.specs.Prelude.{◌≡◌, length};
-ghost use Rattle.bz_sexpr.specs.Nodes.{row, forest};
+ghost use Rattle.std.specs.Prelude.{◌≡◌, length, true, false, IfSome, IsSome, Some, None};
+ghost use Rattle.bz_sexpr.specs.Data.{leaf_of, num, symbol};
+ghost use Rattle.bz_sexpr.specs.Nodes.{row, forest, leaf_in, unmarked};
 
-use crate::bytes::{number, unquoted};
+use crate::bytes::{number, short_number, unquoted};
 use crate::node::Node;
 use crate::{Datum, Span};
 use std::alloc::{AllocError, Global};
@@ -68,6 +69,53 @@ pub enum Shape<'t> {
     Items(Forms<'t>),
 }
 
+// Whether a piece of a text spells a list.
+#[inline(always)]
+fn opens_list(piece: &[u8]) -> bool
+    ensures list { result ≡ true → leaf_in piece.now ≡ None }
+    ensures leaf { result ≡ false → IsSome (leaf_in piece.now) }
+{
+    match piece.split_first() {
+        Some((first, _)) => *first == b'(',
+        None => false,
+    }
+}
+
+// Whether a run begins with the byte that a truth value begins with.
+#[inline(always)]
+fn begins_with_mark(run: &[u8]) -> bool
+    ensures { result ≡ false → leaf_of run.now ≡ unmarked run.now }
+{
+    match run.split_first() {
+        Some((first, _)) => *first == b'#',
+        None => false,
+    }
+}
+
+// The number that a piece spells, where it has up to nine digits and is one. None tells nothing.
+#[inline(always)]
+fn short_run(piece: &[u8]) -> Option<u32>
+    ensures { IfSome result (λ n. leaf_in piece.now ≡ Some (num n)) }
+{
+    let (first, _) = piece.split_first()?;
+    if *first < b'0' || piece.len() > 9 {
+        return None;
+    }
+    short_number(piece)
+}
+
+// The piece, where it begins with a small letter. None tells nothing.
+#[inline(always)]
+fn word(piece: &[u8]) -> Option<&[u8]>
+    ensures { IfSome result (λ s. leaf_in piece.now ≡ Some (symbol s.now)) }
+{
+    let (first, _) = piece.split_first()?;
+    if *first < b'a' {
+        return None;
+    }
+    Some(piece)
+}
+
 impl<'t> NodeForms<'t> {
     ghost use Rattle.std.specs.Option.{option_map};
     ghost use Rattle.bz_sexpr.specs.Forms.{forms_view, first_and_rest};
@@ -92,8 +140,9 @@ impl<'t> NodeForms<'t> {
 }
 
 impl<'t> NodeForm<'t> {
+    ghost use Rattle.std.specs.Option.{option_map};
     ghost use Rattle.bz_sexpr.specs.Data.{span_of};
-    ghost use Rattle.bz_sexpr.specs.Forms.{form_view, shape_view};
+    ghost use Rattle.bz_sexpr.specs.Forms.{form_view, forms_view, items_in, shape_view};
 
     #[inline(always)]
     fn shape(self) -> Shape<'t>
@@ -107,6 +156,20 @@ impl<'t> NodeForm<'t> {
                 len: self.node.inside(),
             })),
         }
+    }
+
+    #[inline(always)]
+    fn items(self) -> Option<Forms<'t>>
+        ensures { option_map forms_view result ≡ items_in (form_view (Form.Node self.entry)) }
+    {
+        if opens_list(self.node.piece(self.text)) {
+            return Some(Forms::Nodes(NodeForms {
+                text: self.text,
+                nodes: self.inner,
+                len: self.node.inside(),
+            }));
+        }
+        None
     }
 
     fn span(self) -> Span
@@ -141,9 +204,23 @@ impl<'t> Leaf<'t> {
     }
 
     /// What a run is.
-    #[tactic(auto, unfolding(crate::specs::Data::leaf_of))]
     #[inline(always)]
     fn of_run(run: &'t [u8]) -> Leaf<'t>
+        ensures { leaf_view result ≡ leaf_of run.now }
+    {
+        if begins_with_mark(run) {
+            return Leaf::marked(run);
+        }
+        match number(run) {
+            Some(n) => Leaf::Num(n),
+            None => Leaf::Symbol(run),
+        }
+    }
+
+    /// The same, of any run.
+    #[tactic(auto, unfolding(crate::specs::Data::leaf_of))]
+    #[inline(never)]
+    fn marked(run: &'t [u8]) -> Leaf<'t>
         ensures { leaf_view result ≡ leaf_of run.now }
     {
         if run == b"#t".as_slice() {
@@ -189,9 +266,27 @@ impl<'t> Forms<'t> {
     }
 }
 
+impl<'t> Shape<'t> {
+    ghost use Rattle.std.specs.Option.{option_map};
+    ghost use Rattle.bz_sexpr.specs.declared.datum.Span.{Span};
+    ghost use Rattle.bz_sexpr.specs.Forms.{forms_view, items_in, shape_view};
+
+    /// The data in a datum of this shape, where it is a list.
+    fn items(self) -> Option<Forms<'t>>
+        ensures { (span : Span) → option_map forms_view result ≡ items_in (shape_view self.entry span) }
+    {
+        match self {
+            Shape::Items(items) => Some(items),
+            Shape::Leaf(_) => None,
+        }
+    }
+}
+
 impl<'t> Form<'t> {
+    ghost use Rattle.std.specs.Prelude.{IfSome};
+    ghost use Rattle.std.specs.Option.{option_map};
     ghost use Rattle.bz_sexpr.specs.Data.{span_of};
-    ghost use Rattle.bz_sexpr.specs.Forms.{form_view, shape_view};
+    ghost use Rattle.bz_sexpr.specs.Forms.{form_view, forms_view, items_in, number_at, shape_view, symbol_at};
 
     #[inline(always)]
     pub fn shape(self) -> Shape<'t>
@@ -206,6 +301,39 @@ impl<'t> Form<'t> {
             Form::Datum(Datum::Symbol(name, _)) => Shape::Leaf(Leaf::Symbol(name.as_slice())),
             Form::Datum(Datum::Items(items, _)) => Shape::Items(Forms::Data(items.as_slice())),
             Form::Node(node) => node.shape(),
+        }
+    }
+
+    /// The data in it, where it is a list.
+    #[inline(always)]
+    pub fn items(self) -> Option<Forms<'t>>
+        ensures { option_map forms_view result ≡ items_in (form_view self.entry) }
+    {
+        match self {
+            Form::Datum(_) => self.shape().items(),
+            Form::Node(node) => node.items(),
+        }
+    }
+
+    /// The number that it is, where it stands in a text and has up to nine digits. None tells nothing.
+    #[inline(always)]
+    pub fn short_number(self) -> Option<u32>
+        ensures { IfSome result (λ n. form_view self.entry ≡ number_at n (span_of (form_view self.entry))) }
+    {
+        match self {
+            Form::Datum(_) => None,
+            Form::Node(node) => short_run(node.node.piece(node.text)),
+        }
+    }
+
+    /// The symbol that it is, where it stands in a text and begins with a small letter. None tells nothing.
+    #[inline(always)]
+    pub fn word(self) -> Option<&'t [u8]>
+        ensures { IfSome result (λ s. form_view self.entry ≡ symbol_at s.now (span_of (form_view self.entry))) }
+    {
+        match self {
+            Form::Datum(_) => None,
+            Form::Node(node) => word(node.node.piece(node.text)),
         }
     }
 

@@ -1,5 +1,5 @@
 -- A whole line: what stands at the front is read, and what is read stands there.
-use Rattle.std.proofs.Common.{◌≡◌, ℕ, false, List, [], ◌∷◌, ◌++◌, Option, Some, None, refl, sym, ap, subst, ◌∙◌, arith, append_assoc, ◌⊎◌, inl, inr, codes}
+use Rattle.std.proofs.Common.{◌≡◌, ℕ, false, List, [], ◌∷◌, ◌++◌, Option, Some, None, refl, sym, ap, subst, ◌∙◌, arith, append_assoc, ◌⊎◌, inl, inr, codes, ◌+◌, ◌-◌, ◌<◌, ◌≤◌}
 use Rattle.std.specs.Prelude.{unwrap_or}
 use Rattle.std.specs.Fmt.{decimal}
 use Rattle.bz_model.specs.declared.channel.Move.{Move}
@@ -15,6 +15,7 @@ use Rattle.bz_model.specs.Traces.{who_text, move_text, verb_text, value_text, re
 use Rattle.bz_model.specs.Entries.{IsWho, IsHost, IsNumber32, IsReply, IsCarried, IsGiven, HasLine, told, carries_at}
 use Rattle.bz_trace_text.specs.Reading.{strip, number_at, who_at, move_at, verb_at, carried_at, fired_at, reply_end, port_from, given_at, host_at, event_at, line_at, begins_digit, most_number, fired_else, of_host}
 use Rattle.bz_trace_text.proofs.Strips.{none-some, strip_takes}
+use Rattle.std.proofs.lemmas.Fmt.{decimal_digit}
 use Rattle.bz_trace_text.proofs.Numbers.{number_again}
 use Rattle.bz_trace_text.proofs.PortLaws.{else_takes, port_takes, port_again, named}
 use Rattle.bz_trace_text.proofs.Taken.{answered, bind_some, number32_takes, who_takes, move_takes, verb_takes, carried_takes, reply_takes, given_takes, given_text}
@@ -63,6 +64,20 @@ host_again net w v name port value r t number is said =
 event_fired : (net : Outside) (w : Who) (t : List ℕ) → event_at net w (codes " fire " ++ t) ≡ fired_at net w t
 unfolding event_at strip
 event_fired net w t = refl
+
+-- the line of a worker's firing is read by its worker, and then from its component on
+worker_line : (net : Outside) (n : ℕ) (t r : List ℕ) → 0 < n → n ≤ 8 → strip (codes " fire ") t ≡ Some r → line_at net (119 ∷ (48 + n) ∷ t) ≡ fired_at net (who.Worker n) r
+unfolding line_at
+worker_line net n t r some few e =
+    let read = rw (decimal_digit n (omega (arith, few))) at (who_again (who.Worker n) (codes "fire " ++ r) (some, few)) in
+    rw (strip_takes (codes " fire ") t r e, read) (event_fired net (who.Worker n) r)
+
+pub worker_fires : (net : Outside) (letter digit : ℕ) (text rest t r : List ℕ) → text ≡ letter ∷ rest → letter ≡ 119 → rest ≡ digit ∷ t → 49 ≤ digit → digit ≤ 56 → strip (codes " fire ") t ≡ Some r
+    → line_at net text ≡ fired_at net (who.Worker (digit - 48)) r
+worker_fires net letter digit text rest t r whole is then from to e =
+    let same : digit ≡ 48 + (digit - 48) = omega (arith, from) in
+    let all : text ≡ 119 ∷ (48 + (digit - 48)) ∷ t = rw (whole, is, then) (ap (λ d. 119 ∷ d ∷ t) same) in
+    rw all (worker_line net (digit - 48) t r (omega (arith, from)) (omega (arith, to)) e)
 
 event_rested : (net : Outside) (w : Who) (t : List ℕ) → event_at net w (codes " rest\n" ++ t) ≡ Some (entry.Rested w, t)
 unfolding event_at strip

@@ -2,3 +2,4 @@ pub mod Writing
 pub mod Reading
 pub mod Texts
 pub mod Counting
+pub mod Spelling

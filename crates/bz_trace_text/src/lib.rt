@@ -2,10 +2,12 @@
 #![tactic(auto)]
 
 mod counting;
+mod numeral;
 mod outgoing;
 mod page;
 mod ports;
 mod reading;
+mod spelled;
 mod tally;
 mod text;
 mod trace;

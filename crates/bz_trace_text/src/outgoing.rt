@@ -5,8 +5,10 @@ ghost use Rattle.bz_model.specs.Traces.{fired_text, rested_text};
 ghost use Rattle.bz_trace_text.specs.Writing.{GoneBut, IsGone};
 
 use crate::page::Page;
+use crate::spelled::Spelled;
 use crate::trace::{add_fired, add_rested};
 use bz_model::{Move, Value, Who};
+use std::alloc::Global;
 use std::io::Write;
 
 /// Lines of a trace on a page that goes out when it is full, and whether the writer has failed: then nothing more goes out.
@@ -14,19 +16,30 @@ use std::io::Write;
 pub struct Outgoing {
     page: Page,
     failed: bool,
+    spelled: Spelled,
 }
 
 impl Outgoing {
-    /// No line yet, for a writer that has failed before or has not.
-    #[inline(always)]
-    pub fn new(failed: bool) -> Outgoing
+    /// No line yet, for a writer that has failed before or has not. The numbers below `count` are spelled once for all lines,
+    /// unless they are many or there is no memory for them. After this no memory is taken.
+    pub fn new(alloc: Global, count: usize, failed: bool) -> Outgoing
         ensures { (start now : Option (List ℕ)) (text : List ℕ) →
             GoneBut start now failed [] text → IsGone start now result text }
     {
         Outgoing {
             page: Page::new(),
             failed,
+            spelled: Spelled::new(alloc, count),
         }
+    }
+
+    /// Begins again without a line, for a writer that has failed before or has not.
+    pub fn begin(&mut self, failed: bool)
+        ensures { (start now : Option (List ℕ)) (text : List ℕ) →
+            GoneBut start now failed [] text → IsGone start now self.new text }
+    {
+        self.page.clear();
+        self.failed = failed;
     }
 
     /// Composes the line of a firing.
@@ -44,7 +57,8 @@ impl Outgoing {
             IsGone start (W.contents out.new) self.new (text ++ fired_text who comp mv chan value) }
     {
         self.make_room(out);
-        add_fired(&mut self.page, who, comp, mv, chan, value);
+        let spelled = self.spelled.as_slice();
+        add_fired(&mut self.page, spelled, who, comp, mv, chan, value);
     }
 
     /// Composes the line that tells of rest.
@@ -86,7 +100,7 @@ impl Outgoing {
         ensures empty { self.new.page ≡ [] }
     {
         if self.failed {
-            self.page = Page::new();
+            self.page.clear();
         } else {
             self.failed = self.page.put(out).is_err();
         }

@@ -2,7 +2,9 @@
 
 ghost use Rattle.std.specs.Prelude.{◌≡◌, ℕ, ◌+◌, ◌<◌, ◌≤◌, List, [], ◌∷◌, ◌++◌, ◌↔◌, length, take, drop, decimal, IsTrue};
 ghost use Rattle.bz_text.specs.Writing.{Writes};
+ghost use Rattle.bz_trace_text.specs.Spelling.{AreSpelled};
 
+use crate::numeral::Numeral;
 use bz_model::Value;
 use bz_text::{WriteFault, put};
 use std::io::Write;
@@ -34,6 +36,13 @@ impl Page {
             bytes: [0; ROOM],
             at: 0,
         }
+    }
+
+    #[inline(always)]
+    pub(crate) fn clear(&mut self)
+        ensures { self.new ≡ [] }
+    {
+        self.at = 0;
     }
 
     /// Whether there is room for a line of 96 bytes.
@@ -85,6 +94,23 @@ impl Page {
         self.at = set_number(&mut self.bytes, self.at, n);
     }
 
+    /// The same, of a number that may be spelled already.
+    #[inline(always)]
+    pub(crate) fn spelled(&mut self, spelled: &[Numeral], n: u32)
+        requires room { length self.old + 10 ≤ 8192 }
+        requires told { AreSpelled spelled.now }
+        ensures text { self.new ≡ self.old ++ decimal n }
+        ensures short { length self.new ≤ length self.old + 10 }
+    {
+        let place = n as usize;
+        if place < spelled.len() {
+            let numeral = spelled[place];
+            self.word(numeral.bytes, usize::from(numeral.len));
+        } else {
+            self.number(n);
+        }
+    }
+
     #[inline(always)]
     pub fn value(&mut self, value: Value)
         requires { length self.old + 39 ≤ 8192 }
@@ -130,7 +156,7 @@ fn set_text(bytes: &mut [u8], at: usize, text: &[u8])
 
 // Writes the digits at a place, and answers the place after them.
 #[inline(always)]
-fn set_number(bytes: &mut [u8], at: usize, n: u32) -> usize
+pub(crate) fn set_number(bytes: &mut [u8], at: usize, n: u32) -> usize
     requires { at + 10 ≤ length bytes.old }
     ensures within { result ≤ at + 10 }
     ensures text { take result bytes.new ≡ take at bytes.old ++ decimal n }
@@ -156,7 +182,7 @@ fn set_wide(bytes: &mut [u8], at: usize, n: Value) -> usize
 
 // How many digits a number has.
 #[inline(always)]
-fn digits(n: u32) -> usize
+pub(crate) fn digits(n: u32) -> usize
     ensures count { result ≡ length (decimal n) }
     ensures few { result ≤ 10 }
 {

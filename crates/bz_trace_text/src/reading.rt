@@ -2,6 +2,7 @@
 
 ghost use Rattle.std.specs.Prelude.{◌≡◌, ◌≤◌, ◌<◌, ◌^◌, ◌++◌, codes, length, map, IfSome, Some, None};
 ghost use Rattle.bz_model.specs.Entries.{carries_at};
+ghost use Rattle.bz_model.specs.Names.{Outside};
 ghost use Rattle.bz_trace_text.specs.Reading.{Reads, strip, digits_on, number_at, who_number, who_at, move_at, verb_at, carried_at, fired_at, value_end, phase_end, reply_end, given_at, host_at, event_at, line_at, clash_at, begins_digit, may_bring, most_number, most_value};
 
 use crate::ports::{LineNames, port_at};
@@ -137,6 +138,7 @@ fn who_at(text: &[u8]) -> Option<(Who, &[u8])>
 
 /// The move at the front, and a space.
 #[tactic(auto, unfolding(crate::specs::Reading::move_at))]
+#[inline(always)]
 fn move_at(text: &[u8]) -> Option<(Move, &[u8])>
     ensures { Reads (λ r. (r.0, r.1.now)) result (move_at text.now) }
 {
@@ -189,6 +191,7 @@ fn carried_at(text: &[u8], carried: bool) -> Option<(Option<Value>, &[u8])>
 }
 
 /// Whether a move on a channel carries a value: on no channel that the net does not have.
+#[inline(always)]
 fn carried(names: &Names, chan: u32, mv: Move) -> bool
     ensures { result ≡ carries_at names.now.chans chan mv }
 {
@@ -361,13 +364,43 @@ fn event_at<'a>(names: &LineNames, who: Who, text: &'a [u8]) -> Option<(Entry, &
     }
 }
 
-/// The entry whose line stands at the front, and what follows it.
+/// Any line of an entry, and what follows it.
 #[tactic(auto, unfolding(crate::specs::Reading::line_at))]
-pub fn line_at<'a>(names: &LineNames, text: &'a [u8]) -> Option<(Entry, &'a [u8])>
+#[inline(never)]
+fn any_line_at<'a>(names: &LineNames, text: &'a [u8]) -> Option<(Entry, &'a [u8])>
     ensures { Reads (λ r. (r.0, r.1.now)) result (line_at names.now text.now) }
 {
     let (who, text) = who_at(text)?;
     event_at(names, who, text)
+}
+
+/// The worker whose firing stands at the front, and its line from the component on.
+#[inline(always)]
+fn worker_fires(text: &[u8]) -> Option<(u8, &[u8])>
+    ensures { (net : Outside) → IfSome result (λ r. line_at net text.now ≡ fired_at net (Who.Worker r.0) r.1.now) }
+{
+    let (letter, rest) = text.split_first()?;
+    if *letter != b'w' {
+        return None;
+    }
+    let (digit, rest) = rest.split_first()?;
+    if *digit < b'1' || *digit > b'8' {
+        return None;
+    }
+    let rest = strip(rest, b" fire ")?;
+    Some((*digit - b'0', rest))
+}
+
+/// The entry whose line stands at the front, and what follows it.
+#[inline(always)]
+pub fn line_at<'a>(names: &LineNames, text: &'a [u8]) -> Option<(Entry, &'a [u8])>
+    ensures { Reads (λ r. (r.0, r.1.now)) result (line_at names.now text.now) }
+{
+    // Most lines are firings of workers, so these are read without a call.
+    match worker_fires(text) {
+        Some((worker, text)) => fired_at(names.names(), Who::Worker(worker), text),
+        None => any_line_at(names, text),
+    }
 }
 
 /// The component of the clash line at the front, and what follows it.

@@ -6,8 +6,10 @@ ghost use Rattle.bz_model.specs.declared.event.Entry.{Entry};
 ghost use Rattle.bz_model.specs.Names.{External, port_name};
 ghost use Rattle.bz_model.specs.Traces.{who_text, move_text, value_text, fired_text, host_text, rested_text, line_text, clash_text, trace_text, trace_text_1};
 ghost use Rattle.bz_text.specs.Writing.{Writes};
+ghost use Rattle.bz_trace_text.specs.Spelling.{AreSpelled};
 ghost use Rattle.bz_trace_text.specs.Writing.{Composes, HasLines, WritesLines};
 
+use crate::numeral::Numeral;
 use crate::page::Page;
 use bz_model::{Entry, Move, Names, Reply, Value, Verb, Who};
 use bz_text::{Piece, WriteFault, put, put_pieces};
@@ -136,7 +138,7 @@ fn add_entry<W: Write>(
             value,
         } => {
             make_room(page, out)?;
-            add_fired(page, who, comp, mv, chan, value);
+            add_fired(page, &[], who, comp, mv, chan, value);
             Ok(())
         }
         Entry::Host {
@@ -178,25 +180,27 @@ fn name_of(names: &Names, port: u32) -> &[u8]
     }
 }
 
-// Composes the line of a firing: 88 bytes at most.
+// Composes the line of a firing: 88 bytes at most. Numbers that are spelled already are taken from there.
 #[inline(always)]
 pub(crate) fn add_fired(
     page: &mut Page,
+    spelled: &[Numeral],
     who: Who,
     comp: u32,
     mv: Move,
     chan: u32,
     value: Option<Value>,
 )
-    requires { length page.old + 96 ≤ 8192 }
+    requires room { length page.old + 96 ≤ 8192 }
+    requires told { AreSpelled spelled.now }
     ensures { page.new ≡ page.old ++ fired_text who comp mv chan value }
 {
     add_who(page, who);
     page.word(*b" fire   ", 6);
-    page.number(comp);
+    page.spelled(spelled, comp);
     let (word, len) = move_word(mv);
     page.word(word, len);
-    page.number(chan);
+    page.spelled(spelled, chan);
     add_value(page, value);
     page.byte(b'\n');
 }

@@ -20,30 +20,9 @@ pub const CELL: &str =
  (components (component \"$BrzVariable\" (8 1 \"v\" \"\") (1 (2)))))
 ";
 
-/// A part with nothing in it.
-pub const EMPTY: &str = "(breeze-part \"p\" (ports) (channels) (components))";
-
 /// A sequence whose one output is its own activation.
 pub const KNOT: &str = "(breeze-part \"knot\" (ports) (channels (sync))
  (components (component \"$BrzSequence\" () (1 (1)))))";
-
-/// A Continue on port `s`, and a variable on ports `w` and `r`.
-pub const ECHO: &str = "(breeze-part \"echo\"
- (ports (sync-port \"s\" passive) (port \"w\" passive input) (port \"r\" passive output))
- (channels (sync) (push 8) (pull 8))
- (components
-  (component \"$BrzContinue\" () (1))
-  (component \"$BrzVariable\" (8 1 \"v\" \"\") (2 (3)))))
-";
-
-/// Once asked on `go`: a handshake on `s`, then a value fetched from `i` to `o`.
-pub const WIRES: &str = "(breeze-part \"wires\"
- (ports (sync-port \"go\" passive) (sync-port \"s\" active) (port \"i\" active input) (port \"o\" active output))
- (channels (sync) (sync) (pull 8) (push 8) (sync))
- (components
-  (component \"$BrzSequence\" (2) (1 (2 5)))
-  (component \"$BrzFetch\" (8) (5 3 4))))
-";
 
 /// The one-place buffer as a compiler writes it, with what is not looked at.
 pub const DECORATED: &str = ";;; Breeze file

@@ -42,6 +42,14 @@ impl Bench for SummedRow {
             "next" => show(alloc, &self.next_from(place)),
             _ if place >= self.len() => Err("no such place".into()),
             "get" => show(alloc, &self.get(place)),
+            "raise" => {
+                self.raise(place);
+                done(alloc)
+            }
+            "lower" => {
+                self.lower(place);
+                done(alloc)
+            }
             _ => {
                 self.set(place, words.text() == "true");
                 done(alloc)
@@ -102,6 +110,10 @@ next 65 | Some(4095)
 next 4096 | Some(599999)
 set 4095 false
 get 4095 | false
+next 65 | Some(599999)
+raise 4096
+next 65 | Some(4096)
+lower 4096
 next 65 | Some(599999)
 set 599999 false
 next 65 | None

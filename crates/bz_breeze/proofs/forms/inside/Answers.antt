@@ -1,11 +1,6 @@
-use Rattle.std.proofs.Common.{◌∙◌, ap, sym, Some}
-use Rattle.bz_sexpr.specs.Data.{span_of}
-use Rattle.bz_sexpr.specs.Forms.{form_view, shape_view}
-use Rattle.bz_breeze.specs.Turns.{inside}
-use Rattle.bz_breeze.proofs.Reading.{list_of-data_of}
+use Rattle.std.proofs.Common.{◌∙◌}
+use Rattle.bz_breeze.proofs.Heads.{inside_is}
 use Rattle.bz_breeze.proofs.forms.inside.Goals as goal
 
-pub returns-in-Items : goal.returns-in-Items
-returns-in-Items c =
-    let span = span_of (form_view c.args.form) in
-    sym (ap inside (sym c.shape.ensures ∙ ap (λ s. shape_view s span) c.in-Items.is) ∙ ap Some (list_of-data_of _))
+pub returns : goal.returns
+returns c = c.items.ensures ∙ inside_is _

@@ -13,7 +13,7 @@ returns-clause-goes g c =
       made = run.made;
       leads = run.leads;
       sent = λ start played sent.
-          let begun = c.new-lines.ensures start now (first_lines ports played) (none_waits ports start now ready.failed played ready.entries.items c.put.ensures.none (put start played sent)) in
+          let begun = c.begin.ensures start now (first_lines ports played) (none_waits ports start now ready.failed played ready.entries.items c.put.ensures.none (put start played sent)) in
           let ended = c.finish-pending.ensures start (first_lines ports (played ++ run.entries)) (run.gone ports start played begun) in
           all_went ports start after c.finish-pending.result (played ++ run.entries) ready.entries.items c.put.ensures.none ended;
     }

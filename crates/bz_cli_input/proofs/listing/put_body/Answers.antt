@@ -1,5 +1,4 @@
-use Rattle.std.proofs.Common.{codes, length, map, ◌+◌, ◌++◌}
-use Rattle.std.specs.List.{flat_map}
+use Rattle.std.proofs.Common.{length, map}
 use Rattle.std.proofs.lemmas.Result.{err_from_is_err_and}
 use Rattle.bz_text.proofs.Sent.{stops_before, writes_after}
 use Rattle.bz_model.specs.Names.{external}

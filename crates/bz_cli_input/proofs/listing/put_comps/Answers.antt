@@ -1,4 +1,4 @@
-use Rattle.std.proofs.Common.{map, arith}
+use Rattle.std.proofs.Common.{arith}
 use Rattle.std.proofs.lemmas.Result.{err_from_is_err_and}
 use Rattle.bz_flat.specs.Flats.{site_of}
 use Rattle.bz_cli_input.specs.Listing.{comp_line}

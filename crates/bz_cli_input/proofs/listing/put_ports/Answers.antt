@@ -1,4 +1,3 @@
-use Rattle.std.proofs.Common.{map, arith}
 use Rattle.std.proofs.lemmas.Result.{err_from_is_err_and}
 use Rattle.bz_model.specs.Names.{external}
 use Rattle.bz_model.specs.Nets.{chan_in}

@@ -1,63 +1,86 @@
-use Rattle.std.proofs.Common.{◌≡◌, suc, List, map, set, true, false, refl, sym, ap, ◌∙◌, arith}
+use Rattle.std.proofs.Common.{◌≡◌, ◌∙◌, suc, ◌-◌, ◌<◌, ◌≤◌, List, length, map, set, true, false, refl, sym, ap, subst, arith}
 use Rattle.std.proofs.lemmas.Grind.{common_steps}
-use Rattle.std.proofs.lemmas.List.{length-map}
+use Rattle.std.proofs.lemmas.List.{length-map, length-set}
 use Rattle.bz_model.specs.Nets.{chan_at}
 use Rattle.bz_model.specs.Phases.{phase_after}
 use Rattle.bz_flat.specs.Flats.{site_of}
 use Rattle.bz_flat.specs.Wires.{ends_in}
 use Rattle.bz_net.specs.declared.node.Node.{Node}
 use Rattle.bz_net.specs.Keeping.{phase_in}
-use Rattle.bz_net.specs.Nodes.{comps_of, heres_of}
-use Rattle.bz_net.proofs.Nodes.{can_read, comp_read, comps_changed, heres_stay}
-use Rattle.bz_net.proofs.Telling.{has_bit}
-use Rattle.bz_net.proofs.Moving.{moved_refreshed, moved_turned}
+use Rattle.bz_net.specs.Nodes.{comp_of, comps_of, heres_of}
+use Rattle.bz_net.specs.Told.{Left, ToldOther, here_at}
+use Rattle.bz_net.proofs.Nodes.{bits_read, can_read, comp_read, node_comps, node_heres}
+use Rattle.bz_net.proofs.Telling.{has_bit, few_read, room_read}
+use Rattle.bz_net.proofs.Moving.{bit_stays, bits_at, left_long, node_refreshed, node_turned}
 use Rattle.bz_net.proofs.here.move_comp.Goals as goal
 
-pub tell_move-requires-clause-active : goal.tell_move-requires-clause-active
-tell_move-requires-clause-active c =
+pub move_node-mv-requires-clause-can : goal.move_node-mv-requires-clause-can
+move_node-mv-requires-clause-can c =
     let k = c.index-chan.result.now in
     let chan_is : k ≡ chan_at (map site_of c.args.sites.now) c.args.comp c.args.port = grind (arith, common_steps) in
     let from = c.requires.placed.chan_from c.args.comp c.args.port c.requires.steps.is_port in
     let to = c.requires.placed.chan_to c.args.comp c.args.port c.requires.steps.is_port in
     let sites = map site_of c.args.sites.now in let nodes = c.args.nodes.now in
-    let x = c.get_mut.result.now in let at = c.node_id.ensures in let is = c.get_mut.ensures.value in
-    rw (heres_stay nodes c.args.comp c.node_id.result x at is c.fire-mv.new.comp)
+    let x = c.get_mut.result.now in let i = c.node_id.result in let at = c.node_id.ensures in let is = c.get_mut.ensures.value in
+    (_, can_read sites c.args.phases.now (comps_of nodes) c.args.comp c.args.port k x.comp c.requires.placed.comps_len c.requires.steps chan_is (comp_read nodes c.args.comp i x at is), c.riding-rides.ensures)
+
+pub move_node-mv-requires-clause-bit : goal.move_node-mv-requires-clause-bit
+move_node-mv-requires-clause-bit c =
+    let sites = map site_of c.args.sites.now in let nodes = c.args.nodes.now in
+    let x = c.get_mut.result.now in let i = c.node_id.result in let at = c.node_id.ensures in let is = c.get_mut.ensures.value in
+    let port = c.requires.steps.is_port in let above = port.comp_from in let below = port.comp_to in let last = port.port_to in
+    let nodes_len = length-map nodes comp_of in let len = c.requires.sighted.comps_len in
+    let bits = bits_at nodes c.args.comp i x above (omega (arith, below, len, nodes_len)) at is in
+    let words = ap length bits in let room = c.requires.sighted.room c.args.comp above below in
+    omega (arith, last, room, words)
+
+pub move_node-mv-requires-clause-room : goal.move_node-mv-requires-clause-room
+move_node-mv-requires-clause-room c =
+    let sites = map site_of c.args.sites.now in let nodes = c.args.nodes.now in
+    let x = c.get_mut.result.now in let i = c.node_id.result in let at = c.node_id.ensures in let is = c.get_mut.ensures.value in
+    let port = c.requires.steps.is_port in let above = port.comp_from in let below = port.comp_to in let last = port.port_to in
+    let nodes_len = length-map nodes comp_of in let len = c.requires.sighted.comps_len in
+    room_read sites c.args.phases.now (comps_of nodes) (heres_of nodes) c.requires.sighted c.args.comp above below x.comp x.here (comp_read nodes c.args.comp i x at is) (bits_read nodes c.args.comp i x at is)
+
+pub move_node-mv-requires-clause-few : goal.move_node-mv-requires-clause-few
+move_node-mv-requires-clause-few c =
+    let sites = map site_of c.args.sites.now in let nodes = c.args.nodes.now in
+    let x = c.get_mut.result.now in let i = c.node_id.result in let at = c.node_id.ensures in let is = c.get_mut.ensures.value in
+    let port = c.requires.steps.is_port in let above = port.comp_from in let below = port.comp_to in let last = port.port_to in
+    let nodes_len = length-map nodes comp_of in let len = c.requires.sighted.comps_len in
+    few_read sites c.args.phases.now (comps_of nodes) (heres_of nodes) c.requires.sighted c.args.comp above below x.comp x.here (comp_read nodes c.args.comp i x at is) (bits_read nodes c.args.comp i x at is)
+
+pub tell_other-requires-clause-active : goal.tell_other-requires-clause-active
+tell_other-requires-clause-active c =
+    let k = c.index-chan.result.now in
+    let chan_is : k ≡ chan_at (map site_of c.args.sites.now) c.args.comp c.args.port = grind (arith, common_steps) in
+    let from = c.requires.placed.chan_from c.args.comp c.args.port c.requires.steps.is_port in
+    let to = c.requires.placed.chan_to c.args.comp c.args.port c.requires.steps.is_port in
+    let sites = map site_of c.args.sites.now in let nodes = c.args.nodes.now in
+    let x = c.get_mut.result.now in let i = c.node_id.result in let at = c.node_id.ensures in let is = c.get_mut.ensures.value in
+    let port = c.requires.steps.is_port in let above = port.comp_from in let below = port.comp_to in let last = port.port_to in
+    let nodes_len = length-map nodes comp_of in let len = c.requires.sighted.comps_len in
+    let bits = bits_at nodes c.args.comp i x above (omega (arith, below, len, nodes_len)) at is in
+    let y = c.move_node-mv.new.node in
+    let heres_len = c.requires.sighted.heres_len in
+    bit_stays (heres_of nodes) (heres_of (set nodes i y)) c.args.comp y.here above (omega (arith, below, heres_len)) (node_heres nodes c.args.comp i x at is y) (left_long c.move_node-mv.result.0 x.here y.here c.args.port c.move_node-mv.ensures.left ∙ ap length bits) _ _
     (has_bit sites c.args.phases.now (comps_of nodes) (heres_of nodes) k (ends_in c.args.ends.now k) c.requires.sighted (c.requires.are_ends k (omega (arith, chan_is, from))) false _ refl)
 
-pub tell_move-requires-clause-passive : goal.tell_move-requires-clause-passive
-tell_move-requires-clause-passive c =
+pub tell_other-requires-clause-passive : goal.tell_other-requires-clause-passive
+tell_other-requires-clause-passive c =
     let k = c.index-chan.result.now in
     let chan_is : k ≡ chan_at (map site_of c.args.sites.now) c.args.comp c.args.port = grind (arith, common_steps) in
     let from = c.requires.placed.chan_from c.args.comp c.args.port c.requires.steps.is_port in
     let to = c.requires.placed.chan_to c.args.comp c.args.port c.requires.steps.is_port in
     let sites = map site_of c.args.sites.now in let nodes = c.args.nodes.now in
-    let x = c.get_mut.result.now in let at = c.node_id.ensures in let is = c.get_mut.ensures.value in
-    rw (heres_stay nodes c.args.comp c.node_id.result x at is c.fire-mv.new.comp)
-    (has_bit sites c.args.phases.now (comps_of nodes) (heres_of nodes) k (ends_in c.args.ends.now k) c.requires.sighted (c.requires.are_ends k (omega (arith, chan_is, from))) true _ refl)
-
-pub tell_move-requires-clause-own : goal.tell_move-requires-clause-own
-tell_move-requires-clause-own c =
-    let sites = map site_of c.args.sites.now in let nodes = c.args.nodes.now in
-    let x = c.get_mut.result.now in let at = c.node_id.ensures in let is = c.get_mut.ensures.value in
+    let x = c.get_mut.result.now in let i = c.node_id.result in let at = c.node_id.ensures in let is = c.get_mut.ensures.value in
     let port = c.requires.steps.is_port in let above = port.comp_from in let below = port.comp_to in let last = port.port_to in
-    let len = c.requires.sighted.heres_len in let room = c.requires.sighted.room c.args.comp above below in
-    rw (heres_stay nodes c.args.comp c.node_id.result x at is c.fire-mv.new.comp) (above, omega (arith, below, len), omega (arith, last, room))
-
-pub refresh-requires-clause-sighted : goal.refresh-requires-clause-sighted
-refresh-requires-clause-sighted c =
-    let k = c.index-chan.result.now in
-    let chan_is : k ≡ chan_at (map site_of c.args.sites.now) c.args.comp c.args.port = grind (arith, common_steps) in
-    let from = c.requires.placed.chan_from c.args.comp c.args.port c.requires.steps.is_port in
-    let to = c.requires.placed.chan_to c.args.comp c.args.port c.requires.steps.is_port in
-    let sites = map site_of c.args.sites.now in let nodes = c.args.nodes.now in
-    let x = c.get_mut.result.now in let at = c.node_id.ensures in let is = c.get_mut.ensures.value in
-    let can = can_read sites c.args.phases.now (comps_of nodes) c.args.comp c.args.port k x.comp c.requires.placed.comps_len c.requires.steps chan_is (comp_read nodes c.args.comp c.node_id.result x at is) in
-    let after : List Node = set nodes c.node_id.result (record { here = x.here; comp = c.fire-mv.new.comp }) in
-    let turned =
-    moved_turned sites c.args.phases.now (comps_of nodes) (comps_of after) (comps_of c.tell_move.new.nodes) (heres_of nodes) (heres_of after) (heres_of c.tell_move.new.nodes) c.args.comp c.args.port k c.fire-mv.result.0 c.fire-mv.result.1 x.comp c.fire-mv.new.comp (phase_after (phase_in c.args.phases.now k) c.fire-mv.result.0 c.fire-mv.result.1)
-    (ends_in c.args.ends.now k) c.args.ready.now c.tell_move.new.ready c.requires.sighted c.requires.steps chan_is (comp_read nodes c.args.comp c.node_id.result x at is) (c.fire-mv.ensures.moves _ can c.riding-rides.ensures) c.fire-mv.ensures.turns c.fire-mv.ensures.one c.fire-mv.ensures.chans refl
-    (c.requires.are_ends k (omega (arith, chan_is, from))) (comps_changed nodes c.args.comp c.node_id.result x at is c.fire-mv.new.comp) (heres_stay nodes c.args.comp c.node_id.result x at is c.fire-mv.new.comp) c.tell_move.ensures.comps c.tell_move.ensures.told in
-    rw c.make.ensures (c.requires.stays _ _ _ k c.fire-mv.result.0 c.fire-mv.result.1 turned)
+    let nodes_len = length-map nodes comp_of in let len = c.requires.sighted.comps_len in
+    let bits = bits_at nodes c.args.comp i x above (omega (arith, below, len, nodes_len)) at is in
+    let y = c.move_node-mv.new.node in
+    let heres_len = c.requires.sighted.heres_len in
+    bit_stays (heres_of nodes) (heres_of (set nodes i y)) c.args.comp y.here above (omega (arith, below, heres_len)) (node_heres nodes c.args.comp i x at is y) (left_long c.move_node-mv.result.0 x.here y.here c.args.port c.move_node-mv.ensures.left ∙ ap length bits) _ _
+    (has_bit sites c.args.phases.now (comps_of nodes) (heres_of nodes) k (ends_in c.args.ends.now k) c.requires.sighted (c.requires.are_ends k (omega (arith, chan_is, from))) true _ refl)
 
 pub returns-clause-told : goal.returns-clause-told
 returns-clause-told c =
@@ -66,13 +89,18 @@ returns-clause-told c =
     let from = c.requires.placed.chan_from c.args.comp c.args.port c.requires.steps.is_port in
     let to = c.requires.placed.chan_to c.args.comp c.args.port c.requires.steps.is_port in
     let sites = map site_of c.args.sites.now in let nodes = c.args.nodes.now in
-    let x = c.get_mut.result.now in let at = c.node_id.ensures in let is = c.get_mut.ensures.value in
-    let can = can_read sites c.args.phases.now (comps_of nodes) c.args.comp c.args.port k x.comp c.requires.placed.comps_len c.requires.steps chan_is (comp_read nodes c.args.comp c.node_id.result x at is) in
-    let after : List Node = set nodes c.node_id.result (record { here = x.here; comp = c.fire-mv.new.comp }) in
+    let x = c.get_mut.result.now in let i = c.node_id.result in let at = c.node_id.ensures in let is = c.get_mut.ensures.value in
+    let port = c.requires.steps.is_port in let above = port.comp_from in let below = port.comp_to in let last = port.port_to in
+    let nodes_len = length-map nodes comp_of in let len = c.requires.sighted.comps_len in
+    let bits = bits_at nodes c.args.comp i x above (omega (arith, below, len, nodes_len)) at is in
+    let y = c.move_node-mv.new.node in
+    let can = can_read sites c.args.phases.now (comps_of nodes) c.args.comp c.args.port k x.comp c.requires.placed.comps_len c.requires.steps chan_is (comp_read nodes c.args.comp i x at is) in
     rw c.make.ensures
-    (moved_turned sites c.args.phases.now (comps_of nodes) (comps_of after) (comps_of c.tell_move.new.nodes) (heres_of nodes) (heres_of after) (heres_of c.tell_move.new.nodes) c.args.comp c.args.port k c.fire-mv.result.0 c.fire-mv.result.1 x.comp c.fire-mv.new.comp (phase_after (phase_in c.args.phases.now k) c.fire-mv.result.0 c.fire-mv.result.1)
-    (ends_in c.args.ends.now k) c.args.ready.now c.tell_move.new.ready c.requires.sighted c.requires.steps chan_is (comp_read nodes c.args.comp c.node_id.result x at is) (c.fire-mv.ensures.moves _ can c.riding-rides.ensures) c.fire-mv.ensures.turns c.fire-mv.ensures.one c.fire-mv.ensures.chans refl
-    (c.requires.are_ends k (omega (arith, chan_is, from))) (comps_changed nodes c.args.comp c.node_id.result x at is c.fire-mv.new.comp) (heres_stay nodes c.args.comp c.node_id.result x at is c.fire-mv.new.comp) c.tell_move.ensures.comps c.tell_move.ensures.told)
+    (node_turned sites c.args.phases.now (comps_of nodes) (comps_of c.tell_other.new.nodes) (heres_of nodes) (heres_of (set nodes i y)) (heres_of c.tell_other.new.nodes) c.args.comp c.args.port k c.move_node-mv.result.0 c.move_node-mv.result.1 x.comp y.comp (ends_in c.args.ends.now k) c.args.ready.now c.keep_marked.new.ready c.tell_other.new.ready y.here c.move_node-mv.result.2
+    c.requires.sighted c.requires.steps chan_is (comp_read nodes c.args.comp i x at is) (c.move_node-mv.ensures.moves _ can c.riding-rides.ensures) c.move_node-mv.ensures.turns c.move_node-mv.ensures.one c.move_node-mv.ensures.chans
+    (c.requires.are_ends k (omega (arith, chan_is, from))) (c.tell_other.ensures.comps ∙ node_comps nodes c.args.comp i x at is y) (node_heres nodes c.args.comp i x at is y) c.keep_marked.ensures
+    (subst (λ l. Left c.move_node-mv.result.0 l y.here c.args.port) bits c.move_node-mv.ensures.left)
+    (subst (λ l. ToldOther l (heres_of (set nodes i y)) (heres_of c.tell_other.new.nodes) c.keep_marked.new.ready c.tell_other.new.ready (ends_in c.args.ends.now k) c.move_node-mv.result.0) (sym c.tell_other.ensures.comps) c.tell_other.ensures.told))
 
 pub returns-clause-refreshed : goal.returns-clause-refreshed
 returns-clause-refreshed c =
@@ -81,18 +109,25 @@ returns-clause-refreshed c =
     let from = c.requires.placed.chan_from c.args.comp c.args.port c.requires.steps.is_port in
     let to = c.requires.placed.chan_to c.args.comp c.args.port c.requires.steps.is_port in
     let sites = map site_of c.args.sites.now in let nodes = c.args.nodes.now in
-    let x = c.get_mut.result.now in let at = c.node_id.ensures in let is = c.get_mut.ensures.value in
-    let can = can_read sites c.args.phases.now (comps_of nodes) c.args.comp c.args.port k x.comp c.requires.placed.comps_len c.requires.steps chan_is (comp_read nodes c.args.comp c.node_id.result x at is) in
-    let after : List Node = set nodes c.node_id.result (record { here = x.here; comp = c.fire-mv.new.comp }) in
+    let x = c.get_mut.result.now in let i = c.node_id.result in let at = c.node_id.ensures in let is = c.get_mut.ensures.value in
+    let port = c.requires.steps.is_port in let above = port.comp_from in let below = port.comp_to in let last = port.port_to in
+    let nodes_len = length-map nodes comp_of in let len = c.requires.sighted.comps_len in
+    let bits = bits_at nodes c.args.comp i x above (omega (arith, below, len, nodes_len)) at is in
+    let y = c.move_node-mv.new.node in
+    let can = can_read sites c.args.phases.now (comps_of nodes) c.args.comp c.args.port k x.comp c.requires.placed.comps_len c.requires.steps chan_is (comp_read nodes c.args.comp i x at is) in
     let turned =
-    moved_turned sites c.args.phases.now (comps_of nodes) (comps_of after) (comps_of c.tell_move.new.nodes) (heres_of nodes) (heres_of after) (heres_of c.tell_move.new.nodes) c.args.comp c.args.port k c.fire-mv.result.0 c.fire-mv.result.1 x.comp c.fire-mv.new.comp (phase_after (phase_in c.args.phases.now k) c.fire-mv.result.0 c.fire-mv.result.1)
-    (ends_in c.args.ends.now k) c.args.ready.now c.tell_move.new.ready c.requires.sighted c.requires.steps chan_is (comp_read nodes c.args.comp c.node_id.result x at is) (c.fire-mv.ensures.moves _ can c.riding-rides.ensures) c.fire-mv.ensures.turns c.fire-mv.ensures.one c.fire-mv.ensures.chans refl
-    (c.requires.are_ends k (omega (arith, chan_is, from))) (comps_changed nodes c.args.comp c.node_id.result x at is c.fire-mv.new.comp) (heres_stay nodes c.args.comp c.node_id.result x at is c.fire-mv.new.comp) c.tell_move.ensures.comps c.tell_move.ensures.told in
+    node_turned sites c.args.phases.now (comps_of nodes) (comps_of c.tell_other.new.nodes) (heres_of nodes) (heres_of (set nodes i y)) (heres_of c.tell_other.new.nodes) c.args.comp c.args.port k c.move_node-mv.result.0 c.move_node-mv.result.1 x.comp y.comp (ends_in c.args.ends.now k) c.args.ready.now c.keep_marked.new.ready c.tell_other.new.ready y.here c.move_node-mv.result.2
+    c.requires.sighted c.requires.steps chan_is (comp_read nodes c.args.comp i x at is) (c.move_node-mv.ensures.moves _ can c.riding-rides.ensures) c.move_node-mv.ensures.turns c.move_node-mv.ensures.one c.move_node-mv.ensures.chans
+    (c.requires.are_ends k (omega (arith, chan_is, from))) (c.tell_other.ensures.comps ∙ node_comps nodes c.args.comp i x at is y) (node_heres nodes c.args.comp i x at is y) c.keep_marked.ensures
+    (subst (λ l. Left c.move_node-mv.result.0 l y.here c.args.port) bits c.move_node-mv.ensures.left)
+    (subst (λ l. ToldOther l (heres_of (set nodes i y)) (heres_of c.tell_other.new.nodes) c.keep_marked.new.ready c.tell_other.new.ready (ends_in c.args.ends.now k) c.move_node-mv.result.0) (sym c.tell_other.ensures.comps) c.tell_other.ensures.told) in
     rw c.make.ensures
-    (moved_refreshed sites c.args.phases.now (comps_of nodes) (comps_of after) (comps_of c.tell_move.new.nodes) (heres_of nodes) (heres_of after) (heres_of c.tell_move.new.nodes) c.args.comp c.args.port k c.fire-mv.result.0 c.fire-mv.result.1 x.comp c.fire-mv.new.comp (phase_after (phase_in c.args.phases.now k) c.fire-mv.result.0 c.fire-mv.result.1)
-    (ends_in c.args.ends.now k) c.args.ready.now c.tell_move.new.ready c.requires.sighted c.requires.steps chan_is (comp_read nodes c.args.comp c.node_id.result x at is) (c.fire-mv.ensures.moves _ can c.riding-rides.ensures) c.fire-mv.ensures.turns c.fire-mv.ensures.one c.fire-mv.ensures.chans refl
-    (c.requires.are_ends k (omega (arith, chan_is, from))) (comps_changed nodes c.args.comp c.node_id.result x at is c.fire-mv.new.comp) (heres_stay nodes c.args.comp c.node_id.result x at is c.fire-mv.new.comp) c.tell_move.ensures.comps c.tell_move.ensures.told
-    (c.requires.stays _ _ _ k c.fire-mv.result.0 c.fire-mv.result.1 turned) c.refresh.new.ready (c.requires.row ∙ ap suc (sym (length-map c.args.sites.now site_of))) c.requires.exact (rw c.make.ensures at c.refresh.ensures))
+    (node_refreshed sites c.args.phases.now (comps_of nodes) (comps_of c.tell_other.new.nodes) (heres_of nodes) (heres_of (set nodes i y)) (heres_of c.tell_other.new.nodes) c.args.comp c.args.port k c.move_node-mv.result.0 c.move_node-mv.result.1 x.comp y.comp (ends_in c.args.ends.now k) c.args.ready.now c.keep_marked.new.ready c.tell_other.new.ready y.here c.move_node-mv.result.2
+    c.requires.sighted c.requires.steps chan_is (comp_read nodes c.args.comp i x at is) (c.move_node-mv.ensures.moves _ can c.riding-rides.ensures) c.move_node-mv.ensures.turns c.move_node-mv.ensures.one c.move_node-mv.ensures.chans
+    (c.requires.are_ends k (omega (arith, chan_is, from))) (c.tell_other.ensures.comps ∙ node_comps nodes c.args.comp i x at is y) (node_heres nodes c.args.comp i x at is y) c.keep_marked.ensures
+    (subst (λ l. Left c.move_node-mv.result.0 l y.here c.args.port) bits c.move_node-mv.ensures.left)
+    (subst (λ l. ToldOther l (heres_of (set nodes i y)) (heres_of c.tell_other.new.nodes) c.keep_marked.new.ready c.tell_other.new.ready (ends_in c.args.ends.now k) c.move_node-mv.result.0) (sym c.tell_other.ensures.comps) c.tell_other.ensures.told)
+    (c.requires.stays _ _ _ k c.move_node-mv.result.0 c.move_node-mv.result.1 turned) (c.requires.row ∙ ap suc (sym (length-map c.args.sites.now site_of))) c.requires.exact c.move_node-mv.ensures.turning c.move_node-mv.ensures.goes)
 
 pub make-requires : goal.make-requires
 make-requires c =
@@ -117,11 +152,3 @@ overflow_sub-place c =
     let from = c.requires.placed.chan_from c.args.comp c.args.port c.requires.steps.is_port in
     let to = c.requires.placed.chan_to c.args.comp c.args.port c.requires.steps.is_port in
     omega (arith, chan_is, from)
-
-pub fire-mv-requires : goal.fire-mv-requires
-fire-mv-requires c =
-    let k = c.index-chan.result.now in
-    let chan_is : k ≡ chan_at (map site_of c.args.sites.now) c.args.comp c.args.port = grind (arith, common_steps) in
-    let sites = map site_of c.args.sites.now in let nodes = c.args.nodes.now in
-    let x = c.get_mut.result.now in let at = c.node_id.ensures in let is = c.get_mut.ensures.value in
-    (_, can_read sites c.args.phases.now (comps_of nodes) c.args.comp c.args.port k x.comp c.requires.placed.comps_len c.requires.steps chan_is (comp_read nodes c.args.comp c.node_id.result x at is), c.riding-rides.ensures)

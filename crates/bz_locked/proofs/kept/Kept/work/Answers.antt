@@ -12,4 +12,4 @@ pub returns-clause-told : goal.returns-clause-told
 returns-clause-told g c =
     let was = c.args.self.now in
     let h = c.work-work.ensures in
-    work_told _ g.L.NetLedger.terms _ was.locked.net was.locked.fuel was.locked.stopped was.locked.sessions.items c.work-work.result h.held c.note.ensures.witness.1 h.told
+    work_told g.L.NetLedger.terms _ was.locked.net was.locked.fuel was.locked.stopped was.locked.sessions.items c.work-work.result h.held c.note.ensures.witness.1 h.told

@@ -34,6 +34,7 @@ returns-in-59-clause-ok c =
     let shorter : length last < length c.args.self.now.rest.now = omega (arith, ap length next, length-append line last) in
     record {
       reading = record {
+        short = r.short;
         lists = r.lists;
         ds = r.ds;
         read = read_gap _ _ _ _ _ (comment line) at.0 r.read next at.1 c.split_line.ensures.longest refl;
@@ -54,6 +55,7 @@ returns-in_default-clause-ok c =
     let shorter : length c.args.after.now < length c.args.self.now.rest.now = omega (arith, ap length c.requires.first) in
     record {
       reading = record {
+        short = r.short;
         lists = r.lists;
         ds = r.ds;
         read = read_gap _ _ _ _ _ (blank c.args.first) at.0 r.read c.requires.first at.1 (search rules) refl;
