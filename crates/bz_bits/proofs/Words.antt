@@ -12,7 +12,7 @@ use Rattle.std.proofs.lemmas.List.FromFn.{length-map-range_with_len, get_or-map-
 use Rattle.std.proofs.lemmas.Bool.{cases_eq, cases_lt, le-leb, lt-leb, lt-ltb, le-ltb}
 use Rattle.bz_bits.specs.declared.word.PortWord.{PortWord}
 use Rattle.bz_bits.specs.Row.{bit_of}
-use Rattle.bz_bits.specs.PortWords.{no_ports, number_in, number_at, numbers, AreNumbers, HasOdd, IsEven, between, goes}
+use Rattle.bz_bits.specs.PortWords.{no_ports, number_in, number_at, numbers, AreNumbers, HasOdd, IsEven, IsLowest, NoneOdd, between, goes}
 
 pub table : (d o p h : ℕ) → d < 2 → o < 2 → p < 2 → h < 2
     → (min d (max h (1 - (p + o) % 2)) == 1) ≡ goes (d == 1) (o == 1) (p == 1) (h == 1)
@@ -96,6 +96,54 @@ even_word f rest n (suc j) are from w is none =
       none_due = ap (λ (v : PortWord). v.due) (sym (is ∙ ap (λ (m : ℕ). get_or rest m no_ports) e)) ∙ none;
     }
 
+-- the words before `start` have no odd number, and of those that follow m have none
+pub lowest_on : (ws : List PortWord) (start m : ℕ) → length ws < 2 ^ 32 → NoneOdd ws start → m ≤ length (drop start ws) → All (λ (w : PortWord). w.due ≡ 0) (take m (drop start ws))
+    → (m < length (drop start ws) → (get_or (drop start ws) m no_ports).due ≢ 0) → (get_or ws (start + m) no_ports).due < 2 ^ 64 → IsLowest ws (start + m)
+lowest_on ws start m few before within all stops fits =
+    let rest = drop start ws in
+    record {
+      few = few;
+      even = λ k lt. elim (cases_lt k start) [
+        | inl below ↦ before k below
+        | inr past ↦
+            let j = k - start in let jm : j < m = omega (arith, past, lt) in let there : start + j ≡ k = omega (arith, past) in
+            let none = All-get_or (λ (w : PortWord). w.due ≡ 0) (take m rest) j no_ports (omega (arith, jm, within, length-take m rest)) all in
+            ap (λ (i : ℕ). (get_or ws i no_ports).due) (sym there)
+            ∙ ap (λ (w : PortWord). w.due) (sym (get_or-take m rest j no_ports jm ∙ get_or-drop start ws j no_ports)) ∙ none
+      ];
+      stops = λ lt z. stops (omega (arith, lt, length-drop start ws)) (ap (λ (w : PortWord). w.due) (get_or-drop start ws m no_ports) ∙ z);
+      fits = fits;
+    }
+
+-- before a word that was put and the lowest alike
+pub none_put : (ws : List PortWord) (low at n : ℕ) (w : PortWord) → IsLowest ws low → n ≤ at → n ≤ low → NoneOdd (set ws at w) n
+none_put ws low at n w is up upto k lt =
+    ap (λ (v : PortWord). v.due) (get_or-set_other ws at k w no_ports (λ e. omega (arith, e, lt, up))) ∙ is.even k (omega (arith, lt, upto))
+
+-- a word with an odd number is put at the lowest, or behind it
+pub lowest_put : (ws : List PortWord) (low at : ℕ) (w : PortWord) → IsLowest ws low → low ≤ at → at < length ws → w.due ≢ 0 → w.due < 2 ^ 64 → IsLowest (set ws at w) low
+lowest_put ws low at w is le lt some small = record {
+  few = omega (arith, is.few, length-set ws at w);
+  even = none_put ws low at low w is le (omega arith);
+  stops = λ below z. elim (cases_eq low at) [
+    | inl e ↦ some (sym (ap (λ (k : ℕ). (get_or (set ws at w) k no_ports).due) e ∙ ap (λ (v : PortWord). v.due) (get_or-set_same ws at w no_ports lt)) ∙ z)
+    | inr f ↦ is.stops (omega (arith, below, length-set ws at w)) (ap (λ (v : PortWord). v.due) (sym (get_or-set_other ws at low w no_ports f)) ∙ z)
+  ];
+  fits = elim (cases_eq low at) [
+    | inl e ↦ omega (arith, small, ap (λ (k : ℕ). (get_or (set ws at w) k no_ports).due) e, ap (λ (v : PortWord). v.due) (get_or-set_same ws at w no_ports lt))
+    | inr f ↦ omega (arith, is.fits, ap (λ (v : PortWord). v.due) (get_or-set_other ws at low w no_ports f))
+  ];
+}
+
+-- where all are without ports
+pub lowest_none : (m : ℕ) → m < 2 ^ 32 → IsLowest (replicate m no_ports) m
+lowest_none m few = record {
+  few = omega (arith, few, length-replicate m no_ports);
+  even = λ k lt. ap (λ (w : PortWord). w.due) (get_or-replicate m k no_ports no_ports lt);
+  stops = λ lt z. absurd (omega (arith, lt, length-replicate m no_ports));
+  fits = let none = ap (λ (w : PortWord). w.due) (get_or_past (replicate m no_ports) m no_ports (omega (arith, length-replicate m no_ports))) in omega (arith, none);
+}
+
 -- the first m of the words from `at` on
 pub even_words : (f : PortWord) (rest : List PortWord) (n at b m : ℕ) → AreNumbers (f ∷ rest) n → 0 < at → b ≡ min (at - 1) (length rest)
     → m ≤ length (drop b rest) → All (λ (w : PortWord). w.due ≡ 0) (take m (drop b rest)) → (k : ℕ) → at ≤ k → k < at + m → IsEven (numbers (f ∷ rest) n) k
@@ -140,6 +188,19 @@ stops_there f rest n at b m are from is within stops w word fits =
           inr (has_odd (numbers all n) (at + m) w (λ i il. ap (λ (v : PortWord). number_in v i) word ∙ word_numbers all n (at + m) i are il)
           (λ z. stops lt (ap (λ (v : PortWord). v.due) found ∙ z)) fits)
       | inr past ↦ let long : length all ≡ suc (length rest) = refl in let room = are.room in inl (omega (arith, room, long, is, length-drop b rest, past, within, from))
+    ]
+
+-- the lowest one with an odd number is one, or it is past all
+pub lowest_odd : (f : PortWord) (rest : List PortWord) (n low : ℕ) → AreNumbers (f ∷ rest) n → IsLowest rest low → (n ≤ 64 * (low + 1)) ⊎ HasOdd (numbers (f ∷ rest) n) (low + 1)
+lowest_odd f rest n low are is =
+    let all = f ∷ rest in let w = get_or rest low no_ports in
+    elim (cases_lt low (length rest)) [
+      | inl lt ↦
+          let next : suc low ≡ low + 1 = omega arith in
+          let word : w ≡ get_or all (low + 1) no_ports = ap (λ (k : ℕ). get_or all k no_ports) next in
+          inr (has_odd (numbers all n) (low + 1) w (λ i il. ap (λ (v : PortWord). number_in v i) word ∙ word_numbers all n (low + 1) i are il)
+          (is.stops lt) is.fits)
+      | inr past ↦ let long : length all ≡ suc (length rest) = refl in let room = are.room in inl (omega (arith, room, long, past))
     ]
 
 number_none : (p : ℕ) → number_in no_ports p ≡ 0

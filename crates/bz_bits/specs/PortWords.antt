@@ -1,5 +1,5 @@
 -- Numbers from 0 to 3, each as one bit of two words.
-use Rattle.std.specs.Prelude.{◌≡◌, ◌⊎◌, ◌&&◌, ℕ, ◌+◌, ◌*◌, ◌/◌, ◌%◌, ◌^◌, ◌<◌, ◌≤◌, nat_le, nat_lt, Bool, true, false, List, map, length, slice_index, slice_index_or}
+use Rattle.std.specs.Prelude.{◌≡◌, ◌≢◌, ◌⊎◌, ◌&&◌, ℕ, ◌+◌, ◌*◌, ◌/◌, ◌%◌, ◌^◌, ◌<◌, ◌≤◌, nat_le, nat_lt, Bool, true, false, List, map, length, slice_index, slice_index_or}
 use Rattle.std.specs.List.{range_with_len}
 use Rattle.std.specs.Int.{bit_at}
 use Rattle.bz_bits.specs.declared.word.PortWord.{PortWord}
@@ -24,6 +24,17 @@ pub record AreNumbers (words : List PortWord) (n : ℕ) : Type 0 where
   pub room : n ≤ 64 * length words
   pub small : n < 2 ^ 64
   pub clear : (p : ℕ) → n ≤ p → number_at words p ≡ 0
+
+-- the first n of these words have no odd number
+abbrev pub NoneOdd : List PortWord → ℕ → Type 0
+NoneOdd words n = (k : ℕ) → k < n → (slice_index_or words k no_ports).due ≡ 0
+
+-- word n of these is the first with an odd number, or there is none and n is past them all
+pub record IsLowest (words : List PortWord) (n : ℕ) : Type 0 where
+  pub few : length words < 2 ^ 32
+  pub even : NoneOdd words n
+  pub stops : n < length words → (slice_index_or words n no_ports).due ≢ 0
+  pub fits : (slice_index_or words n no_ports).due < 2 ^ 64
 
 -- word k of these numbers, of which none is odd
 pub record IsEven (numbers : List ℕ) (k : ℕ) : Type 0 where

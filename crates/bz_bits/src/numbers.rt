@@ -1,6 +1,6 @@
 //! The numbers of a component's ports, two bits each, of which the first 64 take no memory of their own.
-ghost use Rattle.std.specs.Prelude.{◌≡◌, ◌≢◌, ◌⊎◌, ◌+◌, ◌*◌, ◌/◌, ◌<◌, ◌≤◌, ◌∷◌, ℕ, length, replicate, slice_index, slice_index_or, slice_set, take, nat_le, if◌then◌else◌, All, IfOk};
-ghost use Rattle.bz_bits.specs.PortWords.{between, no_ports, number_at, number_in, HasOdd, IsEven};
+ghost use Rattle.std.specs.Prelude.{◌≡◌, ◌≢◌, ◌⊎◌, ◌+◌, ◌*◌, ◌/◌, ◌^◌, ◌<◌, ◌≤◌, ◌∷◌, ℕ, length, replicate, slice_index, slice_index_or, slice_set, take, nat_le, if◌then◌else◌, All, IfOk};
+ghost use Rattle.bz_bits.specs.PortWords.{between, no_ports, number_at, number_in, HasOdd, IsEven, IsLowest, NoneOdd};
 
 use crate::word::{NO_PORTS, PortWord, one_place, places};
 use std::alloc::{AllocError, Allocator, Global};
@@ -11,30 +11,37 @@ use std::marker::Model;
 pub struct PortNumbers<A: Allocator + Copy = Global> {
     first: PortWord,
     more: Vec<PortWord, A>,
-    len: usize,
+    len: u32,
+    // The first word of `more` in which a port has an odd number; past the last word where there is none.
+    low: u32,
 }
 
 impl<A: Allocator + Copy> Model for PortNumbers<A> {
     ghost use Rattle.std.specs.Prelude.{List, ℕ, ◌∷◌};
-    ghost use Rattle.bz_bits.specs.PortWords.{numbers, AreNumbers};
+    ghost use Rattle.bz_bits.specs.PortWords.{numbers, AreNumbers, IsLowest};
 
     ghost Value = { List ℕ };
 
     ghost view = { λ p. numbers (p.first ∷ p.more.items) p.len };
 
-    ghost invariant = { λ p. AreNumbers (p.first ∷ p.more.items) p.len };
+    ghost invariant = { λ p. AreNumbers (p.first ∷ p.more.items) p.len × IsLowest p.more.items p.low };
 }
 
 impl<A: Allocator + Copy> PortNumbers<A> {
-    /// `count` ports, all with the number 0.
+    /// `count` ports, all with the number 0. There is no room for 2^32 or more.
     pub fn new(alloc: A, count: usize) -> Result<Self, AllocError>
         ensures { IfOk result (λ p. p ≡ replicate count 0) }
     {
-        let more = Vec::from_elem(alloc, NO_PORTS, count.saturating_sub(1) / 64)?;
+        let Ok(len) = u32::try_from(count) else {
+            return Err(AllocError);
+        };
+        let low = len.saturating_sub(1) / 64;
+        let more = Vec::from_elem(alloc, NO_PORTS, low as usize)?;
         Ok(PortNumbers {
             first: NO_PORTS,
             more,
-            len: count,
+            len,
+            low,
         })
     }
 
@@ -47,13 +54,14 @@ impl<A: Allocator + Copy> PortNumbers<A> {
             first: self.first,
             more,
             len: self.len,
+            low: self.low,
         })
     }
 
     pub fn len(&self) -> usize
         ensures { result ≡ length self.now }
     {
-        self.len
+        self.len as usize
     }
 
     /// The number of a port, 0 where there is no such port.
@@ -80,7 +88,23 @@ impl<A: Allocator + Copy> PortNumbers<A> {
     }
 
     /// The first word from `at` on in which a port has an odd number; past the last word where there is none.
+    #[inline(always)]
     pub fn next_odd(&self, at: usize) -> usize
+        requires { 0 < at }
+        ensures from { at ≤ result }
+        ensures passed { (k : ℕ) → at ≤ k → k < result → IsEven self.now k }
+        ensures stops { (length self.now ≤ 64 * result) ⊎ HasOdd self.now result }
+    {
+        let lowest = self.low as usize + 1;
+        if at <= lowest {
+            return lowest;
+        }
+        self.next_beyond(at)
+    }
+
+    // The same behind the first of all such words.
+    #[inline(never)]
+    fn next_beyond(&self, at: usize) -> usize
         requires { 0 < at }
         ensures from { at ≤ result }
         ensures passed { (k : ℕ) → at ≤ k → k < result → IsEven self.now k }
@@ -89,7 +113,7 @@ impl<A: Allocator + Copy> PortNumbers<A> {
         let before = (at - 1).min(self.more.len());
         let next = at + count_even(&self.more[before..]);
         // A look at the word's bits brings what their type says of them.
-        let _odd = odd_ports(word_at(&self.first, &self.more, next));
+        let _odd = odd_at(&self.more, next - 1);
         next
     }
 
@@ -99,8 +123,8 @@ impl<A: Allocator + Copy> PortNumbers<A> {
         requires { number < 4 }
         ensures { self.new ≡ slice_set self.old port number }
     {
-        if port < self.len {
-            fill_one(&mut self.first, &mut self.more, port, number);
+        if port < self.len as usize {
+            fill_one(&mut self.first, &mut self.more, &mut self.low, port, number);
         }
     }
 
@@ -111,15 +135,25 @@ impl<A: Allocator + Copy> PortNumbers<A> {
         ensures long { length self.new ≡ length self.old }
         ensures each { (p : ℕ) → slice_index self.new p ≡ (if between from to p then number else slice_index self.old p) }
     {
-        fill(&mut self.first, &mut self.more, from, to, number);
+        fill(
+            &mut self.first,
+            &mut self.more,
+            &mut self.low,
+            from,
+            to,
+            number,
+        );
     }
 }
 
-// A bit for each port with an odd number.
-fn odd_ports(word: PortWord) -> u64
-    ensures { result ≡ word.due }
+// A bit for each port with an odd number in the word at a place.
+fn odd_at(words: &[PortWord], at: usize) -> u64
+    ensures { result ≡ (slice_index_or words.now at no_ports).due }
 {
-    word.due
+    match words.get(at) {
+        Some(word) => word.due,
+        None => 0,
+    }
 }
 
 // How many words come before the first with an odd number.
@@ -148,34 +182,75 @@ fn word_at(first: &PortWord, more: &[PortWord], at: usize) -> PortWord
 
 #[tactic(auto, using(crate::proofs::Words::set_tail, crate::proofs::Words::set_past))]
 #[inline(always)]
-fn put_word(first: &mut PortWord, more: &mut [PortWord], at: usize, word: PortWord)
-    ensures { first.new ∷ more.new ≡ slice_set (first.old ∷ more.old) at word }
+fn put_word(first: &mut PortWord, more: &mut [PortWord], low: &mut u32, at: usize, word: PortWord)
+    requires { IsLowest more.old low.old }
+    ensures put { first.new ∷ more.new ≡ slice_set (first.old ∷ more.old) at word }
+    ensures low { IsLowest more.new low.new }
 {
     if at == 0 {
         *first = word;
     } else if at <= more.len() {
-        more[at - 1] = word;
+        put_far(more, low, at - 1, word);
     }
 }
 
 #[inline(always)]
-fn fill_one(first: &mut PortWord, more: &mut [PortWord], port: usize, number: u8)
+fn put_far(more: &mut [PortWord], low: &mut u32, at: usize, word: PortWord)
+    requires held { at < length more.old }
+    requires low { IsLowest more.old low.old }
+    ensures put { more.new ≡ slice_set more.old at word }
+    ensures low { IsLowest more.new low.new }
+{
+    let lowest = *low as usize;
+    more[at] = word;
+    if at < lowest || word.due == 0 {
+        *low = lowest_from(more, at.min(lowest));
+    }
+}
+
+// The first word with an odd number where none before `start` has one.
+#[inline(never)]
+fn lowest_from(words: &[PortWord], start: usize) -> u32
+    requires few { length words.now < 2 ^ 32 }
+    requires held { start ≤ length words.now }
+    requires even { NoneOdd words.now start }
+    ensures { IsLowest words.now result }
+{
+    let lowest = start + count_even(&words[start..]);
+    // A look at the word's bits brings what their type says of them.
+    let _odd = odd_at(words, lowest);
+    lowest as u32
+}
+
+#[inline(always)]
+fn fill_one(first: &mut PortWord, more: &mut [PortWord], low: &mut u32, port: usize, number: u8)
     requires number { number < 4 }
     requires fits { port < 64 * length (first.old ∷ more.old) }
-    ensures { (p : ℕ) → number_at (first.new ∷ more.new) p ≡ (if between port (port + 1) p then number else number_at (first.old ∷ more.old) p) }
+    requires low { IsLowest more.old low.old }
+    ensures filled { (p : ℕ) → number_at (first.new ∷ more.new) p ≡ (if between port (port + 1) p then number else number_at (first.old ∷ more.old) p) }
+    ensures low { IsLowest more.new low.new }
 {
     let at = port / 64;
     let word = word_at(first, more, at).filled(one_place(port % 64), number);
-    put_word(first, more, at, word);
+    put_word(first, more, low, at, word);
 }
 
-fn fill(first: &mut PortWord, more: &mut [PortWord], from: usize, to: usize, number: u8)
+fn fill(
+    first: &mut PortWord,
+    more: &mut [PortWord],
+    low: &mut u32,
+    from: usize,
+    to: usize,
+    number: u8,
+)
     requires number { number < 4 }
     requires fits { to ≤ 64 * length (first.old ∷ more.old) }
-    ensures { (p : ℕ) → number_at (first.new ∷ more.new) p ≡ (if between from to p then number else number_at (first.old ∷ more.old) p) }
+    requires low { IsLowest more.old low.old }
+    ensures filled { (p : ℕ) → number_at (first.new ∷ more.new) p ≡ (if between from to p then number else number_at (first.old ∷ more.old) p) }
+    ensures low { IsLowest more.new low.new }
 {
     for at in from / 64..to.div_ceil(64) {
         let word = word_at(first, more, at).filled(places(at, from, to), number);
-        put_word(first, more, at, word);
+        put_word(first, more, low, at, word);
     }
 }

@@ -1,6 +1,6 @@
 //! The members of a part's lists.
 
-ghost use Rattle.std.specs.Prelude.{◌≡◌, ◌∷◌, map, IfOk, IfErr, Ok, Some};
+ghost use Rattle.std.specs.Prelude.{◌≡◌, ◌∷◌, map, bytes_eq, codes, IfOk, IfErr, Ok, Some};
 ghost use Rattle.std.specs.List.{filter_map};
 ghost use Rattle.std.specs.Option.{option_map};
 ghost use Rattle.bz_model.specs.Names.{external};
@@ -12,7 +12,7 @@ ghost use Rattle.bz_breeze.specs.Faults.{HasFault};
 ghost use Rattle.bz_breeze.specs.Forms.{named_port, listed_port, port, ports, wide_channel, listed_channel, channel, channels, param, number, numbers, slot, slots, named_fields, fields_of, component_of, listed_component, component, components};
 
 use crate::error::{Code, Refusal};
-use bz_breeze_records::{Component, Slot};
+use bz_breeze_records::{Component, Entries, Name, Slot};
 use bz_model::{Chan, ChanKind, MAX_WIDTH, NameSet, Param, Port};
 use bz_sexpr::{Form, Forms, Leaf, Shape, Text};
 use std::alloc::{AllocError, Global};
@@ -138,6 +138,14 @@ fn wide_channel(kind: ChanKind, rest: Forms<'_>) -> Result<Chan, Code>
     }
 }
 
+// Whether it is the word `sync`, which most channels begin with.
+#[inline(always)]
+fn is_sync(head: &[u8]) -> bool
+    ensures { result ≡ bytes_eq head.now (codes "sync") }
+{
+    matches!(head, b"sync")
+}
+
 /// The channel of `sync ..`, `push W ..` or `pull W ..`.
 fn listed_channel(items: Forms<'_>) -> Result<Chan, Code>
     ensures { result ≡ listed_channel (forms_view items.entry) }
@@ -145,7 +153,7 @@ fn listed_channel(items: Forms<'_>) -> Result<Chan, Code>
     let Some((head, rest)) = headed(items) else {
         return Err(Code::BadForm);
     };
-    if head == b"sync".as_slice() {
+    if is_sync(head) {
         Ok(Chan {
             kind: ChanKind::Sync,
             width: 0,
@@ -289,6 +297,32 @@ fn slots(alloc: Global, list: Forms<'_>, at: usize) -> Result<Vec<Slot>, Refusal
     Ok(slots)
 }
 
+/// The entries of the component at the byte `at`, of which one alone stands in its place.
+fn entries(alloc: Global, list: Forms<'_>, at: usize) -> Result<Entries, Refusal>
+    ensures ok { IfOk result (λ v. slots (forms_view list.entry) ≡ Ok (map slot_record v.items)) }
+    ensures err { IfErr result (HasFault (at_byte at (slots (forms_view list.entry)))) }
+{
+    if list.len() == 1 {
+        if let Some((form, _)) = list.split_first() {
+            return Ok(Entries::one(slot(alloc, form, at)?));
+        }
+    }
+    Ok(Entries::row(slots(alloc, list, at)?))
+}
+
+/// The name that a text gives.
+fn name(alloc: Global, text: Text<'_>) -> Result<Name, AllocError>
+    ensures { IfOk result (λ name. name.items ≡ text_view text.entry) }
+{
+    match text.plain() {
+        Some(bytes) => Name::of(alloc, bytes),
+        None => {
+            let bytes = text.bytes(alloc)?;
+            Name::of(alloc, bytes.as_slice())
+        }
+    }
+}
+
 /// What stands in a component after its head.
 #[derive(Clone, Copy)]
 struct Fields<'d> {
@@ -326,14 +360,22 @@ fn component_of(alloc: Global, component: Fields<'_>, at: usize) -> Result<Compo
     ensures ok { IfOk result (λ c. component_of (Some (fields_view component.entry)) ≡ Ok (component_record c)) }
     ensures err { IfErr result (HasFault (at_byte at (component_of (Some (fields_view component.entry))))) }
 {
-    let entries = slots(alloc, component.entries, at)?;
+    let entries = entries(alloc, component.entries, at)?;
     let params = params(alloc, component.params)?;
-    let name = component.name.bytes(alloc)?;
+    let name = name(alloc, component.name)?;
     Ok(Component {
         name,
         params,
         entries,
     })
+}
+
+// Whether it is the word `component`, which all of them begin with.
+#[inline(always)]
+fn is_component(head: &[u8]) -> bool
+    ensures { result ≡ bytes_eq head.now (codes "component") }
+{
+    matches!(head, b"component")
 }
 
 /// The component of `component "NAME" (PARAMETERS) (ENTRIES) ..`, at the byte `at`.
@@ -344,7 +386,7 @@ fn listed_component(alloc: Global, items: Forms<'_>, at: usize) -> Result<Compon
     let Some((head, rest)) = headed(items) else {
         return Err(Refusal::At(Code::Undeclared, at));
     };
-    if head != b"component".as_slice() {
+    if !is_component(head) {
         return Err(Refusal::At(Code::Undeclared, at));
     }
     match fields_of(rest) {

@@ -1,5 +1,7 @@
 //! The records of parts.
 
+use crate::entries::Entries;
+use crate::name::Name;
 use bz_model::{Chan, Param, Port};
 
 /// A part: its external ports are its first channels, in order.
@@ -14,9 +16,9 @@ pub struct Part {
 /// A component of a part, by the name of its kind or of a part, with its parameters and its channels.
 #[derive(Debug, PartialEq, Eq, Drop)]
 pub struct Component {
-    pub name: Vec<u8>,
+    pub name: Name,
     pub params: Vec<Param>,
-    pub entries: Vec<Slot>,
+    pub entries: Entries,
 }
 
 /// An entry of a component: a channel of its part, or a list of them.

@@ -52,7 +52,7 @@ impl Marks {
 
     /// Marks all channels of a part that a component of it names.
     pub fn set_named(&mut self, part: usize, component: &Component) {
-        for entry in &component.entries {
+        for entry in component.entries.as_slice() {
             match entry {
                 Slot::One(chan) => {
                     self.set(part, *chan as usize);

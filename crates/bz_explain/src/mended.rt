@@ -125,8 +125,8 @@ fn spread(netlist: Netlist<'_>, marks: &mut Marks) -> Result<bool, AllocError> {
     let mut is_more = false;
     for (number, part) in netlist.parts.list().iter().enumerate() {
         for component in &part.components {
-            if let Some(inner) = netlist.parts.number(&component.name) {
-                let named = flattened(netlist.alloc, &component.entries)?;
+            if let Some(inner) = netlist.parts.number(component.name.as_slice()) {
+                let named = flattened(netlist.alloc, component.entries.as_slice())?;
                 is_more = spread_from(inner, number, &named, marks) || is_more;
             }
         }

@@ -1,7 +1,7 @@
 //! Two entries of a component by whose exchange it fits, as where a generator wrote them the wrong way round.
 
 use crate::site::Site;
-use bz_breeze_records::{Component, Slot};
+use bz_breeze_records::{Component, Entries, Name, Slot};
 use bz_elab::first_fault;
 use bz_explain_notes::Arg::Number;
 use bz_explain_notes::Draft;
@@ -14,28 +14,29 @@ const MOST_ENTRIES: usize = 12;
 impl Site<'_> {
     /// Tells two entries by whose exchange the component has no fault, if there are such.
     pub(crate) fn say_exchange(&self, draft: &mut Draft) {
-        if self.component.entries.len() > MOST_ENTRIES {
+        let entries = self.component.entries.as_slice();
+        if entries.len() > MOST_ENTRIES {
             return;
         }
-        match dup(draft.alloc(), self.component) {
-            Ok(mut copy) => self.say_exchange_in(draft, &mut copy),
-            Err(_) => draft.fail(),
-        }
-    }
-
-    // The same of a copy of it, whose entries are exchanged by the way.
-    fn say_exchange_in(&self, draft: &mut Draft, copy: &mut Component) {
-        let entries = self.component.entries.as_slice();
         for (one, first) in entries.iter().enumerate() {
             for (other, second) in entries.iter().enumerate() {
                 if let (true, Slot::One(_), Slot::One(_)) = (one < other, first, second) {
-                    swap(&mut copy.entries, one, other);
-                    if self.fits(draft, copy) {
+                    if self.fits_exchanged(draft, one, other) {
                         let form = "help: it fits with entries % and % exchanged";
                         return draft.say(form, &[Number(one + 1), Number(other + 1)]);
                     }
-                    swap(&mut copy.entries, one, other);
                 }
+            }
+        }
+    }
+
+    // Whether it has no fault with these two entries exchanged.
+    fn fits_exchanged(&self, draft: &mut Draft, one: usize, other: usize) -> bool {
+        match exchanged(draft.alloc(), self.component, one, other) {
+            Ok(copy) => self.fits(draft, &copy),
+            Err(_) => {
+                draft.fail();
+                false
             }
         }
     }
@@ -54,17 +55,21 @@ impl Site<'_> {
     }
 }
 
-fn swap(entries: &mut [Slot], one: usize, other: usize) {
+// A copy of a component with two entries exchanged.
+fn exchanged(
+    alloc: Global,
+    component: &Component,
+    one: usize,
+    other: usize,
+) -> Result<Component, AllocError> {
+    let mut entries = dup_entries(alloc, component.entries.as_slice())?;
     if one < entries.len() && other < entries.len() {
         entries.swap(one, other);
     }
-}
-
-fn dup(alloc: Global, component: &Component) -> Result<Component, AllocError> {
     Ok(Component {
-        name: Vec::from_slice(alloc, &component.name)?,
+        name: Name::of(alloc, component.name.as_slice())?,
         params: dup_params(alloc, &component.params)?,
-        entries: dup_entries(alloc, &component.entries)?,
+        entries: Entries::row(entries),
     })
 }
 

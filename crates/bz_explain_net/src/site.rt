@@ -164,12 +164,16 @@ impl<'t> Site<'t> {
 
     /// The part that it is an instance of.
     pub fn inner(self) -> Option<&'t Part> {
-        self.netlist.parts.find(&self.component.name)
+        self.netlist.parts.find(self.component.name.as_slice())
     }
 
     /// Its kind, where its name and parameters are those of one.
     pub(crate) fn kind(&self, draft: &mut Draft) -> Option<Kind> {
-        match kind_of(draft.alloc(), &self.component.name, &self.component.params) {
+        match kind_of(
+            draft.alloc(),
+            self.component.name.as_slice(),
+            &self.component.params,
+        ) {
             Ok(kind) => Some(kind),
             Err(KindError::Memory) => {
                 draft.fail();
@@ -181,7 +185,7 @@ impl<'t> Site<'t> {
 
     /// All channels that its entries name, in order.
     pub(crate) fn named(&self, draft: &mut Draft) -> Vec<u32> {
-        draft.gathered(flattened(draft.alloc(), &self.component.entries))
+        draft.gathered(flattened(draft.alloc(), self.component.entries.as_slice()))
     }
 
     /// The channel of its part of a number, from 1.

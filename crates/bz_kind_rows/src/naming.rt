@@ -151,11 +151,15 @@ fn meant<T: Copy>(table: &[(&str, T)], name: &[u8]) -> Option<T>
     None
 }
 
-// Whether a name is this text. Most others have another fifth byte, behind the `$Brz` that all names of kinds begin with.
+// Whether a name is this text. Most others have another fifth byte, behind the `$Brz` that all names of kinds begin with, and
+// nearly all the rest another eighth.
 fn is(name: &[u8], text: &[u8]) -> bool
     ensures { result ≡ bytes_eq name.now text.now }
 {
-    if name.len() > 4 && text.len() > 4 && name[4] != text[4] {
+    if name.len() != text.len() {
+        return false;
+    }
+    if name.len() > 7 && (name[4] != text[4] || name[7] != text[7]) {
         return false;
     }
     name == text

@@ -45,19 +45,3 @@ both_put (a ∷ ms) (b ∷ vs) (suc i) m v f same tells = ap (λ l. phase_of a b
 pub riding_read : (ms : List Mark) (vs : List ℕ) (i : ℕ) (m : Mark) (v : ℕ) → length vs ≡ length ms → i < length ms → m ≡ get_or ms i m → v ≡ get_or vs i v
     → riding (phase_of m v) ≡ riding (get_or (phases_of ms vs) i Idle)
 riding_read ms vs i m v same lt is on = ap riding (phase_read ms vs i m v same lt is on)
-
--- a move was made, and its mark put, with no value
-pub made_alone : (ms : List Mark) (vs : List ℕ) (i : ℕ) (m m' : Mark) (f : Phase → Phase) → length vs ≡ length ms → i < length ms → m ≡ get_or ms i m → ((v w : ℕ) → phase_of m' w ≡ f (phase_of m v))
-    → phases_of (set ms i m') vs ≡ set (phases_of ms vs) i (f (get_or (phases_of ms vs) i Idle))
-made_alone [] vs i m m' f same lt is tells = absurd (omega arith)
-made_alone (a ∷ ms) [] i m m' f same lt is tells = absurd (omega arith)
-made_alone (a ∷ ms) (b ∷ vs) zero m m' f same lt is tells = ap (λ (x : Phase). x ∷ phases_of ms vs) (tells b b ∙ ap (λ (x : Mark). f (phase_of x b)) is)
-made_alone (a ∷ ms) (b ∷ vs) (suc i) m m' f same lt is tells = ap (λ l. phase_of a b ∷ l) (made_alone ms vs i m m' f (omega arith) (omega arith) is tells)
-
--- the same with a value
-pub made_with : (ms : List Mark) (vs : List ℕ) (i : ℕ) (m m' : Mark) (w : ℕ) (f : Phase → Phase) → length vs ≡ length ms → i < length ms → m ≡ get_or ms i m → ((v : ℕ) → phase_of m' w ≡ f (phase_of m v))
-    → phases_of (set ms i m') (set vs i w) ≡ set (phases_of ms vs) i (f (get_or (phases_of ms vs) i Idle))
-made_with [] vs i m m' w f same lt is tells = absurd (omega arith)
-made_with (a ∷ ms) [] i m m' w f same lt is tells = absurd (omega arith)
-made_with (a ∷ ms) (b ∷ vs) zero m m' w f same lt is tells = ap (λ (x : Phase). x ∷ phases_of ms vs) (tells b ∙ ap (λ (x : Mark). f (phase_of x b)) is)
-made_with (a ∷ ms) (b ∷ vs) (suc i) m m' w f same lt is tells = ap (λ l. phase_of a b ∷ l) (made_with ms vs i m m' w f (omega arith) (omega arith) is tells)

@@ -1,6 +1,6 @@
 -- What components are told is kept, and tells where they can move.
 use Rattle.std.proofs.Common.{◌≡◌, ◌≢◌, ℕ, zero, suc, ◌+◌, ◌-◌, ◌*◌, ◌/◌, ◌%◌, ◌^◌, ◌<◌, ◌≤◌, ◌==◌, inl, inr, Bool, true, false, Option, Some, None, List, [], length, get_or, set, replicate, IsTrue, ◌↔◌, refl, sym, ap, subst, ◌∙◌, arith}
-use Rattle.std.specs.Prelude.{not, MatchOption, MatchBool, is_some}
+use Rattle.std.specs.Prelude.{not, IfNone, MatchOption, MatchBool, is_some}
 use Rattle.std.specs.Int.{bit_at, from_bool, trailing_zeros, w64}
 use Rattle.std.proofs.lemmas.List.{get_or-set_same, get_or-set_other, length-set, get_or_read}
 use Rattle.std.proofs.lemmas.Bool.{cases_eq, cases_lt, false≢true}
@@ -12,7 +12,7 @@ use Rattle.bz_model.specs.declared.channel.Phase.{Phase}
 use Rattle.bz_model.specs.declared.channel.Phase.TheVariants.{Idle, Asked, Taken, Replied, Broken}
 use Rattle.bz_model.specs.Phases.{allows, phase_after}
 use Rattle.bz_model.specs.Heads.{Proc, Component, Head, IsHeadOn, CanMove, HasOneHead, Moves, Turns, opens}
-use Rattle.bz_model.specs.Nets.{Site, Wiring, IsPort, StepsAt, site_at, chan_at, passive_at}
+use Rattle.bz_model.specs.Nets.{Site, State, Wiring, IsPort, StepsAt, site_at, chan_at, passive_at}
 use Rattle.bz_model.specs.Runs.{CanStep, IsLowest}
 use Rattle.bz_kinds.specs.Ready.{CanGo, AreReady, NoneDue, is_free}
 use Rattle.bz_net.specs.Sides.{answers}
@@ -22,7 +22,7 @@ use Rattle.bz_net.proofs.Ties.{at_other, at_same, proc_is, tied_step}
 use Rattle.bz_net.proofs.Hosts.{tied_command, side_from}
 use Rattle.bz_model.specs.declared.event.Verb.{Verb}
 use Rattle.bz_model.specs.Hosts.{host_after, refusal_at}
-use Rattle.bz_net.specs.Told.{is_here, here_at, flag_of, Told, Retold, Goes, NoneGoes, GoesFirst, IsTurning, HasChans, Sighted, AreEnds, AllAreEnds, PutAt, PutEnd, HasBit, Turned, StaysSighted, HostSighted}
+use Rattle.bz_net.specs.Told.{is_here, here_at, flag_of, Told, Retold, Goes, NoneGoes, GoesAt, GoesFirst, MayMove, MovesAt, IsTurning, HasChans, Sighted, AreEnds, AllAreEnds, PutAt, PutEnd, HasBit, Turned, StaysSighted, HostSighted}
 use Rattle.bz_flat.specs.declared.flat.Ends.{Ends}
 use Rattle.bz_flat.specs.Wires.{WellWired, EndsOf, IsEnd, at_side, port_of_side, end_at, ends_in}
 
@@ -284,6 +284,11 @@ told_opening w heres len each = record {
       ∙ sym (ap (λ (f : Phase). is_here f (passive_at w.sites c p)) (idle_in (length w.chans) (chan_at w.sites c p - 1)) ∙ idle_here (passive_at w.sites c p));
 }
 
+-- a component that can move stands in the net
+pub may_stands : (sites : List Site) (state : State) (c : ℕ) (at : Option ℕ) → MayMove sites state c at → (0 < c) × (c ≤ length sites)
+may_stands sites state c None (p, steps) = (steps.is_port.comp_from, steps.is_port.comp_to)
+may_stands sites state c (Some p) steps = (steps.is_port.comp_from, steps.is_port.comp_to)
+
 -- the same of a component and its bits as they were read
 module _ (sites : List Site) (phases : List Phase) (comps : List Component) (heres : List (List ℕ)) (sighted : Sighted sites phases comps heres) (c : ℕ) (from : 0 < c) (to : c ≤ length sites) (x : Component) (h : List ℕ) (x_is : x ≡ get_or comps (c - 1) x) (h_is : h ≡ get_or heres (c - 1) h) where
   x_at : x ≡ comp_at comps c
@@ -301,6 +306,26 @@ module _ (sites : List Site) (phases : List Phase) (comps : List Component) (her
   moves_read b found turning =
       moves_are sites phases comps heres sighted c (subst IsTurning x_at turning) from to b
       (subst (λ (l : List ℕ). MatchBool b (Goes (comp_at comps c) l) (NoneGoes (comp_at comps c) l)) h_at (subst (λ (y : Component). MatchBool b (Goes y h) (NoneGoes y h)) x_at found))
+
+  -- by its bits it can move at some port, and at the one that is given or at the lowest
+  pub goes_read : (at : Option ℕ) → MayMove sites (state_of phases comps) c at → IfNone at (IsTurning x → NoneGoes x h → ⊥)
+  goes_read None can = λ turning none. lowest_read None none turning can
+  goes_read (Some p) can = tt
+
+  pub port_read : (at : Option ℕ) (p : ℕ) → MayMove sites (state_of phases comps) c at → GoesAt x h at p → StepsAt sites (state_of phases comps) c p × MovesAt sites (state_of phases comps) c at p
+  port_read None p can goes = let lowest = lowest_read (Some p) goes.0 goes.1 in (lowest.steps_at, lowest)
+  port_read (Some q) p can goes = (subst (λ (n : ℕ). StepsAt sites (state_of phases comps) c n) (sym goes) can, goes)
+
+  -- by its bits it can move at a port, or can't
+  pub step_read : (p : ℕ) (b : Bool) → IsTrue b ↔ CanGo x.proc p (flag_of h p) → ((q : ℕ) (head : Head) → IsHeadOn x.proc q head → (0 < q) × (q ≤ length x.chans)) → IsTurning x → MatchBool b (StepsAt sites (state_of phases comps) c p) (StepsAt sites (state_of phases comps) c p → ⊥)
+  step_read p true can held turning =
+      let (head, on, free) = can.0 refl in let within = held p head on in let same = ap (λ (y : Component). length y.chans) x_at in let n = sighted.chans_of c from to in
+      steps_where sites phases comps heres sighted c (subst IsTurning x_at turning) p
+      (record { comp_from = from; comp_to = to; port_from = within.0; port_to = (let last = within.1 in omega (arith, last, same, n)) })
+      (subst (λ (y : Component). CanGo y.proc p (flag_of (here_at heres c) p)) x_at (subst (λ (l : List ℕ). CanGo x.proc p (flag_of l p)) h_at (can.0 refl)))
+  step_read p false can held turning = λ at.
+      absurd (false≢true (can.1 (subst (λ (l : List ℕ). CanGo x.proc p (flag_of l p)) (sym h_at) (subst (λ (y : Component). CanGo y.proc p (flag_of (here_at heres c) p)) (sym x_at)
+      (goes_where sites phases comps heres sighted c (subst IsTurning x_at turning) p at)))))
 
   pub room_read : length x.chans < 64 * length h
   room_read = let a = ap (λ (y : Component). length y.chans) x_at in let b = ap (λ (l : List ℕ). length l) h_at in let n = sighted.chans_of c from to in let r = sighted.room c from to in omega (arith, a, b, n, r)

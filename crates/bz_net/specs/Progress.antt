@@ -18,7 +18,9 @@ use Rattle.bz_net.specs.declared.event.RunEnd.{RunEnd}
 use Rattle.bz_net.specs.declared.event.RunEnd.TheVariants.{Spent}
 use Rattle.bz_net.specs.Noted.{Notes}
 use Rattle.bz_net.specs.Running.{Plays, Ran}
+use Rattle.bz_net.specs.Replies.{IsFiring, IsSoleStep}
 use Rattle.bz_net.specs.Simulation.{Simulation, Adds}
+use Rattle.bz_net.specs.Told.{MovesAt}
 
 -- `clashed` are the components at which requests met so far, `left` is how many entries the limit still lets in
 pub record Progress : Type 0 where
@@ -54,6 +56,10 @@ EntersRest old new who (asked.Ready c) = IsNext (CanStep old.wiring.sites old.st
 abbrev pub RefusesAt : Progress → Verb → ℕ → Option ℕ → NetError → Type 0
 RefusesAt old verb port value JournalFull = (refusal_at old.wiring verb port value ≡ None) × (old.left ≡ 0)
 RefusesAt old verb port value e = refusal_at old.wiring verb port value ≡ Some e
+
+-- the entry tells the one step that component c had at the port that is given, or at the lowest where it could move
+abbrev pub FiresAt : Progress → Progress → Who → ℕ → Option ℕ → Entry → Type 0
+FiresAt old new who c at entry = (p : ℕ) × MovesAt old.wiring.sites old.state c at p × IsFiring who c p entry × IsSoleStep (with_journal old []) (with_journal new []) who c p entry
 
 -- the number after that of the component that moved is one of 32 bits
 abbrev pub IsBelowLast : Entry → Type 0

@@ -1,5 +1,5 @@
 -- What each component is told of its channels: whether what a take or a got at a port waits for is there.
-use Rattle.std.specs.Prelude.{◌≡◌, ◌≢◌, ◌==◌, ◌+◌, ◌*◌, ◌/◌, ◌-◌, ◌<◌, ◌≤◌, ◌^◌, ◌↔◌, ℕ, Bool, false, true, not, if◌then◌else◌, Option, Some, List, [], length, slice_index_or, slice_set, MatchOption, IfSome, IsTrue}
+use Rattle.std.specs.Prelude.{◌≡◌, ◌≢◌, ◌==◌, ◌+◌, ◌*◌, ◌/◌, ◌-◌, ◌<◌, ◌≤◌, ◌^◌, ◌↔◌, ℕ, Bool, false, true, not, if◌then◌else◌, Option, Some, None, List, [], length, slice_index_or, slice_set, MatchOption, IfSome, IsTrue}
 use Rattle.bz_bits.specs.Row.{bit_of}
 use Rattle.bz_model.specs.declared.channel.Phase.{Phase}
 use Rattle.bz_model.specs.declared.channel.Phase.TheVariants.{Idle, Asked, Taken, Replied, Broken}
@@ -7,7 +7,8 @@ use Rattle.bz_model.specs.declared.channel.Move.{Move}
 use Rattle.bz_model.specs.declared.channel.Move.TheVariants.{Ask, Take, Reply, Got}
 use Rattle.bz_model.specs.Heads.{Component, Head, HasOneHead, IsHeadOn, Moves, Turns, opens, open_at}
 use Rattle.bz_model.specs.Phases.{phase_after}
-use Rattle.bz_model.specs.Nets.{Site, Wiring, IsPort, StepsAt, site_at, chan_at, passive_at}
+use Rattle.bz_model.specs.Runs.{CanStep, IsLowest}
+use Rattle.bz_model.specs.Nets.{Site, State, Wiring, IsPort, StepsAt, site_at, chan_at, passive_at}
 use Rattle.bz_kinds.specs.Ready.{CanGo}
 use Rattle.bz_net.specs.Keeping.{phase_in, comp_at, is_open, state_of}
 use Rattle.bz_net.specs.Sides.{Sided}
@@ -156,6 +157,21 @@ pub record Turned (sites : List Site) (phases : List Phase) (comps : List Compon
   pub phases_is : phases' ≡ slice_set phases (k - 1) (phase_after (phase_in phases k) mv value)
   pub comps_is : comps' ≡ slice_set comps (c - 1) rest
   pub retold : Retold sites heres heres' k (phase_after (phase_in phases k) mv value)
+
+-- component c can move at the port that is given, or where none is given at some port
+abbrev pub MayMove : List Site → State → ℕ → Option ℕ → Type 0
+MayMove sites state c None = CanStep sites state c
+MayMove sites state c (Some p) = StepsAt sites state c p
+
+-- it is to move at port p: the one that is given, or the lowest at which it can
+abbrev pub MovesAt : List Site → State → ℕ → Option ℕ → ℕ → Type 0
+MovesAt sites state c None p = IsLowest sites state c p
+MovesAt sites state c (Some q) p = p ≡ q
+
+-- the same by the bits of the component
+abbrev pub GoesAt : Component → List ℕ → Option ℕ → ℕ → Type 0
+GoesAt c here None p = GoesFirst c here p × IsTurning c
+GoesAt c here (Some q) p = p ≡ q
 
 -- after each move of component c at port p the net is sighted as before
 abbrev pub StaysSighted : List Site → List Phase → List Component → List (List ℕ) → ℕ → ℕ → Type 0

@@ -11,10 +11,11 @@ ghost use Rattle.bz_net.specs.Due.{Foresees, TellsDue};
 ghost use Rattle.bz_net.specs.Ends.{TellsEnds, TellsPort, IsSolePort};
 ghost use Rattle.bz_net.specs.Noted.{MeetBefore, NotedAt, NotedMove};
 ghost use Rattle.bz_net.specs.Sides.{answers};
+ghost use Rattle.bz_net.specs.Told.{MayMove, MovesAt};
 
-use crate::here::{command, lowest_port, mark_all, move_comp};
+use crate::here::{command, has_step, lowest_port, mark_all, move_comp};
 use crate::kept_phases::Phases;
-use crate::moves::{answers, can_fire, due_at, foresee, note_clash, port_in, refusal_of};
+use crate::moves::{answers, due_at, foresee, note_clash, port_in, refusal_of};
 use crate::node::{Node, dup_all, start_all};
 use crate::noted::Noted;
 use crate::ready_row::{Keeping, ReadyRow};
@@ -208,7 +209,7 @@ impl Core {
         ensures { MatchBool result (StepsAt self.now.wiring.sites self.now.state comp port)
             (StepsAt self.now.wiring.sites self.now.state comp port → ⊥) }
     {
-        can_fire(&self.sites, &self.nodes, &self.phases, comp, port)
+        has_step(&self.sites, &self.phases, &self.nodes, comp, port)
     }
 
     /// The move that a component has at a port, whether or not it can be made.
@@ -248,13 +249,15 @@ impl Core {
         lowest_port(&self.sites, &self.phases, &self.nodes, comp)
     }
 
-    /// Moves a component at a port: the channel, the move and its value.
+    /// Moves a component at the port that is given, or else at the lowest where it can move: the channel, the move, its value and
+    /// the port.
     #[inline(always)]
-    pub(crate) fn fire(&mut self, comp: u32, port: u32) -> (u32, Move, Option<Value>)
-        requires { StepsAt self.old.wiring.sites self.old.state comp port }
+    pub(crate) fn fire(&mut self, comp: u32, at: Option<u32>) -> (u32, Move, Option<Value>, u32)
+        requires { MayMove self.old.wiring.sites self.old.state comp at }
         ensures wiring { self.new.wiring ≡ self.old.wiring }
-        ensures step { Step self.old.wiring.sites self.old.state comp port result.0 result.1 result.2 self.new.state }
-        ensures sole { IsSole self.old self.new comp port result.0 result.1 result.2 }
+        ensures port { MovesAt self.old.wiring.sites self.old.state comp at result.3 }
+        ensures step { Step self.old.wiring.sites self.old.state comp result.3 result.0 result.1 result.2 self.new.state }
+        ensures sole { IsSole self.old self.new comp result.3 result.0 result.1 result.2 }
         ensures from { 0 < result.0 }
         ensures to { result.0 ≤ length self.old.wiring.chans }
         ensures met { MeetBefore self.old.wiring.sites self.old.state.phases self.new.state.phases result.1 }
@@ -266,8 +269,22 @@ impl Core {
             &mut self.phases,
             &mut self.ready,
             comp,
-            port,
+            at,
         )
+    }
+
+    /// Moves a component at a port: the channel, the move and its value.
+    pub(crate) fn fire_at(&mut self, comp: u32, port: u32) -> (u32, Move, Option<Value>)
+        requires { StepsAt self.old.wiring.sites self.old.state comp port }
+        ensures wiring { self.new.wiring ≡ self.old.wiring }
+        ensures step { Step self.old.wiring.sites self.old.state comp port result.0 result.1 result.2 self.new.state }
+        ensures sole { IsSole self.old self.new comp port result.0 result.1 result.2 }
+        ensures from { 0 < result.0 }
+        ensures to { result.0 ≤ length self.old.wiring.chans }
+        ensures met { MeetBefore self.old.wiring.sites self.old.state.phases self.new.state.phases result.1 }
+    {
+        let (chan, mv, value, _) = self.fire(comp, Some(port));
+        (chan, mv, value)
     }
 
     /// Makes a host command that is not refused at an external port.

@@ -1,8 +1,8 @@
 //! What each component is told of its channels, the lowest port at which it can move by that, and its moves.
 
-ghost use Rattle.std.specs.Prelude.{◌≡◌, ◌≤◌, ◌<◌, ◌*◌, ◌^◌, ℕ, suc, false, length, map, slice_set, if◌then◌else◌, MatchOption, MatchBool, IfSome, IfOk};
+ghost use Rattle.std.specs.Prelude.{◌≡◌, ◌≤◌, ◌<◌, ◌*◌, ◌^◌, ℕ, suc, false, length, map, slice_set, if◌then◌else◌, ◌↔◌, IsTrue, MatchOption, MatchBool, IfSome, IfNone, IfOk};
 ghost use Rattle.bz_model.specs.declared.channel.Phase.{Phase};
-ghost use Rattle.bz_model.specs.Heads.{CanMove, HasOneHead, Moves, Turns};
+ghost use Rattle.bz_model.specs.Heads.{CanMove, Head, HasOneHead, IsHeadOn, Moves, Turns};
 ghost use Rattle.bz_kinds.specs.Riding.{riding};
 ghost use Rattle.bz_model.specs.Nets.{StepsAt};
 ghost use Rattle.bz_flat.specs.Wires.{StandsIn, ends_in};
@@ -12,7 +12,7 @@ ghost use Rattle.bz_model.specs.Runs.{CanStep, IsLowest};
 ghost use Rattle.bz_net.specs.Keeping.{comp_at, state_of, Exact, Placed, Refreshed, RefreshedEnds, MarksAll, CommandedAt, phase_in};
 ghost use Rattle.bz_model.specs.Hosts.{host_after};
 ghost use Rattle.bz_net.specs.Nodes.{comps_of, heres_of};
-ghost use Rattle.bz_net.specs.Told.{is_here, flag_of, Goes, NoneGoes, GoesFirst, IsTurning, Sighted, AreEnds, AllAreEnds, HasBit, Came, Left, PutEnd, Retold, ToldOther, Turned, StaysSighted, HostSighted};
+ghost use Rattle.bz_net.specs.Told.{is_here, flag_of, Goes, NoneGoes, GoesAt, GoesFirst, MayMove, MovesAt, IsTurning, Sighted, AreEnds, AllAreEnds, HasBit, Came, Left, PutEnd, Retold, ToldOther, Turned, StaysSighted, HostSighted};
 
 use crate::kept_phases::Phases;
 use crate::moves::reply_to;
@@ -111,6 +111,39 @@ fn can_step(
 {
     let node = nodes.get(node_id(comp));
     can_go(&node.comp, &node.here, port)
+}
+
+/// Whether a component has a step at a port.
+#[inline(always)]
+pub(crate) fn has_step(
+    sites: &Arena<FlatComp>,
+    phases: &Phases,
+    nodes: &Arena<Node>,
+    comp: u32,
+    port: u32,
+) -> bool
+    requires { Sighted (map site_of sites.now) phases.now (comps_of nodes.now) (heres_of nodes.now) }
+    ensures { MatchBool result
+        (StepsAt (map site_of sites.now) (state_of phases.now (comps_of nodes.now)) comp port)
+        (StepsAt (map site_of sites.now) (state_of phases.now (comps_of nodes.now)) comp port → ⊥) }
+{
+    if comp == 0 || comp as usize > nodes.len() {
+        return false;
+    }
+    let node = nodes.get(node_id(comp));
+    goes_at(&node.comp, &node.here, port)
+}
+
+// Whether a component can move at a port by what it is told.
+#[inline(always)]
+fn goes_at(comp: &Comp, here: &PortBits, port: u32) -> bool
+    ensures goes { IsTrue result ↔ CanGo comp.now.proc port (flag_of here.now port) }
+    ensures held { (p : ℕ) (h : Head) → IsHeadOn comp.now.proc p h → (0 < p) × (p ≤ length comp.now.chans) }
+    ensures turning { IsTurning comp.now }
+{
+    let at = port / 64;
+    let word = ready_word(comp, at, here.word(at as usize));
+    (word >> (port % 64)) & 1 == 1
 }
 
 /// The lowest port at which a component has a step.
@@ -228,8 +261,9 @@ pub(crate) fn mark_all(
     Ok(ready)
 }
 
-/// Moves a component at a port, tells the ends of the channel what the move has changed, and looks again whether the components
-/// there can move where that may have changed. Answers the channel, the move and its value.
+/// Moves a component at the port that is given, or else at the lowest where it can move. Tells the ends of the channel what the
+/// move has changed, and looks again whether the components there can move where that may have changed. Answers the channel,
+/// the move, its value and the port.
 #[inline(always)]
 pub(crate) fn move_comp(
     sites: &Arena<FlatComp>,
@@ -238,31 +272,47 @@ pub(crate) fn move_comp(
     phases: &mut Phases,
     ready: &mut ReadyRow,
     comp: u32,
-    port: u32,
-) -> (u32, Move, Option<Value>)
+    at: Option<u32>,
+) -> (u32, Move, Option<Value>, u32)
     requires placed { Placed (map site_of sites.now) phases.old (comps_of nodes.old) }
     requires sighted { Sighted (map site_of sites.now) phases.old (comps_of nodes.old) (heres_of nodes.old) }
-    requires stays { StaysSighted (map site_of sites.now) phases.old (comps_of nodes.old) (heres_of nodes.old) comp port }
-    requires steps { StepsAt (map site_of sites.now) (state_of phases.old (comps_of nodes.old)) comp port }
+    requires stays { (p : ℕ) → StaysSighted (map site_of sites.now) phases.old (comps_of nodes.old) (heres_of nodes.old) comp p }
+    requires may { MayMove (map site_of sites.now) (state_of phases.old (comps_of nodes.old)) comp at }
     requires row { length ready.old ≡ suc (length sites.now) }
     requires exact { (c : ℕ) → Exact (map site_of sites.now) (state_of phases.old (comps_of nodes.old)) ready.old c }
     requires ends_len { length ends.now ≡ length phases.old }
     requires stands { StandsIn (map site_of sites.now) ends.now }
     requires are_ends { AllAreEnds (map site_of sites.now) ends.now }
+    ensures port { MovesAt (map site_of sites.now) (state_of phases.old (comps_of nodes.old)) comp at result.3 }
     ensures told { Turned (map site_of sites.now)
-        phases.old (comps_of nodes.old) (heres_of nodes.old) phases.new (comps_of nodes.new) (heres_of nodes.new) comp port result.0 result.1 result.2 }
+        phases.old (comps_of nodes.old) (heres_of nodes.old) phases.new (comps_of nodes.new) (heres_of nodes.new) comp result.3 result.0 result.1 result.2 }
     ensures refreshed { RefreshedEnds (map site_of sites.now) (state_of phases.new (comps_of nodes.new))
         ready.old ready.new (ends_in ends.now result.0) }
 {
+    let node = nodes.get_mut(node_id(comp));
+    let port = port_of(node, at);
     let chan = site_in(sites, comp).chans[port as usize - 1];
     let place = chan as usize - 1;
     let rides = phases.riding(place);
-    let (mv, value, goes) = move_node(nodes.get_mut(node_id(comp)), port, rides);
+    let (mv, value, goes) = move_node(node, port, rides);
     keep_marked(ready, comp, goes);
+    tell_other(nodes, ready, &ends[place], mv);
     phases.make(place, mv, value);
-    let pair = ends[place];
-    tell_other(nodes, ready, pair, mv);
-    (chan, mv, value)
+    (chan, mv, value, port)
+}
+
+// The port at which the component of a node is to move: the one that is given, or the lowest at which it can.
+#[inline(always)]
+fn port_of(node: &Node, at: Option<u32>) -> u32
+    requires room { length node.now.comp.chans < 64 * length node.now.here }
+    requires few { length node.now.here ≤ 2 ^ 26 }
+    requires goes { IfNone at (IsTurning node.now.comp → NoneGoes node.now.comp node.now.here → ⊥) }
+    ensures { GoesAt node.now.comp node.now.here at result }
+{
+    match at {
+        Some(port) => port,
+        None => lowest_of(&node.comp, &node.here).unwrap(),
+    }
 }
 
 // Moves the component of a node at a port, and tells whether it can move then. What a take or a got waited for is gone from
@@ -313,11 +363,11 @@ fn keep_marked(ready: &mut ReadyRow, comp: u32, goes: bool)
 
 // Tells the other end of a channel of a move: a request or a reply comes there.
 #[inline(always)]
-fn tell_other(nodes: &mut Arena<Node>, ready: &mut ReadyRow, pair: Ends, mv: Move)
-    requires active { HasBit (heres_of nodes.old) pair.active pair.active_port }
-    requires passive { HasBit (heres_of nodes.old) pair.passive pair.passive_port }
+fn tell_other(nodes: &mut Arena<Node>, ready: &mut ReadyRow, pair: &Ends, mv: Move)
+    requires active { HasBit (heres_of nodes.old) pair.now.active pair.now.active_port }
+    requires passive { HasBit (heres_of nodes.old) pair.now.passive pair.now.passive_port }
     requires row { length ready.old ≡ suc (length nodes.old) }
-    ensures told { ToldOther (comps_of nodes.old) (heres_of nodes.old) (heres_of nodes.new) ready.old ready.new pair mv }
+    ensures told { ToldOther (comps_of nodes.old) (heres_of nodes.old) (heres_of nodes.new) ready.old ready.new pair.now mv }
     ensures comps { comps_of nodes.new ≡ comps_of nodes.old }
 {
     match mv {

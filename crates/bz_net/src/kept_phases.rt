@@ -1,6 +1,7 @@
 //! The phases of a net's channels, in little room: a mark for each channel, and the values in a row of their own.
 
-ghost use Rattle.std.specs.Prelude.{◌≡◌, ◌<◌, ℕ, IfOk, length, replicate, slice_index_or, slice_set};
+ghost use Rattle.std.specs.Prelude.{◌≡◌, ◌≢◌, ◌<◌, ℕ, IfOk, length, replicate, slice_index_or, slice_set};
+ghost use Rattle.bz_model.specs.declared.channel.Phase.{Phase};
 ghost use Rattle.bz_model.specs.declared.channel.Phase.TheVariants.{Idle};
 ghost use Rattle.bz_model.specs.Phases.{phase_after};
 ghost use Rattle.bz_kinds.specs.Riding.{riding};
@@ -98,14 +99,15 @@ impl Phases {
         riding(self.marks[place], &self.values[place])
     }
 
-    /// Makes a move on the channel in a place, counted from 0, with this value.
+    /// Makes a move that breaks no handshake on the channel in a place, counted from 0, with this value.
     #[inline(always)]
-    #[tactic(auto, using(crate::proofs::Marks::length_phases))]
+    #[tactic(auto, using(crate::proofs::Marks::length_phases, crate::proofs::Marks::mark_put, crate::proofs::Marks::both_put))]
     pub(crate) fn make(&mut self, place: usize, mv: Move, value: Option<Value>)
-        requires { place < length self.old }
+        requires within { place < length self.old }
+        requires whole { phase_after (slice_index_or self.old place Idle) mv value ≢ Phase.Broken }
         ensures { self.new ≡ slice_set self.old place (phase_after (slice_index_or self.old place Idle) mv value) }
     {
-        let (mark, kept) = mark_after(self.marks[place], mv, value);
+        let (mark, kept) = mark_after(mv, value);
         self.marks[place] = mark;
         if let Some(value) = kept {
             self.values[place] = value;
@@ -154,22 +156,17 @@ fn riding(mark: Mark, value: &Value) -> Option<Value>
     }
 }
 
-// The mark after a move that carries this value, and the value that is kept beside it.
+// The mark after a move that carries this value, and breaks no handshake; and the value that is kept beside it.
 #[inline(always)]
-fn mark_after(mark: Mark, mv: Move, value: Option<Value>) -> (Mark, Option<Value>)
-    ensures { (v : ℕ) → MarksPhase (phase_after (phase_of mark v) mv value) result.0 result.1 }
+fn mark_after(mv: Move, value: Option<Value>) -> (Mark, Option<Value>)
+    ensures { (phase : Phase) → phase_after phase mv value ≢ Phase.Broken → MarksPhase (phase_after phase mv value) result.0 result.1 }
 {
-    match (mv, mark) {
-        (Move::Ask, Mark::Idle) => match value {
-            None => (Mark::Asked, None),
-            Some(value) => (Mark::AskedWith, Some(value)),
-        },
-        (Move::Reply, Mark::Taken) => match value {
-            None => (Mark::Replied, None),
-            Some(value) => (Mark::RepliedWith, Some(value)),
-        },
-        (Move::Ask | Move::Reply, _) => (Mark::Broken, None),
+    match (mv, value) {
+        (Move::Ask, None) => (Mark::Asked, None),
+        (Move::Ask, Some(value)) => (Mark::AskedWith, Some(value)),
         (Move::Take, _) => (Mark::Taken, None),
+        (Move::Reply, None) => (Mark::Replied, None),
+        (Move::Reply, Some(value)) => (Mark::RepliedWith, Some(value)),
         (Move::Got, _) => (Mark::Idle, None),
     }
 }

@@ -59,28 +59,6 @@ pub(crate) fn port_in(ends: &[Ends], chan: u32, passive: bool, comp: u32) -> Opt
     if end == Some(comp) { Some(port) } else { None }
 }
 
-/// Whether a component has a step at a port.
-pub(crate) fn can_fire(
-    sites: &Arena<FlatComp>,
-    nodes: &Arena<Node>,
-    phases: &Phases,
-    comp: u32,
-    port: u32,
-) -> bool
-    requires { Placed (map site_of sites.now) phases.now (comps_of nodes.now) }
-    ensures { MatchBool result
-        (StepsAt (map site_of sites.now) (state_of phases.now (comps_of nodes.now)) comp port)
-        (StepsAt (map site_of sites.now) (state_of phases.now (comps_of nodes.now)) comp port → ⊥) }
-{
-    match chan_of(sites, comp, port) {
-        None => false,
-        Some(chan) => {
-            let phase = phases.get(chan as usize - 1);
-            bz_kinds::enabled(&nodes.get(node_id(comp)).comp, port, phase)
-        }
-    }
-}
-
 /// The move that a component has at a port, whether or not it can be made.
 pub(crate) fn due_at(
     sites: &Arena<FlatComp>,

@@ -199,7 +199,7 @@ impl Net {
         ensures err { OnErr result (self.new ≡ self.old) }
     {
         self.admit()?;
-        let (chan, mv, value) = self.core.fire(comp, port);
+        let (chan, mv, value) = self.core.fire_at(comp, port);
         self.core.note_move(chan, mv, &mut self.noted);
         let entry = Entry::Fired {
             who,

@@ -10,9 +10,10 @@ ghost use Rattle.bz_model.specs.Nets.{StepsAt, outside};
 ghost use Rattle.bz_model.specs.Runs.{Rest};
 ghost use Rattle.bz_flat.specs.Wires.{WellWired};
 ghost use Rattle.bz_net.specs.Ends.{TellsPort, IsSolePort};
-ghost use Rattle.bz_net.specs.Progress.{Enters, EntersRest, IsBelowLast, IsToldBy, LeadsOn, RefusesAt, RunsInto, with_journal};
+ghost use Rattle.bz_net.specs.Progress.{Enters, EntersRest, FiresAt, IsBelowLast, IsToldBy, LeadsOn, RefusesAt, RunsInto, with_journal};
 ghost use Rattle.bz_net.specs.Replies.{IsFiring, IsPicked, IsSoleStep, RefusesCommand, RefusesEntry, RefusesFire, Replies};
 ghost use Rattle.bz_net.specs.Sides.{answers};
+ghost use Rattle.bz_net.specs.Told.{MayMove};
 
 use crate::core_net::Core;
 use crate::event::{Piece, RestReply, RunEnd};
@@ -190,21 +191,19 @@ impl Play {
             self.left -= 1;
             return Some(Entry::Rested { who });
         };
-        let port = self.core.lowest(comp).unwrap();
-        Some(self.fire(who, comp, port))
+        Some(self.fire(who, comp, None))
     }
 
-    /// Fires the move of a component at a port where it can move.
+    /// Fires the move of a component at the port that is given, or else at the lowest where it can move.
     #[inline(always)]
-    fn fire(&mut self, who: Who, comp: u32, port: u32) -> Entry
-        requires steps { StepsAt self.old.wiring.sites self.old.state comp port }
+    fn fire(&mut self, who: Who, comp: u32, at: Option<u32>) -> Entry
+        requires may { MayMove self.old.wiring.sites self.old.state comp at }
         requires place { 0 < self.old.left }
-        ensures fired { IsFiring who comp port result }
-        ensures sole { IsSoleStep (with_journal self.old []) (with_journal self.new []) who comp port result }
+        ensures fired { FiresAt self.old self.new who comp at result }
         ensures enters { Enters self.old result self.new }
     {
         self.left -= 1;
-        let (chan, mv, value) = self.core.fire(comp, port);
+        let (chan, mv, value, port) = self.core.fire(comp, at);
         self.core.note_move(chan, mv, &mut self.noted);
         Entry::Fired {
             who,
@@ -226,6 +225,7 @@ impl Play {
     }
 
     /// Fires the one move that a component has at a port.
+    #[inline(always)]
     pub fn fire_move(&mut self, who: Who, comp: u32, port: u32) -> Result<Entry, NetError>
         ensures fired { IfOk result (IsFiring who comp port) }
         ensures sole { IfOk result (IsSoleStep (with_journal self.old []) (with_journal self.new []) who comp port) }
@@ -239,7 +239,7 @@ impl Play {
         if self.left == 0 {
             return Err(NetError::JournalFull);
         }
-        Ok(self.fire(who, comp, port))
+        Ok(self.fire(who, comp, Some(port)))
     }
 
     /// Asks whether any component can move.

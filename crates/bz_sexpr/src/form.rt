@@ -4,7 +4,7 @@ ghost use Rattle.std.specs.Prelude.{◌≡◌, length, true, false, IfSome, IsSo
 ghost use Rattle.bz_sexpr.specs.Data.{leaf_of, num, symbol};
 ghost use Rattle.bz_sexpr.specs.Nodes.{row, forest, leaf_in, unmarked};
 
-use crate::bytes::{number, short_number, unquoted};
+use crate::bytes::{number, plain, short_number, unquoted};
 use crate::node::Node;
 use crate::{Datum, Span};
 use std::alloc::{AllocError, Global};
@@ -349,8 +349,19 @@ impl<'t> Form<'t> {
 }
 
 impl<'t> Text<'t> {
-    ghost use Rattle.std.specs.Prelude.{IfOk};
+    ghost use Rattle.std.specs.Prelude.{IfOk, IfSome};
     ghost use Rattle.bz_sexpr.specs.Forms.{text_view};
+
+    /// The bytes as they stand in what was read, if they do. None tells nothing.
+    #[inline(always)]
+    pub fn plain(self) -> Option<&'t [u8]>
+        ensures { IfSome result (λ s. s.now ≡ text_view self.entry) }
+    {
+        match self {
+            Text::Plain(bytes) => Some(bytes),
+            Text::Quoted(raw) => plain(raw),
+        }
+    }
 
     /// A copy of the bytes.
     pub fn bytes(self, alloc: Global) -> Result<Vec<u8>, AllocError>

@@ -99,7 +99,7 @@ pub(crate) fn comp_detail<'r>(
 fn first_width(part: &Part, component: &Component) -> u32
     ensures { result ≡ first_width part.now component.now }
 {
-    let Some(Slot::One(chan)) = component.entries.first() else {
+    let Some(Slot::One(chan)) = component.entries.as_slice().first() else {
         return 0;
     };
     match numbered(&part.channels, *chan) {

@@ -1,5 +1,5 @@
 -- The trace of a run of hosts and workers in range is the text of a run.
-use Rattle.std.proofs.Common.{◌≡◌, ℕ, ◌≤◌, List, [], ◌++◌, length, refl, sym, ap, codes}
+use Rattle.std.proofs.Common.{ℕ, ◌≤◌, List, [], ◌++◌, length, refl, sym, ap, codes}
 use Rattle.std.proofs.lemmas.List.{append-nil}
 use Rattle.bz_model.specs.declared.event.Entry.{Entry}
 use Rattle.bz_model.specs.Nets.{Wiring, State, opening}

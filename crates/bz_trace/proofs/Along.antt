@@ -1,7 +1,6 @@
 -- A net that is played along the lines of a text.
-use Rattle.std.proofs.Common.{◌≡◌, ◌≢◌, Bool, cond, ℕ, zero, suc, ◌+◌, ◌<◌, ◌≤◌, List, [], ◌∷◌, ◌++◌, length, map, Option, Some, None, refl, sym, ap, ap₂, subst, ◌∙◌, arith, append_assoc, ◌⊎◌, inl, inr, codes, length-append}
-use Rattle.std.specs.Prelude.{MatchOption, ⊤}
-use Rattle.std.specs.List.{flat_map, AllByRecursion, count_by}
+use Rattle.std.proofs.Common.{◌≡◌, ◌≢◌, Bool, cond, ℕ, zero, suc, ◌+◌, ◌<◌, ◌≤◌, List, [], ◌∷◌, ◌++◌, length, map, Option, Some, None, refl, sym, ap, ap₂, subst, ◌∙◌, arith, append_assoc, ◌⊎◌, inl, inr, length-append}
+use Rattle.std.specs.List.{AllByRecursion, count_by}
 use Rattle.std.proofs.lemmas.List.Sums.{sum_by-cons}
 use Rattle.std.proofs.Math.ListN.{length-map}
 use Rattle.std.proofs.lemmas.List.{append-nil, map-append}
@@ -12,10 +11,9 @@ use Rattle.bz_model.specs.Nets.{Wiring, State, opening, outside}
 use Rattle.bz_model.specs.Runs.{Run, Follows}
 use Rattle.bz_model.specs.Traces.{line_text}
 use Rattle.bz_net.specs.Progress.{Progress, IsToldBy}
-use Rattle.bz_net.specs.Simulation.{Adds}
 use Rattle.bz_trace_text.specs.declared.text.TheConstants.{MAX_ENTRIES}
 use Rattle.bz_trace_text.specs.declared.text.Version.{Version}
-use Rattle.bz_model.specs.Entries.{HasLine, HasWho, IsNumber32, told}
+use Rattle.bz_model.specs.Entries.{HasLine, HasWho, told}
 use Rattle.bz_flat.specs.Wires.{WellWired}
 use Rattle.bz_net.proofs.Lines.{run_has_lines}
 use Rattle.bz_trace_text.specs.Reading.{line_at}
@@ -24,13 +22,13 @@ use Rattle.bz_trace_text.proofs.Lines.{line_takes}
 use Rattle.bz_trace_text.proofs.Strips.{none-some}
 use Rattle.bz_trace_text.proofs.Texts.{all_more, flat_more}
 use Rattle.bz_trace_text.proofs.Cuts.{Read, bad_behind, bad_most, lines_tell}
-use Rattle.bz_trace.specs.Verdicts.{AreDue, AreRunLines, CountsRun, DifferAt, IsRunText, IsNoRun, StopsAtClash, StopsAtEntry, Judges, JudgesBy}
+use Rattle.bz_trace.specs.Verdicts.{AreDue, CountsRun, DifferAt, IsNoRun, StopsAtEntry, Judges, JudgesBy}
 use Rattle.bz_trace.specs.declared.checking.Verdict.{Verdict}
 use Rattle.bz_trace.specs.declared.checking.Verdict.TheVariants as verdict
 use Rattle.bz_trace_text.specs.declared.tally.Counts.{Counts}
 use Rattle.bz_trace_text.specs.Counting.{AreFewer, Tells, is_fired, is_host, is_rest}
 use Rattle.bz_trace_text.proofs.Counted.{fewer}
-use Rattle.bz_trace.specs.Following.{Along, FollowsText, Goes, NoneToFollow, PlaysOn, Stands, Stops}
+use Rattle.bz_trace.specs.Following.{Along, FollowsFront, FollowsText, Goes, NoneToFollow, PlaysOn, Stands, Stops}
 use Rattle.bz_trace.specs.declared.lines.Followed.{Followed}
 
 -- a line is that of the entry as told
@@ -397,3 +395,9 @@ pub gets_on_more : (from : Followed) (count : ℕ) (text rest after : List ℕ) 
     → (from.count < count + 1) × (length after < length text)
 gets_on_more from count text rest after (inl same) less = let is = same.0 in (omega (arith, is), subst (λ s. length after < length s) same.1 less)
 gets_on_more from count text rest after (inr more) less = let m = more.0 in let n = more.1 in (omega (arith, m), omega (arith, n, less))
+
+-- the same of a line that was followed at the front
+pub follows_one : (names : Outside) (w : Wiring) (old new : Progress) (text rest after : List ℕ) (far to : Followed) → FollowsText names w old text rest far → far.count < MAX_ENTRIES → FollowsFront names old new rest after far to → FollowsText names w new text after to
+follows_one names w old new text rest after far to f fewer (line, at, one) =
+    subst (λ (n : ℕ). FollowsText names w new text after (record { counts = to.counts; count = n; stop = to.stop })) (sym one.count_is)
+    (follows_more names w old new text rest after far to.counts to.stop line f at (λ e. absurd (omega (arith, e, fewer))) one.plays one.counted)

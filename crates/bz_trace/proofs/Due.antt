@@ -1,16 +1,16 @@
 -- Which clash lines are due is told by the lines of the entries.
-use Rattle.std.proofs.Common.{◌≡◌, ◌⊎◌, inl, inr, ℕ, zero, suc, ◌-◌, ◌<◌, ◌≤◌, ◌^◌, List, [], ◌∷◌, length, map, set, Contains, refl, sym, ap, ap₂, subst, ◌∙◌, arith}
+use Rattle.std.proofs.Common.{◌≡◌, ◌⊎◌, inl, inr, ℕ, zero, suc, ◌<◌, ◌≤◌, List, [], ◌∷◌, length, map, Contains, refl, sym, ap, ap₂, subst, ◌∙◌, arith}
 use Rattle.std.specs.List.{AllByRecursion, AllPairs}
 use Rattle.std.proofs.lemmas.List.Kept.{AllPairs-from_increasing}
 use Rattle.bz_model.specs.declared.channel.Phase.{Phase}
 use Rattle.bz_model.specs.declared.event.Entry.{Entry}
 use Rattle.bz_model.specs.declared.event.Entry.TheVariants.{Fired, Host, Rested}
 use Rattle.bz_model.specs.Nets.{Site, Wiring, State, opening}
-use Rattle.bz_model.specs.Runs.{Run, Follows}
-use Rattle.bz_model.specs.Clashes.{phase_of, Clashes, ClashesIn, AreClashed}
+use Rattle.bz_model.specs.Runs.{Run}
+use Rattle.bz_model.specs.Clashes.{Clashes, ClashesIn}
 use Rattle.bz_model.specs.Entries.{IsNumber32, told}
 use Rattle.bz_flat.specs.Wires.{WellWired}
-use Rattle.bz_net.proofs.Clashing.{after_entry, follows_phases, same_clashes}
+use Rattle.bz_net.proofs.Clashing.{after_entry, follows_phases}
 use Rattle.bz_trace_text.specs.declared.text.Version.{Version}
 use Rattle.bz_trace_text.specs.declared.text.Version.TheVariants.{One, Two}
 use Rattle.bz_trace.specs.Verdicts.{AreDue}

@@ -1,9 +1,8 @@
 -- A line ends once, with its last byte. So what stands at the front of a text in which a line ends is the same, whatever stands behind.
-use Rattle.std.proofs.Common.{◌≡◌, ◌≢◌, ℕ, ◌+◌, ◌/◌, ◌%◌, ◌<◌, ◌≤◌, ◌^◌, ◌==◌, Bool, true, false, ◌||◌, List, [], ◌∷◌, ◌++◌, Option, Some, None, refl, sym, ap, ap₂, subst, ◌∙◌, arith, append_assoc, codes}
+use Rattle.std.proofs.Common.{◌≡◌, ℕ, ◌+◌, ◌/◌, ◌%◌, ◌<◌, ◌≤◌, ◌^◌, ◌==◌, Bool, true, false, ◌||◌, List, [], ◌∷◌, ◌++◌, Option, Some, None, refl, sym, ap, ap₂, ◌∙◌, arith, append_assoc, codes}
 use Rattle.std.specs.Prelude.{IfSome, unwrap_or}
 use Rattle.std.specs.Fmt.{decimal}
 use Rattle.std.specs.List.{flat_map, list_any}
-use Rattle.std.proofs.lemmas.Bool.{eq-eqb}
 use Rattle.std.proofs.lemmas.Bool.Decides.{nat_tests}
 use Rattle.std.proofs.lemmas.Fmt.{decimal_by_steps_wide}
 use Rattle.std.proofs.lemmas.List.Folds.{list_any-append}
@@ -24,7 +23,6 @@ use Rattle.bz_model.specs.Traces.{who_text, move_text, verb_text, value_text, ph
 use Rattle.bz_model.specs.Entries.{HasLine, IsCarried, IsGiven, IsHost, IsNumber32, IsPhase, IsReply, IsValue, IsWho, carries_at}
 use Rattle.bz_text.proofs.NameLaws.{HasForm, itself, by_number, has_form, hex_from, cons_same}
 use Rattle.bz_trace_text.specs.declared.text.Version.{Version}
-use Rattle.bz_trace_text.specs.declared.text.Version.TheVariants.{One, Two}
 use Rattle.bz_trace_text.specs.Reading.{line_at, clash_at}
 use Rattle.bz_trace_text.specs.Texts.{NoClash, NoEntry}
 use Rattle.bz_trace_text.proofs.Lines.{line_again}

@@ -1,15 +1,14 @@
 -- One verdict holds of a text.
-use Rattle.std.proofs.Common.{◌≡◌, ◌≢◌, ℕ, zero, suc, ◌+◌, ◌<◌, ◌≤◌, List, [], ◌∷◌, ◌++◌, length, map, refl, sym, ap, ap₂, subst, ◌∙◌, arith, append_assoc, ◌⊎◌, inl, inr}
+use Rattle.std.proofs.Common.{◌≡◌, ◌≢◌, ℕ, zero, suc, ◌+◌, ◌<◌, List, [], ◌∷◌, ◌++◌, length, map, refl, sym, ap, ap₂, subst, ◌∙◌, arith, append_assoc, ◌⊎◌, inl, inr}
 use Rattle.std.specs.List.{AllByRecursion}
 use Rattle.std.proofs.Math.ListN.{length-map}
 use Rattle.bz_model.specs.declared.event.Entry.{Entry}
 use Rattle.bz_model.specs.Nets.{Wiring, State, opening, outside}
-use Rattle.bz_model.specs.Runs.{Run, Follows}
+use Rattle.bz_model.specs.Runs.{Run}
 use Rattle.bz_model.specs.Entries.{HasLine, HasWho, told}
 use Rattle.bz_flat.specs.Wires.{WellWired}
 use Rattle.bz_net.proofs.Lines.{run_has_lines}
-use Rattle.bz_trace_text.specs.declared.text.Version.{Version}
-use Rattle.bz_trace_text.specs.Texts.{lines, Trace, HasText, IsBad, spelling, Spells, Outcome, entries_are, bad_line}
+use Rattle.bz_trace_text.specs.Texts.{lines, Trace, HasText, IsBad, spelling, Spells, entries_are, bad_line}
 use Rattle.bz_trace_text.proofs.Cuts.{SameCut, cut_of_whole, lines_tell, one_outcome, same_cut}
 use Rattle.bz_trace.specs.declared.checking.Verdict.{Verdict}
 use Rattle.bz_trace.specs.declared.checking.Verdict.TheVariants as verdict

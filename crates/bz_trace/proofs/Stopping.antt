@@ -1,6 +1,6 @@
 -- What becomes of a line: where its event was made it is the only one, and where it was refused, or told another reply, no
 -- entry that the line tells can follow.
-use Rattle.std.proofs.Common.{◌≡◌, ◌≢◌, ℕ, ◌<◌, Option, Some, None, List, [], refl, sym, subst, ◌∙◌, arith}
+use Rattle.std.proofs.Common.{◌≡◌, ◌≢◌, ℕ, ◌<◌, Option, Some, None, List, [], refl, sym, ap, subst, ◌∙◌, arith}
 use Rattle.bz_model.specs.declared.channel.Move.{Move}
 use Rattle.bz_model.specs.declared.event.Who.{Who}
 use Rattle.bz_model.specs.declared.event.Verb.{Verb}
@@ -9,13 +9,13 @@ use Rattle.bz_model.specs.declared.event.Entry.{Entry}
 use Rattle.bz_model.specs.declared.event.Entry.TheVariants.{Fired, Host, Rested}
 use Rattle.bz_model.specs.declared.event.NetError.{NetError}
 use Rattle.bz_model.specs.declared.event.NetError.TheVariants.{UnknownPort, WrongSide, ValueMissing, ValueUnwanted, TooLarge, NotEnabled, JournalFull, Memory}
-use Rattle.bz_model.specs.Nets.{Wiring, State, Step, StepsAt}
+use Rattle.bz_model.specs.Nets.{State, Step, StepsAt}
 use Rattle.bz_model.specs.Hosts.{HostStep, refusal_at}
 use Rattle.bz_model.specs.Runs.{CanStep, Follows}
 use Rattle.bz_model.specs.Entries.{told}
 use Rattle.bz_net.specs.Ends.{IsSolePort}
 use Rattle.bz_net.specs.Progress.{Progress, Enters, RefusesAt, with_journal}
-use Rattle.bz_net.specs.Replies.{RefusesEntry, RefusesFire}
+use Rattle.bz_net.specs.Replies.{IsSoleStep, RefusesEntry, RefusesFire}
 use Rattle.bz_trace.specs.Following.{Goes, Stops}
 
 -- the entry that a line tells, but for the port of a firing
@@ -78,6 +78,25 @@ firing_refused net who c port k mv value e place refused sole other next tells f
     let step : Step net.wiring.sites net.state c p k mv value next = subst (λ o. Follows net.wiring net.state o next) is follows in
     let same = same_port port p (sole p value next step) in
     no_step net c port e place refused (subst (StepsAt net.wiring.sites net.state c) (sym same) step.steps_at)
+
+-- a firing was made, where the line may tell of another
+module _ (old new : Progress) (who : Who) (c port k : ℕ) (mv : Move) (value : Option ℕ) (entry : Entry) (one : IsSoleStep (with_journal old []) (with_journal new []) who c port entry) (sole : IsSolePort old.wiring.sites old.state c k mv (Some port)) where
+  by_line : (other : Entry) (next : State) → told other ≡ Fired who c 0 k mv value → Follows old.wiring old.state other next → (entry ≡ Fired who c port k mv value) × (new.state ≡ next)
+  by_line other next tells follows =
+      let (p, is) = told_fired other who c k mv value tells in
+      let step : Step old.wiring.sites old.state c p k mv value next = subst (λ o. Follows old.wiring old.state o next) is follows in
+      one k mv value next (subst (λ (q : ℕ). Step old.wiring.sites old.state c q k mv value next) (sym (same_port port p (sole p value next step))) step)
+
+  pub firing_goes : entry ≡ Fired who c port k mv value → Enters old entry new → Goes old new (Fired who c 0 k mv value)
+  firing_goes is enters = record {
+    entry = entry;
+    tells = ap told is;
+    enters = enters;
+    sole = λ other next tells follows. sym (by_line other next tells follows).1;
+  }
+
+  pub firing_stops : entry ≢ Fired who c port k mv value → Stops old (Fired who c 0 k mv value)
+  firing_stops differs other next tells follows = differs (by_line other next tells follows).0
 
 -- ---- host commands
 

@@ -77,3 +77,13 @@ NoneToFollow names rest followed = (line_at names rest ≡ None) ⊎ (followed.c
 -- nothing was followed, or one line at least
 abbrev pub GetsOn : Followed → Followed → List ℕ → List ℕ → Type 0
 GetsOn old new text rest = ((new.count ≡ old.count) × (rest ≡ text)) ⊎ ((old.count < new.count) × (length rest < length text))
+
+-- one line more was followed
+pub record FollowsOne (old new : Progress) (line : Entry) (from to : Followed) : Type 0 where
+  pub counted : (entries : List Entry) → Tells from.counts entries → Tells to.counts (entries ++ line ∷ [])
+  pub count_is : to.count ≡ from.count + 1
+  pub plays : PlaysOn old new line (from.count + 2) from.stop to.stop
+
+-- the line at the front of a text was followed, and this stands behind it
+abbrev pub FollowsFront : Outside → Progress → Progress → List ℕ → List ℕ → Followed → Followed → Type 0
+FollowsFront names old new text after from to = (line : Entry) × (line_at names text ≡ Some (line, after)) × FollowsOne old new line from to

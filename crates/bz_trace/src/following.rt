@@ -1,8 +1,9 @@
 //! One line of a trace, played on a net.
 
-ghost use Rattle.std.specs.Prelude.{◌≡◌, ◌<◌, ◌≤◌, None, length};
+ghost use Rattle.std.specs.Prelude.{◌≡◌, ◌<◌, ◌≤◌, ◌↔◌, ℕ, IsTrue, None, length};
 ghost use Rattle.bz_model.specs.Nets.{outside};
 ghost use Rattle.bz_model.specs.Entries.{HasLine};
+ghost use Rattle.bz_net.specs.Replies.{IsFiring};
 ghost use Rattle.bz_trace.specs.Following.{Plays, PlaysOn};
 
 use bz_model::{Entry, Move, Reply, Value, Verb, Who};
@@ -16,6 +17,7 @@ pub(crate) enum Step {
 }
 
 /// Makes the one event that gives this line, where there is one.
+#[inline(always)]
 pub(crate) fn follow(net: &mut Play, line: Entry) -> Step
     requires place { 0 < net.old.left }
     requires has_line { HasLine (outside net.old.wiring) line }
@@ -41,6 +43,7 @@ pub(crate) fn follow(net: &mut Play, line: Entry) -> Step
     }
 }
 
+#[inline(always)]
 fn follow_firing(
     net: &mut Play,
     who: Who,
@@ -55,17 +58,9 @@ fn follow_firing(
     let Some(port) = net.port_at(comp, chan, mv) else {
         return Step::Stops;
     };
-    let wanted = Entry::Fired {
-        who,
-        comp,
-        port,
-        chan,
-        mv,
-        value,
-    };
     match net.fire_move(who, comp, port) {
         Ok(entry) => {
-            if entry == wanted {
+            if tells(entry, chan, mv, value) {
                 Step::Goes
             } else {
                 Step::Stops
@@ -75,6 +70,25 @@ fn follow_firing(
     }
 }
 
+// Whether a firing is this move on this channel, with this value.
+#[inline(always)]
+fn tells(entry: Entry, chan: u32, mv: Move, value: Option<Value>) -> bool
+    ensures { (who : Who) (comp port : ℕ) → IsFiring who comp port entry → IsTrue result ↔ entry ≡ Entry.Fired who comp port chan mv value }
+{
+    match entry {
+        Entry::Fired {
+            who: _,
+            comp: _,
+            port: _,
+            chan: on,
+            mv: made,
+            value: carries,
+        } => on == chan && made == mv && carries == value,
+        _ => false,
+    }
+}
+
+#[inline(never)]
 fn follow_command(
     net: &mut Play,
     who: Who,
@@ -100,6 +114,7 @@ fn follow_command(
     }
 }
 
+#[inline(never)]
 fn follow_rest(net: &mut Play, who: Who) -> Step
     requires { 0 < net.old.left }
     ensures { Plays net.old net.new (Entry.Rested who) result }
@@ -112,6 +127,7 @@ fn follow_rest(net: &mut Play, who: Who) -> Step
 }
 
 /// Plays a line where none has stopped yet: the number of the line that stopped, if one has.
+#[inline(always)]
 pub(crate) fn play_on(
     net: &mut Play,
     line: Entry,

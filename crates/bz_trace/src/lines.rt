@@ -1,12 +1,16 @@
 //! The lines of entries at the front of a text, played on a net.
 
-ghost use Rattle.std.specs.Prelude.{◌≡◌, ◌≢◌, ◌+◌, List, ℕ};
-ghost use Rattle.bz_model.specs.Nets.{Wiring};
-ghost use Rattle.bz_trace.specs.Following.{FollowsText, GetsOn, IsFollowed, NoneToFollow};
+ghost use Rattle.std.specs.Prelude.{◌≡◌, ◌<◌, None, List, ℕ, IfNone, IfSome};
+ghost use Rattle.bz_model.specs.Entries.{HasLine};
+ghost use Rattle.bz_model.specs.Nets.{Wiring, outside};
+ghost use Rattle.bz_trace_text.specs.Counting.{AreFewer};
+ghost use Rattle.bz_trace_text.specs.Reading.{line_at};
+ghost use Rattle.bz_trace.specs.Following.{FollowsFront, FollowsOne, FollowsText, GetsOn, IsFollowed, NoneToFollow};
 
 use crate::following::play_on;
+use bz_model::Entry;
 use bz_net::Play;
-use bz_trace_text::{Counts, LineNames, MAX_ENTRIES, line_at};
+use bz_trace_text::{Counts, LineNames, MAX_ENTRIES, firing_at, line_at};
 
 /// How far lines of entries were followed.
 #[derive(Clone, Copy)]
@@ -41,31 +45,66 @@ pub(crate) fn play_lines<'t>(
     ensures gets_on { GetsOn from result.0 text.now result.1.now }
 {
     let mut rest = text;
-    let mut counts = from.counts;
-    let mut count = from.count;
-    let mut stop = from.stop;
-    while let Some((line, after)) = line_at(names, rest) {
-        if count == MAX_ENTRIES {
-            return (
-                Followed {
-                    counts,
-                    count,
-                    stop,
-                },
-                rest,
-            );
-        }
-        stop = play_on(net, line, count + 2, stop);
-        counts.add(&line);
-        count += 1;
+    let mut followed = from;
+    while followed.count < MAX_ENTRIES {
+        let Some(after) = follow_front(net, names, &mut followed, rest) else {
+            return (followed, rest);
+        };
         rest = after;
     }
-    (
-        Followed {
-            counts,
-            count,
-            stop,
-        },
-        rest,
-    )
+    (followed, rest)
+}
+
+// Follows the line of an entry at the front, where one stands there: what stands behind it.
+#[inline(always)]
+fn follow_front<'t>(
+    net: &mut Play,
+    names: &LineNames,
+    followed: &mut Followed,
+    text: &'t [u8],
+) -> Option<&'t [u8]>
+    requires is { IsFollowed names.now net.old text.now followed.old }
+    requires fewer { followed.old.count < MAX_ENTRIES }
+    ensures some { IfSome result (λ after. FollowsFront names.now net.old net.new text.now after.now followed.old followed.new) }
+    ensures none { IfNone result ((line_at names.now text.now ≡ None) × (net.new ≡ net.old) × (followed.new ≡ followed.old)) }
+{
+    match firing_at(names, text) {
+        Some((line, after)) => {
+            follow_one(net, followed, line);
+            Some(after)
+        }
+        None => follow_other(net, names, followed, text),
+    }
+}
+
+// The same of any line.
+#[inline(never)]
+fn follow_other<'t>(
+    net: &mut Play,
+    names: &LineNames,
+    followed: &mut Followed,
+    text: &'t [u8],
+) -> Option<&'t [u8]>
+    requires is { IsFollowed names.now net.old text.now followed.old }
+    requires fewer { followed.old.count < MAX_ENTRIES }
+    ensures some { IfSome result (λ after. FollowsFront names.now net.old net.new text.now after.now followed.old followed.new) }
+    ensures none { IfNone result ((line_at names.now text.now ≡ None) × (net.new ≡ net.old) × (followed.new ≡ followed.old)) }
+{
+    let (line, after) = line_at(names, text)?;
+    follow_one(net, followed, line);
+    Some(after)
+}
+
+// Follows one line more.
+#[inline(always)]
+fn follow_one(net: &mut Play, followed: &mut Followed, line: Entry)
+    requires place { followed.old.stop ≡ None → 0 < net.old.left }
+    requires has_line { followed.old.stop ≡ None → HasLine (outside net.old.wiring) line }
+    requires counts { AreFewer followed.old.counts 18446744073709551615 }
+    requires fewer { followed.old.count < MAX_ENTRIES }
+    ensures { FollowsOne net.old net.new line followed.old followed.new }
+{
+    followed.stop = play_on(net, line, followed.count + 2, followed.stop);
+    followed.counts.add(&line);
+    followed.count += 1;
 }

@@ -16,7 +16,7 @@ pub use counting::counts;
 pub use outgoing::Outgoing;
 pub use page::Page;
 pub use ports::LineNames;
-pub use reading::{clash_at, line_at, strip};
+pub use reading::{clash_at, firing_at, line_at, strip};
 pub use tally::Counts;
 pub use text::{
     MAX_ENTRIES, TraceError, Version, one_spelling, other_line, read_trace, version_at,

@@ -364,16 +364,6 @@ fn event_at<'a>(names: &LineNames, who: Who, text: &'a [u8]) -> Option<(Entry, &
     }
 }
 
-/// Any line of an entry, and what follows it.
-#[tactic(auto, unfolding(crate::specs::Reading::line_at))]
-#[inline(never)]
-fn any_line_at<'a>(names: &LineNames, text: &'a [u8]) -> Option<(Entry, &'a [u8])>
-    ensures { Reads (λ r. (r.0, r.1.now)) result (line_at names.now text.now) }
-{
-    let (who, text) = who_at(text)?;
-    event_at(names, who, text)
-}
-
 /// The worker whose firing stands at the front, and its line from the component on.
 #[inline(always)]
 fn worker_fires(text: &[u8]) -> Option<(u8, &[u8])>
@@ -391,16 +381,24 @@ fn worker_fires(text: &[u8]) -> Option<(u8, &[u8])>
     Some((*digit - b'0', rest))
 }
 
-/// The entry whose line stands at the front, and what follows it.
+/// The firing of a worker whose line stands at the front, and what follows it: most lines are such, and these are read without a
+/// call. `None` tells nothing of the line.
 #[inline(always)]
+pub fn firing_at<'a>(names: &LineNames, text: &'a [u8]) -> Option<(Entry, &'a [u8])>
+    ensures { IfSome result (λ r. line_at names.now text.now ≡ Some (r.0, r.1.now)) }
+{
+    let (worker, text) = worker_fires(text)?;
+    fired_at(names.names(), Who::Worker(worker), text)
+}
+
+/// The entry whose line stands at the front, and what follows it.
+#[tactic(auto, unfolding(crate::specs::Reading::line_at))]
+#[inline(never)]
 pub fn line_at<'a>(names: &LineNames, text: &'a [u8]) -> Option<(Entry, &'a [u8])>
     ensures { Reads (λ r. (r.0, r.1.now)) result (line_at names.now text.now) }
 {
-    // Most lines are firings of workers, so these are read without a call.
-    match worker_fires(text) {
-        Some((worker, text)) => fired_at(names.names(), Who::Worker(worker), text),
-        None => any_line_at(names, text),
-    }
+    let (who, text) = who_at(text)?;
+    event_at(names, who, text)
 }
 
 /// The component of the clash line at the front, and what follows it.

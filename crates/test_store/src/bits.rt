@@ -1,7 +1,7 @@
-//! Rows of bits, and the states of ports.
+//! Rows of bits, and the states and numbers of ports.
 
 use crate::table::{Bench, Words, done, gives, show};
-use bz_bits::{BitRow, PortStates, SummedRow};
+use bz_bits::{BitRow, PortNumbers, PortStates, SummedRow};
 use std::alloc::Global;
 use std::test::Fail;
 
@@ -79,6 +79,39 @@ impl Bench for PortStates {
     }
 }
 
+impl Bench for PortNumbers {
+    fn call(&mut self, alloc: Global, name: &str, words: &mut Words<'_>) -> Result<String, Fail> {
+        let place = words.number();
+        match name {
+            "len" => show(alloc, &self.len()),
+            "get" => show(alloc, &self.get(place)),
+            "next" => {
+                let at = place.max(1);
+                show(alloc, &(self.next_odd(at), plain_next_odd(self, at)))
+            }
+            "fill" => {
+                let to = words.number().min(self.len());
+                self.set_between(place, to, (words.number() % 4) as u8);
+                done(alloc)
+            }
+            _ => {
+                self.set(place, (words.number() % 4) as u8);
+                done(alloc)
+            }
+        }
+    }
+}
+
+// The first word from `at` on with an odd number, by a look at each port.
+fn plain_next_odd(numbers: &PortNumbers, at: usize) -> usize {
+    for port in at.saturating_mul(64)..numbers.len() {
+        if numbers.get(port) % 2 == 1 {
+            return port / 64;
+        }
+    }
+    at.max(numbers.len().div_ceil(64))
+}
+
 const BITS: &str = "
 len | 130
 get 129 | false
@@ -137,6 +170,46 @@ next 2 0 | Some(5)
 next 0 199 | None
 ";
 
+/// The next word of 64 ports with an odd number is told twice: by the numbers, and by a look at each port.
+const NUMBERS: &str = "
+len | 400
+next 1 | (7, 7)
+set 70 1
+next 1 | (1, 1)
+next 2 | (7, 7)
+set 399 3
+set 200 1
+next 2 | (3, 3)
+next 4 | (6, 6)
+set 70 2
+next 1 | (3, 3)
+set 130 3
+next 1 | (2, 2)
+set 200 0
+set 130 2
+next 1 | (6, 6)
+set 64 1
+next 1 | (1, 1)
+set 399 0
+next 2 | (7, 7)
+set 64 0
+set 63 1
+next 1 | (7, 7)
+fill 100 300 3
+next 1 | (1, 1)
+next 5 | (7, 7)
+fill 64 256 2
+next 1 | (4, 4)
+fill 128 129 1
+next 1 | (2, 2)
+next 3 | (4, 4)
+next 9 | (9, 9)
+fill 0 400 0
+set 400 1
+next 1 | (7, 7)
+get 128 | 0
+";
+
 #[test]
 fn bits_of_a_row(rt: HostRuntime) -> Result<(), Fail> {
     let mut row = BitRow::new(rt.alloc(), given(130))?;
@@ -153,4 +226,10 @@ fn searches_across_blocks(rt: HostRuntime) -> Result<(), Fail> {
 fn states_of_ports(rt: HostRuntime) -> Result<(), Fail> {
     let mut ports = PortStates::new(rt.alloc(), given(200))?;
     gives(&rt, rt.alloc(), &mut ports, STATES)
+}
+
+#[test]
+fn numbers_of_ports(rt: HostRuntime) -> Result<(), Fail> {
+    let mut ports = PortNumbers::new(rt.alloc(), given(400))?;
+    gives(&rt, rt.alloc(), &mut ports, NUMBERS)
 }

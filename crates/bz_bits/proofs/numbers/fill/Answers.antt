@@ -8,7 +8,7 @@ use Rattle.bz_bits.proofs.Words.{fill_step, fill_end, fill_none, ceil_past, ceil
 use Rattle.bz_bits.proofs.numbers.fill.Goals as goal
 
 pub loop-at-init : goal.loop-at-init
-loop-at-init c = (refl, λ p. fill_none (c.args.first.now ∷ c.args.more.now) c.args.from c.args.to c.args.number p)
+loop-at-init c = (refl, λ p. fill_none (c.args.first.now ∷ c.args.more.now) c.args.from c.args.to c.args.number p, c.requires.low)
 
 pub loop-at-preserved : goal.loop-at-preserved
 loop-at-preserved c =
@@ -16,13 +16,14 @@ loop-at-preserved c =
     let at = c.loop-at.at in let new = c.put_word.new.first ∷ c.put_word.new.more in let s = c.args.number in
     let below : 64 * at < c.args.to = ceil_below c.args.to at (omega (arith, c.loop-at-test.true, c.div_ceil-at-end.ensures)) in
     let in' : at < length ws = omega (arith, below, c.requires.fits, c.loop-at.invariant.0) in (
-      ap length c.put_word.ensures ∙ length-set ws at c.filled-word.result ∙ c.loop-at.invariant.0,
-      λ p. ap (λ (l : List PortWord). number_at l p) c.put_word.ensures
+      ap length c.put_word.ensures.put ∙ length-set ws at c.filled-word.result ∙ c.loop-at.invariant.0,
+      λ p. ap (λ (l : List PortWord). number_at l p) c.put_word.ensures.put
           ∙ fill_step old ws c.args.from c.args.to at s c.loop-at.invariant.1 c.places.result c.filled-word.result in' c.places.ensures
           (λ i lt. c.filled-word.ensures i lt ∙ ap (λ (w : PortWord). if bit_at c.places.result i == 1 then s else number_in w i) c.word_at.ensures) p,
+      c.put_word.ensures.low,
     )
 
-pub returns : goal.returns
-returns c p =
+pub returns-clause-filled : goal.returns-clause-filled
+returns-clause-filled c p =
     fill_end (c.args.first.now ∷ c.args.more.now) (c.loop-at.first ∷ c.loop-at.more) c.args.from c.args.to c.loop-at.at c.args.number c.loop-at.invariant.1
     (ceil_past c.args.to c.loop-at.at (omega (arith, c.loop-at-test.false, c.div_ceil-at-end.ensures))) p

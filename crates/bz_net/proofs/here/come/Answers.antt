@@ -1,4 +1,4 @@
-use Rattle.std.proofs.Common.{◌↔◌, ◌≡◌, Bool, List, IsTrue, true, false, refl, subst, if◌then◌else◌}
+use Rattle.std.proofs.Common.{◌↔◌, Bool, IsTrue, true, false, refl, subst}
 use Rattle.bz_kinds.specs.Ready.{CanGo}
 use Rattle.bz_net.specs.Nodes.{comps_of, heres_of}
 use Rattle.bz_net.proofs.Nodes.{bits_read, heres_changed, comps_stay}

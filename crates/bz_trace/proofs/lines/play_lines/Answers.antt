@@ -1,42 +1,35 @@
-use Rattle.std.proofs.Common.{inl, inr, refl, arith}
+use Rattle.std.proofs.Common.{◌<◌, inl, inr, refl, arith}
 use Rattle.bz_trace_text.proofs.Texts.{line_shorter}
-use Rattle.bz_trace.specs.declared.lines.Followed.{Followed}
-use Rattle.bz_trace.proofs.Along.{can_count, follows_more, gets_on_more, has_place, line_of_net, within}
+use Rattle.bz_trace_text.specs.declared.text.TheConstants.{MAX_ENTRIES}
+use Rattle.bz_trace.specs.Following.{FollowsFront}
+use Rattle.bz_trace.proofs.Along.{follows_one, gets_on_more, within}
 use Rattle.bz_trace.proofs.lines.play_lines.Goals as goal
 
-pub loop-line-init : goal.loop-line-init
-loop-line-init c =
+pub loop-followed-init : goal.loop-followed-init
+loop-followed-init c =
     let (w, before, f) = c.requires in
     record { follows = λ w before f. f; gets_on = inl (refl, refl); within = within c.args.names.now w c.args.net.now before c.args.text.now c.args.from f }
 
-pub play_on-stop-requires-clause-place : goal.play_on-stop-requires-clause-place
-play_on-stop-requires-clause-place c =
-    let l = c.loop-line in
+pub follow_front-requires-clause-is : goal.follow_front-requires-clause-is
+follow_front-requires-clause-is c =
+    let l = c.loop-followed in
     let (w, before, f) = c.requires in
-    has_place c.args.names.now w l.net before l.rest.now (record { counts = l.counts; count = l.count; stop = l.stop }) (l.invariant.follows w before f) c.if-count-eq-MAX_ENTRIES.false
+    (w, before, l.invariant.follows w before f)
 
-pub play_on-stop-requires-clause-has_line : goal.play_on-stop-requires-clause-has_line
-play_on-stop-requires-clause-has_line c =
-    let l = c.loop-line in
-    let (w, before, f) = c.requires in
-    line_of_net c.args.names.now w l.net before l.rest.now (record { counts = l.counts; count = l.count; stop = l.stop }) (l.invariant.follows w before f) c.in-Some.line c.in-Some.after.now c.in-Some.ensures
+pub loop-followed-smaller : goal.loop-followed-smaller
+loop-followed-smaller c =
+    let l = c.loop-followed in
+    let front : FollowsFront c.args.names.now l.net c.follow_front.new.net l.rest.now c.in-Some.after.now l.followed c.follow_front.new.followed = rw c.in-Some.is at c.follow_front.ensures.some in
+    line_shorter c.args.names.now l.rest.now front.0 c.in-Some.after.now front.1
 
-pub add-requires : goal.add-requires
-add-requires c =
-    let l = c.loop-line in
-    let (w, before, f) = c.requires in
-    can_count c.args.names.now w l.net before l.rest.now (record { counts = l.counts; count = l.count; stop = l.stop }) (l.invariant.follows w before f)
-
-pub loop-line-smaller : goal.loop-line-smaller
-loop-line-smaller c = line_shorter c.args.names.now c.loop-line.rest.now c.in-Some.line c.in-Some.after.now c.in-Some.ensures
-
-pub loop-line-preserved : goal.loop-line-preserved
-loop-line-preserved c =
-    let l = c.loop-line in
-    let now : Followed = record { counts = l.counts; count = l.count; stop = l.stop } in
+pub loop-followed-preserved : goal.loop-followed-preserved
+loop-followed-preserved c =
+    let l = c.loop-followed in let fewer : l.followed.count < MAX_ENTRIES = c.loop-followed-test.true in
+    let front : FollowsFront c.args.names.now l.net c.follow_front.new.net l.rest.now c.in-Some.after.now l.followed c.follow_front.new.followed = rw c.in-Some.is at c.follow_front.ensures.some in
+    let one = front.2 in let is = one.count_is in
+    let on = gets_on_more c.args.from l.followed.count c.args.text.now l.rest.now c.in-Some.after.now l.invariant.gets_on (line_shorter c.args.names.now l.rest.now front.0 c.in-Some.after.now front.1) in
     record {
-      follows = λ w before f.
-          follows_more c.args.names.now w l.net c.play_on-stop.new.net before l.rest.now c.in-Some.after.now now c.add.new.self c.play_on-stop.result c.in-Some.line (l.invariant.follows w before f) c.in-Some.ensures c.if-count-eq-MAX_ENTRIES.false c.play_on-stop.ensures c.add.ensures;
-      gets_on = inr (gets_on_more c.args.from l.count c.args.text.now l.rest.now c.in-Some.after.now l.invariant.gets_on (line_shorter c.args.names.now l.rest.now c.in-Some.line c.in-Some.after.now c.in-Some.ensures));
-      within = let most = l.invariant.within in let other = c.if-count-eq-MAX_ENTRIES.false in omega (arith, most, other);
+      follows = λ w before f. follows_one c.args.names.now w l.net c.follow_front.new.net before l.rest.now c.in-Some.after.now l.followed c.follow_front.new.followed (l.invariant.follows w before f) fewer front;
+      gets_on = inr (let more = on.0 in omega (arith, more, is), on.1);
+      within = omega (arith, fewer, is);
     }

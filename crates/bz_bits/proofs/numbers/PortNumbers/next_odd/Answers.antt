@@ -1,31 +1,19 @@
-use Rattle.std.proofs.Common.{◌≡◌, ◌<◌, ◌^◌, ◌∷◌, ◌+◌, ◌-◌, ℕ, List, ap, subst, sym, inl, inr, ◌∙◌, arith, length, drop, take, get_or}
-use Rattle.std.proofs.lemmas.List.{length-drop, take_all}
-use Rattle.bz_bits.specs.declared.word.PortWord.{PortWord}
+use Rattle.std.proofs.Common.{◌∷◌, ◌+◌, ◌-◌, ℕ, List, ap, subst, sym, refl, inl, inr, ◌∙◌, arith, length, get_or}
 use Rattle.bz_bits.specs.PortWords.{no_ports, HasOdd, IsEven}
-use Rattle.bz_bits.proofs.Words.{even_words, stops_there, length-numbers}
+use Rattle.bz_bits.proofs.Words.{even_word, lowest_odd, length-numbers}
 use Rattle.bz_bits.proofs.numbers.PortNumbers.next_odd.Goals as goal
 
-pub returns-clause-passed : goal.returns-clause-passed
-returns-clause-passed g c k le lt =
-    let more = c.self.inside.more.items in let b = c.min-before.result in let rest = drop b more in
-    let whole : take (length more - b) rest ≡ rest = take_all (length more - b) rest (omega (arith, length-drop b more)) in
-    let even = rw whole at (rw c.deref.ensures.value at c.count_even.ensures.even) in
-    let within = rw whole at (rw c.deref.ensures.value at c.count_even.ensures.within) in
-    subst (λ (l : List ℕ). IsEven l k) c.self.view_is
-    (even_words c.self.inside.first more c.self.inside.len c.args.at b c.count_even.result c.self.invariant c.requires
-    (omega (arith, c.min-before.ensures, c.len.ensures, c.self.inside.more.ok)) within even k le lt)
-
-pub returns-clause-stops : goal.returns-clause-stops
-returns-clause-stops g c =
+pub returns-then-at-lowest-clause-passed : goal.returns-then-at-lowest-clause-passed
+returns-then-at-lowest-clause-passed g c k le lt =
     let f = c.self.inside.first in let more = c.self.inside.more.items in let n = c.self.inside.len in
-    let b = c.min-before.result in let rest = drop b more in let next = c.args.at + c.count_even.result in
-    let whole : take (length more - b) rest ≡ rest = take_all (length more - b) rest (omega (arith, length-drop b more)) in
-    let stops = rw whole at (rw c.deref.ensures.value at c.count_even.ensures.stops) in
-    let within = rw whole at (rw c.deref.ensures.value at c.count_even.ensures.within) in
-    let word = c.word_at.ensures ∙ ap (λ (l : List PortWord). get_or (f ∷ l) next no_ports) c.deref-2.ensures.value in
-    let fits = subst (λ (x : ℕ). x < 2 ^ 64) c.odd_ports-odd.ensures c.odd_ports-odd.type_inv in
+    subst (λ (l : List ℕ). IsEven l k) c.self.view_is
+    (even_word f more n k c.self.invariant.0 (omega (arith, c.requires, le)) (get_or more (k - 1) no_ports) refl (c.self.invariant.1.even (k - 1) (omega (arith, c.requires, le, lt))))
+
+pub returns-then-at-lowest-clause-stops : goal.returns-then-at-lowest-clause-stops
+returns-then-at-lowest-clause-stops g c =
+    let f = c.self.inside.first in let more = c.self.inside.more.items in let n = c.self.inside.len in let low = c.self.inside.low in
     let long = ap length (sym c.self.view_is) ∙ length-numbers (f ∷ more) n in
-    elim (stops_there f more n c.args.at b c.count_even.result c.self.invariant c.requires (omega (arith, c.min-before.ensures, c.len.ensures, c.self.inside.more.ok)) within stops c.word_at.result word fits) [
+    elim (lowest_odd f more n low c.self.invariant.0 c.self.invariant.1) [
       | inl past ↦ inl (omega (arith, past, long))
-      | inr has ↦ inr (subst (λ (l : List ℕ). HasOdd l next) c.self.view_is has)
+      | inr has ↦ inr (subst (λ (l : List ℕ). HasOdd l (low + 1)) c.self.view_is has)
     ]

@@ -1,12 +1,13 @@
-use Rattle.std.proofs.Common.{◌≡◌, ◌<◌, ◌≤◌, ◌+◌, ◌-◌, length, sym, ap, ◌∙◌, subst, arith}
+use Rattle.std.proofs.Common.{◌≡◌, ◌<◌, ◌≤◌, ◌+◌, ◌-◌, length, refl, sym, ap, ◌∙◌, subst, arith}
 use Rattle.bz_model.specs.declared.event.Entry.TheVariants.{Fired}
-use Rattle.bz_model.specs.Nets.{Wiring, Step, StepsAt}
+use Rattle.bz_model.specs.Nets.{Wiring, Step}
 use Rattle.bz_net.specs.Progress.{Progress, Enters}
+use Rattle.bz_net.specs.Told.{MayMove, MovesAt}
 use Rattle.bz_net.proofs.Pieces.{enters_fired, progress}
 use Rattle.bz_net.proofs.play.Play.fire.Goals as goal
 
 pub fire-chan-requires : goal.fire-chan-requires
-fire-chan-requires c = subst (λ (v : Progress). StepsAt v.wiring.sites v.state c.args.comp c.args.port) (sym c.self.view_is) c.requires.steps
+fire-chan-requires c = subst (λ (v : Progress). MayMove v.wiring.sites v.state c.args.comp c.args.at) (sym c.self.view_is) c.requires.may
 
 pub note_move-requires-clause-to : goal.note_move-requires-clause-to
 note_move-requires-clause-to c = subst (λ (w : Wiring). c.fire-chan.result.0 ≤ length w.chans) (sym c.fire-chan.ensures.wiring) c.fire-chan.ensures.to
@@ -19,10 +20,16 @@ returns-clause-enters c =
     let n = c.self.inside in let r = c.fire-chan.result in let core = c.fire-chan.new.self in
     let place : 0 < n.left = subst (λ (v : Progress). 0 < v.left) (sym c.self.view_is) c.requires.place in
     let one : n.left ≡ (n.left - 1) + 1 = omega (arith, place) in
-    subst (λ (v : Progress). Enters v (Fired c.args.who c.args.comp c.args.port r.0 r.1 r.2) (progress core.wiring core.state c.note_move.new.noted (n.left - 1))) c.self.view_is
-    (enters_fired n.core.wiring core.wiring n.core.state core.state n.noted c.note_move.new.noted n.left (n.left - 1) c.fire-chan.ensures.wiring c.self.invariant.wired one c.args.who c.args.comp c.args.port r.0 r.1 r.2 c.fire-chan.ensures.step c.fire-chan.ensures.met c.note_move.ensures)
+    subst (λ (v : Progress). Enters v (Fired c.args.who c.args.comp r.3 r.0 r.1 r.2) (progress core.wiring core.state c.note_move.new.noted (n.left - 1))) c.self.view_is
+    (enters_fired n.core.wiring core.wiring n.core.state core.state n.noted c.note_move.new.noted n.left (n.left - 1) c.fire-chan.ensures.wiring c.self.invariant.wired one c.args.who c.args.comp r.3 r.0 r.1 r.2 c.fire-chan.ensures.step c.fire-chan.ensures.met c.note_move.ensures)
 
-pub returns-clause-sole : goal.returns-clause-sole
-returns-clause-sole c k mv value next other =
-    let (chan, move, val, state) = c.fire-chan.ensures.sole k mv value next (subst (λ (v : Progress). Step v.wiring.sites v.state c.args.comp c.args.port k mv value next) (sym c.self.view_is) other) in
-    ((λ i. Fired c.args.who c.args.comp c.args.port (chan i) (move i) (val i)), state)
+pub returns-clause-fired : goal.returns-clause-fired
+returns-clause-fired c =
+    let r = c.fire-chan.result in (
+      r.3,
+      subst (λ (v : Progress). MovesAt v.wiring.sites v.state c.args.comp c.args.at r.3) c.self.view_is c.fire-chan.ensures.port,
+      (refl, refl, refl),
+      λ k mv value next other.
+          let (chan, move, val, state) = c.fire-chan.ensures.sole k mv value next (subst (λ (v : Progress). Step v.wiring.sites v.state c.args.comp r.3 k mv value next) (sym c.self.view_is) other) in
+          ((λ i. Fired c.args.who c.args.comp r.3 (chan i) (move i) (val i)), state),
+    )

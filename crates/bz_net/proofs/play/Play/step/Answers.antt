@@ -21,13 +21,16 @@ returns-in_default-clause-enters c =
     subst (λ (v : Progress). Enters v (Rested c.args.who) (progress n.core.wiring n.core.state n.noted (n.left - 1))) c.self.view_is
     (enters_rested n.core.wiring n.core.state n.noted n.left (n.left - 1) c.args.who one rests)
 
+pub fire-requires-clause-may : goal.fire-requires-clause-may
+fire-requires-clause-may c =
+    let next : IsNext (CanStep c.self.inside.core.wiring.sites c.self.inside.core.state) c.args.from c.in-Some.comp = rw c.in-Some.is at c.next_ready.ensures in
+    subst (λ (v : Progress). CanStep v.wiring.sites v.state c.in-Some.comp) c.self.view_is next.is_in
+
 pub returns-clause-picked : goal.returns-clause-picked
 returns-clause-picked c =
     let n = c.self.inside in
-    let p = c.unwrap-port.result in
     let next : IsNext (CanStep n.core.wiring.sites n.core.state) c.args.from c.in-Some.comp = rw c.in-Some.is at c.next_ready.ensures in
-    let lowest : IsLowest n.core.wiring.sites n.core.state c.in-Some.comp p = rw c.unwrap-port.ensures at c.lowest.ensures in
+    let (p, lowest, firing, sole) = c.fire.ensures.fired in
     picked c.args.self.now c.args.who c.args.from c.in-Some.comp p c.fire.result
     (subst (λ (v : Progress). IsNext (CanStep v.wiring.sites v.state) c.args.from c.in-Some.comp) c.self.view_is next)
-    (subst (λ (v : Progress). IsLowest v.wiring.sites v.state c.in-Some.comp p) c.self.view_is lowest)
-    c.fire.ensures.fired
+    lowest firing
