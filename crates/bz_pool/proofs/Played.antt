@@ -1,5 +1,5 @@
 -- The plays of all sessions, in turn.
-use Rattle.std.proofs.Common.{Result, Ok, Err, ◌≡◌, ℕ, suc, ◌+◌, List, [], ◌∷◌, ◌++◌, length, map, take, get_or, refl, sym, ap, subst, ◌∙◌, arith, length-append}
+use Rattle.std.proofs.Common.{Result, Ok, Err, ◌≡◌, ℕ, suc, ◌+◌, List, [], ◌∷◌, ◌++◌, length, map, take, get_or, refl, sym, ap, subst, ◌∙◌, arith, inl, inr, ⊎_elim, length-append}
 use Rattle.std.specs.Prelude.{IfErr, IfOk}
 use Rattle.std.specs.List.{All}
 use Rattle.std.specs.declared.alloc.Global.{Global}
@@ -71,7 +71,8 @@ work_on t a b end.Done on is = absurd is
 work_on t a b (end.Resting word) on is = (is.0, once_on t a b _ on is.1)
 work_on t a b (end.Spent word) on is = (is.0, once_on t a b _ on is.1)
 work_on t a b (end.Stopped word) on is = (is.0, once_on t a b _ on is.1)
-work_on t a b (end.Refused word (session.Event e)) on is = is
+work_on t a b (end.Refused word (session.Event e)) on is =
+    (is.0, ⊎_elim (λ o. inl (once_on t a b _ on o)) (λ o. inr (o.0, (o.1.0, once_on t a b _ on o.1.1))) is.1)
 work_on t a b (end.Refused word (session.BadWord at)) on is = absurd is
 work_on t a b (end.Refused word session.Memory) on is = absurd is
 

@@ -1,7 +1,7 @@
 //! What a worker's thread does.
 
 ghost use Rattle.std.specs.Prelude.{◌≡◌, ◌≢◌, IfErr, IfOk, OnOk};
-ghost use Rattle.bz_pool.specs.Pooled.{WorkEndIs};
+ghost use Rattle.bz_pool.specs.Pooled.{EventWasRefused, FireWasRefused, RestWasRefused, WorkEndIs};
 
 use crate::raids::Raid;
 use bz_locked::{FireError, NetLedger, SharedNet, Work, Worker};
@@ -50,6 +50,7 @@ impl<L: NetLedger> Job<L> {
         requires { self.old.worker.seat.table ≡ shared.now.table }
         ensures who { (self.new.worker.who ≡ self.old.worker.who) × (self.new.worker.seat.table ≡ self.old.worker.seat.table) }
         ensures end { IfOk result (WorkEndIs L.terms self.new.worker.seat.saw) }
+        ensures cause { IfErr result (EventWasRefused L.terms self.new.worker.seat.saw) }
     {
         for _ in rt.forever() {
             let goes_on = match self.next_comp(shared, rt)? {
@@ -71,7 +72,8 @@ impl<L: NetLedger> Job<L> {
     // The component of a hint, else the first that can move; none where the net rests.
     fn next_comp<R: Wait>(&mut self, shared: &SharedNet<L>, rt: &R) -> Result<Option<u32>, NetError>
         requires { self.old.worker.seat.table ≡ shared.now.table }
-        ensures { (self.new.worker.who ≡ self.old.worker.who) × (self.new.worker.seat.table ≡ self.old.worker.seat.table) }
+        ensures who { (self.new.worker.who ≡ self.old.worker.who) × (self.new.worker.seat.table ≡ self.old.worker.seat.table) }
+        ensures cause { IfErr result (RestWasRefused L.terms self.new.worker.seat.saw) }
     {
         if let Some(comp) = next_hint(&mut self.owner, &mut self.raids) {
             return Ok(Some(comp));
@@ -92,7 +94,7 @@ impl<L: NetLedger> Job<L> {
     ) -> Result<bool, NetError>
         requires { self.old.worker.seat.table ≡ shared.now.table }
         ensures who { (self.new.worker.who ≡ self.old.worker.who) × (self.new.worker.seat.table ≡ self.old.worker.seat.table) }
-        ensures stale { IfErr result (λ e. e ≢ NetError.NotEnabled) }
+        ensures cause { IfErr result (FireWasRefused L.terms self.new.worker.seat.saw comp) }
     {
         let number = match self.worker.who() {
             Who::Worker(number) | Who::Host(number) => number,
