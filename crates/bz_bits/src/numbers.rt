@@ -194,7 +194,7 @@ fn put_word(first: &mut PortWord, more: &mut [PortWord], low: &mut u32, at: usiz
     }
 }
 
-#[inline(always)]
+#[inline(never)]
 fn put_far(more: &mut [PortWord], low: &mut u32, at: usize, word: PortWord)
     requires held { at < length more.old }
     requires low { IsLowest more.old low.old }
