@@ -11,3 +11,4 @@ pub mod Lines
 pub mod Texts
 pub mod Cuts
 pub mod Counted
+pub mod Firings

@@ -13,7 +13,7 @@ use Rattle.bz_trace_text.proofs.Strips.{none-some}
 ne-eqb : (a b : ℕ) → (a == b) ≡ false → a ≢ b
 ne-eqb a b e same = let yes = eq-eqb a b same in cc
 
-eqb-ne : (a b : ℕ) → a ≢ b → (a == b) ≡ false
+pub eqb-ne : (a b : ℕ) → a ≢ b → (a == b) ≡ false
 eqb-ne a b differ = grind (arith, nat_tests)
 
 -- which way a test went
@@ -111,7 +111,7 @@ read_more n ds h before most t some within =
     let le : nat_le n most ≡ true = le_of n most within in
     ap (number_at most) (append_assoc ds ((48 + n % 10) ∷ []) t) ∙ front ∙ rw (d, same, le) refl
 
-ends_there : (most n : ℕ) (r : List ℕ) → begins_digit r ≡ false → digits_on most n r ≡ Some (n, r)
+pub ends_there : (most n : ℕ) (r : List ℕ) → begins_digit r ≡ false → digits_on most n r ≡ Some (n, r)
 unfolding digits_on
 ends_there most n [] e = refl
 ends_there most n (b ∷ r) e = rw e refl

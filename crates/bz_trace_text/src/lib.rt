@@ -2,6 +2,7 @@
 #![tactic(auto)]
 
 mod counting;
+mod firing;
 mod numeral;
 mod outgoing;
 mod page;
@@ -13,10 +14,11 @@ mod text;
 mod trace;
 
 pub use counting::counts;
+pub use firing::firing_at;
 pub use outgoing::Outgoing;
 pub use page::Page;
 pub use ports::LineNames;
-pub use reading::{clash_at, firing_at, line_at, strip};
+pub use reading::{clash_at, line_at, strip};
 pub use tally::Counts;
 pub use text::{
     MAX_ENTRIES, TraceError, Version, one_spelling, other_line, read_trace, version_at,

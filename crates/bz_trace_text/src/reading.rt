@@ -2,7 +2,6 @@
 
 ghost use Rattle.std.specs.Prelude.{◌≡◌, ◌≤◌, ◌<◌, ◌^◌, ◌++◌, codes, length, map, IfSome, Some, None};
 ghost use Rattle.bz_model.specs.Entries.{carries_at};
-ghost use Rattle.bz_model.specs.Names.{Outside};
 ghost use Rattle.bz_trace_text.specs.Reading.{Reads, strip, digits_on, number_at, who_number, who_at, move_at, verb_at, carried_at, fired_at, value_end, phase_end, reply_end, given_at, host_at, event_at, line_at, clash_at, begins_digit, may_bring, most_number, most_value};
 
 use crate::ports::{LineNames, port_at};
@@ -61,7 +60,6 @@ fn value_at(text: &[u8]) -> Option<(Value, &[u8])>
 
 /// The number that goes on from `first`, up to the first byte that is no digit.
 #[tactic(auto, unfolding(crate::specs::Reading::digits_on))]
-#[inline(always)]
 fn digits_on(text: &[u8], first: u64, most: u32) -> Option<(u64, &[u8])>
     requires { first ≤ most }
     ensures reads { Reads (λ r. (r.0, r.1.now)) result (digits_on most first text.now) }
@@ -84,7 +82,6 @@ fn digits_on(text: &[u8], first: u64, most: u32) -> Option<(u64, &[u8])>
 
 /// The number at the front of a text, of at most `most`, without zeros that lead.
 #[tactic(auto, unfolding(crate::specs::Reading::number_at))]
-#[inline(always)]
 fn number_at(text: &[u8], most: u32) -> Option<(u32, &[u8])>
     ensures reads { Reads (λ r. (r.0, r.1.now)) result (number_at most text.now) }
     ensures within { IfSome result (λ r. r.0 ≤ most) }
@@ -106,7 +103,6 @@ fn number_at(text: &[u8], most: u32) -> Option<(u32, &[u8])>
 
 /// The number of a host or a worker, from 1 to `most`.
 #[tactic(auto, unfolding(crate::specs::Reading::who_number))]
-#[inline(always)]
 fn who_number(text: &[u8], most: u8) -> Option<(u8, &[u8])>
     ensures { Reads (λ r. (r.0, r.1.now)) result (who_number most text.now) }
 {
@@ -138,7 +134,6 @@ fn who_at(text: &[u8]) -> Option<(Who, &[u8])>
 
 /// The move at the front, and a space.
 #[tactic(auto, unfolding(crate::specs::Reading::move_at))]
-#[inline(always)]
 fn move_at(text: &[u8]) -> Option<(Move, &[u8])>
     ensures { Reads (λ r. (r.0, r.1.now)) result (move_at text.now) }
 {
@@ -178,7 +173,6 @@ fn verb_at(text: &[u8]) -> Option<(Verb, &[u8])>
 
 /// A space and a value, where one is carried.
 #[tactic(auto, unfolding(crate::specs::Reading::carried_at))]
-#[inline(always)]
 fn carried_at(text: &[u8], carried: bool) -> Option<(Option<Value>, &[u8])>
     ensures { Reads (λ r. (r.0, r.1.now)) result (carried_at carried text.now) }
 {
@@ -192,7 +186,7 @@ fn carried_at(text: &[u8], carried: bool) -> Option<(Option<Value>, &[u8])>
 
 /// Whether a move on a channel carries a value: on no channel that the net does not have.
 #[inline(always)]
-fn carried(names: &Names, chan: u32, mv: Move) -> bool
+pub(crate) fn carried(names: &Names, chan: u32, mv: Move) -> bool
     ensures { result ≡ carries_at names.now.chans chan mv }
 {
     match names.chan(chan) {
@@ -202,7 +196,6 @@ fn carried(names: &Names, chan: u32, mv: Move) -> bool
 }
 
 /// The number of a component or a channel.
-#[inline(always)]
 fn number(text: &[u8]) -> Option<(u32, &[u8])>
     ensures { Reads (λ r. (r.0, r.1.now)) result (number_at most_number text.now) }
 {
@@ -211,7 +204,6 @@ fn number(text: &[u8]) -> Option<(u32, &[u8])>
 
 /// A firing, from its component on.
 #[tactic(auto, unfolding(crate::specs::Reading::fired_at))]
-#[inline(always)]
 fn fired_at<'a>(names: &Names, who: Who, text: &'a [u8]) -> Option<(Entry, &'a [u8])>
     ensures { Reads (λ r. (r.0, r.1.now)) result (fired_at names.now who text.now) }
 {
@@ -362,33 +354,6 @@ fn event_at<'a>(names: &LineNames, who: Who, text: &'a [u8]) -> Option<(Entry, &
         Who::Host(_) => host_at(names, who, text),
         Who::Worker(_) => None,
     }
-}
-
-/// The worker whose firing stands at the front, and its line from the component on.
-#[inline(always)]
-fn worker_fires(text: &[u8]) -> Option<(u8, &[u8])>
-    ensures { (net : Outside) → IfSome result (λ r. line_at net text.now ≡ fired_at net (Who.Worker r.0) r.1.now) }
-{
-    let (letter, rest) = text.split_first()?;
-    if *letter != b'w' {
-        return None;
-    }
-    let (digit, rest) = rest.split_first()?;
-    if *digit < b'1' || *digit > b'8' {
-        return None;
-    }
-    let rest = strip(rest, b" fire ")?;
-    Some((*digit - b'0', rest))
-}
-
-/// The firing of a worker whose line stands at the front, and what follows it: most lines are such, and these are read without a
-/// call. `None` tells nothing of the line.
-#[inline(always)]
-pub fn firing_at<'a>(names: &LineNames, text: &'a [u8]) -> Option<(Entry, &'a [u8])>
-    ensures { IfSome result (λ r. line_at names.now text.now ≡ Some (r.0, r.1.now)) }
-{
-    let (worker, text) = worker_fires(text)?;
-    fired_at(names.names(), Who::Worker(worker), text)
 }
 
 /// The entry whose line stands at the front, and what follows it.
