@@ -96,6 +96,15 @@ impl<A: Allocator> BitRow<A> {
         if self.len <= from {
             return None;
         }
+        self.next_within(from)
+    }
+
+    // The same of a place of the row.
+    #[inline(always)]
+    fn next_within(&self, from: usize) -> Option<usize>
+        requires { from < length self.now }
+        ensures { IsNextInWord self.now from result }
+    {
         let found = above(self.words[from / 64], from % 64);
         if found == 0 {
             return None;
@@ -104,10 +113,12 @@ impl<A: Allocator> BitRow<A> {
     }
 
     /// Whether the word of `place` has a 1.
+    #[inline(always)]
     pub(crate) fn has_one(&self, place: usize) -> bool
+        requires { place < length self.now }
         ensures { HasOne self.now (place / 64) result }
     {
-        self.next_in_word(place / 64 * 64).is_some()
+        self.next_within(place / 64 * 64).is_some()
     }
 
     /// How many words there are.

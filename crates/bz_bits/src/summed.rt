@@ -66,12 +66,14 @@ impl<A: Allocator + Copy> SummedRow<A> {
         requires { place < length self.old }
         ensures { self.new ≡ slice_set self.old place true }
     {
+        let had_one = self.row.has_one(place);
         self.row.raise(place);
-        let word = place / 64;
-        if !self.words.get(word) {
-            self.words.raise(word);
-            self.blocks.raise(word / 64);
+        if had_one {
+            return;
         }
+        let word = place / 64;
+        self.words.raise(word);
+        self.blocks.raise(word / 64);
     }
 
     #[inline(always)]

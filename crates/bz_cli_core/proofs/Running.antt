@@ -96,6 +96,10 @@ stops_full old mid new a b before between fired next fuel fewer (same, full) run
     (runs_as old mid a b before between (λ x y. Plays x y (who.Worker 1) 1 fired next) (λ x y. Ran x y (who.Worker 1) 1 fuel (Refused fired JournalFull))
     (λ journal es plays. (fewer, (next, plays, omega (arith, full)))) runs)
 
+-- an entry takes one of those that are still let in
+pub entered_left : (old : Progress) (e : Entry) (new : Progress) → Enters old e new → new.left + 1 ≡ old.left
+entered_left old e new one = let adds = one.adds [] in omega (arith, adds.limit)
+
 -- all firings were made
 pub runs_all : (old new : Progress) (a b : Option (List ℕ)) (before between : Outgoing) (fired next fuel : ℕ) → fired ≡ fuel → RunsOut old new a before b between (λ x y. Plays x y (who.Worker 1) 1 fired next) → RunsOut old new a before b between (λ x y. Ran x y (who.Worker 1) 1 fuel (Spent fuel))
 runs_all old new a b before between fired next fuel all runs =

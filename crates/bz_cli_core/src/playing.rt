@@ -98,6 +98,7 @@ fn command_out<W: Write>(
 }
 
 // Fires so many times, or until no component can move. The lines go out as they come, behind those of the entries so far.
+#[inline(always)]
 fn run_out<W: Write>(
     play: &mut Play,
     fuel: u64,
@@ -116,16 +117,15 @@ fn run_out<W: Write>(
 }
 
 // The same, where all lines so far are on a page or have gone out.
+#[inline(always)]
 fn fire_out<W: Write>(play: &mut Play, fuel: u64, lines: &mut Outgoing, out: &mut W) -> RunEnd
     ensures { RunsOut play.old play.new (W.contents out.old) lines.old (W.contents out.new) lines.new
         (λ old new. Ran old new (who.Worker 1) 1 fuel result) }
 {
+    let due = play.let_in(fuel);
     let mut next = 1;
-    for fired in 0..fuel {
-        let Some(entry) = play.step(Who::Worker(1), next) else {
-            return RunEnd::Refused(fired, NetError::JournalFull);
-        };
-        match entry {
+    for fired in 0..due {
+        match play.step_within(Who::Worker(1), next) {
             Entry::Fired {
                 who,
                 comp,
@@ -143,5 +143,9 @@ fn fire_out<W: Write>(play: &mut Play, fuel: u64, lines: &mut Outgoing, out: &mu
             }
         }
     }
-    RunEnd::Spent(fuel)
+    if due < fuel {
+        RunEnd::Refused(due, NetError::JournalFull)
+    } else {
+        RunEnd::Spent(fuel)
+    }
 }

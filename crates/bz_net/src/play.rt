@@ -187,11 +187,30 @@ impl Play {
         if self.left == 0 {
             return None;
         }
+        Some(self.step_within(who, from))
+    }
+
+    /// The same where one more entry is let in.
+    #[inline(always)]
+    pub fn step_within(&mut self, who: Who, from: u32) -> Entry
+        requires { 0 < self.old.left }
+        ensures picked { IsPicked (with_journal self.old []) who from result }
+        ensures enters { Enters self.old result self.new }
+        ensures above { IsBelowLast result }
+    {
         let Some(comp) = self.core.next_ready(from) else {
             self.left -= 1;
-            return Some(Entry::Rested { who });
+            return Entry::Rested { who };
         };
-        Some(self.fire(who, comp, None))
+        self.fire(who, comp, None)
+    }
+
+    /// How many of so many entries are still let in.
+    #[inline(always)]
+    pub fn let_in(&self, entries: u64) -> u64
+        ensures { result ≡ min entries self.now.left }
+    {
+        entries.min(u64::from(self.left))
     }
 
     /// Fires the move of a component at the port that is given, or else at the lowest where it can move.

@@ -1,8 +1,5 @@
-use Rattle.std.proofs.Common.{◌≡◌, ◌+◌, ◌*◌, ◌/◌, ℕ, Bool, List, Some, None, length, get_or, ap, ◌∙◌, subst, arith}
-use Rattle.std.proofs.lemmas.List.{get_or_read}
-use Rattle.std.specs.Int.{bit_at, trailing_zeros, w64}
-use Rattle.bz_bits.specs.Row.{IsNextInWord}
-use Rattle.bz_bits.proofs.Rows.{length-bits, word_in, none_found, first_found}
+use Rattle.std.proofs.Common.{ap, length, arith}
+use Rattle.bz_bits.proofs.Rows.{length-bits}
 use Rattle.bz_bits.proofs.Search.{nothing_past}
 use Rattle.bz_bits.proofs.row.BitRow.next_in_word.Goals as goal
 
@@ -10,16 +7,6 @@ pub returns-then-self-from : goal.returns-then-self-from
 returns-then-self-from g c k le at =
     nothing_past c.args.self.now k (omega (arith, length-bits c.self.inside.words.items c.self.inside.len, ap length c.self.view_is, c.if-self-from.true))
 
-pub returns-then-found-eq0 : goal.returns-then-found-eq0
-returns-then-found-eq0 g c =
-    let words = c.self.inside.words.items in let n = c.self.inside.len in let from = c.args.from in let w = c.index.result.now in
-    let is : w ≡ get_or words (from / 64) 0 = get_or_read words (from / 64) w (word_in words n c.self.invariant from (omega arith)) c.index.ensures 0 in
-    subst (λ (l : List Bool). IsNextInWord l from None) c.self.view_is
-    (none_found words n c.self.invariant from c.above-found.result c.above-found.ensures.below (λ i le. c.above-found.ensures.rest i le ∙ ap (λ (x : ℕ). bit_at x i) is) c.if-found-eq0.true)
-
-pub returns : goal.returns
-returns g c =
-    let words = c.self.inside.words.items in let n = c.self.inside.len in let from = c.args.from in let w = c.index.result.now in let found = c.above-found.result in
-    let is : w ≡ get_or words (from / 64) 0 = get_or_read words (from / 64) w (word_in words n c.self.invariant from (omega arith)) c.index.ensures 0 in
-    subst (λ (l : List Bool). IsNextInWord l from (Some (from / 64 * 64 + trailing_zeros w64 found))) c.self.view_is
-    (first_found words n c.self.invariant from found c.above-found.ensures.below (λ i le. c.above-found.ensures.rest i le ∙ ap (λ (x : ℕ). bit_at x i) is) c.above-found.type_inv (omega (arith, c.if-found-eq0.false)))
+pub next_within-requires : goal.next_within-requires
+next_within-requires g c =
+    omega (arith, length-bits c.self.inside.words.items c.self.inside.len, ap length c.self.view_is, c.if-self-from.false)
