@@ -205,7 +205,6 @@ impl Core {
     }
 
     /// Whether a component can move at a port.
-    #[inline(always)]
     pub(crate) fn can_fire(&self, comp: u32, port: u32) -> bool
         ensures { MatchBool result (StepsAt self.now.wiring.sites self.now.state comp port)
             (StepsAt self.now.wiring.sites self.now.state comp port → ⊥) }
