@@ -78,18 +78,6 @@ four_same t four at x y h l small few there wanted same =
     let b = le_bytes_4 four x l few (same ∙ wanted) in
     next_four t at h ∙ ap (λ s. s ++ drop (at + 4) t) (sym a ∙ b)
 
--- fours that overlap in their last and first two
-pub overlap : (t : List ℕ) (at a b c d e f : ℕ) → at + 6 ≤ length t → drop at t ≡ a ∷ b ∷ c ∷ d ∷ drop (at + 4) t → drop (at + 2) t ≡ c ∷ d ∷ e ∷ f ∷ drop (at + 2 + 4) t
-    → drop at t ≡ a ∷ b ∷ c ∷ d ∷ e ∷ f ∷ drop (at + 6) t
-overlap t at a b c d e f h first second =
-    let one : at + 1 + 1 ≡ at + 2 = omega arith in
-    let six : at + 2 + 4 ≡ at + 6 = omega arith in
-    let here : drop at t ≡ get_or t at 0 ∷ get_or t (at + 1) 0 ∷ drop (at + 2) t =
-    next t at (omega (arith, h)) ∙ ap (λ s. get_or t at 0 ∷ s) (next t (at + 1) (omega (arith, h)) ∙ ap (λ i. get_or t (at + 1) 0 ∷ drop i t) one) in
-    let is_a : get_or t at 0 ≡ a = ap (λ s. get_or s 0 0) (sym here ∙ first) in
-    let is_b : get_or t (at + 1) 0 ≡ b = ap (λ s. get_or s 1 0) (sym here ∙ first) in
-    here ∙ rw (is_a, is_b) (ap (λ s. a ∷ b ∷ s) (second ∙ ap (λ i. c ∷ d ∷ e ∷ f ∷ drop i t) six))
-
 -- behind four bytes of a word, the other one or two
 pub five : (t : List ℕ) (at a b c d e : ℕ) → at + 5 ≤ length t → drop at t ≡ a ∷ b ∷ c ∷ d ∷ drop (at + 4) t → get_or t (at + 4) 0 ≡ e → drop at t ≡ a ∷ b ∷ c ∷ d ∷ e ∷ drop (at + 5) t
 five t at a b c d e h first fifth =
@@ -104,11 +92,10 @@ six t at a b c d e f h first fifth sixth =
 
 -- the worker, where its firing's front stands
 pub worker_there : (net : Outside) (t : List ℕ) → 8 ≤ length t → get_or t 0 0 ≡ 119 → 49 ≤ get_or t 1 0 → get_or t 1 0 ≤ 56
-    → drop 2 t ≡ codes " fir" ++ drop (2 + 4) t → drop 4 t ≡ codes "ire " ++ drop (4 + 4) t → line_at net t ≡ fired_at net (who.Worker (get_or t 1 0 - 48)) (drop 8 t)
-worker_there net t h letter low high first second =
-    let fire = overlap t 2 32 102 105 114 101 32 (omega (arith, h)) first second in
-    worker_fires net (get_or t 0 0) (get_or t 1 0) t (drop 1 t) (drop 2 t) (drop 8 t) (next t 0 (omega (arith, h))) letter (next t 1 (omega (arith, h))) low high
-    (rw fire (strip_again (codes " fire ") (drop 8 t)))
+    → drop 2 t ≡ codes " fir" ++ drop (2 + 4) t → get_or t 6 0 ≡ 101 → get_or t 7 0 ≡ 32 → line_at net t ≡ fired_at net (who.Worker (get_or t 1 0 - 48)) (drop 8 t)
+worker_there net t h letter low high first seventh eighth =
+    let fire = six t 2 32 102 105 114 101 32 (omega (arith, h)) first seventh eighth in
+    worker_fires net (get_or t 0 0) (get_or t 1 0) t (drop 1 t) (drop 2 t) (drop 8 t) (next t 0 (omega (arith, h))) letter (next t 1 (omega (arith, h))) low high (rw fire (strip_again (codes " fire ") (drop 8 t)))
 
 -- the parts of a line make it
 pub fired_there : (net : Outside) (n comp chan a b d f : ℕ) (mv : Move) (value : Option ℕ) (t : List ℕ) → line_at net t ≡ fired_at net (who.Worker n) (drop 8 t)

@@ -107,7 +107,8 @@ fn worker_from(text: &[u8]) -> Option<u8>
     let digit = text[1];
     if text[0] == b'w'
         && has_four(text, 2, b" fir")
-        && has_four(text, 4, b"ire ")
+        && text[6] == b'e'
+        && text[7] == b' '
         && digit >= b'1'
         && digit <= b'8'
     {
