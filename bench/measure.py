@@ -6,9 +6,9 @@
 Each row is one workload, and where there are two programs, how many times as much the first takes. First come the instructions
 that callgrind counts (a part of valgrind): those of a move and of a line that is checked, from the 20,000th to the 220,000th, and
 in millions those of opening and listing a netlist. They are the same each time. Then come times: the best of each program in
-seconds, and its memory at its greatest in MB. A row of moves leaves out the time of the same command without any. No figure of
-memory is below that of Python itself, some 15 MB, out of which the programs are started. --counts shows the instructions alone,
---times the times alone. The netlists are made by netlists.py, in a folder that goes away.
+seconds, its memory at its greatest in MB, and its page faults. A row of moves leaves out the time of the same command without
+any. No figure of memory is below that of Python itself, some 15 MB, out of which the programs are started. --counts shows the
+instructions alone, --times the times alone. The netlists are made by netlists.py, in a folder that goes away.
 """
 import os
 import re
@@ -17,6 +17,7 @@ import subprocess
 import sys
 import tempfile
 import time
+from typing import NamedTuple
 
 HERE = os.path.dirname(os.path.abspath(__file__))
 MOVES = int(os.environ.get("MOVES", "1000000"))
@@ -114,9 +115,17 @@ def counts(programs, netlists):
 # Times and memory.
 
 
+class Measured(NamedTuple):
+    """The best time of some rounds, the greatest memory in MB, and the fewest page faults that no disk served."""
+
+    seconds: float
+    memory: float
+    faults: int
+
+
 def measured(program, arguments, netlist):
-    """The best time of some rounds, and the greatest memory in MB; None where the program refuses."""
-    best, most = None, 0.0
+    """What a call takes; None where the program refuses."""
+    rounds = []
     for _ in range(ROUNDS):
         with open(netlist, "rb") as text, tempfile.TemporaryFile() as said:
             begin = time.monotonic()
@@ -128,21 +137,23 @@ def measured(program, arguments, netlist):
                 said.seek(0)
                 print(f"    {program}: {said.read().decode(errors='replace').strip()}")
                 return None
-        best = took if best is None else min(best, took)
-        most = max(most, used.ru_maxrss / 1024)
-    return best, most
+        rounds.append(Measured(took, used.ru_maxrss / 1024, used.ru_minflt))
+    return Measured(min(it.seconds for it in rounds), max(it.memory for it in rounds), min(it.faults for it in rounds))
 
 
 def show(label, all_measured):
-    cells = ["refused" if it is None else f"{it[0]:8.3f} s {it[1]:6.0f} MB" for it in all_measured]
-    if len(all_measured) == 2 and None not in all_measured and all_measured[1][0] > 0:
-        cells.append(f"{all_measured[0][0] / all_measured[1][0]:6.1f} times")
+    cells = ["refused" if it is None else f"{it.seconds:8.3f} s {it.memory:6.0f} MB {it.faults:7} faults" for it in all_measured]
+    if len(all_measured) == 2 and None not in all_measured and all_measured[1].seconds > 0:
+        cells.append(f"{all_measured[0].seconds / all_measured[1].seconds:6.1f} times")
     print(f"{label:40}" + "  ".join(cells), flush=True)
 
 
 def without(all_measured, empty):
     """The same without the times of an empty run."""
-    return [None if it is None or e is None else (max(it[0] - e[0], 0.0), it[1]) for it, e in zip(all_measured, empty)]
+    return [
+        None if it is None or e is None else it._replace(seconds=max(it.seconds - e.seconds, 0.0))
+        for it, e in zip(all_measured, empty)
+    ]
 
 
 def moves(programs, shape, size, netlist):

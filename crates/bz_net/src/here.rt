@@ -141,6 +141,20 @@ fn goes_at(comp: &Comp, here: &PortBits, port: u32) -> bool
     ensures held { (p : ℕ) (h : Head) → IsHeadOn comp.now.proc p h → (0 < p) × (p ≤ length comp.now.chans) }
     ensures turning { IsTurning comp.now }
 {
+    if port >= 64 {
+        return goes_at_far(comp, here, port);
+    }
+    let near = ready_word(comp, 0, here.word(0));
+    (near >> port) & 1 == 1
+}
+
+// The same of any port.
+#[inline(never)]
+fn goes_at_far(comp: &Comp, here: &PortBits, port: u32) -> bool
+    ensures goes { IsTrue result ↔ CanGo comp.now.proc port (flag_of here.now port) }
+    ensures held { (p : ℕ) (h : Head) → IsHeadOn comp.now.proc p h → (0 < p) × (p ≤ length comp.now.chans) }
+    ensures turning { IsTurning comp.now }
+{
     let at = port / 64;
     let word = ready_word(comp, at, here.word(at as usize));
     (word >> (port % 64)) & 1 == 1
