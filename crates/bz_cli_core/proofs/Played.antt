@@ -1,5 +1,5 @@
 -- Words that are played one after another.
-use Rattle.std.proofs.Common.{◌≡◌, ◌<◌, ◌≤◌, ◌+◌, ℕ, zero, suc, take, drop, get_or, add-one, arith, List, [], ◌∷◌, ◌++◌, length, None, Some, inl, inr, refl, sym, ap, subst, ◌∙◌, append_assoc, append-nil}
+use Rattle.std.proofs.Common.{◌≡◌, ◌<◌, ◌+◌, ℕ, suc, take, drop, get_or, add-one, arith, List, [], ◌∷◌, ◌++◌, length, inl, inr, refl, sym, ap, subst, ◌∙◌, append_assoc, append-nil}
 use Rattle.bz_model.specs.declared.event.Entry.{Entry}
 use Rattle.bz_model.specs.declared.event.Entry.TheVariants.{Rested}
 use Rattle.bz_model.specs.declared.event.Cmd.{Cmd}
@@ -13,8 +13,8 @@ use Rattle.bz_model.specs.Nets.{Wiring, State, opening}
 use Rattle.bz_model.specs.Plays.{Firings, PlaysWord, PlaysWords, StopsWord, Stops}
 use Rattle.bz_model.specs.Runs as runs
 use Rattle.bz_net.specs.declared.event.RunEnd.TheVariants.{Rest, Spent, Refused}
-use Rattle.bz_net.specs.Simulation.{Simulation, Adds}
-use Rattle.bz_net.specs.Replies.{Replies, RefusesCommand, RefusesEntry}
+use Rattle.bz_net.specs.Simulation.{Simulation}
+use Rattle.bz_net.specs.Replies.{Replies, RefusesCommand}
 use Rattle.bz_net.specs.Running.{Ran}
 use Rattle.bz_cli_core.specs.Playing.{Playing, PlaysOne, StopsOne}
 use Rattle.std.proofs.Math.Seq.{drop-cons, take-suc}

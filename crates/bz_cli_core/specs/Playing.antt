@@ -1,5 +1,5 @@
 -- One word played on a net.
-use Rattle.std.specs.Prelude.{◌≡◌, ℕ, List, ◌++◌, length}
+use Rattle.std.specs.Prelude.{◌≡◌, List, ◌++◌, length}
 use Rattle.bz_model.specs.declared.event.Entry.{Entry}
 use Rattle.bz_model.specs.declared.event.Cmd.{Cmd}
 use Rattle.bz_model.specs.declared.event.NetError.{NetError}

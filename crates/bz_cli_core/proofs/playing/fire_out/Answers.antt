@@ -32,20 +32,21 @@ loop-fired-preserved g c =
       left = omega (arith, one, l.invariant.left);
     }
 
-pub returns-in_default-step_within : goal.returns-in_default-step_within
-returns-in_default-step_within g c =
+pub returns-in_default : goal.returns-in_default
+returns-in_default g c =
     let l = c.loop-fired in let o = c.rested in
-    let is = rested l.play (who.Worker 1) l.next c.step_within.result c.step_within.ensures.picked c.in_default-step_within.not-Fired in
+    let is = rested l.play (who.Worker 1) l.next c.step_within.result c.step_within.ensures.picked c.in_default.not-Fired in
     rests_then c.args.play.now l.play c.step_within.new.self (g.W.Write.contents c.args.out.now) (g.W.Write.contents l.out) (g.W.Write.contents o.new.out) c.args.lines.now l.lines o.new.self l.fired l.next l.invariant.runs c.args.fuel (omega (arith, c.loop-fired-test.true))
     (subst (λ (e : Entry). Enters l.play e c.step_within.new.self) is c.step_within.ensures.enters)
     o.ensures
 
-pub returns-then-due : goal.returns-then-due
-returns-then-due g c =
-    let l = c.loop-fired in
-    stops_full c.args.play.now l.play l.play (g.W.Write.contents c.args.out.now) (g.W.Write.contents l.out) c.args.lines.now l.lines l.fired l.next c.args.fuel (omega arith) (refl, omega (arith, l.invariant.left, c.let_in-due.ensures)) l.invariant.runs
+pub returns-then-due-fuel : goal.returns-then-due-fuel
+returns-then-due-fuel g c =
+    let l = c.loop-fired in let all : l.fired ≡ c.let_in-due.result = omega arith in
+    rw (← all)
+    (stops_full c.args.play.now l.play l.play (g.W.Write.contents c.args.out.now) (g.W.Write.contents l.out) c.args.lines.now l.lines l.fired l.next c.args.fuel (omega arith) (refl, omega (arith, l.invariant.left, c.let_in-due.ensures)) l.invariant.runs)
 
-pub returns-else-due : goal.returns-else-due
-returns-else-due g c =
+pub returns-else-due-fuel : goal.returns-else-due-fuel
+returns-else-due-fuel g c =
     let l = c.loop-fired in
     runs_all c.args.play.now l.play (g.W.Write.contents c.args.out.now) (g.W.Write.contents l.out) c.args.lines.now l.lines l.fired l.next c.args.fuel (omega arith) l.invariant.runs
