@@ -1,5 +1,5 @@
 -- A text that goes out by pages, where the writer may have failed.
-use Rattle.std.proofs.Common.{◌≡◌, ℕ, Bool, true, false, Option, Result, Ok, Err, List, [], ◌++◌, sym, ap, ◌∙◌, append_assoc, append-nil}
+use Rattle.std.proofs.Common.{ℕ, Bool, true, false, Option, Result, Ok, Err, List, [], ◌++◌, sym, ap, ◌∙◌, append_assoc, append-nil}
 use Rattle.std.specs.Result.{is_err}
 use Rattle.bz_text.specs.Writing.{Writes}
 use Rattle.bz_text.proofs.Sent.{appends_then}

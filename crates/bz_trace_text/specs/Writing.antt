@@ -1,10 +1,11 @@
 -- What a call that writes lines of a trace leaves in a writer.
-use Rattle.std.specs.Prelude.{◌≡◌, ℕ, Bool, true, false, List, ◌++◌, codes, Option, Result, Ok, Err}
+use Rattle.std.specs.Prelude.{◌≡◌, ℕ, Bool, true, false, List, ◌++◌, codes, decimal, Option, Result, Ok, Err}
 use Rattle.std.specs.List.{flat_map}
 use Rattle.std.specs.Io.KnownBytes.{Appends}
+use Rattle.bz_model.specs.declared.channel.Move.{Move}
 use Rattle.bz_model.specs.declared.event.Entry.{Entry}
 use Rattle.bz_model.specs.Names.{External}
-use Rattle.bz_model.specs.Traces.{line_text}
+use Rattle.bz_model.specs.Traces.{line_text, move_text}
 use Rattle.bz_text.specs.Writing.{AppendsFront, Writes}
 use Rattle.bz_trace_text.specs.declared.outgoing.Outgoing.{Outgoing}
 
@@ -34,3 +35,7 @@ GoneBut start now true waits text = (front rest : List ℕ) × (text ≡ front +
 -- the same of what waits on a page
 abbrev pub IsGone : Option (List ℕ) → Option (List ℕ) → Outgoing → List ℕ → Type 0
 IsGone start now outgoing text = GoneBut start now outgoing.failed outgoing.page text
+
+-- the line of a firing up to its channel, by the text of who it is
+abbrev pub move_line : List ℕ → ℕ → Move → ℕ → List ℕ
+move_line who comp mv chan = who ++ (codes " fire " ++ (decimal comp ++ (codes " " ++ (move_text mv ++ (codes " " ++ decimal chan)))))

@@ -3,6 +3,7 @@
 
 mod counting;
 mod firing;
+mod line;
 mod numeral;
 mod outgoing;
 mod page;

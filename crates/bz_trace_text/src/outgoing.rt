@@ -21,7 +21,7 @@ pub struct Outgoing {
 
 impl Outgoing {
     /// No line yet, for a writer that has failed before or has not. The numbers below `count` are spelled once for all lines,
-    /// unless they are many or there is no memory for them. After this no memory is taken.
+    /// and so are those below 1,000, unless they are many or there is no memory for them. After this no memory is taken.
     pub fn new(alloc: Global, count: usize, failed: bool) -> Outgoing
         ensures { (start now : Option (List ℕ)) (text : List ℕ) →
             GoneBut start now failed [] text → IsGone start now result text }

@@ -1,11 +1,13 @@
 //! Lines composed on a page, which goes out whole.
 
 ghost use Rattle.std.specs.Prelude.{◌≡◌, ℕ, ◌+◌, ◌<◌, ◌≤◌, List, [], ◌∷◌, ◌++◌, ◌↔◌, length, take, drop, decimal, IsTrue};
+ghost use Rattle.bz_model.specs.Traces.{fired_text};
 ghost use Rattle.bz_text.specs.Writing.{Writes};
 ghost use Rattle.bz_trace_text.specs.Spelling.{AreSpelled};
 
+use crate::line::{set_end, set_move};
 use crate::numeral::Numeral;
-use bz_model::Value;
+use bz_model::{Move, Value, Who};
 use bz_text::{WriteFault, put};
 use std::io::Write;
 use std::marker::Model;
@@ -94,34 +96,32 @@ impl Page {
         self.at = set_number(&mut self.bytes, self.at, n);
     }
 
-    /// The same, of a number that may be spelled already.
-    #[inline(always)]
-    pub(crate) fn spelled(&mut self, spelled: &[Numeral], n: u32)
-        requires room { length self.old + 10 ≤ 8192 }
-        requires told { AreSpelled spelled.now }
-        ensures text { self.new ≡ self.old ++ decimal n }
-        ensures short { length self.new ≤ length self.old + 10 }
-    {
-        let place = n as usize;
-        if place < spelled.len() {
-            let numeral = spelled[place];
-            self.word(numeral.bytes, usize::from(numeral.len));
-        } else {
-            self.number(n);
-        }
-    }
-
     #[inline(always)]
     pub fn value(&mut self, value: Value)
         requires { length self.old + 39 ≤ 8192 }
         ensures text { self.new ≡ self.old ++ decimal value }
         ensures short { length self.new ≤ length self.old + 39 }
     {
-        self.at = if value <= Value::from(u32::MAX) {
-            set_number(&mut self.bytes, self.at, value as u32)
-        } else {
-            set_wide(&mut self.bytes, self.at, value)
-        };
+        self.at = set_value(&mut self.bytes, self.at, value);
+    }
+
+    /// Composes the line of a firing. Numbers that are spelled already are taken from there.
+    #[inline(always)]
+    pub(crate) fn fired(
+        &mut self,
+        spelled: &[Numeral],
+        who: Who,
+        comp: u32,
+        mv: Move,
+        chan: u32,
+        value: Option<Value>,
+    )
+        requires room { length self.old + 96 ≤ 8192 }
+        requires told { AreSpelled spelled.now }
+        ensures { self.new ≡ self.old ++ fired_text who comp mv chan value }
+    {
+        let after_chan = set_move(&mut self.bytes, self.at, spelled, who, comp, mv, chan);
+        self.at = set_end(&mut self.bytes, after_chan, spelled, value);
     }
 
     /// Lets all of it go out.
@@ -138,7 +138,7 @@ impl Page {
 
 // Writes 8 bytes at a place.
 #[inline(always)]
-fn set_word(bytes: &mut [u8], at: usize, word: [u8; 8])
+pub(crate) fn set_word(bytes: &mut [u8], at: usize, word: [u8; 8])
     requires { at + 8 ≤ length bytes.old }
     ensures { bytes.new ≡ take at bytes.old ++ (word ++ drop (at + 8) bytes.old) }
 {
@@ -166,7 +166,20 @@ pub(crate) fn set_number(bytes: &mut [u8], at: usize, n: u32) -> usize
     end
 }
 
-// The same of a number that may be past 32 bits.
+// The same of a value.
+#[inline(always)]
+pub(crate) fn set_value(bytes: &mut [u8], at: usize, value: Value) -> usize
+    requires { at + 39 ≤ length bytes.old }
+    ensures within { result ≤ at + 39 }
+    ensures text { take result bytes.new ≡ take at bytes.old ++ decimal value }
+{
+    if value <= Value::from(u32::MAX) {
+        set_number(bytes, at, value as u32)
+    } else {
+        set_wide(bytes, at, value)
+    }
+}
+
 #[inline(never)]
 fn set_wide(bytes: &mut [u8], at: usize, n: Value) -> usize
     requires { at + 39 ≤ length bytes.old }

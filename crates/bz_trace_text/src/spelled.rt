@@ -5,6 +5,9 @@ ghost use Rattle.bz_trace_text.specs.Spelling.{AreSpelled};
 use crate::numeral::{Numeral, numeral_of};
 use std::alloc::Global;
 
+/// How many numbers are spelled at least, for small values.
+const LEAST: usize = 1_000;
+
 /// How many numbers are spelled at most.
 const MOST: usize = 16_384;
 
@@ -16,10 +19,10 @@ pub(crate) struct Spelled {
 }
 
 impl Spelled {
-    /// Those of the numbers below `count`, or as many as there is memory for.
+    /// Those of the numbers below `count`, but at least 1,000 and at most 16,384 of them, or as many as there is memory for.
     pub(crate) fn new(alloc: Global, count: usize) -> Spelled {
         let mut numbers = Vec::new(alloc);
-        for n in 0..count.min(MOST) {
+        for n in 0..count.clamp(LEAST, MOST) {
             if numbers.push(numeral_of(n as u32)).is_err() {
                 return Spelled { numbers };
             }

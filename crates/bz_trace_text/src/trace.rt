@@ -180,7 +180,7 @@ fn name_of(names: &Names, port: u32) -> &[u8]
     }
 }
 
-// Composes the line of a firing: 88 bytes at most. Numbers that are spelled already are taken from there.
+// Composes the line of a firing. Numbers that are spelled already are taken from there.
 #[inline(always)]
 pub(crate) fn add_fired(
     page: &mut Page,
@@ -195,14 +195,7 @@ pub(crate) fn add_fired(
     requires told { AreSpelled spelled.now }
     ensures { page.new ≡ page.old ++ fired_text who comp mv chan value }
 {
-    add_who(page, who);
-    page.word(*b" fire   ", 6);
-    page.spelled(spelled, comp);
-    let (word, len) = move_word(mv);
-    page.word(word, len);
-    page.spelled(spelled, chan);
-    add_value(page, value);
-    page.byte(b'\n');
+    page.fired(spelled, who, comp, mv, chan, value);
 }
 
 // Composes the line that tells of rest.
@@ -226,18 +219,6 @@ fn add_who(page: &mut Page, who: Who)
     };
     page.byte(letter);
     page.number(u32::from(number));
-}
-
-#[inline(always)]
-fn add_value(page: &mut Page, value: Option<Value>)
-    requires { length page.old + 40 ≤ 8192 }
-    ensures text { page.new ≡ page.old ++ value_text value }
-    ensures short { length page.new ≤ length page.old + 40 }
-{
-    if let Some(v) = value {
-        page.byte(b' ');
-        page.value(v);
-    }
 }
 
 fn put_host<W: Write>(
@@ -280,18 +261,4 @@ fn put_rested<W: Write>(out: &mut W, who: Who) -> Result<(), WriteFault>
         Piece::Bytes(b" rest\n"),
     ];
     put_pieces(out, &pieces)
-}
-
-// The word of a move between two spaces, and how long that is.
-#[inline(always)]
-fn move_word(mv: Move) -> ([u8; 8], usize)
-    ensures text { take result.1 result.0 ≡ codes " " ++ (move_text mv ++ codes " ") }
-    ensures fits { result.1 ≤ 8 }
-{
-    match mv {
-        Move::Ask => (*b" ask    ", 5),
-        Move::Take => (*b" take   ", 6),
-        Move::Reply => (*b" reply  ", 7),
-        Move::Got => (*b" got    ", 5),
-    }
 }
