@@ -1,5 +1,5 @@
 -- The bits of a row of words, and what one write to a word leaves of them.
-use Rattle.std.proofs.Common.{◌≡◌, ◌≢◌, ℕ, ◌+◌, ◌-◌, ◌*◌, ◌/◌, ◌%◌, ◌^◌, ◌<◌, ◌≤◌, Bool, true, false, ◌==◌, List, length, get_or, set, replicate, Some, None, sym, ap, ◌∙◌, subst, inl, inr, arith, lit<, add-zero}
+use Rattle.std.proofs.Common.{◌≡◌, ◌≢◌, ℕ, zero, suc, refl, nat_eq, not, ◌+◌, ◌-◌, ◌*◌, ◌/◌, ◌%◌, ◌^◌, ◌<◌, ◌≤◌, Bool, true, false, ◌==◌, List, length, get_or, set, replicate, Some, None, sym, ap, ◌∙◌, subst, inl, inr, arith, lit<, add-zero}
 use Rattle.std.proofs.lemmas.List.{ext_get_or, length-set, length-replicate, get_or-replicate, get_or-set_same, get_or-set_other, get_or_past}
 use Rattle.std.proofs.lemmas.List.FromFn.{length-map-range_with_len, get_or-map-range_with_len}
 use Rattle.std.proofs.lemmas.Bool.{cases_eq, cases_lt}
@@ -8,7 +8,7 @@ use Rattle.std.specs.Int.{bit_at, bit_not, trailing_zeros, w64}
 use Rattle.std.proofs.lemmas.List.{get_or_read}
 use Rattle.std.proofs.lemmas.Nat.{or_lt, mod_below, pow_pos, and_le_l, shr_split}
 use Rattle.std.specs.Prelude.{bit_or, bit_and}
-use Rattle.bz_bits.specs.Row.{bit_of, bits, IsRow, IsNext, IsNextInWord}
+use Rattle.bz_bits.specs.Row.{bit_of, bits, IsRow, IsNext, IsNextInWord, HasOne}
 
 pub length-bits : (words : List ℕ) (n : ℕ) → length (bits words n) ≡ n
 unfolding bits
@@ -162,3 +162,16 @@ word_bits words n at i row lt =
       | inl below ↦ ap (λ (x : ℕ). x == 1) (sym here) ∙ sym (get_or-bits words n k false below)
       | inr past ↦ ap (λ (x : ℕ). x == 1) (sym here ∙ row.clear k past) ∙ sym (get_or_past (bits words n) k false (omega (arith, length-bits words n)))
     ]
+
+-- a word that isn't 0 has a 1
+pub has_one : (words : List ℕ) (n at w : ℕ) → IsRow words n → w ≡ get_or words at 0 → HasOne (bits words n) at (not (nat_eq w 0))
+has_one words n at zero row is =
+    let back : 64 * at / 64 ≡ at = omega arith in
+    λ k e. none_found words n row (64 * at) zero (λ i lt. absurd (omega (arith, lt))) (λ i le. ap (λ (x : ℕ). bit_at x i) (is ∙ ap (λ (m : ℕ). get_or words m 0) (sym back))) refl k
+    (omega (arith, e)) (e ∙ sym back)
+has_one words n at (suc w) row is =
+    let back : 64 * at / 64 ≡ at = omega arith in
+    let fits : suc w < 2 ^ 64 = subst (λ (x : ℕ). x < 2 ^ 64) (sym is) (row.words_fit at) in
+    let found = first_found words n row (64 * at) (suc w) (λ i lt. absurd (omega (arith, lt))) (λ i le. ap (λ (x : ℕ). bit_at x i) (is ∙ ap (λ (m : ℕ). get_or words m 0) (sym back))) fits (omega arith) in
+    let yes : true ≡ not (nat_eq (suc w) 0) = grind (arith) in
+    subst (λ (b : Bool). HasOne (bits words n) at b) yes (64 * at / 64 * 64 + trailing_zeros w64 (suc w), found.0 ∙ back, found.1.2)

@@ -79,6 +79,12 @@ any-number ws n p are =
       | inr past ↦ get_or_past (numbers ws n) p 0 (omega (arith, length-numbers ws n)) ∙ sym (are.clear p past)
     ]
 
+-- one of the first word
+pub near-number : (f : PortWord) (rest : List PortWord) (n p : ℕ) → AreNumbers (f ∷ rest) n → p < 64 → get_or (numbers (f ∷ rest) n) p 0 ≡ number_in f p
+near-number f rest n p are near =
+    let z : p / 64 ≡ 0 = omega (arith, near) in let m : p % 64 ≡ p = omega (arith, near) in
+    any-number (f ∷ rest) n p are ∙ ap (λ (at : ℕ). number_in (get_or (f ∷ rest) at no_ports) (p % 64)) z ∙ ap (number_in f) m
+
 -- a word of them
 pub word_numbers : (ws : List PortWord) (n at i : ℕ) → AreNumbers ws n → i < 64 → number_in (get_or ws at no_ports) i ≡ get_or (numbers ws n) (64 * at + i) 0
 word_numbers ws n at i are lt =
@@ -316,6 +322,28 @@ in_word port i =
     let m = port % 64 in let p = 64 * (port / 64) + i in
     ap (λ (b : Bool). b && nat_lt i (m + 1)) (leb_same m i port p (λ le. omega (arith, le)) (λ le. omega (arith, le)))
     ∙ ap (λ (b : Bool). nat_le port p && b) (leb_same (suc i) (m + 1) (suc p) (port + 1) (λ le. omega (arith, le)) (λ le. omega (arith, le)))
+
+-- one place of the first word was filled
+pub first_filled : (f w : PortWord) (rest : List PortWord) (n k s mask : ℕ) → AreNumbers (f ∷ rest) n → k < n
+    → ((i : ℕ) → i < 64 → (bit_at mask i == 1) ≡ between k (k + 1) i)
+    → ((i : ℕ) → i < 64 → number_in w i ≡ (if bit_at mask i == 1 then s else number_in f i))
+    → k < 64 → numbers (w ∷ rest) n ≡ set (numbers (f ∷ rest) n) k s
+first_filled f w rest n k s mask are lt masks filled near =
+    one_filled (f ∷ rest) (w ∷ rest) n k s are refl each lt
+  where
+    each : (p : ℕ) → number_at (w ∷ rest) p ≡ (if between k (k + 1) p then s else number_at (f ∷ rest) p)
+    each p =
+        let i = p % 64 in
+        elim (cases_lt p 64) [
+          | inl below ↦ let z : p / 64 ≡ 0 = omega (arith, below) in let il : i < 64 = omega arith in let m : i ≡ p = omega (arith, below) in
+              ap (λ (at : ℕ). number_in (get_or (w ∷ rest) at no_ports) i) z ∙ filled i il
+              ∙ ap (λ (b : Bool). if b then s else number_in f i) (masks i il ∙ ap (between k (k + 1)) m)
+              ∙ ap (λ (x : ℕ). if between k (k + 1) p then s else x) (sym (ap (λ (at : ℕ). number_in (get_or (f ∷ rest) at no_ports) i) z))
+          | inr past ↦ let e : p / 64 ≡ suc (p / 64 - 1) = omega (arith, past) in
+              ap (λ (at : ℕ). number_in (get_or (w ∷ rest) at no_ports) i) e
+              ∙ sym (ap (λ (at : ℕ). number_in (get_or (f ∷ rest) at no_ports) i) e)
+              ∙ sym (ap (λ (b : Bool). if b then s else number_at (f ∷ rest) p) (only k p (λ same. omega (arith, same, past, near))))
+        ]
 
 -- one more word is filled
 module _ (old ws : List PortWord) (from to at s : ℕ) (inv : (p : ℕ) → number_at ws p ≡ (if between from to p && nat_lt (p / 64) at then s else number_at old p)) where

@@ -65,6 +65,22 @@ impl<A: Allocator + Copy> PortBits<A> {
         ensures here { bit_of self.new port ≡ from_bool bit }
         ensures others { (k : ℕ) → k ≢ port → bit_of self.new k ≡ bit_of self.old k }
     {
+        if port < 64 {
+            self.first = with(self.first, one_place(port % 64), bit);
+        } else {
+            self.put_far(port, bit);
+        }
+    }
+
+    // The same of a port beyond the first 64.
+    #[cold]
+    #[inline(never)]
+    fn put_far(&mut self, port: usize, bit: bool)
+        requires { port < 64 * length self.old }
+        ensures long { length self.new ≡ length self.old }
+        ensures here { bit_of self.new port ≡ from_bool bit }
+        ensures others { (k : ℕ) → k ≢ port → bit_of self.new k ≡ bit_of self.old k }
+    {
         let at = port / 64;
         let word = with(
             bits_at(&self.first, &self.more, at),

@@ -69,12 +69,36 @@ impl<A: Allocator + Copy> PortNumbers<A> {
     pub fn get(&self, port: usize) -> u8
         ensures { result ≡ slice_index self.now port }
     {
+        if port < 64 {
+            return self.first.number(port);
+        }
+        self.get_far(port)
+    }
+
+    // The same of a port beyond the first 64.
+    #[cold]
+    #[inline(never)]
+    fn get_far(&self, port: usize) -> u8
+        ensures { result ≡ slice_index self.now port }
+    {
         word_at(&self.first, &self.more, port / 64).number(port % 64)
     }
 
     /// Whether the number of a port is 2 or 3.
     #[inline(always)]
     pub fn is_high(&self, port: usize) -> bool
+        ensures { result ≡ nat_le 2 (slice_index self.now port) }
+    {
+        if port < 64 {
+            return self.first.is_high(port);
+        }
+        self.is_high_far(port)
+    }
+
+    // The same of a port beyond the first 64.
+    #[cold]
+    #[inline(never)]
+    fn is_high_far(&self, port: usize) -> bool
         ensures { result ≡ nat_le 2 (slice_index self.now port) }
     {
         word_at(&self.first, &self.more, port / 64).is_high(port % 64)
@@ -103,6 +127,7 @@ impl<A: Allocator + Copy> PortNumbers<A> {
     }
 
     // The same behind the first of all such words.
+    #[cold]
     #[inline(never)]
     fn next_beyond(&self, at: usize) -> usize
         requires { 0 < at }
@@ -121,6 +146,21 @@ impl<A: Allocator + Copy> PortNumbers<A> {
     #[inline(always)]
     pub fn set(&mut self, port: usize, number: u8)
         requires { number < 4 }
+        ensures { self.new ≡ slice_set self.old port number }
+    {
+        if port >= 64 {
+            self.set_far(port, number);
+        } else if port < self.len as usize {
+            self.first = self.first.filled(one_place(port), number);
+        }
+    }
+
+    // The same of a port beyond the first 64.
+    #[cold]
+    #[inline(never)]
+    fn set_far(&mut self, port: usize, number: u8)
+        requires number { number < 4 }
+        requires far { 64 ≤ port }
         ensures { self.new ≡ slice_set self.old port number }
     {
         if port < self.len as usize {

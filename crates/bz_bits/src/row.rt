@@ -118,7 +118,7 @@ impl<A: Allocator> BitRow<A> {
         requires { place < length self.now }
         ensures { HasOne self.now (place / 64) result }
     {
-        self.next_within(place / 64 * 64).is_some()
+        self.words[place / 64] != 0
     }
 
     /// How many words there are.

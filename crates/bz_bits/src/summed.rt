@@ -105,6 +105,7 @@ impl<A: Allocator + Copy> SummedRow<A> {
     }
 
     // The same where its own word has none.
+    #[cold]
     #[inline(never)]
     fn next_beyond(&self, from: usize) -> Option<usize>
         requires { IsNextInWord self.now from None }

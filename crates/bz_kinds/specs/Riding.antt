@@ -1,5 +1,5 @@
 -- The value on a channel: what rides there in each phase, and which moves take it.
-use Rattle.std.specs.Prelude.{◌≡◌, ℕ, Option, None}
+use Rattle.std.specs.Prelude.{◌≡◌, ℕ, Bool, true, false, Option, Some, None}
 use Rattle.bz_model.specs.declared.channel.Move.{Move}
 use Rattle.bz_model.specs.declared.channel.Move.TheVariants.{Ask, Take, Reply, Got}
 use Rattle.bz_model.specs.Heads.{carried}
@@ -12,6 +12,11 @@ abbrev pub riding : Phase → Option ℕ
 riding (Asked v) = v
 riding (Replied v) = v
 riding phase = None
+
+-- a value that is there or isn't
+abbrev pub held : Bool → ℕ → Option ℕ
+held true v = Some v
+held false v = None
 
 -- what a move takes of what rides
 abbrev pub taken : Move → Option ℕ → Option ℕ

@@ -17,7 +17,7 @@ ghost use Rattle.bz_kinds.specs.Kept.{plan_of};
 ghost use Rattle.bz_kinds.specs.KeptLists.{slots_of};
 ghost use Rattle.bz_model.specs.declared.channel.Phase.{Phase};
 ghost use Rattle.bz_kinds.specs.Ports.{state_at};
-ghost use Rattle.bz_kinds.specs.Riding.{riding, taken, Made};
+ghost use Rattle.bz_kinds.specs.Riding.{held, riding, taken, Made};
 ghost use Rattle.bz_kinds.specs.Comp.{IsAt, IsDue, IsNarrowDue, StaysAt, IsFor, Goes, plan_due};
 
 use crate::kept::KeptPlan;
@@ -169,13 +169,107 @@ fn turn(
 {
     match plan {
         KeptPlan::InTurn(row) => in_turn::fire(row.get(), ports, left, size, port, slots, rides),
-        KeptPlan::OwnInTurn(row) => in_turn::fire(row, ports, left, size, port, slots, rides),
         KeptPlan::Together(row) => together::fire(row.get(), ports, left, size, port, slots, rides),
         KeptPlan::Cells => cells::fire(ports, size, port, slots, rides),
         KeptPlan::OneByOne(Script::Loop) => script::fire_loop(ports, left, port, slots, rides),
         KeptPlan::Meeting(meet) => {
             meeting::fire(meet.get(), ports, left, size, port, slots, rides)
         }
+        _ => turn_far(plan, size, left, ports, port, slots, rides),
+    }
+}
+
+// The same of any plan. What is called is small in its caller: the value goes there and back by its place.
+#[inline(always)]
+fn turn_far(
+    plan: &KeptPlan,
+    size: u32,
+    left: &mut u32,
+    ports: &mut Ports,
+    port: u32,
+    slots: &mut KeptSlots,
+    rides: Option<Value>,
+) -> (Move, Option<Value>)
+    requires place { IsAt (plan_of plan.now) size left.old ports.old (slots_of slots.old) }
+    requires small { size < 2 ^ 30 }
+    requires due { IsNarrowDue (plan_of plan.now) size left.old port ports.old }
+    requires still { StaysAt (plan_of plan.now) size left.old ports.old port rides (slots_of slots.old) }
+    ensures made { (d : Due) → plan_due (plan_of plan.now) size left.old port (state_at ports.old port) ≡ Some d →
+        Made d rides (slots_of slots.old) (slots_of slots.new) result.0 result.1 }
+    ensures goes { Goes (plan_of plan.now) size left.old ports.old port left.new ports.new (slots_of slots.new) }
+{
+    let (is_there, mut value) = parts(rides);
+    let (mv, carries) = turn_held(plan, size, left, ports, port, slots, is_there, &mut value);
+    (mv, held(carries, value))
+}
+
+// The same with the value that rides in `value`, if `rides`, and then what is carried in it, if the second answer is true.
+#[inline(never)]
+fn turn_held(
+    plan: &KeptPlan,
+    size: u32,
+    left: &mut u32,
+    ports: &mut Ports,
+    port: u32,
+    slots: &mut KeptSlots,
+    rides: bool,
+    value: &mut Value,
+) -> (Move, bool)
+    requires place { IsAt (plan_of plan.now) size left.old ports.old (slots_of slots.old) }
+    requires small { size < 2 ^ 30 }
+    requires due { IsNarrowDue (plan_of plan.now) size left.old port ports.old }
+    requires still { StaysAt (plan_of plan.now) size left.old ports.old port (held rides value.old) (slots_of slots.old) }
+    ensures made { (d : Due) → plan_due (plan_of plan.now) size left.old port (state_at ports.old port) ≡ Some d →
+        Made d (held rides value.old) (slots_of slots.old) (slots_of slots.new) result.0 (held result.1 value.new) }
+    ensures goes { Goes (plan_of plan.now) size left.old ports.old port left.new ports.new (slots_of slots.new) }
+{
+    let before = held(rides, *value);
+    let (mv, carried) = turn_rare(plan, size, left, ports, port, slots, before);
+    let (carries, after) = parts(carried);
+    *value = after;
+    (mv, carries)
+}
+
+// Whether there is a value, and which.
+#[inline(always)]
+fn parts(value: Option<Value>) -> (bool, Value)
+    ensures { held result.0 result.1 ≡ value }
+{
+    match value {
+        Some(value) => (true, value),
+        None => (false, 0),
+    }
+}
+
+// The value, if it is there.
+#[inline(always)]
+fn held(is_there: bool, value: Value) -> Option<Value>
+    ensures { result ≡ held is_there value }
+{
+    if is_there { Some(value) } else { None }
+}
+
+// The same of any plan.
+#[inline(always)]
+fn turn_rare(
+    plan: &KeptPlan,
+    size: u32,
+    left: &mut u32,
+    ports: &mut Ports,
+    port: u32,
+    slots: &mut KeptSlots,
+    rides: Option<Value>,
+) -> (Move, Option<Value>)
+    requires place { IsAt (plan_of plan.now) size left.old ports.old (slots_of slots.old) }
+    requires small { size < 2 ^ 30 }
+    requires due { IsNarrowDue (plan_of plan.now) size left.old port ports.old }
+    requires still { StaysAt (plan_of plan.now) size left.old ports.old port rides (slots_of slots.old) }
+    ensures made { (d : Due) → plan_due (plan_of plan.now) size left.old port (state_at ports.old port) ≡ Some d →
+        Made d rides (slots_of slots.old) (slots_of slots.new) result.0 result.1 }
+    ensures goes { Goes (plan_of plan.now) size left.old ports.old port left.new ports.new (slots_of slots.new) }
+{
+    match plan {
+        KeptPlan::OwnInTurn(row) => in_turn::fire(row, ports, left, size, port, slots, rides),
         _ => turn_by_due(plan, size, left, ports, port, slots, rides),
     }
 }

@@ -86,6 +86,7 @@ impl KeptSlots {
         }
     }
 
+    #[cold]
     #[inline(never)]
     fn worth_far(&self, gives: &Expr) -> Option<Value>
         requires { IsNarrow gives.now }
@@ -100,8 +101,8 @@ impl KeptSlots {
         ensures { slots_of self.new ≡ slice_set (slots_of self.old) slot value }
     {
         match self {
-            KeptSlots::Two(two) => put(two, slot, value),
-            KeptSlots::List(list) => put(list, slot, value),
+            KeptSlots::Two(two) => put_in(two, slot, value),
+            KeptSlots::List(list) => put_in_list(list, slot, value),
         }
     }
 
@@ -119,7 +120,16 @@ impl KeptSlots {
     }
 }
 
-fn put(slots: &mut [Value], slot: u32, value: Value)
+// The same where there may be more than two.
+#[cold]
+#[inline(never)]
+fn put_in_list(slots: &mut [Value], slot: u32, value: Value)
+    ensures { slots.new ≡ slice_set slots.old slot value }
+{
+    put_in(slots, slot, value);
+}
+
+fn put_in(slots: &mut [Value], slot: u32, value: Value)
     ensures { slots.new ≡ slice_set slots.old slot value }
 {
     if (slot as usize) < slots.len() {

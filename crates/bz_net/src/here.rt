@@ -55,6 +55,7 @@ pub(crate) fn lowest_of(comp: &Comp, here: &PortBits) -> Option<u32>
 }
 
 // The same of the ports from 64 on, where there is none before.
+#[cold]
 #[inline(never)]
 fn lowest_far(comp: &Comp, here: &PortBits) -> Option<u32>
     requires room { length comp.now.chans < 64 * length here.now }
@@ -149,6 +150,7 @@ fn goes_at(comp: &Comp, here: &PortBits, port: u32) -> bool
 }
 
 // The same of any port.
+#[cold]
 #[inline(never)]
 fn goes_at_far(comp: &Comp, here: &PortBits, port: u32) -> bool
     ensures goes { IsTrue result ↔ CanGo comp.now.proc port (flag_of here.now port) }

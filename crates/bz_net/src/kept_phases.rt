@@ -16,11 +16,11 @@ use std::marker::Model;
 pub(crate) enum Mark {
     Idle,
     Asked,
-    AskedWith,
     Taken,
     Replied,
-    RepliedWith,
     Broken,
+    AskedWith,
+    RepliedWith,
 }
 
 /// A phase for each channel, seen as their list. A value is kept in its place, and left there once its phase is over.

@@ -145,6 +145,7 @@ fn has_clash(sites: &Arena<FlatComp>, phases: &Phases, comp: u32) -> bool
 }
 
 // The same of a component at which requests may meet.
+#[cold]
 #[inline(never)]
 fn is_asked_twice(sites: &Arena<FlatComp>, phases: &Phases, comp: u32) -> bool
     requires reads { ReadsChans (map site_of sites.now) phases.now }

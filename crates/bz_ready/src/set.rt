@@ -48,7 +48,8 @@ impl<A: Allocator + Copy> ReadySet<A> {
         self.row.get(number as usize)
     }
 
-    #[inline(always)]
+    #[cold]
+    #[inline(never)]
     pub fn insert(&mut self, number: u32)
         requires { number < length self.old.row }
         ensures members { self.new.row ≡ slice_set self.old.row number true }
@@ -62,7 +63,8 @@ impl<A: Allocator + Copy> ReadySet<A> {
         }
     }
 
-    #[inline(always)]
+    #[cold]
+    #[inline(never)]
     pub fn remove(&mut self, number: u32)
         requires { number < length self.old.row }
         ensures members { self.new.row ≡ slice_set self.old.row number false }

@@ -1,4 +1,4 @@
-use Rattle.std.proofs.Common.{◌≡◌, refl, subst, Some, IsTrue, ap}
+use Rattle.std.proofs.Common.{◌≡◌, refl, subst, IsTrue, ap}
 use Rattle.bz_model.specs.Heads.{Component}
 use Rattle.bz_model.specs.Phases.{allows}
 use Rattle.bz_model.proofs.Fitting.{fits-move}

@@ -12,9 +12,6 @@ pub returns-in-InTurn-clause-made : goal.returns-in-InTurn-clause-made
 returns-in-InTurn-clause-made c d e =
     c.fire.ensures.made d (due-of _ _ (ap plan_of c.in-InTurn.is ∙ ap (λ (row : Row). InTurn row) (sym c.get.ensures)) c.args.size c.args.left.now c.args.port _ d e)
 
-pub returns-in-OwnInTurn-clause-made : goal.returns-in-OwnInTurn-clause-made
-returns-in-OwnInTurn-clause-made c d e = c.fire-in-OwnInTurn.ensures.made d (due-of _ _ (ap plan_of c.in-OwnInTurn.is ∙ ap (λ (row : Row). InTurn row) (sym c.deref.ensures)) c.args.size c.args.left.now c.args.port _ d e)
-
 pub returns-in-Together-clause-made : goal.returns-in-Together-clause-made
 returns-in-Together-clause-made c d e =
     c.fire-in-Together.ensures.made d (due-of _ _ (ap plan_of c.in-Together.is ∙ ap (λ (row : Row). Together row) (sym c.get-in-Together.ensures)) c.args.size c.args.left.now c.args.port _ d e)

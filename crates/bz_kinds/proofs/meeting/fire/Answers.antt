@@ -1,8 +1,6 @@
-use Rattle.std.proofs.Common.{rules, ◌≡◌, ◌∙◌, ◌-◌, ◌+◌, ◌≤◌, ◌<◌, ◌≢◌, ℕ, suc, refl, sym, ap, arith}
+use Rattle.std.proofs.Common.{◌∙◌, ◌-◌, refl, ap, arith}
 use Rattle.bz_model.specs.declared.expr.Expr.{Expr}
-use Rattle.bz_model.specs.Processes.{behind}
-use Rattle.bz_model.specs.Terms.{stored, value_of, IsNarrow}
-use Rattle.bz_kinds.specs.declared.ports.PortState.TheVariants.{ClosedDue}
+use Rattle.bz_model.specs.Terms.{value_of}
 use Rattle.bz_kinds.specs.KeptLists.{slots_of}
 use Rattle.bz_kinds.specs.Meeting.{into, answer}
 use Rattle.bz_kinds.proofs.MadeLaws.{lead-replied, lead-narrow, leg-asked, leg-got, at-member, at-behind, meeting-is-due, not-opened, some-port}

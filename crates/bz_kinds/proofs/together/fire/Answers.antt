@@ -1,7 +1,6 @@
-use Rattle.std.proofs.Common.{rules, ◌≡◌, ◌∙◌, ◌-◌, ℕ, refl, sym, ap}
+use Rattle.std.proofs.Common.{◌∙◌, ◌-◌, ℕ, refl, ap}
 use Rattle.bz_model.specs.declared.expr.Expr.{Expr}
 use Rattle.bz_model.specs.Terms.{stored, value_of}
-use Rattle.bz_kinds.specs.declared.ports.PortState.TheVariants.{ClosedDue}
 use Rattle.bz_kinds.specs.KeptLists.{slots_of}
 use Rattle.bz_kinds.specs.Row.{leg_of}
 use Rattle.bz_kinds.proofs.MadeLaws.{lead-replied, leg-asked, leg-got, at-lead, at-leg, not-opened, row-is-due}
