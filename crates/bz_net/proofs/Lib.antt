@@ -1,3 +1,4 @@
+pub mod ChanRows
 pub mod Sites
 pub mod Stands
 pub mod Sides

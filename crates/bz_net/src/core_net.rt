@@ -13,6 +13,7 @@ ghost use Rattle.bz_net.specs.Noted.{MeetBefore, NotedAt, NotedMove};
 ghost use Rattle.bz_net.specs.Sides.{answers};
 ghost use Rattle.bz_net.specs.Told.{MayMove, MovesAt};
 
+use crate::chan_row::ChanRow;
 use crate::here::{command, has_step, lowest_port, mark_all, move_comp};
 use crate::kept_phases::Phases;
 use crate::moves::{answers, due_at, foresee, note_clash, port_in, refusal_of};
@@ -30,6 +31,7 @@ pub(crate) struct Core {
     names: Names,
     sites: Arena<FlatComp>,
     ends: Vec<Ends>,
+    chans: ChanRow,
     nodes: Arena<Node>,
     phases: Phases,
     ready: ReadyRow,
@@ -42,6 +44,7 @@ impl Drop for Core {
             names: _,
             sites: _,
             ends: _,
+            chans: _,
             nodes: _,
             phases: _,
             ready: _,
@@ -68,12 +71,14 @@ impl Model for Core {
       state = state_of n.phases (comps_of n.nodes);
     } };
 
+    ghost use Rattle.bz_net.specs.ChanRow.{InRow};
     ghost use Rattle.bz_net.specs.Core.{CoreSound};
 
     ghost invariant = { λ n. CoreSound
         (record { chans = n.names.chans; sites = map site_of n.sites; ports = n.names.ports })
         n.phases (comps_of n.nodes) (heres_of n.nodes)
-        n.ends.items n.ready };
+        n.ends.items n.ready
+        × InRow (map site_of n.sites) n.chans.starts.items n.chans.row.items };
 }
 
 impl Core {
@@ -95,10 +100,15 @@ impl Core {
             Ok(ready) => ready,
             Err(_) => return Err(NetError::Memory),
         };
+        let chans = match ChanRow::of(alloc, &pieces.comps) {
+            Ok(chans) => chans,
+            Err(_) => return Err(NetError::Memory),
+        };
         Ok(Core {
             names: Names::new(pieces.ports, pieces.chans),
             sites: pieces.comps,
             ends: pieces.ends,
+            chans,
             nodes,
             phases,
             ready,
@@ -112,6 +122,7 @@ impl Core {
         let names = self.names.dup(alloc)?;
         let sites = dup_comps(alloc, &self.sites)?;
         let ends = Vec::from_slice(alloc, &self.ends)?;
+        let chans = self.chans.dup(alloc)?;
         let nodes = dup_all(alloc, &self.nodes)?;
         let phases = self.phases.dup(alloc)?;
         let keeping = self.ready.keeping();
@@ -120,6 +131,7 @@ impl Core {
             names,
             sites,
             ends,
+            chans,
             nodes,
             phases,
             ready,
@@ -265,6 +277,7 @@ impl Core {
         move_comp(
             &self.sites,
             &self.ends,
+            &self.chans,
             &mut self.nodes,
             &mut self.phases,
             &mut self.ready,

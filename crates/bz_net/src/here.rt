@@ -11,12 +11,14 @@ ghost use Rattle.bz_kinds.specs.Ready.{CanGo};
 ghost use Rattle.bz_model.specs.Runs.{CanStep, IsLowest};
 ghost use Rattle.bz_net.specs.Keeping.{comp_at, state_of, Exact, Placed, Refreshed, RefreshedEnds, MarksAll, CommandedAt, phase_in};
 ghost use Rattle.bz_model.specs.Hosts.{host_after};
+ghost use Rattle.bz_net.specs.ChanRow.{InRow};
 ghost use Rattle.bz_net.specs.Nodes.{comps_of, heres_of};
 ghost use Rattle.bz_net.specs.Told.{is_here, flag_of, Goes, NoneGoes, GoesAt, GoesFirst, MayMove, MovesAt, IsTurning, Sighted, AreEnds, AllAreEnds, HasBit, Came, Left, PutEnd, Retold, ToldOther, Turned, StaysSighted, HostSighted};
 
+use crate::chan_row::ChanRow;
 use crate::kept_phases::Phases;
 use crate::moves::reply_to;
-use crate::node::{Node, node_id, site_in};
+use crate::node::{Node, node_id};
 use crate::ready_row::{Keeping, ReadyRow};
 use bz_arena::Arena;
 use bz_bits::PortBits;
@@ -284,12 +286,14 @@ pub(crate) fn mark_all(
 pub(crate) fn move_comp(
     sites: &Arena<FlatComp>,
     ends: &[Ends],
+    chans: &ChanRow,
     nodes: &mut Arena<Node>,
     phases: &mut Phases,
     ready: &mut ReadyRow,
     comp: u32,
     at: Option<u32>,
 ) -> (u32, Move, Option<Value>, u32)
+    requires chans { InRow (map site_of sites.now) chans.now.starts.items chans.now.row.items }
     requires placed { Placed (map site_of sites.now) phases.old (comps_of nodes.old) }
     requires sighted { Sighted (map site_of sites.now) phases.old (comps_of nodes.old) (heres_of nodes.old) }
     requires stays { (p : ℕ) → StaysSighted (map site_of sites.now) phases.old (comps_of nodes.old) (heres_of nodes.old) comp p }
@@ -307,7 +311,7 @@ pub(crate) fn move_comp(
 {
     let node = nodes.get_mut(node_id(comp));
     let port = port_of(node, at);
-    let chan = site_in(sites, comp).chans[port as usize - 1];
+    let chan = chans.chan(comp, port);
     let place = chan as usize - 1;
     let rides = phases.riding(place);
     let (mv, value, goes) = move_node(node, port, rides);

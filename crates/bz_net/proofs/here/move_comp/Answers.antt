@@ -1,5 +1,4 @@
 use Rattle.std.proofs.Common.{◌≡◌, ◌≢◌, ◌∙◌, suc, ◌-◌, length, map, set, true, false, refl, sym, ap, subst, arith}
-use Rattle.std.proofs.lemmas.Grind.{common_steps}
 use Rattle.std.proofs.lemmas.List.{get_or-set_same, length-map}
 use Rattle.bz_model.specs.Nets.{chan_at}
 use Rattle.bz_model.specs.declared.channel.Phase.{Phase}
@@ -39,8 +38,8 @@ move_node-mv-requires-clause-can c =
     let x_is = comp_read nodes c.args.comp i x at is in let h_is = bits_read nodes c.args.comp i x at is in
     let p = c.port_of-port.result in
     let found = port_read sites phases (comps_of nodes) (heres_of nodes) c.requires.sighted c.args.comp above below x.comp x.here x_is h_is c.args.at p c.requires.may c.port_of-port.ensures in let steps = found.0 in
-    let k = c.index-chan.result.now in
-    let chan_is : k ≡ chan_at sites c.args.comp p = grind (arith, common_steps) in
+    let k = c.chan-chan.result in
+    let chan_is : k ≡ chan_at sites c.args.comp p = c.chan-chan.ensures sites (c.requires.chans c.args.comp p steps.is_port) in
     let from = c.requires.placed.chan_from c.args.comp p steps.is_port in let to = c.requires.placed.chan_to c.args.comp p steps.is_port in
     (_, can_read sites phases (comps_of nodes) c.args.comp p k x.comp c.requires.placed.comps_len steps chan_is x_is, c.riding-rides.ensures)
 
@@ -52,8 +51,8 @@ move_node-mv-requires-clause-bit c =
     let x_is = comp_read nodes c.args.comp i x at is in let h_is = bits_read nodes c.args.comp i x at is in
     let p = c.port_of-port.result in
     let found = port_read sites phases (comps_of nodes) (heres_of nodes) c.requires.sighted c.args.comp above below x.comp x.here x_is h_is c.args.at p c.requires.may c.port_of-port.ensures in let steps = found.0 in
-    let k = c.index-chan.result.now in
-    let chan_is : k ≡ chan_at sites c.args.comp p = grind (arith, common_steps) in
+    let k = c.chan-chan.result in
+    let chan_is : k ≡ chan_at sites c.args.comp p = c.chan-chan.ensures sites (c.requires.chans c.args.comp p steps.is_port) in
     let from = c.requires.placed.chan_from c.args.comp p steps.is_port in let to = c.requires.placed.chan_to c.args.comp p steps.is_port in
     let last = steps.is_port.port_to in let nodes_len = length-map nodes comp_of in let len = c.requires.sighted.comps_len in
     let bits = bits_at nodes c.args.comp i x above (omega (arith, below, len, nodes_len)) at is in
@@ -83,8 +82,8 @@ tell_other-requires-clause-active c =
     let x_is = comp_read nodes c.args.comp i x at is in let h_is = bits_read nodes c.args.comp i x at is in
     let p = c.port_of-port.result in
     let found = port_read sites phases (comps_of nodes) (heres_of nodes) c.requires.sighted c.args.comp above below x.comp x.here x_is h_is c.args.at p c.requires.may c.port_of-port.ensures in let steps = found.0 in
-    let k = c.index-chan.result.now in
-    let chan_is : k ≡ chan_at sites c.args.comp p = grind (arith, common_steps) in
+    let k = c.chan-chan.result in
+    let chan_is : k ≡ chan_at sites c.args.comp p = c.chan-chan.ensures sites (c.requires.chans c.args.comp p steps.is_port) in
     let from = c.requires.placed.chan_from c.args.comp p steps.is_port in let to = c.requires.placed.chan_to c.args.comp p steps.is_port in
     let last = steps.is_port.port_to in let nodes_len = length-map nodes comp_of in let len = c.requires.sighted.comps_len in
     let bits = bits_at nodes c.args.comp i x above (omega (arith, below, len, nodes_len)) at is in
@@ -102,8 +101,8 @@ tell_other-requires-clause-passive c =
     let x_is = comp_read nodes c.args.comp i x at is in let h_is = bits_read nodes c.args.comp i x at is in
     let p = c.port_of-port.result in
     let found = port_read sites phases (comps_of nodes) (heres_of nodes) c.requires.sighted c.args.comp above below x.comp x.here x_is h_is c.args.at p c.requires.may c.port_of-port.ensures in let steps = found.0 in
-    let k = c.index-chan.result.now in
-    let chan_is : k ≡ chan_at sites c.args.comp p = grind (arith, common_steps) in
+    let k = c.chan-chan.result in
+    let chan_is : k ≡ chan_at sites c.args.comp p = c.chan-chan.ensures sites (c.requires.chans c.args.comp p steps.is_port) in
     let from = c.requires.placed.chan_from c.args.comp p steps.is_port in let to = c.requires.placed.chan_to c.args.comp p steps.is_port in
     let last = steps.is_port.port_to in let nodes_len = length-map nodes comp_of in let len = c.requires.sighted.comps_len in
     let bits = bits_at nodes c.args.comp i x above (omega (arith, below, len, nodes_len)) at is in
@@ -121,8 +120,8 @@ make-requires-clause-whole c =
     let x_is = comp_read nodes c.args.comp i x at is in let h_is = bits_read nodes c.args.comp i x at is in
     let p = c.port_of-port.result in
     let found = port_read sites phases (comps_of nodes) (heres_of nodes) c.requires.sighted c.args.comp above below x.comp x.here x_is h_is c.args.at p c.requires.may c.port_of-port.ensures in let steps = found.0 in
-    let k = c.index-chan.result.now in
-    let chan_is : k ≡ chan_at sites c.args.comp p = grind (arith, common_steps) in
+    let k = c.chan-chan.result in
+    let chan_is : k ≡ chan_at sites c.args.comp p = c.chan-chan.ensures sites (c.requires.chans c.args.comp p steps.is_port) in
     let from = c.requires.placed.chan_from c.args.comp p steps.is_port in let to = c.requires.placed.chan_to c.args.comp p steps.is_port in
     let last = steps.is_port.port_to in let nodes_len = length-map nodes comp_of in let len = c.requires.sighted.comps_len in
     let bits = bits_at nodes c.args.comp i x above (omega (arith, below, len, nodes_len)) at is in
@@ -153,8 +152,8 @@ returns-clause-told c =
     let x_is = comp_read nodes c.args.comp i x at is in let h_is = bits_read nodes c.args.comp i x at is in
     let p = c.port_of-port.result in
     let found = port_read sites phases (comps_of nodes) (heres_of nodes) c.requires.sighted c.args.comp above below x.comp x.here x_is h_is c.args.at p c.requires.may c.port_of-port.ensures in let steps = found.0 in
-    let k = c.index-chan.result.now in
-    let chan_is : k ≡ chan_at sites c.args.comp p = grind (arith, common_steps) in
+    let k = c.chan-chan.result in
+    let chan_is : k ≡ chan_at sites c.args.comp p = c.chan-chan.ensures sites (c.requires.chans c.args.comp p steps.is_port) in
     let from = c.requires.placed.chan_from c.args.comp p steps.is_port in let to = c.requires.placed.chan_to c.args.comp p steps.is_port in
     let last = steps.is_port.port_to in let nodes_len = length-map nodes comp_of in let len = c.requires.sighted.comps_len in
     let bits = bits_at nodes c.args.comp i x above (omega (arith, below, len, nodes_len)) at is in
@@ -175,8 +174,8 @@ returns-clause-refreshed c =
     let x_is = comp_read nodes c.args.comp i x at is in let h_is = bits_read nodes c.args.comp i x at is in
     let p = c.port_of-port.result in
     let found = port_read sites phases (comps_of nodes) (heres_of nodes) c.requires.sighted c.args.comp above below x.comp x.here x_is h_is c.args.at p c.requires.may c.port_of-port.ensures in let steps = found.0 in
-    let k = c.index-chan.result.now in
-    let chan_is : k ≡ chan_at sites c.args.comp p = grind (arith, common_steps) in
+    let k = c.chan-chan.result in
+    let chan_is : k ≡ chan_at sites c.args.comp p = c.chan-chan.ensures sites (c.requires.chans c.args.comp p steps.is_port) in
     let from = c.requires.placed.chan_from c.args.comp p steps.is_port in let to = c.requires.placed.chan_to c.args.comp p steps.is_port in
     let last = steps.is_port.port_to in let nodes_len = length-map nodes comp_of in let len = c.requires.sighted.comps_len in
     let bits = bits_at nodes c.args.comp i x above (omega (arith, below, len, nodes_len)) at is in
@@ -203,8 +202,8 @@ riding-rides-requires c =
     let x_is = comp_read nodes c.args.comp i x at is in let h_is = bits_read nodes c.args.comp i x at is in
     let p = c.port_of-port.result in
     let found = port_read sites phases (comps_of nodes) (heres_of nodes) c.requires.sighted c.args.comp above below x.comp x.here x_is h_is c.args.at p c.requires.may c.port_of-port.ensures in let steps = found.0 in
-    let k = c.index-chan.result.now in
-    let chan_is : k ≡ chan_at sites c.args.comp p = grind (arith, common_steps) in
+    let k = c.chan-chan.result in
+    let chan_is : k ≡ chan_at sites c.args.comp p = c.chan-chan.ensures sites (c.requires.chans c.args.comp p steps.is_port) in
     let from = c.requires.placed.chan_from c.args.comp p steps.is_port in let to = c.requires.placed.chan_to c.args.comp p steps.is_port in
     omega (arith, chan_is, from, to)
 
@@ -216,8 +215,8 @@ overflow_sub-place c =
     let x_is = comp_read nodes c.args.comp i x at is in let h_is = bits_read nodes c.args.comp i x at is in
     let p = c.port_of-port.result in
     let found = port_read sites phases (comps_of nodes) (heres_of nodes) c.requires.sighted c.args.comp above below x.comp x.here x_is h_is c.args.at p c.requires.may c.port_of-port.ensures in let steps = found.0 in
-    let k = c.index-chan.result.now in
-    let chan_is : k ≡ chan_at sites c.args.comp p = grind (arith, common_steps) in
+    let k = c.chan-chan.result in
+    let chan_is : k ≡ chan_at sites c.args.comp p = c.chan-chan.ensures sites (c.requires.chans c.args.comp p steps.is_port) in
     let from = c.requires.placed.chan_from c.args.comp p steps.is_port in let to = c.requires.placed.chan_to c.args.comp p steps.is_port in
     omega (arith, chan_is, from)
 
@@ -229,8 +228,8 @@ bounds-ends-place c =
     let x_is = comp_read nodes c.args.comp i x at is in let h_is = bits_read nodes c.args.comp i x at is in
     let p = c.port_of-port.result in
     let found = port_read sites phases (comps_of nodes) (heres_of nodes) c.requires.sighted c.args.comp above below x.comp x.here x_is h_is c.args.at p c.requires.may c.port_of-port.ensures in let steps = found.0 in
-    let k = c.index-chan.result.now in
-    let chan_is : k ≡ chan_at sites c.args.comp p = grind (arith, common_steps) in
+    let k = c.chan-chan.result in
+    let chan_is : k ≡ chan_at sites c.args.comp p = c.chan-chan.ensures sites (c.requires.chans c.args.comp p steps.is_port) in
     let from = c.requires.placed.chan_from c.args.comp p steps.is_port in let to = c.requires.placed.chan_to c.args.comp p steps.is_port in
     omega (arith, chan_is, from, to, c.requires.ends_len)
 
@@ -242,8 +241,8 @@ make-requires-clause-within c =
     let x_is = comp_read nodes c.args.comp i x at is in let h_is = bits_read nodes c.args.comp i x at is in
     let p = c.port_of-port.result in
     let found = port_read sites phases (comps_of nodes) (heres_of nodes) c.requires.sighted c.args.comp above below x.comp x.here x_is h_is c.args.at p c.requires.may c.port_of-port.ensures in let steps = found.0 in
-    let k = c.index-chan.result.now in
-    let chan_is : k ≡ chan_at sites c.args.comp p = grind (arith, common_steps) in
+    let k = c.chan-chan.result in
+    let chan_is : k ≡ chan_at sites c.args.comp p = c.chan-chan.ensures sites (c.requires.chans c.args.comp p steps.is_port) in
     let from = c.requires.placed.chan_from c.args.comp p steps.is_port in let to = c.requires.placed.chan_to c.args.comp p steps.is_port in
     omega (arith, chan_is, from, to)
 
@@ -254,3 +253,13 @@ port_of-port-requires-clause-goes c =
     let x = c.get_mut-node.result.now in let i = c.node_id.result in let at = c.node_id.ensures in let is = c.get_mut-node.ensures.value in
     let x_is = comp_read nodes c.args.comp i x at is in let h_is = bits_read nodes c.args.comp i x at is in
     goes_read sites phases (comps_of nodes) (heres_of nodes) c.requires.sighted c.args.comp above below x.comp x.here x_is h_is c.args.at c.requires.may
+
+pub chan-chan-requires : goal.chan-chan-requires
+chan-chan-requires c =
+    let sites = map site_of c.args.sites.now in let nodes = c.args.nodes.now in let phases = c.args.phases.now in
+    let stands = may_stands sites (state_of phases (comps_of nodes)) c.args.comp c.args.at c.requires.may in let above = stands.0 in let below = stands.1 in
+    let x = c.get_mut-node.result.now in let i = c.node_id.result in let at = c.node_id.ensures in let is = c.get_mut-node.ensures.value in
+    let x_is = comp_read nodes c.args.comp i x at is in let h_is = bits_read nodes c.args.comp i x at is in
+    let p = c.port_of-port.result in
+    let found = port_read sites phases (comps_of nodes) (heres_of nodes) c.requires.sighted c.args.comp above below x.comp x.here x_is h_is c.args.at p c.requires.may c.port_of-port.ensures in let steps = found.0 in
+    (sites, steps.is_port, c.requires.chans c.args.comp p steps.is_port)

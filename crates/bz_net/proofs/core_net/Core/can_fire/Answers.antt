@@ -9,4 +9,4 @@ pub has_step-requires : goal.has_step-requires
 has_step-requires c =
     let n = c.self.inside in
     let w : Wiring = record { chans = n.names.chans; sites = map site_of n.sites; ports = n.names.ports } in
-    (core_sighted w n.phases (comps_of n.nodes) (heres_of n.nodes) n.ends.items n.ready c.self.invariant)
+    (core_sighted w n.phases (comps_of n.nodes) (heres_of n.nodes) n.ends.items n.ready c.self.invariant.0)

@@ -11,7 +11,7 @@ pub due_at-requires : goal.due_at-requires
 due_at-requires c =
     let n = c.self.inside in
     let w : Wiring = record { chans = n.names.chans; sites = map site_of n.sites; ports = n.names.ports } in
-    (core_placed w n.phases (comps_of n.nodes) (heres_of n.nodes) n.ends.items n.ready c.self.invariant)
+    (core_placed w n.phases (comps_of n.nodes) (heres_of n.nodes) n.ends.items n.ready c.self.invariant.0)
 
 pub returns : goal.returns
 returns c =

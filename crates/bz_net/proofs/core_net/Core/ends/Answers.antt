@@ -13,7 +13,7 @@ pub returns : goal.returns
 returns c =
     let n = c.self.inside in
     let w : Wiring = record { chans = n.names.chans; sites = map site_of n.sites; ports = n.names.ports } in
-    let of = c.self.invariant.ends_of in
+    let of = c.self.invariant.0.ends_of in
     let len = of.ends_len in
     let to : c.args.chan ≤ length w.chans = subst (λ (v : Standing). c.args.chan ≤ length v.wiring.chans) (sym c.self.view_is) c.requires.to in
     let pair = get_or_read n.ends.items (c.args.chan - 1) c.index-pair.result.now (omega arith) c.index-pair.ensures no_ends in (

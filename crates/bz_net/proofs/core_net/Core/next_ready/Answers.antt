@@ -14,4 +14,4 @@ returns c =
     let n = c.self.inside in
     let w : Wiring = record { chans = n.names.chans; sites = map site_of n.sites; ports = n.names.ports } in
     subst (λ (v : Standing). MatchOption c.next_from.result (Rest v.wiring.sites v.state) (IsNext (CanStep v.wiring.sites v.state) c.args.from)) c.self.view_is
-    (next_ready w (state_of n.phases (comps_of n.nodes)) n.ready c.args.from c.next_from.result c.self.invariant.ready c.next_from.ensures)
+    (next_ready w (state_of n.phases (comps_of n.nodes)) n.ready c.args.from c.next_from.result c.self.invariant.0.ready c.next_from.ensures)

@@ -40,9 +40,11 @@ invariant_of-result c =
     let started = subst (Started w.chans w.sites comps) count begun in
     let blanks = subst (AreBlank w.sites heres) count blank in
     let marks : MarksAll w.sites (state_of phases comps) c.in-Ok-mark_all.ready (length p.comps) = c.in-Ok-mark_all.ensures in
-    rw c.new-2.ensures
-    (core_first w phases comps heres c.into_pieces-pieces.ensures.wired idle started blanks p.ends.items c.in-Ok-mark_all.ready c.into_pieces-pieces.ensures.ends_of
-    (marks_ready w (state_of phases comps) c.in-Ok-mark_all.ready (length p.comps) count marks))
+    rw c.new-2.ensures (
+      core_first w phases comps heres c.into_pieces-pieces.ensures.wired idle started blanks p.ends.items c.in-Ok-mark_all.ready c.into_pieces-pieces.ensures.ends_of
+          (marks_ready w (state_of phases comps) c.in-Ok-mark_all.ready (length p.comps) count marks),
+      c.in-Ok-of.ensures,
+    )
 
 pub returns-clause-state : goal.returns-clause-state
 returns-clause-state c =

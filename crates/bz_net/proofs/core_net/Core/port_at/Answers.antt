@@ -13,7 +13,7 @@ told : (c : goal.After-port_in) → TellsPort (map site_of c.self.inside.sites) 
 told c =
     let n = c.self.inside in
     let w : Wiring = record { chans = n.names.chans; sites = map site_of n.sites; ports = n.names.ports } in
-    tells_port w n.ends.items c.args.chan (answers c.args.mv) c.args.comp c.port_in.result c.self.invariant.wired c.self.invariant.ends_of
+    tells_port w n.ends.items c.args.chan (answers c.args.mv) c.args.comp c.port_in.result c.self.invariant.0.wired c.self.invariant.0.ends_of
     (rw (c.deref.ensures.value, c.answers.ensures) at c.port_in.ensures)
 
 pub returns-clause-end : goal.returns-clause-end
@@ -24,4 +24,4 @@ returns-clause-sole c =
     let n = c.self.inside in
     let w : Wiring = record { chans = n.names.chans; sites = map site_of n.sites; ports = n.names.ports } in
     subst (λ (v : Standing). IsSolePort v.wiring.sites v.state c.args.comp c.args.chan c.args.mv c.port_in.result) c.self.view_is
-    (sole_port w n.phases (comps_of n.nodes) c.args.comp c.args.chan c.args.mv c.port_in.result c.self.invariant.wired c.self.invariant.tied (told c))
+    (sole_port w n.phases (comps_of n.nodes) c.args.comp c.args.chan c.args.mv c.port_in.result c.self.invariant.0.wired c.self.invariant.0.tied (told c))
