@@ -1,5 +1,6 @@
 -- What is read of marks and values, and written to them, as the phases that they tell show it.
-use Rattle.std.proofs.Common.{◌≡◌, ◌<◌, ℕ, zero, suc, List, [], ◌∷◌, length, replicate, get_or, set, refl, ap, ◌∙◌, arith}
+use Rattle.std.proofs.Common.{◌≡◌, ◌≢◌, ◌<◌, ℕ, zero, suc, List, [], ◌∷◌, length, replicate, get_or, set, Some, None, refl, sym, ap, ◌∙◌, arith}
+use Rattle.std.proofs.lemmas.List.{get_or_default}
 use Rattle.bz_model.specs.declared.channel.Phase.{Phase}
 use Rattle.bz_model.specs.declared.channel.Phase.TheVariants.{Idle}
 use Rattle.bz_net.specs.declared.kept_phases.Mark.{Mark}
@@ -42,6 +43,29 @@ both_put (a ∷ ms) (b ∷ vs) zero m v f same tells = ap (λ (x : Phase). x ∷
 both_put (a ∷ ms) (b ∷ vs) (suc i) m v f same tells = ap (λ l. phase_of a b ∷ l) (both_put ms vs i m v f (omega arith) tells)
 
 -- what rides where a mark and the value beside it were read
-pub riding_read : (ms : List Mark) (vs : List ℕ) (i : ℕ) (m : Mark) (v : ℕ) → length vs ≡ length ms → i < length ms → m ≡ get_or ms i m → v ≡ get_or vs i v
+riding_read : (ms : List Mark) (vs : List ℕ) (i : ℕ) (m : Mark) (v : ℕ) → length vs ≡ length ms → i < length ms → m ≡ get_or ms i m → v ≡ get_or vs i v
     → riding (phase_of m v) ≡ riding (get_or (phases_of ms vs) i Idle)
 riding_read ms vs i m v same lt is on = ap riding (phase_read ms vs i m v same lt is on)
+
+pub request_rides : (ms : List Mark) (vs : List ℕ) (i : ℕ) (m : Mark) (v : ℕ) → length vs ≡ length ms → i < length ms → m ≡ get_or ms i m → v ≡ get_or vs i v → m ≡ mark.AskedWith
+    → Some v ≡ riding (get_or (phases_of ms vs) i Idle)
+request_rides ms vs i m v same lt is on with_it = sym (ap (λ (m : Mark). riding (phase_of m v)) with_it) ∙ riding_read ms vs i m v same lt is on
+
+pub reply_rides : (ms : List Mark) (vs : List ℕ) (i : ℕ) (m : Mark) (v : ℕ) → length vs ≡ length ms → i < length ms → m ≡ get_or ms i m → v ≡ get_or vs i v → m ≡ mark.RepliedWith
+    → Some v ≡ riding (get_or (phases_of ms vs) i Idle)
+reply_rides ms vs i m v same lt is on with_it = sym (ap (λ (m : Mark). riding (phase_of m v)) with_it) ∙ riding_read ms vs i m v same lt is on
+
+without : (m : Mark) (v : ℕ) → m ≢ mark.AskedWith → m ≢ mark.RepliedWith → None ≡ riding (phase_of m v)
+without mark.Idle v not_asked not_replied = refl
+without mark.Asked v not_asked not_replied = refl
+without mark.AskedWith v not_asked not_replied = absurd (not_asked refl)
+without mark.Taken v not_asked not_replied = refl
+without mark.Replied v not_asked not_replied = refl
+without mark.RepliedWith v not_asked not_replied = absurd (not_replied refl)
+without mark.Broken v not_asked not_replied = refl
+
+pub none_rides : (ms : List Mark) (vs : List ℕ) (i : ℕ) (m : Mark) → length vs ≡ length ms → i < length ms → m ≡ get_or ms i m → m ≢ mark.AskedWith → m ≢ mark.RepliedWith
+    → None ≡ riding (get_or (phases_of ms vs) i Idle)
+none_rides ms vs i m same lt is not_asked not_replied =
+    let v = get_or vs i 0 in
+    without m v not_asked not_replied ∙ riding_read ms vs i m v same lt is (get_or_default vs i 0 v (omega (arith, same, lt)))

@@ -16,7 +16,7 @@ ghost use Rattle.bz_net.specs.Told.{MayMove, MovesAt};
 use crate::chan_row::ChanRow;
 use crate::here::{command, has_step, lowest_port, mark_all, move_comp};
 use crate::kept_phases::Phases;
-use crate::moves::{answers, due_at, foresee, note_clash, port_in, refusal_of};
+use crate::moves::{answers, due_at, foresee, mixes, note_clash, port_in, refusal_of};
 use crate::node::{Node, dup_all, start_all};
 use crate::noted::Noted;
 use crate::ready_row::{Keeping, ReadyRow};
@@ -35,6 +35,8 @@ pub(crate) struct Core {
     nodes: Arena<Node>,
     phases: Phases,
     ready: ReadyRow,
+    // Whether there is a component at which requests may meet.
+    mixes: bool,
 }
 
 // By hand, so that who lets a net go has one call to show and not all its parts.
@@ -48,6 +50,7 @@ impl Drop for Core {
             nodes: _,
             phases: _,
             ready: _,
+            mixes: _,
         } = self;
     }
 }
@@ -71,14 +74,17 @@ impl Model for Core {
       state = state_of n.phases (comps_of n.nodes);
     } };
 
+    ghost use Rattle.std.specs.Prelude.{◌≡◌, false};
     ghost use Rattle.bz_net.specs.ChanRow.{InRow};
+    ghost use Rattle.bz_net.specs.Noted.{NoneMixes};
     ghost use Rattle.bz_net.specs.Core.{CoreSound};
 
     ghost invariant = { λ n. CoreSound
         (record { chans = n.names.chans; sites = map site_of n.sites; ports = n.names.ports })
         n.phases (comps_of n.nodes) (heres_of n.nodes)
         n.ends.items n.ready
-        × InRow (map site_of n.sites) n.chans.starts.items n.chans.row.items };
+        × InRow (map site_of n.sites) n.chans.starts.items n.chans.row.items
+        × (n.mixes ≡ false → NoneMixes (map site_of n.sites)) };
 }
 
 impl Core {
@@ -104,6 +110,7 @@ impl Core {
             Ok(chans) => chans,
             Err(_) => return Err(NetError::Memory),
         };
+        let mixes = mixes(&pieces.comps);
         Ok(Core {
             names: Names::new(pieces.ports, pieces.chans),
             sites: pieces.comps,
@@ -112,6 +119,7 @@ impl Core {
             nodes,
             phases,
             ready,
+            mixes,
         })
     }
 
@@ -135,6 +143,7 @@ impl Core {
             nodes,
             phases,
             ready,
+            mixes: self.mixes,
         })
     }
 
@@ -333,7 +342,7 @@ impl Core {
         note_clash(&self.sites, &self.phases, noted, pair.passive);
     }
 
-    /// The same after a move on the channel: where it was no request, no requests can have met by it.
+    /// The same after a move on the channel: where it was no request, or where requests meet nowhere, none can have met by it.
     #[inline(always)]
     pub(crate) fn note_move(&self, chan: u32, mv: Move, noted: &mut Noted)
         requires from { 0 < chan }
@@ -342,8 +351,8 @@ impl Core {
         ensures { NotedMove self.now.wiring.sites self.now.state.phases noted.old noted.new chan mv }
     {
         match mv {
-            Move::Ask => self.note_clash(chan, noted),
-            Move::Take | Move::Reply | Move::Got => {}
+            Move::Ask if self.mixes => self.note_clash(chan, noted),
+            _ => {}
         }
     }
 }

@@ -17,7 +17,7 @@ ghost use Rattle.bz_net.specs.Told.{is_here, flag_of, Goes, NoneGoes, GoesAt, Go
 
 use crate::chan_row::ChanRow;
 use crate::kept_phases::Phases;
-use crate::moves::reply_to;
+use crate::moves::{reply_to, sends};
 use crate::node::{Node, node_id};
 use crate::ready_row::{Keeping, ReadyRow};
 use bz_arena::Arena;
@@ -77,14 +77,32 @@ fn lowest_far(comp: &Comp, here: &PortBits) -> Option<u32>
     None
 }
 
-/// Whether a component can move by what it is told. The ports round `port` are looked at first: there it often can, and then
-/// no others are looked at.
+/// Whether a component can move by what it is told. Of the ports from 64 on those round `port` are looked at first: there it
+/// often can, and then no others are looked at.
 #[inline(always)]
 fn can_go(comp: &Comp, here: &PortBits, port: u32) -> bool
     requires room { length comp.now.chans < 64 * length here.now }
     requires few { length here.now ≤ 2 ^ 26 }
     ensures goes { MatchBool result (Goes comp.now here.now) (NoneGoes comp.now here.now) }
     ensures turning { IsTurning comp.now }
+{
+    let word = ready_word(comp, 0, here.word(0));
+    if word != 0 {
+        return true;
+    }
+    if here.word_count() == 1 {
+        return false;
+    }
+    can_go_far(comp, here, port)
+}
+
+// The same of the ports from 64 on, where there is none before.
+#[inline(never)]
+fn can_go_far(comp: &Comp, here: &PortBits, port: u32) -> bool
+    requires room { length comp.now.chans < 64 * length here.now }
+    requires few { length here.now ≤ 2 ^ 26 }
+    requires near { (p : ℕ) → p < 64 → CanGo comp.now.proc p (flag_of here.now p) → ⊥ }
+    ensures { MatchBool result (Goes comp.now here.now) (NoneGoes comp.now here.now) }
 {
     let at = port / 64;
     if at > 0 {
@@ -93,7 +111,7 @@ fn can_go(comp: &Comp, here: &PortBits, port: u32) -> bool
             return true;
         }
     }
-    lowest_of(comp, here).is_some()
+    lowest_far(comp, here).is_some()
 }
 
 /// Whether a component has a step. The ports round `port` are looked at first.
@@ -390,11 +408,16 @@ fn tell_other(nodes: &mut Arena<Node>, ready: &mut ReadyRow, pair: &Ends, mv: Mo
     ensures told { ToldOther (comps_of nodes.old) (heres_of nodes.old) (heres_of nodes.new) ready.old ready.new pair.now mv }
     ensures comps { comps_of nodes.new ≡ comps_of nodes.old }
 {
-    match mv {
-        Move::Ask => come(nodes, ready, pair.passive, pair.passive_port),
-        Move::Take => look_at(nodes, pair.active),
-        Move::Reply => come(nodes, ready, pair.active, pair.active_port),
-        Move::Got => look_at(nodes, pair.passive),
+    if sends(mv) {
+        match mv {
+            Move::Ask => come(nodes, ready, pair.passive, pair.passive_port),
+            _ => come(nodes, ready, pair.active, pair.active_port),
+        }
+    } else {
+        match mv {
+            Move::Take => look_at(nodes, pair.active),
+            _ => look_at(nodes, pair.passive),
+        }
     }
 }
 

@@ -7,18 +7,20 @@ ghost use Rattle.bz_model.specs.Phases.{phase_after};
 ghost use Rattle.bz_kinds.specs.Riding.{riding};
 ghost use Rattle.bz_net.specs.KeptPhases.{phase_of, MarksPhase};
 
+use crate::moves::sends;
 use bz_model::{Move, Phase, Value};
 use std::alloc::{AllocError, Global};
 use std::marker::Model;
 
-/// How far a handshake has come, and whether a value rides on its channel.
+/// How far a handshake has come, and whether a value rides on its channel. Those that moves without a value leave stand in the
+/// moves' order, so that one addition finds them.
 #[derive(Clone, Copy)]
 pub(crate) enum Mark {
-    Idle,
+    Broken,
     Asked,
     Taken,
     Replied,
-    Broken,
+    Idle,
     AskedWith,
     RepliedWith,
 }
@@ -91,12 +93,15 @@ impl Phases {
 
     /// The value that rides on the channel in a place, counted from 0.
     #[inline(always)]
-    #[tactic(auto, using(crate::proofs::Marks::length_phases, crate::proofs::Marks::riding_read))]
+    #[tactic(auto, using(crate::proofs::Marks::length_phases, crate::proofs::Marks::request_rides, crate::proofs::Marks::reply_rides, crate::proofs::Marks::none_rides))]
     pub(crate) fn riding(&self, place: usize) -> Option<Value>
         requires { place < length self.now }
         ensures { result ≡ riding (slice_index_or self.now place Idle) }
     {
-        riding(self.marks[place], &self.values[place])
+        match self.marks[place] {
+            Mark::AskedWith | Mark::RepliedWith => Some(self.values[place]),
+            _ => None,
+        }
     }
 
     /// Makes a move that breaks no handshake on the channel in a place, counted from 0, with this value.
@@ -145,29 +150,22 @@ fn phase_of(mark: Mark, value: &Value) -> Phase
     }
 }
 
-// The value that rides where a mark stands, by the value beside it.
-#[inline(always)]
-fn riding(mark: Mark, value: &Value) -> Option<Value>
-    ensures { result ≡ riding (phase_of mark value.now) }
-{
-    match mark {
-        Mark::AskedWith | Mark::RepliedWith => Some(*value),
-        _ => None,
-    }
-}
-
 // The mark after a move that carries this value, and breaks no handshake; and the value that is kept beside it.
 #[inline(always)]
 fn mark_after(mv: Move, value: Option<Value>) -> (Mark, Option<Value>)
     ensures { (phase : Phase) → phase_after phase mv value ≢ Phase.Broken → MarksPhase (phase_after phase mv value) result.0 result.1 }
 {
-    match (mv, value) {
-        (Move::Ask, None) => (Mark::Asked, None),
-        (Move::Ask, Some(value)) => (Mark::AskedWith, Some(value)),
-        (Move::Take, _) => (Mark::Taken, None),
-        (Move::Reply, None) => (Mark::Replied, None),
-        (Move::Reply, Some(value)) => (Mark::RepliedWith, Some(value)),
-        (Move::Got, _) => (Mark::Idle, None),
+    match value {
+        Some(value) if sends(mv) => match mv {
+            Move::Ask => (Mark::AskedWith, Some(value)),
+            _ => (Mark::RepliedWith, Some(value)),
+        },
+        _ => match mv {
+            Move::Ask => (Mark::Asked, None),
+            Move::Take => (Mark::Taken, None),
+            Move::Reply => (Mark::Replied, None),
+            Move::Got => (Mark::Idle, None),
+        },
     }
 }
 

@@ -1,21 +1,21 @@
 //! Reads of components and of channels, over the lists that a net keeps, and what a host command does to a phase.
 
-ghost use Rattle.std.specs.Prelude.{true, ◌≡◌, ◌≤◌, ◌<◌, ◌^◌, ℕ, suc, length, map, [], MatchOption, MatchBool, IfOk, IfSome};
+ghost use Rattle.std.specs.Prelude.{true, false, ◌≡◌, ◌≤◌, ◌<◌, ◌^◌, ℕ, suc, length, map, [], MatchOption, MatchBool, IfOk, IfSome};
 ghost use Rattle.bz_model.specs.Nets.{IsPort, StepsAt, chan_at, site_at};
 ghost use Rattle.bz_model.specs.Hosts.{reply_to, host_after, received, refusal_at};
 ghost use Rattle.bz_flat.specs.Flats.{site_of};
 ghost use Rattle.bz_model.specs.Clashes.{is_mixer, IsAsked, Clashes};
-ghost use Rattle.bz_net.specs.Noted.{NotedEnd};
+ghost use Rattle.bz_net.specs.Noted.{NoneMixes, NotedEnd};
 ghost use Rattle.bz_net.specs.Due.{Foresees, TellsDue};
 ghost use Rattle.bz_net.specs.Ends.{IsPortIn};
-ghost use Rattle.bz_net.specs.Sides.{answers};
+ghost use Rattle.bz_net.specs.Sides.{answers, sends};
 ghost use Rattle.bz_net.specs.Keeping.{state_of, Placed, ReadsChans};
 ghost use Rattle.bz_net.specs.Nodes.{comps_of};
 
 use crate::kept_phases::Phases;
 use crate::node::{Node, node_id, site_in};
 use crate::noted::Noted;
-use bz_arena::Arena;
+use bz_arena::{Arena, Id};
 use bz_flat::{Ends, FlatComp};
 use bz_kind_rows::is_passive;
 use bz_model::{Kind, Move, Names, NetError, Phase, Reply, Value, Verb};
@@ -41,6 +41,14 @@ pub(crate) fn answers(mv: Move) -> bool
     ensures { result ≡ answers mv }
 {
     matches!(mv, Move::Take | Move::Reply)
+}
+
+/// Whether a move is a request or a reply. The lowest bit of a move's number tells it, without a jump by a table.
+#[inline(always)]
+pub(crate) fn sends(mv: Move) -> bool
+    ensures { result ≡ sends mv }
+{
+    mv as u32 % 2 == 0
 }
 
 /// The port of a component at an end of a channel, by the table of ends.
@@ -109,6 +117,18 @@ fn is_mixer(kind: &Kind) -> bool
     ensures { result ≡ is_mixer kind.now }
 {
     matches!(kind, Kind::Call | Kind::CallMux | Kind::CallDemux)
+}
+
+/// Whether there is a component at which requests may meet.
+pub(crate) fn mixes(sites: &Arena<FlatComp>) -> bool
+    ensures { result ≡ false → NoneMixes (map site_of sites.now) }
+{
+    for place in 0..sites.len() {
+        if is_mixer(&sites.get(Id::at(place)).kind) {
+            return true;
+        }
+    }
+    false
 }
 
 /// Whether a component's port is passive and its channel isn't idle.

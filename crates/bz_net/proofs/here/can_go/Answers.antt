@@ -1,10 +1,15 @@
-use Rattle.std.proofs.Common.{◌/◌, arith}
-use Rattle.bz_net.proofs.Telling.{is_one, word_goes}
+use Rattle.std.proofs.Common.{arith}
+use Rattle.bz_net.proofs.Telling.{word_goes, word_passes}
 use Rattle.bz_net.proofs.here.can_go.Goals as goal
 
 pub returns-then-word-ne0-clause-goes : goal.returns-then-word-ne0-clause-goes
 returns-then-word-ne0-clause-goes c =
-    word_goes c.args.comp.now c.args.here.now (c.args.port / 64) c.ready_word-word.result c.word.result c.ready_word-word.type_inv c.ready_word-word.ensures.ready c.word.ensures (omega (arith, c.if-word-ne0.true)) c.ready_word-word.ensures.held
+    word_goes c.args.comp.now c.args.here.now 0 c.ready_word-word.result c.word.result c.ready_word-word.type_inv c.ready_word-word.ensures.ready c.word.ensures (omega (arith, c.if-word-ne0.true)) c.ready_word-word.ensures.held
 
-pub returns-clause-goes : goal.returns-clause-goes
-returns-clause-goes c = rw c.is_some.ensures (is_one c.args.comp.now c.args.here.now c.lowest_of.result c.lowest_of.ensures.lowest)
+pub can_go_far-requires-clause-near : goal.can_go_far-requires-clause-near
+can_go_far-requires-clause-near c q lt =
+    word_passes c.args.comp.now c.args.here.now 0 c.ready_word-word.result c.word.result c.ready_word-word.type_inv c.ready_word-word.ensures.ready c.word.ensures c.if-word-ne0.false (λ r low. absurd (omega (arith, low))) q (omega (arith, lt))
+
+pub returns-then-word_count-eq1-clause-goes : goal.returns-then-word_count-eq1-clause-goes
+returns-then-word_count-eq1-clause-goes c p le can =
+    word_passes c.args.comp.now c.args.here.now 0 c.ready_word-word.result c.word.result c.ready_word-word.type_inv c.ready_word-word.ensures.ready c.word.ensures c.if-word-ne0.false (λ r low. absurd (omega (arith, low))) p (let r = c.requires.room in let n = c.word_count.ensures in let one = c.if-word_count-eq1.true in omega (arith, le, r, n, one)) can

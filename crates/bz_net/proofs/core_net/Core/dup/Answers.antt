@@ -6,6 +6,7 @@ use Rattle.bz_net.specs.Keeping.{MarksAll, state_of}
 use Rattle.bz_net.proofs.Cores.{core_same, core_sighted}
 use Rattle.bz_net.proofs.Opening.{marks_ready}
 use Rattle.bz_net.specs.ChanRow.{InRow}
+use Rattle.bz_net.specs.Noted.{NoneMixes}
 use Rattle.bz_net.specs.Nodes.{comps_of, heres_of}
 use Rattle.bz_net.proofs.core_net.Core.dup.Goals as goal
 
@@ -32,4 +33,5 @@ invariant_of-result c =
       subst (λ (l : List Site). InRow l c.in_ok-chans.chans.starts.items c.in_ok-chans.chans.row.items) (sym sites)
           (subst (λ (row : List ℕ). InRow (map site_of n.sites) c.in_ok-chans.chans.starts.items row) (sym c.in_ok-chans.ensures.row)
           (subst (λ (starts : List ℕ). InRow (map site_of n.sites) starts n.chans.row.items) (sym c.in_ok-chans.ensures.starts) c.self.invariant.1)),
+      λ never. subst NoneMixes (sym sites) (c.self.invariant.2 never),
     )

@@ -29,7 +29,7 @@ invariant_of-self c =
     c.move_comp.ensures.told in
     let refreshed : RefreshedEnds w.sites (state_of d.phases (comps_of d.nodes)) n.ready d.ready (ends_in n.ends.items r.0) =
     rw c.deref.ensures.value at c.move_comp.ensures.refreshed in
-    (core_moved w n.phases (comps_of n.nodes) (heres_of n.nodes) n.ends.items n.ready c.self.invariant.0 d.phases (comps_of d.nodes) (heres_of d.nodes) d.ready c.args.comp r.3 r.0 r.1 r.2 told refreshed, c.self.invariant.1)
+    (core_moved w n.phases (comps_of n.nodes) (heres_of n.nodes) n.ends.items n.ready c.self.invariant.0 d.phases (comps_of d.nodes) (heres_of d.nodes) d.ready c.args.comp r.3 r.0 r.1 r.2 told refreshed, c.self.invariant.1, c.self.invariant.2)
 
 pub returns-clause-step : goal.returns-clause-step
 returns-clause-step c =

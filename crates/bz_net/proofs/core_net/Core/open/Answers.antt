@@ -44,6 +44,7 @@ invariant_of-result c =
       core_first w phases comps heres c.into_pieces-pieces.ensures.wired idle started blanks p.ends.items c.in-Ok-mark_all.ready c.into_pieces-pieces.ensures.ends_of
           (marks_ready w (state_of phases comps) c.in-Ok-mark_all.ready (length p.comps) count marks),
       c.in-Ok-of.ensures,
+      c.mixes-mixes.ensures,
     )
 
 pub returns-clause-state : goal.returns-clause-state
