@@ -50,7 +50,7 @@ impl<T, A: Allocator + Copy> Arena<T, A> {
         ensures full { OnErr result (length self.old % 256 ≡ 0) }
     {
         let used = self.last.len();
-        let index = CHUNK_LEN * self.full.count() + used;
+        let index = self.full.len() + used;
         if used % CHUNK_LEN == 0 {
             self.full.start(&mut self.last, self.alloc, node)?;
         } else {
@@ -63,7 +63,7 @@ impl<T, A: Allocator + Copy> Arena<T, A> {
     pub fn len(&self) -> usize
         ensures { result ≡ length self.now }
     {
-        CHUNK_LEN * self.full.count() + self.last.len()
+        self.full.len() + self.last.len()
     }
 
     pub fn holds(&self, id: Id<T>) -> bool
@@ -84,7 +84,7 @@ impl<T, A: Allocator + Copy> Arena<T, A> {
         ensures { result.now ≡ slice_index_or self.now id result.now }
     {
         let index = id.index();
-        let start = CHUNK_LEN * self.full.count();
+        let start = self.full.len();
         if index < start {
             return self.full.get(index);
         }
@@ -98,7 +98,7 @@ impl<T, A: Allocator + Copy> Arena<T, A> {
         ensures value { result.now ≡ slice_index_or self.old id result.now }
     {
         let index = id.index();
-        let start = CHUNK_LEN * self.full.count();
+        let start = self.full.len();
         if index < start {
             return self.full.get_mut(index);
         }

@@ -13,21 +13,22 @@ use std::mem;
 // The most full chunks: of more, the nodes would not be counted by a `usize`. Memory ends long before.
 const LIMIT: usize = 0x10_0000_0000_0000;
 
-/// Full chunks in a list. A contract sees all their nodes as one list.
+/// Full chunks in a list, and how many nodes they have. A contract sees all these nodes as one list.
 #[derive(Drop)]
 pub struct FullChunks<T, A: Allocator + Copy> {
     list: Vec<FullChunk<T, A>, A>,
+    len: usize,
 }
 
 impl<T, A: Allocator + Copy> Model for FullChunks<T, A> {
-    ghost use Rattle.std.specs.Prelude.{List, ◌≤◌, length};
+    ghost use Rattle.std.specs.Prelude.{List, ◌≡◌, ◌*◌, ◌≤◌, length};
     ghost use Rattle.bz_arena.specs.Chunks.{joined};
 
     ghost Value = { List T };
 
     ghost view = { λ f. joined f.list.items };
 
-    ghost invariant = { λ f. length f.list.items ≤ 0x10_0000_0000_0000 };
+    ghost invariant = { λ f. (f.len ≡ 256 * length f.list.items) × (length f.list.items ≤ 0x10_0000_0000_0000) };
 }
 
 impl<T, A: Allocator + Copy> FullChunks<T, A> {
@@ -38,15 +39,17 @@ impl<T, A: Allocator + Copy> FullChunks<T, A> {
     {
         FullChunks {
             list: Vec::new(alloc),
+            len: 0,
         }
     }
 
     #[inline(always)]
-    pub(crate) fn count(&self) -> usize
-        ensures nodes { 256 * result ≡ length self.now }
-        ensures small { result ≤ 0x10_0000_0000_0000 }
+    pub(crate) fn len(&self) -> usize
+        ensures nodes { result ≡ length self.now }
+        ensures whole { result % 256 ≡ 0 }
+        ensures small { result ≤ 0x1000_0000_0000_0000 }
     {
-        self.list.len()
+        self.len
     }
 
     #[inline(always)]
@@ -86,7 +89,10 @@ impl<T, A: Allocator + Copy> FullChunks<T, A> {
             return Ok(());
         }
         match self.list.push(before.into_full()) {
-            Ok(()) => Ok(()),
+            Ok(()) => {
+                self.len += CHUNK_LEN;
+                Ok(())
+            }
             Err(_refused) => unreachable!(),
         }
     }

@@ -70,8 +70,20 @@ impl<A: Allocator> BitRow<A> {
         requires { place < length self.old }
         ensures { self.new ≡ slice_set self.old place false }
     {
+        self.lower_leaves_one(place);
+    }
+
+    /// Lowers a bit, and answers whether its word still has a 1.
+    #[inline(always)]
+    pub(crate) fn lower_leaves_one(&mut self, place: usize) -> bool
+        requires { place < length self.old }
+        ensures lowered { self.new ≡ slice_set self.old place false }
+        ensures told { HasOne self.new (place / 64) result }
+    {
         let word = &mut self.words[place / 64];
-        *word &= !(1 << (place % 64));
+        let left = *word & !(1 << (place % 64));
+        *word = left;
+        left != 0
     }
 
     /// The first place at or above `from` whose bit is 1. It looks at each word from there on.

@@ -81,13 +81,11 @@ impl<A: Allocator + Copy> SummedRow<A> {
         requires { place < length self.old }
         ensures { self.new ≡ slice_set self.old place false }
     {
-        self.row.lower(place);
-        if self.row.has_one(place) {
+        if self.row.lower_leaves_one(place) {
             return;
         }
         let word = place / 64;
-        self.words.lower(word);
-        if self.words.has_one(word) {
+        if self.words.lower_leaves_one(word) {
             return;
         }
         self.blocks.lower(word / 64);

@@ -3,7 +3,6 @@ ghost use Rattle.std.specs.Prelude.{◌≡◌, ◌≢◌, ◌<◌, length, slice
 ghost use Rattle.bz_arena.specs.Pairs.{with_pair, UpdatesBoth};
 
 use super::Arena;
-use crate::chunk::CHUNK_LEN;
 use crate::id::Id;
 use crate::pair::pair_of;
 use std::alloc::Allocator;
@@ -20,7 +19,7 @@ impl<T, A: Allocator + Copy> Arena<T, A> {
     {
         let a = a.index();
         let b = b.index();
-        let start = CHUNK_LEN * self.full.count();
+        let start = self.full.len();
         if a < start {
             if b < start {
                 return self.full.pair_mut(a, b);
@@ -44,7 +43,7 @@ impl<T, A: Allocator + Copy> Arena<T, A> {
     {
         let a = a.index();
         let b = b.index();
-        let start = CHUNK_LEN * self.full.count();
+        let start = self.full.len();
         if a < start {
             if b < start {
                 return self.full.update_pair(a, b, f);

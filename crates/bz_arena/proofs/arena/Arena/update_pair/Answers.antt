@@ -1,4 +1,4 @@
-use Rattle.std.proofs.Common.{◌*◌, ◌++◌, ℕ, List, get_or, ap, ◌∙◌}
+use Rattle.std.proofs.Common.{◌++◌, ℕ, List, get_or, ap, ◌∙◌}
 use Rattle.bz_arena.proofs.Ends.{get_front, get_back, set_fronts, set_backs, set_front_back, set_back_front, at_ids}
 use Rattle.bz_arena.proofs.Pairs.{updated_length}
 use Rattle.bz_arena.proofs.arena.Arena.update_pair.Goals as goal
@@ -6,7 +6,7 @@ use Rattle.bz_arena.proofs.arena.Arena.update_pair.Goals as goal
 pub returns-then-b-start-clause-updated : goal.returns-then-b-start-clause-updated
 returns-then-b-start-clause-updated g c =
     let i = c.index-a.result in let j = c.index-b.result in let xs = c.self.inside.full in let ys = c.self.inside.last in let all = c.args.self.now in
-    let n = 256 * c.count-start.result in let len = c.count-start.ensures.nodes in let whole = c.self.view_is in
+    let n = c.len-start.result in let len = c.len-start.ensures.nodes in let whole = c.self.view_is in
     let u = c.update_pair.ensures in
     record {
       first = u.first;
@@ -24,7 +24,7 @@ returns-then-b-start-clause-updated g c =
 pub returns-then-a-start-clause-updated : goal.returns-then-a-start-clause-updated
 returns-then-a-start-clause-updated g c =
     let i = c.index-a.result in let j = c.index-b.result in let xs = c.self.inside.full in let ys = c.self.inside.last in let all = c.args.self.now in
-    let n = 256 * c.count-start.result in let len = c.count-start.ensures.nodes in let whole = c.self.view_is in
+    let n = c.len-start.result in let len = c.len-start.ensures.nodes in let whole = c.self.view_is in
     let x = c.get_mut.result.now in let y = c.get_mut-then-a-start.result.now in let v = c.f.new.arg2 in let w = c.f.new.arg3 in
     record {
       first = _;
@@ -40,7 +40,7 @@ returns-then-a-start-clause-updated g c =
 pub returns-then-b-start-2-clause-updated : goal.returns-then-b-start-2-clause-updated
 returns-then-b-start-2-clause-updated g c =
     let i = c.index-a.result in let j = c.index-b.result in let xs = c.self.inside.full in let ys = c.self.inside.last in let all = c.args.self.now in
-    let n = 256 * c.count-start.result in let len = c.count-start.ensures.nodes in let whole = c.self.view_is in
+    let n = c.len-start.result in let len = c.len-start.ensures.nodes in let whole = c.self.view_is in
     let x = c.get_mut-then-b-start-2.result.now in let y = c.get_mut-then-b-start-2-2.result.now in let v = c.f-then-b-start-2.new.arg2 in let w = c.f-then-b-start-2.new.arg3 in
     record {
       first = _;
@@ -56,7 +56,7 @@ returns-then-b-start-2-clause-updated g c =
 pub returns-clause-updated : goal.returns-clause-updated
 returns-clause-updated g c =
     let i = c.index-a.result in let j = c.index-b.result in let xs = c.self.inside.full in let ys = c.self.inside.last in let all = c.args.self.now in
-    let n = 256 * c.count-start.result in let len = c.count-start.ensures.nodes in let whole = c.self.view_is in
+    let n = c.len-start.result in let len = c.len-start.ensures.nodes in let whole = c.self.view_is in
     let u = c.update_pair-2.ensures in
     record {
       first = u.first;
