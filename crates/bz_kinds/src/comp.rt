@@ -9,16 +9,16 @@ ghost use Rattle.bz_model.specs.Rows.{MeetsRow};
 ghost use Rattle.bz_model.specs.Processes.{member, start_of};
 ghost use Rattle.bz_model.specs.Widths.{Fitted, FitsAt, HoldsAt};
 ghost use Rattle.bz_kinds.specs.declared.ports.PortState.TheVariants.{Closed, ClosedDue};
-ghost use Rattle.bz_kinds.specs.Row.{Due, seen};
+ghost use Rattle.bz_kinds.specs.Row.{seen};
 ghost use Rattle.bz_kinds.specs.Moves.{AreEnabled};
 ghost use Rattle.bz_kinds.specs.Ready.{AreReady, CanGo, NoneDue};
 ghost use Rattle.bz_kinds.specs.Start.{BeginsAt, IsAllDue, IsDueBut, AreMembersDue};
 ghost use Rattle.bz_kinds.specs.Kept.{plan_of};
 ghost use Rattle.bz_kinds.specs.KeptLists.{slots_of};
 ghost use Rattle.bz_model.specs.declared.channel.Phase.{Phase};
-ghost use Rattle.bz_kinds.specs.Ports.{state_at};
-ghost use Rattle.bz_kinds.specs.Riding.{held, riding, taken, Made};
-ghost use Rattle.bz_kinds.specs.Comp.{IsAt, IsDue, IsNarrowDue, StaysAt, IsFor, Goes, plan_due};
+ghost use Rattle.bz_kinds.specs.Riding.{held, riding, taken};
+ghost use Rattle.bz_kinds.specs.Comp.{IsAt, IsDue, IsFor, Goes, plan_due};
+ghost use Rattle.bz_kinds.specs.Turn.{CanTurn, HasMade, HasGone, KeepsPlan};
 
 use crate::kept::KeptPlan;
 use crate::kept_lists::{KeptChans, KeptSlots};
@@ -40,12 +40,18 @@ use std::marker::Model;
 #[derive(Drop)]
 pub struct Comp {
     passive: u64,
+    proc: Process,
+    chans: KeptChans,
+}
+
+// A component's process: its plan and the plan's size, and where it is in it, by its ports, a counter and the values it keeps.
+#[derive(Drop)]
+struct Process {
     ports: Ports,
     plan: KeptPlan,
     size: u32,
     left: u32,
     slots: KeptSlots,
-    chans: KeptChans,
 }
 
 impl Model for Comp {
@@ -66,9 +72,9 @@ impl Model for Comp {
     ghost use Rattle.bz_kinds.specs.Row.{is_open};
     ghost use Rattle.bz_kinds.specs.Ready.{IsSensed};
 
-    ghost view = { λ c. record { proc = record { todo = todo_of (plan_of c.plan) c.size c.left c.ports; store = slots_of c.slots }; chans = chans_of c.chans; open_ports = map is_open c.ports } };
+    ghost view = { λ c. record { proc = record { todo = todo_of (plan_of c.proc.plan) c.proc.size c.proc.left c.proc.ports; store = slots_of c.proc.slots }; chans = chans_of c.chans; open_ports = map is_open c.proc.ports } };
 
-    ghost invariant = { λ c. IsAt (plan_of c.plan) c.size c.left c.ports (slots_of c.slots) × ((c.size < 2 ^ 30) × IsSensed (plan_of c.plan) c.size 0 c.passive × (places (plan_of c.plan) c.size ≡ suc (length (chans_of c.chans)))) × ((bits : ℕ) × Sends (chans_of c.chans) bits (todo_of (plan_of c.plan) c.size c.left c.ports)) };
+    ghost invariant = { λ c. IsAt (plan_of c.proc.plan) c.proc.size c.proc.left c.proc.ports (slots_of c.proc.slots) × ((c.proc.size < 2 ^ 30) × IsSensed (plan_of c.proc.plan) c.proc.size 0 c.passive × (places (plan_of c.proc.plan) c.proc.size ≡ suc (length (chans_of c.chans)))) × ((bits : ℕ) × Sends (chans_of c.chans) bits (todo_of (plan_of c.proc.plan) c.proc.size c.proc.left c.proc.ports)) };
 }
 
 /// A component of this kind at its start, with arrays of these lengths, on these channels in the order of its ports.
@@ -83,13 +89,16 @@ pub fn start(alloc: Global, kind: &Kind, sizes: [u32; 2], chans: &[Chan]) -> Res
     let slots = KeptSlots::new(alloc, shape.slots)?;
     let chans = KeptChans::of(alloc, chans)?;
     let passive = sense_word(&shape.plan, shape.legs, 0);
-    Ok(Comp {
+    let proc = Process {
+        ports,
         plan: shape.plan,
         size: shape.legs,
         left: 0,
-        ports,
-        passive,
         slots,
+    };
+    Ok(Comp {
+        passive,
+        proc,
         chans,
     })
 }
@@ -100,7 +109,12 @@ pub fn next(comp: &Comp, port: u32) -> Option<Move>
     ensures only { (h : Head) → IsHeadOn comp.now.proc port h → result ≡ Some h.move }
     ensures one { HasOneHead comp.now.proc.todo }
 {
-    move_at(&comp.plan, comp.size, port, comp.ports.get(port))
+    move_at(
+        &comp.proc.plan,
+        comp.proc.size,
+        port,
+        comp.proc.ports.get(port),
+    )
 }
 
 /// Whether a component can move at a port whose channel has this phase.
@@ -136,95 +150,63 @@ pub fn fire(comp: &mut Comp, port: u32, rides: Option<Value>) -> (Move, Option<V
     ensures fits { (phase : Phase) → CanMove comp.old.proc port phase → rides ≡ riding phase →
         Fitted comp.old → HoldsAt comp.old.chans port phase → FitsAt comp.old.chans port result.0 result.1 × Fitted comp.new }
 {
-    turn(
-        &comp.plan,
-        comp.size,
-        &mut comp.left,
-        &mut comp.ports,
-        port,
-        &mut comp.slots,
-        rides,
-    )
+    turn(&mut comp.proc, port, rides)
 }
 
-// Makes the move that is due at a port of a plan. Of the families that most moves are of, a move is told, sent and followed by
-// the ports in one look at the port.
+// Makes the move that is due at a port. Of the families that most moves are of, a move is told, sent and followed by the ports
+// in one look at the port. Each arm borrows its own fields, so that no address is worked out before the plan is known.
 #[inline(always)]
-fn turn(
-    plan: &KeptPlan,
-    size: u32,
-    left: &mut u32,
-    ports: &mut Ports,
-    port: u32,
-    slots: &mut KeptSlots,
-    rides: Option<Value>,
-) -> (Move, Option<Value>)
-    requires place { IsAt (plan_of plan.now) size left.old ports.old (slots_of slots.old) }
-    requires small { size < 2 ^ 30 }
-    requires due { IsNarrowDue (plan_of plan.now) size left.old port ports.old }
-    requires still { StaysAt (plan_of plan.now) size left.old ports.old port rides (slots_of slots.old) }
-    ensures made { (d : Due) → plan_due (plan_of plan.now) size left.old port (state_at ports.old port) ≡ Some d →
-        Made d rides (slots_of slots.old) (slots_of slots.new) result.0 result.1 }
-    ensures goes { Goes (plan_of plan.now) size left.old ports.old port left.new ports.new (slots_of slots.new) }
+fn turn(proc: &mut Process, port: u32, rides: Option<Value>) -> (Move, Option<Value>)
+    requires { CanTurn proc.old port rides }
+    ensures made { HasMade proc.old port rides proc.new result.0 result.1 }
+    ensures goes { HasGone proc.old port proc.new }
+    ensures kept { KeepsPlan proc.old proc.new }
 {
-    match plan {
-        KeptPlan::InTurn(row) => in_turn::fire(row.get(), ports, left, size, port, slots, rides),
-        KeptPlan::Together(row) => together::fire(row.get(), ports, left, size, port, slots, rides),
-        KeptPlan::Cells => cells::fire(ports, size, port, slots, rides),
-        KeptPlan::OneByOne(Script::Loop) => script::fire_loop(ports, left, port, slots, rides),
-        KeptPlan::Meeting(meet) => {
-            meeting::fire(meet.get(), ports, left, size, port, slots, rides)
+    match &proc.plan {
+        KeptPlan::InTurn(row) => {
+            let (ports, left, slots) = (&mut proc.ports, &mut proc.left, &mut proc.slots);
+            in_turn::fire(row.get(), ports, left, proc.size, port, slots, rides)
         }
-        _ => turn_far(plan, size, left, ports, port, slots, rides),
+        KeptPlan::Together(row) => {
+            let (ports, left, slots) = (&mut proc.ports, &mut proc.left, &mut proc.slots);
+            together::fire(row.get(), ports, left, proc.size, port, slots, rides)
+        }
+        KeptPlan::Cells => cells::fire(&mut proc.ports, proc.size, port, &mut proc.slots, rides),
+        KeptPlan::OneByOne(Script::Loop) => {
+            let (ports, left, slots) = (&mut proc.ports, &mut proc.left, &mut proc.slots);
+            script::fire_loop(ports, left, port, slots, rides)
+        }
+        KeptPlan::Meeting(meet) => {
+            let (ports, left, slots) = (&mut proc.ports, &mut proc.left, &mut proc.slots);
+            meeting::fire(meet.get(), ports, left, proc.size, port, slots, rides)
+        }
+        _ => turn_far(proc, port, rides),
     }
 }
 
 // The same of any plan. What is called is small in its caller: the value goes there and back by its place.
 #[inline(always)]
-fn turn_far(
-    plan: &KeptPlan,
-    size: u32,
-    left: &mut u32,
-    ports: &mut Ports,
-    port: u32,
-    slots: &mut KeptSlots,
-    rides: Option<Value>,
-) -> (Move, Option<Value>)
-    requires place { IsAt (plan_of plan.now) size left.old ports.old (slots_of slots.old) }
-    requires small { size < 2 ^ 30 }
-    requires due { IsNarrowDue (plan_of plan.now) size left.old port ports.old }
-    requires still { StaysAt (plan_of plan.now) size left.old ports.old port rides (slots_of slots.old) }
-    ensures made { (d : Due) → plan_due (plan_of plan.now) size left.old port (state_at ports.old port) ≡ Some d →
-        Made d rides (slots_of slots.old) (slots_of slots.new) result.0 result.1 }
-    ensures goes { Goes (plan_of plan.now) size left.old ports.old port left.new ports.new (slots_of slots.new) }
+fn turn_far(proc: &mut Process, port: u32, rides: Option<Value>) -> (Move, Option<Value>)
+    requires { CanTurn proc.old port rides }
+    ensures made { HasMade proc.old port rides proc.new result.0 result.1 }
+    ensures goes { HasGone proc.old port proc.new }
+    ensures kept { KeepsPlan proc.old proc.new }
 {
     let (is_there, mut value) = parts(rides);
-    let (mv, carries) = turn_held(plan, size, left, ports, port, slots, is_there, &mut value);
+    let (mv, carries) = turn_held(proc, port, is_there, &mut value);
     (mv, held(carries, value))
 }
 
 // The same with the value that rides in `value`, if `rides`, and then what is carried in it, if the second answer is true.
 #[inline(never)]
-fn turn_held(
-    plan: &KeptPlan,
-    size: u32,
-    left: &mut u32,
-    ports: &mut Ports,
-    port: u32,
-    slots: &mut KeptSlots,
-    rides: bool,
-    value: &mut Value,
-) -> (Move, bool)
-    requires place { IsAt (plan_of plan.now) size left.old ports.old (slots_of slots.old) }
-    requires small { size < 2 ^ 30 }
-    requires due { IsNarrowDue (plan_of plan.now) size left.old port ports.old }
-    requires still { StaysAt (plan_of plan.now) size left.old ports.old port (held rides value.old) (slots_of slots.old) }
-    ensures made { (d : Due) → plan_due (plan_of plan.now) size left.old port (state_at ports.old port) ≡ Some d →
-        Made d (held rides value.old) (slots_of slots.old) (slots_of slots.new) result.0 (held result.1 value.new) }
-    ensures goes { Goes (plan_of plan.now) size left.old ports.old port left.new ports.new (slots_of slots.new) }
+fn turn_held(proc: &mut Process, port: u32, rides: bool, value: &mut Value) -> (Move, bool)
+    requires { CanTurn proc.old port (held rides value.old) }
+    ensures made { HasMade proc.old port (held rides value.old) proc.new result.0 (held result.1 value.new) }
+    ensures goes { HasGone proc.old port proc.new }
+    ensures kept { KeepsPlan proc.old proc.new }
 {
     let before = held(rides, *value);
-    let (mv, carried) = turn_rare(plan, size, left, ports, port, slots, before);
+    let (mv, carried) = turn_rare(proc, port, before);
     let (carries, after) = parts(carried);
     *value = after;
     (mv, carries)
@@ -251,55 +233,43 @@ fn held(is_there: bool, value: Value) -> Option<Value>
 
 // The same of any plan.
 #[inline(always)]
-fn turn_rare(
-    plan: &KeptPlan,
-    size: u32,
-    left: &mut u32,
-    ports: &mut Ports,
-    port: u32,
-    slots: &mut KeptSlots,
-    rides: Option<Value>,
-) -> (Move, Option<Value>)
-    requires place { IsAt (plan_of plan.now) size left.old ports.old (slots_of slots.old) }
-    requires small { size < 2 ^ 30 }
-    requires due { IsNarrowDue (plan_of plan.now) size left.old port ports.old }
-    requires still { StaysAt (plan_of plan.now) size left.old ports.old port rides (slots_of slots.old) }
-    ensures made { (d : Due) → plan_due (plan_of plan.now) size left.old port (state_at ports.old port) ≡ Some d →
-        Made d rides (slots_of slots.old) (slots_of slots.new) result.0 result.1 }
-    ensures goes { Goes (plan_of plan.now) size left.old ports.old port left.new ports.new (slots_of slots.new) }
+fn turn_rare(proc: &mut Process, port: u32, rides: Option<Value>) -> (Move, Option<Value>)
+    requires { CanTurn proc.old port rides }
+    ensures made { HasMade proc.old port rides proc.new result.0 result.1 }
+    ensures goes { HasGone proc.old port proc.new }
+    ensures kept { KeepsPlan proc.old proc.new }
 {
-    match plan {
-        KeptPlan::OwnInTurn(row) => in_turn::fire(row, ports, left, size, port, slots, rides),
-        _ => turn_by_due(plan, size, left, ports, port, slots, rides),
+    match &proc.plan {
+        KeptPlan::OwnInTurn(row) => {
+            let (ports, left, slots) = (&mut proc.ports, &mut proc.left, &mut proc.slots);
+            in_turn::fire(row, ports, left, proc.size, port, slots, rides)
+        }
+        _ => turn_by_due(proc, port, rides),
     }
 }
 
 // The same by what is due there, of any plan.
 #[inline(always)]
-fn turn_by_due(
-    plan: &KeptPlan,
-    size: u32,
-    left: &mut u32,
-    ports: &mut Ports,
-    port: u32,
-    slots: &mut KeptSlots,
-    rides: Option<Value>,
-) -> (Move, Option<Value>)
-    requires place { IsAt (plan_of plan.now) size left.old ports.old (slots_of slots.old) }
-    requires small { size < 2 ^ 30 }
-    requires due { IsNarrowDue (plan_of plan.now) size left.old port ports.old }
-    requires still { StaysAt (plan_of plan.now) size left.old ports.old port rides (slots_of slots.old) }
-    ensures made { (d : Due) → plan_due (plan_of plan.now) size left.old port (state_at ports.old port) ≡ Some d →
-        Made d rides (slots_of slots.old) (slots_of slots.new) result.0 result.1 }
-    ensures goes { Goes (plan_of plan.now) size left.old ports.old port left.new ports.new (slots_of slots.new) }
+fn turn_by_due(proc: &mut Process, port: u32, rides: Option<Value>) -> (Move, Option<Value>)
+    requires { CanTurn proc.old port rides }
+    ensures made { HasMade proc.old port rides proc.new result.0 result.1 }
+    ensures goes { HasGone proc.old port proc.new }
+    ensures kept { KeepsPlan proc.old proc.new }
 {
-    let Some(due) = due_at(plan, size, *left, port, ports.get(port)) else {
+    let Some(due) = due_at(&proc.plan, proc.size, proc.left, port, proc.ports.get(port)) else {
         unreachable!()
     };
     let incoming = taken(due.mv, rides);
-    let value = carried(&due, slots.get(), incoming);
-    slots.keep(due.into, incoming);
-    advance(plan, size, left, ports, port, slots.get());
+    let value = carried(&due, proc.slots.get(), incoming);
+    proc.slots.keep(due.into, incoming);
+    advance(
+        &proc.plan,
+        proc.size,
+        &mut proc.left,
+        &mut proc.ports,
+        port,
+        proc.slots.get(),
+    );
     (due.mv, value)
 }
 
@@ -330,7 +300,13 @@ pub fn moves<'a>(comp: &'a Comp, phases: &'a [Phase]) -> MoveIter<'a>
     requires { length phases.now < 2 ^ 32 }
     ensures { AreEnabled comp.now.proc phases.now result }
 {
-    MoveIter::new(&comp.plan, comp.size, comp.left, &comp.ports, phases)
+    MoveIter::new(
+        &comp.proc.plan,
+        comp.proc.size,
+        comp.proc.left,
+        &comp.proc.ports,
+        phases,
+    )
 }
 
 /// The ports of word `at`, from port 64 * at on, at which a component can move, a bit for each. `here` tells of each of
@@ -342,13 +318,13 @@ pub fn ready_word(comp: &Comp, at: u32, here: u64) -> u64
     ensures held { (p : ℕ) (h : Head) → IsHeadOn comp.now.proc p h → (0 < p) × (p ≤ length comp.now.chans) }
     ensures turns { (p : ℕ) (h : Head) → IsHeadOn comp.now.proc p h → opens h.move ≡ not (open_at comp.now p) }
 {
-    let word = comp.ports.word(at);
+    let word = comp.proc.ports.word(at);
     let passive = if at == 0 {
         comp.passive
     } else if word.due == 0 {
         return 0;
     } else {
-        sense_word(&comp.plan, comp.size, at)
+        sense_word(&comp.proc.plan, comp.proc.size, at)
     };
     word.ready(passive, here)
 }
@@ -359,7 +335,7 @@ pub fn has_move(comp: &Comp, port: u32) -> bool
     ensures due { IsTrue result ↔ CanGo comp.now.proc port true }
     ensures turns { (p : ℕ) (h : Head) → IsHeadOn comp.now.proc p h → opens h.move ≡ not (open_at comp.now p) }
 {
-    comp.ports.get(port).is_due()
+    comp.proc.ports.get(port).is_due()
 }
 
 /// The first word from `at` on with a port at which a component has a move due; past the last word where there is none.
@@ -370,7 +346,7 @@ pub fn next_due(comp: &Comp, at: usize) -> usize
     ensures passed { (k : ℕ) → at ≤ k → k < result → NoneDue comp.now.proc k }
     ensures stops { NoneDue comp.now.proc result → (k : ℕ) → at ≤ k → NoneDue comp.now.proc k }
 {
-    comp.ports.next_due(at)
+    comp.proc.ports.next_due(at)
 }
 
 /// The same component in the same state.
@@ -378,17 +354,20 @@ pub fn dup(alloc: Global, comp: &Comp) -> Result<Comp, KindError>
     ensures same { IfOk result (λ c. c ≡ comp.now) }
     ensures memory { IfErr result (λ e. e ≡ Memory) }
 {
-    let plan = comp.plan.dup(alloc)?;
-    let ports = comp.ports.dup(alloc)?;
-    let slots = comp.slots.dup(alloc)?;
+    let plan = comp.proc.plan.dup(alloc)?;
+    let ports = comp.proc.ports.dup(alloc)?;
+    let slots = comp.proc.slots.dup(alloc)?;
     let chans = comp.chans.dup(alloc)?;
-    Ok(Comp {
-        plan,
-        size: comp.size,
-        left: comp.left,
+    let proc = Process {
         ports,
-        passive: comp.passive,
+        plan,
+        size: comp.proc.size,
+        left: comp.proc.left,
         slots,
+    };
+    Ok(Comp {
+        passive: comp.passive,
+        proc,
         chans,
     })
 }

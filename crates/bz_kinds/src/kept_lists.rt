@@ -1,6 +1,7 @@
 //! The values and the channels of a component: few, which lie in it, or a list.
 
-ghost use Rattle.std.specs.Prelude.{◌≡◌, IfOk, IfSome, replicate, slice_set};
+ghost use Rattle.std.specs.Prelude.{◌≡◌, ◌≢◌, IfOk, IfSome, Some, replicate, slice_set};
+ghost use Rattle.bz_model.specs.declared.expr.Expr.TheVariants.{Nothing};
 ghost use Rattle.bz_model.specs.Terms.{stored, value_of, IsNarrow};
 ghost use Rattle.bz_kinds.specs.KeptLists.{chan_of, chans_of, slots_of};
 
@@ -74,25 +75,28 @@ impl KeptSlots {
         }
     }
 
-    // The same, where it is most often the first of two values.
+    // The same of what is worth something, which is most often the first of two values.
     #[inline(always)]
     fn worth_some(&self, gives: &Expr) -> Option<Value>
-        requires { IsNarrow gives.now }
+        requires narrow { IsNarrow gives.now }
+        requires some { gives.now ≢ Nothing }
         ensures { result ≡ value_of gives.now (slots_of self.now) }
     {
         match (gives, self) {
             (Expr::Slot(0), KeptSlots::Two(two)) => Some(two[0]),
-            _ => self.worth_far(gives),
+            _ => Some(self.worth_far(gives)),
         }
     }
 
+    // The value alone: an `Option` that comes from a call would be written to memory on every path.
     #[cold]
     #[inline(never)]
-    fn worth_far(&self, gives: &Expr) -> Option<Value>
-        requires { IsNarrow gives.now }
-        ensures { result ≡ value_of gives.now (slots_of self.now) }
+    fn worth_far(&self, gives: &Expr) -> Value
+        requires narrow { IsNarrow gives.now }
+        requires some { gives.now ≢ Nothing }
+        ensures { value_of gives.now (slots_of self.now) ≡ Some result }
     {
-        gives.value(self.get())
+        gives.value(self.get()).unwrap()
     }
 
     /// Puts a value into a slot, where there is such a slot.

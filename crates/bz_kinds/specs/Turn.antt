@@ -1,0 +1,28 @@
+-- A move of a component's process, as the code keeps it: when it can be made, and what it leaves.
+use Rattle.std.specs.Prelude.{◌≡◌, ◌<◌, ◌^◌, ℕ, Option, Some}
+use Rattle.bz_model.specs.declared.channel.Move.{Move}
+use Rattle.bz_kinds.specs.declared.comp.Process.{Process}
+use Rattle.bz_kinds.specs.Ports.{state_at}
+use Rattle.bz_kinds.specs.Row.{Due}
+use Rattle.bz_kinds.specs.Riding.{Made}
+use Rattle.bz_kinds.specs.Kept.{plan_of}
+use Rattle.bz_kinds.specs.KeptLists.{slots_of}
+use Rattle.bz_kinds.specs.Comp.{IsAt, IsNarrowDue, StaysAt, Goes, plan_due}
+
+-- a move is due at port p of process c, where this rides on the port's channel
+pub record CanTurn (c : Process) (p : ℕ) (rides : Option ℕ) : Type 0 where
+  pub place : IsAt (plan_of c.plan) c.size c.left c.ports (slots_of c.slots)
+  pub small : c.size < 2 ^ 30
+  pub due : IsNarrowDue (plan_of c.plan) c.size c.left p c.ports
+  pub still : StaysAt (plan_of c.plan) c.size c.left c.ports p rides (slots_of c.slots)
+
+-- what was due at p was made, and left c': this move, which carries this value
+abbrev pub HasMade : Process → ℕ → Option ℕ → Process → Move → Option ℕ → Type 0
+HasMade c p rides c' mv value = (d : Due) → plan_due (plan_of c.plan) c.size c.left p (state_at c.ports p) ≡ Some d → Made d rides (slots_of c.slots) (slots_of c'.slots) mv value
+
+-- and the ports of c' are where it takes them
+abbrev pub HasGone : Process → ℕ → Process → Type 0
+HasGone c p c' = Goes (plan_of c.plan) c.size c.left c.ports p c'.left c'.ports (slots_of c'.slots)
+
+abbrev pub KeepsPlan : Process → Process → Type 0
+KeepsPlan c c' = (c'.plan ≡ c.plan) × (c'.size ≡ c.size)
