@@ -25,4 +25,4 @@ abbrev pub HasGone : Process → ℕ → Process → Type 0
 HasGone c p c' = Goes (plan_of c.plan) c.size c.left c.ports p c'.left c'.ports (slots_of c'.slots)
 
 abbrev pub KeepsPlan : Process → Process → Type 0
-KeepsPlan c c' = (c'.plan ≡ c.plan) × (c'.size ≡ c.size)
+KeepsPlan c c' = (c'.plan ≡ c.plan) × (c'.size ≡ c.size) × (c'.passive ≡ c.passive)

@@ -35,22 +35,23 @@ use bz_model::{Chan, Kind, KindError, Move, Phase, Value};
 use std::alloc::{AllocError, Global};
 use std::marker::Model;
 
-/// A component in a state, seen as its process, its channels and the ports that its own moves have opened. What tells whether it
-/// can move stands in front, so that a look at it reads little memory.
+/// A component in a state, seen as its process, its channels and the ports that its own moves have opened. Its ports stand in
+/// front, so that a look at it reads little memory.
 #[derive(Drop)]
 pub struct Comp {
-    passive: u64,
     proc: Process,
     chans: KeptChans,
 }
 
 // A component's process: its plan and the plan's size, and where it is in it, by its ports, a counter and the values it keeps.
+// `passive` has a bit for each of the first 64 ports of the plan.
 #[derive(Drop)]
 struct Process {
     ports: Ports,
     plan: KeptPlan,
     size: u32,
     left: u32,
+    passive: u64,
     slots: KeptSlots,
 }
 
@@ -74,7 +75,7 @@ impl Model for Comp {
 
     ghost view = { λ c. record { proc = record { todo = todo_of (plan_of c.proc.plan) c.proc.size c.proc.left c.proc.ports; store = slots_of c.proc.slots }; chans = chans_of c.chans; open_ports = map is_open c.proc.ports } };
 
-    ghost invariant = { λ c. IsAt (plan_of c.proc.plan) c.proc.size c.proc.left c.proc.ports (slots_of c.proc.slots) × ((c.proc.size < 2 ^ 30) × IsSensed (plan_of c.proc.plan) c.proc.size 0 c.passive × (places (plan_of c.proc.plan) c.proc.size ≡ suc (length (chans_of c.chans)))) × ((bits : ℕ) × Sends (chans_of c.chans) bits (todo_of (plan_of c.proc.plan) c.proc.size c.proc.left c.proc.ports)) };
+    ghost invariant = { λ c. IsAt (plan_of c.proc.plan) c.proc.size c.proc.left c.proc.ports (slots_of c.proc.slots) × ((c.proc.size < 2 ^ 30) × IsSensed (plan_of c.proc.plan) c.proc.size 0 c.proc.passive × (places (plan_of c.proc.plan) c.proc.size ≡ suc (length (chans_of c.chans)))) × ((bits : ℕ) × Sends (chans_of c.chans) bits (todo_of (plan_of c.proc.plan) c.proc.size c.proc.left c.proc.ports)) };
 }
 
 /// A component of this kind at its start, with arrays of these lengths, on these channels in the order of its ports.
@@ -94,13 +95,10 @@ pub fn start(alloc: Global, kind: &Kind, sizes: [u32; 2], chans: &[Chan]) -> Res
         plan: shape.plan,
         size: shape.legs,
         left: 0,
+        passive,
         slots,
     };
-    Ok(Comp {
-        passive,
-        proc,
-        chans,
-    })
+    Ok(Comp { proc, chans })
 }
 
 /// The move that a component can make next at a port, where its channel allows it.
@@ -320,7 +318,7 @@ pub fn ready_word(comp: &Comp, at: u32, here: u64) -> u64
 {
     let word = comp.proc.ports.word(at);
     let passive = if at == 0 {
-        comp.passive
+        comp.proc.passive
     } else if word.due == 0 {
         return 0;
     } else {
@@ -363,13 +361,10 @@ pub fn dup(alloc: Global, comp: &Comp) -> Result<Comp, KindError>
         plan,
         size: comp.proc.size,
         left: comp.proc.left,
+        passive: comp.proc.passive,
         slots,
     };
-    Ok(Comp {
-        passive: comp.passive,
-        proc,
-        chans,
-    })
+    Ok(Comp { proc, chans })
 }
 
 // The ports of a plan at its start.

@@ -51,5 +51,5 @@ invariant_of-comp c =
     let (phase, (h, on, ok), rides) = c.requires in
     let due = head-on-due _ _ _ _ _ _ _ c.comp.view_is c.comp.invariant.0 c.args.port h on in
     let (at, small, (bits, sends)) = c.comp.invariant in
-    rw c.turn.ensures.kept.0 (rw c.turn.ensures.kept.1
-    (c.turn.ensures.goes.place, small, (bits, still-sends _ _ _ _ _ _ bits at sends c.args.port (due_of h) _ _ _ due c.turn.ensures.goes)))
+    rw c.turn.ensures.kept.0 (rw c.turn.ensures.kept.1 (rw c.turn.ensures.kept.2
+    (c.turn.ensures.goes.place, small, (bits, still-sends _ _ _ _ _ _ bits at sends c.args.port (due_of h) _ _ _ due c.turn.ensures.goes))))

@@ -9,7 +9,7 @@ pub returns-clause-ready : goal.returns-clause-ready
 returns-clause-ready c =
     let known : IsSensed (plan_of c.comp.inside.proc.plan) c.comp.inside.proc.size c.args.at c.if-at-eq0.passive =
     elim c.if-at-eq0.branch [
-      | then-at-eq0 w ↦ as_is _ _ 0 c.args.at c.comp.inside.passive c.if-at-eq0.passive (sym w.if-at-eq0.true) (sym w.passive-is) c.comp.invariant.1.1
+      | then-at-eq0 w ↦ as_is _ _ 0 c.args.at c.comp.inside.proc.passive c.if-at-eq0.passive (sym w.if-at-eq0.true) (sym w.passive-is) c.comp.invariant.1.1
       | else-at-eq0+else-word-eq0 w ↦ as_is _ _ c.args.at c.args.at w.sense_word.result c.if-at-eq0.passive refl (sym w.passive-is) w.sense_word.ensures
     ] in
     ready_at _ _ _ _ _ _ _ c.comp.view_is c.comp.invariant.0 c.args.at c.if-at-eq0.passive c.args.here c.ready.result c.word-word.result known c.word-word.ensures c.ready.ensures
