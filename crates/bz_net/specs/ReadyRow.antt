@@ -1,8 +1,8 @@
 -- Which components can move, as a core keeps it.
-use Rattle.std.specs.Prelude.{List, Bool}
-use Rattle.bz_net.specs.declared.ready_row.KeptReady.{KeptReady}
-use Rattle.bz_net.specs.declared.ready_row.KeptReady.TheVariants.{Listed, Marked}
+use Rattle.std.specs.Prelude.{List, Bool, Option, Some, None}
+use Rattle.bz_ready.specs.Set.{Members}
 
-abbrev pub bits_of : KeptReady → List Bool
-bits_of (Listed set) = set.row
-bits_of (Marked row) = row
+-- those of the set that lists them, or else of the row that marks them
+abbrev pub bits_of : Option Members → List Bool → List Bool
+bits_of (Some set) marks = set.row
+bits_of None marks = marks

@@ -16,20 +16,19 @@ pub(crate) enum Keeping {
     Marked,
 }
 
-#[derive(Drop)]
-pub(crate) enum KeptReady {
-    Listed(ReadySet),
-    Marked(SummedRow),
-}
-
-/// A bit for each component, and one for the number 0, that tells whether it can move. Only `new` takes memory.
+/// A bit for each component, and one for the number 0, that tells whether it can move. Only `new` takes memory. Where they are
+/// listed the row has no bits, so that a search that finds one in it asks for no list.
 pub(crate) struct ReadyRow {
-    kept: KeptReady,
+    marks: SummedRow,
+    listed: Option<ReadySet>,
 }
 
 impl Drop for ReadyRow {
     fn drop(self) {
-        let ReadyRow { kept: _ } = self;
+        let ReadyRow {
+            marks: _,
+            listed: _,
+        } = self;
     }
 }
 
@@ -39,11 +38,11 @@ impl Model for ReadyRow {
 
     ghost Value = { List Bool };
 
-    ghost view = { λ r. bits_of r.kept };
+    ghost view = { λ r. bits_of r.listed r.marks };
 
-    ghost use Rattle.std.specs.Prelude.{◌≤◌, ◌^◌, length};
+    ghost use Rattle.std.specs.Prelude.{◌≡◌, ◌≤◌, ◌^◌, length, IfSome};
 
-    ghost invariant = { λ r. length (bits_of r.kept) ≤ 2 ^ 32 };
+    ghost invariant = { λ r. (length (bits_of r.listed r.marks) ≤ 2 ^ 32) × IfSome r.listed (λ set. length r.marks ≡ 0) };
 }
 
 impl ReadyRow {
@@ -52,18 +51,30 @@ impl ReadyRow {
         requires { limit + 1 < 2 ^ 32 }
         ensures { IfOk result (λ r. r ≡ replicate (limit + 1) false) }
     {
-        let kept = match keeping {
-            Keeping::Listed => KeptReady::Listed(ReadySet::new(alloc, limit)?),
-            Keeping::Marked => KeptReady::Marked(SummedRow::new(alloc, limit as usize + 1)?),
-        };
-        Ok(ReadyRow { kept })
+        match keeping {
+            Keeping::Listed => {
+                let marks = SummedRow::new(alloc, 0)?;
+                let set = ReadySet::new(alloc, limit)?;
+                Ok(ReadyRow {
+                    marks,
+                    listed: Some(set),
+                })
+            }
+            Keeping::Marked => {
+                let marks = SummedRow::new(alloc, limit as usize + 1)?;
+                Ok(ReadyRow {
+                    marks,
+                    listed: None,
+                })
+            }
+        }
     }
 
     /// How it is kept.
     pub(crate) fn keeping(&self) -> Keeping {
-        match &self.kept {
-            KeptReady::Listed(_) => Keeping::Listed,
-            KeptReady::Marked(_) => Keeping::Marked,
+        match &self.listed {
+            Some(_) => Keeping::Listed,
+            None => Keeping::Marked,
         }
     }
 
@@ -71,9 +82,9 @@ impl ReadyRow {
         requires { comp < length self.now }
         ensures { result ≡ slice_index_or self.now comp false }
     {
-        match &self.kept {
-            KeptReady::Listed(set) => set.contains(comp),
-            KeptReady::Marked(row) => row.get(comp as usize),
+        match &self.listed {
+            Some(set) => set.contains(comp),
+            None => self.marks.get(comp as usize),
         }
     }
 
@@ -82,9 +93,9 @@ impl ReadyRow {
         requires { comp < length self.old }
         ensures { self.new ≡ slice_set self.old comp true }
     {
-        match &mut self.kept {
-            KeptReady::Listed(set) => set.insert(comp),
-            KeptReady::Marked(row) => row.raise(comp as usize),
+        match &mut self.listed {
+            Some(set) => set.insert(comp),
+            None => self.marks.raise(comp as usize),
         }
     }
 
@@ -93,9 +104,9 @@ impl ReadyRow {
         requires { comp < length self.old }
         ensures { self.new ≡ slice_set self.old comp false }
     {
-        match &mut self.kept {
-            KeptReady::Listed(set) => set.remove(comp),
-            KeptReady::Marked(row) => row.lower(comp as usize),
+        match &mut self.listed {
+            Some(set) => set.remove(comp),
+            None => self.marks.lower(comp as usize),
         }
     }
 
@@ -103,9 +114,13 @@ impl ReadyRow {
     pub(crate) fn next_from(&self, from: u32) -> Option<u32>
         ensures { IsNextFrom self.now from result }
     {
-        match &self.kept {
-            KeptReady::Listed(set) => set.next_from(from),
-            KeptReady::Marked(row) => next_in(row, from),
+        let found = next_in(&self.marks, from);
+        if found.is_some() {
+            return found;
+        }
+        match &self.listed {
+            Some(set) => set.next_from(from),
+            None => None,
         }
     }
 }
