@@ -86,11 +86,10 @@ fn can_go(comp: &Comp, here: &PortBits, port: u32) -> bool
     ensures goes { MatchBool result (Goes comp.now here.now) (NoneGoes comp.now here.now) }
     ensures turning { IsTurning comp.now }
 {
-    let word = ready_word(comp, 0, here.word(0));
-    if word != 0 {
+    if ready_word(comp, 0, here.word(0)) != 0 {
         return true;
     }
-    if here.word_count() == 1 {
+    if here.word_count() < 2 {
         return false;
     }
     can_go_far(comp, here, port)

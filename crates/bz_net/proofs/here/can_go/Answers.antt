@@ -2,14 +2,14 @@ use Rattle.std.proofs.Common.{arith}
 use Rattle.bz_net.proofs.Telling.{word_goes, word_passes}
 use Rattle.bz_net.proofs.here.can_go.Goals as goal
 
-pub returns-then-word-ne0-clause-goes : goal.returns-then-word-ne0-clause-goes
-returns-then-word-ne0-clause-goes c =
-    word_goes c.args.comp.now c.args.here.now 0 c.ready_word-word.result c.word.result c.ready_word-word.type_inv c.ready_word-word.ensures.ready c.word.ensures (omega (arith, c.if-word-ne0.true)) c.ready_word-word.ensures.held
+pub returns-then-ready_word-ne0-clause-goes : goal.returns-then-ready_word-ne0-clause-goes
+returns-then-ready_word-ne0-clause-goes c =
+    word_goes c.args.comp.now c.args.here.now 0 c.ready_word.result c.word.result c.ready_word.type_inv c.ready_word.ensures.ready c.word.ensures (omega (arith, c.if-ready_word-ne0.true)) c.ready_word.ensures.held
 
 pub can_go_far-requires-clause-near : goal.can_go_far-requires-clause-near
 can_go_far-requires-clause-near c q lt =
-    word_passes c.args.comp.now c.args.here.now 0 c.ready_word-word.result c.word.result c.ready_word-word.type_inv c.ready_word-word.ensures.ready c.word.ensures c.if-word-ne0.false (λ r low. absurd (omega (arith, low))) q (omega (arith, lt))
+    word_passes c.args.comp.now c.args.here.now 0 c.ready_word.result c.word.result c.ready_word.type_inv c.ready_word.ensures.ready c.word.ensures c.if-ready_word-ne0.false (λ r low. absurd (omega (arith, low))) q (omega (arith, lt))
 
-pub returns-then-word_count-eq1-clause-goes : goal.returns-then-word_count-eq1-clause-goes
-returns-then-word_count-eq1-clause-goes c p le can =
-    word_passes c.args.comp.now c.args.here.now 0 c.ready_word-word.result c.word.result c.ready_word-word.type_inv c.ready_word-word.ensures.ready c.word.ensures c.if-word-ne0.false (λ r low. absurd (omega (arith, low))) p (let r = c.requires.room in let n = c.word_count.ensures in let one = c.if-word_count-eq1.true in omega (arith, le, r, n, one)) can
+pub returns-then-word_count-lt2-clause-goes : goal.returns-then-word_count-lt2-clause-goes
+returns-then-word_count-lt2-clause-goes c p le can =
+    word_passes c.args.comp.now c.args.here.now 0 c.ready_word.result c.word.result c.ready_word.type_inv c.ready_word.ensures.ready c.word.ensures c.if-ready_word-ne0.false (λ r low. absurd (omega (arith, low))) p (let r = c.requires.room in let n = c.word_count.ensures in let one = c.if-word_count-lt2.true in omega (arith, le, r, n, one)) can
