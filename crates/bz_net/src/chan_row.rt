@@ -21,7 +21,7 @@ impl ChanRow {
     pub(crate) fn of(alloc: Global, sites: &Arena<FlatComp>) -> Result<ChanRow, AllocError>
         ensures { IfOk result (λ r. InRow (map site_of sites.now) r.starts.items r.row.items) }
     {
-        let mut starts = Vec::new(alloc);
+        let mut starts = Vec::with_capacity(alloc, sites.len())?;
         let mut row = Vec::new(alloc);
         for place in 0..sites.len() {
             let Ok(start) = u32::try_from(row.len()) else {
