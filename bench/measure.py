@@ -7,7 +7,8 @@ Each row is one workload, and where there are two programs, how many times as mu
 that callgrind counts (a part of valgrind): those of a move and of a line that is checked, from the 20,000th to the 220,000th, and
 in millions those of opening and listing a netlist. They are the same each time. Then come times: the best of each program in
 seconds, its memory at its greatest in MB, and its page faults. A row of moves leaves out the time of the same command without
-any. No figure of memory is below that of Python itself, some 15 MB, out of which the programs are started. --counts shows the
+any. No figure of memory is below that of Python itself, some 15 MB, out of which the programs are started. The largest netlists
+are opened a second time with what the launcher tells the C library of memory, as ./breezesim opens them. --counts shows the
 instructions alone, --times the times alone. The netlists are made by netlists.py, in a folder that goes away.
 """
 import os
@@ -123,13 +124,20 @@ class Measured(NamedTuple):
     faults: int
 
 
-def measured(program, arguments, netlist):
+def launcher_settings():
+    """The environment in which the launcher runs a program."""
+    with open(os.path.join(HERE, os.pardir, "breezesim")) as launcher:
+        settings = re.search(r"^settings=(\S+)$", launcher.read(), re.MULTILINE)[1]
+    return {**os.environ, "GLIBC_TUNABLES": settings}
+
+
+def measured(program, arguments, netlist, settings=None):
     """What a call takes; None where the program refuses."""
     rounds = []
     for _ in range(ROUNDS):
         with open(netlist, "rb") as text, tempfile.TemporaryFile() as said:
             begin = time.monotonic()
-            child = subprocess.Popen([program, *arguments], stdin=text, stdout=subprocess.DEVNULL, stderr=said)
+            child = subprocess.Popen([program, *arguments], stdin=text, stdout=subprocess.DEVNULL, stderr=said, env=settings)
             _, status, used = os.wait4(child.pid, 0)
             took = time.monotonic() - begin
             child.returncode = os.waitstatus_to_exitcode(status)
@@ -179,6 +187,7 @@ def times(programs, netlists):
         print(f"{shape}: {os.path.getsize(text)} bytes")
         show(f"{shape}: listed", [measured(p, ["list", "--part", "bench"], text) for p in programs])
         show(f"{shape}: opened", [measured(p, run(["run:0"]), text) for p in programs])
+        show(f"{shape}: opened, as launched", [measured(p, run(["run:0"]), text, launcher_settings()) for p in programs])
 
 
 def main():
