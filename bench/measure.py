@@ -4,10 +4,11 @@
     measure.py [--counts | --times] PROGRAM [OTHER]      MOVES=1000000 and ROUNDS=3 may be set in the environment
 
 Each row is one workload, and where there are two programs, how many times as much the first takes. First come the instructions
-that callgrind counts (a part of valgrind): those of a move and of a line that is checked, from the 20,000th to the 220,000th, and
-in millions those of opening and listing a netlist. They are the same each time. Then come times: the best of each program in
-seconds, its memory at its greatest in MB, and its page faults. A row of moves leaves out the time of the same command without
-any. No figure of memory is below that of Python itself, some 15 MB, out of which the programs are started. The largest netlists
+that callgrind counts (a part of valgrind): those of a move and of a line that is checked, from the 20,000th to the 220,000th, in
+millions those of opening and listing a netlist, and those of a call of a command. They are the same each time. What a program
+refuses, as one that knows fewer commands, has no figure. Then come times: the best of each program in seconds, its memory at its
+greatest in MB, and its page faults. A row of moves leaves out the time of the same command without any. No figure of memory is
+below that of Python itself, some 15 MB, out of which the programs are started. The largest netlists
 are opened a second time with what the launcher tells the C library of memory, as ./breezesim opens them. --counts shows the
 instructions alone, --times the times alone. The netlists are made by netlists.py, in a folder that goes away.
 """
@@ -26,6 +27,9 @@ ROUNDS = int(os.environ.get("ROUNDS", "3"))
 FIRST, COUNTED = 20_000, 200_000
 MOVING = [("pipeline", 10), ("pipeline", 1000), ("loops", 64), ("loops", 4096), ("array", 16), ("array", 4096)]
 OPENED = [("large", 100000), ("pipeline", 10000), ("tree", 100000)]
+# Calls: a command, the netlist, and of how many moves the trace is, where it reads one.
+CALLS = [("list", "large", 20000, 0), ("draw", "pipeline", 800, 0), ("lint", "pipeline", 1000, 0)]
+CALLS += [(command, "pipeline", 10, 1000) for command in ("check", "chart", "page")]
 
 
 def run(words):
@@ -71,7 +75,8 @@ def counted(program, arguments, text):
         ended = subprocess.run(words, stdin=given, stdout=subprocess.DEVNULL, stderr=subprocess.PIPE)
     found = re.search(rb"Collected : (\d+)", ended.stderr)
     if ended.returncode != 0 or found is None:
-        print(f"    {program}: {ended.stderr.decode(errors='replace').strip()}")
+        said = ended.stderr.decode(errors="replace").splitlines()
+        print(f"    {program}:", *(it for it in said if not it.startswith("==")))
         return None
     return int(found[1])
 
@@ -88,7 +93,7 @@ def each(count):
 
 
 def millions(count):
-    return f"{count / 1e6:8.1f} M"
+    return f"{count / 1e6:8.2f} M"
 
 
 def show_each(label, programs, count_of):
@@ -111,6 +116,11 @@ def counts(programs, netlists):
         netlist = netlists.path(shape, size)
         show_counts(f"{shape} {size}: listed", [counted(p, ["list", "--part", "bench"], netlist) for p in programs], millions)
         show_counts(f"{shape} {size}: opened", [counted(p, run(["run:0"]), netlist) for p in programs], millions)
+    for command, shape, size, moves in CALLS:
+        text = netlists.with_trace(programs[0], shape, size, moves) if moves else netlists.path(shape, size)
+        words = [command] if command == "lint" else [command, "--part", "bench"]
+        label = f"{shape} {size}: {command}" + (f" of {moves} moves" if moves else "")
+        show_counts(label, [counted(p, words, text) for p in programs], millions)
 
 
 # Times and memory.
