@@ -1,5 +1,5 @@
 use Rattle.bz_locked.specs.Terms.{terms}
-use Rattle.test_locked.proofs.pair.run_pair.Given as goal
+use Rattle.test_shared.proofs.bench.run.Given as goal
 
 abbrev pub ghosts-start-L-NetLedger : goal.ghosts-start-L-NetLedger
 ghosts-start-L-NetLedger g a = record { terms = terms a.net.wiring a.fuel 2; past = a.opened.0 }

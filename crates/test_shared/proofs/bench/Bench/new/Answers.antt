@@ -1,6 +1,6 @@
 use Rattle.std.proofs.Common.{rules, arith, ap}
 use Rattle.bz_locked.specs.Parts.{WorkerView}
-use Rattle.test_locked.proofs.alone.Alone.new.Goals as goal
+use Rattle.test_shared.proofs.bench.Bench.new.Goals as goal
 
 pub last_worker-requires : goal.last_worker-requires
 last_worker-requires g c k d lt =

@@ -1,5 +1,5 @@
 use Rattle.std.proofs.Common.{◌≡◌}
-use Rattle.test_locked.proofs.pair.work.Given as goal
+use Rattle.test_shared.proofs.threads.work.Given as goal
 
 abbrev pub invariant-loop : goal.invariant-loop
 invariant-loop g l =

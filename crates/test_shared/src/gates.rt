@@ -1,6 +1,8 @@
 //! Gates round a worker's firings.
 
-use crate::calls::{Plan, pool};
+use crate::left::gives;
+use crate::places::{ONE, Place};
+use crate::pools::pool;
 use bz_pool::Gate;
 use std::sync::atomic::{AtomicBool, AtomicU32, Ordering};
 use std::test::Fail;
@@ -22,6 +24,14 @@ const SPIN: &str = "(breeze-part \"spin\" (ports (sync-port \"activate\" passive
   (component \"$BrzLoop\" () (2 4)) (component \"$BrzLoop\" () (3 5))
   (component \"$BrzContinue\" () (4)) (component \"$BrzContinue\" () (5))))
 ";
+
+/// The loops with fuel for 1000 firings.
+const LOOPS: Place = Place {
+    netlist: SPIN,
+    part: "spin",
+    journal: 2000,
+    ..ONE
+};
 
 const TURNS: u32 = 10_000_000;
 
@@ -80,41 +90,40 @@ impl Gate for Holding {
     }
 }
 
-const SPENT: &str = "[Done, Spent(0), Spent(0)] 1000 of 1000 fired
-h1 offer activate done
+const SPENT: &str = "
+ends [Done, Spent(0), Spent(0)]
+records h1 offer activate done
+fired 1000 of 1000 by 2
 ";
 
 #[test]
 fn two_workers_run(rt: HostRuntime) -> Result<(), Fail> {
-    let alloc = rt.alloc();
-    let plan = Plan {
-        netlist: SPIN,
-        part: "spin",
-        journal: 2000,
-        fuel: 1000,
-        workers: 2,
-    };
     let gate = Holding::new();
-    let left = pool(&rt, alloc, plan, &gate, "offer:activate")?;
+    gives(
+        &rt,
+        pool(&rt, rt.alloc(), LOOPS, &gate, "offer:activate"),
+        SPENT,
+    )?;
     assert!(rt; gate.both_fired());
-    assert_eq!(rt; left.tell(alloc)?.as_str(), SPENT);
     Ok(())
 }
 
+const FOLLOWED: &str = "
+components [1, 1, 1, 2, 3, 2, 3, 4, 5, 4, 5, 2, 3, 2, 3]
+";
+
 #[test]
 fn one_worker_follows_its_hints(rt: HostRuntime) -> Result<(), Fail> {
-    let alloc = rt.alloc();
-    let plan = Plan {
-        netlist: SPIN,
-        part: "spin",
-        journal: 2000,
+    let place = Place {
         fuel: 15,
         workers: 1,
+        ..LOOPS
     };
-    let left = pool(&rt, alloc, plan, &Open, "offer:activate")?;
-    let wanted = [1, 1, 1, 2, 3, 2, 3, 4, 5, 4, 5, 2, 3, 2, 3];
-    assert_eq!(rt; left.fired.as_slice(), wanted.as_slice());
-    Ok(())
+    gives(
+        &rt,
+        pool(&rt, rt.alloc(), place, &Open, "offer:activate"),
+        FOLLOWED,
+    )
 }
 
 /// What one of two workers does, the other being held. Who comes first leads: it is held at its first component until the other
@@ -195,17 +204,12 @@ impl Gate for Leading {
 // has no hints. Component 2 is the first that can move, but the hint that is left in the leader's deque is 3.
 #[test]
 fn a_hint_is_stolen(rt: HostRuntime) -> Result<(), Fail> {
-    let alloc = rt.alloc();
-    let plan = Plan {
-        netlist: SPIN,
-        part: "spin",
-        journal: 2000,
-        fuel: 1000,
-        workers: 2,
-    };
     let gate = Leading::new();
-    let left = pool(&rt, alloc, plan, &gate, "offer:activate")?;
+    gives(
+        &rt,
+        pool(&rt, rt.alloc(), LOOPS, &gate, "offer:activate"),
+        SPENT,
+    )?;
     assert_eq!(rt; gate.second(), Some(3));
-    assert_eq!(rt; left.tell(alloc)?.as_str(), SPENT);
     Ok(())
 }
