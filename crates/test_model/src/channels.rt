@@ -5,10 +5,11 @@ use bz_model::{Chan, ChanKind, Expr, Move, Names, Phase, Port, Value, carries, f
 use std::alloc::{AllocError, Global};
 use std::test::Fail;
 
-const MOVES: [Move; 4] = [Move::Ask, Move::Take, Move::Reply, Move::Got];
+/// What moves there may be: Ask, Take, Reply and Got.
+type OfMoves = [bool; 4];
 
 /// Phases, each with whether it allows these moves.
-const ALLOWED: [(Phase, [bool; 4]); 5] = [
+const ALLOWED: [(Phase, OfMoves); 5] = [
     (Phase::Idle, [true, false, true, false]),
     (Phase::Asked(None), [true, true, true, false]),
     (Phase::Taken, [true, false, true, false]),
@@ -16,24 +17,24 @@ const ALLOWED: [(Phase, [bool; 4]); 5] = [
     (Phase::Broken, [true, false, true, false]),
 ];
 
-/// Phases, moves with what they carry, and the phases after them.
-const AFTER: [(Phase, Move, Option<Value>, Phase); 6] = [
-    (Phase::Idle, Move::Ask, Some(5), Phase::Asked(Some(5))),
-    (Phase::Asked(Some(5)), Move::Take, Some(5), Phase::Taken),
-    (Phase::Taken, Move::Reply, None, Phase::Replied(None)),
-    (Phase::Replied(None), Move::Got, None, Phase::Idle),
-    (Phase::Taken, Move::Ask, None, Phase::Broken),
-    (Phase::Broken, Move::Reply, None, Phase::Broken),
-];
-
-/// What a move takes in.
-const INCOMING: [(Phase, Move, Option<Value>); 2] = [
-    (Phase::Asked(Some(5)), Move::Take, Some(5)),
-    (Phase::Taken, Move::Reply, None),
+/// Phases, moves with what they carry, the phases after them, and what they take in.
+const AFTER: [(Phase, Move, Option<Value>, Phase, Option<Value>); 6] = [
+    (Phase::Idle, Move::Ask, Some(5), Phase::Asked(Some(5)), None),
+    (
+        Phase::Asked(Some(5)),
+        Move::Take,
+        Some(5),
+        Phase::Taken,
+        Some(5),
+    ),
+    (Phase::Taken, Move::Reply, None, Phase::Replied(None), None),
+    (Phase::Replied(None), Move::Got, None, Phase::Idle, None),
+    (Phase::Taken, Move::Ask, None, Phase::Broken, None),
+    (Phase::Broken, Move::Reply, None, Phase::Broken, None),
 ];
 
 /// Kinds of channel, each with whether these moves carry a value on it.
-const CARRIED: [(ChanKind, [bool; 4]); 3] = [
+const CARRIED: [(ChanKind, OfMoves); 3] = [
     (ChanKind::Sync, [false, false, false, false]),
     (ChanKind::Push, [true, true, false, false]),
     (ChanKind::Pull, [false, false, true, true]),
@@ -70,43 +71,61 @@ const PULL: Chan = Chan {
     width: 8,
 };
 
-const BY_NAME: [(&[u8], Option<u32>); 3] = [(b"go", Some(1)), (b"i", Some(2)), (b"", None)];
-
-/// Numbers, each with the name and the sense of its port, and with its channel.
-const BY_NUMBER: [(u32, Told<'static>); 4] = [
-    (0, (None, None, None)),
-    (1, (Some(b"go"), Some(true), Some(SYNC))),
-    (2, (Some(b"i"), Some(false), Some(PULL))),
-    (3, (None, None, None)),
+/// Numbers, each with the name and the sense of its port, with its channel, and with the number of the port of that name.
+const PORTS: [(u32, Told<'static>); 4] = [
+    (0, (None, None, None, None)),
+    (1, (Some(b"go"), Some(true), Some(SYNC), Some(1))),
+    (2, (Some(b"i"), Some(false), Some(PULL), Some(2))),
+    (3, (None, None, None, None)),
 ];
+
+fn allowed(phase: Phase) -> OfMoves {
+    [
+        phase.allows(Move::Ask),
+        phase.allows(Move::Take),
+        phase.allows(Move::Reply),
+        phase.allows(Move::Got),
+    ]
+}
 
 #[test]
 fn moves_that_a_phase_allows(rt: HostRuntime) -> Result<(), Fail> {
     for (phase, want) in ALLOWED {
-        for (mv, allowed) in MOVES.into_iter().zip(want) {
-            assert_eq!(rt; phase.allows(mv), allowed);
-        }
+        assert_eq!(rt; allowed(phase), want);
     }
     Ok(())
 }
 
+// The phase after a move, where it is allowed, and what the move takes in.
+fn made(phase: Phase, mv: Move, value: Option<Value>) -> Option<(Phase, Option<Value>)> {
+    if phase.allows(mv) {
+        Some((phase.after(mv, value), phase.incoming(mv)))
+    } else {
+        None
+    }
+}
+
 #[test]
 fn one_handshake(rt: HostRuntime) -> Result<(), Fail> {
-    for (phase, mv, value, after) in AFTER {
-        assert_eq!(rt; phase.after(mv, value), after);
-    }
-    for (phase, mv, value) in INCOMING {
-        assert_eq!(rt; phase.incoming(mv), value);
+    for (phase, mv, value, after, incoming) in AFTER {
+        assert_eq!(rt; made(phase, mv, value), Some((after, incoming)));
     }
     Ok(())
+}
+
+fn carried(kind: ChanKind) -> OfMoves {
+    [
+        carries(kind, Move::Ask),
+        carries(kind, Move::Take),
+        carries(kind, Move::Reply),
+        carries(kind, Move::Got),
+    ]
 }
 
 #[test]
 fn moves_that_carry_a_value(rt: HostRuntime) -> Result<(), Fail> {
     for (kind, want) in CARRIED {
-        for (mv, carried) in MOVES.into_iter().zip(want) {
-            assert_eq!(rt; carries(kind, mv), carried);
-        }
+        assert_eq!(rt; carried(kind), want);
     }
     Ok(())
 }
@@ -149,28 +168,23 @@ fn two_ports(alloc: Global) -> Result<Names, AllocError> {
     Ok(Names::new(ports, chans))
 }
 
-/// The name and the sense of a port, and its channel.
-type Told<'a> = (Option<&'a [u8]>, Option<bool>, Option<Chan>);
-
-fn port(names: &Names, name: &[u8]) -> Option<u32> {
-    names.port(name)
-}
+/// The name and the sense of a port, its channel, and the number of the port of that name.
+type Told<'a> = (Option<&'a [u8]>, Option<bool>, Option<Chan>, Option<u32>);
 
 fn told(names: &Names, number: u32) -> Told<'_> {
+    let name = names.name(number);
     (
-        names.name(number),
+        name,
         names.passive(number),
         names.chan(number),
+        names.port(name.unwrap_or(b"")),
     )
 }
 
 #[test]
 fn ports_by_name_and_number(rt: HostRuntime) -> Result<(), Fail> {
     let names = two_ports(rt.alloc())?;
-    for (name, want) in BY_NAME {
-        assert_eq!(rt; port(&names, name), want);
-    }
-    for (number, want) in BY_NUMBER {
+    for (number, want) in PORTS {
         assert_eq!(rt; told(&names, number), want);
     }
     Ok(())

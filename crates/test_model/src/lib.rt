@@ -1,18 +1,11 @@
-//! Worked examples of channels, expressions, names, words, lines and components alone. Nothing stands on this crate.
+//! Calls that the program doesn't make, and values that no text gives: channels, expressions, names, components, words and traces.
+//! Nothing stands on this crate.
 #![tactic(auto)]
 
 #[cfg(test)]
-mod bench;
-#[cfg(test)]
 mod channels;
 #[cfg(test)]
-mod control;
-#[cfg(test)]
-mod functions;
-#[cfg(test)]
-mod joins;
-#[cfg(test)]
-mod kinds;
+mod components;
 #[cfg(test)]
 mod words;
 #[cfg(test)]

@@ -1,12 +1,9 @@
-//! Traces written from entries, line by line.
-
-ghost use Rattle.std.specs.List.{flat_map};
-ghost use Rattle.bz_trace_text.specs.Writing.{WritesLines};
+//! Traces of the first version, which the program reads and doesn't write, with entries that no run has.
 
 use bz_arena::Arena;
 use bz_model::{Entry, Move, Names, Phase, Port, Reply, Value, Verb, Who};
-use bz_text::{NameForm, WriteFault};
-use bz_trace_text::{put_clashes, put_entries, put_first_line, write_trace_1};
+use bz_text::WriteFault;
+use bz_trace_text::write_trace_1;
 use std::alloc::{AllocError, Global};
 use std::io;
 use std::io::Write;
@@ -168,19 +165,6 @@ const NUMBERS: [(Row, &str); 5] = [
     ),
 ];
 
-/// Names and their name forms.
-const NAME_FORMS: [(&[u8], &str); 9] = [
-    (b"", "%"),
-    (b"i", "i"),
-    (b"!~[0]", "!~[0]"),
-    (b"50%", "50%25"),
-    (b"a:b", "a%3Ab"),
-    (b" \n\t", "%20%0A%09"),
-    (b"\x00\x7f\x80\xff", "%00%7F%80%FF"),
-    (b"\xc3\xa9t\xc3\xa9", "%C3%A9t%C3%A9"),
-    (b"%41", "%2541"),
-];
-
 /// A trace of ports with the names `a b` and nothing.
 const STOPPED: [(Row, &str); 4] = [
     (
@@ -204,21 +188,31 @@ const STOPPED: [(Row, &str); 4] = [
     (Row::Rested(Who::Worker(2)), "w2 rest"),
 ];
 
-/// A trace of a port with the name `i`.
-const PIECES: [(Row, &str); 4] = [
+/// The names of ports, and entries with their lines.
+type Table = (&'static [&'static [u8]], &'static [(Row, &'static str)]);
+
+const WATCHED: Row = Row::Host(1, Verb::Watch, 1, None, Reply::Done);
+
+/// Tables whose traces are written whole: each form, numbers, no entries, and names in name form.
+const TABLES: [Table; 12] = [
+    (&[b"activate", b"i", b"o"], &FORMS),
+    (&[], &NUMBERS),
+    (&[], &[]),
+    (&[b""], &[(WATCHED, "h1 watch % done")]),
+    (&[b"i"], &[(WATCHED, "h1 watch i done")]),
+    (&[b"!~[0]"], &[(WATCHED, "h1 watch !~[0] done")]),
+    (&[b"50%"], &[(WATCHED, "h1 watch 50%25 done")]),
+    (&[b"a:b"], &[(WATCHED, "h1 watch a%3Ab done")]),
+    (&[b" \n\t"], &[(WATCHED, "h1 watch %20%0A%09 done")]),
     (
-        Row::Fired(WORKER, 2, Move::Take, 1, None),
-        "w1 fire 2 take 1",
+        &[b"\x00\x7f\x80\xff"],
+        &[(WATCHED, "h1 watch %00%7F%80%FF done")],
     ),
     (
-        Row::Host(1, Verb::Offer, 1, Some(3), Reply::Done),
-        "h1 offer i 3 done",
+        &[b"\xc3\xa9t\xc3\xa9"],
+        &[(WATCHED, "h1 watch %C3%A9t%C3%A9 done")],
     ),
-    (
-        Row::Fired(WORKER, 4, Move::Ask, 7, Some(5)),
-        "w1 fire 4 ask 7 5",
-    ),
-    (Row::Rested(WORKER), "w1 rest"),
+    (&[b"%41"], &[(WATCHED, "h1 watch %2541 done")]),
 ];
 
 fn entry(row: Row) -> Entry {
@@ -266,57 +260,6 @@ impl Write for Short<'_> {
     }
 }
 
-/// What is written: the names of a net's ports, entries, and the text of their trace.
-#[derive(Drop)]
-struct Job {
-    names: Names,
-    entries: Vec<Entry>,
-    text: String,
-}
-
-impl Job {
-    fn of(alloc: Global, names: &[&[u8]], first: &str, rows: &[(Row, &str)]) -> Result<Job, Fail> {
-        let mut entries = Vec::new(alloc);
-        let mut text = format!(in alloc; "{first}\n")?;
-        for (row, line) in rows {
-            entries.push(entry(*row))?;
-            text.push_str(format!(in alloc; "{line}\n")?.as_str())?;
-        }
-        let names = names_of(alloc, names)?;
-        Ok(Job {
-            names,
-            entries,
-            text,
-        })
-    }
-
-    // What is written of version 1 of the trace, and how that ends, where so many bytes are taken.
-    fn write(&self, alloc: Global, left: usize, fails: bool) -> (Vec<u8>, Result<(), WriteFault>) {
-        let mut got = Vec::new(alloc);
-        let mut out = Short {
-            left,
-            fails,
-            got: &mut got,
-        };
-        let answer = write_trace_1(&self.names, &self.entries, &mut out);
-        (got, answer)
-    }
-
-    // What is written where so many bytes are taken is as much of the text.
-    fn stops(&self, rt: &impl Abort, alloc: Global, left: usize, fails: bool) -> Result<(), Fail> {
-        let whole = self.text.as_bytes();
-        let (got, answer) = self.write(alloc, left, fails);
-        let wanted = if left < whole.len() {
-            Err(WriteFault)
-        } else {
-            Ok(())
-        };
-        assert_eq!(rt; answer, wanted, "after {left} bytes");
-        assert_eq!(rt; got.as_slice(), &whole[..left.min(whole.len())]);
-        Ok(())
-    }
-}
-
 /// The names of a net with ports of these names.
 fn names_of(alloc: Global, list: &[&[u8]]) -> Result<Names, Fail> {
     let mut ports = Vec::new(alloc);
@@ -333,105 +276,111 @@ fn names_of(alloc: Global, list: &[&[u8]]) -> Result<Names, Fail> {
     Ok(Names::new(ports, Arena::new(alloc)))
 }
 
+fn entries_of(alloc: Global, rows: &[(Row, &str)]) -> Result<Vec<Entry>, AllocError> {
+    let mut entries = Vec::new(alloc);
+    for (row, _) in rows {
+        entries.push(entry(*row))?;
+    }
+    Ok(entries)
+}
+
+fn text_of(alloc: Global, rows: &[(Row, &str)]) -> Result<Vec<u8>, AllocError> {
+    let mut text = b"trace 1\n".to_vec(alloc)?;
+    for (_, line) in rows {
+        text.extend_from_slice(line.as_bytes())?;
+        text.push(b'\n')?;
+    }
+    Ok(text)
+}
+
+// What is written where so many bytes are taken, and how that ends.
+fn write(names: &Names, entries: &[Entry], mut out: Short<'_>) -> Result<(), WriteFault> {
+    write_trace_1(names, entries, &mut out)
+}
+
+fn written(
+    alloc: Global,
+    names: &[&[u8]],
+    rows: &[(Row, &str)],
+    left: usize,
+    fails: bool,
+) -> Result<(Vec<u8>, Result<(), WriteFault>), Fail> {
+    let names = names_of(alloc, names)?;
+    let entries = entries_of(alloc, rows)?;
+    let mut got = Vec::new(alloc);
+    let out = Short {
+        left,
+        fails,
+        got: &mut got,
+    };
+    let answer = write(&names, &entries, out);
+    Ok((got, answer))
+}
+
+// What is written where so many bytes are taken, and how that ends.
+fn outcome(
+    alloc: Global,
+    names: &[&[u8]],
+    rows: &[(Row, &str)],
+    left: usize,
+    fails: bool,
+) -> Result<String, Fail> {
+    let (got, answer) = written(alloc, names, rows, left, fails)?;
+    Ok(format!(in alloc; "{}{answer:?}", str::from_utf8(&got)?)?)
+}
+
+// As much of the text, and whether that is all of it.
+fn front(alloc: Global, rows: &[(Row, &str)], left: usize) -> Result<String, Fail> {
+    let text = text_of(alloc, rows)?;
+    let end = if left < text.len() {
+        "Err(WriteFault)"
+    } else {
+        "Ok(())"
+    };
+    let front = &text[..left.min(text.len())];
+    Ok(format!(in alloc; "{}{end}", str::from_utf8(front)?)?)
+}
+
 fn gives(
     rt: &impl Abort,
     alloc: Global,
     names: &[&[u8]],
     rows: &[(Row, &str)],
+    left: usize,
+    fails: bool,
 ) -> Result<(), Fail> {
-    let job = Job::of(alloc, names, "trace 1", rows)?;
-    job.stops(rt, alloc, job.text.len(), true)
+    let got = outcome(alloc, names, rows, left, fails)?;
+    let want = front(alloc, rows, left)?;
+    assert_eq!(rt; got.as_str(), want.as_str(), "after {left} bytes");
+    Ok(())
 }
 
 #[test]
 fn writes_each_form(rt: HostRuntime) -> Result<(), Fail> {
-    gives(&rt, rt.alloc(), &[b"activate", b"i", b"o"], &FORMS)
-}
-
-#[test]
-fn writes_the_first_line_alone(rt: HostRuntime) -> Result<(), Fail> {
-    gives(&rt, rt.alloc(), &[], &[])
-}
-
-#[test]
-fn writes_names_in_name_form(rt: HostRuntime) -> Result<(), Fail> {
-    let alloc = rt.alloc();
-    let row = Row::Host(1, Verb::Watch, 1, None, Reply::Done);
-    for (name, form) in NAME_FORMS {
-        let line = format!(in alloc; "h1 watch {form} done")?;
-        gives(&rt, alloc, &[name], &[(row, line.as_str())])?;
-        let shown = format!(in alloc; "{}", NameForm(name))?;
-        assert_eq!(rt; shown.as_str(), form);
+    for (names, rows) in TABLES {
+        gives(&rt, rt.alloc(), names, rows, usize::MAX, true)?;
     }
     Ok(())
-}
-
-#[test]
-fn writes_numbers_of_each_width(rt: HostRuntime) -> Result<(), Fail> {
-    gives(&rt, rt.alloc(), &[], &NUMBERS)
 }
 
 #[test]
 fn stops_at_each_byte(rt: HostRuntime) -> Result<(), Fail> {
-    let alloc = rt.alloc();
-    let job = Job::of(alloc, &[b"a b", b""], "trace 1", &STOPPED)?;
-    for left in 0..=job.text.len() {
-        for fails in [true, false] {
-            job.stops(&rt, alloc, left, fails)?;
-        }
+    for left in 0..100 {
+        gives(&rt, rt.alloc(), &[b"a b", b""], &STOPPED, left, true)?;
+        gives(&rt, rt.alloc(), &[b"a b", b""], &STOPPED, left, false)?;
     }
     Ok(())
 }
 
-#[test]
-fn shows_its_fault(rt: HostRuntime) -> Result<(), Fail> {
-    let shown = format!(in rt.alloc(); "{WriteFault}")?;
-    assert_eq!(rt; shown.as_str(), "F2 Write");
-    Ok(())
-}
-
-// What is written in two pieces, with clashes behind.
-fn in_pieces(alloc: Global, job: &Job, cut: usize, clashes: &[u32]) -> Result<String, Fail> {
-    let (front, back) = job.entries.split_at(cut.min(job.entries.len()));
-    let mut out = Vec::new(alloc);
-    put_all(&mut out, &job.names, &[front, back])?;
-    put_clashes(&mut out, clashes)?;
-    Ok(String::from_utf8(out)?)
-}
-
-#[test]
-fn writes_in_pieces(rt: HostRuntime) -> Result<(), Fail> {
-    let alloc = rt.alloc();
-    let job = Job::of(alloc, &[b"i"], "trace 2", &PIECES)?;
-    let text = format!(in alloc; "{}clash 8\nclash 12\n", job.text)?;
-    for cut in 0..=job.entries.len() {
-        let got = in_pieces(alloc, &job, cut, &[8, 12])?;
-        assert_eq!(rt; got.as_str(), text.as_str());
-    }
-    Ok(())
-}
+/// Bytes that are taken of 800 lines, which are 17,608 bytes and more than a page.
+const LONG: [usize; 8] = [17_608, 17_607, 16_500, 8105, 8096, 8000, 8, 0];
 
 #[test]
 fn writes_more_than_a_page(rt: HostRuntime) -> Result<(), Fail> {
-    let alloc = rt.alloc();
     let row = Row::Fired(Who::Worker(2), 12, Move::Take, 34, Some(20));
-    let rows = vec![in alloc; (row, "w2 fire 12 take 34 20"); 800]?;
-    let job = Job::of(alloc, &[], "trace 1", &rows)?;
-    assert_eq!(rt; job.text.len(), 17_608);
-    for left in [17_608, 17_607, 16_500, 8105, 8096, 8000, 8, 0] {
-        job.stops(&rt, alloc, left, true)?;
-    }
-    Ok(())
-}
-
-// Writes the first line and the pieces, as a program does that plays them one by one.
-fn put_all<W: Write>(out: &mut W, names: &Names, pieces: &[&[Entry]]) -> Result<(), WriteFault>
-    ensures { WritesLines names.now.ports (W.contents out.old) (W.contents out.new) result
-        (flat_map (λ piece. piece.now) pieces.now) }
-{
-    put_first_line(out)?;
-    for piece in pieces {
-        put_entries(out, names, piece)?;
+    let rows = vec![in rt.alloc(); (row, "w2 fire 12 take 34 20"); 800]?;
+    for left in LONG {
+        gives(&rt, rt.alloc(), &[], &rows, left, true)?;
     }
     Ok(())
 }

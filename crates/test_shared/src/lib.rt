@@ -1,0 +1,21 @@
+//! Shared nets, their sessions and pools of workers as worked examples. Nothing stands on this crate.
+#![tactic(auto)]
+
+#[cfg(test)]
+mod bench;
+#[cfg(test)]
+mod calls;
+#[cfg(test)]
+mod gates;
+#[cfg(test)]
+mod left;
+#[cfg(test)]
+mod limits;
+#[cfg(test)]
+mod pairs;
+#[cfg(test)]
+mod places;
+#[cfg(test)]
+mod pools;
+#[cfg(test)]
+mod threads;
