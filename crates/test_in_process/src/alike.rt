@@ -1,5 +1,5 @@
-//! Netlists whose tree and whose nodes are read alike: those of the rows `marked`, each alone, beside a part that is in order, and in
-//! front of each other; and netlists that are in order.
+//! Netlists whose tree and whose nodes are read alike: those of the rows `marked`, each alone, beside a part that is in order,
+//! and in front of each other; and netlists that are in order.
 
 use crate::tally::Tally;
 use bz_breeze::{BreezeError, Parts};

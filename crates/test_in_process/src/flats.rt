@@ -21,17 +21,11 @@ type ChanRow = (ChanKind, u32, (Option<u32>, u32), (Option<u32>, u32));
 /// A component's kind, the lengths of its arrays, and its channels.
 type CompRow = (&'static str, [u32; 2], &'static [u32]);
 
-const TOP_CHANS: [ChanRow; 1] = [
-    (Sync, 0, (None, 0), (None, 0)),
-];
+const TOP_CHANS: [ChanRow; 1] = [(Sync, 0, (None, 0), (None, 0))];
 
-const KNOT_CHANS: [ChanRow; 1] = [
-    (Sync, 0, (Some(1), 2), (Some(1), 1)),
-];
+const KNOT_CHANS: [ChanRow; 1] = [(Sync, 0, (Some(1), 2), (Some(1), 1))];
 
-const KNOT_COMPS: [CompRow; 1] = [
-    ("Sequence", [1, 0], &[1, 1]),
-];
+const KNOT_COMPS: [CompRow; 1] = [("Sequence", [1, 0], &[1, 1])];
 
 const BUFFER_CHANS: [ChanRow; 8] = [
     (Sync, 0, (None, 0), (Some(2), 1)),
@@ -86,8 +80,8 @@ const TWO_COMPS: [CompRow; 11] = [
     ("Fetch", [0, 0], &[15, 17, 5]),
 ];
 
-/// A part, the numbers of its ports `activate`, `o` and `x`, its channels and components from number 1 on, and how many channels, components,
-/// ports and ends its net is made of.
+/// A part, the numbers of its ports `activate`, `o` and `x`, its channels and components from number 1 on, and how many channels,
+/// components, ports and ends its net is made of.
 #[derive(Clone, Copy)]
 struct Case {
     netlist: &'static str,
@@ -213,7 +207,8 @@ fn is_made_of(flat: Flat, counts: [usize; 4]) -> bool {
 }
 
 /// A part with an instance. (What stands where, `tests/rows` asks of the program.)
-const PLACED: &str = r#"(breeze-part "q" (ports (sync-port "a" passive)) (channels (sync) (sync)) (components (component "$BrzHalt" () (1))))
+const PLACED: &str =
+    r#"(breeze-part "q" (ports (sync-port "a" passive)) (channels (sync) (sync)) (components (component "$BrzHalt" () (1))))
 (breeze-part "p" (ports (sync-port "a" passive)) (channels (sync)) (components (component "q" () (1))))
 "#;
 

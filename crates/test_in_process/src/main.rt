@@ -1,6 +1,7 @@
-//! What the program can't be asked for: readers, writers and memory that fail, pieces of each size, texts whose tree and nodes are read alike,
-//! what is told by values, and faults that no input brings about. For each of these it tells how many cases there are, and how many give
-//! something else than is wanted. All else is asked of the built program by the scripts in `tests`, which read the rows of `data` too.
+//! What the program can't be asked for: readers, writers and memory that fail, pieces of each size, texts whose tree and nodes are
+//! read alike, what is told by values, and faults that no input brings about. For each kind it tells how many cases there are, and
+//! how many give something else than is wanted. All else is asked of the built program by the scripts in `tests`, which read the
+//! rows of `data` too.
 #![tactic(auto)]
 
 mod alike;

@@ -62,16 +62,26 @@ h1 watch i asked
 /// Commands, what they are played on, the trace behind it, and what is told once there is memory enough.
 const CASES: [(Task<'static>, &str, &str, Told); 7] = [
     (Task::RunInPieces("buffer", &WORDS), BUFFER, "", Told::Done),
-    (Task::RunInPieces("buffer", &WORDS), DECORATED, "", Told::Done),
+    (
+        Task::RunInPieces("buffer", &WORDS),
+        DECORATED,
+        "",
+        Told::Done,
+    ),
     (Task::List("buffer"), BUFFER, "", Told::Done),
     (Task::RunInPieces("add", &ADD_WORDS), ADD, "", Told::Done),
-    (Task::RunInPieces("cells", &CELLS_WORDS), CELLS, "", Told::Done),
+    (
+        Task::RunInPieces("cells", &CELLS_WORDS),
+        CELLS,
+        "",
+        Told::Done,
+    ),
     (Task::List("p"), ENDLESS, "", Told::Recursive),
     (Task::Check("buffer"), BUFFER, FIRST_REST, Told::Done),
 ];
 
-/// Lists a part, plays words on it, in pieces, checks a trace, or plays a pool: with no memory, with 16 bytes, and so on, until there is
-/// enough. Before that F3 is told and nothing is written, and then what is with ample memory.
+/// Lists a part, plays words on it, in pieces, checks a trace, or plays a pool: with no memory, with 16 bytes, and so on, until
+/// there is enough. Before that F3 is told and nothing is written, and then what is with ample memory.
 pub fn play<T: Threads + Wait + Sync>(rt: &HostRuntime, threads: &T) {
     let mut tally = Tally::new();
     for (task, netlist, trace, told) in CASES {
@@ -83,7 +93,10 @@ pub fn play<T: Threads + Wait + Sync>(rt: &HostRuntime, threads: &T) {
             Err(_) => tally.count(false),
         }
     }
-    tally.count(matches!(lacks(threads, rt.alloc(), Trial::Pool, Told::Done), Ok(true)));
+    tally.count(matches!(
+        lacks(threads, rt.alloc(), Trial::Pool, Told::Done),
+        Ok(true)
+    ));
     tally.tell(rt, "memory");
 }
 

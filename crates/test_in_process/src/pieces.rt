@@ -1,5 +1,5 @@
-//! Traces that go out in pieces, and those of a net that keeps its journal: whatever the way, the text is that of the command, which
-//! `tests/rows` compares with `pieces.rows`.
+//! Traces that go out in pieces, and those of a net that keeps its journal: whatever the way, the text is that of the command,
+//! which `tests/rows` compares with `pieces.rows`.
 
 ghost use Rattle.std.specs.Prelude.{◌<◌, ◌≤◌};
 
@@ -95,8 +95,8 @@ const REFUSED: [&str; 3] = ["offer:a", "run:5000", "watch:zz"];
 /// Within a piece, and between two.
 const FRONTS: [usize; 9] = [0, 1, 8, 9, 23, 24, 40, 8_000, 60_000];
 
-// A writer that fails within a piece, or between two, has got a front of the whole text, and its fault is told before that of
-// an event.
+// A writer that fails within a piece, or between two, has got a front of the whole text, and its fault is told before that of an
+// event.
 fn fail_at_fronts(alloc: Global, tally: &mut Tally) -> Result<(), Fail> {
     let whole = play_with_journal(alloc, LONG, "long", 9_999, &REFUSED)?;
     for len in FRONTS {

@@ -27,12 +27,7 @@ pub fn whole_of(alloc: Global, task: Task<'_>, input: &[u8]) -> Whole {
 }
 
 /// What a command tells, where what was written goes with it.
-pub fn played(
-    alloc: Global,
-    task: Task<'_>,
-    source: &mut Source<'_>,
-    sink: &mut Sink<'_>,
-) -> Told {
+pub fn played(alloc: Global, task: Task<'_>, source: &mut Source<'_>, sink: &mut Sink<'_>) -> Told {
     let told = told_of(&answer(alloc, task, source, sink));
     sink.held(told)
 }

@@ -41,7 +41,9 @@ pub fn pool<T: Threads + Wait + Sync>(threads: &T, alloc: Global) -> Pooled {
     };
     let mut input = TWO.as_bytes();
     let mut text = Vec::new(alloc);
-    let ends = pool_cmd(threads, alloc, b"two", options, &BOTH, &mut input, &mut text);
+    let ends = pool_cmd(
+        threads, alloc, b"two", options, &BOTH, &mut input, &mut text,
+    );
     let told = told_of(&ends);
     Pooled { text, told }
 }
@@ -89,8 +91,8 @@ fn all_but(alloc: Global, room: usize) -> Result<Vec<Vec<u8>>, AllocError> {
     Ok(blocks)
 }
 
-// What a pool told, where it wrote the trace of a run: of all that there is to play, or of a front of it, which may be nothing, where memory
-// or a thread was wanting.
+// What a pool told, where it wrote the trace of a run: of all that there is to play, or of a front of it, which may be nothing,
+// where memory or a thread was wanting.
 fn told_by_run(alloc: Global, pooled: &Pooled) -> Told {
     let told = pooled.told;
     let is_right = match told {
@@ -106,7 +108,12 @@ fn is_run(alloc: Global, pooled: &Pooled, front: &[u8]) -> bool {
     match [TWO.as_bytes(), b"\n", pooled.text.as_slice()].concat(alloc) {
         Ok(input) => {
             let mut verdict = Vec::new(alloc);
-            let checked = answer(alloc, Task::Check("two"), &mut input.as_slice(), &mut verdict);
+            let checked = answer(
+                alloc,
+                Task::Check("two"),
+                &mut input.as_slice(),
+                &mut verdict,
+            );
             told_of(&checked) == Told::Done && verdict.starts_with(front)
         }
         Err(_) => false,

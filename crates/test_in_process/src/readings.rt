@@ -5,8 +5,8 @@ use crate::tally::Tally;
 use bz_cli_input::{InputFault, read_input};
 use std::alloc::Global;
 
-/// A text of some bytes, how many bytes there are with the blanks behind it, how many come at a time, whether the reader fails behind them,
-/// whether they are read, and how many were.
+/// A text, how many bytes there are with the blanks behind it, how many come at a time, whether the reader fails behind them,
+/// whether they are read, and how many were asked for.
 type Reading = (&'static [u8], usize, usize, bool, bool, usize);
 
 const READINGS: [Reading; 13] = [

@@ -33,8 +33,9 @@ const BOUNDS: &str = r#"(breeze-part "a" (components (component "c"
  (#t #f "true" "false" "True" 340282366920938463463374607431768211455) (4294967295 () (0 4294967295))))
  (channels (push 64) (pull 1) (sync 9)) (ports (sync-port "p" active) (port "" passive)))"#;
 
-/// Its ports and channels, and its component's parameters and entries. (What else a part says, `tests/rows` asks of the program.)
-const BOUNDS_SHOWN: &str = "([Port { name: [112], passive: false }, Port { name: [], passive: true }], \
+/// Its ports and channels, and its component's parameters and entries. (Of other parts `tests/rows` asks the program.)
+const BOUNDS_SHOWN: &str =
+    "([Port { name: [112], passive: false }, Port { name: [], passive: true }], \
     [Chan { kind: Push, width: 64 }, Chan { kind: Pull, width: 1 }, Chan { kind: Sync, width: 0 }], \
     [Flag(true), Flag(false), Flag(true), Flag(false), Word([84, 114, 117, 101]), \
     Num(340282366920938463463374607431768211455)], \
@@ -90,7 +91,12 @@ fn has_bounds(alloc: Global, part: &Part) -> bool {
     match part.components.as_slice() {
         [comp] => {
             let (ports, channels) = (part.ports.as_slice(), part.channels.as_slice());
-            let shown = (ports, channels, comp.params.as_slice(), comp.entries.as_slice());
+            let shown = (
+                ports,
+                channels,
+                comp.params.as_slice(),
+                comp.entries.as_slice(),
+            );
             part.name.as_slice() == b"a".as_slice()
                 && comp.name.as_slice() == b"c".as_slice()
                 && is_shown(alloc, &shown, BOUNDS_SHOWN)

@@ -63,8 +63,8 @@ impl<'a> Sink<'a> {
         self.is_right && self.wanted.is_empty()
     }
 
-    /// What a command told that wrote here, where what was written goes with it: nothing where it lacked input or memory, and all where it
-    /// was done or refused. Where a write was one too many a part was wanting, and else the writer took all that it takes.
+    /// What a command told that wrote here, where what was written goes with it: nothing where it lacked input or memory, and all
+    /// where it was done or refused. Where a write was one too many a part was wanting, and else the writer took all that it takes.
     pub fn held(&self, told: Told) -> Told {
         let agrees = match told {
             Told::Read | Told::Memory => self.taken == 0,

@@ -15,7 +15,9 @@ const MOST: usize = 10_000;
 
 /// The commands on the buffer. (Behind it there is no trace, so the check tells that.)
 const LIST: Task<'static> = Task::List("buffer");
+
 const RUN: Task<'static> = Task::Run("buffer", &["watch:i"]);
+
 const CHECK: Task<'static> = Task::Check("buffer");
 
 /// What fails at a call.
@@ -27,8 +29,9 @@ enum Failing {
     Taker,
 }
 
-/// Lists the buffer, plays words on it, in pieces too, and checks a trace: with a reader that fails at its first call, at its second,
-/// and so on, F1 is told and nothing was written; with a writer that does, or takes no byte there, F2, and a front of the text.
+/// Lists the buffer, plays words on it, in pieces too, and checks a trace: with a reader that fails at its first call, at its
+/// second, and so on, F1 is told and nothing was written; with a writer that does, or takes no byte there, F2, and a front of the
+/// text.
 pub fn play(rt: &HostRuntime) {
     let mut tally = Tally::new();
     let alloc = rt.alloc();
@@ -48,7 +51,13 @@ fn play_failing(alloc: Global, failing: Failing, begun: &[u8], tally: &mut Tally
     let buffer = BUFFER.as_bytes();
     fail_at_each(alloc, LIST, buffer, failing, tally);
     fail_at_each(alloc, Task::Run("buffer", &words), buffer, failing, tally);
-    fail_at_each(alloc, Task::RunInPieces("buffer", &words), buffer, failing, tally);
+    fail_at_each(
+        alloc,
+        Task::RunInPieces("buffer", &words),
+        buffer,
+        failing,
+        tally,
+    );
     fail_at_each(alloc, CHECK, begun, failing, tally);
 }
 
@@ -92,8 +101,8 @@ fn told_after(
     played(alloc, task, &mut source, &mut Sink::new(whole, taking))
 }
 
-/// A command on so many bytes, of which the last are blanks; whether the reader fails behind them, what is told, how many bytes were read, and
-/// how often the reader was asked for more at its end.
+/// A command on so many bytes, of which the last are blanks; whether the reader fails behind them, what is told, how many bytes
+/// were read, and how often the reader was asked for more at its end.
 type Input = (Task<'static>, usize, bool, Told, usize, u32);
 
 /// An input of exactly the limit is taken, and its end is met once. Of a longer one a byte past the limit is read, and no more.
@@ -200,7 +209,12 @@ fn told_by_writer(alloc: Global, task: Task<'_>, place: Place, mut sink: Sink<'_
 
 fn played_on_buffer(alloc: Global, task: Task<'_>, sink: &mut Sink<'_>) -> Told {
     let buffer = BUFFER.as_bytes();
-    played(alloc, task, &mut Source::new(buffer, Giving::all(buffer)), sink)
+    played(
+        alloc,
+        task,
+        &mut Source::new(buffer, Giving::all(buffer)),
+        sink,
+    )
 }
 
 fn told_behind(alloc: Global, task: Task<'_>, sink: Sink<'_>) -> Told {

@@ -39,7 +39,9 @@ impl Tally {
         let _ = if wrong == 0 {
             println!(rt; "{name}: {cases} cases, all as written")
         } else {
-            println!(rt; "{name}: {cases} cases, {wrong} NOT as written, and the first is case {first}")
+            println!(rt;
+                "{name}: {cases} cases, {wrong} NOT as written, and the first is case {first}"
+            )
         };
     }
 }
