@@ -1,5 +1,6 @@
 //! What a flat net tells by number, and what places and lines tell where there are none.
 
+use crate::records::parts_of;
 use crate::shown::is_shown;
 use crate::tally::Tally;
 use bz_breeze_records::Parts;
@@ -207,9 +208,11 @@ fn is_made_of(flat: Flat, counts: [usize; 4]) -> bool {
 }
 
 /// A part with an instance. (What stands where, `tests/rows` asks of the program.)
-const PLACED: &str =
-    r#"(breeze-part "q" (ports (sync-port "a" passive)) (channels (sync) (sync)) (components (component "$BrzHalt" () (1))))
-(breeze-part "p" (ports (sync-port "a" passive)) (channels (sync)) (components (component "q" () (1))))
+const PLACED: &str = r#"
+(breeze-part "q" (ports (sync-port "a" passive)) (channels (sync) (sync))
+ (components (component "$BrzHalt" () (1))))
+(breeze-part "p" (ports (sync-port "a" passive)) (channels (sync))
+ (components (component "q" () (1))))
 "#;
 
 /// Bytes of a text of four lines, in any order, and the line of each.
@@ -229,11 +232,6 @@ pub fn play_places(rt: &HostRuntime) {
         tally.count(counter.line_of(byte) == line);
     }
     tally.tell(rt, "places");
-}
-
-fn parts_of(alloc: Global, text: &str) -> Option<Parts> {
-    let data = bz_sexpr::read(alloc, text.as_bytes()).ok()?;
-    bz_breeze::parts(alloc, data.as_slice()).ok()
 }
 
 fn play_parts(alloc: Global, parts: &Parts, tally: &mut Tally) {
