@@ -9,7 +9,7 @@ use std::fs;
 use test_kit::netlists::BUFFER;
 
 /// A part that is in order, and reaches no other.
-const TOP: &str = "(breeze-part \"top\" (components) (ports) (channels))";
+const TOP: &str = "(breeze-part \"top\" (components) (ports) (channels)) ";
 
 /// A netlist cut in two.
 type Halves<'a> = (&'a str, &'a str);
@@ -43,11 +43,9 @@ fn netlists(alloc: Global, text: &str, tally: &mut Tally) {
     }
 }
 
-// The netlists of a text in which a byte is marked, cut there, behind an empty one and one that is in order.
+// The netlists of a text in which a byte is marked, cut there.
 fn marked<'a>(alloc: Global, text: &'a str) -> Result<Vec<Halves<'a>>, AllocError> {
     let mut marked = Vec::new(alloc);
-    marked.push(("", ""))?;
-    marked.push((TOP, ""))?;
     for line in text.lines() {
         let (_, netlist) = line.split_once("|").unwrap_or(("", ""));
         if let Some(halves) = netlist.trim().split_once("^") {
@@ -57,9 +55,12 @@ fn marked<'a>(alloc: Global, text: &'a str) -> Result<Vec<Halves<'a>>, AllocErro
     Ok(marked)
 }
 
-// Each in front of each.
+// Each alone, behind a part that is in order and in front of it, and in front of each.
 fn pairs(alloc: Global, marked: &[Halves<'_>], tally: &mut Tally) {
     for (front, behind) in marked {
+        tally.count(is_whole_alike(alloc, &[*front, *behind]));
+        tally.count(is_whole_alike(alloc, &[TOP, *front, *behind]));
+        tally.count(is_whole_alike(alloc, &[*front, *behind, TOP]));
         for (next_front, next_behind) in marked {
             let pieces = [*front, *behind, " ", *next_front, *next_behind];
             tally.count(is_whole_alike(alloc, &pieces));

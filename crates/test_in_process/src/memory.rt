@@ -115,7 +115,7 @@ fn lacks_for_task<T: Threads + Wait + Sync>(
 /// What is played with little memory: a command, with its input and what it writes, or a pool.
 #[derive(Clone, Copy)]
 enum Trial<'a> {
-    Task(Task<'a>, &'a [u8], &'a [u8]),
+    Task(Task<'static>, &'a [u8], &'a [u8]),
     Pool,
 }
 

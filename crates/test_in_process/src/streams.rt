@@ -20,6 +20,12 @@ const RUN: Task<'static> = Task::Run("buffer", &["watch:i"]);
 
 const CHECK: Task<'static> = Task::Check("buffer");
 
+const WORDS: [&str; 3] = ["offer:activate", "run:100", "watch:i"];
+
+const PLAY: Task<'static> = Task::Run("buffer", &WORDS);
+
+const PLAY_IN_PIECES: Task<'static> = Task::RunInPieces("buffer", &WORDS);
+
 /// What fails at a call.
 #[derive(Clone, Copy)]
 enum Failing {
@@ -47,17 +53,10 @@ pub fn play(rt: &HostRuntime) {
 }
 
 fn play_failing(alloc: Global, failing: Failing, begun: &[u8], tally: &mut Tally) {
-    let words = ["offer:activate", "run:100", "watch:i"];
     let buffer = BUFFER.as_bytes();
     fail_at_each(alloc, LIST, buffer, failing, tally);
-    fail_at_each(alloc, Task::Run("buffer", &words), buffer, failing, tally);
-    fail_at_each(
-        alloc,
-        Task::RunInPieces("buffer", &words),
-        buffer,
-        failing,
-        tally,
-    );
+    fail_at_each(alloc, PLAY, buffer, failing, tally);
+    fail_at_each(alloc, PLAY_IN_PIECES, buffer, failing, tally);
     fail_at_each(alloc, CHECK, begun, failing, tally);
 }
 
