@@ -10,7 +10,7 @@ use bz_words::SessionError;
 use std::alloc::Global;
 use std::fs;
 
-/// What `told.rs` tells apart, each with its line: all end with status 3.
+/// What `told.rt` tells apart, each with its line: all end with status 3.
 const FAULTS: [(Fault, &str); 4] = [
     (Fault::Read, "F1 Read"),
     (Fault::Write, "F2 Write"),
