@@ -1,7 +1,5 @@
 //! How many cases there are, and how many of them give something else than is wanted.
 
-use std::test::Fail;
-
 /// The cases that were played.
 #[derive(Clone, Copy)]
 pub struct Tally {
@@ -31,20 +29,19 @@ impl Tally {
         }
     }
 
-    /// Tells how many cases there were, and which was the first that is wrong.
-    pub fn tell(self, rt: &HostRuntime, name: &str) -> Result<(), Fail> {
+    /// Tells how many cases there were, and which was the first that is wrong. (What can't be told is missed by who reads it.)
+    pub fn tell(self, rt: &HostRuntime, name: &str) {
         let Tally {
             cases,
             wrong,
             first,
         } = self;
-        if wrong == 0 {
-            println!(rt; "{name}: {cases} cases, all as written")?;
+        let _ = if wrong == 0 {
+            println!(rt; "{name}: {cases} cases, all as written")
         } else {
             println!(rt;
                 "{name}: {cases} cases, {wrong} NOT as written, and the first is case {first}"
-            )?;
-        }
-        Ok(())
+            )
+        };
     }
 }
