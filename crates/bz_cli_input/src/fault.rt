@@ -173,23 +173,24 @@ fn show_net_error<W: fmt::Write>(
     part: NameForm<'_>,
     f: &mut fmt::Formatter<W>,
 ) -> fmt::Result {
-    match error {
-        ElabError::NoPart => write!(f, "E1 NoPart {part}"),
-        ElabError::Recursive(_) => write!(f, "E2 Recursive {part}"),
-        ElabError::UnknownComponent(_, position) => write!(
-            f,
-            "E4 UnknownComponent {part} {position}"
-        ),
-        ElabError::BadParameter(_, position) => write!(f, "E5 BadParameter {part} {position}"),
-        ElabError::PortCount(_, position) => write!(f, "E6 PortCount {part} {position}"),
-        ElabError::BadChannel(_, position) => write!(f, "E7 BadChannel {part} {position}"),
-        ElabError::KindMismatch(_, position) => write!(f, "E9 KindMismatch {part} {position}"),
-        ElabError::WidthMismatch(_, position) => write!(f, "E10 WidthMismatch {part} {position}"),
+    let (refusal, position) = match error {
+        ElabError::NoPart => ("E1 NoPart", None),
+        ElabError::Recursive(_) => ("E2 Recursive", None),
+        ElabError::UnknownComponent(_, position) => ("E4 UnknownComponent", Some(position)),
+        ElabError::BadParameter(_, position) => ("E5 BadParameter", Some(position)),
+        ElabError::PortCount(_, position) => ("E6 PortCount", Some(position)),
+        ElabError::BadChannel(_, position) => ("E7 BadChannel", Some(position)),
+        ElabError::KindMismatch(_, position) => ("E9 KindMismatch", Some(position)),
+        ElabError::WidthMismatch(_, position) => ("E10 WidthMismatch", Some(position)),
         ElabError::TooDeep
         | ElabError::TooBig
         | ElabError::TwoEnds(_)
         | ElabError::LooseEnd(_)
         | ElabError::PortSense(_)
-        | ElabError::Memory => write!(f, "{error}"),
+        | ElabError::Memory => return write!(f, "{error}"),
+    };
+    match position {
+        Some(position) => write!(f, "{refusal} {part} {position}"),
+        None => write!(f, "{refusal} {part}"),
     }
 }
