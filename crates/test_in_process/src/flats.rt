@@ -83,7 +83,6 @@ const TWO_COMPS: [CompRow; 11] = [
 
 /// A part, the numbers of its ports `activate`, `o` and `x`, its channels and components from number 1 on, and how many channels,
 /// components, ports and ends its net is made of.
-#[derive(Clone, Copy)]
 struct Case {
     netlist: &'static str,
     part: &'static str,
@@ -131,7 +130,7 @@ const CASES: [Case; 4] = [
 /// Flat nets, copies of them, and what they are made of.
 pub fn play(rt: &HostRuntime) -> Result<(), Fail> {
     let mut tally = Tally::new();
-    for case in CASES {
+    for case in &CASES {
         let flat = flat_of(rt.alloc(), case.netlist, case.part)?;
         play_flat(rt.alloc(), flat, case, &mut tally);
     }
@@ -139,20 +138,20 @@ pub fn play(rt: &HostRuntime) -> Result<(), Fail> {
     Ok(())
 }
 
-fn play_flat(alloc: Global, flat: Flat, case: Case, tally: &mut Tally) {
+fn play_flat(alloc: Global, flat: Flat, case: &Case, tally: &mut Tally) {
     tally.count(is_told(alloc, &flat, case));
     tally.count(has_copy(alloc, &flat, case));
     tally.count(is_made_of(flat, case.counts));
 }
 
-fn has_copy(alloc: Global, flat: &Flat, case: Case) -> bool {
+fn has_copy(alloc: Global, flat: &Flat, case: &Case) -> bool {
     match flat.dup(alloc) {
         Ok(same) => is_told(alloc, &same, case),
         Err(_) => false,
     }
 }
 
-fn is_told(alloc: Global, flat: &Flat, case: Case) -> bool {
+fn is_told(alloc: Global, flat: &Flat, case: &Case) -> bool {
     let ports = [flat.port(b"activate"), flat.port(b"o"), flat.port(b"x")];
     ports == case.ports && has_chans(flat, case.chans) && has_comps(alloc, flat, case.comps)
 }

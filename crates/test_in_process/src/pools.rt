@@ -51,15 +51,6 @@ pub fn pool<T: Threads + Wait + Sync>(threads: &T, alloc: Global) -> Pooled {
 /// A pool of two sessions and three workers with ever more memory: it lacks some, and then plays to the end.
 pub fn play<T: Threads + Wait + Sync>(rt: &HostRuntime, threads: &T) {
     let mut tally = Tally::new();
-    // (what is taken once need not be taken for each pool)
-    match all_but(rt.alloc(), 1 << 28) {
-        Ok(_blocks) => play_rooms(threads, rt.alloc(), &mut tally),
-        Err(_) => tally.count(false),
-    }
-    tally.tell(rt, "pools");
-}
-
-fn play_rooms<T: Threads + Wait + Sync>(threads: &T, alloc: Global, tally: &mut Tally) {
     let (mut lacking, mut last) = (0u32, Told::Other);
     for step in 0..40 {
         let room = if step < 20 {
@@ -67,8 +58,8 @@ fn play_rooms<T: Threads + Wait + Sync>(threads: &T, alloc: Global, tally: &mut 
         } else {
             8_388_608 * (step - 20)
         };
-        last = match pool_within(threads, alloc, room) {
-            Ok(pooled) => told_by_run(alloc, &pooled),
+        last = match pool_within(threads, rt.alloc(), room) {
+            Ok(pooled) => told_by_run(rt.alloc(), &pooled),
             Err(_) => Told::Other,
         };
         tally.count(last != Told::Other);
@@ -76,6 +67,7 @@ fn play_rooms<T: Threads + Wait + Sync>(threads: &T, alloc: Global, tally: &mut 
     }
     tally.count(last == Told::Done);
     tally.count(lacking > 9);
+    tally.tell(rt, "pools");
 }
 
 // A pool that finds so much memory and no more.

@@ -28,14 +28,14 @@ const READINGS: [Reading; 13] = [
 /// Inputs read up to their end, to the limit, or to where the reader fails.
 pub fn play(rt: &HostRuntime) {
     let mut tally = Tally::new();
-    for reading in READINGS {
+    for reading in &READINGS {
         tally.count(is_read(rt.alloc(), reading));
     }
     tally.tell(rt, "readings");
 }
 
-fn is_read(alloc: Global, reading: Reading) -> bool {
-    let (text, len, at_once, is_cut, is_taken, place) = reading;
+fn is_read(alloc: Global, reading: &Reading) -> bool {
+    let (text, len, at_once, is_cut, is_taken, place) = *reading;
     let giving = Giving {
         len,
         at_once,

@@ -89,7 +89,6 @@ const BOUNDS_COMPS: [CompRow; 1] = [(
 type CompRow = (&'static str, &'static str);
 
 /// A text with one part, the part's name, its ports and channels, and its components.
-#[derive(Clone, Copy)]
 struct Record {
     text: &'static str,
     name: &'static str,
@@ -139,7 +138,7 @@ pub fn play(rt: &HostRuntime) {
             Err(_) => tally.count(false),
         }
     }
-    for record in RECORDS {
+    for record in &RECORDS {
         match parts_of(rt.alloc(), record.text) {
             Some(parts) => tally.count(is_record(rt.alloc(), parts.list(), record)),
             None => tally.count(false),
@@ -160,7 +159,7 @@ pub fn parts_of(alloc: Global, text: &str) -> Option<Parts> {
     }
 }
 
-fn is_record(alloc: Global, list: &[Part], record: Record) -> bool {
+fn is_record(alloc: Global, list: &[Part], record: &Record) -> bool {
     match list {
         [part] => {
             let shown = (part.ports.as_slice(), part.channels.as_slice());

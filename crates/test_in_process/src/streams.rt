@@ -129,14 +129,14 @@ const INPUTS: [Input; 18] = [
 /// Commands on inputs that end in a fault of the reader, or near the limit.
 pub fn play_inputs(rt: &HostRuntime) {
     let mut tally = Tally::new();
-    for input in INPUTS {
+    for input in &INPUTS {
         tally.count(is_taken(rt.alloc(), input));
     }
     tally.tell(rt, "inputs");
 }
 
-fn is_taken(alloc: Global, input: Input) -> bool {
-    let (task, len, is_cut, told, place, ends) = input;
+fn is_taken(alloc: Global, input: &Input) -> bool {
+    let (task, len, is_cut, told, place, ends) = *input;
     let whole = whole_of(alloc, task, BUFFER.as_bytes());
     let giving = Giving {
         len,
