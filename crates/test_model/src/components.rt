@@ -1,6 +1,6 @@
 //! Components by calls that the program doesn't make, and with arrays and channels that no netlist gives.
 
-use bz_kind_rows::{is_passive, kinds_are, sizes_fit, widths_fit};
+use bz_kind_rows::{is_passive, kind_of, kinds_are, sizes_fit, widths_fit};
 use bz_kinds::{Comp, apply, enabled, moves, start};
 use bz_model::{Chan, ChanKind, Kind, Phase};
 use std::alloc::{AllocError, Global};
@@ -137,5 +137,27 @@ fn passive_ports_and_what_is_none(rt: HostRuntime) -> Result<(), Fail> {
         found,
         [[false, true, true, true, true, false], first, first]
     );
+    Ok(())
+}
+
+/// Names, and why there is no kind of that name without parameters.
+const NO_KINDS: [(&[u8], &str); 3] = [
+    (b"$BrzMemory", "K1 UnknownComponent"),
+    (b"$BrzConstant", "K2 BadParameter"),
+    (b"$BrzLoop", ""),
+];
+
+fn why_none(alloc: Global, name: &[u8]) -> Result<String, AllocError> {
+    match kind_of(alloc, name, &[]) {
+        Ok(_) => "".to_string(alloc),
+        Err(error) => format!(in alloc; "{error}"),
+    }
+}
+
+#[test]
+fn why_a_name_is_no_kind(rt: HostRuntime) -> Result<(), Fail> {
+    for (name, want) in NO_KINDS {
+        assert_eq!(rt; why_none(rt.alloc(), name)?.as_str(), want);
+    }
     Ok(())
 }

@@ -37,6 +37,9 @@ fn run<G: Gate + Sync, R: Threads + Wait + Sync>(
         return Err("no such number of workers".into());
     }
     let lists = lists(alloc, words)?;
+    if lists.is_empty() || lists.len() > 16 {
+        return Err("no such number of sessions".into());
+    }
     let net = opened(alloc, place)?;
     let (closed, ends) = run_pool(rt, alloc, net, place.workers, place.fuel, gate, lists)?;
     Ok((closed, ends_told(alloc, ends.as_slice())?))
