@@ -15,17 +15,15 @@ use Rattle.bz_net.specs.declared.event.RestReply.TheVariants.{Rest as IsRest, Re
 use Rattle.bz_net.specs.Simulation.{Simulation, Adds}
 use Rattle.bz_net.specs.Replies.{RefusesFire, RefusesLowest, IsFiring, IsLowestFiring, IsPicked}
 use Rattle.bz_net.specs.Serving.{IsAFiring, Serves, Refuses}
-use Rattle.bz_net.specs.Headline.{Asked, Outcome, Answers, Decides, Offers, Reports, EachInTurn, Headline, entries_of, entry_of, host_entry, last_of}
-use Rattle.bz_net.specs.Unbroken.{UnbrokenRun}
+use Rattle.bz_net.specs.Headline.{Asked, Outcome, Answers, Decides, Offers, Reports, EachInTurn, Headline, BreaksNone, entries_of, entry_of, host_entry, last_of}
+use Rattle.bz_net.specs.Unbroken.{IsUnbroken, UnbrokenRun}
 
 -- events so far, each answered as it is to be
 pub record AnsweredAll (old new : Simulation) (events : List Asked) (answers : List Outcome) : Type 0 where
   pub nets : List Simulation
   pub last : last_of old nets ≡ new
   pub replies : EachInTurn Answers old nets events answers
-
-pub answered_none : (net : Simulation) → AnsweredAll net net [] []
-answered_none net = record { nets = []; last = refl; replies = tt }
+  pub between : EachInTurn BreaksNone old nets events answers
 
 last_push : (net : Simulation) (nets : List Simulation) (next : Simulation) → last_of net (nets ++ next ∷ []) ≡ next
 last_push net [] next = refl
@@ -45,11 +43,12 @@ answered_by : (old new : Simulation) (asked : Asked) (told : Outcome) → IfOk t
 answered_by old new (who, event) (Ok answer) ok cause err = ok
 answered_by old new (who, event) (Err e) ok cause err = (cause, err)
 
-pub answered_more : (old mid new : Simulation) (events : List Asked) (answers : List Outcome) (asked : Asked) (told : Outcome) → AnsweredAll old mid events answers → IfOk told (Serves mid new asked.0 asked.1) → IfErr told (Refuses mid asked.1) → OnErr told (new ≡ mid) → AnsweredAll old new (events ++ asked ∷ []) (answers ++ told ∷ [])
-answered_more old mid new events answers asked told all ok cause err = record {
+pub answered_more : (old mid new : Simulation) (events : List Asked) (answers : List Outcome) (asked : Asked) (told : Outcome) → AnsweredAll old mid events answers → IfOk told (Serves mid new asked.0 asked.1) → IfErr told (Refuses mid asked.1) → OnErr told (new ≡ mid) → IsUnbroken new.state → AnsweredAll old new (events ++ asked ∷ []) (answers ++ told ∷ [])
+answered_more old mid new events answers asked told all ok cause err unbroken = record {
   nets = all.nets ++ new ∷ [];
   last = last_push old all.nets new;
   replies = each_push Answers old all.nets events answers new asked told all.replies (subst (λ n. Answers n new asked told) (sym all.last) (answered_by mid new asked told ok cause err));
+  between = each_push BreaksNone old all.nets events answers new asked told all.between unbroken;
 }
 
 -- what holds of each event that is answered as it is to be
@@ -209,5 +208,6 @@ headline old new events answers all run unbroken =
       run = run;
       offered = each_map Answers Offers offers old all.nets events answers all.replies;
       rest = each_map Answers Reports reports old all.nets events answers all.replies;
-      unbroken = unbroken;
+      ever = unbroken;
+      between = all.between;
     }

@@ -18,7 +18,7 @@ use Rattle.bz_net.specs.declared.event.RestReply.TheVariants.{Rest as IsRest}
 use Rattle.bz_net.specs.Simulation.{Simulation}
 use Rattle.bz_net.specs.Replies.{RefusesEntry}
 use Rattle.bz_net.specs.Serving.{Serves, Refuses}
-use Rattle.bz_net.specs.Unbroken.{UnbrokenRun}
+use Rattle.bz_net.specs.Unbroken.{IsUnbroken, UnbrokenRun}
 
 -- an event of somebody, and what it is told: an answer, or why it is refused
 abbrev pub Asked : Type 0
@@ -52,6 +52,10 @@ Reports old new (who, Step from) (Ok answer) = runs.Rest old.wiring.sites old.st
 Reports old new (who, AskRest) (Err e) = runs.Rest old.wiring.sites old.state × RefusesEntry old e
 Reports old new (who, Step from) (Err e) = RefusesEntry old e
 Reports old new asked told = ⊤
+
+-- no channel is broken after it
+abbrev pub BreaksNone : Simulation → Simulation → Asked → Outcome → Type 0
+BreaksNone old new asked told = IsUnbroken new.state
 
 -- a relation holds of each event in turn, between the net before it and the net after it
 abbrev pub EachInTurn : (Simulation → Simulation → Asked → Outcome → Type 0) → Simulation → List Simulation → List Asked → List Outcome → Type 0
@@ -93,5 +97,6 @@ pub record Headline (old new : Simulation) (events : List Asked) (answers : List
   pub offered : EachInTurn Offers old nets events answers
   -- "rest is reported exactly where none is left"
   pub rest : EachInTurn Reports old nets events answers
-  -- "no channel is ever requested twice before its acknowledgement"
-  pub unbroken : UnbrokenRun new.wiring (opening new.wiring) new.journal new.state
+  -- "no channel is ever requested twice before its acknowledgement": not from the opening on, and not between two of the events
+  pub ever : UnbrokenRun new.wiring (opening new.wiring) new.journal new.state
+  pub between : EachInTurn BreaksNone old nets events answers

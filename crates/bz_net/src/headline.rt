@@ -21,8 +21,10 @@ pub fn play_events(
     let mut answers = Vec::with_capacity(alloc, events.len())?;
     for (who, event) in events {
         answers.push_reserved(net.serve(*who, *event));
+        // A look at the journal brings that no channel is broken here.
+        let _ = net.journal();
     }
-    // The journal tells that it is a run.
+    // And that it tells a run.
     let _ = net.journal();
     Ok(answers)
 }
