@@ -44,7 +44,7 @@ Offers old new (who, Move c p) told = Decides (StepsAt old.wiring.sites old.stat
 Offers old new (who, Fire c) told = Decides (runs.CanStep old.wiring.sites old.state c) old told
 Offers old new asked told = ⊤
 
--- rest is told where no move is enabled, and who asks is told nothing else there, unless the journal was full or memory was wanting
+-- rest is told where no move is enabled, and who asks there is told nothing else, unless the journal was full or memory wanting
 abbrev pub Reports : Simulation → Simulation → Asked → Outcome → Type 0
 Reports old new asked (Ok (Rest IsRest)) = runs.Rest old.wiring.sites old.state
 Reports old new (who, AskRest) (Ok answer) = runs.Rest old.wiring.sites old.state → ⊥
@@ -68,7 +68,7 @@ abbrev pub last_of : Simulation → List Simulation → Simulation
 last_of net [] = net
 last_of net (next ∷ nets) = last_of next nets
 
--- what an event enters into the journal
+-- what an answer enters into the journal
 abbrev pub host_entry : Who → HostCmd → Option ℕ → Reply → List Entry
 host_entry who cmd None reply = []
 host_entry who cmd (Some port) reply = entry.Host who cmd.verb port cmd.value reply ∷ []
@@ -97,6 +97,6 @@ pub record Headline (old new : Simulation) (events : List Asked) (answers : List
   pub offered : EachInTurn Offers old nets events answers
   -- "rest is reported exactly where none is left"
   pub rest : EachInTurn Reports old nets events answers
-  -- "no channel is ever requested twice before its acknowledgement": not from the opening on, and not between two of the events
+  -- "no channel is ever requested twice before its acknowledgement": in no state of a run that the journal tells, after no event
   pub ever : UnbrokenRun new.wiring (opening new.wiring) new.journal new.state
   pub between : EachInTurn BreaksNone old nets events answers
