@@ -1,2 +1,4 @@
 pub mod Sent
 pub mod NameLaws
+pub mod Said
+pub mod JsonLaws

@@ -8,7 +8,7 @@ pub hex_from : (n : ℕ) → 48 ≤ hex_digit n
 unfolding hex_digit
 hex_from n = grind (arith, nat_tests)
 
-hex_same : (m n : ℕ) → hex_digit m ≡ hex_digit n → m ≡ n
+pub hex_same : (m n : ℕ) → hex_digit m ≡ hex_digit n → m ≡ n
 unfolding hex_digit
 hex_same m n e = grind (arith, nat_tests)
 

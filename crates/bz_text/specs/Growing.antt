@@ -6,3 +6,7 @@ abbrev pub Grows : Option (List ℕ) → Option (List ℕ) → List ℕ → Type
 Grows old None bytes = ⊤
 Grows (Some xs) (Some ys) bytes = ys ≡ xs ++ bytes
 Grows None (Some ys) bytes = ⊥
+
+-- the same of one of the texts that may be added
+abbrev pub GrowsBy : (List ℕ → Type 0) → Option (List ℕ) → Option (List ℕ) → Type 0
+GrowsBy may_be old new = (bytes : List ℕ) × may_be bytes × Grows old new bytes

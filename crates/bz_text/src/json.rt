@@ -1,8 +1,7 @@
 //! Texts as JSON has them.
 
 ghost use Rattle.std.specs.Prelude.{codes, ◌++◌};
-ghost use Rattle.std.specs.List.{flat_map};
-ghost use Rattle.bz_text.specs.Json.{json_byte, json_text};
+ghost use Rattle.bz_text.specs.Json.{ReadsAs, json_byte, json_inside, json_text};
 ghost use Rattle.bz_text.specs.Writing.{Writes};
 
 use crate::name_form::hex_digit;
@@ -11,7 +10,10 @@ use std::io::Write;
 
 /// Writes a text as a string of JSON, in its quotes. What is UTF-8 stays so.
 pub fn put_json<W: Write>(out: &mut W, text: &[u8]) -> Result<(), WriteFault>
-    ensures { Writes (W.contents out.old) (W.contents out.new) result (json_text text.now) }
+    ensures writes { Writes (W.contents out.old) (W.contents out.new) result (json_text text.now) }
+
+    // What stands in the string reads back as it was, whatever the text.
+    ensures reads_back { ReadsAs (json_inside text.now) text.now }
 {
     put(out, b"\"")?;
     put_inside(out, text)?;
@@ -19,7 +21,7 @@ pub fn put_json<W: Write>(out: &mut W, text: &[u8]) -> Result<(), WriteFault>
 }
 
 fn put_inside<W: Write>(out: &mut W, text: &[u8]) -> Result<(), WriteFault>
-    ensures { Writes (W.contents out.old) (W.contents out.new) result (flat_map json_byte text.now) }
+    ensures { Writes (W.contents out.old) (W.contents out.new) result (json_inside text.now) }
 {
     for byte in text {
         put_byte(out, *byte)?;

@@ -1,9 +1,10 @@
 //! Text that is put together in memory before it goes out.
 
-ghost use Rattle.std.specs.Prelude.{◌≡◌, None, Some, [], IfErr, IfOk};
-ghost use Rattle.std.specs.List.{flat_map};
-ghost use Rattle.bz_text.specs.Growing.{Grows};
+ghost use Rattle.std.specs.Prelude.{◌≡◌, ⊤, ℕ, Bool, false, List, None, Some, [], IfErr, IfOk, IsTrue};
+ghost use Rattle.std.specs.List.{AllPass, flat_map};
+ghost use Rattle.bz_text.specs.Growing.{Grows, GrowsBy};
 ghost use Rattle.bz_text.specs.Pieces.{piece_text};
+ghost use Rattle.bz_text.specs.Saying.{Says, blanks_to, count_text, width};
 
 use crate::pieces::{Piece, put_pieces};
 use bz_model::Value;
@@ -11,9 +12,6 @@ use std::alloc::{AllocError, Global};
 use std::io;
 use std::io::Write;
 use std::marker::Model;
-
-/// The most blanks between two columns.
-const BLANKS: &[u8] = b"                                                            ";
 
 /// A text that keeps its fault: where memory was refused for a part of it, `whole` answers so.
 #[derive(Drop)]
@@ -34,8 +32,14 @@ impl Model for Text {
 
 /// What can stand for a mark in a form.
 pub trait Put {
+    // whether it is told what this value adds, and which texts that may be
+    ghost is_told: { Self → Bool } = { λ _. false };
+
+    ghost adds: { Self → List ℕ → Type 0 } = { λ _ _. ⊤ };
+
     /// Adds it to a text.
-    fn put(&self, text: &mut Text);
+    fn put(&self, text: &mut Text)
+        ensures { IsTrue (is_told self.now) → GrowsBy (adds self.now) text.old text.new };
 }
 
 impl Text {
@@ -98,29 +102,49 @@ impl Text {
     }
 
     /// Adds a form in which each `%` stands for the next of these.
-    pub fn say<P: Put>(&mut self, form: &str, pieces: &[P]) {
-        let mut words = form.split('%');
-        self.put(words.next().unwrap_or(""));
-        for (piece, words) in pieces.iter().zip(words) {
-            piece.put(self);
+    pub fn say<P: Put>(&mut self, form: &str, pieces: &[P])
+        ensures { AllPass P.is_told pieces.now →
+            GrowsBy (Says P.adds form.now pieces.now) self.old self.new }
+    {
+        let mut rest = form;
+        for piece in pieces {
+            let Some((words, behind)) = rest.split_once('%') else {
+                break;
+            };
             self.put(words);
+            piece.put(self);
+            rest = behind;
         }
+        self.put(rest);
     }
 
     /// Adds a number of things, as `1 line` and `2 lines`.
-    pub fn put_count(&mut self, count: usize, thing: &str) {
-        self.put_pieces(&[Piece::Number(count as Value), Piece::Bytes(b" ")]);
-        self.put(thing);
-        self.put(if count == 1 { "" } else { "s" });
+    pub fn put_count(&mut self, count: usize, thing: &str)
+        ensures { Grows self.old self.new (count_text count thing.now) }
+    {
+        self.put_pieces(&[
+            Piece::Number(count as Value),
+            Piece::Bytes(b" "),
+            Piece::Bytes(thing.as_bytes()),
+            Piece::Bytes(if count == 1 { b"" } else { b"s" }),
+        ]);
     }
 
-    /// Fills the last line with blanks up to a column, with two of them at least.
-    pub fn fill(&mut self, column: usize) {
-        let last = self.bytes.iter().rev().position(|byte| *byte == b'\n');
-        let width = last.unwrap_or(self.bytes.len());
-        let count = column.saturating_sub(width).max(2);
-        self.put_bytes(BLANKS.get(..count).unwrap_or(BLANKS));
+    /// Fills the last line with blanks up to a column, with two of them at least, and 60 at most.
+    pub fn fill(&mut self, column: usize)
+        ensures { Grows self.old self.new (blanks_to column self.old) }
+    {
+        let count = column.saturating_sub(width(&self.bytes)).max(2).min(60);
+        self.put_bytes(&[b' '; 60][..count]);
     }
+}
+
+// How many bytes stand behind the last line feed.
+fn width(bytes: &[u8]) -> usize
+    ensures { result ≡ width bytes.now }
+{
+    let last = bytes.iter().rev().position(|byte| *byte == b'\n');
+    last.unwrap_or(bytes.len())
 }
 
 /// A text takes all that is written to it: what memory is refused for is lost, of which `whole` tells.
