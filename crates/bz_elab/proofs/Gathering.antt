@@ -7,8 +7,8 @@ use Rattle.std.proofs.lemmas.List.Elements.{All-nil, All-head, All-tail, All-app
 use Rattle.std.proofs.lemmas.List.Kept.{AllPairs-cons}
 use Rattle.std.proofs.lemmas.List.Quantifiers.{all_pairs_push}
 use Rattle.bz_flat.specs.declared.error.ElabError.{ElabError}
-use Rattle.bz_elab.specs.Order.{rank, part_of, number_of, Sooner}
-use Rattle.bz_elab.specs.EndFaults.{Adds, AreAll, AreThose}
+use Rattle.bz_elab.specs.Order.{rank, part_of, number_of}
+use Rattle.bz_elab.specs.EndFaults.{Adds, AreAll, AreThose, Sooner}
 use Rattle.bz_elab.proofs.Sites.{get_or-map}
 
 pub those_same : (P Q : ℕ → Type 0) (ks : List ℕ) → ((k : ℕ) → P k → Q k) → ((k : ℕ) → Q k → P k) → AreThose P ks → AreThose Q ks

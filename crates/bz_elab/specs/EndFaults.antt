@@ -9,7 +9,7 @@ use Rattle.bz_flat.specs.declared.error.ElabError.TheVariants.{TwoEnds, LooseEnd
 use Rattle.bz_model.specs.Hosts.{port_is_passive}
 use Rattle.bz_flat.specs.Wires.{HasTwo, IsLoose, IsMisused, IsEnd, IsFoundAt, end_at, end_port_at}
 use Rattle.bz_elab.specs.Numbers.{is_marked}
-use Rattle.bz_elab.specs.Order.{Sooner}
+use Rattle.bz_elab.specs.Order.{NoLater}
 
 -- a refusal is of the ends of a channel
 abbrev pub IsOfEnds : ElabError → Type 0
@@ -24,6 +24,10 @@ IsEndFault sites ports (TwoEnds k) = HasTwo sites k
 IsEndFault sites ports (LooseEnd k) = IsLoose sites ports k
 IsEndFault sites ports (PortSense k) = IsMisused sites ports k
 IsEndFault sites ports e = ⊥
+
+-- e is looked for before q
+abbrev pub Sooner : ElabError → ElabError → Type 0
+Sooner e q = NoLater e q × (e ≢ q)
 
 -- the refusals of which P holds, each once, in the order of refusals
 pub record AreAll (P : ElabError → Type 0) (es : List ElabError) : Type 0 where

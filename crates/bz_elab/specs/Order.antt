@@ -1,5 +1,5 @@
 -- The order in which refusals are looked for: by their kind, and those of one kind by their place.
-use Rattle.std.specs.Prelude.{◌≡◌, ◌≢◌, ℕ, ◌<◌, ◌≤◌, ◌⊎◌, List}
+use Rattle.std.specs.Prelude.{◌≡◌, ℕ, ◌<◌, ◌≤◌, ◌⊎◌, List}
 use Rattle.bz_model.specs.declared.channel.Chan.{Chan}
 use Rattle.bz_breeze_records.specs.declared.part.Part.{Part}
 use Rattle.bz_breeze_records.specs.declared.part.Component.{Component}
@@ -54,10 +54,6 @@ number_of e = 0
 -- e is looked for no later than q
 abbrev pub NoLater : ElabError → ElabError → Type 0
 NoLater e q = (rank e < rank q) ⊎ ((rank e ≡ rank q) × ((part_of e < part_of q) ⊎ ((part_of e ≡ part_of q) × (number_of e ≤ number_of q))))
-
--- e is looked for before q
-abbrev pub Sooner : ElabError → ElabError → Type 0
-Sooner e q = NoLater e q × (e ≢ q)
 
 -- a refusal applies to the part of this name, and it is the first one that does
 pub record Refuses (parts : List Part) (name : List ℕ) (e : ElabError) : Type 0 where

@@ -4,9 +4,9 @@ ghost use Rattle.std.specs.Prelude.{◌≡◌, ◌⊎◌, IfOk, IfErr};
 ghost use Rattle.std.specs.List.{All, AllPairs, Contains};
 ghost use Rattle.bz_flat.specs.declared.error.ElabError.{ElabError};
 ghost use Rattle.bz_flat.specs.declared.error.ElabError.TheVariants.{Memory};
-ghost use Rattle.bz_elab.specs.EndFaults.{IsOfEnds};
+ghost use Rattle.bz_elab.specs.EndFaults.{IsOfEnds, Sooner};
 ghost use Rattle.bz_elab.specs.Growth.{AreComponents};
-ghost use Rattle.bz_elab.specs.Order.{Refuses, Sooner};
+ghost use Rattle.bz_elab.specs.Order.{Refuses};
 ghost use Rattle.bz_elab.specs.Refusals.{Applies};
 
 use crate::check::check;
