@@ -18,10 +18,12 @@ FILES = {
     "spoilt.trace": CELL_TRACE.replace(b"take 1 1", b"take 1 2"),
     "cr.trace": CELL_TRACE.replace(b"trace 2\n", b"trace 2\r\n"),
     "endless.trace": b"trace 2\n" + b"w" * (LIMIT + 1),
+    "ending.trace": b"trace 2\n" + b"w" * 60_000_000 + b"\n" + b"w" * 8_000_000,
 }
 CHECK = ["check", *PART, "--netlist", "cell.breeze", "--trace"]
 RUN = b"run: 2 fired, 1 host, 1 rest\n"
 READ = b"breezesim: F1 Read\n"
+WANTING = b"breezesim: F3 Memory\n"
 SHARED = b"error: standard input cannot have both the netlist and the trace\n"
 NOTES = b"""breezesim: note: the trace is that of spoilt.trace
 breezesim: note: at line 3, column 18 of the trace
@@ -61,6 +63,7 @@ def add_traced(cases):
         ("of a last line without its end", [*CHECK, "-"], CELL_TRACE[:-1], Ran(1, b"not a trace: line 5\n", b"")),
         ("with a netlist in front", [*CHECK, "both"], b"", Ran(1, b"not a trace: line 1\n", b"")),
         ("of a line that is too long", [*CHECK, "endless.trace"], b"", Ran(3, b"", READ)),
+        ("of a long line that ends", [*CHECK, "ending.trace"], b"", Ran(1, b"not a trace: line 2\n", b"")),
         ("that is not there", [*CHECK, "gone"], b"", Ran(2, b"", b"error: cannot read gone: there is no such file\n")),
         ("that is a folder", [*CHECK, "."], b"", Ran(2, b"", b"error: cannot read .: it is a folder\n")),
         ("beside a netlist, both from one", ["check", *PART, "--trace", "-"], CELL, Ran(2, b"", SHARED)),
@@ -82,6 +85,7 @@ def add_traced(cases):
         cases.add(f"--trace, the same {name}", partial(apart_differs, cases, name))
     cases.add("--trace, in pieces of any size", partial(pieces_differ, cases))
     cases.add("--trace, longer than memory", partial(long_differs, cases))
+    cases.add("--trace, a line longer than memory", partial(wanting_differs, cases))
 
 
 def apart_differs(cases, name):
@@ -101,6 +105,12 @@ def pieces_differ(cases):
         if behind != alone:
             return differ(behind, alone)
     return None
+
+
+def wanting_differs(cases):
+    """Where memory is refused for a trace, that is what is told."""
+    limit = partial(resource.setrlimit, resource.RLIMIT_AS, (MEMORY, MEMORY))
+    return differ(Ran(3, b"", WANTING), cases.run([*CHECK, "endless.trace"], preexec_fn=limit))
 
 
 def long_differs(cases):

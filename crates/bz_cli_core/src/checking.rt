@@ -88,7 +88,7 @@ fn check_netlist<T: Read, W: Write>(
     };
     match check_read(alloc, net, trace) {
         Ok((verdict, counts)) => tell(verdict, counts, output),
-        Err(ReadFault::Read) => Err(Fault::Read),
+        Err(ReadFault::Read | ReadFault::TooLong) => Err(Fault::Read),
         Err(ReadFault::Memory) => Err(Fault::Memory),
     }
 }

@@ -11,19 +11,24 @@ use Rattle.bz_breeze.specs.Faults.{Tells, fault_of}
 use Rattle.bz_breeze.specs.Places.{IsLeast}
 use Rattle.bz_flat.specs.declared.error.ElabError.{ElabError}
 use Rattle.bz_flat.specs.declared.error.ElabError.TheVariants.{Recursive, UnknownComponent, BadParameter, PortCount, BadChannel, KindMismatch, WidthMismatch}
-use Rattle.bz_elab.specs.Refusals.{Elaborated}
+use Rattle.bz_elab.specs.Refusals.{Applies, Elaborated}
 use Rattle.bz_elab.specs.Order.{Refuses}
 use Rattle.bz_model.specs.Nets.{Wiring}
 use Rattle.bz_cli_input.specs.declared.fault.Fault.{Fault}
 use Rattle.bz_cli_input.specs.declared.fault.Fault.TheVariants as fault
 
--- The text spells data, the data name parts, and the part of this name has this net.
+-- no refusal applies to the part of this name
+abbrev pub IsSound : List Part → List ℕ → Type 0
+IsSound listed name = (e : ElabError) → Applies listed name e → ⊥
+
+-- The text spells data, the data name parts, and the part of this name has this net. No refusal applies to it.
 pub record Denotes (text name : List ℕ) (w : Wiring) : Type 0 where
   pub forms : List Datum
   pub spelt : ComesTo text (data_are forms)
   pub listed : List Part
   pub read : parts forms ≡ Ok (map part_record listed)
   pub net : Elaborated listed name w
+  pub sound : IsSound listed name
 
 -- The text spells data that name these parts.
 pub record NamesParts (text : List ℕ) (listed : List Part) : Type 0 where

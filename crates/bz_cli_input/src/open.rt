@@ -5,7 +5,7 @@ ghost use Rattle.std.specs.declared.alloc.Global.{Global};
 ghost use Rattle.std.specs.declared.vec.Vec.{Vec};
 ghost use Rattle.bz_cli_input.specs.declared.fault.Fault.{Fault};
 ghost use Rattle.bz_elab.specs.Refusals.{Elaborated};
-ghost use Rattle.bz_cli_input.specs.Opening.{Denotes, NamesParts, RefusesNet, RefusesPart, RefusesText, name_told, part_in};
+ghost use Rattle.bz_cli_input.specs.Opening.{Denotes, IsSound, NamesParts, RefusesNet, RefusesPart, RefusesText, name_told, part_in};
 
 use crate::fault::Fault;
 use bz_breeze::BreezeError;
@@ -47,6 +47,7 @@ fn parts_of(alloc: Global, text: &[u8]) -> Result<Parts, Fault>
 // The flat net of one of these parts.
 fn flat_in(alloc: Global, parts: &Parts, part: &[u8]) -> Result<Flat, Fault>
     ensures ok { IfOk result (λ flat. Elaborated parts.now part.now flat.wiring) }
+    ensures sound { IfOk result (λ flat. IsSound parts.now part.now) }
     ensures err { IfErr result (RefusesPart parts.now part.now) }
 {
     match elaborate(alloc, parts, part) {

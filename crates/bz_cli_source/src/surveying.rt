@@ -7,7 +7,7 @@ ghost use Rattle.bz_cli_source.specs.Surveys.{IsRead, IsSurvey};
 use bz_cli_input::{Fault, in_part};
 use bz_elab::elaborate;
 use bz_flat::{ElabError, Flat};
-use bz_source::{Source, Survey, lines_of};
+use bz_source::{PlacesError, Source, Survey, lines_of};
 use std::alloc::Global;
 
 /// The net of a part of the text, and the parts of that text: of these a survey can be made, where one is wanted.
@@ -35,9 +35,10 @@ pub fn survey_of(alloc: Global, part: &[u8], text: &[u8]) -> Result<(Flat, Surve
     ensures err { IfErr result (RefusesNet text.now part.now) }
 {
     let (flat, source) = net_of(alloc, part, text)?;
-    // a part that has a net has places, so nothing but memory can be wanting
     match source.survey(alloc, part) {
         Ok(survey) => Ok((flat, survey)),
-        Err(_) => Err(Fault::Memory),
+        Err(PlacesError::Memory) => Err(Fault::Memory),
+        // a part that has a net has places
+        Err(PlacesError::NoPart | PlacesError::TooDeep) => unreachable!(),
     }
 }

@@ -91,7 +91,7 @@ first_at parts n top [] m k q at first e is there =
     omega (arith, same, le)
 first_at parts n top (i ∷ up) m k q at first e is there = let (name, named_is) = below_named parts n i m up e in named_first parts name m k q named_is is there
 
-number_within : (parts : List Part) (n : ℕ) (path : Path) (m : ℕ) → n < length parts → number_at parts n path ≡ Some m → m < length parts
+pub number_within : (parts : List Part) (n : ℕ) (path : Path) (m : ℕ) → n < length parts → number_at parts n path ≡ Some m → m < length parts
 number_within parts n [] m lt e = let same : m ≡ n = cc in omega (arith, same, lt)
 number_within parts n (i ∷ up) m lt e = let (name, named_is) = below_named parts n i m up e in named_within parts name m named_is
 

@@ -22,4 +22,5 @@ pub mod Checking
 pub mod Items
 pub mod Looking
 pub mod Ranking
+pub mod Gathering
 pub mod Ending

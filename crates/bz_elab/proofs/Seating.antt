@@ -50,7 +50,7 @@ seated_same sites P Q ends clash to from s = record {
   clashes = s.clashes;
 }
 
-some_is : {o : Option ℕ} {b c : ℕ} → o ≡ Some c → o ≡ Some b → b ≡ c
+pub some_is : {o : Option ℕ} {b c : ℕ} → o ≡ Some c → o ≡ Some b → b ≡ c
 some_is e f = cc
 
 some_not_none : {o : Option ℕ} {c : ℕ} → o ≡ Some c → o ≢ None
@@ -67,7 +67,7 @@ passed_more c p d q is (inl (inl h)) = inl h
 passed_more c p d q is (inl (inr h)) = inr (h.0, omega arith)
 passed_more c p d q is (inr h) = inr (h.0, omega arith)
 
-passed_less : {sites : List Site} (c p d q : ℕ) → IsPort sites d q → Passed c (suc p) d q → OrThis (Passed c p) c (suc p) d q
+pub passed_less : {sites : List Site} (c p d q : ℕ) → IsPort sites d q → Passed c (suc p) d q → OrThis (Passed c p) c (suc p) d q
 passed_less c p d q is (inl h) = inl (inl h)
 passed_less c p d q is (inr h) = elim (eqb_tells q (suc p)) [ inl e ↦ inr (h.0, e.1) | inr e ↦ inl (inr (h.0, omega arith)) ]
 
@@ -149,17 +149,19 @@ end_here sites c site i here from below = record {
   sense = rw (here.is, add-one) refl;
 }
 
+-- what was passed when a component's ports are behind
+pub passed_back : (sites : List Site) (c n : ℕ) (site : Site) → IsHere sites c site → n ≡ length site.chans → (d q : ℕ) → IsPort sites d q → Passed (suc c) 0 d q → Passed c n d q
+passed_back sites c n site here all d q is (inl h) = elim (eqb_tells d c) [
+  | inl e ↦ inr (e.1, let few : q ≤ length (site_at sites d).chans = is.port_to in let few' : q ≤ length site.chans = rw (e.1, here.is) at few in omega arith)
+  | inr e ↦ inl (omega (arith, e.1, h))
+]
+passed_back sites c n site here all d q is (inr h) = let from = is.port_from in absurd (omega (arith, h.1))
+
 passed_suc : (sites : List Site) (c n : ℕ) (site : Site) (ends : List Ends) (clash : ℕ) → IsHere sites c site → n ≡ length site.chans
     → Seated sites (Passed c n) ends clash → Seated sites (Passed (suc c) 0) ends clash
 passed_suc sites c n site ends clash here all = seated_same sites (Passed c n) (Passed (suc c) 0) ends clash
     (λ d q is w. elim w [ inl h ↦ inl (omega arith) | inr h ↦ inl (omega arith) ])
-    (λ d q is w. elim w [
-      | inl h ↦ elim (eqb_tells d c) [
-        | inl e ↦ inr (e.1, let few : q ≤ length (site_at sites d).chans = is.port_to in let few' : q ≤ length site.chans = rw (e.1, here.is) at few in omega arith)
-        | inr e ↦ inl (omega (arith, e.1, h))
-      ]
-      | inr h ↦ let from = is.port_from in absurd (omega (arith, h.1))
-    ])
+    (passed_back sites c n site here all)
 
 pub seated_next : (sites : List Site) (old new : List Ends) (clash least k : ℕ) (c p : ℕ) (side taken : Bool)
     → Seated sites (Passed c p) old clash → Seats old new k side c (p + 1) taken → 0 < k → IsEnd sites k side c (suc p)
@@ -224,17 +226,18 @@ none_at : (side : Bool) → at_side no_ends side ≡ None
 none_at true = refl
 none_at false = refl
 
-none_some : (o : Option ℕ) (c : ℕ) → o ≡ None → o ≡ Some c → ⊥
+pub none_some : (o : Option ℕ) (c : ℕ) → o ≡ None → o ≡ Some c → ⊥
 none_some o c e f = cc
+
+pub none_passed : (sites : List Site) (d q : ℕ) → IsPort sites d q → Passed 1 0 d q → ⊥
+none_passed sites d q is (inl h) = let from = is.comp_from in omega (arith, from, h)
+none_passed sites d q is (inr h) = let from = is.port_from in omega (arith, from, h.1)
 
 -- before any component is looked at the table is empty
 pub seated_none : (sites : List Site) (n : ℕ) → Seated sites (Passed 1 0) (replicate n no_ends) (2 ^ 32 - 1)
 seated_none sites n =
     let empty : (k : ℕ) (side : Bool) → end_at (replicate n no_ends) k side ≡ None = λ k side. ap (λ (e : Ends). at_side e side) (none_in n (k - 1)) ∙ none_at side in
-    let never : (d q : ℕ) → IsPort sites d q → Passed 1 0 d q → ⊥ = λ d q is w. elim w [
-      | inl h ↦ (let from = is.comp_from in omega (arith, from, h))
-      | inr h ↦ (let from = is.port_from in omega (arith, from, h.1))
-    ] in
+    let never = none_passed sites in
     record {
       stands = λ k c side h e. absurd (none_some (end_at (replicate n no_ends) k side) c (empty k side) e);
       seen = λ k c p side h w is. absurd (never c p is.is_port w);

@@ -1,13 +1,12 @@
 //! The ends of each channel: which component holds which.
 
-ghost use Rattle.std.specs.Prelude.{◌≡◌, ◌<◌, ◌≤◌, ◌+◌, ◌-◌, ◌^◌, ℕ, List, true, not, length, map, slice_index_or, IfOk, IfErr, OnOk};
-ghost use Rattle.std.specs.List.{All};
+ghost use Rattle.std.specs.Prelude.{◌≡◌, ◌<◌, ◌≤◌, ◌+◌, ◌-◌, ◌^◌, ℕ, List, Decides, not, length, map, slice_index_or, IfOk, IfErr, OnOk};
 ghost use Rattle.bz_model.specs.Names.{external};
 ghost use Rattle.bz_model.specs.Nets.{Site};
-ghost use Rattle.bz_flat.specs.declared.error.ElabError.TheVariants.{Memory};
+ghost use Rattle.bz_flat.specs.declared.error.ElabError.TheVariants.{Memory, TwoEnds, LooseEnd, PortSense};
 ghost use Rattle.bz_flat.specs.Flats.{site_of, sites_of};
 ghost use Rattle.bz_flat.specs.Wires.{end_at};
-ghost use Rattle.bz_elab.specs.EndFaults.{Adds, AreDoubled, AreEnds, HasOther, HostAt, IsEndFault, OneAt, TwoAt};
+ghost use Rattle.bz_elab.specs.EndFaults.{Adds, AreAll, AreDoubled, AreEnds, AreMarked, HasOther, HostAt, IsEndFault, OneAt, TwoAt};
 ghost use Rattle.bz_elab.specs.Seats.{ChansFit, CompsFit, WellEnded, WiringFault, Seats, Seated, IsHere, Passed};
 
 use bz_arena::{Arena, Id};
@@ -53,7 +52,7 @@ pub fn wire(
     Ok(ends)
 }
 
-/// All that is wrong with the ends of the channels of a net, in the order of refusals.
+/// All that is wrong with the ends of the channels of a net, each once, in the order of refusals.
 pub fn end_faults(
     alloc: Global,
     comps: &Arena<FlatComp>,
@@ -62,7 +61,7 @@ pub fn end_faults(
 ) -> Result<Vec<ElabError>, ElabError>
     requires fit { CompsFit chans (sites_of comps.now) }
     requires ports_to { length ports.now ≤ chans }
-    ensures ok { IfOk result (λ v. All (IsEndFault (sites_of comps.now) (map external ports.now)) v.items) }
+    ensures ok { IfOk result (λ v. AreAll (IsEndFault (sites_of comps.now) (map external ports.now)) v.items) }
     ensures err { IfErr result (λ e. e ≡ Memory) }
 {
     let (ends, _least) = table(alloc, comps, chans)?;
@@ -77,7 +76,7 @@ pub fn end_faults(
 // Adds the channels that are marked.
 fn add_doubled(faults: &mut Vec<ElabError>, doubled: &[bool]) -> Result<(), AllocError>
     requires { length doubled.now < 2 ^ 32 - 1 }
-    ensures { OnOk result (Adds (TwoAt doubled.now) faults.old.items faults.new.items) }
+    ensures { OnOk result (Adds TwoEnds (TwoAt doubled.now) faults.old.items faults.new.items) }
 {
     for (k, is_doubled) in doubled.iter().enumerate() {
         if *is_doubled {
@@ -90,7 +89,7 @@ fn add_doubled(faults: &mut Vec<ElabError>, doubled: &[bool]) -> Result<(), Allo
 // Adds the channels beyond the ports that have one component end alone.
 fn add_loose(faults: &mut Vec<ElabError>, ports: usize, ends: &[Ends]) -> Result<(), AllocError>
     requires { length ends.now < 2 ^ 32 - 1 }
-    ensures { OnOk result (Adds (OneAt ports ends.now) faults.old.items faults.new.items) }
+    ensures { OnOk result (Adds LooseEnd (OneAt ports ends.now) faults.old.items faults.new.items) }
 {
     for k in ports..ends.len() {
         let pair = ends[k];
@@ -105,7 +104,7 @@ fn add_loose(faults: &mut Vec<ElabError>, ports: usize, ends: &[Ends]) -> Result
 fn add_misused(faults: &mut Vec<ElabError>, ports: &[Port], ends: &[Ends]) -> Result<(), AllocError>
     requires few { length ends.now < 2 ^ 32 - 1 }
     requires ports_to { length ports.now ≤ length ends.now }
-    ensures { OnOk result (Adds (HostAt (map external ports.now) ends.now) faults.old.items faults.new.items) }
+    ensures { OnOk result (Adds PortSense (HostAt (map external ports.now) ends.now) faults.old.items faults.new.items) }
 {
     for (k, port) in ports.iter().enumerate() {
         if at_host(ends, k, port.passive).is_some() {
@@ -128,7 +127,8 @@ fn at_host(ends: &[Ends], before: usize, passive: bool) -> Option<u32>
 fn doubled(alloc: Global, comps: &Arena<FlatComp>, ends: &[Ends]) -> Result<Vec<bool>, AllocError>
     requires fit { CompsFit (length ends.now) (sites_of comps.now) }
     requires stand { AreEnds (sites_of comps.now) ends.now }
-    ensures { IfOk result (λ v. (length v.items ≡ length ends.now) × AreDoubled (sites_of comps.now) v.items) }
+    ensures doubled { IfOk result (λ v. (length v.items ≡ length ends.now) × AreDoubled (sites_of comps.now) v.items) }
+    ensures all { IfOk result (λ v. AreMarked (sites_of comps.now) (Passed (length comps.now + 1) 0) ends.now v.items) }
 {
     let mut marks = vec![in alloc; false; ends.len()]?;
     for i in 0..comps.len() {
@@ -145,6 +145,7 @@ fn mark_doubled(ends: &[Ends], comp: &FlatComp, number: u32, marks: &mut [bool])
     requires within { ChansFit (length ends.now) comp.now.chans.items }
     ensures same { length marks.new ≡ length marks.old }
     ensures doubled { (sites : List Site) → IsHere sites number (site_of comp.now) → AreEnds sites ends.now → AreDoubled sites marks.old → AreDoubled sites marks.new }
+    ensures all { (sites : List Site) → IsHere sites number (site_of comp.now) → AreMarked sites (Passed number 0) ends.now marks.old → AreMarked sites (Passed number (length comp.now.chans.items)) ends.now marks.new }
 {
     for (i, chan) in comp.chans.iter().enumerate() {
         let port = i as u32 + 1;
@@ -159,7 +160,7 @@ fn mark_doubled(ends: &[Ends], comp: &FlatComp, number: u32, marks: &mut [bool])
 fn is_other(ends: &[Ends], chan: u32, passive: bool, comp: u32, port: u32) -> bool
     requires from { 0 < chan }
     requires to { chan ≤ length ends.now }
-    ensures { result ≡ true → HasOther ends.now chan passive comp port }
+    ensures { Decides result (HasOther ends.now chan passive comp port) }
 {
     let pair = ends[chan as usize - 1];
     let (stands, at) = if passive {

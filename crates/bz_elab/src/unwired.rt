@@ -1,8 +1,10 @@
 //! The components of a part's net, whatever the ends of its channels, and all that is wrong with these.
 
 ghost use Rattle.std.specs.Prelude.{◌≡◌, ◌⊎◌, IfOk, IfErr};
-ghost use Rattle.std.specs.List.{All};
+ghost use Rattle.std.specs.List.{All, AllPairs, Contains};
+ghost use Rattle.bz_flat.specs.declared.error.ElabError.{ElabError};
 ghost use Rattle.bz_flat.specs.declared.error.ElabError.TheVariants.{Memory};
+ghost use Rattle.bz_elab.specs.EndFaults.{IsOfEnds, Sooner};
 ghost use Rattle.bz_elab.specs.Growth.{AreComponents};
 ghost use Rattle.bz_elab.specs.Order.{Refuses};
 ghost use Rattle.bz_elab.specs.Refusals.{Applies};
@@ -27,6 +29,8 @@ pub struct Unwired {
 pub fn unwired_net(alloc: Global, parts: &Parts, top: &[u8]) -> Result<Unwired, ElabError>
     ensures comps { IfOk result (λ u. AreComponents parts.now top.now u.comps) }
     ensures faults { IfOk result (λ u. All (Applies parts.now top.now) u.faults.items) }
+    ensures all { IfOk result (λ u. (e : ElabError) → IsOfEnds e → Applies parts.now top.now e → Contains u.faults.items e) }
+    ensures order { IfOk result (λ u. AllPairs Sooner u.faults.items) }
     ensures err { IfErr result (λ e. (e ≡ Memory) ⊎ Refuses parts.now top.now e) }
 {
     let Some(number) = find(parts, top) else {

@@ -17,12 +17,15 @@ use Rattle.bz_flat.specs.Wires.{WellWired}
 use Rattle.bz_net.specs.Keeping.{Keeps}
 use Rattle.bz_net.specs.Noted.{Notes, MeetBefore, NotedAt, NotedMove}
 use Rattle.bz_net.proofs.Clashing.{clashed_fired, clashed_commanded, clashed_rested, clashed_opening, noted_most}
-use Rattle.bz_net.proofs.Soundness.{Run-push}
+use Rattle.bz_net.specs.Unbroken.{IsUnbroken}
+use Rattle.bz_net.proofs.Opening.{unbroken_opening}
+use Rattle.bz_net.proofs.Soundness.{Run-push, UnbrokenRun-last, UnbrokenRun-push}
 
 pub keeps_opening : (w : Wiring) (s : State) (journal : List Entry) (limit : ℕ) (notes : Notes) → WellWired w → s ≡ opening w → journal ≡ [] → notes.numbers ≡ [] → notes.most ≡ length w.sites → Keeps w s journal limit notes
 keeps_opening w s journal limit notes wired opened none unnoted most = rw none (record {
   wired = wired;
   run = opened;
+  unbroken = (unbroken_opening w, opened);
   within = omega arith;
   most = most;
   clashed = clashed_opening w notes.numbers unnoted;
@@ -32,23 +35,25 @@ keeps_opening w s journal limit notes wired opened none unnoted most = rw none (
 pub keeps_same : (w w' : Wiring) (s s' : State) (journal journal' : List Entry) (limit : ℕ) (notes notes' : Notes) → w' ≡ w → s' ≡ s → journal' ≡ journal → notes' ≡ notes → Keeps w s journal limit notes → Keeps w' s' journal' limit notes'
 keeps_same w w' s s' journal journal' limit notes notes' e f g h keeps = rw (e, f, g, h) keeps
 
-pub keeps_fired : (w w' : Wiring) (s next : State) (journal : List Entry) (limit : ℕ) (old new : Notes) (who : Who) (c p k : ℕ) (mv : Move) (value : Option ℕ) → w' ≡ w → Keeps w s journal limit old → length journal < limit → Step w.sites s c p k mv value next → MeetBefore w.sites s.phases next.phases mv → NotedMove w'.sites next.phases old new k mv → Keeps w' next (journal ++ Fired who c p k mv value ∷ []) limit new
-keeps_fired w w' s next journal limit old new who c p k mv value same keeps place step before noted =
+pub keeps_fired : (w w' : Wiring) (s next : State) (journal : List Entry) (limit : ℕ) (old new : Notes) (who : Who) (c p k : ℕ) (mv : Move) (value : Option ℕ) → w' ≡ w → Keeps w s journal limit old → length journal < limit → Step w.sites s c p k mv value next → IsUnbroken next → MeetBefore w.sites s.phases next.phases mv → NotedMove w'.sites next.phases old new k mv → Keeps w' next (journal ++ Fired who c p k mv value ∷ []) limit new
+keeps_fired w w' s next journal limit old new who c p k mv value same keeps place step whole before noted =
     let here : NotedMove w.sites next.phases old new k mv = subst (λ (v : Wiring). NotedMove v.sites next.phases old new k mv) same noted in
     rw same (record {
       wired = keeps.wired;
       run = Run-push w (opening w) journal s (Fired who c p k mv value) next keeps.run step;
+      unbroken = UnbrokenRun-push w (opening w) journal s (Fired who c p k mv value) next keeps.unbroken step whole;
       within = simp length-append (omega arith);
       most = noted_most w.sites next.phases old new k mv here ∙ keeps.most;
       clashed = clashed_fired w s next journal who c p k mv value keeps.wired keeps.run step old new keeps.clashed before here;
     })
 
-pub keeps_commanded : (w w' : Wiring) (s next : State) (journal : List Entry) (limit : ℕ) (old new : Notes) (who : Who) (verb : Verb) (port : ℕ) (value : Option ℕ) (reply : Reply) → w' ≡ w → Keeps w s journal limit old → length journal < limit → HostStep w s verb port value reply next → NotedAt w'.sites next.phases old new port → Keeps w' next (journal ++ Host who verb port value reply ∷ []) limit new
-keeps_commanded w w' s next journal limit old new who verb port value reply same keeps place step noted =
+pub keeps_commanded : (w w' : Wiring) (s next : State) (journal : List Entry) (limit : ℕ) (old new : Notes) (who : Who) (verb : Verb) (port : ℕ) (value : Option ℕ) (reply : Reply) → w' ≡ w → Keeps w s journal limit old → length journal < limit → HostStep w s verb port value reply next → IsUnbroken next → NotedAt w'.sites next.phases old new port → Keeps w' next (journal ++ Host who verb port value reply ∷ []) limit new
+keeps_commanded w w' s next journal limit old new who verb port value reply same keeps place step whole noted =
     let here : NotedAt w.sites next.phases old new port = subst (λ (v : Wiring). NotedAt v.sites next.phases old new port) same noted in
     rw same (record {
       wired = keeps.wired;
       run = Run-push w (opening w) journal s (Host who verb port value reply) next keeps.run step;
+      unbroken = UnbrokenRun-push w (opening w) journal s (Host who verb port value reply) next keeps.unbroken step whole;
       within = simp length-append (omega arith);
       most = here.most ∙ keeps.most;
       clashed = clashed_commanded w s next journal who verb port value reply keeps.wired keeps.run step old new keeps.clashed here;
@@ -58,6 +63,7 @@ pub keeps_rested : (w : Wiring) (s : State) (journal : List Entry) (limit : ℕ)
 keeps_rested w s journal limit notes who keeps place rest = record {
   wired = keeps.wired;
   run = Run-push w (opening w) journal s (Rested who) s keeps.run (rest, refl);
+  unbroken = UnbrokenRun-push w (opening w) journal s (Rested who) s keeps.unbroken (rest, refl) (UnbrokenRun-last w (opening w) journal s keeps.unbroken);
   within = simp length-append (omega arith);
   most = keeps.most;
   clashed = clashed_rested w s journal who keeps.run rest notes keeps.clashed;

@@ -22,4 +22,5 @@ pub mod Moving
 pub mod Cores
 pub mod Foreseeing
 pub mod Kept
+pub mod Events
 pub mod Pieces

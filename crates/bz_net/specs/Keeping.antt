@@ -18,6 +18,7 @@ use Rattle.bz_model.specs.Processes.{start_of}
 use Rattle.bz_flat.specs.Wires.{WellWired, at_side, ends_in}
 use Rattle.bz_model.specs.Clashes.{ClashesIn}
 use Rattle.bz_net.specs.Noted.{Notes}
+use Rattle.bz_net.specs.Unbroken.{UnbrokenRun}
 
 abbrev pub proc_of : Component → Proc
 proc_of c = c.proc
@@ -119,6 +120,7 @@ pub record CommandedAt (sites : List Site) (ends : List Ends) (comps : List Comp
 pub record Keeps (w : Wiring) (s : State) (journal : List Entry) (limit : ℕ) (notes : Notes) : Type 0 where
   pub wired : WellWired w
   pub run : Run w (opening w) journal s
+  pub unbroken : UnbrokenRun w (opening w) journal s
   pub within : length journal ≤ limit
   pub most : notes.most ≡ length w.sites
   pub clashed : (c : ℕ) → Contains notes.numbers c ↔ ClashesIn w (opening w) journal c

@@ -12,6 +12,7 @@ ghost use Rattle.bz_net.specs.Ends.{TellsEnds, TellsPort, IsSolePort};
 ghost use Rattle.bz_net.specs.Noted.{MeetBefore, NotedAt, NotedMove};
 ghost use Rattle.bz_net.specs.Sides.{answers};
 ghost use Rattle.bz_net.specs.Told.{MayMove, MovesAt};
+ghost use Rattle.bz_net.specs.Unbroken.{IsUnbroken};
 
 use crate::chan_row::ChanRow;
 use crate::here::{command, has_step, lowest_port, mark_all, move_comp};
@@ -282,6 +283,7 @@ impl Core {
         ensures from { 0 < result.0 }
         ensures to { result.0 ≤ length self.old.wiring.chans }
         ensures met { MeetBefore self.old.wiring.sites self.old.state.phases self.new.state.phases result.1 }
+        ensures unbroken { IsUnbroken self.new.state }
     {
         move_comp(
             &self.sites,
@@ -304,6 +306,7 @@ impl Core {
         ensures from { 0 < result.0 }
         ensures to { result.0 ≤ length self.old.wiring.chans }
         ensures met { MeetBefore self.old.wiring.sites self.old.state.phases self.new.state.phases result.1 }
+        ensures unbroken { IsUnbroken self.new.state }
     {
         let (chan, mv, value, _) = self.fire(comp, Some(port));
         (chan, mv, value)
@@ -317,6 +320,7 @@ impl Core {
         ensures wiring { self.new.wiring ≡ self.old.wiring }
         ensures step { HostStep self.old.wiring self.old.state verb port value result self.new.state }
         ensures within { port ≤ length self.old.wiring.chans }
+        ensures unbroken { IsUnbroken self.new.state }
     {
         command(
             &self.sites,

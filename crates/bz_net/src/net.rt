@@ -16,6 +16,7 @@ ghost use Rattle.bz_net.specs.Replies.{Admits, RefusesAt, RefusesEntry, RefusesF
 ghost use Rattle.bz_net.specs.Resting.{TellsRest};
 ghost use Rattle.bz_net.specs.Running.{Ran};
 ghost use Rattle.bz_net.specs.Serving.{Serves, Refuses};
+ghost use Rattle.bz_net.specs.Unbroken.{UnbrokenRun};
 ghost use Rattle.bz_model.specs.Clashes.{AreClashed};
 
 use crate::core_net::Core;
@@ -307,6 +308,7 @@ impl Net {
     pub fn journal(&self) -> &[Entry]
         ensures entries { result.now ≡ self.now.journal }
         ensures run { Run self.now.wiring (opening self.now.wiring) self.now.journal self.now.state }
+        ensures unbroken { UnbrokenRun self.now.wiring (opening self.now.wiring) self.now.journal self.now.state }
         ensures within { length self.now.journal ≤ self.now.limit }
         ensures wired { WellWired self.now.wiring }
     {

@@ -64,7 +64,7 @@ found netlist trace part plan source (Ok (net, s)) denotes read judged places =
     subst (λ w. IsRead netlist part w s.parts s.lines.items) places.wiring
     (subst (λ l. IsRead netlist part plan.wiring s.parts l.items) (sym places.lines) (subst (λ p. IsRead netlist part plan.wiring p source.lines.items) (sym places.parts) read)) in
     record {
-      placed = record { survey = record { source = read-here; places = places.places }; wired = places.wired; ends = places.ends };
+      placed = record { survey = record { source = read-here; places = places.places; named = places.named }; wired = places.wired; ends = places.ends };
       judged = subst (λ w. Judges w trace verdict.Run) places.wiring judged;
       few = places.few;
     }

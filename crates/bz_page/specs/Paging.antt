@@ -6,6 +6,7 @@ use Rattle.bz_flat.specs.Flats.{Plan, site_of}
 use Rattle.bz_flat.specs.Wires.{EndsOf, WellWired}
 use Rattle.bz_flat.specs.declared.flat.Pieces.{Pieces}
 use Rattle.bz_source.specs.Found.{Locates}
+use Rattle.bz_source.specs.Net.{FindsNamed}
 use Rattle.bz_source.specs.declared.source.Source.{Source}
 use Rattle.bz_source.specs.declared.survey.Survey.{Survey}
 use Rattle.bz_trace.specs.declared.checking.Verdict.{Verdict}
@@ -63,6 +64,7 @@ pub record IsPlacedOf (name : List ℕ) (plan : Plan) (source : Source) (net : P
   pub parts : s.parts ≡ source.parts
   pub lines : s.lines ≡ source.lines
   pub places : Locates s.parts name s.places
+  pub named : FindsNamed s.parts name s.places
   pub few : length net.comps ≤ 100000
 
 -- There are such pieces and places, or the net has more components than a page holds, or memory was refused.

@@ -2,3 +2,4 @@ pub mod Walking
 pub mod LineCounts
 pub mod Net
 pub mod Fronts
+pub mod Missing

@@ -3,6 +3,7 @@
 ghost use Rattle.std.specs.Prelude.{◌≡◌, ◌⊎◌, IfOk, IfErr};
 ghost use Rattle.bz_source.specs.declared.error.PlacesError.TheVariants.{Memory};
 ghost use Rattle.bz_source.specs.Found.{Locates, Misses};
+ghost use Rattle.bz_source.specs.Net.{FindsNamed};
 
 use crate::error::PlacesError;
 use crate::lines::PartLines;
@@ -31,6 +32,7 @@ impl Source {
         ensures parts { IfOk result (λ s. s.parts ≡ self.parts) }
         ensures lines { IfOk result (λ s. s.lines ≡ self.lines) }
         ensures places { IfOk result (λ s. Locates self.parts part.now s.places) }
+        ensures net { IfOk result (λ s. FindsNamed self.parts part.now s.places) }
         ensures err { IfErr result (λ e. (e ≡ Memory) ⊎ Misses self.parts part.now e) }
     {
         let Source { parts, lines } = self;

@@ -1,6 +1,6 @@
 -- A trace that a reader gives piece by piece.
 use Rattle.std.proofs.Common.{◌≡◌, ◌≢◌, Bool, true, false, ℕ, ◌+◌, ◌<◌, ◌≤◌, ◌-◌, ◌*◌, List, [], ◌∷◌, ◌++◌, length, Option, Some, None, refl, sym, ap, ap₂, subst, ◌∙◌, arith, append_assoc, length-append, ◌⊎◌, inl, inr}
-use Rattle.std.specs.Prelude.{IfOk, IfSome, OnOk, Result, Ok, Err}
+use Rattle.std.specs.Prelude.{IfErr, IfOk, IfSome, OnOk, Result, Ok, Err}
 use Rattle.std.specs.Io.KnownBytes.{Consumes, IsAtEnd}
 use Rattle.std.proofs.lemmas.List.{append-nil}
 use Rattle.bz_model.specs.Names.{Outside}
@@ -11,7 +11,7 @@ use Rattle.bz_trace_text.specs.declared.text.Version.{Version}
 use Rattle.bz_trace_text.specs.declared.text.Version.TheVariants.{One, Two}
 use Rattle.bz_trace_text.specs.declared.text.TheConstants.{MAX_ENTRIES}
 use Rattle.bz_trace_text.specs.Reading.{line_at}
-use Rattle.bz_trace_text.specs.Texts.{IsBad, NoEntry, first_line}
+use Rattle.bz_trace_text.specs.Texts.{IsBad, NoEntry, first_line, lines}
 use Rattle.bz_trace.specs.declared.lines.Followed.{Followed}
 use Rattle.bz_trace_text.specs.declared.tally.Counts.{Counts}
 use Rattle.bz_trace.specs.declared.checking.Verdict.{Verdict}
@@ -19,7 +19,8 @@ use Rattle.bz_trace.specs.declared.checking.Verdict.TheVariants as verdict
 use Rattle.bz_trace.specs.declared.reading.ReadFault.{ReadFault}
 use Rattle.bz_trace.specs.Verdicts.{CountsRun, Judges, JudgesBy}
 use Rattle.bz_trace.specs.Following.{FollowsText, GetsOn, NoneToFollow}
-use Rattle.bz_trace.specs.Reading.{Comes, HasEnd, IsOther, ReadsMore}
+use Rattle.bz_trace.specs.declared.reading.ReadFault.TheVariants as fault
+use Rattle.bz_trace.specs.Reading.{AwaitsMore, Comes, HasEnd, IsOther, IsTooLong, ReadsMore}
 use Rattle.bz_trace.proofs.Along.{bad_here, cons_same, counts_run, follows_longer, follows_start, judges}
 use Rattle.bz_trace.proofs.Ends.{no_entry_on}
 use Rattle.bz_trace.proofs.Sole.{one_verdict_or_memory}
@@ -85,6 +86,20 @@ bad_line old new names w net v front got held followed taken follows none other 
     subst (λ t. IsBad (outside w) (first_line v ++ t) (followed.count + 2)) (append_assoc front got left)
     (bad_here names w net v ((front ++ got) ++ left) (held ++ left) followed (follows_longer names w net (front ++ got) held followed left follows) (no_end held left other.0) (no_entry names (outside w) held left followed follows.names_are other.0 none) (other.1 left)))
 
+-- where more is held than can be, and it is no line yet, it is too long
+pub too_long : (old new : Option (List ℕ)) (names : Outside) (w : Wiring) (net : Progress) (v : Version) (front got held : List ℕ) (followed : Followed) → Consumes old new got → FollowsText names w net (front ++ got) held followed → 67108864 < length held → AwaitsMore v held
+    → IfSome old (λ more. IsTooLong w (first_line v ++ (front ++ more)))
+too_long old new names w net v front got held followed taken follows long awaits =
+    whatever_comes old new got (λ more. IsTooLong w (first_line v ++ (front ++ more))) taken (λ left. record {
+      version = v;
+      entries = follows.entries;
+      held = held;
+      more = left;
+      text_is = ap (λ t. first_line v ++ t) (sym (append_assoc front got left) ∙ ap (λ t. t ++ left) follows.text_is ∙ append_assoc (lines w.ports follows.entries) held left);
+      long = long;
+      awaits = awaits;
+    })
+
 -- ---- the first line
 
 front_within : (p text more rest : List ℕ) → length p ≤ length text → text ++ more ≡ p ++ rest → (r : List ℕ) × (text ≡ p ++ r)
@@ -112,7 +127,7 @@ held_within old new text rest most (inl same) fits = let is = ap length same.1 i
 held_within old new text rest most (inr more) fits = let less = more.1 in omega (arith, less, fits)
 
 -- more lines are followed or more is held
-pub falls : (old new : Followed) (text rest piece later : List ℕ) → GetsOn old new text rest → later ≡ rest ++ piece → 0 < length piece → length text ≤ 67108864 → new.count ≤ 16777216
+pub falls : (old new : Followed) (text rest piece later : List ℕ) → GetsOn old new text rest → later ≡ rest ++ piece → 0 < length piece → length rest ≤ 67108864 → new.count ≤ 16777216
     → (16777216 - new.count) * 67108865 + (67108865 - length later) < (16777216 - old.count) * 67108865 + (67108865 - length text)
 falls old new text rest piece later (inl same) is some fits within =
     let count = same.0 in
@@ -122,7 +137,9 @@ falls old new text rest piece later (inl same) is some fits within =
     omega (arith, count, whole, long, sum, some, fits, within)
 falls old new text rest piece later (inr more) is some fits within =
     let count = more.0 in
-    omega (arith, count, fits, within)
+    let long = ap length is in
+    let sum = length-append rest piece in
+    omega (arith, count, long, sum, some, within)
 
 -- ---- what is said of all that the reader had
 
@@ -197,3 +214,15 @@ judged_behind w (Some xs) None held later text lines front version goal came (Ok
 judged_behind w (Some xs) (Some ys) held later text lines front version goal came (Ok said) empty (piece, taken, is, comes) whole begins front_is judged =
     let piece_is : piece ≡ first_line version ++ front = ap (λ (l : List ℕ). l ++ piece) (sym empty) ∙ sym is ∙ sym whole ∙ begins ∙ ap (λ (l : List ℕ). first_line version ++ l) (sym front_is) in
     subst (λ (t : List ℕ). JudgesBy w t said.1 said.0) (sym (taken ∙ ap (λ (l : List ℕ). l ++ ys) piece_is ∙ append_assoc (first_line version) front ys)) judged
+
+-- and so does that they are too long
+pub long_behind : {A : Type 0} (w : Wiring) (old mid : Option (List ℕ)) (held later text lines front : List ℕ) (version : Version) (goal : ℕ) (came : Bool) (answer : Result A ReadFault)
+    → held ≡ [] → ReadsMore old mid held later goal came → text ≡ later → text ≡ first_line version ++ lines → front ≡ lines
+    → IfErr answer (λ e. e ≡ fault.TooLong → IfSome mid (λ more. IsTooLong w (first_line version ++ (front ++ more))))
+    → IfErr answer (λ e. e ≡ fault.TooLong → IfSome old (IsTooLong w))
+long_behind w old mid held later text lines front version goal came (Ok said) empty reads whole begins front_is long = tt
+long_behind w None mid held later text lines front version goal came (Err e) empty reads whole begins front_is long = λ so. tt
+long_behind w (Some xs) None held later text lines front version goal came (Err e) empty (piece, taken, is, comes) whole begins front_is long = absurd taken
+long_behind w (Some xs) (Some ys) held later text lines front version goal came (Err e) empty (piece, taken, is, comes) whole begins front_is long =
+    let piece_is : piece ≡ first_line version ++ front = ap (λ (l : List ℕ). l ++ piece) (sym empty) ∙ sym is ∙ sym whole ∙ begins ∙ ap (λ (l : List ℕ). first_line version ++ l) (sym front_is) in
+    λ so. subst (λ (t : List ℕ). IsTooLong w t) (sym (taken ∙ ap (λ (l : List ℕ). l ++ ys) piece_is ∙ append_assoc (first_line version) front ys)) (long so)

@@ -1,15 +1,15 @@
 //! The check of a trace that a reader gives, of which only a piece is held.
 
-ghost use Rattle.std.specs.Prelude.{◌≡◌, ◌≢◌, ◌⊎◌, ◌<◌, ◌++◌, ℕ, List, [], length, IfOk, IfSome, IsTrue, OnOk};
+ghost use Rattle.std.specs.Prelude.{◌≡◌, ◌≢◌, ◌⊎◌, ◌<◌, ◌++◌, ℕ, List, [], false, length, IfErr, IfOk, IfSome, IsTrue, OnOk};
 ghost use Rattle.bz_model.specs.Limits.{max_entries};
 ghost use Rattle.bz_model.specs.Nets.{Wiring, outside};
 ghost use Rattle.bz_flat.specs.Wires.{WellWired};
 ghost use Rattle.bz_net.specs.Progress.{IsToldBy};
 ghost use Rattle.bz_trace_text.specs.Texts.{first_line};
 ghost use Rattle.bz_trace.specs.Following.{FollowsText, GetsOn, IsFollowed, NoneToFollow};
-ghost use Rattle.bz_trace.specs.Reading.{IsOther, ReadsMore};
+ghost use Rattle.bz_trace.specs.Reading.{AwaitsMore, IsOther, IsTooLong, ReadsMore};
 ghost use Rattle.bz_trace.specs.Verdicts.{CountsRun, Judges, JudgesBy};
-ghost use Rattle.bz_trace.specs.declared.reading.ReadFault.TheVariants.{Memory};
+ghost use Rattle.bz_trace.specs.declared.reading.ReadFault.TheVariants.{Memory, TooLong};
 
 use crate::checking::{Verdict, verdict_behind};
 use crate::lines::{Followed, play_lines};
@@ -31,8 +31,9 @@ const FIRST_LINE: usize = 8;
 /// Why a trace could not be read.
 #[derive(Clone, Copy, Debug, PartialEq, Eq)]
 pub enum ReadFault {
-    /// The reader failed, or a line is too long to be held, or the lines behind the last entry are.
     Read,
+    /// A line is too long to be held, or the lines behind the last entry are.
+    TooLong,
     Memory,
 }
 
@@ -56,6 +57,7 @@ pub fn check_read<R: Read>(
         (v : Verdict) → Judges flat.wiring text v → v ≢ Verdict.Memory → (said.0 ≡ v) ⊎ (said.0 ≡ Verdict.Memory))) }
     ensures counted { IfOk result (λ said. IfSome (R.remaining input.old) (λ text.
         said.0 ≡ Verdict.Run → CountsRun flat.wiring text said.1)) }
+    ensures long { IfErr result (λ e. e ≡ TooLong → IfSome (R.remaining input.old) (IsTooLong flat.wiring)) }
 {
     read_text(alloc, flat, input)
 }
@@ -67,6 +69,7 @@ fn read_text<R: Read>(
 ) -> Result<(Verdict, Counts), ReadFault>
     ensures judged { IfOk result (λ said. IfSome (R.remaining input.old) (λ text. JudgesBy flat.wiring text said.1 said.0)) }
     ensures wired { OnOk result (WellWired flat.wiring) }
+    ensures long { IfErr result (λ e. e ≡ TooLong → IfSome (R.remaining input.old) (IsTooLong flat.wiring)) }
 {
     let Ok(mut net) = Play::open(alloc, flat, MAX_ENTRIES as u32) else {
         return Err(ReadFault::Memory);
@@ -99,15 +102,20 @@ fn check_lines_of<R: Read>(
     requires left { net.old.left ≡ max_entries }
     requires names { names.now ≡ outside net.old.wiring }
     requires wired { WellWired net.old.wiring }
-    ensures { IfOk result (λ said. IfSome (R.remaining input.old)
+    ensures judged { IfOk result (λ said. IfSome (R.remaining input.old)
         (λ more. JudgesBy net.old.wiring (first_line version ++ (front.items ++ more)) said.1 said.0)) }
+    ensures long { IfErr result (λ e. e ≡ TooLong → IfSome (R.remaining input.old)
+        (λ more. IsTooLong net.old.wiring (first_line version ++ (front.items ++ more)))) }
 {
     let mut held = front;
     let mut followed = Followed::NONE;
-    'following: while held.len() <= MOST_HELD {
+    'following: loop {
         followed = follow_held(alloc, net, names, followed, &mut held)?;
         if is_other(version, held.as_slice()) {
             return Ok((Verdict::Bad(followed.count + 2), followed.counts));
+        }
+        if held.len() > MOST_HELD {
+            return Err(ReadFault::TooLong);
         }
         let goal = (2 * held.len() + 1).min(MOST_HELD + 1);
         if !read_more(input, &mut held, goal)? {
@@ -115,7 +123,6 @@ fn check_lines_of<R: Read>(
             return Ok((verdict, followed.counts));
         }
     }
-    Err(ReadFault::Read)
 }
 
 // Follows the lines of entries that are held, and holds what stands behind them.
@@ -143,7 +150,8 @@ fn follow_held(
 
 // Whether a whole line stands at the front that is no clash line.
 fn is_other(version: Version, rest: &[u8]) -> bool
-    ensures { IsTrue result → IsOther version rest.now }
+    ensures other { IsTrue result → IsOther version rest.now }
+    ensures none { result ≡ false → AwaitsMore version rest.now }
 {
     if !rest.contains(&b'\n') {
         return false;
@@ -160,7 +168,8 @@ fn is_other(version: Version, rest: &[u8]) -> bool
 // Reads on until so many bytes are held, or to the end. Whether anything came.
 fn read_more<R: Read>(input: &mut R, held: &mut Vec<u8>, goal: usize) -> Result<bool, ReadFault>
     requires { length held.old.items < goal }
-    ensures { IfOk result (ReadsMore (R.remaining input.old) (R.remaining input.new) held.old.items held.new.items goal) }
+    ensures more { IfOk result (ReadsMore (R.remaining input.old) (R.remaining input.new) held.old.items held.new.items goal) }
+    ensures err { IfErr result (λ e. e ≢ TooLong) }
 {
     let before = held.len();
     let mut piece = [0u8; PIECE];

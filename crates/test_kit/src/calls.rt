@@ -3,7 +3,7 @@
 
 use bz_model::{Entry, HostCmd, Move, NetError, Reply, Value, Verb, Who};
 use bz_net::{Answer, Event, Net, Piece, Play, RestReply, RunEnd};
-use std::alloc::Global;
+use std::alloc::{AllocError, Global};
 
 const HOST: Who = Who::Host(1);
 
@@ -57,6 +57,15 @@ pub fn serve_host(net: &mut Net, event: Event<'_>) -> Result<Answer, NetError> {
 /// An event that worker 1 makes.
 pub fn serve_worker(net: &mut Net, event: Event<'_>) -> Result<Answer, NetError> {
     net.serve(WORKER, event)
+}
+
+/// Events of anybody, one after another.
+pub fn play_events(
+    alloc: Global,
+    net: &mut Net,
+    events: &[(Who, Event<'_>)],
+) -> Result<Vec<Result<Answer, NetError>>, AllocError> {
+    bz_net::play_events(alloc, net, events)
 }
 
 pub fn reserve(net: &mut Net, count: usize) -> Result<(), NetError> {

@@ -31,7 +31,7 @@ fn told(alloc: Global, bench: &mut impl Bench, table: &str) -> Result<String, Fa
         let (row, _) = line.split_once("|").unwrap_or((line, ""));
         told.push_str(row)?;
         if row.len() < line.len() {
-            let mut words = Words { rest: row };
+            let mut words = Words::new(row);
             let name = words.text();
             let answer = bench.call(alloc, name, &mut words)?;
             told.push_str("| ")?;
@@ -94,6 +94,11 @@ pub struct Words<'a> {
 }
 
 impl<'a> Words<'a> {
+    /// The words of a row.
+    pub fn new(row: &'a str) -> Words<'a> {
+        Words { rest: row }
+    }
+
     /// The next word, which is empty where there is none.
     pub fn text(&mut self) -> &'a str {
         let (word, rest) = self.rest.split_once(" ").unwrap_or((self.rest, ""));

@@ -4,6 +4,8 @@
 #[cfg(test)]
 mod bench;
 #[cfg(test)]
+mod listed;
+#[cfg(test)]
 mod net_bench;
 #[cfg(test)]
 mod nets;

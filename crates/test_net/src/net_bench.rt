@@ -181,7 +181,8 @@ fn work(alloc: Global, net: &mut Net, words: &mut Words<'_>) -> Result<String, F
     served(alloc, serve_worker(net, event(words)))
 }
 
-fn event(words: &mut Words<'_>) -> Event<'static> {
+/// An event of a worker.
+pub fn event(words: &mut Words<'_>) -> Event<'static> {
     let name = words.text();
     let number = words.number();
     match name {
@@ -195,7 +196,8 @@ fn event(words: &mut Words<'_>) -> Event<'static> {
     }
 }
 
-fn served(alloc: Global, answer: Result<Answer, NetError>) -> Result<String, Fail> {
+/// What an event is told.
+pub fn served(alloc: Global, answer: Result<Answer, NetError>) -> Result<String, Fail> {
     Ok(match answer {
         Ok(Answer::Fired(entry)) => entry_text(alloc, &entry)?,
         Ok(answer) => format!(in alloc; "{answer:?}")?,

@@ -8,7 +8,7 @@ returns-in_err-parts-clause-err c =
     rw (p.1, p.2) (text_refused c.args.text.now c.args.part.now _ c.in_err-parts.ensures.err)
 
 pub returns-clause-ok : goal.returns-clause-ok
-returns-clause-ok c = denoted c.args.text.now c.args.part.now _ c.in_ok-parts.ensures.ok (λ flat. flat.wiring) _ c.flat_in.ensures.ok
+returns-clause-ok c = denoted c.args.text.now c.args.part.now _ c.in_ok-parts.ensures.ok (λ flat. flat.wiring) _ c.flat_in.ensures.ok c.flat_in.ensures.sound
 
 pub returns-clause-err : goal.returns-clause-err
 returns-clause-err c = refused c.args.text.now c.args.part.now _ c.in_ok-parts.ensures.ok _ c.flat_in.ensures.err

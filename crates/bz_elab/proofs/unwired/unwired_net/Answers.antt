@@ -7,7 +7,7 @@ use Rattle.bz_elab.proofs.Numbering.{named_first}
 use Rattle.bz_elab.proofs.Checking.{refuses_no_part, refuses_named, walk_refuses}
 use Rattle.bz_elab.proofs.Soundness.{part_read}
 use Rattle.bz_elab.proofs.Wiring.{comps_fit, ports_within}
-use Rattle.bz_elab.proofs.Ending.{all_apply}
+use Rattle.bz_elab.proofs.Ending.{all_apply, those_apply}
 use Rattle.bz_elab.proofs.unwired.unwired_net.Goals as goal
 
 pub returns-in_default-clause-err : goal.returns-in_default-clause-err
@@ -79,6 +79,16 @@ returns-in_err-faults-clause-err c =
 pub returns-clause-faults : goal.returns-clause-faults
 returns-clause-faults c =
     let part = c.index-list-number.result in
-    let draft = c.in_ok-draft.draft in
     let read = part_read c.args.parts.now _ c.in-Some.number part c.list.ensures.value c.in-Some.ensures.within c.index-list-number.is in
-    all_apply c.args.parts.now c.args.top.now part draft c.in_ok-faults.faults.items (sym c.in-Some.ensures.part ∙ read) c.in_ok-draft.ensures.ok (rw c.as_slice.ensures.value at c.in_ok-faults.ensures.ok)
+    let all = all_apply c.args.parts.now c.args.top.now part c.in_ok-draft.draft _ (sym c.in-Some.ensures.part ∙ read) c.in_ok-draft.ensures.ok (rw c.as_slice.ensures.value at c.in_ok-faults.ensures.ok) in
+    those_apply c.args.parts.now c.args.top.now _ all
+
+pub returns-clause-all : goal.returns-clause-all
+returns-clause-all c e of applies =
+    let part = c.index-list-number.result in
+    let read = part_read c.args.parts.now _ c.in-Some.number part c.list.ensures.value c.in-Some.ensures.within c.index-list-number.is in
+    let all = all_apply c.args.parts.now c.args.top.now part c.in_ok-draft.draft _ (sym c.in-Some.ensures.part ∙ read) c.in_ok-draft.ensures.ok (rw c.as_slice.ensures.value at c.in_ok-faults.ensures.ok) in
+    all.whole e (of, applies)
+
+pub returns-clause-order : goal.returns-clause-order
+returns-clause-order c = c.in_ok-faults.ensures.ok.order

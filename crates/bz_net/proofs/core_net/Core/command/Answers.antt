@@ -66,3 +66,16 @@ returns-clause-within c =
     let same : w ≡ c.args.self.now.wiring = ap (λ (v : Standing). v.wiring) c.self.view_is in
     let to : c.args.port ≤ length w.ports = subst (λ (v : Wiring). c.args.port ≤ length v.ports) (sym same) c.requires.to in
     subst (λ (v : Wiring). c.args.port ≤ length v.chans) same (let few = c.self.invariant.0.wired.ports_to in omega (arith, to, few))
+
+pub returns-clause-unbroken : goal.returns-clause-unbroken
+returns-clause-unbroken c =
+    let n = c.self.inside in let d = c.command.new in let r = c.command.result in
+    let w : Wiring = record { chans = n.names.chans; sites = map site_of n.sites; ports = n.names.ports } in
+    let same : w ≡ c.args.self.now.wiring = ap (λ (v : Standing). v.wiring) c.self.view_is in
+    let to : c.args.port ≤ length w.ports = subst (λ (v : Wiring). c.args.port ≤ length v.ports) (sym same) c.requires.to in
+    let agreed : refusal_at w c.args.verb c.args.port c.args.value ≡ None = subst (λ (v : Wiring). refusal_at v c.args.verb c.args.port c.args.value ≡ None) (sym same) c.requires.agreed in
+    let told : Retold w.sites (heres_of n.nodes) (heres_of d.nodes) c.args.port (host_after c.args.verb c.args.value (phase_in n.phases c.args.port)) =
+    c.command.ensures.told in
+    let does : CommandedAt w.sites n.ends.items (comps_of n.nodes) n.phases d.phases n.ready d.ready c.args.verb c.args.port c.args.value r =
+    rw c.deref.ensures.value at c.command.ensures.commanded in
+    (core_commanded w n.phases (comps_of n.nodes) (heres_of n.nodes) n.ends.items n.ready c.self.invariant.0 d.phases (heres_of d.nodes) d.ready c.args.verb c.args.port c.args.value r c.requires.from to agreed does told).tied.kept

@@ -103,3 +103,13 @@ move_comp-requires-clause-may c = subst (λ (v : Standing). MayMove v.wiring.sit
 
 pub returns-clause-port : goal.returns-clause-port
 returns-clause-port c = subst (λ (v : Standing). MovesAt v.wiring.sites v.state c.args.comp c.args.at c.move_comp.result.3) c.self.view_is c.move_comp.ensures.port
+
+pub returns-clause-unbroken : goal.returns-clause-unbroken
+returns-clause-unbroken c =
+    let n = c.self.inside in let d = c.move_comp.new in let r = c.move_comp.result in
+    let w : Wiring = record { chans = n.names.chans; sites = map site_of n.sites; ports = n.names.ports } in
+    let told : Turned w.sites n.phases (comps_of n.nodes) (heres_of n.nodes) d.phases (comps_of d.nodes) (heres_of d.nodes) c.args.comp r.3 r.0 r.1 r.2 =
+    c.move_comp.ensures.told in
+    let refreshed : RefreshedEnds w.sites (state_of d.phases (comps_of d.nodes)) n.ready d.ready (ends_in n.ends.items r.0) =
+    rw c.deref.ensures.value at c.move_comp.ensures.refreshed in
+    (core_moved w n.phases (comps_of n.nodes) (heres_of n.nodes) n.ends.items n.ready c.self.invariant.0 d.phases (comps_of d.nodes) (heres_of d.nodes) d.ready c.args.comp r.3 r.0 r.1 r.2 told refreshed).tied.kept

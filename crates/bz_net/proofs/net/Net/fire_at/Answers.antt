@@ -23,7 +23,7 @@ invariant_of-self c =
     let n = c.self.inside in let r = c.fire_at-chan.result in let core = c.fire_at-chan.new.self in
     let place : length n.journal.items < n.limit = subst (λ (v : Simulation). length v.journal < v.limit) (sym c.self.view_is) c.in_ok-admit.ensures.ok.has_place in
     rw (c.push.ensures.items, c.unwrap.ensures)
-    (keeps_fired n.core.wiring core.wiring n.core.state core.state n.journal.items n.limit n.noted c.note_move.new.noted c.args.who c.args.comp c.args.port r.0 r.1 r.2 c.fire_at-chan.ensures.wiring c.self.invariant place c.fire_at-chan.ensures.step c.fire_at-chan.ensures.met c.note_move.ensures)
+    (keeps_fired n.core.wiring core.wiring n.core.state core.state n.journal.items n.limit n.noted c.note_move.new.noted c.args.who c.args.comp c.args.port r.0 r.1 r.2 c.fire_at-chan.ensures.wiring c.self.invariant place c.fire_at-chan.ensures.step c.fire_at-chan.ensures.unbroken c.fire_at-chan.ensures.met c.note_move.ensures)
 
 pub returns-clause-adds : goal.returns-clause-adds
 returns-clause-adds c =
