@@ -458,7 +458,7 @@ pub fn pool<T: Threads + Wait + Sync, R: Read, W: Write, E: Write>(
     ensures pools { AreWorkers given.entry.options.workers → IsJournal given.entry.options.journal
         → IfSome (R.remaining input.old) (λ text. Does of_done
         (Pools text (texts given.entry.words.now) given.entry.part.now given.entry.options.workers given.entry.options.fuel
-        (W.contents output.old) (W.contents output.new))
+        given.entry.options.journal (W.contents output.old) (W.contents output.new))
         result) }
 
     // Whatever comes of it, it reads at most one byte past the limit.
