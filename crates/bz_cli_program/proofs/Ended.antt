@@ -1,4 +1,4 @@
--- A run that stops before it plays, as the program ends.
+-- How the program ends, by what its command answers.
 use Rattle.std.proofs.Common.{◌≡◌, ℕ, Option, None, Some, Result, Ok, Err, List, map, inl, inr, refl, subst}
 use Rattle.std.specs.Prelude.{IfSome, IsErrAnd, ⊤}
 use Rattle.bz_model.specs.declared.event.Cmd.{Cmd}
@@ -9,12 +9,24 @@ use Rattle.bz_cli_input.specs.declared.input.InputFault.TheVariants as input
 use Rattle.bz_cli_input.specs.Statuses.{of_input}
 use Rattle.bz_cli_core.specs.Running.{AreCommands, RefusesWords, Runs}
 use Rattle.bz_cli_core.proofs.Checks.{keeps_same}
-use Rattle.bz_cli_program.specs.Endings.{IsDone, of_done}
+use Rattle.bz_cli_program.specs.Endings.{Does, IsDone, of_done}
 
 -- what is said of the answer of a command that answers nothing else
 pub is_done : (known : Option (List ℕ)) (Says : List ℕ → Result ⊤ Fault → Type 0) (answer : Result ⊤ Fault) (result : Result ℕ Fault) → IfSome known (λ text. Says text answer) → result ≡ of_done answer → IfSome known (λ text. IsDone (Says text) result)
 is_done None Says answer result says is = tt
 is_done (Some text) Says answer result says is = (answer, says, is)
+
+-- what is said of the answer of any command
+pub does : {A : Type 0} (ending : A → Result ℕ Fault) (known : Option (List ℕ)) (Says : List ℕ → A → Type 0) (answer : A) (result : Result ℕ Fault) → IfSome known (λ text. Says text answer) → result ≡ ending answer → IfSome known (λ text. Does ending (Says text) result)
+does ending None Says answer result says is = tt
+does ending (Some text) Says answer result says is = (answer, says, is)
+
+-- the same of two readers
+pub does_apart : {A : Type 0} (ending : A → Result ℕ Fault) (known had : Option (List ℕ)) (Says : List ℕ → List ℕ → A → Type 0) (answer : A) (result : Result ℕ Fault) → IfSome known (λ netlist. IfSome had (λ text. Says netlist text answer)) → result ≡ ending answer
+    → IfSome known (λ netlist. IfSome had (λ text. Does ending (Says netlist text) result))
+does_apart ending None had Says answer result says is = tt
+does_apart ending (Some netlist) None Says answer result says is = tt
+does_apart ending (Some netlist) (Some text) Says answer result says is = (answer, says, is)
 
 -- a run of the text that the reader had
 pub runs_on_text : (known : Option (List ℕ)) (items : List ℕ) (words : List (List ℕ)) (part : List ℕ) (journal : ℕ) (old new : Option (List ℕ)) (result : Result ℕ Fault) → IfSome known (λ xs. items ≡ xs) → IsDone (Runs items words part journal old new) result

@@ -1,0 +1,9 @@
+use Rattle.bz_draw.specs.Drawing.{Draws}
+use Rattle.bz_draw.specs.declared.fault.NoDrawing.{NoDrawing}
+use Rattle.bz_cli_program.specs.Endings.{of_drawing}
+use Rattle.bz_cli_program.proofs.Ended.{does}
+use Rattle.bz_cli_program.proofs.commands.draw.Goals as goal
+
+pub returns-clause-draws : goal.returns-clause-draws
+returns-clause-draws g c =
+    does of_drawing _ (λ text answer. Draws {N = NoDrawing} text c.args.given.part.now _ _ answer) c.draw_cmd.result _ c.draw_cmd.ensures.draws c.drawn_or_told.ensures
