@@ -1,5 +1,5 @@
 -- What went out of a pool, from what was played and what was written.
-use Rattle.std.proofs.Common.{Bool, ◌≡◌, ◌≤◌, ◌+◌, ◌<◌, ℕ, Option, None, Some, Result, Err, List, [], ◌∷◌, length, map, take, get_or, inl, inr, subst, refl, sym, ◌∙◌}
+use Rattle.std.proofs.Common.{Bool, ◌≡◌, ◌≤◌, ◌+◌, ◌<◌, ℕ, Option, None, Some, Result, Err, List, [], ◌∷◌, length, map, take, get_or, inl, inr, subst, refl, sym, ap, ◌∙◌}
 use Rattle.std.specs.Prelude.{IfSome}
 use Rattle.std.specs.List.{All}
 use Rattle.std.specs.declared.alloc.Global.{Global}
@@ -15,7 +15,7 @@ use Rattle.bz_model.specs.Clashes.{AreClashed}
 use Rattle.bz_model.specs.Nets.{Wiring, opening}
 use Rattle.bz_model.specs.Runs.{Run}
 use Rattle.bz_model.specs.Traces.{trace_text}
-use Rattle.bz_locked.specs.Terms.{terms}
+use Rattle.bz_locked.specs.Terms.{Terms, terms}
 use Rattle.bz_locked.specs.Journal.{fired_count}
 use Rattle.bz_net.specs.Simulation.{Simulation}
 use Rattle.bz_locked.specs.declared.closing.CloseError.TheVariants as close
@@ -39,13 +39,15 @@ use Rattle.bz_cli_input.specs.Statuses.{of_words}
 use Rattle.bz_cli.specs.Faults.{of_pool}
 
 -- what was played on the net, and the text that goes out of it
-pub pooled_so : (fuel : ℕ) (closed : Simulation) (lists : List (Vec HostCmd Global)) (workers : ℕ) (ends : List End) (stopped : Bool) → ArePlayed (terms closed.wiring fuel (length lists)) lists workers (moment closed stopped) ends → (comps : List ℕ) (Out : List ℕ → Type 0) → AreClashed closed.wiring closed.journal comps → Run closed.wiring (opening closed.wiring) closed.journal closed.state → fired_count closed.journal ≤ fuel → Out (trace_text closed.wiring.ports closed.journal comps) → Pooled closed.wiring fuel lists workers ends Out
-pooled_so fuel closed lists workers ends stopped played comps Out clashed run within out = record {
+pub pooled_so : (fuel : ℕ) (closed : Simulation) (lists : List (Vec HostCmd Global)) (workers : ℕ) (ends : List End) (stopped : Bool) → ArePlayed (terms closed.wiring closed.limit fuel (length lists)) lists workers (moment closed stopped) ends → (comps : List ℕ) (Out : List ℕ → Type 0) → AreClashed closed.wiring closed.journal comps
+    → Run closed.wiring (opening closed.wiring) closed.journal closed.state → length closed.journal ≤ closed.limit → fired_count closed.journal ≤ fuel → Out (trace_text closed.wiring.ports closed.journal comps) → Pooled (terms closed.wiring closed.limit fuel (length lists)) lists workers ends Out
+pooled_so fuel closed lists workers ends stopped played comps Out clashed run few within out = record {
   entries = closed.journal;
   to = closed.state;
   run = run;
   last = moment closed stopped;
   ends_there = (refl, refl);
+  few = few;
   within = within;
   played = played;
   trace = trace_text closed.wiring.ports closed.journal comps;
@@ -54,38 +56,38 @@ pooled_so fuel closed lists workers ends stopped played comps Out clashed run wi
 }
 
 -- an end that was refused is told behind the trace
-pub told_behind : (w : Wiring) (fuel : ℕ) (lists : List (Vec HostCmd Global)) (workers : ℕ) (old new : Option (List ℕ)) (e : NetError) (who : Who) → TellsRefused w fuel lists workers old new (fault_for e who) → WritesClosed w fuel lists workers old new (Err (fault_for e who))
-told_behind w fuel lists workers old new net.UnknownPort who p = p
-told_behind w fuel lists workers old new net.WrongSide who p = p
-told_behind w fuel lists workers old new net.ValueMissing who p = p
-told_behind w fuel lists workers old new net.ValueUnwanted who p = p
-told_behind w fuel lists workers old new net.TooLarge who p = p
-told_behind w fuel lists workers old new net.NotEnabled who p = p
-told_behind w fuel lists workers old new net.JournalFull who p = p
-told_behind w fuel lists workers old new net.Memory who p = p
+pub told_behind : (t : Terms) (lists : List (Vec HostCmd Global)) (workers : ℕ) (old new : Option (List ℕ)) (e : NetError) (who : Who) → TellsRefused t lists workers old new (fault_for e who) → WritesClosed t lists workers old new (Err (fault_for e who))
+told_behind t lists workers old new net.UnknownPort who p = p
+told_behind t lists workers old new net.WrongSide who p = p
+told_behind t lists workers old new net.ValueMissing who p = p
+told_behind t lists workers old new net.ValueUnwanted who p = p
+told_behind t lists workers old new net.TooLarge who p = p
+told_behind t lists workers old new net.NotEnabled who p = p
+told_behind t lists workers old new net.JournalFull who p = p
+told_behind t lists workers old new net.Memory who p = p
 
-pub first_told : (w : Wiring) (fuel : ℕ) (lists : List (Vec HostCmd Global)) (workers sessions : ℕ) (ends : List End) (old new : Option (List ℕ)) (fault : Fault) → length lists ≡ sessions → IsFirstRefused ends sessions fault → Pooled w fuel lists workers ends (Appends old new) → WritesClosed w fuel lists workers old new (Err fault)
-first_told w fuel lists workers sessions ends old new fault count first p =
+pub first_told : (t : Terms) (lists : List (Vec HostCmd Global)) (workers sessions : ℕ) (ends : List End) (old new : Option (List ℕ)) (fault : Fault) → length lists ≡ sessions → IsFirstRefused ends sessions fault → Pooled t lists workers ends (Appends old new) → WritesClosed t lists workers old new (Err fault)
+first_told t lists workers sessions ends old new fault count first p =
     let is : IsFirstRefused ends (length lists) fault = subst (λ n. IsFirstRefused ends n fault) (sym count) first in
-    let tells : TellsRefused w fuel lists workers old new fault = (ends, p, is) in
-    subst (λ f. WritesClosed w fuel lists workers old new (Err f)) (sym is.told) (told_behind w fuel lists workers old new is.error _ (subst (λ f. TellsRefused w fuel lists workers old new f) is.told tells))
+    let tells : TellsRefused t lists workers old new fault = (ends, p, is) in
+    subst (λ f. WritesClosed t lists workers old new (Err f)) (sym is.told) (told_behind t lists workers old new is.error _ (subst (λ f. TellsRefused t lists workers old new f) is.told tells))
 
 -- the writer failed
-pub cut_short : (w : Wiring) (fuel : ℕ) (lists : List (Vec HostCmd Global)) (workers : ℕ) (ends : List End) (old new : Option (List ℕ)) (fault : Fault) → fault ≡ Write → Pooled w fuel lists workers ends (AppendsSome old new) → WritesClosed w fuel lists workers old new (Err fault)
-cut_short w fuel lists workers ends old new fault is p = rw is (ends, p)
+pub cut_short : (t : Terms) (lists : List (Vec HostCmd Global)) (workers : ℕ) (ends : List End) (old new : Option (List ℕ)) (fault : Fault) → fault ≡ Write → Pooled t lists workers ends (AppendsSome old new) → WritesClosed t lists workers old new (Err fault)
+cut_short t lists workers ends old new fault is p = rw is (ends, p)
 
 -- what the reader had is the text
-pub pools_on : (known : Option (List ℕ)) (items : List ℕ) (words : List (List ℕ)) (part : List ℕ) (workers fuel : ℕ) (sessions : List (Vec HostCmd Global)) (old new : Option (List ℕ)) (answer : Result (Vec End Global) Fault) → IfSome known (λ xs. items ≡ xs) → length items ≤ input_limit → Spell words (map hosts_of sessions) → PoolsText items part fuel sessions workers old new answer → IfSome known (λ text. Pools text words part workers fuel old new answer)
-pools_on None items words part workers fuel sessions old new answer whole fits are plays = tt
-pools_on (Some xs) items words part workers fuel sessions old new answer whole fits are plays =
-    inr (sessions, are, inr (subst (λ text. (length text ≤ input_limit) × PoolsText text part fuel sessions workers old new answer) whole (fits, plays)))
+pub pools_on : (known : Option (List ℕ)) (items : List ℕ) (words : List (List ℕ)) (part : List ℕ) (workers fuel journal : ℕ) (sessions : List (Vec HostCmd Global)) (old new : Option (List ℕ)) (answer : Result (Vec End Global) Fault) → IfSome known (λ xs. items ≡ xs) → length items ≤ input_limit → Spell words (map hosts_of sessions) → PoolsText items part fuel journal sessions workers old new answer → IfSome known (λ text. Pools text words part workers fuel journal old new answer)
+pools_on None items words part workers fuel journal sessions old new answer whole fits are plays = tt
+pools_on (Some xs) items words part workers fuel journal sessions old new answer whole fits are plays =
+    inr (sessions, are, inr (subst (λ text. (length text ≤ input_limit) × PoolsText text part fuel journal sessions workers old new answer) whole (fits, plays)))
 
 -- why a pool came to no close
-pub of_a_pool : (w : Wiring) (fuel sessions workers : ℕ) (e : PoolError) → RefusesPool w fuel sessions workers e → IsOfPool w fuel sessions workers (of_pool e)
-of_a_pool w fuel sessions workers (pool.Close (close.Discord who at)) is = is
-of_a_pool w fuel sessions workers (pool.Close close.Memory) is = tt
-of_a_pool w fuel sessions workers pool.Memory is = tt
-of_a_pool w fuel sessions workers pool.NoThread is = tt
+pub of_a_pool : (t : Terms) (workers : ℕ) (e : PoolError) → RefusesPool t workers e → IsOfPool t workers (of_pool e)
+of_a_pool t workers (pool.Close (close.Discord who at)) is = is
+of_a_pool t workers (pool.Close close.Memory) is = tt
+of_a_pool t workers pool.Memory is = tt
+of_a_pool t workers pool.NoThread is = tt
 
 -- the words are refused
 pub unfit : (words : List (List ℕ)) (e : SessionError) → SpellsHosts words (Err e) → RefusesSessions words (of_words e)
@@ -97,13 +99,18 @@ unfit words session.Memory is = tt
 pub agreed_more : (ends : List End) (i : ℕ) (d : End) → i < length ends → All IsAgreed (take i ends) → IsAgreed (get_or ends i d) → All IsAgreed (take (i + 1) ends)
 agreed_more ends i d lt all here = rw (take_more ends i d lt) (All-append IsAgreed (take i ends) (get_or ends i d ∷ []) all (All-cons IsAgreed (get_or ends i d) [] here (All-nil IsAgreed)))
 
+-- terms are told by their parts
+pub same_terms : (v w : Wiring) (l m fuel j k : ℕ) → v ≡ w → l ≡ m → j ≡ k → terms v l fuel j ≡ terms w m fuel k
+same_terms v w l m fuel j k of_wiring of_limit of_sessions =
+    ap (λ (x : Wiring). terms x l fuel j) of_wiring ∙ ap (λ (n : ℕ). terms w n fuel j) of_limit ∙ ap (λ (n : ℕ). terms w m fuel n) of_sessions
+
 -- the pool came to no close
-pub no_close : (text part : List ℕ) (fuel : ℕ) (lists : List (Vec HostCmd Global)) (workers : ℕ) (w mid : Wiring) → Denotes text part w → mid ≡ w → (old : Option (List ℕ)) (fault : Fault) (e : PoolError) → RefusesPool mid fuel (length lists) workers e → fault ≡ of_pool e → PoolsText text part fuel lists workers old old (Err fault)
-no_close text part fuel lists workers w mid denotes same old fault e why is =
-    let told = of_a_pool w fuel (length lists) workers e (subst (λ v. RefusesPool v fuel (length lists) workers e) same why) in
-    inr (w, denotes, inl (subst (λ f. IsOfPool w fuel (length lists) workers f) (sym is) told, keeps_same old))
+pub no_close : (text part : List ℕ) (fuel journal : ℕ) (lists : List (Vec HostCmd Global)) (workers : ℕ) (w : Wiring) (t : Terms) → Denotes text part w → t ≡ terms w journal fuel (length lists) → (old : Option (List ℕ)) (fault : Fault) (e : PoolError) → RefusesPool t workers e → fault ≡ of_pool e → PoolsText text part fuel journal lists workers old old (Err fault)
+no_close text part fuel journal lists workers w t denotes same old fault e why is =
+    let told = of_a_pool (terms w journal fuel (length lists)) workers e (subst (λ (u : Terms). RefusesPool u workers e) same why) in
+    inr (w, denotes, inl (subst (λ f. IsOfPool (terms w journal fuel (length lists)) workers f) (sym is) told, keeps_same old))
 
 -- it was closed
-pub closed_so : (text part : List ℕ) (fuel : ℕ) (lists : List (Vec HostCmd Global)) (workers : ℕ) (w mid closed : Wiring) (old new : Option (List ℕ)) (answer : Result (Vec End Global) Fault) → Denotes text part w → mid ≡ w → closed ≡ mid → WritesClosed closed fuel lists workers old new answer → PoolsText text part fuel lists workers old new answer
-closed_so text part fuel lists workers w mid closed old new answer denotes is same writes =
-    inr (w, denotes, inr (subst (λ v. WritesClosed v fuel lists workers old new answer) (same ∙ is) writes))
+pub closed_so : (text part : List ℕ) (fuel journal : ℕ) (lists : List (Vec HostCmd Global)) (workers : ℕ) (w : Wiring) (t : Terms) (old new : Option (List ℕ)) (answer : Result (Vec End Global) Fault) → Denotes text part w → t ≡ terms w journal fuel (length lists) → WritesClosed t lists workers old new answer → PoolsText text part fuel journal lists workers old new answer
+closed_so text part fuel journal lists workers w t old new answer denotes same writes =
+    inr (w, denotes, inr (subst (λ (u : Terms). WritesClosed u lists workers old new answer) same writes))

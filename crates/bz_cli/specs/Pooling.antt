@@ -14,7 +14,7 @@ use Rattle.bz_model.specs.Nets.{Wiring, State, opening}
 use Rattle.bz_model.specs.Runs.{Run}
 use Rattle.bz_model.specs.Traces.{IsTrace}
 use Rattle.bz_net.specs.Simulation.{Simulation}
-use Rattle.bz_locked.specs.Terms.{terms}
+use Rattle.bz_locked.specs.Terms.{Terms, terms}
 use Rattle.bz_past.specs.Moments.{moment}
 use Rattle.bz_past.specs.declared.view.Moment.{Moment}
 use Rattle.bz_locked.specs.Journal.{fired_count}
@@ -35,19 +35,20 @@ RefusesSessions words (Word at) = IsFirstUnfit words at
 RefusesSessions words Memory = ⊤
 RefusesSessions words fault = ⊥
 
--- The trace of a run from the net's opening, of at most so many firings, went out as `Out` says. In it each session has played
--- its list of commands, and these are the ends of the sessions and of so many workers. All that they were told has led to the
--- end of this run.
-pub record Pooled (w : Wiring) (fuel : ℕ) (lists : List (Vec HostCmd Global)) (workers : ℕ) (ends : List End) (Out : List ℕ → Type 0) : Type 0 where
+-- The trace of a run of the net of these terms from its opening, which has no more entries and no more firings than these allow,
+-- went out as `Out` says. In it each session has played its list of commands, and these are the ends of the sessions and of so
+-- many workers. All that they were told has led to the end of this run.
+pub record Pooled (t : Terms) (lists : List (Vec HostCmd Global)) (workers : ℕ) (ends : List End) (Out : List ℕ → Type 0) : Type 0 where
   pub entries : List Entry
   pub to : State
-  pub run : Run w (opening w) entries to
+  pub run : Run t.wiring (opening t.wiring) entries to
   pub last : Moment
   pub ends_there : (last.net.journal ≡ entries) × (last.net.state ≡ to)
-  pub within : fired_count entries ≤ fuel
-  pub played : ArePlayed (terms w fuel (length lists)) lists workers last ends
+  pub few : length entries ≤ t.limit
+  pub within : fired_count entries ≤ t.fuel
+  pub played : ArePlayed t lists workers last ends
   pub trace : List ℕ
-  pub is_trace : IsTrace w entries trace
+  pub is_trace : IsTrace t.wiring entries trace
   pub out : Out trace
 
 -- The error of an end that is a refusal. Words are read before they are played, so that an event alone is refused.
@@ -79,42 +80,45 @@ pub record IsFirstRefused (ends : List End) (sessions : ℕ) (fault : Fault) : T
   pub told : fault ≡ fault_for error (who_at place sessions)
 
 -- An end was refused: it is the first, and is told behind the trace.
-abbrev pub TellsRefused : Wiring → ℕ → List (Vec HostCmd Global) → ℕ → Option (List ℕ) → Option (List ℕ) → Fault → Type 0
-TellsRefused w fuel lists workers old new fault =
-    (ends : List End) × Pooled w fuel lists workers ends (Appends old new) × IsFirstRefused ends (length lists) fault
+abbrev pub TellsRefused : Terms → List (Vec HostCmd Global) → ℕ → Option (List ℕ) → Option (List ℕ) → Fault → Type 0
+TellsRefused t lists workers old new fault =
+    (ends : List End) × Pooled t lists workers ends (Appends old new) × IsFirstRefused ends (length lists) fault
 
 -- What went out of a pool that was closed, and what was answered: the trace of all; where the writer failed, a front of it.
-abbrev pub WritesClosed : Wiring → ℕ → List (Vec HostCmd Global) → ℕ → Option (List ℕ) → Option (List ℕ) → Result (Vec End Global) Fault → Type 0
-WritesClosed w fuel lists workers old new (Ok ends) = Pooled w fuel lists workers ends.items (Appends old new) × All IsAgreed ends.items × (vec_len ends ≡ length lists + workers)
-WritesClosed w fuel lists workers old new (Err (Ended net.Memory who)) = ⊥
-WritesClosed w fuel lists workers old new (Err (Ended e who)) = TellsRefused w fuel lists workers old new (Ended e who)
-WritesClosed w fuel lists workers old new (Err Memory) = TellsRefused w fuel lists workers old new Memory
-WritesClosed w fuel lists workers old new (Err Write) = (ends : List End) × Pooled w fuel lists workers ends (AppendsSome old new)
-WritesClosed w fuel lists workers old new (Err fault) = ⊥
+abbrev pub WritesClosed : Terms → List (Vec HostCmd Global) → ℕ → Option (List ℕ) → Option (List ℕ) → Result (Vec End Global) Fault → Type 0
+WritesClosed t lists workers old new (Ok ends) = Pooled t lists workers ends.items (Appends old new) × All IsAgreed ends.items × (vec_len ends ≡ length lists + workers)
+WritesClosed t lists workers old new (Err (Ended net.Memory who)) = ⊥
+WritesClosed t lists workers old new (Err (Ended e who)) = TellsRefused t lists workers old new (Ended e who)
+WritesClosed t lists workers old new (Err Memory) = TellsRefused t lists workers old new Memory
+WritesClosed t lists workers old new (Err Write) = (ends : List End) × Pooled t lists workers ends (AppendsSome old new)
+WritesClosed t lists workers old new (Err fault) = ⊥
 
 -- the same of a net with these ends, whatever the lists of so many sessions were that were played on it
 abbrev pub WritesOf : Simulation → List End → ℕ → ℕ → Option (List ℕ) → Option (List ℕ) → Result (Vec End Global) Fault → Type 0
 WritesOf net ends sessions fuel old new answer =
     (lists : List (Vec HostCmd Global)) (workers : ℕ) (stopped : Bool) → length lists ≡ sessions → length ends ≡ length lists + workers
-    → ArePlayed (terms net.wiring fuel (length lists)) lists workers (moment net stopped) ends → WritesClosed net.wiring fuel lists workers old new answer
+    → ArePlayed (terms net.wiring net.limit fuel (length lists)) lists workers (moment net stopped) ends
+    → WritesClosed (terms net.wiring net.limit fuel (length lists)) lists workers old new answer
 
 -- Why a pool came to no close: memory or a thread was wanting, or what was handed in at the end differs, first there.
-abbrev pub IsOfPool : Wiring → ℕ → ℕ → ℕ → Fault → Type 0
-IsOfPool w fuel sessions workers (Discord who at) = Differs w fuel sessions workers who at
-IsOfPool w fuel sessions workers NoThread = ⊤
-IsOfPool w fuel sessions workers Memory = ⊤
-IsOfPool w fuel sessions workers fault = ⊥
+abbrev pub IsOfPool : Terms → ℕ → Fault → Type 0
+IsOfPool t workers (Discord who at) = Differs t workers who at
+IsOfPool t workers NoThread = ⊤
+IsOfPool t workers Memory = ⊤
+IsOfPool t workers fault = ⊥
 
--- No net was opened, or the pool came to no close, and nothing went out; or it was closed, on the net that the text denotes.
-abbrev pub PoolsText : List ℕ → List ℕ → ℕ → List (Vec HostCmd Global) → ℕ → Option (List ℕ) → Option (List ℕ) → Result (Vec End Global) Fault → Type 0
-PoolsText text part fuel lists workers old new answer =
+-- No net was opened, or the pool came to no close, and nothing went out; or it was closed, on the net that the text denotes,
+-- with a journal of so many entries.
+abbrev pub PoolsText : List ℕ → List ℕ → ℕ → ℕ → List (Vec HostCmd Global) → ℕ → Option (List ℕ) → Option (List ℕ) → Result (Vec End Global) Fault → Type 0
+PoolsText text part fuel journal lists workers old new answer =
     IsErrAnd answer (λ fault. RefusesNet text part fault × Keeps old new)
     ⊎ ((w : Wiring) × Denotes text part w
-    × (IsErrAnd answer (λ fault. IsOfPool w fuel (length lists) workers fault × Keeps old new) ⊎ WritesClosed w fuel lists workers old new answer))
+    × (IsErrAnd answer (λ fault. IsOfPool (terms w journal fuel (length lists)) workers fault × Keeps old new)
+    ⊎ WritesClosed (terms w journal fuel (length lists)) lists workers old new answer))
 
 -- The command `pool`: the words are refused; or they spell sessions, and the input is not taken, or they are played on it.
-abbrev pub Pools : List ℕ → List (List ℕ) → List ℕ → ℕ → ℕ → Option (List ℕ) → Option (List ℕ) → Result (Vec End Global) Fault → Type 0
-Pools text words part workers fuel old new answer =
+abbrev pub Pools : List ℕ → List (List ℕ) → List ℕ → ℕ → ℕ → ℕ → Option (List ℕ) → Option (List ℕ) → Result (Vec End Global) Fault → Type 0
+Pools text words part workers fuel journal old new answer =
     IsErrAnd answer (λ fault. RefusesSessions words fault × Keeps old new)
     ⊎ ((sessions : List (Vec HostCmd Global)) × Spell words (map hosts_of sessions)
-    × (StopsAtInput old new answer ⊎ ((length text ≤ input_limit) × PoolsText text part fuel sessions workers old new answer)))
+    × (StopsAtInput old new answer ⊎ ((length text ≤ input_limit) × PoolsText text part fuel journal sessions workers old new answer)))

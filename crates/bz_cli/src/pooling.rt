@@ -58,7 +58,7 @@ pub fn pool_cmd<R: Read, W: Write, H: Threads + Wait + Sync>(
 ) -> Result<Vec<End>, Fault>
     requires workers { (1 ≤ options.workers) × (options.workers ≤ 8) }
     requires journal { (0 < options.journal) × (options.journal ≤ 16777216) }
-    ensures pools { IfSome (R.remaining input.old) (λ text. Pools text (texts words.now) part.now options.workers options.fuel (W.contents output.old) (W.contents output.new) result) }
+    ensures pools { IfSome (R.remaining input.old) (λ text. Pools text (texts words.now) part.now options.workers options.fuel options.journal (W.contents output.old) (W.contents output.new) result) }
 
     // Whatever comes of it, it reads at most one byte past the limit.
     ensures bounded { ReadsWithin (R.remaining input.old) (R.remaining input.new) }
@@ -93,7 +93,7 @@ fn pool_text<W: Write, H: Threads + Wait + Sync>(
     requires workers { (1 ≤ options.workers) × (options.workers ≤ 8) }
     requires journal { (0 < options.journal) × (options.journal ≤ 16777216) }
     requires sessions { (1 ≤ vec_len sessions) × (vec_len sessions ≤ 16) }
-    ensures { PoolsText text.now part.now options.fuel sessions.items options.workers (W.contents output.old) (W.contents output.new) result }
+    ensures { PoolsText text.now part.now options.fuel options.journal sessions.items options.workers (W.contents output.old) (W.contents output.new) result }
 {
     let net = open_net(alloc, part, options.journal, text)?;
     let count = sessions.len();

@@ -1,19 +1,35 @@
 //! What each command does. The status with which the program ends, or the fault that it tells.
 
-ghost use Rattle.std.specs.Prelude.{◌≤◌, ◌<◌};
+ghost use Rattle.std.specs.Prelude.{◌≡◌, ◌≤◌, ◌<◌, ⊤, false, true, IfSome, MatchOption};
+ghost use Rattle.bz_chart.specs.Charting.{Charts, ChartsApart};
+ghost use Rattle.bz_cli.specs.Pooling.{Pools};
+ghost use Rattle.bz_cli_core.specs.Checking.{Checks, ChecksApart};
+ghost use Rattle.bz_cli_core.specs.Running.{Runs};
+ghost use Rattle.bz_cli_input.specs.Listed.{Lists};
+ghost use Rattle.bz_cli_input.specs.Reading.{ReadsWithin};
+ghost use Rattle.bz_cli_program.specs.Endings.{AreWorkers, Does, IsDone, IsJournal, IsRefused};
+ghost use Rattle.bz_cli_program.specs.Endings.{lines_asked, of_chart, of_check, of_done, of_drawing, of_page};
+ghost use Rattle.bz_cli_source.specs.Listed as placed;
+ghost use Rattle.bz_cli_source.specs.PartLists.{ListsParts};
+ghost use Rattle.bz_draw.specs.Drawing.{Draws};
+ghost use Rattle.bz_draw.specs.declared.fault.NoDrawing.{NoDrawing};
+ghost use Rattle.bz_page.specs.Pages.{Blank};
+ghost use Rattle.bz_page.specs.Paging.{Pages, PagesApart};
+ghost use Rattle.bz_words.specs.Words.{texts};
 
 use crate::given::Given;
 use crate::resting::note_rest;
-use crate::watching::{commands_of, watch};
+use crate::watching::{Watched, commands_of, watch};
 use bz_chart::{ChartFault, LineRange, chart_cmd, chart_trace_cmd};
 use bz_cli::{PoolOptions, pool_cmd};
-use bz_cli_args::{BAD_COMMAND_LINE, MAX_JOURNAL, MAX_WORKERS};
+use bz_cli_args::{BAD_COMMAND_LINE, MAX_JOURNAL, MAX_WORKERS, Options};
 use bz_cli_core::{check_cmd, check_trace_cmd, run_cmd};
 use bz_cli_input::{Fault, list_cmd, read_input};
 use bz_cli_kinds::kinds_cmd;
 use bz_cli_source::{list_paths_cmd, parts_cmd};
-use bz_draw::{View, draw_cmd};
+use bz_draw::{NoDrawing, View, draw_cmd};
 use bz_explain_notes::{Draft, tell_notes};
+use bz_model::Cmd;
 use bz_page::{PageFault, page_cmd, page_trace_cmd};
 use bz_session::End;
 use std::alloc::Global;
@@ -37,28 +53,33 @@ pub fn run<R: Read, W: Write, E: Write>(
     input: &mut R,
     output: &mut W,
     errors: &mut E,
-) -> Result<u8, Fault> {
-    let options = given.options;
-    if options.journal == 0 || options.journal > MAX_JOURNAL {
+) -> Result<u8, Fault>
+    ensures refused { (IsJournal given.entry.options.journal → ⊥)
+        → IsRefused (W.contents output.old) (W.contents output.new) result }
+    ensures runs { IsJournal given.entry.options.journal → given.entry.options.strict ≡ false → IfSome (R.remaining input.old)
+        (λ text. IsDone
+        (Runs text (texts given.entry.words.now) given.entry.part.now given.entry.options.journal
+        (W.contents output.old) (W.contents output.new))
+        result) }
+
+    // Whatever comes of it, it reads at most one byte past the limit.
+    ensures bounded { ReadsWithin (R.remaining input.old) (R.remaining input.new) }
+{
+    let journal = given.options.journal;
+    if journal == 0 || journal > MAX_JOURNAL {
         return Ok(BAD_COMMAND_LINE);
     }
-    if options.strict || options.explains {
-        run_watched(alloc, given, input, output, errors)
-    } else {
-        done(run_cmd(
-            alloc,
-            given.part,
-            options.journal,
-            given.words,
-            input,
-            output,
-        ))
+    if given.options.strict {
+        return run_strict(alloc, given, input, output, errors);
     }
+    if given.options.explains {
+        return run_noted(alloc, given, input, output, errors);
+    }
+    done(run_cmd(alloc, given.part, journal, given.words, input, output))
 }
 
-// Plays the words to see what becomes of them, and then to write the trace: a strict play goes no further than to the first host
-// command that is not done.
-fn run_watched<R: Read, W: Write, E: Write>(
+// Plays the words, and notes who waits for whom where they end at rest.
+fn run_noted<R: Read, W: Write, E: Write>(
     alloc: Global,
     given: Given<'_, '_>,
     input: &mut R,
@@ -67,6 +88,105 @@ fn run_watched<R: Read, W: Write, E: Write>(
 ) -> Result<u8, Fault>
     requires least { 0 < given.options.journal }
     requires most { given.options.journal ≤ 16777216 }
+    ensures runs { IfSome (R.remaining input.old)
+        (λ text. IsDone
+        (Runs text (texts given.entry.words.now) given.entry.part.now given.entry.options.journal
+        (W.contents output.old) (W.contents output.new))
+        result) }
+    ensures bounded { ReadsWithin (R.remaining input.old) (R.remaining input.new) }
+{
+    let cmds = commands_of(alloc, given.words)?;
+    let text = read_input(alloc, input)?;
+    play_noted(
+        alloc,
+        given,
+        cmds.as_slice(),
+        text.as_slice(),
+        output,
+        errors,
+    )
+}
+
+// The same of a text, and of words that spell these commands.
+fn play_noted<W: Write, E: Write>(
+    alloc: Global,
+    given: Given<'_, '_>,
+    cmds: &[Cmd],
+    netlist: &[u8],
+    output: &mut W,
+    errors: &mut E,
+) -> Result<u8, Fault>
+    requires least { 0 < given.options.journal }
+    requires most { given.options.journal ≤ 16777216 }
+    ensures { IsDone
+        (Runs netlist.now (texts given.entry.words.now) given.entry.part.now given.entry.options.journal
+        (W.contents output.old) (W.contents output.new))
+        result }
+{
+    let journal = given.options.journal;
+    let mut text = netlist;
+    let played = run_cmd(alloc, given.part, journal, given.words, &mut text, output);
+    if played.is_ok() {
+        watch_rest(alloc, given, cmds, netlist, errors);
+    }
+    done(played)
+}
+
+// Plays the commands again, and notes who waits for whom where they end at rest.
+fn watch_rest<E: Write>(
+    alloc: Global,
+    given: Given<'_, '_>,
+    cmds: &[Cmd],
+    netlist: &[u8],
+    errors: &mut E,
+) {
+    let watched = watch(
+        alloc,
+        given.part,
+        given.options.journal,
+        cmds,
+        false,
+        netlist,
+    );
+    // (where memory is wanting for them there are no notes)
+    if let Ok(watched) = watched {
+        tell_rest(alloc, given, netlist, &watched, errors);
+    }
+}
+
+// Notes who waits for whom, where words ended at rest.
+fn tell_rest<E: Write>(
+    alloc: Global,
+    given: Given<'_, '_>,
+    netlist: &[u8],
+    watched: &Watched,
+    errors: &mut E,
+) {
+    if watched.is_at_rest {
+        let mut draft = Draft::new(alloc);
+        note_rest(
+            alloc,
+            given.part,
+            netlist,
+            watched.moves.as_slice(),
+            &mut draft,
+        );
+        let _ = tell_notes(alloc, &draft, errors);
+    }
+}
+
+// Plays the words to see what becomes of them, and then to write the trace, no further than to the first host command that is not
+// done.
+fn run_strict<R: Read, W: Write, E: Write>(
+    alloc: Global,
+    given: Given<'_, '_>,
+    input: &mut R,
+    output: &mut W,
+    errors: &mut E,
+) -> Result<u8, Fault>
+    requires least { 0 < given.options.journal }
+    requires most { given.options.journal ≤ 16777216 }
+    ensures { ReadsWithin (R.remaining input.old) (R.remaining input.new) }
 {
     let options = given.options;
     let cmds = commands_of(alloc, given.words)?;
@@ -77,7 +197,7 @@ fn run_watched<R: Read, W: Write, E: Write>(
         given.part,
         options.journal,
         cmds.as_slice(),
-        options.strict,
+        true,
         text,
     )?;
     let words = given.words.get(..watched.words).unwrap_or(given.words);
@@ -91,16 +211,8 @@ fn run_watched<R: Read, W: Write, E: Write>(
         );
         return Ok(REFUSED);
     }
-    if options.explains && watched.is_at_rest {
-        let mut draft = Draft::new(alloc);
-        note_rest(
-            alloc,
-            given.part,
-            netlist,
-            watched.moves.as_slice(),
-            &mut draft,
-        );
-        let _ = tell_notes(alloc, &draft, errors);
+    if options.explains {
+        tell_rest(alloc, given, netlist, &watched, errors);
     }
     Ok(DONE)
 }
@@ -112,11 +224,27 @@ pub fn check<R: Read, T: Read, W: Write>(
     input: &mut R,
     trace: Option<&mut T>,
     output: &mut W,
-) -> Result<u8, Fault> {
-    let is_run = match trace {
-        Some(trace) => check_trace_cmd(alloc, given.part, input, trace, output),
-        None => check_cmd(alloc, given.part, input, output),
-    };
+) -> Result<u8, Fault>
+    ensures checks { MatchOption trace.entry
+        (IfSome (R.remaining input.old)
+        (λ text. Does of_check (Checks text given.entry.part.now (W.contents output.old) (W.contents output.new)) result))
+        (λ apart. IfSome (R.remaining input.old) (λ netlist. IfSome (T.remaining apart.now)
+        (λ text. Does of_check (ChecksApart netlist text given.entry.part.now
+        (W.contents output.old) (W.contents output.new)) result))) }
+
+    // Whatever comes of it, it reads at most one byte past the limit.
+    ensures bounded { ReadsWithin (R.remaining input.old) (R.remaining input.new) }
+{
+    match trace {
+        Some(trace) => told(check_trace_cmd(alloc, given.part, input, trace, output)),
+        None => told(check_cmd(alloc, given.part, input, output)),
+    }
+}
+
+// The status of a check.
+fn told(is_run: Result<bool, Fault>) -> Result<u8, Fault>
+    ensures { result ≡ of_check is_run }
+{
     match is_run {
         Ok(true) => Ok(DONE),
         Ok(false) => Ok(NO_RUN),
@@ -130,16 +258,30 @@ pub fn list<R: Read, W: Write>(
     given: Given<'_, '_>,
     input: &mut R,
     output: &mut W,
-) -> Result<u8, Fault> {
-    done(if given.options.paths {
-        list_paths_cmd(alloc, given.part, input, output)
+) -> Result<u8, Fault>
+    ensures plainly { given.entry.options.paths ≡ false → IfSome (R.remaining input.old)
+        (λ text. IsDone (Lists text given.entry.part.now (W.contents output.old) (W.contents output.new)) result) }
+    ensures places { given.entry.options.paths ≡ true → IfSome (R.remaining input.old)
+        (λ text. IsDone (placed.Lists text given.entry.part.now (W.contents output.old) (W.contents output.new)) result) }
+
+    // Whatever comes of it, it reads at most one byte past the limit.
+    ensures bounded { ReadsWithin (R.remaining input.old) (R.remaining input.new) }
+{
+    if given.options.paths {
+        done(list_paths_cmd(alloc, given.part, input, output))
     } else {
-        list_cmd(alloc, given.part, input, output)
-    })
+        done(list_cmd(alloc, given.part, input, output))
+    }
 }
 
 /// Lists the parts of a netlist.
-pub fn parts<R: Read, W: Write>(alloc: Global, input: &mut R, output: &mut W) -> Result<u8, Fault> {
+pub fn parts<R: Read, W: Write>(alloc: Global, input: &mut R, output: &mut W) -> Result<u8, Fault>
+    ensures parts { IfSome (R.remaining input.old)
+        (λ text. IsDone (ListsParts text (W.contents output.old) (W.contents output.new)) result) }
+
+    // Whatever comes of it, it reads at most one byte past the limit.
+    ensures bounded { ReadsWithin (R.remaining input.old) (R.remaining input.new) }
+{
     done(parts_cmd(alloc, input, output))
 }
 
@@ -155,9 +297,21 @@ pub fn draw<R: Read, W: Write, E: Write>(
     input: &mut R,
     output: &mut W,
     errors: &mut E,
-) -> Result<u8, Fault> {
-    let options = given.options;
-    let view = match options.around {
+) -> Result<u8, Fault>
+    ensures draws { IfSome (R.remaining input.old)
+        (λ text. Does of_drawing (Draws {N = NoDrawing} text given.entry.part.now
+        (W.contents output.old) (W.contents output.new)) result) }
+
+    // Whatever comes of it, it reads at most one byte past the limit.
+    ensures bounded { ReadsWithin (R.remaining input.old) (R.remaining input.new) }
+{
+    let drawn = draw_cmd(alloc, given.part, view_of(&given.options), input, output);
+    drawn_or_told(drawn, errors)
+}
+
+// How much of a net is drawn.
+fn view_of(options: &Options<'_>) -> View {
+    match options.around {
         Some(comp) => View::Around {
             comp,
             hops: options.hops,
@@ -165,8 +319,17 @@ pub fn draw<R: Read, W: Write, E: Write>(
         None => View::Whole {
             depth: options.depth.map(|depth| depth as usize),
         },
-    };
-    match draw_cmd(alloc, given.part, view, input, output) {
+    }
+}
+
+// The status of a drawing. Why there is none is told.
+fn drawn_or_told<E: Write>(
+    drawn: Result<Option<NoDrawing>, Fault>,
+    errors: &mut E,
+) -> Result<u8, Fault>
+    ensures { result ≡ of_drawing drawn }
+{
+    match drawn {
         Ok(None) => Ok(DONE),
         Ok(Some(why)) => {
             let _ = writeln!(errors, "error: {why}");
@@ -185,21 +348,52 @@ pub fn chart<R: Read, T: Read, W: Write, E: Write>(
     trace: Option<&mut T>,
     output: &mut W,
     errors: &mut E,
-) -> Result<u8, Fault> {
+) -> Result<u8, Fault>
+    ensures charts { MatchOption trace.entry
+        (IfSome (R.remaining input.old) (λ text. Does of_chart
+        (Charts {A = ⊤} text given.entry.part.now (lines_asked given.entry.options)
+        (W.contents output.old) (W.contents output.new))
+        result))
+        (λ apart. IfSome (R.remaining input.old) (λ netlist. IfSome (T.remaining apart.now) (λ text. Does of_chart
+        (ChartsApart {A = ⊤} netlist text given.entry.part.now (lines_asked given.entry.options)
+        (W.contents output.old) (W.contents output.new))
+        result))) }
+
+    // Whatever comes of it, it reads at most one byte past the limit.
+    ensures bounded { ReadsWithin (R.remaining input.old) (R.remaining input.new) }
+{
     let lines = LineRange {
-        from: given.options.from.map(|line| line as usize),
-        to: given.options.to.map(|line| line as usize),
+        from: place_of(given.options.from),
+        to: place_of(given.options.to),
     };
-    let drawn = match trace {
-        Some(trace) => chart_trace_cmd(alloc, given.part, lines, input, trace, output),
-        None => chart_cmd(alloc, given.part, lines, input, output),
-    };
+    match trace {
+        Some(trace) => {
+            let drawn = chart_trace_cmd(alloc, given.part, lines, input, trace, output);
+            charted(drawn, errors)
+        }
+        None => charted(chart_cmd(alloc, given.part, lines, input, output), errors),
+    }
+}
+
+fn place_of(line: Option<u64>) -> Option<usize>
+    ensures { result ≡ line }
+{
+    match line {
+        Some(line) => Some(line as usize),
+        None => None,
+    }
+}
+
+// The status of a chart. Why there is none is told, but for a fault that other commands have too.
+fn charted<E: Write>(drawn: Result<(), ChartFault>, errors: &mut E) -> Result<u8, Fault>
+    ensures { result ≡ of_chart drawn }
+{
     match drawn {
         Ok(()) => Ok(DONE),
         Err(ChartFault::Command(fault)) => Err(fault),
-        Err(fault) => {
-            let _ = writeln!(errors, "error: {fault}");
-            Ok(fault.status())
+        Err(why) => {
+            let _ = writeln!(errors, "error: {why}");
+            Ok(why.status())
         }
     }
 }
@@ -213,11 +407,33 @@ pub fn page<R: Read, T: Read, W: Write, E: Write>(
     trace: Option<&mut T>,
     output: &mut W,
     errors: &mut E,
-) -> Result<u8, Fault> {
-    let written = match trace {
-        Some(trace) => page_trace_cmd(alloc, given.part, input, trace, output),
-        None => page_cmd(alloc, given.part, input, output),
-    };
+) -> Result<u8, Fault>
+    ensures pages { MatchOption trace.entry
+        (IfSome (R.remaining input.old) (λ text. Does of_page
+        (λ answer. (blank : Blank) × Pages {A = ⊤} blank text given.entry.part.now
+        (W.contents output.old) (W.contents output.new) answer)
+        result))
+        (λ apart. IfSome (R.remaining input.old) (λ netlist. IfSome (T.remaining apart.now) (λ text. Does of_page
+        (λ answer. (blank : Blank) × PagesApart {A = ⊤} blank netlist text given.entry.part.now
+        (W.contents output.old) (W.contents output.new) answer)
+        result))) }
+
+    // Whatever comes of it, it reads at most one byte past the limit.
+    ensures bounded { ReadsWithin (R.remaining input.old) (R.remaining input.new) }
+{
+    match trace {
+        Some(trace) => {
+            let written = page_trace_cmd(alloc, given.part, input, trace, output);
+            paged(written, errors)
+        }
+        None => paged(page_cmd(alloc, given.part, input, output), errors),
+    }
+}
+
+// The status of a page. Why there is none is told, but for a fault that other commands have too.
+fn paged<E: Write>(written: Result<(), PageFault>, errors: &mut E) -> Result<u8, Fault>
+    ensures { result ≡ of_page written }
+{
     match written {
         Ok(()) => Ok(DONE),
         Err(PageFault::Command(fault)) => Err(fault),
@@ -236,7 +452,18 @@ pub fn pool<T: Threads + Wait + Sync, R: Read, W: Write, E: Write>(
     input: &mut R,
     output: &mut W,
     errors: &mut E,
-) -> Result<u8, Fault> {
+) -> Result<u8, Fault>
+    ensures refused { (AreWorkers given.entry.options.workers × IsJournal given.entry.options.journal → ⊥)
+        → IsRefused (W.contents output.old) (W.contents output.new) result }
+    ensures pools { AreWorkers given.entry.options.workers → IsJournal given.entry.options.journal
+        → IfSome (R.remaining input.old) (λ text. Does of_done
+        (Pools text (texts given.entry.words.now) given.entry.part.now given.entry.options.workers given.entry.options.fuel
+        given.entry.options.journal (W.contents output.old) (W.contents output.new))
+        result) }
+
+    // Whatever comes of it, it reads at most one byte past the limit.
+    ensures bounded { ReadsWithin (R.remaining input.old) (R.remaining input.new) }
+{
     let options = PoolOptions {
         workers: given.options.workers,
         fuel: given.options.fuel,
@@ -248,7 +475,7 @@ pub fn pool<T: Threads + Wait + Sync, R: Read, W: Write, E: Write>(
     if options.journal == 0 || options.journal > MAX_JOURNAL {
         return Ok(BAD_COMMAND_LINE);
     }
-    let ends = pool_cmd(
+    let pooled = pool_cmd(
         threads,
         alloc,
         given.part,
@@ -256,9 +483,21 @@ pub fn pool<T: Threads + Wait + Sync, R: Read, W: Write, E: Write>(
         given.words,
         input,
         output,
-    )?;
-    note_ends(ends.as_slice(), errors);
-    Ok(DONE)
+    );
+    closed(pooled, errors)
+}
+
+// The status of a pool. Which sessions still waited is noted.
+fn closed<E: Write>(pooled: Result<Vec<End>, Fault>, errors: &mut E) -> Result<u8, Fault>
+    ensures { result ≡ of_done pooled }
+{
+    match pooled {
+        Ok(ends) => {
+            note_ends(ends.as_slice(), errors);
+            Ok(DONE)
+        }
+        Err(fault) => Err(fault),
+    }
 }
 
 fn note_ends<E: Write>(ends: &[End], errors: &mut E) {
@@ -280,7 +519,9 @@ fn note_end<E: Write>(session: usize, end: End, errors: &mut E) {
 }
 
 // The status of a command that answers nothing.
-fn done(answer: Result<(), Fault>) -> Result<u8, Fault> {
+fn done(answer: Result<(), Fault>) -> Result<u8, Fault>
+    ensures { result ≡ of_done answer }
+{
     match answer {
         Ok(()) => Ok(DONE),
         Err(fault) => Err(fault),

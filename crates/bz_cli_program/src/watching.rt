@@ -1,5 +1,9 @@
 //! What becomes of words, played before anything is written.
 
+ghost use Rattle.std.specs.Prelude.{map, IfErr, IfOk};
+ghost use Rattle.bz_cli_core.specs.Running.{AreCommands, RefusesWords};
+ghost use Rattle.bz_words.specs.Words.{command_of, texts};
+
 use bz_cli_input::{Fault, flat_of};
 use bz_model::{Cmd, Entry, Move, Reply, Verb, Who};
 use bz_net::{Play, RestReply, RunEnd};
@@ -22,7 +26,10 @@ pub(crate) struct Watched {
 }
 
 /// The commands that words spell, each word one.
-pub(crate) fn commands_of(alloc: Global, words: &[&str]) -> Result<Vec<Cmd>, Fault> {
+pub(crate) fn commands_of(alloc: Global, words: &[&str]) -> Result<Vec<Cmd>, Fault>
+    ensures ok { IfOk result (λ cmds. AreCommands (texts words.now) (map command_of cmds.items)) }
+    ensures err { IfErr result (RefusesWords (texts words.now)) }
+{
     let mut cmds = Vec::new(alloc);
     for (place, word) in words.iter().enumerate() {
         let Some(cmd) = bz_words::command(alloc, word)? else {

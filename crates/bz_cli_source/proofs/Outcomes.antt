@@ -1,5 +1,7 @@
 -- What comes of a command, from what was read and written.
-use Rattle.std.proofs.Common.{◌≡◌, ◌≤◌, ℕ, Option, None, Some, Result, Ok, Err, List, length, map, inr, subst}
+use Rattle.std.proofs.Common.{◌≡◌, ◌≢◌, ◌≤◌, ◌⊎◌, ℕ, Option, None, Some, Result, Ok, Err, List, length, map, inl, inr, subst, sym}
+use Rattle.std.specs.declared.alloc.Global.{Global}
+use Rattle.std.specs.declared.vec.Vec.{Vec}
 use Rattle.std.specs.Prelude.{IfSome}
 use Rattle.std.specs.Io.KnownBytes.{Appends}
 use Rattle.bz_model.specs.Nets.{Wiring}
@@ -10,7 +12,12 @@ use Rattle.bz_cli_input.specs.Limits.{input_limit}
 use Rattle.bz_cli_input.specs.Stopping.{AppendsSome}
 use Rattle.bz_flat.specs.declared.flat.Pieces.{Pieces}
 use Rattle.bz_source.specs.declared.survey.Survey.{Survey}
-use Rattle.bz_cli_source.specs.Surveys.{IsPlaced, IsSurvey, wiring_in}
+use Rattle.bz_cli_source.specs.Surveys.{IsPlaced, IsRead, IsSurvey, wiring_in}
+use Rattle.bz_source.specs.declared.error.PlacesError.{PlacesError}
+use Rattle.bz_source.specs.declared.error.PlacesError.TheVariants.{Memory}
+use Rattle.bz_source.specs.Found.{Locates, Misses}
+use Rattle.bz_source.specs.Net.{FindsNamed}
+use Rattle.bz_source.proofs.Missing.{never_misses}
 use Rattle.bz_cli_source.specs.Listing.{paths_text}
 use Rattle.bz_cli_source.specs.Listed.{Lists, ListsPaths}
 use Rattle.bz_sexpr.specs.Data.{Datum}
@@ -28,6 +35,20 @@ pub lists_on : {A : Type 0} (known : Option (List ℕ)) (items part : List ℕ) 
     → IfSome known (λ text. Lists text part old new answer)
 lists_on None items part old new answer whole fits lists = tt
 lists_on (Some xs) items part old new answer whole fits lists = inr (subst (λ text. (length text ≤ input_limit) × ListsPaths text part old new answer) whole (fits, lists))
+
+-- what was read, with the places of the net
+pub surveyed : (text part : List ℕ) (w : Wiring) (listed : List Part) (lines : Vec PartLines Global) (s : Survey) → s.parts ≡ listed → s.lines ≡ lines → IsRead text part w listed lines.items → Locates listed part s.places → FindsNamed listed part s.places
+    → IsSurvey text part w s
+surveyed text part w listed lines s parts_are lines_are read places named = record {
+  source = subst (λ p. IsRead text part w p s.lines.items) (sym parts_are) (subst (λ (l : Vec PartLines Global). IsRead text part w listed l.items) (sym lines_are) read);
+  places = subst (λ p. Locates p part s.places) (sym parts_are) places;
+  named = subst (λ p. FindsNamed p part s.places) (sym parts_are) named;
+}
+
+-- a net that was read has places
+pub no_miss : (text part : List ℕ) (w : Wiring) (listed : List Part) (lines : List PartLines) (e : PlacesError) → IsRead text part w listed lines → (e ≡ Memory) ⊎ Misses listed part e → e ≢ Memory → ⊥
+no_miss text part w listed lines e read (inl wanting) some = some wanting
+no_miss text part w listed lines e read (inr misses) some = never_misses listed part w e read.net misses
 
 -- a net that was taken apart stands where its survey says
 pub placed : (text part : List ℕ) (w : Wiring) (net : Pieces) (s : Survey) → w ≡ wiring_in net → IsSurvey text part w s → WellWired (wiring_in net) → EndsOf (wiring_in net) net.ends.items → IsPlaced text part net s

@@ -39,6 +39,7 @@ pub fn survey_of(alloc: Global, part: &[u8], text: &[u8]) -> Result<(Flat, Surve
         Ok(survey) => Ok((flat, survey)),
         Err(PlacesError::Memory) => Err(Fault::Memory),
         // a part that has a net has places
-        Err(PlacesError::NoPart | PlacesError::TooDeep) => unreachable!(),
+        Err(PlacesError::NoPart) => unreachable!(),
+        Err(PlacesError::TooDeep) => unreachable!(),
     }
 }

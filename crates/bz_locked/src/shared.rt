@@ -224,7 +224,7 @@ impl<L: NetLedger> SharedNet<L> {
     ) -> Result<(SharedNet<L>, Vec<Session>, Vec<Worker<L>>), CloseError>
         requires ledger { (blank.name ≡ L.name) × (blank.parts ≡ L.parts) × (L.parts ≡ workers) }
         requires past { (opened.0 ≡ L.past) × (opened.1.table ≡ L.past) × (opened.1.now ≡ moment net false) }
-        requires opening { (net.wiring ≡ L.terms.wiring) × (fuel ≡ L.terms.fuel) × (sessions ≡ L.terms.sessions) }
+        requires opening { (net.wiring ≡ L.terms.wiring) × (net.limit ≡ L.terms.limit) × (fuel ≡ L.terms.fuel) × (sessions ≡ L.terms.sessions) }
         requires counts { (1 ≤ sessions) × (sessions ≤ 16) × (1 ≤ workers) × (workers ≤ 8) }
         requires unused { net.journal ≡ [] }
         ensures shared { IfOk result (λ r. (r.0.sessions ≡ sessions) × (r.0.workers ≡ workers)) }

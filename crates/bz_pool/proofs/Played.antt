@@ -8,7 +8,6 @@ use Rattle.bz_model.specs.declared.event.Entry.{Entry}
 use Rattle.bz_model.specs.declared.event.HostCmd.{HostCmd}
 use Rattle.bz_model.specs.declared.event.Who.{Who}
 use Rattle.bz_model.specs.declared.event.Who.TheVariants.{Host}
-use Rattle.bz_model.specs.Nets.{Wiring}
 use Rattle.bz_locked.specs.Discords.{IsDiscord}
 use Rattle.bz_locked.specs.declared.closing.CloseError.{CloseError}
 use Rattle.bz_locked.specs.Closing.{FirstDiscord, Gathers, RecordAgrees}
@@ -29,7 +28,7 @@ use Rattle.bz_session.proofs.Turns.{answers_on, end_on}
 use Rattle.std.proofs.lemmas.List.Elements.{All-nil, All-cons, All-head, All-tail}
 use Rattle.bz_pool.specs.Crews.{AddsWork, EachPlayed, EachWorked, HavePlayed, TellsDiscord}
 use Rattle.bz_pool.specs.Pooled.{ArePlayed, Differs, IsPlayed, PlayInTurn, WorkEndIs, RefusesPool, hands, hosts, in_turn}
-use Rattle.bz_locked.specs.Terms.{Terms, terms}
+use Rattle.bz_locked.specs.Terms.{Terms}
 
 -- one session more
 pub played_more : (w : Terms) (ls : List (Vec HostCmd Global)) (ss : List SessionView) (es : List End) (l : Vec HostCmd Global) (s : SessionView) (e : End) → EachPlayed w ls ss es → IsPlayed w s.seat.saw s.who l.items e s.own → EachPlayed w (ls ++ l ∷ []) (ss ++ s ∷ []) (es ++ e ∷ [])
@@ -142,9 +141,9 @@ of_err P Q (Ok a) f p = tt
 of_err P Q (Err e) f p = f e p
 
 -- a discord of what was handed in
-pub all_refused : (w : Wiring) (fuel sessions workers : ℕ) (ss : List SessionView) (vs : List WorkerView) (c : Closed) (e : PoolError) → map (λ s. s.who) ss ≡ hosts sessions → map (λ v. v.who) vs ≡ hands workers → Gathers w fuel ss vs c → TellsDiscord ss vs c e → RefusesPool w fuel sessions workers e
-all_refused w fuel sessions workers ss vs c e hs ws gathers tells =
-    let differs : Differs w fuel sessions workers tells.who tells.at = record {
+pub all_refused : (t : Terms) (workers : ℕ) (ss : List SessionView) (vs : List WorkerView) (c : Closed) (e : PoolError) → map (λ s. s.who) ss ≡ hosts t.sessions → map (λ v. v.who) vs ≡ hands workers → Gathers t ss vs c → TellsDiscord ss vs c e → RefusesPool t workers e
+all_refused t workers ss vs c e hs ws gathers tells =
+    let differs : Differs t workers tells.who tells.at = record {
       closed = c;
       of_sessions = ss;
       of_workers = vs;
@@ -153,16 +152,9 @@ all_refused w fuel sessions workers ss vs c e hs ws gathers tells =
       gathers = gathers;
       first = tells.first;
     } in
-    subst (RefusesPool w fuel sessions workers) (sym tells.told) differs
+    subst (RefusesPool t workers) (sym tells.told) differs
 
 -- which error the close answers
 pub discord_told : (ss : List SessionView) (vs : List WorkerView) (c : Closed) (e : CloseError) → IsDiscord e (FirstDiscord ss vs c) → TellsDiscord ss vs c (Close e)
 discord_told ss vs c (close.Discord who at) is = record { who = who; at = at; told = refl; first = is }
 discord_told ss vs c close.Memory is = absurd is
-
--- terms are told by their parts
-pub terms_are : (t : Terms) (wiring : Wiring) (fuel sessions : ℕ) → wiring ≡ t.wiring → fuel ≡ t.fuel → sessions ≡ t.sessions → t ≡ terms wiring fuel sessions
-terms_are t wiring fuel sessions w f s =
-    subst (λ (v : Wiring). t ≡ terms v fuel sessions) (sym w)
-    (subst (λ n. t ≡ terms t.wiring n sessions) (sym f)
-    (subst (λ n. t ≡ terms t.wiring t.fuel n) (sym s) refl))

@@ -251,10 +251,10 @@ fn in_scope<'x, L: NetLedger + Send + Sync, G: Gate + Sync, R: Threads + Wait + 
 fn close<L: NetLedger>(shared: SharedNet<L>, crew: Crew<L>) -> Result<(Closed, Vec<End>), PoolError>
     requires counts { (vec_len crew.sessions ≡ shared.sessions) × (vec_len crew.workers ≡ shared.workers) × (shared.workers ≡ L.parts) }
     requires seats { All (λ s. s.seat.table ≡ shared.table) crew.sessions.items × All (λ w. w.seat.table ≡ shared.table) crew.workers.items }
-    ensures gathers { IfOk result (λ r. Gathers L.terms.wiring L.terms.fuel crew.sessions.items crew.workers.items r.0) }
+    ensures gathers { IfOk result (λ r. Gathers L.terms crew.sessions.items crew.workers.items r.0) }
     ensures agrees { IfOk result (λ r. Agrees crew.sessions.items crew.workers.items r.0) }
     ensures ends { IfOk result (λ r. r.1 ≡ crew.ends) }
-    ensures discord { IfErr result (λ e. (c : Closed) × Gathers L.terms.wiring L.terms.fuel crew.sessions.items crew.workers.items c × TellsDiscord crew.sessions.items crew.workers.items c e) }
+    ensures discord { IfErr result (λ e. (c : Closed) × Gathers L.terms crew.sessions.items crew.workers.items c × TellsDiscord crew.sessions.items crew.workers.items c e) }
 {
     let Crew {
         sessions,
@@ -282,12 +282,12 @@ fn pool<L: NetLedger + Send + Sync, G: Gate + Sync, R: Threads + Wait + Sync>(
     requires ledger { (blank.name ≡ L.name) × (blank.parts ≡ L.parts) × (L.parts ≡ workers) }
     requires counts { (1 ≤ vec_len lists) × (vec_len lists ≤ 16) × (1 ≤ workers) × (workers ≤ 8) }
     requires past { (opened.0 ≡ L.past) × (opened.1.table ≡ L.past) × (opened.1.now ≡ moment net false) }
-    requires opening { (net.wiring ≡ L.terms.wiring) × (fuel ≡ L.terms.fuel) × (vec_len lists ≡ L.terms.sessions) }
+    requires opening { (net.wiring ≡ L.terms.wiring) × (net.limit ≡ L.terms.limit) × (fuel ≡ L.terms.fuel) × (vec_len lists ≡ L.terms.sessions) }
     requires unused { net.journal ≡ [] }
-    ensures pooled { IfOk result (λ r. IsPooled net.wiring fuel (vec_len lists) workers r.0) }
-    ensures played { IfOk result (λ r. ArePlayed (terms net.wiring fuel (vec_len lists)) lists.items workers (moment r.0.net r.0.stopped) r.1.items) }
+    ensures pooled { IfOk result (λ r. IsPooled L.terms workers r.0) }
+    ensures played { IfOk result (λ r. ArePlayed L.terms lists.items workers (moment r.0.net r.0.stopped) r.1.items) }
     ensures ends { IfOk result (λ r. vec_len r.1 ≡ vec_len lists + workers) }
-    ensures refused { IfErr result (RefusesPool net.wiring fuel (vec_len lists) workers) }
+    ensures refused { IfErr result (RefusesPool L.terms workers) }
 {
     let made = SharedNet::<L>::new(alloc, blank, opened, net, fuel, lists.len() as u8, workers);
     let (net, sessions, crew) = match made {
@@ -315,10 +315,10 @@ pub fn run_pool<G: Gate + Sync, R: Threads + Wait + Sync>(
 ) -> Result<(Closed, Vec<End>), PoolError>
     requires counts { (1 ≤ vec_len lists) × (vec_len lists ≤ 16) × (1 ≤ workers) × (workers ≤ 8) }
     requires unused { net.journal ≡ [] }
-    ensures pooled { IfOk result (λ r. IsPooled net.wiring fuel (vec_len lists) workers r.0) }
-    ensures played { IfOk result (λ r. ArePlayed (terms net.wiring fuel (vec_len lists)) lists.items workers (moment r.0.net r.0.stopped) r.1.items) }
+    ensures pooled { IfOk result (λ r. IsPooled (terms net.wiring net.limit fuel (vec_len lists)) workers r.0) }
+    ensures played { IfOk result (λ r. ArePlayed (terms net.wiring net.limit fuel (vec_len lists)) lists.items workers (moment r.0.net r.0.stopped) r.1.items) }
     ensures ends { IfOk result (λ r. vec_len r.1 ≡ vec_len lists + workers) }
-    ensures refused { IfErr result (RefusesPool net.wiring fuel (vec_len lists) workers) }
+    ensures refused { IfErr result (RefusesPool (terms net.wiring net.limit fuel (vec_len lists)) workers) }
 {
     let Ok(opened) = Past::open(alloc, &net) else {
         return Err(PoolError::Memory);

@@ -81,7 +81,7 @@ impl<L: NetLedger + Send + Sync> Bench<L> {
     ) -> Result<Bench<L>, Fail>
         requires ledger { (blank.name ≡ L.name) × (blank.parts ≡ L.parts) × (L.parts ≡ 1) }
         requires past { (opened.0 ≡ L.past) × (opened.1.table ≡ L.past) × (opened.1.now ≡ moment net false) }
-        requires opening { (net.wiring ≡ L.terms.wiring) × (fuel ≡ L.terms.fuel) × (L.terms.sessions ≡ 2) × (net.journal ≡ []) }
+        requires opening { (net.wiring ≡ L.terms.wiring) × (net.limit ≡ L.terms.limit) × (fuel ≡ L.terms.fuel) × (L.terms.sessions ≡ 2) × (net.journal ≡ []) }
     {
         let (shared, mut sessions, mut workers) = SharedNet::new(
             alloc, blank, opened, net, fuel, 2, 1,
@@ -326,7 +326,7 @@ fn start<L: NetLedger + Send + Sync, R: Threads + Wait + Sync>(
 ) -> Result<(Closed, String), Fail>
     requires ledger { (blank.name ≡ L.name) × (blank.parts ≡ L.parts) × (L.parts ≡ 1) }
     requires past { (opened.0 ≡ L.past) × (opened.1.table ≡ L.past) × (opened.1.now ≡ moment net false) }
-    requires opening { (net.wiring ≡ L.terms.wiring) × (fuel ≡ L.terms.fuel) × (L.terms.sessions ≡ 2) × (net.journal ≡ []) }
+    requires opening { (net.wiring ≡ L.terms.wiring) × (net.limit ≡ L.terms.limit) × (fuel ≡ L.terms.fuel) × (L.terms.sessions ≡ 2) × (net.journal ≡ []) }
 {
     let bench = Bench::<L>::new(alloc, blank, opened, net, fuel)?;
     let (bench, told) = bench.play(rt, alloc, played);

@@ -1,30 +1,32 @@
-use Rattle.std.proofs.Common.{sym, subst, ◌∙◌, arith}
-use Rattle.std.specs.Prelude.{vec_len}
-use Rattle.bz_model.specs.Nets.{Wiring}
-use Rattle.bz_locked.specs.Terms.{terms}
+use Rattle.std.proofs.Common.{refl, sym, subst, ◌∙◌, arith}
+use Rattle.std.specs.Prelude.{length, vec_len}
+use Rattle.bz_locked.specs.Terms.{Terms, terms}
 use Rattle.bz_past.specs.Moments.{moment}
-use Rattle.bz_pool.specs.Pooled.{ArePlayed, RefusesPool}
-use Rattle.bz_cli.proofs.PoolOutcomes.{closed_so, no_close}
+use Rattle.bz_pool.specs.Pooled.{ArePlayed}
+use Rattle.bz_cli.proofs.PoolOutcomes.{closed_so, no_close, same_terms}
 use Rattle.bz_cli.proofs.pooling.pool_text.Goals as goal
 
 pub returns-in-Err : goal.returns-in-Err
 returns-in-Err g c =
     let opened = c.in_ok-net.ensures.ok in
     let lists = c.args.sessions in
-    let w = c.in_ok-net.net.wiring in
-    let why = subst (λ n. RefusesPool w c.args.options.fuel n c.args.options.workers c.in-Err.error) lists.ok.0 c.in-Err.ensures.refused in
-    no_close c.args.text.now c.args.part.now c.args.options.fuel lists.items c.args.options.workers opened.0 w opened.1 opened.2.wiring (g.W.Write.contents c.args.output.now) c.of_pool.result c.in-Err.error why c.of_pool.ensures
+    let options = c.args.options in
+    let net = c.in_ok-net.net in
+    let same = same_terms net.wiring opened.0 net.limit options.journal options.fuel (vec_len lists) (length lists.items) opened.2.wiring opened.2.limit_is lists.ok.0 in
+    no_close c.args.text.now c.args.part.now options.fuel options.journal lists.items options.workers opened.0 _ opened.1 same (g.W.Write.contents c.args.output.now) c.of_pool.result c.in-Err.error c.in-Err.ensures.refused c.of_pool.ensures
 
 pub returns : goal.returns
 returns g c =
     let opened = c.in_ok-net.ensures.ok in
     let closed = c.in-Ok.ensures in
     let lists = c.args.sessions in
-    let w = c.in_ok-net.net.wiring in
+    let options = c.args.options in
+    let net = c.in_ok-net.net in
     let ends = c.in-Ok.pooled.1 in
-    let last = moment c.in-Ok.pooled.0.net c.in-Ok.pooled.0.stopped in
-    let fuel = c.args.options.fuel in
-    let opened_so = subst (λ (v : Wiring). ArePlayed (terms v fuel (vec_len lists)) lists.items c.args.options.workers last ends.items) (sym closed.pooled.opened) closed.played in
-    let played = subst (λ n. ArePlayed (terms c.in-Ok.pooled.0.net.wiring fuel n) lists.items c.args.options.workers last ends.items) lists.ok.0 opened_so in
-    let writes = c.write_closed.ensures lists.items c.args.options.workers c.in-Ok.pooled.0.stopped (sym lists.ok.0 ∙ sym c.len-count.ensures) (omega (arith, closed.ends, lists.ok.0, ends.ok.0)) played in
-    closed_so c.args.text.now c.args.part.now c.args.options.fuel lists.items c.args.options.workers opened.0 w _ _ _ c.write_closed.result opened.1 opened.2.wiring closed.pooled.opened writes
+    let left = c.in-Ok.pooled.0.net in
+    let last = moment left c.in-Ok.pooled.0.stopped in
+    let mine = same_terms net.wiring left.wiring net.limit left.limit options.fuel (vec_len lists) (length lists.items) (sym closed.pooled.opened) (sym closed.pooled.limited) lists.ok.0 in
+    let played = subst (λ (t : Terms). ArePlayed t lists.items options.workers last ends.items) mine closed.played in
+    let writes = c.write_closed.ensures lists.items options.workers c.in-Ok.pooled.0.stopped (sym lists.ok.0 ∙ sym c.len-count.ensures) (omega (arith, closed.ends, lists.ok.0, ends.ok.0)) played in
+    let same = same_terms left.wiring opened.0 left.limit options.journal options.fuel (length lists.items) (length lists.items) (closed.pooled.opened ∙ opened.2.wiring) (closed.pooled.limited ∙ opened.2.limit_is) refl in
+    closed_so c.args.text.now c.args.part.now options.fuel options.journal lists.items options.workers opened.0 _ _ _ c.write_closed.result opened.1 same writes

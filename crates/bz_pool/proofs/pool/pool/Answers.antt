@@ -1,20 +1,17 @@
-use Rattle.std.proofs.Common.{◌≡◌, ◌+◌, ◌≤◌, map, length, vec_len, sum, sym, ap, subst, ◌∙◌, arith}
+use Rattle.std.proofs.Common.{◌≡◌, ◌+◌, map, length, vec_len, sym, ap, subst, ◌∙◌, arith}
 use Rattle.std.specs.declared.alloc.Global.{Global}
 use Rattle.std.specs.declared.vec.Vec.{Vec}
 use Rattle.bz_model.specs.declared.event.Who.TheVariants.{Host, Worker}
-use Rattle.bz_model.specs.Nets.{Wiring, opening}
-use Rattle.bz_model.specs.Runs.{Run}
 use Rattle.bz_locked.specs.Closing.{Agrees, Gathers}
 use Rattle.bz_locked.specs.Journal.{part_of, firings}
 use Rattle.bz_locked.specs.Parts.{SessionView, WorkerView}
-use Rattle.bz_locked.specs.Terms.{Terms, terms}
 use Rattle.bz_past.specs.Moments.{moment}
 use Rattle.bz_locked.specs.declared.closing.Closed.{Closed}
 use Rattle.bz_session.specs.declared.playing.End.{End}
 use Rattle.bz_pool.specs.Crews.{HavePlayed, TellsDiscord}
 use Rattle.bz_pool.specs.Pooled.{ArePlayed, IsPooled, RefusesPool}
 use Rattle.bz_pool.specs.declared.pool.PoolError.{PoolError}
-use Rattle.bz_pool.proofs.Played.{all_played, all_refused, ends_count, of_err, of_ok, terms_are}
+use Rattle.bz_pool.proofs.Played.{all_played, all_refused, ends_count, of_err, of_ok}
 use Rattle.bz_pool.proofs.Pooling.{named, told}
 use Rattle.bz_pool.proofs.pool.pool.Goals as goal
 
@@ -23,28 +20,28 @@ returns-in-Ok-in_scope-clause-pooled g c =
     let crew = c.in-Ok-in_scope.crew in
     let whos = c.in-Ok-in_scope.ensures.who in
     let made = c.in-Ok.ensures in
-    let count : c.len.result ≡ vec_len c.args.lists = c.len.ensures in
-    let w = g.L.NetLedger.terms.wiring in
-    let fuel = g.L.NetLedger.terms.fuel in
+    let t = g.L.NetLedger.terms in
+    let count : c.len.result ≡ t.sessions = c.len.ensures ∙ c.requires.opening.3 in
     of_ok
-    (λ (r : Closed × Vec End Global). Gathers w fuel crew.sessions.items crew.workers.items r.0)
+    (λ (r : Closed × Vec End Global). Gathers t crew.sessions.items crew.workers.items r.0)
     (λ (r : Closed × Vec End Global). Agrees crew.sessions.items crew.workers.items r.0)
-    (λ (r : Closed × Vec End Global). IsPooled c.args.net.wiring c.args.fuel (vec_len c.args.lists) c.args.workers r.0)
+    (λ (r : Closed × Vec End Global). IsPooled t c.args.workers r.0)
     c.close.result
     (λ r gathers agrees. let journal = r.0.net.journal in record {
-      opened = gathers.opened ∙ sym c.requires.opening.0;
-      run = subst (λ (w : Wiring). Run w (opening w) journal r.0.net.state) (sym c.requires.opening.0) gathers.run;
+      opened = gathers.opened;
+      limited = gathers.limited;
+      run = gathers.run;
       records =
           gathers.records
           ∙ told (λ (s : SessionView). s.who) (λ s. s.own) (λ who. part_of who journal) crew.sessions.items agrees.records
-          ∙ ap (map (λ who. part_of who journal)) (whos.0 ∙ named (λ (s : SessionView). s.who) Host _ 0 (vec_len c.args.lists) (omega (arith, made.sessions.0, count)) (λ k d lt. let e : k + 1 ≡ 0 + (k + 1) = omega arith in ap (λ (s : SessionView). s.who) (made.sessions.1 k d (omega (arith, lt, count))) ∙ ap Host e));
+          ∙ ap (map (λ who. part_of who journal)) (whos.0 ∙ named (λ (s : SessionView). s.who) Host _ 0 t.sessions (omega (arith, made.sessions.0, count)) (λ k d lt. let e : k + 1 ≡ 0 + (k + 1) = omega arith in ap (λ (s : SessionView). s.who) (made.sessions.1 k d (omega (arith, lt, count))) ∙ ap Host e));
       shares =
           gathers.shares
           ∙ told (λ (v : WorkerView). v.who) (λ v. v.fired) (λ who. firings who journal) crew.workers.items agrees.shares
           ∙ ap (map (λ who. firings who journal)) (whos.1 ∙ named (λ (v : WorkerView). v.who) Worker _ 0 c.args.workers (omega (arith, made.workers.0)) (λ k d lt. let e : k + 1 ≡ 0 + (k + 1) = omega arith in ap (λ (v : WorkerView). v.who) (made.workers.1 k d lt) ∙ ap Worker e));
       front = agrees.front;
       ledger = gathers.ledger;
-      within = subst (λ n. sum r.0.shares.items ≤ n) (sym c.requires.opening.1) gathers.within;
+      within = gathers.within;
     })
     c.close.ensures.gathers
     c.close.ensures.agrees
@@ -55,20 +52,18 @@ returns-in-Ok-in_scope-clause-played g c =
     let made = c.in-Ok.ensures in
     let count : c.len.result ≡ vec_len c.args.lists = c.len.ensures in
     let whos = c.in-Ok-in_scope.ensures.who.0 ∙ named (λ (s : SessionView). s.who) Host _ 0 (length c.args.lists.items) (omega (arith, made.sessions.0, count, c.args.lists.ok.0)) (λ k d lt. let e : k + 1 ≡ 0 + (k + 1) = omega arith in ap (λ (s : SessionView). s.who) (made.sessions.1 k d (omega (arith, lt, count, c.args.lists.ok.0))) ∙ ap Host e) in
-    let t = terms c.args.net.wiring c.args.fuel (vec_len c.args.lists) in
-    let same_terms = terms_are g.L.NetLedger.terms c.args.net.wiring c.args.fuel (vec_len c.args.lists) c.requires.opening.0 c.requires.opening.1 c.requires.opening.2 in
-    let have = subst (λ (u : Terms). HavePlayed u c.args.lists.items crew.sessions.items crew.workers.items (vec_len c.in-Ok.made.2) crew.ends.items) same_terms c.in-Ok-in_scope.ensures.played in
-    let number = subst (λ n. HavePlayed t c.args.lists.items crew.sessions.items crew.workers.items n crew.ends.items) made.workers.0 have in
-    let Has : Closed × Vec End Global → Type 0 = λ r. Gathers g.L.NetLedger.terms.wiring g.L.NetLedger.terms.fuel crew.sessions.items crew.workers.items r.0 × Agrees crew.sessions.items crew.workers.items r.0 in
+    let t = g.L.NetLedger.terms in
+    let have = subst (λ n. HavePlayed t c.args.lists.items crew.sessions.items crew.workers.items n crew.ends.items) made.workers.0 c.in-Ok-in_scope.ensures.played in
+    let Has : Closed × Vec End Global → Type 0 = λ r. Gathers t crew.sessions.items crew.workers.items r.0 × Agrees crew.sessions.items crew.workers.items r.0 in
     of_ok
     Has
     (λ (r : Closed × Vec End Global). r.1 ≡ crew.ends)
     (λ (r : Closed × Vec End Global). ArePlayed t c.args.lists.items c.args.workers (moment r.0.net r.0.stopped) r.1.items)
     c.close.result
     (λ r has same. subst (λ (es : Vec End Global). ArePlayed t c.args.lists.items c.args.workers (moment r.0.net r.0.stopped) es.items) (sym same)
-    (all_played t (moment r.0.net r.0.stopped) c.args.lists.items crew.sessions.items crew.workers.items c.args.workers crew.ends.items whos has.1.records has.0.sessions_saw has.0.workers_saw number))
+    (all_played t (moment r.0.net r.0.stopped) c.args.lists.items crew.sessions.items crew.workers.items c.args.workers crew.ends.items whos has.1.records has.0.sessions_saw has.0.workers_saw have))
     (of_ok
-    (λ (r : Closed × Vec End Global). Gathers g.L.NetLedger.terms.wiring g.L.NetLedger.terms.fuel crew.sessions.items crew.workers.items r.0)
+    (λ (r : Closed × Vec End Global). Gathers t crew.sessions.items crew.workers.items r.0)
     (λ (r : Closed × Vec End Global). Agrees crew.sessions.items crew.workers.items r.0)
     Has
     c.close.result
@@ -107,18 +102,14 @@ pub returns-in-Ok-in_scope-clause-refused : goal.returns-in-Ok-in_scope-clause-r
 returns-in-Ok-in_scope-clause-refused g c =
     let crew = c.in-Ok-in_scope.crew in
     let made = c.in-Ok.ensures in
-    let count : c.len.result ≡ vec_len c.args.lists = c.len.ensures in
     let whos = c.in-Ok-in_scope.ensures.who in
-    let w = g.L.NetLedger.terms.wiring in
-    let fuel = g.L.NetLedger.terms.fuel in
-    let hs = whos.0 ∙ named (λ (s : SessionView). s.who) Host _ 0 (vec_len c.args.lists) (omega (arith, made.sessions.0, count)) (λ k d lt. let e : k + 1 ≡ 0 + (k + 1) = omega arith in ap (λ (s : SessionView). s.who) (made.sessions.1 k d (omega (arith, lt, count))) ∙ ap Host e) in
+    let t = g.L.NetLedger.terms in
+    let count : c.len.result ≡ t.sessions = c.len.ensures ∙ c.requires.opening.3 in
+    let hs = whos.0 ∙ named (λ (s : SessionView). s.who) Host _ 0 t.sessions (omega (arith, made.sessions.0, count)) (λ k d lt. let e : k + 1 ≡ 0 + (k + 1) = omega arith in ap (λ (s : SessionView). s.who) (made.sessions.1 k d (omega (arith, lt, count))) ∙ ap Host e) in
     let ws = whos.1 ∙ named (λ (v : WorkerView). v.who) Worker _ 0 c.args.workers (omega (arith, made.workers.0)) (λ k d lt. let e : k + 1 ≡ 0 + (k + 1) = omega arith in ap (λ (v : WorkerView). v.who) (made.workers.1 k d lt) ∙ ap Worker e) in
     of_err
-    (λ (e : PoolError). (d : Closed) × Gathers w fuel crew.sessions.items crew.workers.items d × TellsDiscord crew.sessions.items crew.workers.items d e)
-    (λ (e : PoolError). RefusesPool c.args.net.wiring c.args.fuel (vec_len c.args.lists) c.args.workers e)
+    (λ (e : PoolError). (d : Closed) × Gathers t crew.sessions.items crew.workers.items d × TellsDiscord crew.sessions.items crew.workers.items d e)
+    (λ (e : PoolError). RefusesPool t c.args.workers e)
     c.close.result
-    (λ e has.
-    let same = subst (λ (v : Wiring). Gathers v fuel crew.sessions.items crew.workers.items has.0) (sym c.requires.opening.0) has.1 in
-    let all = subst (λ n. Gathers c.args.net.wiring n crew.sessions.items crew.workers.items has.0) (sym c.requires.opening.1) same in
-    all_refused c.args.net.wiring c.args.fuel (vec_len c.args.lists) c.args.workers crew.sessions.items crew.workers.items has.0 e hs ws all has.2)
+    (λ e has. all_refused t c.args.workers crew.sessions.items crew.workers.items has.0 e hs ws has.1 has.2)
     c.close.ensures.discord

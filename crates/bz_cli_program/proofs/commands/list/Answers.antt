@@ -1,0 +1,12 @@
+use Rattle.bz_cli_input.specs.Listed.{Lists}
+use Rattle.bz_cli_source.specs.Listed as placed
+use Rattle.bz_cli_program.proofs.Ended.{is_done}
+use Rattle.bz_cli_program.proofs.commands.list.Goals as goal
+
+pub returns-then-given-clause-places : goal.returns-then-given-clause-places
+returns-then-given-clause-places g c =
+    λ places. is_done _ (λ text answer. placed.Lists text c.args.given.part.now _ _ answer) c.list_paths_cmd.result _ c.list_paths_cmd.ensures.lists c.done.ensures
+
+pub returns-else-given-clause-plainly : goal.returns-else-given-clause-plainly
+returns-else-given-clause-plainly g c =
+    λ plainly. is_done _ (λ text answer. Lists text c.args.given.part.now _ _ answer) c.list_cmd.result _ c.list_cmd.ensures.lists c.done.ensures
