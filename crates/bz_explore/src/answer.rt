@@ -4,10 +4,10 @@ use crate::explored::Ending;
 use crate::piece::Piece;
 use crate::table::{Form, words_of_commands};
 use bz_explain_notes::nearest_name;
+use bz_explore_moves::gathered;
 use bz_net::Net;
 use bz_text::Text;
 use bz_trace_text::put_entries;
-use std::alloc::AllocError;
 
 /// The most lines that are told of one command, and half of them.
 pub(crate) const MOST_LINES: usize = 40;
@@ -58,17 +58,6 @@ impl Answer {
             Ok(Some(word)) => self.text.say("the nearest is `%`\n", &[Piece::Bytes(word)]),
             Ok(None) => self.text.put("`help` tells them\n"),
             Err(_) => self.text.lose(),
-        }
-    }
-}
-
-/// The list, or an empty one where memory was refused for it, so that the text is lost.
-pub(crate) fn gathered<T: Drop>(list: Result<Vec<T>, AllocError>, text: &mut Text) -> Vec<T> {
-    match list {
-        Ok(list) => list,
-        Err(_) => {
-            text.lose();
-            Vec::new(text.alloc())
         }
     }
 }

@@ -3,7 +3,8 @@
 //! Components that wait for no other are taken out of the graph again and again (Kahn's algorithm). Whoever is left waits
 //! for one that is left, and from each the way to the least of these ends in a cycle.
 
-use crate::answer::{add, gathered};
+use crate::answer::add;
+use bz_explore_moves::gathered;
 use crate::graph::Wait;
 use bz_text::Text;
 

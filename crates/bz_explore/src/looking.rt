@@ -1,16 +1,16 @@
 //! What can come next, and how far the net is.
 
-use crate::answer::{Answer, gathered};
+use crate::answer::Answer;
 use crate::commands::Call;
 use crate::piece::{Piece, say_number, say_phase};
 use crate::things::asked;
 use crate::view::{Thing, View, chan_at, port, port_count};
 use crate::waits::{put_all_waits, put_chain, put_held, put_waits};
-use bz_explore_net::{HostOffer, Offer, answered_words, busy_chans, offers_of};
+use bz_explore_moves::{gathered, put_moves};
+use bz_explore_net::busy_chans;
 use bz_flat::FlatComp;
-use bz_kind_rows::kind_word;
 use bz_model::{Entry, Kind, Move, Value};
-use bz_source::{Survey, put_comp, put_label};
+use bz_source::{put_comp, put_label};
 use bz_text::Text;
 use bz_trace_text::counts;
 
@@ -24,7 +24,7 @@ clashes:";
 /// Answers a command that looks at the net and moves nothing.
 pub(crate) fn look(view: &View<'_>, call: Call<'_>, answer: &mut Answer) {
     match (call.form.word(), call.first) {
-        ("moves", _) => put_moves(view, &mut answer.text),
+        ("moves", _) => put_moves(view.course, view.survey, &mut answer.text),
         ("waits", None) => put_waits(view, &mut answer.text),
         ("waits", Some("all")) => put_all_waits(view, &mut answer.text),
         (_, None) => put_totals(view, &mut answer.text),
@@ -44,73 +44,6 @@ fn put_thing(view: &View<'_>, hangs: bool, thing: Thing, text: &mut Text) {
         Thing::Chan(chan) if hangs => put_held(view, chan, text),
         Thing::Chan(chan) => put_chan_state(view, chan, text),
     }
-}
-
-// Adds the moves of components, and the words of the host that would be answered.
-fn put_moves(view: &View<'_>, text: &mut Text) {
-    let (alloc, flat, net) = (text.alloc(), view.course.flat(), view.course.net());
-    let offers = gathered(offers_of(alloc, flat, net), text);
-    for offer in &offers {
-        put_offer(view, *offer, text);
-    }
-    for word in &gathered(answered_words(alloc, flat, net), text) {
-        put_word(view, *word, text);
-    }
-    match offers.len() {
-        0 => text.put("no component can move\n"),
-        count => text.say("%\n", &[Piece::Count(count, "move")]),
-    }
-}
-
-// The command that makes a move, with the move, its port, and the instance that the component is in.
-fn put_offer(view: &View<'_>, offer: Offer, text: &mut Text) {
-    let comp = Piece::Number(offer.comp.into());
-    text.say("fire % %", &[comp, Piece::Number(offer.port.into())]);
-    text.fill(12);
-    let (mv, chan) = (Piece::Text(offer.mv.word()), Piece::Chan(offer.chan, None));
-    text.say("% %%", &[mv, chan, Piece::Value(offer.value)]);
-    text.fill(28);
-    if let Some(site) = view.course.flat().comp(offer.comp) {
-        let kind = Piece::Bytes(kind_word(&site.kind));
-        text.say("% %", &[kind, port(site, offer.port)]);
-    }
-    put_tail(view.survey, offer, text);
-    text.put("\n");
-}
-
-// The instance that a component is in, what the source has of it, and what it calls the channel of a move.
-fn put_tail(survey: &Survey, offer: Offer, text: &mut Text) {
-    let mut column = 54;
-    match survey.comp(offer.comp) {
-        Some(at) if !at.path.is_empty() => put_in(Piece::Instance(at), "%", &mut column, text),
-        _ => {}
-    }
-    if let Some(name) = survey.comp_name(offer.comp) {
-        put_in(Piece::Name(name), "%", &mut column, text);
-    }
-    if let Some(at) = survey.comp_source(offer.comp) {
-        put_in(Piece::Source(at), "(%)", &mut column, text);
-    }
-    if let Some(name) = survey.chan_name(offer.chan) {
-        put_in(Piece::Name(name), "on %", &mut column, text);
-    }
-}
-
-// Adds a piece in a form at a column, or where there is none, two blanks behind what stands there.
-fn put_in(piece: Piece<'_>, form: &str, column: &mut usize, text: &mut Text) {
-    text.fill(*column);
-    text.say(form, &[piece]);
-    *column = 0;
-}
-
-// A word of the host, with its port and the phase there.
-fn put_word(view: &View<'_>, word: HostOffer, text: &mut Text) {
-    text.say("%", &[view.host_word(word.verb, word.port)]);
-    text.fill(28);
-    let carried = Piece::Carried(view.chan(word.port));
-    let number = Piece::Number(word.port.into());
-    text.say("port % %", &[number, carried]);
-    say_phase(text, ", %\n", view.phase(word.port));
 }
 
 // Adds how far the net is.

@@ -1,12 +1,13 @@
 //! What stands for a mark in a form.
 
+use bz_explore_moves::{put_host_word, put_name, put_port, put_source, put_typed};
 use bz_kind_rows::PortAt;
 use bz_model::{Chan, Phase, Value, Verb};
-use bz_source::{Label, LineAt, SourceAt, put_path};
+use bz_source::{Label, SourceAt};
 use bz_text::{Piece as Part, Put, Text};
 use std::io::Write;
 
-/// The most bytes that are told of a name, and of what was typed.
+/// The most bytes that are told of what was typed.
 const MOST_SHOWN: usize = 100;
 
 #[derive(Clone, Copy)]
@@ -21,8 +22,6 @@ pub(crate) enum Piece<'a> {
     Name(&'a [u8]),
     /// A place in a source.
     Source(SourceAt<'a>),
-    /// The instance in which a component stands, and the part that it is one of.
-    Instance(LineAt<'a>),
     Number(Value),
     /// A blank and the value, where there is one.
     Value(Option<Value>),
@@ -68,11 +67,6 @@ impl Put for Piece<'_> {
             Piece::Typed(name) => put_typed(text, name),
             Piece::Name(name) => put_name(text, name),
             Piece::Source(at) => put_source(text, at),
-            Piece::Instance(at) => {
-                text.put("in ");
-                let _ = put_path(text, at.path);
-                text.put_pieces(&[Part::Bytes(b" "), Part::Name(at.part)]);
-            }
             Piece::Number(number) => text.put_pieces(&[Part::Number(number)]),
             Piece::Value(value) => text.put_pieces(&[Part::Value(value)]),
             Piece::Count(count, thing) => text.put_count(count, thing),
@@ -84,12 +78,7 @@ impl Put for Piece<'_> {
                 text.put_pieces(&[Part::Number(number.into())]);
                 put_label(text, Label { name, source: None });
             }
-            Piece::Port(at) => {
-                text.put(at.row.name);
-                if let Some(member) = at.member {
-                    text.put_pieces(&[Part::Number(member.into())]);
-                }
-            }
+            Piece::Port(at) => put_port(text, at),
             Piece::Carried(chan) => {
                 let _ = write!(text, "{chan}");
             }
@@ -97,12 +86,7 @@ impl Put for Piece<'_> {
                 text.put("the host at ");
                 put_typed(text, name);
             }
-            Piece::Word(verb, name, has_value) => {
-                text.put(verb.word());
-                text.put(":");
-                put_typed(text, name);
-                text.put(if has_value { ":V" } else { "" });
-            }
+            Piece::Word(verb, name, has_value) => put_host_word(text, verb, name, has_value),
             Piece::Phase(phase) => {
                 let (word, value) = phase.parts();
                 text.put_pieces(&[Part::Bytes(word.as_bytes()), Part::Value(value)]);
@@ -123,19 +107,6 @@ fn put_label(text: &mut Text, label: Label<'_>) {
     }
 }
 
-fn put_source(text: &mut Text, at: SourceAt<'_>) {
-    put_name(text, at.file);
-    text.put_pieces(&[Part::Bytes(b":"), Part::Number(at.line.into())]);
-    text.put_pieces(&[Part::Bytes(b":"), Part::Number(at.column.into())]);
-}
-
-fn put_name(text: &mut Text, name: &[u8]) {
-    put_typed(text, name.get(..MOST_SHOWN).unwrap_or(name));
-    if name.len() > MOST_SHOWN {
-        text.put("..");
-    }
-}
-
 fn put_shown(text: &mut Text, bytes: &[u8]) {
     for byte in bytes.get(..MOST_SHOWN).unwrap_or(bytes) {
         let is_shown = (32..=126).contains(byte);
@@ -143,17 +114,5 @@ fn put_shown(text: &mut Text, bytes: &[u8]) {
     }
     if bytes.len() > MOST_SHOWN {
         text.put("..");
-    }
-}
-
-fn put_typed(text: &mut Text, name: &[u8]) {
-    if name.is_empty() {
-        text.put("%");
-    }
-    for byte in name {
-        match byte {
-            b'#' => text.put("%23"),
-            byte => text.put_pieces(&[Part::Name(&[*byte])]),
-        }
     }
 }

@@ -1,6 +1,6 @@
 //! A session: a net that is played line by line.
 
-use crate::answer::{Answer, count_lines, gathered, put_added};
+use crate::answer::{Answer, count_lines, put_added};
 use crate::commands::{Call, call_of, number, words_of};
 use crate::explored::{Ending, NoFile, Shelf};
 use crate::looking::look;
@@ -10,6 +10,7 @@ use crate::saving::{MOST_COMPS, put_script, put_trace_page, put_undone, save, sa
 use crate::table::{Form, put_help};
 use crate::things::place_asked;
 use crate::view::View;
+use bz_explore_moves::gathered;
 use bz_explore_net::Course;
 use bz_model::{Cmd, HostCmd, NetError, Reply};
 use bz_net::RunEnd;

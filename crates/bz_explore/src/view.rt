@@ -1,10 +1,11 @@
 //! A net as it is told of, and how what is in it is called.
 
 use crate::piece::Piece;
+use bz_explore_moves::{chan_of, phase_of, port_name};
 use bz_explore_net::Course;
 use bz_flat::FlatComp;
 use bz_kind_rows::{kind_word, port_at};
-use bz_model::{Chan, ChanKind, Phase, Verb, numbered};
+use bz_model::{Chan, Phase, Verb, numbered};
 use bz_source::{Label, Survey};
 
 /// A net that is played, and where all of it stands in its text.
@@ -36,18 +37,12 @@ impl<'v> View<'v> {
 
     /// A channel, one without width where there is none of this number.
     pub fn chan(&self, chan: u32) -> Chan {
-        self.course.flat().chan(chan).unwrap_or(Chan {
-            kind: ChanKind::Sync,
-            width: 0,
-        })
+        chan_of(self.course, chan)
     }
 
     /// The phase of a channel, idle where there is none of this number.
     pub fn phase(&self, chan: u32) -> Phase {
-        if chan == 0 || chan > self.course.flat().chan_count() {
-            return Phase::Idle;
-        }
-        self.course.net().phase(chan)
+        phase_of(self.course, chan)
     }
 
     /// The component at the passive or the active end of a channel, if one stands there and not the host.
@@ -63,7 +58,7 @@ impl<'v> View<'v> {
     pub fn holder(&self, chan: u32, passive: bool) -> Piece<'_> {
         match self.end(chan, passive) {
             Some(number) => self.comp(number),
-            None => Piece::Host(self.port_name(chan)),
+            None => Piece::Host(port_name(self.course, chan)),
         }
     }
 
@@ -91,19 +86,10 @@ impl<'v> View<'v> {
         Label { name, source }
     }
 
-    // The name of an external port, empty where there is none of this number.
-    fn port_name(&self, port: u32) -> &[u8] {
-        let names = self.course.net().names();
-        match names.name(port) {
-            Some(name) => name,
-            None => b"",
-        }
-    }
-
     /// A word of the host as it is typed, `V` standing for its value.
     pub fn host_word(&self, verb: Verb, port: u32) -> Piece<'_> {
         let has_value = verb.wants_value(self.chan(port).kind);
-        Piece::Word(verb, self.port_name(port), has_value)
+        Piece::Word(verb, port_name(self.course, port), has_value)
     }
 }
 

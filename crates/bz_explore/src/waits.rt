@@ -1,10 +1,11 @@
 //! Who holds each channel, and for whom each component waits.
 
-use crate::answer::{HALF, MORE, MOST_LINES, gathered, put_cut};
+use crate::answer::{HALF, MORE, MOST_LINES, put_cut};
 use crate::cycles::Table;
 use crate::graph::{Graph, Place, Wait, Whom};
 use crate::piece::{Piece, say_phase};
 use crate::view::View;
+use bz_explore_moves::gathered;
 use bz_explore_net::busy_chans;
 use bz_model::{Move, Phase, Verb};
 use bz_text::Text;

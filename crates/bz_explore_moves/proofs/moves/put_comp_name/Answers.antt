@@ -1,0 +1,5 @@
+use Rattle.bz_explore_moves.proofs.Lines.{within_then}
+use Rattle.bz_explore_moves.proofs.moves.put_comp_name.Goals as goal
+
+pub returns-in-Some : goal.returns-in-Some
+returns-in-Some c = within_then _ _ _ c.go_on.ensures c.put_name.ensures

@@ -1,0 +1,8 @@
+use Rattle.std.proofs.Common.{codes, refl}
+use Rattle.bz_explore_moves.proofs.Lines.{within, within_then}
+use Rattle.bz_explore_moves.proofs.moves.put_comp_source.Goals as goal
+
+pub returns-in-Some : goal.returns-in-Some
+returns-in-Some c =
+    within_then _ _ _ c.go_on.ensures
+    (within_then _ _ _ (within _ _ (codes "(") refl c.put.ensures) (within_then _ _ _ c.put_source.ensures (within _ _ (codes ")") refl c.put-in-Some.ensures)))
