@@ -4,8 +4,8 @@
 //! for one that is left, and from each the way to the least of these ends in a cycle.
 
 use crate::answer::add;
-use bz_explore_moves::gathered;
 use crate::graph::Wait;
+use bz_explore_moves::gathered;
 use bz_text::Text;
 
 /// A number for each component, counted from 1.

@@ -73,11 +73,7 @@ fn events<'a>(
 }
 
 // The table, with what was answered behind each `|`.
-fn told(
-    alloc: Global,
-    table: &str,
-    answers: &[Result<Answer, NetError>],
-) -> Result<String, Fail> {
+fn told(alloc: Global, table: &str, answers: &[Result<Answer, NetError>]) -> Result<String, Fail> {
     let mut told = String::new(alloc);
     for (line, answer) in table.lines().zip(answers) {
         let (row, _) = line.split_once("|").unwrap_or((line, ""));
