@@ -3,7 +3,10 @@ use Rattle.std.proofs.Common.{◌≡◌, ◌≤◌, ℕ, List, [], Option, Some,
 use Rattle.std.specs.Prelude.{Result, Ok, Err, IfSome, IsErrAnd}
 use Rattle.std.specs.Io.KnownBytes.{Keeps}
 use Rattle.bz_flat.specs.Flats.{Plan}
+use Rattle.bz_flat.specs.Wires.{EndsOf, WellWired}
 use Rattle.bz_flat.specs.declared.flat.Pieces.{Pieces}
+use Rattle.bz_source.specs.Found.{Locates}
+use Rattle.bz_source.specs.Net.{FindsNamed}
 use Rattle.bz_source.specs.declared.source.Source.{Source}
 use Rattle.bz_source.specs.declared.survey.Survey.{Survey}
 use Rattle.bz_trace.specs.declared.checking.Verdict.TheVariants as verdict
@@ -19,7 +22,7 @@ use Rattle.bz_cli_source.specs.Surveys.{IsRead, wiring_in}
 use Rattle.bz_page.specs.declared.fault.PageFault.{PageFault}
 use Rattle.bz_page.specs.declared.fault.PageFault.TheVariants.{Command, NotRun, NotTrace, TooLarge}
 use Rattle.bz_page.specs.Pages.{Blank, page_text}
-use Rattle.bz_page.specs.Paging.{Finds, HasPage, IsOfInput, Pages, PagesApart, PagesNet, PagesText, PagesTrace, Places, Refuses}
+use Rattle.bz_page.specs.Paging.{Finds, HasPage, IsOfInput, IsPlacedOf, Pages, PagesApart, PagesNet, PagesText, PagesTrace, Places, Refuses}
 
 pub keeps_same : (o : Option (List ℕ)) → Keeps o o
 keeps_same None = tt
@@ -55,6 +58,20 @@ not_taken b (Some xs) (Some ys) part old new answer stops = inl stops
 pub not_taken_of : (A : Type 0) (b : Blank) (known had : Option (List ℕ)) (part : List ℕ) (old : Option (List ℕ)) (f : InputFault) → IfSome known (λ netlist. IfSome had (λ text. PagesApart {A = A} b netlist text part old old (Err (Command (of_input f)))))
 not_taken_of A b known had part old input.Read = not_taken {A = A} b known had part old old (Err (Command fault.Read)) (tt, keeps_same old)
 not_taken_of A b known had part old input.Memory = not_taken {A = A} b known had part old old (Err (Command fault.Memory)) (tt, keeps_same old)
+
+-- a net in its pieces, and the places in it
+pub placed_of : (part : List ℕ) (plan : Plan) (source : Source) (net : Pieces) (s : Survey) → plan.wiring ≡ wiring_in net → WellWired (wiring_in net) → EndsOf (wiring_in net) net.ends.items → s.parts ≡ source.parts → s.lines ≡ source.lines
+    → Locates source.parts part s.places → FindsNamed source.parts part s.places → length net.comps ≤ 100000 → IsPlacedOf part plan source net s
+placed_of part plan source net s wiring wired ends parts lines places named few = record {
+  wiring = wiring;
+  wired = wired;
+  ends = ends;
+  parts = parts;
+  lines = lines;
+  places = subst (λ p. Locates p part s.places) (sym parts) places;
+  named = subst (λ p. FindsNamed p part s.places) (sym parts) named;
+  few = few;
+}
 
 -- a net that was read, and was found to have this run, in its pieces
 pub found : (netlist trace part : List ℕ) (plan : Plan) (source : Source) (answer : Result (Pieces × Survey) PageFault) → Denotes netlist part plan.wiring → IsRead netlist part plan.wiring source.parts source.lines.items
