@@ -28,6 +28,16 @@ does_apart ending None had Says answer result says is = tt
 does_apart ending (Some netlist) None Says answer result says is = tt
 does_apart ending (Some netlist) (Some text) Says answer result says is = (answer, says, is)
 
+-- what is said with one of these is said with some
+pub with_some : {B : Type 0} (known : Option (List ℕ)) (Says : B → List ℕ → Type 0) (b : B) → IfSome known (λ text. Says b text) → IfSome known (λ text. (c : B) × Says c text)
+with_some None Says b says = tt
+with_some (Some text) Says b says = (b, says)
+
+pub with_some_apart : {B : Type 0} (known had : Option (List ℕ)) (Says : B → List ℕ → List ℕ → Type 0) (b : B) → IfSome known (λ netlist. IfSome had (λ text. Says b netlist text)) → IfSome known (λ netlist. IfSome had (λ text. (c : B) × Says c netlist text))
+with_some_apart None had Says b says = tt
+with_some_apart (Some netlist) None Says b says = tt
+with_some_apart (Some netlist) (Some text) Says b says = (b, says)
+
 -- a run of the text that the reader had
 pub runs_on_text : (known : Option (List ℕ)) (items : List ℕ) (words : List (List ℕ)) (part : List ℕ) (journal : ℕ) (old new : Option (List ℕ)) (result : Result ℕ Fault) → IfSome known (λ xs. items ≡ xs) → IsDone (Runs items words part journal old new) result
     → IfSome known (λ text. IsDone (Runs text words part journal old new) result)

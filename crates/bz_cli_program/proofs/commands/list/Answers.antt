@@ -9,4 +9,4 @@ returns-then-given-clause-places g c =
 
 pub returns-else-given-clause-plainly : goal.returns-else-given-clause-plainly
 returns-else-given-clause-plainly g c =
-    λ plainly. is_done _ (λ text answer. Lists text c.args.given.part.now _ _ answer) c.list_cmd.result _ c.list_cmd.ensures.lists c.done.ensures
+    λ plainly. is_done _ (λ text answer. Lists text c.args.given.part.now _ _ answer) c.list_cmd.result _ c.list_cmd.ensures.lists c.done-else-given.ensures
