@@ -5,13 +5,13 @@ mod disk;
 
 use crate::disk::Disk;
 use bz_cli_args::{
-    ArgsFault, BAD_COMMAND_LINE, CommandName, Error, Options, PartName, Request, Source, Told,
+    ArgsFault, BAD_COMMAND_LINE, CommandName, Error, Options, Request, Source, Told,
     request_of, shared_stdin, split_words, stray_word, tell_error, word_starts, words_of,
 };
 use bz_cli_input::{Fault, INPUT_LIMIT, read_input};
 use bz_cli_program::{
-    Cause, Given, chart, check, check_words, draw, is_file, kinds, list, netlist_in, open_file,
-    page, part_named, parts, pool, run, tell_tops, text_of, tops_of,
+    Cause, Given, NoName, chart, check, draw, is_file, kinds, list, netlist_in, open_file,
+    page, part_named, parts, pool, run, text_of,
 };
 use bz_explain::{Asked, Explained, WordFile, Words, explain};
 use bz_explain_lint::{Lint, lint_cmd};
@@ -115,12 +115,8 @@ fn lint<R: Read, W: Write>(
     input: &mut R,
     output: &mut W,
 ) -> Result<u8, Fault> {
-    let part = match given.options.part {
-        PartName::Top => None,
-        PartName::Text(_) | PartName::Form(_) => Some(given.part),
-    };
     let lint = Lint {
-        part,
+        part: given.part,
         file: file_of(given.options.netlist),
         is_json: given.options.json,
     };
@@ -302,57 +298,21 @@ fn tell_unreadable(rt: &HostRuntime, path: &str, cause: &Cause) -> Result<u8, Fa
     Ok(BAD_COMMAND_LINE)
 }
 
-// Plays the one part of the netlist that no other part uses.
-fn play_top<T: Threads + Wait + Sync, R: Read + Drop>(
-    rt: &HostRuntime,
-    threads: &T,
-    given: Given<'_, '_>,
-    input: &mut Keeping<R>,
-) -> ExitCode {
-    let alloc = rt.alloc();
-    if let Err(fault) = check_words(alloc, given) {
-        return refuse_noted(rt, &fault, given, input.kept());
-    }
-    let text = match read_input(alloc, input) {
-        Ok(text) => text,
-        Err(fault) => return refuse_noted(rt, &Fault::from(fault), given, input.kept()),
-    };
-    let text = text.as_slice();
-    match tops_of(alloc, netlist_in(&given.options, text)) {
-        Ok(names) => match names.as_slice() {
-            [name] => {
-                let input = &mut Keeping::new(alloc, text, given.options.explains);
-                let part = name.as_slice();
-                play(rt, threads, Given { part, ..given }, input)
-            }
-            names => {
-                let _ = tell_tops(names, &mut rt.stderr());
-                ExitCode::from(BAD_COMMAND_LINE)
-            }
-        },
-        Err(fault) => refuse_noted(rt, &fault, given, input.kept()),
-    }
-}
-
-// Plays a part that the command line names, or the one on top. None is given yet.
+// Plays the part that the command line names, or the one on top where it names none.
 fn play_named<T: Threads + Wait + Sync, R: Read + Drop>(
     rt: &HostRuntime,
     threads: &T,
     given: Given<'_, '_>,
     input: &mut Keeping<R>,
 ) -> ExitCode {
-    let options = given.options;
-    let part = match part_named(rt.alloc(), options.part) {
-        Ok(Some(part)) => part,
-        Ok(None) => return reject(rt, "the value of --part-form is not a name form"),
-        Err(_) => return refuse(rt, &Fault::Memory),
-    };
-    let part = part.as_slice();
-    let given = Given { part, ..given };
-    match (options.command, options.part) {
-        (CommandName::Parts | CommandName::Lint | CommandName::Kinds, _)
-        | (_, PartName::Text(_) | PartName::Form(_)) => play(rt, threads, given, input),
-        (_, PartName::Top) => play_top(rt, threads, given, input),
+    match part_named(rt.alloc(), given.options.part) {
+        Ok(None) => play(rt, threads, given, input),
+        Ok(Some(name)) => {
+            let part = Some(name.as_slice());
+            play(rt, threads, Given { part, ..given }, input)
+        }
+        Err(NoName::Form) => reject(rt, "the value of --part-form is not a name form"),
+        Err(NoName::Memory) => refuse(rt, &Fault::Memory),
     }
 }
 
@@ -384,7 +344,7 @@ fn play_words_of<T: Threads + Wait + Sync, R: Read + Drop>(
     };
     let given = Given {
         options,
-        part: &[],
+        part: None,
         words: words.as_slice(),
         word_text: Some(text.as_str()),
     };
@@ -404,7 +364,7 @@ fn play_on<T: Threads + Wait + Sync, R: Read + Drop>(
     }
     let given = Given {
         options,
-        part: &[],
+        part: None,
         words: request.words.as_slice(),
         word_text: None,
     };

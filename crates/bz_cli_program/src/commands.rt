@@ -19,17 +19,15 @@ ghost use Rattle.bz_words.specs.Words.{texts};
 
 use crate::given::Given;
 use crate::resting::note_rest;
-use crate::watching::{Watched, commands_of, watch};
 use bz_chart::{ChartFault, LineRange, chart_cmd, chart_trace_cmd};
 use bz_cli::{PoolOptions, pool_cmd};
 use bz_cli_args::{BAD_COMMAND_LINE, MAX_JOURNAL, MAX_WORKERS, Options};
-use bz_cli_core::{check_cmd, check_trace_cmd, run_cmd};
-use bz_cli_input::{Fault, list_cmd, read_input};
+use bz_cli_core::{Halt, Played, check_cmd, check_trace_cmd, run_cmd};
+use bz_cli_input::{Fault, list_cmd};
 use bz_cli_kinds::kinds_cmd;
 use bz_cli_source::{list_paths_cmd, parts_cmd};
 use bz_draw::{NoDrawing, View, draw_cmd};
-use bz_explain_notes::{Draft, tell_notes};
-use bz_model::Cmd;
+use bz_model::Reply;
 use bz_page::{PageFault, page_cmd, page_trace_cmd};
 use bz_session::End;
 use std::alloc::Global;
@@ -46,7 +44,8 @@ const NO_RUN: u8 = 1;
 /// The status of a strict run that met a host command that was not done.
 const REFUSED: u8 = 3;
 
-/// Plays the words on a net, and writes the trace. What is told of words that were all played goes to `errors`.
+/// Plays the words on a net, and writes the trace. A strict run halts at the first host command that is not done, and reports it to
+/// `errors`. So are the handshakes under way where a run ends at rest, if notes are asked for.
 pub fn run<R: Read, W: Write, E: Write>(
     alloc: Global,
     given: Given<'_, '_>,
@@ -56,165 +55,70 @@ pub fn run<R: Read, W: Write, E: Write>(
 ) -> Result<u8, Fault>
     ensures refused { (IsJournal given.entry.options.journal → ⊥)
         → IsRefused (W.contents output.old) (W.contents output.new) result }
-    ensures runs { IsJournal given.entry.options.journal → given.entry.options.strict ≡ false → IfSome (R.remaining input.old)
-        (λ text. IsDone
-        (Runs text (texts given.entry.words.now) given.entry.part.now given.entry.options.journal
+    ensures runs { IsJournal given.entry.options.journal → IfSome (R.remaining input.old)
+        (λ text. Does of_run
+        (Runs text (texts given.entry.words.now) (asked_name given.entry.part) given.entry.options.journal given.entry.options.strict
         (W.contents output.old) (W.contents output.new))
         result) }
 
     // Whatever comes of it, it reads at most one byte past the limit.
     ensures bounded { ReadsWithin (R.remaining input.old) (R.remaining input.new) }
 {
-    let journal = given.options.journal;
-    if journal == 0 || journal > MAX_JOURNAL {
+    let options = given.options;
+    if options.journal == 0 || options.journal > MAX_JOURNAL {
         return Ok(BAD_COMMAND_LINE);
     }
-    if given.options.strict {
-        return run_strict(alloc, given, input, output, errors);
-    }
-    if given.options.explains {
-        return run_noted(alloc, given, input, output, errors);
-    }
-    done(run_cmd(alloc, given.part, journal, given.words, input, output))
-}
-
-// Plays the words, and notes who waits for whom where they end at rest.
-fn run_noted<R: Read, W: Write, E: Write>(
-    alloc: Global,
-    given: Given<'_, '_>,
-    input: &mut R,
-    output: &mut W,
-    errors: &mut E,
-) -> Result<u8, Fault>
-    requires least { 0 < given.options.journal }
-    requires most { given.options.journal ≤ 16777216 }
-    ensures runs { IfSome (R.remaining input.old)
-        (λ text. IsDone
-        (Runs text (texts given.entry.words.now) given.entry.part.now given.entry.options.journal
-        (W.contents output.old) (W.contents output.new))
-        result) }
-    ensures bounded { ReadsWithin (R.remaining input.old) (R.remaining input.new) }
-{
-    let cmds = commands_of(alloc, given.words)?;
-    let text = read_input(alloc, input)?;
-    play_noted(
-        alloc,
-        given,
-        cmds.as_slice(),
-        text.as_slice(),
-        output,
-        errors,
-    )
-}
-
-// The same of a text, and of words that spell these commands.
-fn play_noted<W: Write, E: Write>(
-    alloc: Global,
-    given: Given<'_, '_>,
-    cmds: &[Cmd],
-    netlist: &[u8],
-    output: &mut W,
-    errors: &mut E,
-) -> Result<u8, Fault>
-    requires least { 0 < given.options.journal }
-    requires most { given.options.journal ≤ 16777216 }
-    ensures { IsDone
-        (Runs netlist.now (texts given.entry.words.now) given.entry.part.now given.entry.options.journal
-        (W.contents output.old) (W.contents output.new))
-        result }
-{
-    let journal = given.options.journal;
-    let mut text = netlist;
-    let played = run_cmd(alloc, given.part, journal, given.words, &mut text, output);
-    if played.is_ok() {
-        watch_rest(alloc, given, cmds, netlist, errors);
-    }
-    done(played)
-}
-
-// Plays the commands again, and notes who waits for whom where they end at rest.
-fn watch_rest<E: Write>(
-    alloc: Global,
-    given: Given<'_, '_>,
-    cmds: &[Cmd],
-    netlist: &[u8],
-    errors: &mut E,
-) {
-    let watched = watch(
-        alloc,
-        given.part,
-        given.options.journal,
-        cmds,
-        false,
-        netlist,
-    );
-    // (where memory is wanting for them there are no notes)
-    if let Ok(watched) = watched {
-        tell_rest(alloc, given, netlist, &watched, errors);
-    }
-}
-
-// Notes who waits for whom, where words ended at rest.
-fn tell_rest<E: Write>(
-    alloc: Global,
-    given: Given<'_, '_>,
-    netlist: &[u8],
-    watched: &Watched,
-    errors: &mut E,
-) {
-    if watched.is_at_rest {
-        let mut draft = Draft::new(alloc);
-        note_rest(
-            alloc,
-            given.part,
-            netlist,
-            watched.moves.as_slice(),
-            &mut draft,
-        );
-        let _ = tell_notes(alloc, &draft, errors);
-    }
-}
-
-// Plays the words to see what becomes of them, and then to write the trace, no further than to the first host command that is not
-// done.
-fn run_strict<R: Read, W: Write, E: Write>(
-    alloc: Global,
-    given: Given<'_, '_>,
-    input: &mut R,
-    output: &mut W,
-    errors: &mut E,
-) -> Result<u8, Fault>
-    requires least { 0 < given.options.journal }
-    requires most { given.options.journal ≤ 16777216 }
-    ensures { ReadsWithin (R.remaining input.old) (R.remaining input.new) }
-{
-    let options = given.options;
-    let cmds = commands_of(alloc, given.words)?;
-    let text = read_input(alloc, input)?;
-    let mut text = text.as_slice();
-    let watched = watch(
+    let played = run_cmd(
         alloc,
         given.part,
         options.journal,
-        cmds.as_slice(),
-        true,
-        text,
-    )?;
-    let words = given.words.get(..watched.words).unwrap_or(given.words);
-    let netlist = text;
-    run_cmd(alloc, given.part, options.journal, words, &mut text, output)?;
-    if let Some(refusal) = watched.refusal {
-        let _ = writeln!(
-            errors,
-            "error: --strict: word {} is answered {refusal}",
-            watched.words
-        );
-        return Ok(REFUSED);
+        options.strict,
+        given.words,
+        input,
+        output,
+    );
+    ended(alloc, options.explains, played, errors)
+}
+
+// The status of a run. Where it halted is reported; where it ended at rest, the handshakes under way.
+fn ended<E: Write>(
+    alloc: Global,
+    explains: bool,
+    played: Result<Played, Fault>,
+    errors: &mut E,
+) -> Result<u8, Fault>
+    ensures { result ≡ of_run played }
+{
+    match played {
+        Ok(Played {
+            net: _,
+            halt: Some(halt),
+        }) => {
+            tell_halt(halt, errors);
+            Ok(REFUSED)
+        }
+        Ok(played) => {
+            if explains {
+                note_rest(alloc, played.net.core(), errors);
+            }
+            Ok(DONE)
+        }
+        Err(fault) => Err(fault),
     }
-    if options.explains {
-        tell_rest(alloc, given, netlist, &watched, errors);
-    }
-    Ok(DONE)
+}
+
+// Reports the host command at which a strict run halted.
+fn tell_halt<E: Write>(halt: Halt, errors: &mut E) {
+    let answer = match halt.reply {
+        Reply::Busy(_) => "busy",
+        Reply::NotYet => "not-yet",
+        _ => "not-taken",
+    };
+    let _ = writeln!(
+        errors,
+        "error: --strict: word {} is answered {answer}",
+        halt.word
+    );
 }
 
 /// Tells whether a trace is that of a run: the one that is given, or the one behind the netlist.
