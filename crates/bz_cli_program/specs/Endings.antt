@@ -2,6 +2,8 @@
 use Rattle.std.specs.Prelude.{◌≡◌, ℕ, ◌<◌, ◌≤◌, ⊤, Bool, true, false, Option, None, Some, Result, Ok, Err, List}
 use Rattle.std.specs.Io.KnownBytes.{Keeps}
 use Rattle.bz_cli_input.specs.declared.fault.Fault.{Fault}
+use Rattle.bz_cli_core.specs.declared.playing.Halt.{Halt}
+use Rattle.bz_cli_core.specs.declared.run.Played.{Played}
 use Rattle.bz_chart.specs.declared.fault.ChartFault.{ChartFault}
 use Rattle.bz_chart.specs.declared.fault.ChartFault.TheVariants as chart
 use Rattle.bz_chart.specs.Charting as chart_statuses
@@ -22,6 +24,15 @@ of_done (Err fault) = Err fault
 
 abbrev pub IsDone : (Result ⊤ Fault → Type 0) → Result ℕ Fault → Type 0
 IsDone Says result = Does of_done Says result
+
+-- 0 where all words of a run were played, and 3 where it halted
+abbrev pub of_halt : Option Halt → ℕ
+of_halt None = 0
+of_halt (Some halt) = 3
+
+abbrev pub of_run : Result Played Fault → Result ℕ Fault
+of_run (Ok played) = Ok (of_halt played.halt)
+of_run (Err fault) = Err fault
 
 -- 0 where the trace is that of a run, and else 1
 abbrev pub of_check : Result Bool Fault → Result ℕ Fault

@@ -103,7 +103,7 @@ fn ended<E: Write>(
             }
             Ok(DONE)
         }
-        Err(fault) => Err(fault),
+        Err(unplayed) => Err(unplayed),
     }
 }
 
