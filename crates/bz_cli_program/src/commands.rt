@@ -1,6 +1,7 @@
 //! What each command does. The status with which the program ends, or the fault that it tells.
 
 ghost use Rattle.std.specs.Prelude.{◌≡◌, ◌≤◌, ◌<◌, ⊤, false, true, IfSome, MatchOption};
+ghost use Rattle.std.specs.Option.{option_copied};
 ghost use Rattle.bz_chart.specs.Charting.{Charts, ChartsApart};
 ghost use Rattle.bz_cli.specs.Pooling.{Pools};
 ghost use Rattle.bz_cli_core.specs.Checking.{Checks, ChecksApart};
@@ -57,7 +58,7 @@ pub fn run<R: Read, W: Write, E: Write>(
         → IsRefused (W.contents output.old) (W.contents output.new) result }
     ensures runs { IsJournal given.entry.options.journal → IfSome (R.remaining input.old)
         (λ text. Does of_run
-        (Runs text (texts given.entry.words.now) (asked_name given.entry.part) given.entry.options.journal given.entry.options.strict
+        (Runs text (texts given.entry.words.now) (option_copied given.entry.part) given.entry.options.journal given.entry.options.strict
         (W.contents output.old) (W.contents output.new))
         result) }
 
@@ -131,9 +132,9 @@ pub fn check<R: Read, T: Read, W: Write>(
 ) -> Result<u8, Fault>
     ensures checks { MatchOption trace.entry
         (IfSome (R.remaining input.old)
-        (λ text. Does of_check (Checks text given.entry.part.now (W.contents output.old) (W.contents output.new)) result))
+        (λ text. Does of_check (Checks text (option_copied given.entry.part) (W.contents output.old) (W.contents output.new)) result))
         (λ apart. IfSome (R.remaining input.old) (λ netlist. IfSome (T.remaining apart.now)
-        (λ text. Does of_check (ChecksApart netlist text given.entry.part.now
+        (λ text. Does of_check (ChecksApart netlist text (option_copied given.entry.part)
         (W.contents output.old) (W.contents output.new)) result))) }
 
     // Whatever comes of it, it reads at most one byte past the limit.
@@ -164,9 +165,9 @@ pub fn list<R: Read, W: Write>(
     output: &mut W,
 ) -> Result<u8, Fault>
     ensures plainly { given.entry.options.paths ≡ false → IfSome (R.remaining input.old)
-        (λ text. IsDone (Lists text given.entry.part.now (W.contents output.old) (W.contents output.new)) result) }
+        (λ text. IsDone (Lists text (option_copied given.entry.part) (W.contents output.old) (W.contents output.new)) result) }
     ensures places { given.entry.options.paths ≡ true → IfSome (R.remaining input.old)
-        (λ text. IsDone (placed.Lists text given.entry.part.now (W.contents output.old) (W.contents output.new)) result) }
+        (λ text. IsDone (placed.Lists text (option_copied given.entry.part) (W.contents output.old) (W.contents output.new)) result) }
 
     // Whatever comes of it, it reads at most one byte past the limit.
     ensures bounded { ReadsWithin (R.remaining input.old) (R.remaining input.new) }
@@ -203,7 +204,7 @@ pub fn draw<R: Read, W: Write, E: Write>(
     errors: &mut E,
 ) -> Result<u8, Fault>
     ensures draws { IfSome (R.remaining input.old)
-        (λ text. Does of_drawing (Draws {N = NoDrawing} text given.entry.part.now
+        (λ text. Does of_drawing (Draws {N = NoDrawing} text (option_copied given.entry.part)
         (W.contents output.old) (W.contents output.new)) result) }
 
     // Whatever comes of it, it reads at most one byte past the limit.
@@ -255,11 +256,11 @@ pub fn chart<R: Read, T: Read, W: Write, E: Write>(
 ) -> Result<u8, Fault>
     ensures charts { MatchOption trace.entry
         (IfSome (R.remaining input.old) (λ text. Does of_chart
-        (Charts {A = ⊤} text given.entry.part.now (lines_asked given.entry.options)
+        (Charts {A = ⊤} text (option_copied given.entry.part) (lines_asked given.entry.options)
         (W.contents output.old) (W.contents output.new))
         result))
         (λ apart. IfSome (R.remaining input.old) (λ netlist. IfSome (T.remaining apart.now) (λ text. Does of_chart
-        (ChartsApart {A = ⊤} netlist text given.entry.part.now (lines_asked given.entry.options)
+        (ChartsApart {A = ⊤} netlist text (option_copied given.entry.part) (lines_asked given.entry.options)
         (W.contents output.old) (W.contents output.new))
         result))) }
 
@@ -314,11 +315,11 @@ pub fn page<R: Read, T: Read, W: Write, E: Write>(
 ) -> Result<u8, Fault>
     ensures pages { MatchOption trace.entry
         (IfSome (R.remaining input.old) (λ text. Does of_page
-        (λ answer. (blank : Blank) × Pages {A = ⊤} blank text given.entry.part.now
+        (λ answer. (blank : Blank) × Pages {A = ⊤} blank text (option_copied given.entry.part)
         (W.contents output.old) (W.contents output.new) answer)
         result))
         (λ apart. IfSome (R.remaining input.old) (λ netlist. IfSome (T.remaining apart.now) (λ text. Does of_page
-        (λ answer. (blank : Blank) × PagesApart {A = ⊤} blank netlist text given.entry.part.now
+        (λ answer. (blank : Blank) × PagesApart {A = ⊤} blank netlist text (option_copied given.entry.part)
         (W.contents output.old) (W.contents output.new) answer)
         result))) }
 
@@ -361,7 +362,7 @@ pub fn pool<T: Threads + Wait + Sync, R: Read, W: Write, E: Write>(
         → IsRefused (W.contents output.old) (W.contents output.new) result }
     ensures pools { AreWorkers given.entry.options.workers → IsJournal given.entry.options.journal
         → IfSome (R.remaining input.old) (λ text. Does of_done
-        (Pools text (texts given.entry.words.now) given.entry.part.now given.entry.options.workers given.entry.options.fuel
+        (Pools text (texts given.entry.words.now) (option_copied given.entry.part) given.entry.options.workers given.entry.options.fuel
         given.entry.options.journal (W.contents output.old) (W.contents output.new))
         result) }
 
