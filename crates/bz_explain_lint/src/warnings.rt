@@ -1,4 +1,9 @@
 //! What is accepted, and likely to be a mistake.
+//!
+//! Warnings come only where there is no fault, and leave the status 0: the netlist is accepted. An unused part needs `-p`:
+//! without it each part that no other uses may be the one that is meant. A part that only unused parts use is unused too. A
+//! channel that no entry names is unused also where it is a port; where an instance has it at a port that nothing is at, the
+//! port is reported in its place.
 
 use bz_explain::{Gathered, Marks, marks_of};
 use bz_explain_net::{Head, Netlist};
