@@ -11,7 +11,7 @@ ghost use Rattle.bz_cli_input.specs.Stopping.{AppendsSome};
 use crate::fault::Fault;
 use crate::input::read_input;
 use crate::listing::write_list;
-use crate::netlist::Netlist;
+use crate::netlist::named_flat_of_input;
 use bz_flat::Flat;
 use bz_text::WriteFault;
 use std::alloc::Global;
@@ -42,10 +42,7 @@ fn list_net<W: Write>(
 ) -> Result<(), Fault>
     ensures { ListsText text.items (option_copied asked.entry) (W.contents output.old) (W.contents output.new) result }
 {
-    let netlist = Netlist::read(alloc, text.as_slice())?;
-    drop(text);
-    let name = netlist.name(alloc, asked)?;
-    let flat = netlist.net(alloc, name.as_slice())?;
+    let (name, flat) = named_flat_of_input(alloc, asked, text)?;
     write_out(name.as_slice(), flat, output)?;
     Ok(())
 }

@@ -1,6 +1,6 @@
 //! From a text to the net of one of its parts. The text is read once.
 
-ghost use Rattle.std.specs.Prelude.{IfOk, IfErr};
+ghost use Rattle.std.specs.Prelude.{◌≡◌, IfOk, IfErr};
 ghost use Rattle.std.specs.Option.{option_copied};
 ghost use Rattle.bz_elab.specs.Refusals.{Elaborated};
 ghost use Rattle.bz_cli_input.specs.Choosing.{Chooses, RefusesChoice};
@@ -74,8 +74,22 @@ pub fn flat_of_input(alloc: Global, asked: Option<&[u8]>, text: Vec<u8>) -> Resu
     ensures ok { IfOk result (λ flat. Denotes text.items (option_copied asked.entry) flat.wiring) }
     ensures err { IfErr result (RefusesNet text.items (option_copied asked.entry)) }
 {
+    let (_, flat) = named_flat_of_input(alloc, asked, text)?;
+    Ok(flat)
+}
+
+/// The same, under the name of the part that is opened.
+pub(crate) fn named_flat_of_input(
+    alloc: Global,
+    asked: Option<&[u8]>,
+    text: Vec<u8>,
+) -> Result<(Vec<u8>, Flat), Fault>
+    ensures ok { IfOk result (λ r. (d : Denotes text.items (option_copied asked.entry) r.1.wiring) × (d.name ≡ r.0.items)) }
+    ensures err { IfErr result (RefusesNet text.items (option_copied asked.entry)) }
+{
     let netlist = Netlist::read(alloc, text.as_slice())?;
     drop(text);
     let name = netlist.name(alloc, asked)?;
-    netlist.net(alloc, name.as_slice())
+    let flat = netlist.net(alloc, name.as_slice())?;
+    Ok((name, flat))
 }
