@@ -8,7 +8,7 @@ use Rattle.bz_cli_input.specs.declared.input.InputFault.{InputFault}
 use Rattle.bz_cli_input.specs.declared.input.InputFault.TheVariants as input
 use Rattle.bz_cli_input.specs.Statuses.{of_input}
 use Rattle.bz_cli_core.specs.Running.{AreCommands, RefusesWords, Runs}
-use Rattle.bz_cli_core.proofs.Checks.{keeps_same}
+use Rattle.bz_cli_core.proofs.Outcomes.{keeps_same}
 use Rattle.bz_cli_program.specs.Endings.{Does, IsDone, of_done}
 
 -- what is said of the answer of a command that answers nothing else

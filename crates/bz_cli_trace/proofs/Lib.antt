@@ -1,0 +1,4 @@
+pub mod Splits
+pub mod Cut
+pub mod Makes
+pub mod Checks
