@@ -1,4 +1,3 @@
 pub mod Splits
-pub mod Cut
 pub mod Makes
 pub mod Checks

@@ -1,5 +1,5 @@
 -- What a command on a trace answers.
-use Rattle.std.proofs.Common.{◌≡◌, ◌≤◌, ℕ, List, Option, Some, None, length, inl, inr, refl, subst}
+use Rattle.std.proofs.Common.{ℕ, List, Option, Some, None, inl, inr, refl, subst}
 use Rattle.std.specs.Prelude.{Result, Err, IfSome}
 use Rattle.std.specs.Io.KnownBytes.{Keeps}
 use Rattle.bz_model.specs.Nets.{Wiring}
@@ -21,7 +21,7 @@ module _ {A C : Type 0} (Does : List ℕ → List ℕ → Type 0) (texts : TextP
   -- what the reader had is the text
   pub taken_text : (known : Option (List ℕ)) → IfSome known (λ text. AreOfText text texts) → Does texts.netlist texts.trace → IfSome known (λ text. TakesText Does text old new answer)
   taken_text None are does = tt
-  taken_text (Some text) are does = inr (are.fits, texts.netlist, texts.trace, are.splits, does)
+  taken_text (Some text) are does = inr (are.fits, (texts.netlist, texts.trace, are.splits, does))
 
   -- the same of two readers
   pub taken_two : (known had : Option (List ℕ)) → IfSome known (λ netlist. IfSome had (λ text. AreOfTwo netlist text texts)) → Does texts.netlist texts.trace
