@@ -90,7 +90,7 @@ fn draw_trace(
     ensures { Draws netlist.now trace.now part.now range result }
 {
     match run_of(alloc, part, netlist, trace) {
-        Ok(run) => draw_piece(alloc, part, range, run, trace),
+        Ok(found) => draw_piece(alloc, part, range, found, trace),
         Err(fault) => Err(fault),
     }
 }
@@ -124,7 +124,7 @@ fn draw_net(
     trace: &[u8],
     piece: Piece,
 ) -> Result<Vec<u8>, AllocError> {
-    let Run { flat, source } = run;
+    let (flat, source) = run.into_parts();
     // a part that has a net has places, so nothing but memory can be wanting
     match source.survey(alloc, part) {
         Ok(survey) => draw(alloc, &Circuit::of(flat), &survey, part, trace, piece),

@@ -1,6 +1,6 @@
 //! The net of which a trace is that of a run.
 
-ghost use Rattle.std.specs.Prelude.{IfOk, IfErr};
+ghost use Rattle.std.specs.Prelude.{◌≡◌, IfOk, IfErr};
 ghost use Rattle.bz_cli_source.specs.Surveys.{IsRead};
 ghost use Rattle.bz_cli_trace.specs.Making.{IsJudged, RefusesRun};
 
@@ -22,6 +22,16 @@ pub struct Run {
 impl Drop for Run {
     fn drop(self) {
         let Run { flat: _, source: _ } = self;
+    }
+}
+
+impl Run {
+    pub fn into_parts(self) -> (Flat, Source)
+        ensures flat { result.0 ≡ self.flat }
+        ensures source { result.1 ≡ self.source }
+    {
+        let Run { flat, source } = self;
+        (flat, source)
     }
 }
 

@@ -119,7 +119,7 @@ fn run_net(
     ensures { Finds netlist.now trace.now part.now result }
 {
     match run_of(alloc, part, netlist, trace) {
-        Ok(run) => place(alloc, part, run),
+        Ok(found) => place(alloc, part, found),
         Err(fault) => Err(fault),
     }
 }
@@ -128,7 +128,7 @@ fn run_net(
 fn place(alloc: Global, part: &[u8], run: Run) -> Result<(Pieces, Survey), TraceFault<TooLarge>>
     ensures { Places part.now run.flat run.source result }
 {
-    let Run { flat, source } = run;
+    let (flat, source) = run.into_parts();
     let net = flat.into_pieces();
     let comps = net.comps.len();
     if comps > MOST_COMPS {

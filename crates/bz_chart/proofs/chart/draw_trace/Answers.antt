@@ -4,7 +4,7 @@ use Rattle.bz_chart.proofs.Charts.{drawn}
 use Rattle.bz_chart.proofs.chart.draw_trace.Goals as goal
 
 pub returns-in-Ok : goal.returns-in-Ok
-returns-in-Ok c = drawn c.args.netlist.now c.args.trace.now c.args.part.now c.in-Ok.run.flat.wiring c.args.range c.draw_piece.result c.in-Ok.ensures.judged c.draw_piece.ensures
+returns-in-Ok c = drawn c.args.netlist.now c.args.trace.now c.args.part.now c.in-Ok.found.flat.wiring c.args.range c.draw_piece.result c.in-Ok.ensures.judged c.draw_piece.ensures
 
 pub returns-in-Err : goal.returns-in-Err
-returns-in-Err c = none_made (RefusesPiece c.args.range c.args.trace.now) c.args.netlist.now c.args.trace.now c.args.part.now c.in-Err.fault c.in-Err.ensures
+returns-in-Err c = none_made (RefusesPiece c.args.range c.args.trace.now) c.args.netlist.now c.args.trace.now c.args.part.now c.in-Err.fault c.in-Err.ensures.err

@@ -5,7 +5,7 @@ use Rattle.bz_page.proofs.command.run_net.Goals as goal
 
 pub returns-in-Ok : goal.returns-in-Ok
 returns-in-Ok c =
-    found c.args.netlist.now c.args.trace.now c.args.part.now c.in-Ok.run.flat c.in-Ok.run.source c.place.result c.in-Ok.ensures.judged c.in-Ok.ensures.read c.place.ensures
+    found c.args.netlist.now c.args.trace.now c.args.part.now c.in-Ok.found.flat c.in-Ok.found.source c.place.result c.in-Ok.ensures.judged c.in-Ok.ensures.read c.place.ensures
 
 pub returns-in-Err : goal.returns-in-Err
-returns-in-Err c = none_made IsTooLarge c.args.netlist.now c.args.trace.now c.args.part.now c.in-Err.fault c.in-Err.ensures
+returns-in-Err c = none_made IsTooLarge c.args.netlist.now c.args.trace.now c.args.part.now c.in-Err.fault c.in-Err.ensures.err
