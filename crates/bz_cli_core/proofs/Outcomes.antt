@@ -1,7 +1,7 @@
 -- What went out of a play, from what was played and what was written.
 use Rattle.std.proofs.Common.{◌≡◌, ◌≢◌, ◌≤◌, ℕ, Option, None, Some, Result, Ok, Err, List, length, map, inr, refl, subst}
 use Rattle.std.specs.Prelude.{IfSome}
-use Rattle.std.specs.Io.KnownBytes.{Appends}
+use Rattle.std.specs.Io.KnownBytes.{Appends, Keeps}
 use Rattle.bz_model.specs.declared.event.NetError.{NetError}
 use Rattle.bz_model.specs.declared.event.NetError.TheVariants as net
 use Rattle.bz_cli_input.specs.declared.fault.Fault.{Fault}
@@ -45,3 +45,7 @@ pub runs_on : {A : Type 0} (known : Option (List ℕ)) (items : List ℕ) (words
 runs_on None items words part limit cmds old new answer whole fits are plays = tt
 runs_on (Some xs) items words part limit cmds old new answer whole fits are plays =
     inr (cmds, are, inr (subst (λ text. (length text ≤ input_limit) × PlaysText text part limit cmds old new answer) whole (fits, plays)))
+
+pub keeps_same : (o : Option (List ℕ)) → Keeps o o
+keeps_same None = tt
+keeps_same (Some xs) = refl

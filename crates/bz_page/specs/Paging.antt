@@ -1,5 +1,5 @@
 -- What the command `page` reads and writes: a netlist, a trace, and a page.
-use Rattle.std.specs.Prelude.{◌≡◌, ◌<◌, ◌≤◌, ◌⊎◌, ⊤, ℕ, List, [], length, map, Option, Result, Ok, Err, IsErrAnd}
+use Rattle.std.specs.Prelude.{◌≡◌, ◌<◌, ◌≤◌, ⊤, ℕ, List, [], length, map, Option, Result, Ok, Err}
 use Rattle.std.specs.Io.KnownBytes.{Appends, Keeps}
 use Rattle.bz_model.specs.Nets.{Wiring}
 use Rattle.bz_flat.specs.Flats.{Plan, site_of}
@@ -9,41 +9,24 @@ use Rattle.bz_source.specs.Found.{Locates}
 use Rattle.bz_source.specs.Net.{FindsNamed}
 use Rattle.bz_source.specs.declared.source.Source.{Source}
 use Rattle.bz_source.specs.declared.survey.Survey.{Survey}
-use Rattle.bz_trace.specs.declared.checking.Verdict.{Verdict}
 use Rattle.bz_trace.specs.declared.checking.Verdict.TheVariants as verdict
 use Rattle.bz_trace.specs.Verdicts.{Judges}
 use Rattle.bz_cli_input.specs.declared.fault.Fault.{Fault}
 use Rattle.bz_cli_input.specs.declared.fault.Fault.TheVariants.{Write, Memory}
-use Rattle.bz_cli_input.specs.Limits.{input_limit}
-use Rattle.bz_cli_input.specs.Opening.{Denotes, RefusesNet}
-use Rattle.bz_cli_input.specs.Statuses as command
 use Rattle.bz_cli_input.specs.Stopping.{AppendsSome}
-use Rattle.bz_cli_input.specs.Stopping as stopping
-use Rattle.bz_cli_core.specs.Checking.{Splits}
 use Rattle.bz_cli_source.specs.Surveys.{IsPlaced, wiring_in}
 use Rattle.bz_cli_source.specs.Listing.{paths_text}
-use Rattle.bz_page.specs.declared.fault.PageFault.{PageFault}
-use Rattle.bz_page.specs.declared.fault.PageFault.TheVariants.{Command, NotRun, NotTrace, TooLarge}
+use Rattle.bz_cli_trace.specs.declared.fault.TraceFault.{TraceFault}
+use Rattle.bz_cli_trace.specs.declared.fault.TraceFault.TheVariants.{Command, Other}
+use Rattle.bz_cli_trace.specs.Making.{MakesNone, SendsMade}
+use Rattle.bz_cli_trace.specs.Taking.{TakesText, TakesTwo}
+use Rattle.bz_page.specs.declared.fault.TooLarge.{TooLarge}
 use Rattle.bz_page.specs.Pages.{Blank, page_text}
 use Rattle.bz_page.specs.Rows.{rows_text}
 
-abbrev pub status_of : PageFault → ℕ
-status_of (Command fault) = command.status_of fault
-status_of (NotRun line) = 1
-status_of (NotTrace line) = 1
-status_of (TooLarge comps) = 2
-
--- The netlist denotes this net, and this is the verdict on the trace.
-pub record Judged (netlist trace part : List ℕ) (v : Verdict) (w : Wiring) : Type 0 where
-  pub net : Denotes netlist part w
-  pub judged : Judges w trace v
-
--- Why there is no page of a trace. Of memory that was refused nothing is said.
-abbrev pub Refuses : List ℕ → List ℕ → List ℕ → PageFault → Type 0
-Refuses netlist trace part (Command fault) = RefusesNet netlist part fault
-Refuses netlist trace part (NotRun line) = (w : Wiring) × Judged netlist trace part (verdict.Not line) w
-Refuses netlist trace part (NotTrace line) = (w : Wiring) × Judged netlist trace part (verdict.Bad line) w
-Refuses netlist trace part (TooLarge comps) = (w : Wiring) × Judged netlist trace part verdict.Run w × (comps ≡ length w.sites) × (100000 < comps)
+-- a net has so many components, and that is more than a page holds
+abbrev pub IsTooLarge : Wiring → TooLarge → Type 0
+IsTooLarge w large = (large.comps ≡ length w.sites) × (100000 < large.comps)
 
 -- A page can be made: these are the net that the netlist denotes and the places in it, the trace is that of a run of this net,
 -- and it has no more components than a page holds.
@@ -52,9 +35,9 @@ pub record HasPage (netlist trace part : List ℕ) (net : Pieces) (s : Survey) :
   pub judged : Judges (wiring_in net) trace verdict.Run
   pub few : length net.comps ≤ 100000
 
-abbrev pub Finds : List ℕ → List ℕ → List ℕ → Result (Pieces × Survey) PageFault → Type 0
+abbrev pub Finds : List ℕ → List ℕ → List ℕ → Result (Pieces × Survey) (TraceFault TooLarge) → Type 0
 Finds netlist trace part (Ok found) = HasPage netlist trace part found.0 found.1
-Finds netlist trace part (Err fault) = Refuses netlist trace part fault
+Finds netlist trace part (Err fault) = MakesNone IsTooLarge netlist trace part fault
 
 -- These are the pieces of a net, and the places in it of the part of this name in a text that was read.
 pub record IsPlacedOf (name : List ℕ) (plan : Plan) (source : Source) (net : Pieces) (s : Survey) : Type 0 where
@@ -68,9 +51,9 @@ pub record IsPlacedOf (name : List ℕ) (plan : Plan) (source : Source) (net : P
   pub few : length net.comps ≤ 100000
 
 -- There are such pieces and places, or the net has more components than a page holds, or memory was refused.
-abbrev pub Places : List ℕ → Plan → Source → Result (Pieces × Survey) PageFault → Type 0
+abbrev pub Places : List ℕ → Plan → Source → Result (Pieces × Survey) (TraceFault TooLarge) → Type 0
 Places name plan source (Ok found) = IsPlacedOf name plan source found.0 found.1
-Places name plan source (Err (TooLarge comps)) = (comps ≡ length plan.wiring.sites) × (100000 < comps)
+Places name plan source (Err (Other large)) = IsTooLarge plan.wiring large
 Places name plan source (Err (Command Memory)) = ⊤
 Places name plan source (Err fault) = ⊥
 
@@ -89,27 +72,14 @@ PagesNet b part net s trace ends old new (Err fault) = ⊥
 abbrev pub IsPagedRun : Blank → List ℕ → List ℕ → List ℕ → (List ℕ → Type 0) → Type 0
 IsPagedRun b netlist trace part Out = (net : Pieces) × (s : Survey) × HasPage netlist trace part net s × Out (net_page b part net s trace [])
 
--- Only the trace of a run is played. Its page went out; where the writer failed, a front of it; where there is none, nothing.
-abbrev pub PagesTrace : {A : Type 0} → Blank → List ℕ → List ℕ → List ℕ → Option (List ℕ) → Option (List ℕ) → Result A PageFault → Type 0
-PagesTrace b netlist trace part old new (Ok u) = IsPagedRun b netlist trace part (Appends old new)
-PagesTrace b netlist trace part old new (Err (Command Write)) = IsPagedRun b netlist trace part (AppendsSome old new)
-PagesTrace b netlist trace part old new (Err fault) = Refuses netlist trace part fault × Keeps old new
-
--- The same of a netlist with a trace behind it.
-abbrev pub PagesText : {A : Type 0} → Blank → List ℕ → List ℕ → Option (List ℕ) → Option (List ℕ) → Result A PageFault → Type 0
-PagesText b text part old new answer = (netlist trace : List ℕ) × Splits text netlist trace × PagesTrace b netlist trace part old new answer
-
-abbrev pub IsOfInput : PageFault → Type 0
-IsOfInput (Command fault) = stopping.IsOfInput fault
-IsOfInput fault = ⊥
+-- Only the trace of a run is played.
+abbrev pub PagesTrace : {A : Type 0} → Blank → List ℕ → List ℕ → List ℕ → Option (List ℕ) → Option (List ℕ) → Result A (TraceFault TooLarge) → Type 0
+PagesTrace b netlist trace part old new answer = SendsMade IsTooLarge (IsPagedRun b netlist trace part) netlist trace part old new answer
 
 -- The command `page`: the input is not taken and nothing goes out, or a page of the trace in it does.
-abbrev pub Pages : {A : Type 0} → Blank → List ℕ → List ℕ → Option (List ℕ) → Option (List ℕ) → Result A PageFault → Type 0
-Pages b text part old new answer =
-    IsErrAnd answer (λ fault. IsOfInput fault × Keeps old new) ⊎ ((length text ≤ input_limit) × PagesText b text part old new answer)
+abbrev pub Pages : {A : Type 0} → Blank → List ℕ → List ℕ → Option (List ℕ) → Option (List ℕ) → Result A (TraceFault TooLarge) → Type 0
+Pages b text part old new answer = TakesText (λ netlist trace. PagesTrace b netlist trace part old new answer) text old new answer
 
 -- The same of a netlist and a trace apart.
-abbrev pub PagesApart : {A : Type 0} → Blank → List ℕ → List ℕ → List ℕ → Option (List ℕ) → Option (List ℕ) → Result A PageFault → Type 0
-PagesApart b netlist trace part old new answer =
-    IsErrAnd answer (λ fault. IsOfInput fault × Keeps old new)
-    ⊎ ((length netlist ≤ input_limit) × (length trace ≤ input_limit) × PagesTrace b netlist trace part old new answer)
+abbrev pub PagesApart : {A : Type 0} → Blank → List ℕ → List ℕ → List ℕ → Option (List ℕ) → Option (List ℕ) → Result A (TraceFault TooLarge) → Type 0
+PagesApart b netlist trace part old new answer = TakesTwo (λ n t. PagesTrace b n t part old new answer) netlist trace old new answer

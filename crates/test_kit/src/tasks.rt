@@ -3,8 +3,9 @@
 
 ghost use Rattle.std.specs.Prelude.{◌<◌, ◌≤◌};
 
-use bz_cli_core::{check_cmd, run_cmd, run_in_pieces};
+use bz_cli_core::{run_cmd, run_in_pieces};
 use bz_cli_input::{Fault, list_cmd};
+use bz_cli_trace::check_cmd;
 use std::alloc::Global;
 use std::io::{Read, Write};
 
