@@ -4,14 +4,11 @@ use Rattle.std.specs.Io.KnownBytes.{Keeps}
 use Rattle.bz_cli_input.specs.declared.fault.Fault.{Fault}
 use Rattle.bz_cli_core.specs.declared.playing.Halt.{Halt}
 use Rattle.bz_cli_core.specs.declared.run.Played.{Played}
-use Rattle.bz_chart.specs.declared.fault.ChartFault.{ChartFault}
-use Rattle.bz_chart.specs.declared.fault.ChartFault.TheVariants as chart
-use Rattle.bz_chart.specs.Charting as chart_statuses
+use Rattle.bz_cli_trace.specs.declared.fault.TraceFault.{TraceFault}
+use Rattle.bz_cli_trace.specs.declared.fault.TraceFault.TheVariants.{Command}
+use Rattle.bz_cli_trace.specs.Making.{status_of}
 use Rattle.bz_cli_args.specs.declared.request.Options.{Options}
 use Rattle.bz_chart.specs.declared.range.LineRange.{LineRange}
-use Rattle.bz_page.specs.declared.fault.PageFault.{PageFault}
-use Rattle.bz_page.specs.declared.fault.PageFault.TheVariants as page
-use Rattle.bz_page.specs.Paging as page_statuses
 
 -- The command has answered something of which this is said, and the program ends so of that answer.
 abbrev pub Does : {A : Type 0} → (A → Result ℕ Fault) → (A → Type 0) → Result ℕ Fault → Type 0
@@ -46,17 +43,11 @@ of_drawing (Ok None) = Ok 0
 of_drawing (Ok (Some why)) = Ok 2
 of_drawing (Err fault) = Err fault
 
--- 0 where there is a chart, and else the status that says why there is none
-abbrev pub of_chart : {A : Type 0} → Result A ChartFault → Result ℕ Fault
-of_chart (Ok u) = Ok 0
-of_chart (Err (chart.Command fault)) = Err fault
-of_chart (Err fault) = Ok (chart_statuses.status_of fault)
-
--- the same of a page
-abbrev pub of_page : {A : Type 0} → Result A PageFault → Result ℕ Fault
-of_page (Ok u) = Ok 0
-of_page (Err (page.Command fault)) = Err fault
-of_page (Err fault) = Ok (page_statuses.status_of fault)
+-- 0 where a chart or a page is made of a trace, and else the status that says why none is
+abbrev pub of_made : {A C : Type 0} → Result A (TraceFault C) → Result ℕ Fault
+of_made (Ok u) = Ok 0
+of_made (Err (Command fault)) = Err fault
+of_made (Err fault) = Ok (status_of fault)
 
 -- the lines of a trace that are asked for
 abbrev pub lines_asked : Options → LineRange

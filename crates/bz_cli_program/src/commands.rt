@@ -4,12 +4,12 @@ ghost use Rattle.std.specs.Prelude.{◌≡◌, ◌≤◌, ◌<◌, ⊤, false, t
 ghost use Rattle.std.specs.Option.{option_copied};
 ghost use Rattle.bz_chart.specs.Charting.{Charts, ChartsApart};
 ghost use Rattle.bz_cli.specs.Pooling.{Pools};
-ghost use Rattle.bz_cli_core.specs.Checking.{Checks, ChecksApart};
+ghost use Rattle.bz_cli_trace.specs.Checking.{Checks, ChecksApart};
 ghost use Rattle.bz_cli_core.specs.Running.{Runs};
 ghost use Rattle.bz_cli_input.specs.Listed.{Lists};
 ghost use Rattle.bz_cli_input.specs.Reading.{ReadsWithin};
 ghost use Rattle.bz_cli_program.specs.Endings.{AreWorkers, Does, IsDone, IsJournal, IsRefused};
-ghost use Rattle.bz_cli_program.specs.Endings.{lines_asked, of_chart, of_check, of_done, of_drawing, of_page};
+ghost use Rattle.bz_cli_program.specs.Endings.{lines_asked, of_check, of_done, of_drawing, of_made, of_run};
 ghost use Rattle.bz_cli_source.specs.Listed as placed;
 ghost use Rattle.bz_cli_source.specs.PartLists.{ListsParts};
 ghost use Rattle.bz_draw.specs.Drawing.{Draws};
@@ -20,18 +20,20 @@ ghost use Rattle.bz_words.specs.Words.{texts};
 
 use crate::given::Given;
 use crate::resting::note_rest;
-use bz_chart::{ChartFault, LineRange, chart_cmd, chart_trace_cmd};
+use bz_chart::{LineRange, chart_cmd, chart_trace_cmd};
 use bz_cli::{PoolOptions, pool_cmd};
 use bz_cli_args::{BAD_COMMAND_LINE, MAX_JOURNAL, MAX_WORKERS, Options};
-use bz_cli_core::{Halt, Played, check_cmd, check_trace_cmd, run_cmd};
+use bz_cli_core::{Halt, Played, run_cmd};
 use bz_cli_input::{Fault, list_cmd};
 use bz_cli_kinds::kinds_cmd;
 use bz_cli_source::{list_paths_cmd, parts_cmd};
+use bz_cli_trace::{TraceFault, check_cmd, check_trace_cmd};
 use bz_draw::{NoDrawing, View, draw_cmd};
 use bz_model::Reply;
-use bz_page::{PageFault, page_cmd, page_trace_cmd};
+use bz_page::{page_cmd, page_trace_cmd};
 use bz_session::End;
 use std::alloc::Global;
+use std::fmt::Display;
 use std::io::{Read, Write};
 use std::sync::Wait;
 use std::thread::Threads;
@@ -255,11 +257,11 @@ pub fn chart<R: Read, T: Read, W: Write, E: Write>(
     errors: &mut E,
 ) -> Result<u8, Fault>
     ensures charts { MatchOption trace.entry
-        (IfSome (R.remaining input.old) (λ text. Does of_chart
+        (IfSome (R.remaining input.old) (λ text. Does of_made
         (Charts {A = ⊤} text (option_copied given.entry.part) (lines_asked given.entry.options)
         (W.contents output.old) (W.contents output.new))
         result))
-        (λ apart. IfSome (R.remaining input.old) (λ netlist. IfSome (T.remaining apart.now) (λ text. Does of_chart
+        (λ apart. IfSome (R.remaining input.old) (λ netlist. IfSome (T.remaining apart.now) (λ text. Does of_made
         (ChartsApart {A = ⊤} netlist text (option_copied given.entry.part) (lines_asked given.entry.options)
         (W.contents output.old) (W.contents output.new))
         result))) }
@@ -274,9 +276,9 @@ pub fn chart<R: Read, T: Read, W: Write, E: Write>(
     match trace {
         Some(trace) => {
             let drawn = chart_trace_cmd(alloc, given.part, lines, input, trace, output);
-            charted(drawn, errors)
+            made(drawn, errors)
         }
-        None => charted(chart_cmd(alloc, given.part, lines, input, output), errors),
+        None => made(chart_cmd(alloc, given.part, lines, input, output), errors),
     }
 }
 
@@ -289,13 +291,16 @@ fn place_of(line: Option<u64>) -> Option<usize>
     }
 }
 
-// The status of a chart. Why there is none is told, but for a fault that other commands have too.
-fn charted<E: Write>(drawn: Result<(), ChartFault>, errors: &mut E) -> Result<u8, Fault>
-    ensures { result ≡ of_chart drawn }
+// The status of what is made of a trace. Why nothing is goes to `errors`, but for a fault that other commands have too.
+fn made<C: Display, E: Write>(
+    made: Result<(), TraceFault<C>>,
+    errors: &mut E,
+) -> Result<u8, Fault>
+    ensures { result ≡ of_made made }
 {
-    match drawn {
+    match made {
         Ok(()) => Ok(DONE),
-        Err(ChartFault::Command(fault)) => Err(fault),
+        Err(TraceFault::Command(fault)) => Err(fault),
         Err(why) => {
             let _ = writeln!(errors, "error: {why}");
             Ok(why.status())
@@ -314,11 +319,11 @@ pub fn page<R: Read, T: Read, W: Write, E: Write>(
     errors: &mut E,
 ) -> Result<u8, Fault>
     ensures pages { MatchOption trace.entry
-        (IfSome (R.remaining input.old) (λ text. Does of_page
+        (IfSome (R.remaining input.old) (λ text. Does of_made
         (λ answer. (blank : Blank) × Pages {A = ⊤} blank text (option_copied given.entry.part)
         (W.contents output.old) (W.contents output.new) answer)
         result))
-        (λ apart. IfSome (R.remaining input.old) (λ netlist. IfSome (T.remaining apart.now) (λ text. Does of_page
+        (λ apart. IfSome (R.remaining input.old) (λ netlist. IfSome (T.remaining apart.now) (λ text. Does of_made
         (λ answer. (blank : Blank) × PagesApart {A = ⊤} blank netlist text (option_copied given.entry.part)
         (W.contents output.old) (W.contents output.new) answer)
         result))) }
@@ -329,23 +334,9 @@ pub fn page<R: Read, T: Read, W: Write, E: Write>(
     match trace {
         Some(trace) => {
             let written = page_trace_cmd(alloc, given.part, input, trace, output);
-            paged(written, errors)
+            made(written, errors)
         }
-        None => paged(page_cmd(alloc, given.part, input, output), errors),
-    }
-}
-
-// The status of a page. Why there is none is told, but for a fault that other commands have too.
-fn paged<E: Write>(written: Result<(), PageFault>, errors: &mut E) -> Result<u8, Fault>
-    ensures { result ≡ of_page written }
-{
-    match written {
-        Ok(()) => Ok(DONE),
-        Err(PageFault::Command(fault)) => Err(fault),
-        Err(fault) => {
-            let _ = writeln!(errors, "error: {fault}");
-            Ok(fault.status())
-        }
+        None => made(page_cmd(alloc, given.part, input, output), errors),
     }
 }
 
