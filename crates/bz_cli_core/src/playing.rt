@@ -53,20 +53,13 @@ pub(crate) fn play_out<W: Write>(
     ensures memory { (stop : Stop) → result ≡ End.Stop stop → stop.error ≢ NetError.Memory }
 {
     for (place, cmd) in cmds.iter().enumerate() {
+        let word = place + 1;
         let refusal = match word_out(play, cmd, pending, lines, out) {
             Ok(refusal) => refusal,
-            Err(error) => {
-                return End::Stop(Stop {
-                    word: place + 1,
-                    error,
-                });
-            }
+            Err(error) => return End::Stop(Stop { word, error }),
         };
         if let Some(reply) = halting(strict, refusal) {
-            return End::Halt(Halt {
-                word: place + 1,
-                reply,
-            });
+            return End::Halt(Halt { word, reply });
         }
     }
     End::All
