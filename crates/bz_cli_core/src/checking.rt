@@ -12,8 +12,8 @@ ghost use Rattle.bz_cli_input.specs.Stopping.{AppendsSome, StopsAtInput};
 
 use bz_cli_input::{Fault, flat_of, read_input};
 use bz_model::Value;
-use bz_text::{Piece, WriteFault, put_pieces};
 use bz_net::Play;
+use bz_text::{Piece, WriteFault, put_pieces};
 use bz_trace::{Counts, MAX_ENTRIES, ReadFault, Verdict, check, check_read};
 use bz_trace_text::strip;
 use std::alloc::Global;

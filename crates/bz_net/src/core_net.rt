@@ -20,9 +20,7 @@ ghost use Rattle.bz_net.specs.Unbroken.{IsUnbroken};
 use crate::chan_row::ChanRow;
 use crate::here::{command, has_step, has_step_by, lowest_port, mark_all, move_comp};
 use crate::kept_phases::Phases;
-use crate::moves::{
-    answers, due_at, foresee, mixes, note_clash, port_in, refusal_of, reply_to,
-};
+use crate::moves::{answers, due_at, foresee, mixes, note_clash, port_in, refusal_of, reply_to};
 use crate::node::{Node, dup_all, start_all};
 use crate::noted::Noted;
 use crate::ready_row::{Keeping, ReadyRow};
