@@ -1,3 +1,4 @@
+use Rattle.std.specs.Option.{option_copied}
 use Rattle.bz_cli_trace.proofs.Makes.{nothing_out}
 use Rattle.bz_page.specs.Pages.{blank_of}
 use Rattle.bz_page.specs.Paging.{IsPagedRun, IsTooLarge}
@@ -9,8 +10,8 @@ returns-in-Err g c =
     let netlist = c.args.texts.now.netlist in
     let trace = c.args.texts.now.trace in
     let none = rw c.both.ensures.netlist at c.in-Err.ensures in
-    nothing_out (Unit {0}) IsTooLarge (IsPagedRun (blank_of c.args.template) netlist trace c.args.part.now) netlist trace c.args.part.now _ c.in-Err.fault (rw c.both.ensures.trace at none)
+    nothing_out (Unit {0}) IsTooLarge (IsPagedRun (blank_of c.args.template) netlist trace (option_copied c.args.asked.entry)) netlist trace (option_copied c.args.asked.entry) _ c.in-Err.fault (rw c.both.ensures.trace at none)
 
 pub returns : goal.returns
 returns g c =
-    paged_short (Unit {0}) (blank_of c.args.template) c.args.texts.now.netlist c.args.texts.now.trace c.args.part.now c.in-Ok.found.0 c.in-Ok.found.1 _ _ c.in-Err-put_net_page.fault c.in-Ok.ensures c.in-Err-put_net_page.ensures
+    paged_short (Unit {0}) (blank_of c.args.template) c.args.texts.now.netlist c.args.texts.now.trace (option_copied c.args.asked.entry) c.in-Ok.found.2.items c.in-Ok.found.0 c.in-Ok.found.1 _ _ c.in-Err-put_net_page.fault c.in-Ok.ensures (rw c.as_slice-part.ensures.value at c.in-Err-put_net_page.ensures)
