@@ -81,3 +81,9 @@ paged_short A b netlist trace part net s old new fault.NoThread has out = absurd
 paged_short A b netlist trace part net s old new fault.Read has out = absurd out
 paged_short A b netlist trace part net s old new fault.Write has out = (net, s, has, out)
 paged_short A b netlist trace part net s old new fault.Memory has out = (tt, out)
+
+-- the same of texts that are known to be these
+pub paged_short_of : (A : Type 0) (b : Blank) (n t netlist trace part : List ℕ) (net : Pieces) (s : Survey) (old new : Option (List ℕ)) (f : Fault) → n ≡ netlist → t ≡ trace → HasPage n t part net s → PagesNet {A = A} b part net s t [] old new (Err f)
+    → PagesTrace {A = A} b netlist trace part old new (Err (Command f))
+paged_short_of A b n t netlist trace part net s old new f is are has out =
+    subst (λ k. PagesTrace {A = A} b k trace part old new (Err (Command f))) is (subst (λ k. PagesTrace {A = A} b n k part old new (Err (Command f))) are (paged_short A b n t part net s old new f has out))
