@@ -123,9 +123,11 @@ fn draw_net(
     trace: &[u8],
     piece: Piece,
 ) -> Result<Vec<u8>, AllocError> {
-    let (net, source, part) = checked.into_parts();
+    let (flat, source, part) = match checked.into_flat(alloc) {
+        Ok(parts) => parts,
+        Err(fault) => return Err(fault),
+    };
     let part = part.as_slice();
-    let flat = net.into_flat(alloc)?;
     // a part that has a net has places, so nothing but memory can be wanting
     match source.survey(alloc, part) {
         Ok(survey) => draw(alloc, &Circuit::of(flat), &survey, part, trace, piece),

@@ -11,10 +11,11 @@ ghost use Rattle.bz_cli_trace.specs.Checking.{IsChecked, is_run};
 
 use bz_cli_input::Fault;
 use bz_cli_source::net_of;
+use bz_flat::Flat;
 use bz_net::Play;
 use bz_source::Source;
 use bz_trace::{Counts, MAX_ENTRIES, ReadFault, Verdict, check, check_read};
-use std::alloc::Global;
+use std::alloc::{AllocError, Global};
 use std::io::Read;
 
 /// A net that a trace was checked against, and the verdict.
@@ -63,6 +64,19 @@ impl Checked {
             part,
         } = self;
         (net, source, part)
+    }
+
+    /// The same of the flat net, whose names and channels are copied. Where memory is refused, all of it is gone.
+    pub fn into_flat(self, alloc: Global) -> Result<(Flat, Source, Vec<u8>), AllocError>
+        ensures net { IfOk result (λ r. r.0.wiring ≡ self.net.wiring) }
+        ensures source { IfOk result (λ r. r.1 ≡ self.source) }
+        ensures part { IfOk result (λ r. r.2 ≡ self.part) }
+    {
+        let (net, source, part) = self.into_parts();
+        match net.into_flat(alloc) {
+            Ok(flat) => Ok((flat, source, part)),
+            Err(fault) => Err(fault),
+        }
     }
 }
 

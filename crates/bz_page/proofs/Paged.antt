@@ -1,5 +1,5 @@
 -- What the command `page` answers.
-use Rattle.std.proofs.Common.{◌≡◌, ◌≤◌, ◌∙◌, ℕ, List, [], Option, length, refl, sym, subst}
+use Rattle.std.proofs.Common.{◌≡◌, ◌≤◌, ◌∙◌, ℕ, List, [], Option, length, ap, sym, subst}
 use Rattle.std.specs.declared.alloc.Global.{Global}
 use Rattle.std.specs.declared.vec.Vec.{Vec}
 use Rattle.std.specs.Prelude.{Result, Ok, Err}
@@ -8,6 +8,7 @@ use Rattle.bz_flat.specs.Wires.{EndsOf, WellWired}
 use Rattle.bz_flat.specs.declared.flat.Pieces.{Pieces}
 use Rattle.bz_source.specs.Found.{Locates}
 use Rattle.bz_source.specs.Net.{FindsNamed}
+use Rattle.bz_source.specs.declared.source.Source.{Source}
 use Rattle.bz_source.specs.declared.survey.Survey.{Survey}
 use Rattle.bz_trace.specs.declared.checking.Verdict.TheVariants as verdict
 use Rattle.bz_trace.specs.Verdicts.{Judges}
@@ -27,17 +28,17 @@ pub page_of : (Out : List ℕ → Type 0) (b : Blank) (list listed rows told tra
 page_of Out b list listed rows told trace is are out = subst (λ l. Out (page_text b l told trace)) is (subst (λ r. Out (page_text b list r trace)) are out)
 
 -- a net in its pieces, and the places in it
-pub placed_of : (c : Checked) (plan : Plan) (net : Pieces) (s : Survey) → plan.wiring ≡ c.net.wiring → plan.wiring ≡ wiring_in net → WellWired (wiring_in net) → EndsOf (wiring_in net) net.ends.items → s.parts ≡ c.source.parts → s.lines ≡ c.source.lines
-    → Locates c.source.parts c.part.items s.places → FindsNamed c.source.parts c.part.items s.places → length net.comps ≤ 100000 → IsPlacedOf c c.part.items net s
-placed_of c plan net s same wiring wired ends parts lines places named few = record {
+pub placed_of : (c : Checked) (plan : Plan) (source : Source) (part : Vec ℕ Global) (net : Pieces) (s : Survey) → plan.wiring ≡ c.net.wiring → source ≡ c.source → part ≡ c.part → plan.wiring ≡ wiring_in net → WellWired (wiring_in net) → EndsOf (wiring_in net) net.ends.items
+    → s.parts ≡ source.parts → s.lines ≡ source.lines → Locates source.parts part.items s.places → FindsNamed source.parts part.items s.places → length net.comps ≤ 100000 → IsPlacedOf c part.items net s
+placed_of c plan source part net s same of named_is wiring wired ends parts lines places named few = record {
   wiring = sym same ∙ wiring;
   wired = wired;
   ends = ends;
-  named_is = refl;
-  parts = parts;
-  lines = lines;
-  places = subst (λ p. Locates p c.part.items s.places) (sym parts) places;
-  named = subst (λ p. FindsNamed p c.part.items s.places) (sym parts) named;
+  named_is = ap (λ p. p.items) named_is;
+  parts = parts ∙ ap (λ o. o.parts) of;
+  lines = lines ∙ ap (λ o. o.lines) of;
+  places = subst (λ p. Locates p part.items s.places) (sym parts) places;
+  named = subst (λ p. FindsNamed p part.items s.places) (sym parts) named;
   few = few;
 }
 
@@ -83,3 +84,16 @@ paged_short A b netlist trace asked name net s old new fault.NoThread has out = 
 paged_short A b netlist trace asked name net s old new fault.Read has out = absurd out
 paged_short A b netlist trace asked name net s old new fault.Write has out = (name, net, s, has, out)
 paged_short A b netlist trace asked name net s old new fault.Memory has out = (tt, out)
+
+-- the same of texts that are known to be these, under a name that is known to be this one
+pub paged_short_of : (A : Type 0) (b : Blank) (n t netlist trace : List ℕ) (asked : Option (List ℕ)) (name called : List ℕ) (net : Pieces) (s : Survey) (old new : Option (List ℕ)) (f : Fault) → n ≡ netlist → t ≡ trace → called ≡ name → HasPage n t asked name net s
+    → PagesNet {A = A} b called net s t [] old new (Err f) → PagesTrace {A = A} b netlist trace asked old new (Err (Command f))
+paged_short_of A b n t netlist trace asked name called net s old new f is are so has out =
+    let named : PagesNet {A = A} b name net s t [] old new (Err f) = subst (λ k. PagesNet {A = A} b k net s t [] old new (Err f)) so out in
+    subst (λ k. PagesTrace {A = A} b k trace asked old new (Err (Command f))) is (subst (λ k. PagesTrace {A = A} b n k asked old new (Err (Command f))) are (paged_short A b n t asked name net s old new f has named))
+
+pub paged_of : (A : Type 0) (b : Blank) (n t netlist trace : List ℕ) (asked : Option (List ℕ)) (name called : List ℕ) (net : Pieces) (s : Survey) (old new : Option (List ℕ)) (u : A) → n ≡ netlist → t ≡ trace → called ≡ name → HasPage n t asked name net s
+    → PagesNet {A = A} b called net s t [] old new (Ok u) → PagesTrace {A = A} b netlist trace asked old new (Ok u)
+paged_of A b n t netlist trace asked name called net s old new u is are so has out =
+    let named : PagesNet {A = A} b name net s t [] old new (Ok u) = subst (λ k. PagesNet {A = A} b k net s t [] old new (Ok u)) so out in
+    subst (λ k. PagesTrace {A = A} b k trace asked old new (Ok u)) is (subst (λ k. PagesTrace {A = A} b n k asked old new (Ok u)) are (name, net, s, has, named))

@@ -127,20 +127,24 @@ fn run_net(
 }
 
 // A net in its pieces, where everything in it stands, and the name of its part, unless it is too large for a page.
-fn place(alloc: Global, checked: Checked) -> Result<(Pieces, Survey, Vec<u8>), TraceFault<TooLarge>>
+fn place(
+    alloc: Global,
+    checked: Checked,
+) -> Result<(Pieces, Survey, Vec<u8>), TraceFault<TooLarge>>
     ensures { Places checked result }
 {
-    let comps = checked.net.core().comp_count() as usize;
+    let (flat, source, part) = match checked.into_flat(alloc) {
+        Ok(parts) => parts,
+        Err(_) => return Err(TraceFault::Command(Fault::Memory)),
+    };
+    let net = flat.into_pieces();
+    let comps = net.comps.len();
     if comps > MOST_COMPS {
         return Err(TraceFault::Other(TooLarge { comps }));
     }
-    let (net, source, part) = checked.into_parts();
-    let Ok(flat) = net.into_flat(alloc) else {
-        return Err(TraceFault::Command(Fault::Memory));
-    };
     // a part that has a net has places, so nothing but memory can be wanting
     match source.survey(alloc, part.as_slice()) {
-        Ok(survey) => Ok((flat.into_pieces(), survey, part)),
+        Ok(survey) => Ok((net, survey, part)),
         Err(_) => Err(TraceFault::Command(Fault::Memory)),
     }
 }

@@ -1,4 +1,3 @@
-use Rattle.std.specs.Option.{option_copied}
 use Rattle.std.proofs.Common.{arith}
 use Rattle.bz_page.proofs.Paged.{placed_of}
 use Rattle.bz_page.proofs.command.place.Goals as goal
@@ -6,4 +5,6 @@ use Rattle.bz_page.proofs.command.place.Goals as goal
 pub returns-in-Ok : goal.returns-in-Ok
 returns-in-Ok c =
     let e = c.into_pieces-net.ensures in
-    placed_of (option_copied c.args.asked.entry) c.args.run.flat c.args.run.source _ c.in-Ok.survey e.wiring e.wired e.ends_of c.in-Ok.ensures.parts c.in-Ok.ensures.lines c.in-Ok.ensures.places c.in-Ok.ensures.net (omega (arith, c.if-comps-gt-MOST_COMPS.false, c.len-comps.ensures))
+    let f = c.in-Ok.ensures in
+    placed_of c.args.checked c.in-Ok.parts.0 c.in-Ok.parts.1 c.in-Ok.parts.2 c.into_pieces-net.result c.in-Ok-survey.survey f.net f.source f.part e.wiring e.wired e.ends_of
+    c.in-Ok-survey.ensures.parts c.in-Ok-survey.ensures.lines c.in-Ok-survey.ensures.places c.in-Ok-survey.ensures.net (omega (arith, c.if-comps-gt-MOST_COMPS.false, c.len-comps.ensures))
