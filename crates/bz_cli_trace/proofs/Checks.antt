@@ -1,6 +1,7 @@
 -- What the command `check` answers.
-use Rattle.std.proofs.Common.{◌≡◌, ◌≢◌, ◌≤◌, ℕ, List, Option, Some, None, length, ◌⊎◌, inl, inr, refl, subst}
+use Rattle.std.proofs.Common.{◌≡◌, ◌≤◌, ℕ, List, Option, Some, None, length, ◌⊎◌, inl, inr, subst}
 use Rattle.std.specs.Prelude.{Result, Ok, Err, IfSome}
+use Rattle.bz_model.specs.Nets.{Wiring}
 use Rattle.bz_trace.specs.declared.checking.Verdict.TheVariants as verdict
 use Rattle.bz_trace.specs.Verdicts.{CountsRun, Judges, Leaves}
 use Rattle.bz_cli_input.specs.declared.fault.Fault.{Fault}
@@ -13,7 +14,7 @@ use Rattle.bz_cli_input.specs.Stopping.{IsOfInput, StopsAtInput}
 use Rattle.bz_cli_input.specs.Opening.{Denotes, RefusesNet}
 use Rattle.bz_cli_source.specs.Surveys.{IsRead}
 use Rattle.bz_cli_trace.specs.declared.checked.Checked.{Checked}
-use Rattle.bz_cli_trace.specs.Checking.{Checks, ChecksApart, ChecksTrace, IsChecked, Said, TellsVerdict}
+use Rattle.bz_cli_trace.specs.Checking.{Checks, ChecksApart, ChecksTrace, IsChecked, TellsVerdict}
 use Rattle.bz_cli_trace.specs.Taking.{AreOfText}
 use Rattle.bz_cli_trace.specs.Texts.{TextPair}
 use Rattle.bz_cli_trace.proofs.Makes.{keeps_same}
@@ -84,11 +85,22 @@ not_said netlist trace asked c old new fault.Read checked t = absurd (let e = t.
 not_said netlist trace asked c old new fault.Write checked t = (c, record { checked = checked; some = t.0; out = t.1 })
 not_said netlist trace asked c old new fault.Memory checked t = (tt, t.1)
 
+-- a net that was checked, whose wiring is the one that was opened
+pub checked_of : (netlist trace : List ℕ) (asked : Option (List ℕ)) (c : Checked) (w : Wiring) → w ≡ c.net.wiring → Denotes netlist asked w → IsRead netlist asked c.part.items w c.source.parts c.source.lines.items → Judges w trace c.verdict
+    → (c.verdict ≡ verdict.Run → CountsRun w trace c.counts) → Leaves w trace c.net c.verdict → IsChecked netlist trace asked c
+checked_of netlist trace asked c w same net read judged counted leaves = record {
+  net = subst (λ v. Denotes netlist asked v) same net;
+  read = subst (λ v. IsRead netlist asked c.part.items v c.source.parts c.source.lines.items) same read;
+  judged = subst (λ v. Judges v trace c.verdict) same judged;
+  counted = λ run. subst (λ v. CountsRun v trace c.counts) same (counted run);
+  leaves = subst (λ v. Leaves v trace c.net c.verdict) same leaves;
+}
+
 -- of what the reader had all hold
-pub checked_read : (had : Option (List ℕ)) (netlist : List ℕ) (asked : Option (List ℕ)) (c : Checked) → Denotes netlist asked c.net.wiring → IsRead netlist asked c.part.items c.net.wiring c.source.parts c.source.lines.items
-    → IfSome had (λ text. Judges c.net.wiring text c.verdict) → IfSome had (λ text. c.verdict ≡ verdict.Run → CountsRun c.net.wiring text c.counts) → IfSome had (λ text. Leaves c.net.wiring text c.net c.verdict) → IfSome had (λ text. IsChecked netlist text asked c)
-checked_read None netlist asked c net read judged counted leaves = tt
-checked_read (Some text) netlist asked c net read judged counted leaves = record { net = net; read = read; judged = judged; counted = counted; leaves = leaves }
+pub checked_read : (had : Option (List ℕ)) (netlist : List ℕ) (asked : Option (List ℕ)) (c : Checked) (w : Wiring) → w ≡ c.net.wiring → Denotes netlist asked w → IsRead netlist asked c.part.items w c.source.parts c.source.lines.items
+    → IfSome had (λ text. Judges w text c.verdict) → IfSome had (λ text. c.verdict ≡ verdict.Run → CountsRun w text c.counts) → IfSome had (λ text. Leaves w text c.net c.verdict) → IfSome had (λ text. IsChecked netlist text asked c)
+checked_read None netlist asked c w same net read judged counted leaves = tt
+checked_read (Some text) netlist asked c w same net read judged counted leaves = checked_of netlist text asked c w same net read judged counted leaves
 
 pub said_read : (had : Option (List ℕ)) (netlist : List ℕ) (asked : Option (List ℕ)) (c : Checked) (old new : Option (List ℕ)) → IfSome had (λ text. IsChecked netlist text asked c) → TellsVerdict {A = Unit {0}} c.verdict c.counts old new (Ok tt)
     → IfSome had (λ text. StopsAtInput {E = Checked} old new (Ok c) ⊎ ChecksTrace netlist text asked old new (Ok c))

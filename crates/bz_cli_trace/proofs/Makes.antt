@@ -1,5 +1,5 @@
 -- What a command on a trace answers.
-use Rattle.std.proofs.Common.{◌≡◌, ◌≤◌, ℕ, List, Option, Some, None, length, inl, inr, refl, subst}
+use Rattle.std.proofs.Common.{ℕ, List, Option, Some, None, inl, inr, refl, subst}
 use Rattle.std.specs.Prelude.{Result, Err, IfSome}
 use Rattle.std.specs.Io.KnownBytes.{Keeps}
 use Rattle.bz_model.specs.Nets.{Wiring}

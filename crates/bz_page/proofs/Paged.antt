@@ -28,17 +28,17 @@ pub page_of : (Out : List ℕ → Type 0) (b : Blank) (list listed rows told tra
 page_of Out b list listed rows told trace is are out = subst (λ l. Out (page_text b l told trace)) is (subst (λ r. Out (page_text b list r trace)) are out)
 
 -- a net in its pieces, and the places in it
-pub placed_of : (c : Checked) (plan : Plan) (source : Source) (part : Vec ℕ Global) (net : Pieces) (s : Survey) → plan.wiring ≡ c.net.wiring → source ≡ c.source → part ≡ c.part → plan.wiring ≡ wiring_in net → WellWired (wiring_in net) → EndsOf (wiring_in net) net.ends.items
-    → s.parts ≡ source.parts → s.lines ≡ source.lines → Locates source.parts part.items s.places → FindsNamed source.parts part.items s.places → length net.comps ≤ 100000 → IsPlacedOf c part.items net s
-placed_of c plan source part net s same of named_is wiring wired ends parts lines places named few = record {
+pub placed_of : (c : Checked) (plan : Plan) (source : Source) (part : Vec ℕ Global) (called : List ℕ) (net : Pieces) (s : Survey) → plan.wiring ≡ c.net.wiring → source ≡ c.source → part ≡ c.part → called ≡ part.items → plan.wiring ≡ wiring_in net → WellWired (wiring_in net)
+    → EndsOf (wiring_in net) net.ends.items → s.parts ≡ source.parts → s.lines ≡ source.lines → Locates source.parts called s.places → FindsNamed source.parts called s.places → length net.comps ≤ 100000 → IsPlacedOf c part.items net s
+placed_of c plan source part called net s same of named_is so wiring wired ends parts lines places named few = record {
   wiring = sym same ∙ wiring;
   wired = wired;
   ends = ends;
   named_is = ap (λ p. p.items) named_is;
   parts = parts ∙ ap (λ o. o.parts) of;
   lines = lines ∙ ap (λ o. o.lines) of;
-  places = subst (λ p. Locates p part.items s.places) (sym parts) places;
-  named = subst (λ p. FindsNamed p part.items s.places) (sym parts) named;
+  places = subst (λ p. Locates p part.items s.places) (sym parts) (subst (λ n. Locates source.parts n s.places) so places);
+  named = subst (λ p. FindsNamed p part.items s.places) (sym parts) (subst (λ n. FindsNamed source.parts n s.places) so named);
   few = few;
 }
 
@@ -76,7 +76,7 @@ paged_short A b netlist trace asked name net s old new (fault.Word at) has out =
 paged_short A b netlist trace asked name net s old new (fault.Text e) has out = absurd out
 paged_short A b netlist trace asked name net s old new (fault.Part e) has out = absurd out
 paged_short A b netlist trace asked name net s old new (fault.Top names) has out = absurd out
-paged_short A b netlist trace asked name net s old new (fault.Net e name) has out = absurd out
+paged_short A b netlist trace asked name net s old new (fault.Net e part) has out = absurd out
 paged_short A b netlist trace asked name net s old new (fault.Event e word) has out = absurd out
 paged_short A b netlist trace asked name net s old new (fault.Ended e who) has out = absurd out
 paged_short A b netlist trace asked name net s old new (fault.Discord who at) has out = absurd out

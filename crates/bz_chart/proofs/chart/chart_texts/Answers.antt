@@ -9,4 +9,4 @@ returns-in-Err g c =
     let trace = c.args.texts.now.trace in
     let range = c.args.range in
     let none = rw c.both.ensures.netlist at c.in-Err.ensures in
-    nothing_out (Unit {0}) (RefusesPiece range trace) (MakesChart netlist trace (option_copied c.args.asked.entry) range) netlist trace (option_copied c.args.asked.entry) _ c.in-Err.fault (rw c.both.ensures.trace at none)
+    nothing_out (Unit {0}) (RefusesPiece range trace) (MakesChart netlist trace (option_copied c.args.asked) range) netlist trace (option_copied c.args.asked) _ c.in-Err.fault (rw c.both.ensures.trace at none)

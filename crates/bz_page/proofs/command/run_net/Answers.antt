@@ -6,7 +6,7 @@ use Rattle.bz_page.proofs.command.run_net.Goals as goal
 
 pub returns-in-Ok : goal.returns-in-Ok
 returns-in-Ok c =
-    found c.args.netlist.now c.args.trace.now (option_copied c.args.asked.entry) c.in-Ok.checked c.place.result c.in-Ok.ensures.checked c.in-Ok.ensures.run c.place.ensures
+    found c.args.netlist.now c.args.trace.now (option_copied c.args.asked) c.in-Ok.checked c.place.result c.in-Ok.ensures.checked c.in-Ok.ensures.run c.place.ensures
 
 pub returns-in-Err : goal.returns-in-Err
-returns-in-Err c = none_made IsTooLarge c.args.netlist.now c.args.trace.now (option_copied c.args.asked.entry) c.in-Err.fault c.in-Err.ensures.err
+returns-in-Err c = none_made IsTooLarge c.args.netlist.now c.args.trace.now (option_copied c.args.asked) c.in-Err.fault c.in-Err.ensures.err
