@@ -5,15 +5,15 @@ use Rattle.bz_model.specs.declared.channel.Move.{Move}
 use Rattle.bz_model.specs.declared.channel.Move.TheVariants.{Ask, Take, Reply, Got}
 use Rattle.bz_model.specs.declared.channel.Phase.{Phase}
 use Rattle.bz_model.specs.declared.channel.Phase.TheVariants.{Idle, Asked, Taken, Replied, Broken}
-use Rattle.bz_model.specs.Heads.{Component, HasOneHead, Head, IsHeadOn, Proc, after_head, carried, opens}
+use Rattle.bz_model.specs.Heads.{Component, HasOneHead, IsHeadOn, Proc, after_head, carried, opens}
 use Rattle.bz_model.specs.Phases.{allows, incoming, phase_after}
 use Rattle.bz_model.specs.Terms.{Store}
 use Rattle.bz_model.specs.declared.expr.Expr.{Expr}
-use Rattle.bz_model.specs.Nets.{Site, State, Step, StepsAt, chan_at, moved, passive_at, phase_at, proc_at}
+use Rattle.bz_model.specs.Nets.{Site, State, Step, StepsAt, moved, passive_at, proc_at}
 use Rattle.bz_flat.specs.Wires.{IsEnd}
 use Rattle.bz_kinds.specs.Riding.{riding, taken}
 use Rattle.bz_kinds.proofs.RidingLaws.{came}
-use Rattle.bz_net.specs.Due.{Foresees, GivesAsSteps, HasStep, next_of}
+use Rattle.bz_net.specs.Due.{Foresees, HasStep, next_of}
 use Rattle.bz_net.specs.Keeping.{comp_at, is_open, phase_in, state_of}
 use Rattle.bz_net.specs.Sides.{answers}
 use Rattle.bz_net.specs.Told.{IsTurning, Sighted}

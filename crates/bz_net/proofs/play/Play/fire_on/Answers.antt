@@ -1,5 +1,4 @@
-use Rattle.std.proofs.Common.{◌≡◌, ℕ, Option, Some, None, inl, inr, [], refl, sym, subst}
-use Rattle.bz_model.specs.declared.event.Entry.TheVariants.{Fired}
+use Rattle.std.proofs.Common.{◌≡◌, ℕ, Some, None, inr, refl, sym, subst}
 use Rattle.bz_model.specs.Nets.{Step}
 use Rattle.bz_net.specs.Due.{GivesAsSteps, HasStep}
 use Rattle.bz_net.specs.Progress.{Progress}
