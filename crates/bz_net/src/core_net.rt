@@ -201,6 +201,7 @@ impl Core {
     pub fn names(&self) -> &Names
         ensures value { result.now ≡ outside self.now.wiring }
         ensures differ { NamesDiffer self.now.wiring.ports }
+        ensures wired { WellWired self.now.wiring }
     {
         &self.names
     }
