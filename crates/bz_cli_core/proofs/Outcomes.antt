@@ -12,12 +12,12 @@ use Rattle.bz_cli_core.specs.declared.playing.End.{End}
 use Rattle.bz_cli_core.specs.declared.playing.End.TheVariants as end
 use Rattle.bz_cli_core.specs.declared.run.Played.{Played}
 use Rattle.bz_model.specs.Nets.{Wiring}
-use Rattle.bz_cli_core.specs.Running.{AreCommands, PlaysNet, PlaysText, Runs, Writes, fault_for}
+use Rattle.bz_cli_core.specs.Running.{AreCommands, PlaysNet, PlaysText, Runs, WritesTrace, fault_for}
 use Rattle.bz_cli_input.specs.Stopping.{AppendsSome}
 use Rattle.bz_cli_input.specs.Limits.{input_limit}
 
 -- the fault of a play that stopped
-pub told : (w : Wiring) (limit : ℕ) (strict : Bool) (cmds : List Cmd) (old new : Option (List ℕ)) (word : ℕ) (e : NetError) → Writes w limit strict cmds (end.Stop (record { word = word; error = e })) (Appends old new) → PlaysNet w limit strict cmds old new (Err (fault_for word e))
+pub told : (w : Wiring) (limit : ℕ) (strict : Bool) (cmds : List Cmd) (old new : Option (List ℕ)) (word : ℕ) (e : NetError) → WritesTrace w limit strict cmds (end.Stop (record { word = word; error = e })) (Appends old new) → PlaysNet w limit strict cmds old new (Err (fault_for word e))
 told w limit strict cmds old new word net.UnknownPort p = p
 told w limit strict cmds old new word net.WrongSide p = p
 told w limit strict cmds old new word net.ValueMissing p = p
@@ -39,7 +39,7 @@ fault_wants word net.JournalFull none = λ is. cc is
 fault_wants word net.Memory none = absurd (none refl)
 
 -- the writer failed
-pub cut_short : (w : Wiring) (limit : ℕ) (strict : Bool) (cmds : List Cmd) (old new : Option (List ℕ)) (fault : Fault) → fault ≡ Write → (end : End) → Writes w limit strict cmds end (AppendsSome old new) → PlaysNet w limit strict cmds old new (Err fault)
+pub cut_short : (w : Wiring) (limit : ℕ) (strict : Bool) (cmds : List Cmd) (old new : Option (List ℕ)) (fault : Fault) → fault ≡ Write → (end : End) → WritesTrace w limit strict cmds end (AppendsSome old new) → PlaysNet w limit strict cmds old new (Err fault)
 cut_short w limit strict cmds old new fault is end p = rw is (end, p)
 
 -- what the reader had is the text

@@ -26,7 +26,7 @@ use Rattle.bz_cli_core.specs.declared.pending.Pending.{Pending}
 use Rattle.bz_cli_core.specs.Playing.{Playing, PlaysOne, Refuses, StopsOne}
 use Rattle.bz_cli_core.specs.declared.playing.End.{End}
 use Rattle.bz_cli_core.specs.declared.playing.End.TheVariants as end
-use Rattle.bz_cli_core.specs.Running.{GoesOn, IsPlayed, NoneRefused, Writes}
+use Rattle.bz_cli_core.specs.Running.{GoesOn, IsPlayed, NoneRefused, WritesTrace}
 use Rattle.bz_cli_input.specs.Stopping.{AppendsSome}
 use Rattle.bz_cli_core.specs.Sending.{GoesOut, IsSent, PlaysOut, PutsOut, SentUp}
 use Rattle.bz_cli_core.proofs.Played.{cut_at, longer, none_both, plays_on, stops_there}
@@ -198,10 +198,10 @@ words_all old new a c before after strict cmds i all words =
 
 -- what was played, the text that goes out of it, and the net that it leads to
 pub written_out : (old new : Progress) (a c : Option (List ℕ)) (before after : Pending) (strict : Bool) (cmds : List Cmd) (end : End) (p : PlaysOut old new a before c after strict cmds end) (comps : List ℕ) → IsStrictlyIncreasing new.clashed → comps ≡ new.clashed → (Out : List ℕ → Type 0) → Out (trace_text new.wiring.ports p.entries comps)
-    → (trace : Writes old.wiring old.left strict cmds end Out) × (new.wiring ≡ old.wiring) × IsToldBy new trace.entries
+    → (trace : WritesTrace old.wiring old.left strict cmds end Out) × (new.wiring ≡ old.wiring) × IsToldBy new trace.entries
 written_out old new a c before after strict cmds end p comps rising is Out out =
     let clashed : AreClashed new.wiring p.entries comps = rw is (record { rising = rising; exact = p.told.clashed }) in
-    subst (λ (w : Wiring). (trace : Writes w old.left strict cmds end Out) × (new.wiring ≡ w) × IsToldBy new trace.entries) p.wiring (record {
+    subst (λ (w : Wiring). (trace : WritesTrace w old.left strict cmds end Out) × (new.wiring ≡ w) × IsToldBy new trace.entries) p.wiring (record {
       entries = p.entries;
       plays = p.plays;
       within = let left = p.left in omega (arith, left);

@@ -102,7 +102,7 @@ IsPlayed w limit strict cmds (end.Halt halt) entries = (strict ≡ true) × Halt
 IsPlayed w limit strict cmds (end.Stop stop) entries = Stops w limit cmds stop.word stop.error entries × GoesOn strict entries
 
 -- The trace of what the commands play on a net went out as `Out` says.
-pub record Writes (w : Wiring) (limit : ℕ) (strict : Bool) (cmds : List Cmd) (end : End) (Out : List ℕ → Type 0) : Type 0 where
+pub record WritesTrace (w : Wiring) (limit : ℕ) (strict : Bool) (cmds : List Cmd) (end : End) (Out : List ℕ → Type 0) : Type 0 where
   pub entries : List Entry
   pub plays : IsPlayed w limit strict cmds end entries
   pub within : length entries ≤ limit
@@ -120,11 +120,11 @@ end_at (Some halt) = end.Halt halt
 -- of the trace went out.
 abbrev pub PlaysNet : Wiring → ℕ → Bool → List Cmd → Option (List ℕ) → Option (List ℕ) → Result Played Fault → Type 0
 PlaysNet w limit strict cmds old new (Ok played) =
-    (trace : Writes w limit strict cmds (end_at played.halt) (Appends old new)) × (played.net.wiring ≡ w) × IsToldBy played.net trace.entries
+    (trace : WritesTrace w limit strict cmds (end_at played.halt) (Appends old new)) × (played.net.wiring ≡ w) × IsToldBy played.net trace.entries
 PlaysNet w limit strict cmds old new (Err (Event net.Memory word)) = ⊥
-PlaysNet w limit strict cmds old new (Err (Event e word)) = Writes w limit strict cmds (end.Stop (record { word = word; error = e })) (Appends old new)
-PlaysNet w limit strict cmds old new (Err Memory) = (word : ℕ) × Writes w limit strict cmds (end.Stop (record { word = word; error = net.Memory })) (Appends old new)
-PlaysNet w limit strict cmds old new (Err Write) = (end : End) × Writes w limit strict cmds end (AppendsSome old new)
+PlaysNet w limit strict cmds old new (Err (Event e word)) = WritesTrace w limit strict cmds (end.Stop (record { word = word; error = e })) (Appends old new)
+PlaysNet w limit strict cmds old new (Err Memory) = (word : ℕ) × WritesTrace w limit strict cmds (end.Stop (record { word = word; error = net.Memory })) (Appends old new)
+PlaysNet w limit strict cmds old new (Err Write) = (end : End) × WritesTrace w limit strict cmds end (AppendsSome old new)
 PlaysNet w limit strict cmds old new (Err fault) = ⊥
 
 -- What went out of commands played on the net of a text, and what was answered: no net was opened and nothing went out, or the

@@ -2,7 +2,7 @@
 use Rattle.std.proofs.Common.{◌≡◌, ◌∙◌, ℕ, Option, Some, List, IsTrue, get_or, map, refl, ap, subst}
 use Rattle.bz_model.specs.declared.channel.Chan.{Chan}
 use Rattle.bz_model.specs.declared.channel.Phase.{Phase}
-use Rattle.bz_model.specs.Heads.{Head, Component, Proc, CanMove, Moves, after_head, carried}
+use Rattle.bz_model.specs.Heads.{Component, Proc, CanMove, Moves, after_head, carried}
 use Rattle.bz_model.specs.Phases.{allows, incoming}
 use Rattle.bz_model.specs.Terms.{Store}
 use Rattle.bz_kinds.specs.declared.ports.PortState.{PortState}

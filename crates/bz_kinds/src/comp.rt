@@ -129,7 +129,9 @@ pub fn foresee(comp: &Comp, port: u32, phase: Phase) -> Option<(Move, Option<Val
     ensures one { HasOneHead comp.now.proc.todo }
 {
     let proc = &comp.proc;
-    let due = due_at(&proc.plan, proc.size, proc.left, port, proc.ports.get(port))?;
+    let Some(due) = due_at(&proc.plan, proc.size, proc.left, port, proc.ports.get(port)) else {
+        return None;
+    };
     if !phase.allows(due.mv) {
         return None;
     }

@@ -1,19 +1,19 @@
 -- Which step a component has on a channel, by the phase of the channel.
-use Rattle.std.proofs.Common.{◌≡◌, ◌≢◌, ◌↔◌, ℕ, Bool, true, false, Option, Some, None, List, IsTrue, refl, sym, ap, ap₂, subst, ◌∙◌}
+use Rattle.std.proofs.Common.{◌≡◌, ◌≢◌, ◌↔◌, ◌⊎◌, inl, inr, ℕ, Bool, true, false, Option, Some, None, List, IsTrue, refl, sym, ap, ap₂, subst, ◌∙◌}
 use Rattle.std.specs.Prelude.{MatchBool, MatchOption, is_some, not}
 use Rattle.bz_model.specs.declared.channel.Move.{Move}
 use Rattle.bz_model.specs.declared.channel.Move.TheVariants.{Ask, Take, Reply, Got}
 use Rattle.bz_model.specs.declared.channel.Phase.{Phase}
 use Rattle.bz_model.specs.declared.channel.Phase.TheVariants.{Idle, Asked, Taken, Replied, Broken}
-use Rattle.bz_model.specs.Heads.{Component, HasOneHead, Head, IsHeadOn, Proc, after_head, carried, opens}
+use Rattle.bz_model.specs.Heads.{Component, HasOneHead, IsHeadOn, Proc, after_head, carried, opens}
 use Rattle.bz_model.specs.Phases.{allows, incoming, phase_after}
 use Rattle.bz_model.specs.Terms.{Store}
 use Rattle.bz_model.specs.declared.expr.Expr.{Expr}
-use Rattle.bz_model.specs.Nets.{Site, State, Step, StepsAt, chan_at, moved, passive_at, phase_at, proc_at}
+use Rattle.bz_model.specs.Nets.{Site, State, Step, StepsAt, moved, passive_at, proc_at}
 use Rattle.bz_flat.specs.Wires.{IsEnd}
 use Rattle.bz_kinds.specs.Riding.{riding, taken}
 use Rattle.bz_kinds.proofs.RidingLaws.{came}
-use Rattle.bz_net.specs.Due.{Foresees, GivesAsSteps, HasStep, next_of}
+use Rattle.bz_net.specs.Due.{Foresees, HasStep, next_of}
 use Rattle.bz_net.specs.Keeping.{comp_at, is_open, phase_in, state_of}
 use Rattle.bz_net.specs.Sides.{answers}
 use Rattle.bz_net.specs.Told.{IsTurning, Sighted}
@@ -53,7 +53,7 @@ carries_seen sites s c p (Some m) value b (last, seen) one is k mv other next st
     (λ t. same ∙ is.0 t, λ e. is.1 (sym same ∙ e))
 
 module _ (sites : List Site) (phases : List Phase) (comps : List Component) (heres : List (List ℕ)) (sighted : Sighted sites phases comps heres) (c p k : ℕ) (passive : Bool) (end : IsEnd sites k passive c p) where
-  s : State
+  abbrev pub s : State
   s = state_of phases comps
 
   -- where it steps, it does so by some move
@@ -63,14 +63,13 @@ module _ (sites : List Site) (phases : List Phase) (comps : List Component) (her
       let value = carried h.move h.gives q.store (incoming phase h.move) in let rest = after_head q h (incoming phase h.move) in (
         h.move,
         value,
-        moved s k (phase_after phase h.move value) c rest,
-        record {
+        (moved s k (phase_after phase h.move value) c rest, record {
           steps_at = at;
           chan_is = sym end.on;
           rest = rest;
           moves = record { head = h; on = on; move_is = refl; allowed = subst (λ (j : ℕ). IsTrue (allows (phase_in phases j) h.move)) end.on may; value_is = refl; leaves = refl };
           next_is = refl;
-        },
+        }),
       )
 
   module _ (turning : IsTurning (comp_at comps c)) where
@@ -90,7 +89,7 @@ module _ (sites : List Site) (phases : List Phase) (comps : List Component) (her
     -- the step by the move that comes next
     step_next : (mv : Move) → StepsAt sites s c p → next_of (phase_in phases k) ≡ Some mv → (value : Option ℕ) × HasStep sites s c p k mv value
     step_next mv at is =
-        let (m, value, next, step) = own_step at in
+        let (m, value, (next, step)) = own_step at in
         let same : m ≡ mv = some_same m mv (sym (next_step k m value next step) ∙ is) in
         (value, subst (λ (m : Move). HasStep sites s c p k m value) same (next, step))
       where
@@ -101,13 +100,24 @@ module _ (sites : List Site) (phases : List Phase) (comps : List Component) (her
     pub found_by : (mv : Move) (value : Option ℕ) (b : Bool) → StepsAt sites s c p → next_of (phase_in phases k) ≡ Some mv
         → ((other : Option ℕ) (next : State) → Step sites s c p k mv other next → IsTrue b ↔ other ≡ value) → MatchBool b (HasStep sites s c p k mv value) (HasStep sites s c p k mv value → ⊥)
     found_by mv value true at is tells =
-        let (other, next, step) = step_next mv at is in
+        let (other, (next, step)) = step_next mv at is in
         (next, subst (λ (v : Option ℕ). Step sites s c p k mv v next) ((tells other next step).0 refl) step)
     found_by mv value false at is tells = λ (next, step). let t : false ≡ true = (tells value next step).1 refl in cc
 
   -- a move that takes what comes in carries what rides
-  pub rides : (mv : Move) → ((e : Expr) (kept : Store) (v : Option ℕ) → carried mv e kept v ≡ v) → ((v : Option ℕ) → taken mv v ≡ v) → (other : Option ℕ) (next : State) → Step sites s c p k mv other next → other ≡ riding (phase_in phases k)
-  rides mv carries takes other next step =
+  brings : (mv : Move) → ((e : Expr) (kept : Store) (v : Option ℕ) → carried mv e kept v ≡ v) → ((v : Option ℕ) → taken mv v ≡ v) → (other : Option ℕ) (next : State) → Step sites s c p k mv other next → other ≡ riding (phase_in phases k)
+  brings mv carries takes other next step =
       let phase = phase_in phases k in let h = step.moves.head in let kept = (proc_at s c).store in
       step.moves.value_is ∙ ap (λ (m : Move). carried m h.gives kept (incoming phase m)) (sym step.moves.move_is) ∙ carries h.gives kept (incoming phase mv)
       ∙ sym (came phase (riding phase) mv refl step.moves.allowed) ∙ takes (riding phase)
+
+  pub rides : (mv : Move) → (mv ≡ Take) ⊎ (mv ≡ Got) → (other : Option ℕ) (next : State) → Step sites s c p k mv other next → other ≡ riding (phase_in phases k)
+  rides Ask is = elim is [ inl e ↦ absurd (cc) | inr e ↦ absurd (cc) ]
+  rides Take is = brings Take (λ e kept v. refl) (λ v. refl)
+  rides Reply is = elim is [ inl e ↦ absurd (cc) | inr e ↦ absurd (cc) ]
+  rides Got is = brings Got (λ e kept v. refl) (λ v. refl)
+
+pub none_same : (a b : Option ℕ) → is_some a ≡ is_some b → is_some b ≡ false → a ≡ b
+none_same None None same none = refl
+none_same (Some a) None same none = absurd (cc)
+none_same a (Some b) same none = absurd (cc)

@@ -10,7 +10,7 @@ ghost use Rattle.bz_model.specs.Runs.{CanStep, IsLowest, IsNext, Rest};
 ghost use Rattle.bz_flat.specs.Flats.{site_of};
 ghost use Rattle.bz_flat.specs.Wires.{IsEnd, WellWired};
 ghost use Rattle.bz_net.specs.Core.{IsSole};
-ghost use Rattle.bz_net.specs.Due.{Foresees, GivesAsSteps, HasStep, TellsDue};
+ghost use Rattle.bz_net.specs.Due.{Foresees, GivesAsSteps, HasStep, IsSoleDue, TellsDue};
 ghost use Rattle.bz_net.specs.Ends.{TellsEnds, TellsPort, IsSolePort};
 ghost use Rattle.bz_net.specs.Noted.{MeetBefore, NotedAt, NotedMove};
 ghost use Rattle.bz_net.specs.Sides.{answers};
@@ -201,6 +201,7 @@ impl Core {
     pub fn names(&self) -> &Names
         ensures value { result.now ≡ outside self.now.wiring }
         ensures differ { NamesDiffer self.now.wiring.ports }
+        ensures wired { WellWired self.now.wiring }
     {
         &self.names
     }
@@ -279,7 +280,8 @@ impl Core {
 
     /// The move that a component has at a port, whether or not its channel lets it be made.
     pub fn due(&self, comp: u32, port: u32) -> Option<Move>
-        ensures { TellsDue self.now.wiring.sites self.now.state comp port result }
+        ensures due { TellsDue self.now.wiring.sites self.now.state comp port result }
+        ensures sole { IsSoleDue self.now.wiring.sites self.now.state comp port result }
     {
         due_at(&self.sites, &self.nodes, &self.phases, comp, port)
     }

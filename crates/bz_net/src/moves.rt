@@ -7,7 +7,7 @@ ghost use Rattle.bz_model.specs.Hosts.{reply_to, host_after, received, refusal_a
 ghost use Rattle.bz_flat.specs.Flats.{site_of};
 ghost use Rattle.bz_model.specs.Clashes.{is_mixer, IsAsked, Clashes};
 ghost use Rattle.bz_net.specs.Noted.{NoneMixes, NotedEnd};
-ghost use Rattle.bz_net.specs.Due.{Foresees, TellsDue, next_of};
+ghost use Rattle.bz_net.specs.Due.{Foresees, IsSoleDue, TellsDue, next_of};
 ghost use Rattle.bz_net.specs.Ends.{IsPortIn};
 ghost use Rattle.bz_net.specs.Sides.{answers, sends};
 ghost use Rattle.bz_net.specs.Keeping.{state_of, Placed, ReadsChans};
@@ -76,7 +76,8 @@ pub(crate) fn due_at(
     port: u32,
 ) -> Option<Move>
     requires { Placed (map site_of sites.now) phases.now (comps_of nodes.now) }
-    ensures { TellsDue (map site_of sites.now) (state_of phases.now (comps_of nodes.now)) comp port result }
+    ensures due { TellsDue (map site_of sites.now) (state_of phases.now (comps_of nodes.now)) comp port result }
+    ensures sole { IsSoleDue (map site_of sites.now) (state_of phases.now (comps_of nodes.now)) comp port result }
 {
     match chan_of(sites, comp, port) {
         None => None,
@@ -96,10 +97,14 @@ pub(crate) fn foresee(
     ensures seen { Foresees (map site_of sites.now) (state_of phases.now (comps_of nodes.now)) comp port result }
     ensures one { IfSome result (λ _. HasOneHead (proc_at (state_of phases.now (comps_of nodes.now)) comp).todo) }
 {
-    let chan = chan_of(sites, comp, port)?;
+    let Some(chan) = chan_of(sites, comp, port) else {
+        return None;
+    };
     let phase = phases.get(chan as usize - 1);
-    let (mv, value) = bz_kinds::foresee(&nodes.get(node_id(comp)).comp, port, phase)?;
-    Some((chan, mv, value))
+    match bz_kinds::foresee(&nodes.get(node_id(comp)).comp, port, phase) {
+        Some((mv, value)) => Some((chan, mv, value)),
+        None => None,
+    }
 }
 
 /// The move that comes next on a channel in this phase.

@@ -271,8 +271,13 @@ impl Play {
         ensures none { IfNone result ((self.new ≡ self.old) × ((self.old.left ≡ 0)
             ⊎ ((port : ℕ) → HasStep self.old.wiring.sites self.old.state comp port chan mv value → ⊥))) }
     {
-        let port = self.core.port_at(comp, chan, mv)?;
-        if self.left == 0 || !self.core.has_step(comp, port, chan, mv, value) {
+        let Some(port) = self.core.port_at(comp, chan, mv) else {
+            return None;
+        };
+        if self.left == 0 {
+            return None;
+        }
+        if !self.core.has_step(comp, port, chan, mv, value) {
             return None;
         }
         Some(self.fire(who, comp, Some(port)))
