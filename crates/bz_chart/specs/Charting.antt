@@ -27,25 +27,25 @@ DrawsPiece range trace (Err (Command Memory)) = ⊤
 DrawsPiece range trace (Err fault) = ⊥
 
 -- The trace is that of a run of the net that the netlist denotes, and the lines that are asked for are there.
-abbrev pub HasChart : List ℕ → List ℕ → List ℕ → LineRange → Type 0
-HasChart netlist trace part range = (w : Wiring) × IsJudged netlist trace part verdict.Run w × HasPiece range trace
+abbrev pub HasChart : List ℕ → List ℕ → Option (List ℕ) → LineRange → Type 0
+HasChart netlist trace asked range = (w : Wiring) × IsJudged netlist trace asked verdict.Run w × HasPiece range trace
 
 -- Only the trace of a run is drawn.
-abbrev pub Draws : {A : Type 0} → List ℕ → List ℕ → List ℕ → LineRange → Result A (TraceFault PieceFault) → Type 0
-Draws netlist trace part range (Ok drawing) = HasChart netlist trace part range
-Draws netlist trace part range (Err fault) = MakesNone (RefusesPiece range trace) netlist trace part fault
+abbrev pub Draws : {A : Type 0} → List ℕ → List ℕ → Option (List ℕ) → LineRange → Result A (TraceFault PieceFault) → Type 0
+Draws netlist trace asked range (Ok drawing) = HasChart netlist trace asked range
+Draws netlist trace asked range (Err fault) = MakesNone (RefusesPiece range trace) netlist trace asked fault
 
 -- a drawing is made, of which `Out` is so
-abbrev pub MakesChart : List ℕ → List ℕ → List ℕ → LineRange → (List ℕ → Type 0) → Type 0
-MakesChart netlist trace part range Out = HasChart netlist trace part range × ((drawing : List ℕ) × Out drawing)
+abbrev pub MakesChart : List ℕ → List ℕ → Option (List ℕ) → LineRange → (List ℕ → Type 0) → Type 0
+MakesChart netlist trace asked range Out = HasChart netlist trace asked range × ((drawing : List ℕ) × Out drawing)
 
-abbrev pub ChartsTrace : {A : Type 0} → List ℕ → List ℕ → List ℕ → LineRange → Option (List ℕ) → Option (List ℕ) → Result A (TraceFault PieceFault) → Type 0
-ChartsTrace netlist trace part range old new answer = SendsMade (RefusesPiece range trace) (MakesChart netlist trace part range) netlist trace part old new answer
+abbrev pub ChartsTrace : {A : Type 0} → List ℕ → List ℕ → Option (List ℕ) → LineRange → Option (List ℕ) → Option (List ℕ) → Result A (TraceFault PieceFault) → Type 0
+ChartsTrace netlist trace asked range old new answer = SendsMade (RefusesPiece range trace) (MakesChart netlist trace asked range) netlist trace asked old new answer
 
 -- The command `chart`: the input is not taken and nothing goes out, or the trace in it is drawn.
-abbrev pub Charts : {A : Type 0} → List ℕ → List ℕ → LineRange → Option (List ℕ) → Option (List ℕ) → Result A (TraceFault PieceFault) → Type 0
-Charts text part range old new answer = TakesText (λ netlist trace. ChartsTrace netlist trace part range old new answer) text old new answer
+abbrev pub Charts : {A : Type 0} → List ℕ → Option (List ℕ) → LineRange → Option (List ℕ) → Option (List ℕ) → Result A (TraceFault PieceFault) → Type 0
+Charts text asked range old new answer = TakesText (λ netlist trace. ChartsTrace netlist trace asked range old new answer) text old new answer
 
 -- The same of a netlist and a trace apart.
-abbrev pub ChartsApart : {A : Type 0} → List ℕ → List ℕ → List ℕ → LineRange → Option (List ℕ) → Option (List ℕ) → Result A (TraceFault PieceFault) → Type 0
-ChartsApart netlist trace part range old new answer = TakesTwo (λ n t. ChartsTrace n t part range old new answer) netlist trace old new answer
+abbrev pub ChartsApart : {A : Type 0} → List ℕ → List ℕ → Option (List ℕ) → LineRange → Option (List ℕ) → Option (List ℕ) → Result A (TraceFault PieceFault) → Type 0
+ChartsApart netlist trace asked range old new answer = TakesTwo (λ n t. ChartsTrace n t asked range old new answer) netlist trace old new answer

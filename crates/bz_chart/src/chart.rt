@@ -1,6 +1,7 @@
 //! The command `chart`: lines of a trace, drawn.
 
 ghost use Rattle.std.specs.Prelude.{◌≡◌, ◌≤◌, length, IfSome, OnOk, OnErr};
+ghost use Rattle.std.specs.Option.{option_copied};
 ghost use Rattle.std.specs.Io.KnownBytes.{Appends};
 ghost use Rattle.bz_cli_input.specs.Limits.{input_limit};
 ghost use Rattle.bz_cli_input.specs.Reading.{ReadsWithin};
@@ -12,7 +13,7 @@ use crate::range::{LineRange, PieceFault, piece_of};
 use bz_chart_layout::{Circuit, Piece};
 use bz_chart_svg::draw;
 use bz_cli_input::Fault;
-use bz_cli_trace::{Run, Texts, TraceFault, run_of};
+use bz_cli_trace::{Checked, Texts, TraceFault, run_of};
 use bz_text::{WriteFault, put};
 use std::alloc::{AllocError, Global};
 use std::io::{Read, Write};
@@ -21,18 +22,18 @@ use std::io::{Read, Write};
 /// is written where there is no chart.
 pub fn chart_cmd<R: Read, W: Write>(
     alloc: Global,
-    part: &[u8],
+    asked: Option<&[u8]>,
     range: LineRange,
     input: &mut R,
     output: &mut W,
 ) -> Result<(), TraceFault<PieceFault>>
-    ensures charts { IfSome (R.remaining input.old) (λ text. Charts text part.now range (W.contents output.old) (W.contents output.new) result) }
+    ensures charts { IfSome (R.remaining input.old) (λ text. Charts text (option_copied asked.entry) range (W.contents output.old) (W.contents output.new) result) }
 
     // Whatever comes of it, it reads at most one byte past the limit.
     ensures bounded { ReadsWithin (R.remaining input.old) (R.remaining input.new) }
 {
     match Texts::read(alloc, input) {
-        Ok(texts) => chart_texts(alloc, part, range, &texts, output),
+        Ok(texts) => chart_texts(alloc, asked, range, &texts, output),
         Err(fault) => Err(TraceFault::Command(Fault::from(fault))),
     }
 }
@@ -40,19 +41,19 @@ pub fn chart_cmd<R: Read, W: Write>(
 /// The same of a trace that a reader of its own gives, with the limit for itself.
 pub fn chart_trace_cmd<R: Read, T: Read, W: Write>(
     alloc: Global,
-    part: &[u8],
+    asked: Option<&[u8]>,
     range: LineRange,
     input: &mut R,
     trace: &mut T,
     output: &mut W,
 ) -> Result<(), TraceFault<PieceFault>>
     ensures charts { IfSome (R.remaining input.old) (λ netlist. IfSome (T.remaining trace.old)
-        (λ text. ChartsApart netlist text part.now range (W.contents output.old) (W.contents output.new) result)) }
+        (λ text. ChartsApart netlist text (option_copied asked.entry) range (W.contents output.old) (W.contents output.new) result)) }
     ensures bounded { ReadsWithin (R.remaining input.old) (R.remaining input.new) }
     ensures bounded_trace { ReadsWithin (T.remaining trace.old) (T.remaining trace.new) }
 {
     match Texts::read_apart(alloc, input, trace) {
-        Ok(texts) => chart_texts(alloc, part, range, &texts, output),
+        Ok(texts) => chart_texts(alloc, asked, range, &texts, output),
         Err(fault) => Err(TraceFault::Command(Fault::from(fault))),
     }
 }
@@ -60,15 +61,15 @@ pub fn chart_trace_cmd<R: Read, T: Read, W: Write>(
 // Writes the drawing of these lines of a trace.
 fn chart_texts<W: Write>(
     alloc: Global,
-    part: &[u8],
+    asked: Option<&[u8]>,
     range: LineRange,
     texts: &Texts,
     output: &mut W,
 ) -> Result<(), TraceFault<PieceFault>>
-    ensures { ChartsTrace texts.now.netlist texts.now.trace part.now range (W.contents output.old) (W.contents output.new) result }
+    ensures { ChartsTrace texts.now.netlist texts.now.trace (option_copied asked.entry) range (W.contents output.old) (W.contents output.new) result }
 {
     let (netlist, trace) = texts.both();
-    let drawing = match draw_trace(alloc, part, range, netlist, trace) {
+    let drawing = match draw_trace(alloc, asked, range, netlist, trace) {
         Ok(drawing) => drawing,
         Err(fault) => return Err(fault),
     };
@@ -81,16 +82,16 @@ fn chart_texts<W: Write>(
 // Draws these lines of a trace.
 fn draw_trace(
     alloc: Global,
-    part: &[u8],
+    asked: Option<&[u8]>,
     range: LineRange,
     netlist: &[u8],
     trace: &[u8],
 ) -> Result<Vec<u8>, TraceFault<PieceFault>>
     requires { length trace.now ≤ input_limit }
-    ensures { Draws netlist.now trace.now part.now range result }
+    ensures { Draws netlist.now trace.now (option_copied asked.entry) range result }
 {
-    match run_of(alloc, part, netlist, trace) {
-        Ok(found) => draw_piece(alloc, part, range, found, trace),
+    match run_of(alloc, asked, netlist, trace) {
+        Ok(checked) => draw_piece(alloc, range, checked, trace),
         Err(fault) => Err(fault),
     }
 }
@@ -98,9 +99,8 @@ fn draw_trace(
 // Draws these lines of a run.
 fn draw_piece(
     alloc: Global,
-    part: &[u8],
     range: LineRange,
-    run: Run,
+    checked: Checked,
     trace: &[u8],
 ) -> Result<Vec<u8>, TraceFault<PieceFault>>
     requires { length trace.now ≤ input_limit }
@@ -110,7 +110,7 @@ fn draw_piece(
         Ok(piece) => piece,
         Err(fault) => return Err(TraceFault::Other(fault)),
     };
-    match draw_net(alloc, part, run, trace, piece) {
+    match draw_net(alloc, checked, trace, piece) {
         Ok(drawing) => Ok(drawing),
         Err(_) => Err(TraceFault::Command(Fault::Memory)),
     }
@@ -119,12 +119,15 @@ fn draw_piece(
 // Draws these lines of a run on the lifelines of its net.
 fn draw_net(
     alloc: Global,
-    part: &[u8],
-    run: Run,
+    checked: Checked,
     trace: &[u8],
     piece: Piece,
 ) -> Result<Vec<u8>, AllocError> {
-    let (flat, source) = run.into_parts();
+    let (flat, source, part) = match checked.into_flat(alloc) {
+        Ok(parts) => parts,
+        Err(fault) => return Err(fault),
+    };
+    let part = part.as_slice();
     // a part that has a net has places, so nothing but memory can be wanting
     match source.survey(alloc, part) {
         Ok(survey) => draw(alloc, &Circuit::of(flat), &survey, part, trace, piece),

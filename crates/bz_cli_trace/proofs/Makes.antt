@@ -47,26 +47,27 @@ module _ (A C : Type 0) (Does : List ℕ → List ℕ → Type 0) (old : Option 
   no_two (Some netlist) (Some text) f = inl (of_input_keeps f)
 
 -- a trace that is not that of a run
-pub none_made : {C : Type 0} (Refuses : Wiring → C → Type 0) (netlist trace part : List ℕ) (f : TraceFault C) → RefusesRun netlist trace part f → MakesNone Refuses netlist trace part f
-none_made Refuses netlist trace part (Command fault) so = so
-none_made Refuses netlist trace part (NotRun line) so = so
-none_made Refuses netlist trace part (NotTrace line) so = so
-none_made Refuses netlist trace part (Other cause) so = absurd so.2
+pub none_made : {C : Type 0} (Refuses : Wiring → C → Type 0) (netlist trace : List ℕ) (asked : Option (List ℕ)) (f : TraceFault C) → RefusesRun netlist trace asked f → MakesNone Refuses netlist trace asked f
+none_made Refuses netlist trace asked (Command fault) so = so
+none_made Refuses netlist trace asked (NotRun line) so = so
+none_made Refuses netlist trace asked (NotTrace line) so = so
+none_made Refuses netlist trace asked (Other cause) so = absurd so.2
 
 -- where nothing is made nothing goes out
-pub nothing_out : (A : Type 0) {C : Type 0} (Refuses : Wiring → C → Type 0) (Makes : (List ℕ → Type 0) → Type 0) (netlist trace part : List ℕ) (old : Option (List ℕ)) (f : TraceFault C) → MakesNone Refuses netlist trace part f
-    → SendsMade {A = A} Refuses Makes netlist trace part old old (Err f)
-nothing_out A Refuses Makes netlist trace part old (NotRun line) so = (so, keeps_same old)
-nothing_out A Refuses Makes netlist trace part old (NotTrace line) so = (so, keeps_same old)
-nothing_out A Refuses Makes netlist trace part old (Other cause) so = (so, keeps_same old)
-nothing_out A Refuses Makes netlist trace part old (Command (fault.Word at)) so = (so, keeps_same old)
-nothing_out A Refuses Makes netlist trace part old (Command (fault.Text e)) so = (so, keeps_same old)
-nothing_out A Refuses Makes netlist trace part old (Command (fault.Part e)) so = (so, keeps_same old)
-nothing_out A Refuses Makes netlist trace part old (Command (fault.Net e name)) so = (so, keeps_same old)
-nothing_out A Refuses Makes netlist trace part old (Command (fault.Event e word)) so = (so, keeps_same old)
-nothing_out A Refuses Makes netlist trace part old (Command (fault.Ended e who)) so = (so, keeps_same old)
-nothing_out A Refuses Makes netlist trace part old (Command (fault.Discord who at)) so = (so, keeps_same old)
-nothing_out A Refuses Makes netlist trace part old (Command fault.NoThread) so = (so, keeps_same old)
-nothing_out A Refuses Makes netlist trace part old (Command fault.Read) so = (so, keeps_same old)
-nothing_out A Refuses Makes netlist trace part old (Command fault.Write) so = absurd so
-nothing_out A Refuses Makes netlist trace part old (Command fault.Memory) so = (so, keeps_same old)
+pub nothing_out : (A : Type 0) {C : Type 0} (Refuses : Wiring → C → Type 0) (Makes : (List ℕ → Type 0) → Type 0) (netlist trace : List ℕ) (asked : Option (List ℕ)) (old : Option (List ℕ)) (f : TraceFault C) → MakesNone Refuses netlist trace asked f
+    → SendsMade {A = A} Refuses Makes netlist trace asked old old (Err f)
+nothing_out A Refuses Makes netlist trace asked old (NotRun line) so = (so, keeps_same old)
+nothing_out A Refuses Makes netlist trace asked old (NotTrace line) so = (so, keeps_same old)
+nothing_out A Refuses Makes netlist trace asked old (Other cause) so = (so, keeps_same old)
+nothing_out A Refuses Makes netlist trace asked old (Command (fault.Word at)) so = (so, keeps_same old)
+nothing_out A Refuses Makes netlist trace asked old (Command (fault.Text e)) so = (so, keeps_same old)
+nothing_out A Refuses Makes netlist trace asked old (Command (fault.Part e)) so = (so, keeps_same old)
+nothing_out A Refuses Makes netlist trace asked old (Command (fault.Top names)) so = (so, keeps_same old)
+nothing_out A Refuses Makes netlist trace asked old (Command (fault.Net e name)) so = (so, keeps_same old)
+nothing_out A Refuses Makes netlist trace asked old (Command (fault.Event e word)) so = (so, keeps_same old)
+nothing_out A Refuses Makes netlist trace asked old (Command (fault.Ended e who)) so = (so, keeps_same old)
+nothing_out A Refuses Makes netlist trace asked old (Command (fault.Discord who at)) so = (so, keeps_same old)
+nothing_out A Refuses Makes netlist trace asked old (Command fault.NoThread) so = (so, keeps_same old)
+nothing_out A Refuses Makes netlist trace asked old (Command fault.Read) so = (so, keeps_same old)
+nothing_out A Refuses Makes netlist trace asked old (Command fault.Write) so = absurd so
+nothing_out A Refuses Makes netlist trace asked old (Command fault.Memory) so = (so, keeps_same old)

@@ -1,65 +1,72 @@
 //! The command `check`: whether a trace is that of a run of a part's net.
 
-ghost use Rattle.std.specs.Prelude.{◌≡◌, ◌⊎◌, ◌++◌, OnOk, OnErr, IfSome, codes, decimal};
+ghost use Rattle.std.specs.Prelude.{◌≡◌, ◌≢◌, ◌⊎◌, ◌++◌, OnOk, OnErr, IfErr, IfOk, IfSome, codes, decimal};
+ghost use Rattle.std.specs.Option.{option_copied};
 ghost use Rattle.std.specs.Io.KnownBytes.{Appends};
 ghost use Rattle.bz_text.specs.Writing.{Writes};
+ghost use Rattle.bz_cli_input.specs.Opening.{RefusesNet};
 ghost use Rattle.bz_cli_input.specs.Reading.{ReadsWithin};
-ghost use Rattle.bz_cli_input.specs.Stopping.{AppendsSome, StopsAtInput};
-ghost use Rattle.bz_cli_trace.specs.Checking.{Checks, ChecksApart, ChecksText, ChecksTrace, TellsVerdict, is_run, run_text, verdict_text};
+ghost use Rattle.bz_cli_input.specs.Stopping.{AppendsSome, IsOfInput, StopsAtInput};
+ghost use Rattle.bz_cli_trace.specs.Checking.{Checks, ChecksApart, ChecksTrace, TellsVerdict, is_run, run_text, verdict_text};
 
-use crate::splitting::split_trace;
-use bz_cli_input::{Fault, flat_of, read_input};
+use crate::checked::{Checked, check_trace, check_reader};
+use crate::texts::Texts;
+use bz_cli_input::{Fault, read_input};
 use bz_model::Value;
 use bz_text::{Piece, WriteFault, put_pieces};
-use bz_trace::{Counts, ReadFault, Verdict, check_and_count, check_read};
+use bz_trace::{Counts, Verdict};
 use std::alloc::Global;
 use std::io::{Read, Write};
 
-/// Checks the trace that stands behind the netlist that the reader gives, and writes the verdict. Whether the trace is that of
-/// a run. A netlist that is refused is told before the trace is looked at, and nothing is written.
+/// Checks the trace after the netlist that the reader gives, and writes the verdict: the net that was checked. A netlist that is
+/// refused is told before the trace is looked at, and nothing is written.
 pub fn check_cmd<R: Read, W: Write>(
     alloc: Global,
-    part: &[u8],
+    asked: Option<&[u8]>,
     input: &mut R,
     output: &mut W,
-) -> Result<bool, Fault>
-    ensures checks { IfSome (R.remaining input.old) (λ text. Checks text part.now (W.contents output.old) (W.contents output.new) result) }
+) -> Result<Checked, Fault>
+    ensures checks { IfSome (R.remaining input.old) (λ text. Checks text (option_copied asked.entry) (W.contents output.old) (W.contents output.new) result) }
 
     // Whatever comes of it, it reads at most one byte past the limit.
     ensures bounded { ReadsWithin (R.remaining input.old) (R.remaining input.new) }
 {
-    let text = read_input(alloc, input)?;
-    check_text(alloc, part, text.as_slice(), output)
+    match Texts::read(alloc, input) {
+        Ok(texts) => check_texts(alloc, asked, &texts, output),
+        Err(fault) => Err(Fault::from(fault)),
+    }
 }
 
-// Checks the trace behind the netlist of a text.
-fn check_text<W: Write>(
+// Checks a trace against a netlist.
+fn check_texts<W: Write>(
     alloc: Global,
-    part: &[u8],
-    text: &[u8],
+    asked: Option<&[u8]>,
+    texts: &Texts,
     output: &mut W,
-) -> Result<bool, Fault>
-    ensures { ChecksText text.now part.now (W.contents output.old) (W.contents output.new) result }
+) -> Result<Checked, Fault>
+    ensures { ChecksTrace texts.now.netlist texts.now.trace (option_copied asked.entry) (W.contents output.old) (W.contents output.new) result }
 {
-    let (netlist, trace) = split_trace(text);
-    let flat = match flat_of(alloc, part, netlist) {
-        Ok(flat) => flat,
+    let (netlist, trace) = texts.both();
+    let checked = match check_trace(alloc, asked, netlist, trace) {
+        Ok(checked) => checked,
         Err(fault) => return Err(fault),
     };
-    let (verdict, counts) = check_and_count(alloc, flat, trace);
-    tell(verdict, counts, output)
+    match tell(checked.verdict, checked.counts, output) {
+        Ok(()) => Ok(checked),
+        Err(fault) => Err(fault),
+    }
 }
 
 /// The same of a trace that a reader of its own gives. It is read piece by piece and may be longer than memory.
 pub fn check_trace_cmd<R: Read, T: Read, W: Write>(
     alloc: Global,
-    part: &[u8],
+    asked: Option<&[u8]>,
     input: &mut R,
     trace: &mut T,
     output: &mut W,
-) -> Result<bool, Fault>
+) -> Result<Checked, Fault>
     ensures checks { IfSome (R.remaining input.old) (λ netlist. IfSome (T.remaining trace.old)
-        (λ text. ChecksApart netlist text part.now (W.contents output.old) (W.contents output.new) result)) }
+        (λ text. ChecksApart netlist text (option_copied asked.entry) (W.contents output.old) (W.contents output.new) result)) }
 
     // Whatever comes of it, it reads at most one byte of the netlist past the limit.
     ensures bounded { ReadsWithin (R.remaining input.old) (R.remaining input.new) }
@@ -68,48 +75,41 @@ pub fn check_trace_cmd<R: Read, T: Read, W: Write>(
         Ok(netlist) => netlist,
         Err(fault) => return Err(Fault::from(fault)),
     };
-    check_netlist(alloc, part, netlist.as_slice(), trace, output)
+    check_netlist(alloc, asked, netlist.as_slice(), trace, output)
 }
 
 // Checks the trace that a reader gives against this netlist.
 fn check_netlist<T: Read, W: Write>(
     alloc: Global,
-    part: &[u8],
+    asked: Option<&[u8]>,
     netlist: &[u8],
     trace: &mut T,
     output: &mut W,
-) -> Result<bool, Fault>
+) -> Result<Checked, Fault>
     ensures { IfSome (T.remaining trace.old) (λ text. StopsAtInput (W.contents output.old) (W.contents output.new) result
-        ⊎ ChecksTrace netlist.now text part.now (W.contents output.old) (W.contents output.new) result) }
+        ⊎ ChecksTrace netlist.now text (option_copied asked.entry) (W.contents output.old) (W.contents output.new) result) }
 {
-    let net = match flat_of(alloc, part, netlist) {
-        Ok(flat) => flat,
-        Err(why) => return Err(why),
+    let checked = match check_reader(alloc, asked, netlist, trace) {
+        Ok(checked) => checked,
+        Err(fault) => return Err(fault),
     };
-    match check_read(alloc, net, trace) {
-        Ok((verdict, counts)) => tell(verdict, counts, output),
-        Err(ReadFault::Read | ReadFault::TooLong) => Err(Fault::Read),
-        Err(ReadFault::Memory) => Err(Fault::Memory),
+    match tell(checked.verdict, checked.counts, output) {
+        Ok(()) => Ok(checked),
+        Err(fault) => Err(fault),
     }
 }
 
-// Writes a verdict. Whether it is that of a run.
-fn tell<W: Write>(verdict: Verdict, counts: Counts, output: &mut W) -> Result<bool, Fault>
+// Writes a verdict.
+fn tell<W: Write>(verdict: Verdict, counts: Counts, output: &mut W) -> Result<(), Fault>
     ensures { TellsVerdict verdict counts (W.contents output.old) (W.contents output.new) result }
 {
     if let Verdict::Memory = verdict {
         return Err(Fault::Memory);
     }
     match write_out(verdict, counts, output) {
-        Ok(()) => Ok(is_run(verdict)),
+        Ok(()) => Ok(()),
         Err(WriteFault) => Err(Fault::Write),
     }
-}
-
-fn is_run(verdict: Verdict) -> bool
-    ensures { result ≡ is_run verdict }
-{
-    matches!(verdict, Verdict::Run)
 }
 
 // Writes a verdict, down to the last byte.

@@ -2,6 +2,7 @@
 //! the command `check`.
 #![tactic(auto)]
 
+mod checked;
 mod checking;
 mod fault;
 mod held;
@@ -9,8 +10,9 @@ mod run;
 mod splitting;
 mod texts;
 
+pub use checked::{Checked, check_trace};
 pub use checking::{check_cmd, check_trace_cmd};
 pub use fault::TraceFault;
-pub use run::{Run, run_of};
+pub use run::run_of;
 pub use splitting::split_trace;
 pub use texts::Texts;

@@ -1,6 +1,7 @@
 //! The command `page`: a page of the run of a net.
 
 ghost use Rattle.std.specs.Prelude.{◌≡◌, IfSome};
+ghost use Rattle.std.specs.Option.{option_copied};
 ghost use Rattle.bz_cli_input.specs.Reading.{ReadsWithin};
 ghost use Rattle.bz_page.specs.Pages.{blank, blank_of};
 ghost use Rattle.bz_page.specs.Paging.{Finds, Pages, PagesApart, PagesTrace, Places};
@@ -10,7 +11,7 @@ use crate::fault::TooLarge;
 use crate::net_page::{put_net_page, template};
 use crate::template::{HEAD, MID1, MID2, TAIL};
 use bz_cli_input::Fault;
-use bz_cli_trace::{Run, Texts, TraceFault, run_of};
+use bz_cli_trace::{Checked, Texts, TraceFault, run_of};
 use bz_flat::Pieces;
 use bz_source::Survey;
 use std::alloc::Global;
@@ -23,47 +24,47 @@ const MOST_COMPS: usize = 100_000;
 /// is written where there is no page.
 pub fn page_cmd<R: Read, W: Write>(
     alloc: Global,
-    part: &[u8],
+    asked: Option<&[u8]>,
     input: &mut R,
     output: &mut W,
 ) -> Result<(), TraceFault<TooLarge>>
-    ensures pages { IfSome (R.remaining input.old) (λ text. Pages (blank HEAD.now MID1.now MID2.now TAIL.now) text part.now (W.contents output.old) (W.contents output.new) result) }
+    ensures pages { IfSome (R.remaining input.old) (λ text. Pages (blank HEAD.now MID1.now MID2.now TAIL.now) text (option_copied asked.entry) (W.contents output.old) (W.contents output.new) result) }
 
     // Whatever comes of it, it reads at most one byte past the limit.
     ensures bounded { ReadsWithin (R.remaining input.old) (R.remaining input.new) }
 {
-    page_of_input(alloc, template(), part, input, output)
+    page_of_input(alloc, template(), asked, input, output)
 }
 
 /// The same of a trace that a reader of its own gives, with the limit for itself.
 pub fn page_trace_cmd<R: Read, T: Read, W: Write>(
     alloc: Global,
-    part: &[u8],
+    asked: Option<&[u8]>,
     input: &mut R,
     trace: &mut T,
     output: &mut W,
 ) -> Result<(), TraceFault<TooLarge>>
     ensures pages { IfSome (R.remaining input.old) (λ netlist. IfSome (T.remaining trace.old)
-        (λ text. PagesApart (blank HEAD.now MID1.now MID2.now TAIL.now) netlist text part.now (W.contents output.old) (W.contents output.new) result)) }
+        (λ text. PagesApart (blank HEAD.now MID1.now MID2.now TAIL.now) netlist text (option_copied asked.entry) (W.contents output.old) (W.contents output.new) result)) }
     ensures bounded { ReadsWithin (R.remaining input.old) (R.remaining input.new) }
     ensures bounded_trace { ReadsWithin (T.remaining trace.old) (T.remaining trace.new) }
 {
-    page_of_inputs(alloc, template(), part, input, trace, output)
+    page_of_inputs(alloc, template(), asked, input, trace, output)
 }
 
 // Writes a page of what the reader gives.
 fn page_of_input<R: Read, W: Write>(
     alloc: Global,
     template: Template<'_>,
-    part: &[u8],
+    asked: Option<&[u8]>,
     input: &mut R,
     output: &mut W,
 ) -> Result<(), TraceFault<TooLarge>>
-    ensures pages { IfSome (R.remaining input.old) (λ text. Pages (blank_of template.entry) text part.now (W.contents output.old) (W.contents output.new) result) }
+    ensures pages { IfSome (R.remaining input.old) (λ text. Pages (blank_of template.entry) text (option_copied asked.entry) (W.contents output.old) (W.contents output.new) result) }
     ensures bounded { ReadsWithin (R.remaining input.old) (R.remaining input.new) }
 {
     match Texts::read(alloc, input) {
-        Ok(texts) => page_of_texts(alloc, template, part, &texts, output),
+        Ok(texts) => page_of_texts(alloc, template, asked, &texts, output),
         Err(fault) => Err(TraceFault::Command(Fault::from(fault))),
     }
 }
@@ -72,18 +73,18 @@ fn page_of_input<R: Read, W: Write>(
 fn page_of_inputs<R: Read, T: Read, W: Write>(
     alloc: Global,
     template: Template<'_>,
-    part: &[u8],
+    asked: Option<&[u8]>,
     input: &mut R,
     trace: &mut T,
     output: &mut W,
 ) -> Result<(), TraceFault<TooLarge>>
     ensures pages { IfSome (R.remaining input.old) (λ netlist. IfSome (T.remaining trace.old)
-        (λ text. PagesApart (blank_of template.entry) netlist text part.now (W.contents output.old) (W.contents output.new) result)) }
+        (λ text. PagesApart (blank_of template.entry) netlist text (option_copied asked.entry) (W.contents output.old) (W.contents output.new) result)) }
     ensures bounded { ReadsWithin (R.remaining input.old) (R.remaining input.new) }
     ensures bounded_trace { ReadsWithin (T.remaining trace.old) (T.remaining trace.new) }
 {
     match Texts::read_apart(alloc, input, trace) {
-        Ok(texts) => page_of_texts(alloc, template, part, &texts, output),
+        Ok(texts) => page_of_texts(alloc, template, asked, &texts, output),
         Err(fault) => Err(TraceFault::Command(Fault::from(fault))),
     }
 }
@@ -92,51 +93,58 @@ fn page_of_inputs<R: Read, T: Read, W: Write>(
 fn page_of_texts<W: Write>(
     alloc: Global,
     template: Template<'_>,
-    part: &[u8],
+    asked: Option<&[u8]>,
     texts: &Texts,
     output: &mut W,
 ) -> Result<(), TraceFault<TooLarge>>
-    ensures { PagesTrace (blank_of template.entry) texts.now.netlist texts.now.trace part.now (W.contents output.old) (W.contents output.new) result }
+    ensures { PagesTrace (blank_of template.entry) texts.now.netlist texts.now.trace (option_copied asked.entry) (W.contents output.old) (W.contents output.new) result }
 {
     let (netlist, trace) = texts.both();
-    let (net, survey) = match run_net(alloc, part, netlist, trace) {
+    let (net, survey, part) = match run_net(alloc, asked, netlist, trace) {
         Ok(found) => found,
         Err(fault) => return Err(fault),
     };
+    let part = part.as_slice();
     match put_net_page(alloc, template, part, &net, &survey, trace, &[], output) {
         Ok(()) => Ok(()),
         Err(fault) => Err(TraceFault::Command(fault)),
     }
 }
 
-// The net of a part, of which the trace is that of a run, and where everything in it stands.
+// The net of a part, of which the trace is that of a run, where everything in it stands, and the name of the part.
 fn run_net(
     alloc: Global,
-    part: &[u8],
+    asked: Option<&[u8]>,
     netlist: &[u8],
     trace: &[u8],
-) -> Result<(Pieces, Survey), TraceFault<TooLarge>>
-    ensures { Finds netlist.now trace.now part.now result }
+) -> Result<(Pieces, Survey, Vec<u8>), TraceFault<TooLarge>>
+    ensures { Finds netlist.now trace.now (option_copied asked.entry) result }
 {
-    match run_of(alloc, part, netlist, trace) {
-        Ok(found) => place(alloc, part, found),
+    match run_of(alloc, asked, netlist, trace) {
+        Ok(checked) => place(alloc, checked),
         Err(fault) => Err(fault),
     }
 }
 
-// A net in its pieces, and where everything in it stands, unless it is too large for a page.
-fn place(alloc: Global, part: &[u8], run: Run) -> Result<(Pieces, Survey), TraceFault<TooLarge>>
-    ensures { Places part.now run.flat run.source result }
+// A net in its pieces, where everything in it stands, and the name of its part, unless it is too large for a page.
+fn place(
+    alloc: Global,
+    checked: Checked,
+) -> Result<(Pieces, Survey, Vec<u8>), TraceFault<TooLarge>>
+    ensures { Places checked result }
 {
-    let (flat, source) = run.into_parts();
+    let (flat, source, part) = match checked.into_flat(alloc) {
+        Ok(parts) => parts,
+        Err(_) => return Err(TraceFault::Command(Fault::Memory)),
+    };
     let net = flat.into_pieces();
     let comps = net.comps.len();
     if comps > MOST_COMPS {
         return Err(TraceFault::Other(TooLarge { comps }));
     }
     // a part that has a net has places, so nothing but memory can be wanting
-    match source.survey(alloc, part) {
-        Ok(survey) => Ok((net, survey)),
+    match source.survey(alloc, part.as_slice()) {
+        Ok(survey) => Ok((net, survey, part)),
         Err(_) => Err(TraceFault::Command(Fault::Memory)),
     }
 }

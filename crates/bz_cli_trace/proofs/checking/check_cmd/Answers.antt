@@ -1,8 +1,8 @@
-use Rattle.std.proofs.Common.{arith}
-use Rattle.bz_cli_trace.proofs.Checks.{checks_on}
+use Rattle.bz_cli_trace.proofs.Checks.{checks_on, no_text}
 use Rattle.bz_cli_trace.proofs.checking.check_cmd.Goals as goal
 
-pub returns-clause-checks : goal.returns-clause-checks
-returns-clause-checks g c =
-    let checks = rw c.as_slice.ensures.value at c.check_text.ensures in
-    checks_on _ c.in_ok-text.text.items c.args.part.now _ _ _ c.in_ok-text.ensures.whole (omega (arith, c.in_ok-text.text.ok.0, c.in_ok-text.ensures.limit)) checks
+pub returns-in-Ok-clause-checks : goal.returns-in-Ok-clause-checks
+returns-in-Ok-clause-checks g c = checks_on _ c.in-Ok.texts _ _ _ c.check_texts.result c.in-Ok.ensures.taken c.check_texts.ensures
+
+pub returns-in-Err-clause-checks : goal.returns-in-Err-clause-checks
+returns-in-Err-clause-checks g c = rw c.from.ensures (no_text _ _ _ c.in-Err.fault)

@@ -1,8 +1,11 @@
-use Rattle.bz_cli_trace.proofs.Checks.{net_refused, told_read}
+use Rattle.bz_cli_trace.proofs.Checks.{none_checked, not_said_read, said_read}
 use Rattle.bz_cli_trace.proofs.checking.check_netlist.Goals as goal
 
 pub returns-in-Err : goal.returns-in-Err
-returns-in-Err g c = net_refused _ c.args.netlist.now c.args.part.now _ c.in-Err.why c.in-Err.ensures.err
+returns-in-Err g c = none_checked _ c.args.netlist.now _ _ c.in-Err.fault c.in-Err.ensures.err
 
-pub returns-in-Ok-check_read : goal.returns-in-Ok-check_read
-returns-in-Ok-check_read g c = told_read _ c.args.netlist.now c.args.part.now c.in-Ok.flat.wiring c.in-Ok-check_read.verdict c.in-Ok-check_read.counts _ _ c.tell.result c.in-Ok.ensures.ok c.in-Ok-check_read.ensures.right c.in-Ok-check_read.ensures.counted c.tell.ensures
+pub returns-in-Ok-tell : goal.returns-in-Ok-tell
+returns-in-Ok-tell g c = said_read _ c.args.netlist.now _ c.in-Ok.checked _ _ c.in-Ok.ensures.ok c.in-Ok-tell.ensures
+
+pub returns-in-Err-tell : goal.returns-in-Err-tell
+returns-in-Err-tell g c = not_said_read _ c.args.netlist.now _ c.in-Ok.checked _ _ c.in-Err-tell.fault c.in-Ok.ensures.ok c.in-Err-tell.ensures

@@ -1,3 +1,4 @@
+use Rattle.std.specs.Option.{option_copied}
 use Rattle.bz_cli_trace.proofs.Makes.{no_two, taken_two}
 use Rattle.bz_page.specs.declared.fault.TooLarge.{TooLarge}
 use Rattle.bz_page.specs.Pages.{blank_of}
@@ -6,7 +7,7 @@ use Rattle.bz_page.proofs.command.page_of_inputs.Goals as goal
 
 pub returns-in-Ok-clause-pages : goal.returns-in-Ok-clause-pages
 returns-in-Ok-clause-pages g c =
-    taken_two (λ netlist trace. PagesTrace (blank_of c.args.template) netlist trace c.args.part.now _ _ c.page_of_texts.result) c.in-Ok.texts _ _ _ _ _ c.in-Ok.ensures.taken c.page_of_texts.ensures
+    taken_two (λ netlist trace. PagesTrace (blank_of c.args.template) netlist trace (option_copied c.args.asked) _ _ c.page_of_texts.result) c.in-Ok.texts _ _ _ _ _ c.in-Ok.ensures.taken c.page_of_texts.ensures
 
 pub returns-in-Err-clause-pages : goal.returns-in-Err-clause-pages
 returns-in-Err-clause-pages g c = rw c.from.ensures (no_two (Unit {0}) TooLarge _ _ _ _ c.in-Err.fault)
