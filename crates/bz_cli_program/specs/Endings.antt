@@ -1,5 +1,5 @@
 -- How the program ends: with a status, or with the fault of its command, which it tells.
-use Rattle.std.specs.Prelude.{◌≡◌, ℕ, ◌<◌, ◌≤◌, ⊤, Bool, true, false, Option, None, Some, Result, Ok, Err, List}
+use Rattle.std.specs.Prelude.{◌≡◌, ℕ, ◌<◌, ◌≤◌, ⊤, if◌then◌else◌, Option, None, Some, Result, Ok, Err, List}
 use Rattle.std.specs.Io.KnownBytes.{Keeps}
 use Rattle.bz_cli_input.specs.declared.fault.Fault.{Fault}
 use Rattle.bz_cli_core.specs.declared.playing.Halt.{Halt}
@@ -7,6 +7,9 @@ use Rattle.bz_cli_core.specs.declared.run.Played.{Played}
 use Rattle.bz_cli_trace.specs.declared.fault.TraceFault.{TraceFault}
 use Rattle.bz_cli_trace.specs.declared.fault.TraceFault.TheVariants.{Command}
 use Rattle.bz_cli_trace.specs.Making.{status_of}
+use Rattle.bz_cli_trace.specs.Checking.{is_run}
+use Rattle.bz_cli_trace.specs.declared.checked.Checked.{Checked}
+use Rattle.bz_cli_program.specs.declared.commands.CheckEnd.{CheckEnd}
 use Rattle.bz_cli_args.specs.declared.request.Options.{Options}
 use Rattle.bz_chart.specs.declared.range.LineRange.{LineRange}
 
@@ -32,10 +35,13 @@ of_run (Ok played) = Ok (of_halt played.halt)
 of_run (Err fault) = Err fault
 
 -- 0 where the trace is that of a run, and else 1
-abbrev pub of_check : Result Bool Fault → Result ℕ Fault
-of_check (Ok true) = Ok 0
-of_check (Ok false) = Ok 1
+abbrev pub of_check : Result Checked Fault → Result ℕ Fault
+of_check (Ok checked) = Ok (if is_run checked.verdict then 0 else 1)
 of_check (Err fault) = Err fault
+
+abbrev pub status_in : Result CheckEnd Fault → Result ℕ Fault
+status_in (Ok end) = Ok end.status
+status_in (Err fault) = Err fault
 
 -- 0 where there is a drawing, and else 2
 abbrev pub of_drawing : {N : Type 0} → Result (Option N) Fault → Result ℕ Fault

@@ -9,7 +9,7 @@ ghost use Rattle.bz_cli_core.specs.Running.{Runs};
 ghost use Rattle.bz_cli_input.specs.Listed.{Lists};
 ghost use Rattle.bz_cli_input.specs.Reading.{ReadsWithin};
 ghost use Rattle.bz_cli_program.specs.Endings.{AreWorkers, Does, IsDone, IsJournal, IsRefused};
-ghost use Rattle.bz_cli_program.specs.Endings.{lines_asked, of_check, of_done, of_drawing, of_made, of_run};
+ghost use Rattle.bz_cli_program.specs.Endings.{lines_asked, of_check, of_done, of_drawing, of_made, of_run, status_in};
 ghost use Rattle.bz_cli_source.specs.Listed as placed;
 ghost use Rattle.bz_cli_source.specs.PartLists.{ListsParts};
 ghost use Rattle.bz_draw.specs.Drawing.{Draws};
@@ -27,7 +27,7 @@ use bz_cli_core::{Halt, Played, run_cmd};
 use bz_cli_input::{Fault, list_cmd};
 use bz_cli_kinds::kinds_cmd;
 use bz_cli_source::{list_paths_cmd, parts_cmd};
-use bz_cli_trace::{TraceFault, check_cmd, check_trace_cmd};
+use bz_cli_trace::{Checked, TraceFault, check_cmd, check_trace_cmd};
 use bz_draw::{NoDrawing, View, draw_cmd};
 use bz_model::Reply;
 use bz_page::{page_cmd, page_trace_cmd};
@@ -124,38 +124,57 @@ fn tell_halt<E: Write>(halt: Halt, errors: &mut E) {
     );
 }
 
-/// Tells whether a trace is that of a run: the one that is given, or the one behind the netlist.
+/// The status of a check, and the net that was checked.
+pub struct CheckEnd {
+    pub status: u8,
+    pub checked: Checked,
+}
+
+// Written by hand: callers then prove one drop instead of one for each field.
+impl Drop for CheckEnd {
+    fn drop(self) {
+        let CheckEnd {
+            status: _,
+            checked: _,
+        } = self;
+    }
+}
+
+/// Reports whether a trace is that of a run: the one that is given, or the one after the netlist.
 pub fn check<R: Read, T: Read, W: Write>(
     alloc: Global,
     given: Given<'_, '_>,
     input: &mut R,
     trace: Option<&mut T>,
     output: &mut W,
-) -> Result<u8, Fault>
+) -> Result<CheckEnd, Fault>
     ensures checks { MatchOption trace.entry
         (IfSome (R.remaining input.old)
-        (λ text. Does of_check (Checks text (option_copied given.entry.part) (W.contents output.old) (W.contents output.new)) result))
+        (λ text. Does of_check (Checks text (option_copied given.entry.part)
+        (W.contents output.old) (W.contents output.new)) (status_in result)))
         (λ apart. IfSome (R.remaining input.old) (λ netlist. IfSome (T.remaining apart.now)
         (λ text. Does of_check (ChecksApart netlist text (option_copied given.entry.part)
-        (W.contents output.old) (W.contents output.new)) result))) }
+        (W.contents output.old) (W.contents output.new)) (status_in result)))) }
 
     // Whatever comes of it, it reads at most one byte past the limit.
     ensures bounded { ReadsWithin (R.remaining input.old) (R.remaining input.new) }
 {
     match trace {
-        Some(trace) => told(check_trace_cmd(alloc, given.part, input, trace, output)),
-        None => told(check_cmd(alloc, given.part, input, output)),
+        Some(trace) => judged(check_trace_cmd(alloc, given.part, input, trace, output)),
+        None => judged(check_cmd(alloc, given.part, input, output)),
     }
 }
 
-// The status of a check.
-fn told(is_run: Result<bool, Fault>) -> Result<u8, Fault>
-    ensures { result ≡ of_check is_run }
+// The end of a check.
+fn judged(checked: Result<Checked, Fault>) -> Result<CheckEnd, Fault>
+    ensures { status_in result ≡ of_check checked }
 {
-    match is_run {
-        Ok(true) => Ok(DONE),
-        Ok(false) => Ok(NO_RUN),
-        Err(fault) => Err(fault),
+    match checked {
+        Ok(checked) => {
+            let status = if checked.is_run() { DONE } else { NO_RUN };
+            Ok(CheckEnd { status, checked })
+        }
+        Err(unchecked) => Err(unchecked),
     }
 }
 
