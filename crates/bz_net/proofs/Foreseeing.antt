@@ -8,7 +8,7 @@ use Rattle.bz_model.specs.Heads.{Component, Head, Proc, CanMove, IsHeadOn, Moves
 use Rattle.bz_model.specs.Nets.{Site, IsPort, chan_at, moved, proc_at}
 use Rattle.bz_model.specs.Phases.{phase_after}
 use Rattle.bz_net.specs.Keeping.{phase_in, proc_of, no_comp, state_of}
-use Rattle.bz_net.specs.Due.{HasMove, TellsDue, Foresees}
+use Rattle.bz_net.specs.Due.{HasMove, IsSoleDue, TellsDue, Foresees}
 use Rattle.bz_net.proofs.Ties.{proc_is}
 
 module _ (sites : List Site) (phases : List Phase) (comps : List Component) (c p : ℕ) (x : Component) (len : length comps ≡ length sites) (port : IsPort sites c p) (is : x ≡ get_or comps (c - 1) x) where
@@ -25,6 +25,11 @@ module _ (sites : List Site) (phases : List Phase) (comps : List Component) (c p
       let has' : HasMove x.proc p mv = subst (λ (q : Proc). HasMove q p mv) (sym proc_read) has in
       no_move has'.0 (only has'.0 has'.1)
   tells_due (Some mv) some only = (port, subst (λ (q : Proc). HasMove q p mv) proc_read some)
+
+  pub sole_due : (o : Option Move) → ((h : Head) → IsHeadOn x.proc p h → o ≡ Some h.move) → IsSoleDue sites (state_of phases comps) c p o
+  sole_due o only = λ mv at has.
+      let has' : HasMove x.proc p mv = subst (λ (q : Proc). HasMove q p mv) (sym proc_read) has in
+      only has'.0 has'.1 ∙ ap (λ (m : Move). Some m) has'.2
 
   module _ (k : ℕ) (on : k ≡ chan_at sites c p) where
     can_move : CanMove (proc_at (state_of phases comps) c) p (phase_in phases (chan_at sites c p)) → CanMove x.proc p (phase_in phases k)

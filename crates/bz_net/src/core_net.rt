@@ -2,12 +2,14 @@
 
 ghost use Rattle.std.specs.Prelude.{◌≡◌, ◌≢◌, ◌≤◌, ◌<◌, None, Some, MatchBool, MatchOption, OnOk, IfOk, IfErr, length};
 ghost use Rattle.bz_model.specs.Hosts.{HostStep, command_refusal, refusal_at};
-ghost use Rattle.bz_model.specs.Names.{NamesDiffer, port_number};
+ghost use Rattle.std.specs.Option.{option_copied, option_map};
+ghost use Rattle.bz_model.specs.Names.{NamesDiffer, numbered, port_number};
 ghost use Rattle.bz_model.specs.Nets.{Step, StepsAt, opening, outside, phase_at};
 ghost use Rattle.bz_model.specs.Runs.{CanStep, IsLowest, IsNext, Rest};
+ghost use Rattle.bz_flat.specs.Flats.{site_of};
 ghost use Rattle.bz_flat.specs.Wires.{WellWired};
 ghost use Rattle.bz_net.specs.Core.{IsSole};
-ghost use Rattle.bz_net.specs.Due.{Foresees, TellsDue};
+ghost use Rattle.bz_net.specs.Due.{Foresees, IsSoleDue, TellsDue};
 ghost use Rattle.bz_net.specs.Ends.{TellsEnds, TellsPort, IsSolePort};
 ghost use Rattle.bz_net.specs.Noted.{MeetBefore, NotedAt, NotedMove};
 ghost use Rattle.bz_net.specs.Sides.{answers};
@@ -23,12 +25,12 @@ use crate::noted::Noted;
 use crate::ready_row::{Keeping, ReadyRow};
 use bz_arena::Arena;
 use bz_flat::{Ends, Flat, FlatComp, dup_comps};
-use bz_model::{Move, Names, NetError, Phase, Reply, Value, Verb};
+use bz_model::{Move, Names, NetError, Phase, Reply, Value, Verb, node_of};
 use std::alloc::{AllocError, Global};
 use std::marker::Model;
 
-/// A net in a state, and which components can move.
-pub(crate) struct Core {
+/// A net in a state: its wiring, the state, and which components can move in it. Components, ports and channels count from 1.
+pub struct Core {
     names: Names,
     sites: Arena<FlatComp>,
     ends: Vec<Ends>,
@@ -149,18 +151,26 @@ impl Core {
     }
 
     /// How many components there are.
-    pub(crate) fn comp_count(&self) -> usize
+    pub fn comp_count(&self) -> usize
         ensures { result ≡ length self.now.wiring.sites }
     {
         self.sites.len()
     }
 
     /// The external ports and the channels.
-    pub(crate) fn names(&self) -> &Names
+    pub fn names(&self) -> &Names
         ensures value { result.now ≡ outside self.now.wiring }
         ensures differ { NamesDiffer self.now.wiring.ports }
+        ensures wired { WellWired self.now.wiring }
     {
         &self.names
+    }
+
+    /// A component, if there is such a component.
+    pub fn comp(&self, comp: u32) -> Option<&FlatComp>
+        ensures { option_map site_of (option_copied result) ≡ numbered self.now.wiring.sites comp }
+    {
+        node_of(&self.sites, comp)
     }
 
     /// The number of the external port of this name, or the first reason to refuse a host command there.
@@ -185,7 +195,7 @@ impl Core {
     }
 
     /// The phase of a channel, `Idle` where there is no such channel.
-    pub(crate) fn phase(&self, chan: u32) -> Phase
+    pub fn phase(&self, chan: u32) -> Phase
         ensures phase { result ≡ phase_at self.now.state chan }
         ensures kept { result ≢ Phase.Broken }
     {
@@ -198,7 +208,7 @@ impl Core {
     }
 
     /// The components at the active and at the passive end of a channel, `None` where there is none.
-    pub(crate) fn ends(&self, chan: u32) -> [Option<u32>; 2]
+    pub fn ends(&self, chan: u32) -> [Option<u32>; 2]
         requires from { 0 < chan }
         requires to { chan ≤ length self.now.wiring.chans }
         ensures { TellsEnds self.now.wiring.sites chan result }
@@ -208,7 +218,7 @@ impl Core {
     }
 
     /// The port at which a component makes this move on a channel, if it holds that end.
-    pub(crate) fn port_at(&self, comp: u32, chan: u32, mv: Move) -> Option<u32>
+    pub fn port_at(&self, comp: u32, chan: u32, mv: Move) -> Option<u32>
         ensures end { TellsPort self.now.wiring.sites chan (answers mv) comp result }
         ensures sole { IsSolePort self.now.wiring.sites self.now.state comp chan mv result }
     {
@@ -216,7 +226,7 @@ impl Core {
     }
 
     /// Whether a component can move.
-    pub(crate) fn is_ready(&self, comp: u32) -> bool
+    pub fn is_ready(&self, comp: u32) -> bool
         ensures { MatchBool result (CanStep self.now.wiring.sites self.now.state comp)
             (CanStep self.now.wiring.sites self.now.state comp → ⊥) }
     {
@@ -227,7 +237,7 @@ impl Core {
     }
 
     /// Whether a component can move at a port.
-    pub(crate) fn can_fire(&self, comp: u32, port: u32) -> bool
+    pub fn can_fire(&self, comp: u32, port: u32) -> bool
         ensures { MatchBool result (StepsAt self.now.wiring.sites self.now.state comp port)
             (StepsAt self.now.wiring.sites self.now.state comp port → ⊥) }
     {
@@ -235,14 +245,15 @@ impl Core {
     }
 
     /// The move that a component has at a port, whether or not it can be made.
-    pub(crate) fn due(&self, comp: u32, port: u32) -> Option<Move>
-        ensures { TellsDue self.now.wiring.sites self.now.state comp port result }
+    pub fn due(&self, comp: u32, port: u32) -> Option<Move>
+        ensures due { TellsDue self.now.wiring.sites self.now.state comp port result }
+        ensures sole { IsSoleDue self.now.wiring.sites self.now.state comp port result }
     {
         due_at(&self.sites, &self.nodes, &self.phases, comp, port)
     }
 
     /// The channel, the move and the value of the step that a component has at a port, where it has one.
-    pub(crate) fn foresee(
+    pub fn foresee(
         &self,
         alloc: Global,
         comp: u32,
@@ -254,7 +265,7 @@ impl Core {
     }
 
     /// The component that is next to fire, from a number on.
-    pub(crate) fn next_ready(&self, from: u32) -> Option<u32>
+    pub fn next_ready(&self, from: u32) -> Option<u32>
         ensures { MatchOption result (Rest self.now.wiring.sites self.now.state)
             (IsNext (CanStep self.now.wiring.sites self.now.state) from) }
     {

@@ -6,7 +6,7 @@ ghost use Rattle.bz_model.specs.Hosts.{reply_to, host_after, received, refusal_a
 ghost use Rattle.bz_flat.specs.Flats.{site_of};
 ghost use Rattle.bz_model.specs.Clashes.{is_mixer, IsAsked, Clashes};
 ghost use Rattle.bz_net.specs.Noted.{NoneMixes, NotedEnd};
-ghost use Rattle.bz_net.specs.Due.{Foresees, TellsDue};
+ghost use Rattle.bz_net.specs.Due.{Foresees, IsSoleDue, TellsDue};
 ghost use Rattle.bz_net.specs.Ends.{IsPortIn};
 ghost use Rattle.bz_net.specs.Sides.{answers, sends};
 ghost use Rattle.bz_net.specs.Keeping.{state_of, Placed, ReadsChans};
@@ -76,7 +76,8 @@ pub(crate) fn due_at(
     port: u32,
 ) -> Option<Move>
     requires { Placed (map site_of sites.now) phases.now (comps_of nodes.now) }
-    ensures { TellsDue (map site_of sites.now) (state_of phases.now (comps_of nodes.now)) comp port result }
+    ensures due { TellsDue (map site_of sites.now) (state_of phases.now (comps_of nodes.now)) comp port result }
+    ensures sole { IsSoleDue (map site_of sites.now) (state_of phases.now (comps_of nodes.now)) comp port result }
 {
     match chan_of(sites, comp, port) {
         None => None,

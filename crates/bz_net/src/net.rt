@@ -122,6 +122,14 @@ impl Net {
         })
     }
 
+    /// The net in its state, without its journal.
+    pub fn core(&self) -> &Core
+        ensures wiring { result.now.wiring ≡ self.now.wiring }
+        ensures state { result.now.state ≡ self.now.state }
+    {
+        &self.core
+    }
+
     /// Whether a component can move.
     pub fn is_ready(&self, comp: u32) -> bool
         ensures { MatchBool result (CanStep self.now.wiring.sites self.now.state comp)

@@ -3,7 +3,7 @@ use Rattle.bz_model.specs.Nets.{Wiring}
 use Rattle.bz_flat.specs.Flats.{site_of}
 use Rattle.bz_net.proofs.Cores.{core_placed}
 use Rattle.bz_net.specs.Core.{Standing}
-use Rattle.bz_net.specs.Due.{TellsDue}
+use Rattle.bz_net.specs.Due.{IsSoleDue, TellsDue}
 use Rattle.bz_net.specs.Nodes.{comps_of, heres_of}
 use Rattle.bz_net.proofs.core_net.Core.due.Goals as goal
 
@@ -13,7 +13,10 @@ due_at-requires c =
     let w : Wiring = record { chans = n.names.chans; sites = map site_of n.sites; ports = n.names.ports } in
     (core_placed w n.phases (comps_of n.nodes) (heres_of n.nodes) n.ends.items n.ready c.self.invariant.0)
 
-pub returns : goal.returns
-returns c =
-    let n = c.self.inside in
-    subst (λ (v : Standing). TellsDue v.wiring.sites v.state c.args.comp c.args.port c.due_at.result) c.self.view_is c.due_at.ensures
+pub returns-clause-due : goal.returns-clause-due
+returns-clause-due c =
+    subst (λ (v : Standing). TellsDue v.wiring.sites v.state c.args.comp c.args.port c.due_at.result) c.self.view_is c.due_at.ensures.due
+
+pub returns-clause-sole : goal.returns-clause-sole
+returns-clause-sole c =
+    subst (λ (v : Standing). IsSoleDue v.wiring.sites v.state c.args.comp c.args.port c.due_at.result) c.self.view_is c.due_at.ensures.sole
