@@ -1,0 +1,4 @@
+pub mod Around
+pub mod Gathered
+pub mod Numbered
+pub mod Passed

@@ -1,0 +1,134 @@
+//! The wait-for graph of a net.
+
+ghost use Rattle.std.specs.Prelude.{◌≡◌, ◌<◌, ◌≤◌, ◌+◌, length, IfOk};
+ghost use Rattle.std.specs.List.{All};
+ghost use Rattle.bz_waits.specs.Adding.{AddsAll};
+ghost use Rattle.bz_waits.specs.Cycles.{IsCycle};
+ghost use Rattle.bz_waits.specs.Waiting.{AreWaits, IsAwaited, IsStuck, IsWait, WaitsBefore};
+
+use crate::cycles::cycles;
+use crate::due::{chooses, next_due, owed_chan};
+use crate::sites::port_count;
+use crate::table::Table;
+use crate::wait::{Place, Wait};
+use bz_model::Move;
+use bz_net::Core;
+use std::alloc::{AllocError, Global};
+
+/// Who waits for whom in a net in a state.
+#[derive(Drop)]
+pub struct Graph {
+    /// What each component waits for that can't move, by components.
+    pub waits: Vec<Wait>,
+    /// How many components these are.
+    pub waiting: usize,
+    /// The cycles of those that wait for one another in any case, each from its least member on.
+    pub cycles: Vec<Vec<u32>>,
+}
+
+impl Graph {
+    /// That of a net.
+    pub fn of(alloc: Global, core: &Core) -> Result<Graph, AllocError>
+        ensures waits { IfOk result (λ graph. AreWaits core.now.wiring.sites core.now.state graph.waits.items) }
+        ensures cycles { IfOk result (λ graph. All (λ cycle. IsCycle graph.waits.items cycle.items) graph.cycles.items) }
+    {
+        let (waits, waiting) = waits_of(alloc, core)?;
+        let cycles = cycles(alloc, core.comp_count() as u32, &waits)?;
+        Ok(Graph {
+            waits,
+            waiting,
+            cycles,
+        })
+    }
+
+    /// What a component waits for.
+    pub fn waits_of(&self, comp: u32) -> &[Wait] {
+        let first = self.waits.partition_point(|wait| wait.comp < comp);
+        let end = self.waits.partition_point(|wait| wait.comp <= comp);
+        self.waits.get(first..end).unwrap_or(&[])
+    }
+
+    /// A component, whom it waits for, whom these wait for, and so on: all that were not `met`, which is noted.
+    pub fn hung(&self, alloc: Global, comp: u32, met: &mut Table) -> Result<Vec<u32>, AllocError> {
+        let mut order = Vec::new(alloc);
+        met.set(comp, 1);
+        order.push(comp)?;
+        for turn in 0..=self.waits.len() {
+            let Some(comp) = order.get(turn).copied() else {
+                break;
+            };
+            for wait in self.waits_of(comp) {
+                if wait.other > 0 && met.at(wait.other) == 0 {
+                    met.set(wait.other, 1);
+                    order.push(wait.other)?;
+                }
+            }
+        }
+        Ok(order)
+    }
+}
+
+// What all components wait for that can't move, and how many these are.
+fn waits_of(alloc: Global, core: &Core) -> Result<(Vec<Wait>, usize), AllocError>
+    ensures { IfOk result (λ made. AreWaits core.now.wiring.sites core.now.state made.0.items) }
+{
+    // the wiring tells that there are fewer than 2^32 components
+    let _ = core.names();
+    let (mut waits, mut waiting) = (Vec::new(alloc), 0usize);
+    for place in 0..core.comp_count() as u32 {
+        let before = waits.len();
+        add_comp(core, place + 1, &mut waits)?;
+        if waits.len() > before {
+            waiting = waiting.saturating_add(1);
+        }
+    }
+    Ok((waits, waiting))
+}
+
+// What a component waits for, after those before it: for replies, or for requests where it owes a reply. Or it has halted.
+fn add_comp(core: &Core, comp: u32, waits: &mut Vec<Wait>) -> Result<(), AllocError>
+    requires from { 0 < comp }
+    requires to { comp ≤ length core.now.wiring.sites }
+    requires before { WaitsBefore core.now.wiring.sites core.now.state comp waits.old.items }
+    ensures { IfOk result (λ _. WaitsBefore core.now.wiring.sites core.now.state (comp + 1) waits.new.items) }
+{
+    if core.is_ready(comp) {
+        return Ok(());
+    }
+    let owed = owed_chan(core, comp);
+    if next_due(core, comp, Move::Got, 0).is_some() {
+        return add_due(core, comp, Move::Got, waits);
+    }
+    match owed {
+        None => Ok(()),
+        Some(_) if next_due(core, comp, Move::Take, 0).is_some() => {
+            add_due(core, comp, Move::Take, waits)
+        }
+        Some(chan) => {
+            waits.push(Wait::halted(comp, chan))?;
+            Ok(())
+        }
+    }
+}
+
+// What a component waits for at each port at which this move is due.
+fn add_due(core: &Core, comp: u32, due: Move, waits: &mut Vec<Wait>) -> Result<(), AllocError>
+    requires from { 0 < comp }
+    requires to { comp ≤ length core.now.wiring.sites }
+    requires stuck { IsStuck core.now.wiring.sites core.now.state comp }
+    requires awaited { IsAwaited core.now.wiring.sites core.now.state comp due }
+    requires each { All (IsWait core.now.wiring.sites core.now.state) waits.old.items }
+    ensures { IfOk result (λ _. AddsAll core.now.wiring.sites core.now.state comp due waits.old.items waits.new.items) }
+{
+    let chooses = chooses(core, comp, due);
+    let mut place = if chooses { Place::First } else { Place::Each };
+    for before in 0..port_count(core, comp) {
+        if core.due(comp, before + 1) == Some(due) {
+            waits.push(Wait::at_port(core, comp, before + 1, due, place))?;
+            if chooses {
+                place = Place::Other;
+            }
+        }
+    }
+    Ok(())
+}
