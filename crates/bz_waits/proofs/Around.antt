@@ -1,9 +1,9 @@
 -- Links that are looked at one after another.
-use Rattle.std.proofs.Common.{◌≡◌, ◌⊎◌, ℕ, ◌+◌, ◌-◌, ◌<◌, ◌≤◌, List, [], ◌∷◌, ◌++◌, length, inl, inr, sym, subst, arith}
+use Rattle.std.proofs.Common.{◌≡◌, ℕ, ◌+◌, ◌-◌, ◌<◌, List, inl, inr, subst, arith}
 use Rattle.std.specs.Prelude.{slice_index}
 use Rattle.std.proofs.lemmas.Bool.{cases_lt}
 use Rattle.bz_waits.specs.declared.wait.Wait.{Wait}
-use Rattle.bz_waits.specs.Cycles.{IsCycle, WaitsFor}
+use Rattle.bz_waits.specs.Cycles.{WaitsFor}
 
 -- the members before the one at place n wait for the next
 abbrev pub LinksUpTo : List Wait → List ℕ → ℕ → Type 0

@@ -4,10 +4,12 @@ use Rattle.std.specs.List.{All, Contains}
 use Rattle.std.proofs.lemmas.Bool.{cases_lt}
 use Rattle.std.proofs.lemmas.List.Elements.{All-nil, All-push, Contains-append_left, Contains-push}
 use Rattle.bz_model.specs.declared.channel.Move.{Move}
-use Rattle.bz_model.specs.declared.channel.Move.TheVariants.{Take, Got}
+use Rattle.bz_model.specs.declared.channel.Move.TheVariants.{Take, Reply, Got}
 use Rattle.bz_model.specs.Nets.{Site, State, chan_at, site_at}
 use Rattle.bz_model.specs.Runs.{CanStep}
 use Rattle.bz_waits.specs.declared.wait.Wait.{Wait}
+use Rattle.bz_waits.specs.declared.wait.Whom.TheVariants.{Nobody}
+use Rattle.bz_waits.specs.declared.wait.Place.TheVariants.{Each}
 use Rattle.bz_waits.specs.Adding.{AddsAll, AddsUpTo}
 use Rattle.bz_waits.specs.Waiting.{AreWaits, HasWait, IsDue, IsStuck, IsWait, Owes, WaitsBefore, WaitsOn}
 
@@ -99,6 +101,14 @@ module _ (sites : List Site) (s : State) (c : ℕ) where
     before_halted w is comp gets =
         before_more old (old ++ w ∷ []) so (All-push (IsWait sites s) old w so.each is) (Contains-append_left old (w ∷ []))
         (λ q stuck due'. absurd (gets q due')) (λ k stuck owed. (w.chan, (w, Contains-push old w, comp, refl)))
+
+-- the wait of a component that has halted
+pub halted_wait : (sites : List Site) (s : State) (c k : ℕ) → IsStuck sites s c → ((p : ℕ) → IsDue sites s c Got p → ⊥) → ((p : ℕ) → IsDue sites s c Take p → ⊥) → Owes sites s c k
+    → IsWait sites s (record { comp = c; chan = k; whom = Nobody; other = 0; mv = Reply; place = Each })
+halted_wait sites s c k stuck gets takes owes = record {
+  stuck = stuck;
+  waits = inr (record { gets = gets; takes = takes; owes = owes; other = refl; whom = refl; first = refl; place = refl });
+}
 
 module _ (sites : List Site) (s : State) where
   pub before_start : WaitsBefore sites s 1 []

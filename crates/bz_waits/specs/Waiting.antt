@@ -79,6 +79,12 @@ IsPlace sites s c due Other = Chooses sites s c due
 abbrev pub IsLink : Wait → Type 0
 IsLink w = (w.whom ≡ Busy) × (w.place ≡ Each)
 
+-- the place of the next port at which the same component waits
+abbrev pub next_place : Place → Place
+next_place Each = Each
+next_place First = Other
+next_place Other = Other
+
 -- a component waits at a port for the other end of its channel
 pub record WaitsAtPort (sites : List Site) (s : State) (w : Wait) : Type 0 where
   pub port : ℕ

@@ -5,8 +5,7 @@
 //! link, before it is told.
 
 ghost use Rattle.std.specs.Prelude.{IfOk, IsTrue};
-ghost use Rattle.std.specs.List.{All};
-ghost use Rattle.bz_waits.specs.Cycles.{IsCycle, WaitsFor};
+ghost use Rattle.bz_waits.specs.Cycles.{AreCycles, IsCycle, WaitsFor};
 
 use crate::table::Table;
 use crate::wait::Wait;
@@ -14,12 +13,8 @@ use std::alloc::{AllocError, Global};
 
 /// The cycles among so many components that wait for one another in any case, each from its least member on. From each component
 /// the step goes to the least that is in a cycle or leads to one.
-pub(crate) fn cycles(
-    alloc: Global,
-    comps: u32,
-    waits: &[Wait],
-) -> Result<Vec<Vec<u32>>, AllocError>
-    ensures { IfOk result (λ found. All (λ cycle. IsCycle waits.now cycle.items) found.items) }
+pub(crate) fn cycles(alloc: Global, comps: u32, waits: &[Wait]) -> Result<Vec<Vec<u32>>, AllocError>
+    ensures { IfOk result (λ found. AreCycles waits.now found.items) }
 {
     let left = those_left(alloc, comps, waits)?;
     let next = steps(alloc, waits, &left)?;
@@ -91,22 +86,34 @@ fn take_out(alloc: Global, back: &[(u32, u32)], left: &mut Table) -> Result<(), 
 }
 
 // The cycles to which the steps lead.
-fn find_cycles(
-    alloc: Global,
-    waits: &[Wait],
-    next: &Table,
-) -> Result<Vec<Vec<u32>>, AllocError>
-    ensures { IfOk result (λ found. All (λ cycle. IsCycle waits.now cycle.items) found.items) }
+fn find_cycles(alloc: Global, waits: &[Wait], next: &Table) -> Result<Vec<Vec<u32>>, AllocError>
+    ensures { IfOk result (λ found. AreCycles waits.now found.items) }
 {
     let mut met = Table::new(alloc, next.comps())?;
     let mut found = Vec::new(alloc);
-    for start in 1..=next.comps() {
-        let last = walk(next, start, &mut met);
-        if met.at(last) == start {
-            add_cycle(waits, cycle_of(alloc, next, last)?, &mut found)?;
-        }
+    for place in 0..next.comps() {
+        add_from(alloc, waits, next, place + 1, &mut met, &mut found)?;
     }
     Ok(found)
+}
+
+// Adds the cycle to which the steps from a component lead, where they meet none before.
+fn add_from(
+    alloc: Global,
+    waits: &[Wait],
+    next: &Table,
+    start: u32,
+    met: &mut Table,
+    found: &mut Vec<Vec<u32>>,
+) -> Result<(), AllocError>
+    requires { AreCycles waits.now found.old.items }
+    ensures { IfOk result (λ _. AreCycles waits.now found.new.items) }
+{
+    let last = walk(next, start, met);
+    if met.at(last) != start {
+        return Ok(());
+    }
+    add_cycle(waits, cycle_of(alloc, next, last)?, found)
 }
 
 // Walks on until there is no step, or to one that was met. `met` has for each from which component it was met first, so far 0.
@@ -142,13 +149,9 @@ fn cycle_of(alloc: Global, next: &Table, member: u32) -> Result<Vec<u32>, AllocE
 }
 
 // Adds a cycle, if each member waits for the next.
-fn add_cycle(
-    waits: &[Wait],
-    cycle: Vec<u32>,
-    found: &mut Vec<Vec<u32>>,
-) -> Result<(), AllocError>
-    requires { All (λ cycle. IsCycle waits.now cycle.items) found.old.items }
-    ensures { IfOk result (λ _. All (λ cycle. IsCycle waits.now cycle.items) found.new.items) }
+fn add_cycle(waits: &[Wait], cycle: Vec<u32>, found: &mut Vec<Vec<u32>>) -> Result<(), AllocError>
+    requires { AreCycles waits.now found.old.items }
+    ensures { IfOk result (λ _. AreCycles waits.now found.new.items) }
 {
     if is_cycle(waits, &cycle) {
         found.push(cycle)?;

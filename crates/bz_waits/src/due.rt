@@ -7,6 +7,14 @@ use crate::sites::{chan_at, is_passive_at, port_count, site};
 use bz_model::{Kind, Move, Phase};
 use bz_net::Core;
 
+/// Whether this move comes next at a port of a component.
+pub(crate) fn is_due(core: &Core, comp: u32, port: u32, mv: Move) -> bool
+    ensures { MatchBool result (IsDue core.now.wiring.sites core.now.state comp mv port)
+        (IsDue core.now.wiring.sites core.now.state comp mv port → ⊥) }
+{
+    core.due(comp, port) == Some(mv)
+}
+
 /// The first port of a component past so many at which this move is due.
 pub(crate) fn next_due(core: &Core, comp: u32, mv: Move, past: u32) -> Option<u32>
     requires from { 0 < comp }
@@ -14,7 +22,7 @@ pub(crate) fn next_due(core: &Core, comp: u32, mv: Move, past: u32) -> Option<u3
     ensures { IsFirstPast (IsDue core.now.wiring.sites core.now.state comp mv) past result }
 {
     for place in past..port_count(core, comp) {
-        if core.due(comp, place + 1) == Some(mv) {
+        if is_due(core, comp, place + 1, mv) {
             return Some(place + 1);
         }
     }
@@ -44,7 +52,10 @@ pub(crate) fn is_idle(core: &Core, comp: u32) -> bool
     ensures { MatchBool result (IsIdle core.now.wiring.sites core.now.state comp)
         (IsIdle core.now.wiring.sites core.now.state comp → ⊥) }
 {
-    if core.is_ready(comp) || next_due(core, comp, Move::Got, 0).is_some() {
+    if core.is_ready(comp) {
+        return false;
+    }
+    if next_due(core, comp, Move::Got, 0).is_some() {
         return false;
     }
     owed_chan(core, comp).is_none()

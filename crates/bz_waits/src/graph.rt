@@ -3,12 +3,12 @@
 ghost use Rattle.std.specs.Prelude.{◌≡◌, ◌<◌, ◌≤◌, ◌+◌, length, IfOk};
 ghost use Rattle.std.specs.List.{All};
 ghost use Rattle.bz_waits.specs.Adding.{AddsAll};
-ghost use Rattle.bz_waits.specs.Cycles.{IsCycle};
-ghost use Rattle.bz_waits.specs.Waiting.{AreWaits, IsAwaited, IsStuck, IsWait, WaitsBefore};
+ghost use Rattle.bz_waits.specs.Cycles.{AreCycles};
+ghost use Rattle.bz_waits.specs.Waiting.{AreWaits, IsAwaited, IsPlace, IsStuck, IsWait, WaitsBefore};
 
 use crate::cycles::cycles;
-use crate::due::{chooses, next_due, owed_chan};
-use crate::sites::port_count;
+use crate::due::{chooses, is_due, next_due, owed_chan};
+use crate::sites::{comp_count, port_count};
 use crate::table::Table;
 use crate::wait::{Place, Wait};
 use bz_model::Move;
@@ -30,10 +30,10 @@ impl Graph {
     /// That of a net.
     pub fn of(alloc: Global, core: &Core) -> Result<Graph, AllocError>
         ensures waits { IfOk result (λ graph. AreWaits core.now.wiring.sites core.now.state graph.waits.items) }
-        ensures cycles { IfOk result (λ graph. All (λ cycle. IsCycle graph.waits.items cycle.items) graph.cycles.items) }
+        ensures cycles { IfOk result (λ graph. AreCycles graph.waits.items graph.cycles.items) }
     {
         let (waits, waiting) = waits_of(alloc, core)?;
-        let cycles = cycles(alloc, core.comp_count() as u32, &waits)?;
+        let cycles = cycles(alloc, comp_count(core), &waits)?;
         Ok(Graph {
             waits,
             waiting,
@@ -72,10 +72,8 @@ impl Graph {
 fn waits_of(alloc: Global, core: &Core) -> Result<(Vec<Wait>, usize), AllocError>
     ensures { IfOk result (λ made. AreWaits core.now.wiring.sites core.now.state made.0.items) }
 {
-    // the wiring tells that there are fewer than 2^32 components
-    let _ = core.names();
     let (mut waits, mut waiting) = (Vec::new(alloc), 0usize);
-    for place in 0..core.comp_count() as u32 {
+    for place in 0..comp_count(core) {
         let before = waits.len();
         add_comp(core, place + 1, &mut waits)?;
         if waits.len() > before {
@@ -95,20 +93,17 @@ fn add_comp(core: &Core, comp: u32, waits: &mut Vec<Wait>) -> Result<(), AllocEr
     if core.is_ready(comp) {
         return Ok(());
     }
-    let owed = owed_chan(core, comp);
     if next_due(core, comp, Move::Got, 0).is_some() {
         return add_due(core, comp, Move::Got, waits);
     }
-    match owed {
-        None => Ok(()),
-        Some(_) if next_due(core, comp, Move::Take, 0).is_some() => {
-            add_due(core, comp, Move::Take, waits)
-        }
-        Some(chan) => {
-            waits.push(Wait::halted(comp, chan))?;
-            Ok(())
-        }
+    let Some(chan) = owed_chan(core, comp) else {
+        return Ok(());
+    };
+    if next_due(core, comp, Move::Take, 0).is_some() {
+        return add_due(core, comp, Move::Take, waits);
     }
+    waits.push(Wait::halted(comp, chan))?;
+    Ok(())
 }
 
 // What a component waits for at each port at which this move is due.
@@ -120,15 +115,25 @@ fn add_due(core: &Core, comp: u32, due: Move, waits: &mut Vec<Wait>) -> Result<(
     requires each { All (IsWait core.now.wiring.sites core.now.state) waits.old.items }
     ensures { IfOk result (λ _. AddsAll core.now.wiring.sites core.now.state comp due waits.old.items waits.new.items) }
 {
-    let chooses = chooses(core, comp, due);
-    let mut place = if chooses { Place::First } else { Place::Each };
+    let mut place = first_place(core, comp, due);
     for before in 0..port_count(core, comp) {
-        if core.due(comp, before + 1) == Some(due) {
+        if is_due(core, comp, before + 1, due) {
             waits.push(Wait::at_port(core, comp, before + 1, due, place))?;
-            if chooses {
-                place = Place::Other;
-            }
+            place = place.next();
         }
     }
     Ok(())
+}
+
+// The place of the first port at which a component waits.
+fn first_place(core: &Core, comp: u32, due: Move) -> Place
+    requires from { 0 < comp }
+    requires to { comp ≤ length core.now.wiring.sites }
+    ensures { IsPlace core.now.wiring.sites core.now.state comp due result }
+{
+    if chooses(core, comp, due) {
+        Place::First
+    } else {
+        Place::Each
+    }
 }

@@ -2,7 +2,7 @@
 
 ghost use Rattle.std.specs.Prelude.{◌≡◌, ◌≤◌, length, MatchOption};
 ghost use Rattle.bz_model.specs.Nets.{chan_at};
-ghost use Rattle.bz_waits.specs.Waiting.{IsAwaited, IsDue, IsLink, IsPlace, IsStuck, IsWait, IsWhom, first_move};
+ghost use Rattle.bz_waits.specs.Waiting.{IsAwaited, IsDue, IsLink, IsPlace, IsStuck, IsWait, IsWhom, first_move, next_place};
 
 use crate::due::is_idle;
 use crate::sites::{chan_at, other_end};
@@ -46,11 +46,29 @@ pub enum Place {
     Other,
 }
 
+impl Place {
+    /// The place of the next port at which the same component waits.
+    pub(crate) fn next(self) -> Place
+        ensures { result ≡ next_place self }
+    {
+        match self {
+            Place::Each => Place::Each,
+            _ => Place::Other,
+        }
+    }
+}
+
 impl Wait {
     /// That of a component which has halted, and owes a reply on this channel.
     pub(crate) fn halted(comp: u32, chan: u32) -> Wait
         ensures { result ≡ record {
-            comp = comp; chan = chan; whom = Whom.Nobody; other = 0; mv = Move.Reply; place = Place.Each } }
+          comp = comp;
+          chan = chan;
+          whom = Whom.Nobody;
+          other = 0;
+          mv = Move.Reply;
+          place = Place.Each;
+        } }
     {
         Wait {
             comp,
