@@ -62,6 +62,13 @@ impl Answer {
     }
 }
 
+/// Adds to a list; where memory is refused for it the text is lost.
+pub(crate) fn add<T: Drop>(list: &mut Vec<T>, item: T, text: &mut Text) {
+    if list.push(item).is_err() {
+        text.lose();
+    }
+}
+
 /// Adds lines; of more than forty so many of the first, how many are left out, and so many of the last.
 pub(crate) fn put_cut(lines: &Text, first: usize, last: usize, more: &str, text: &mut Text) {
     let Ok(lines) = lines.whole() else {
