@@ -77,10 +77,10 @@ pub cut_short : (t : Terms) (lists : List (Vec HostCmd Global)) (workers : ℕ) 
 cut_short t lists workers ends old new fault is p = rw is (ends, p)
 
 -- what the reader had is the text
-pub pools_on : (known : Option (List ℕ)) (items : List ℕ) (words : List (List ℕ)) (part : List ℕ) (workers fuel journal : ℕ) (sessions : List (Vec HostCmd Global)) (old new : Option (List ℕ)) (answer : Result (Vec End Global) Fault) → IfSome known (λ xs. items ≡ xs) → length items ≤ input_limit → Spell words (map hosts_of sessions) → PoolsText items part fuel journal sessions workers old new answer → IfSome known (λ text. Pools text words part workers fuel journal old new answer)
-pools_on None items words part workers fuel journal sessions old new answer whole fits are plays = tt
-pools_on (Some xs) items words part workers fuel journal sessions old new answer whole fits are plays =
-    inr (sessions, are, inr (subst (λ text. (length text ≤ input_limit) × PoolsText text part fuel journal sessions workers old new answer) whole (fits, plays)))
+pub pools_on : (known : Option (List ℕ)) (items : List ℕ) (words : List (List ℕ)) (asked : Option (List ℕ)) (workers fuel journal : ℕ) (sessions : List (Vec HostCmd Global)) (old new : Option (List ℕ)) (answer : Result (Vec End Global) Fault) → IfSome known (λ xs. items ≡ xs) → length items ≤ input_limit → Spell words (map hosts_of sessions) → PoolsText items asked fuel journal sessions workers old new answer → IfSome known (λ text. Pools text words asked workers fuel journal old new answer)
+pools_on None items words asked workers fuel journal sessions old new answer whole fits are plays = tt
+pools_on (Some xs) items words asked workers fuel journal sessions old new answer whole fits are plays =
+    inr (sessions, are, inr (subst (λ text. (length text ≤ input_limit) × PoolsText text asked fuel journal sessions workers old new answer) whole (fits, plays)))
 
 -- why a pool came to no close
 pub of_a_pool : (t : Terms) (workers : ℕ) (e : PoolError) → RefusesPool t workers e → IsOfPool t workers (of_pool e)
@@ -105,12 +105,12 @@ same_terms v w l m fuel j k of_wiring of_limit of_sessions =
     ap (λ (x : Wiring). terms x l fuel j) of_wiring ∙ ap (λ (n : ℕ). terms w n fuel j) of_limit ∙ ap (λ (n : ℕ). terms w m fuel n) of_sessions
 
 -- the pool came to no close
-pub no_close : (text part : List ℕ) (fuel journal : ℕ) (lists : List (Vec HostCmd Global)) (workers : ℕ) (w : Wiring) (t : Terms) → Denotes text part w → t ≡ terms w journal fuel (length lists) → (old : Option (List ℕ)) (fault : Fault) (e : PoolError) → RefusesPool t workers e → fault ≡ of_pool e → PoolsText text part fuel journal lists workers old old (Err fault)
-no_close text part fuel journal lists workers w t denotes same old fault e why is =
+pub no_close : (text : List ℕ) (asked : Option (List ℕ)) (fuel journal : ℕ) (lists : List (Vec HostCmd Global)) (workers : ℕ) (w : Wiring) (t : Terms) → Denotes text asked w → t ≡ terms w journal fuel (length lists) → (old : Option (List ℕ)) (fault : Fault) (e : PoolError) → RefusesPool t workers e → fault ≡ of_pool e → PoolsText text asked fuel journal lists workers old old (Err fault)
+no_close text asked fuel journal lists workers w t denotes same old fault e why is =
     let told = of_a_pool (terms w journal fuel (length lists)) workers e (subst (λ (u : Terms). RefusesPool u workers e) same why) in
     inr (w, denotes, inl (subst (λ f. IsOfPool (terms w journal fuel (length lists)) workers f) (sym is) told, keeps_same old))
 
 -- it was closed
-pub closed_so : (text part : List ℕ) (fuel journal : ℕ) (lists : List (Vec HostCmd Global)) (workers : ℕ) (w : Wiring) (t : Terms) (old new : Option (List ℕ)) (answer : Result (Vec End Global) Fault) → Denotes text part w → t ≡ terms w journal fuel (length lists) → WritesClosed t lists workers old new answer → PoolsText text part fuel journal lists workers old new answer
-closed_so text part fuel journal lists workers w t old new answer denotes same writes =
+pub closed_so : (text : List ℕ) (asked : Option (List ℕ)) (fuel journal : ℕ) (lists : List (Vec HostCmd Global)) (workers : ℕ) (w : Wiring) (t : Terms) (old new : Option (List ℕ)) (answer : Result (Vec End Global) Fault) → Denotes text asked w → t ≡ terms w journal fuel (length lists) → WritesClosed t lists workers old new answer → PoolsText text asked fuel journal lists workers old new answer
+closed_so text asked fuel journal lists workers w t old new answer denotes same writes =
     inr (w, denotes, inr (subst (λ (u : Terms). WritesClosed u lists workers old new answer) same writes))

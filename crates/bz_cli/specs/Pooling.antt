@@ -109,16 +109,16 @@ IsOfPool t workers fault = ⊥
 
 -- No net was opened, or the pool came to no close, and nothing went out; or it was closed, on the net that the text denotes,
 -- with a journal of so many entries.
-abbrev pub PoolsText : List ℕ → List ℕ → ℕ → ℕ → List (Vec HostCmd Global) → ℕ → Option (List ℕ) → Option (List ℕ) → Result (Vec End Global) Fault → Type 0
-PoolsText text part fuel journal lists workers old new answer =
-    IsErrAnd answer (λ fault. RefusesNet text part fault × Keeps old new)
-    ⊎ ((w : Wiring) × Denotes text part w
+abbrev pub PoolsText : List ℕ → Option (List ℕ) → ℕ → ℕ → List (Vec HostCmd Global) → ℕ → Option (List ℕ) → Option (List ℕ) → Result (Vec End Global) Fault → Type 0
+PoolsText text asked fuel journal lists workers old new answer =
+    IsErrAnd answer (λ fault. RefusesNet text asked fault × Keeps old new)
+    ⊎ ((w : Wiring) × Denotes text asked w
     × (IsErrAnd answer (λ fault. IsOfPool (terms w journal fuel (length lists)) workers fault × Keeps old new)
     ⊎ WritesClosed (terms w journal fuel (length lists)) lists workers old new answer))
 
 -- The command `pool`: the words are refused; or they spell sessions, and the input is not taken, or they are played on it.
-abbrev pub Pools : List ℕ → List (List ℕ) → List ℕ → ℕ → ℕ → ℕ → Option (List ℕ) → Option (List ℕ) → Result (Vec End Global) Fault → Type 0
-Pools text words part workers fuel journal old new answer =
+abbrev pub Pools : List ℕ → List (List ℕ) → Option (List ℕ) → ℕ → ℕ → ℕ → Option (List ℕ) → Option (List ℕ) → Result (Vec End Global) Fault → Type 0
+Pools text words asked workers fuel journal old new answer =
     IsErrAnd answer (λ fault. RefusesSessions words fault × Keeps old new)
     ⊎ ((sessions : List (Vec HostCmd Global)) × Spell words (map hosts_of sessions)
-    × (StopsAtInput old new answer ⊎ ((length text ≤ input_limit) × PoolsText text part fuel journal sessions workers old new answer)))
+    × (StopsAtInput old new answer ⊎ ((length text ≤ input_limit) × PoolsText text asked fuel journal sessions workers old new answer)))

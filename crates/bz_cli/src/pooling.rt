@@ -2,6 +2,7 @@
 
 ghost use Rattle.std.specs.Prelude.{◌≡◌, ◌≤◌, ◌<◌, ◌+◌, length, map, vec_len, IfOk, IfErr, IfSome, IfNone};
 ghost use Rattle.std.specs.List.{All};
+ghost use Rattle.std.specs.Option.{option_copied};
 ghost use Rattle.bz_locked.specs.Journal.{fired_count};
 ghost use Rattle.bz_model.specs.Nets.{opening};
 ghost use Rattle.bz_model.specs.Runs.{Run};
@@ -44,13 +45,13 @@ impl Gate for Ungated {
     fn after(&self, _worker: u8, _comp: u32) {}
 }
 
-/// Plays each session's words on a part of the netlist that the reader gives, beside workers, each on a thread of its own, and
-/// writes the trace once all have ended. The ends are those of the sessions, then of the workers. An event that was refused is
-/// told by the first end that has one.
+/// Plays each session's words on the net that the netlist denotes which the reader gives, beside workers, each on a thread of
+/// its own, and writes the trace once all have ended. The ends are those of the sessions, then of the workers. An event that was
+/// refused is told by the first end that has one.
 pub fn pool_cmd<R: Read, W: Write, H: Threads + Wait + Sync>(
     rt: &H,
     alloc: Global,
-    part: &[u8],
+    asked: Option<&[u8]>,
     options: PoolOptions,
     words: &[&str],
     input: &mut R,
@@ -58,14 +59,14 @@ pub fn pool_cmd<R: Read, W: Write, H: Threads + Wait + Sync>(
 ) -> Result<Vec<End>, Fault>
     requires workers { (1 ≤ options.workers) × (options.workers ≤ 8) }
     requires journal { (0 < options.journal) × (options.journal ≤ 16777216) }
-    ensures pools { IfSome (R.remaining input.old) (λ text. Pools text (texts words.now) part.now options.workers options.fuel options.journal (W.contents output.old) (W.contents output.new) result) }
+    ensures pools { IfSome (R.remaining input.old) (λ text. Pools text (texts words.now) (option_copied asked.entry) options.workers options.fuel options.journal (W.contents output.old) (W.contents output.new) result) }
 
     // Whatever comes of it, it reads at most one byte past the limit.
     ensures bounded { ReadsWithin (R.remaining input.old) (R.remaining input.new) }
 {
     let sessions = pool_words(alloc, words)?;
     let text = read_input(alloc, input)?;
-    pool_text(rt, alloc, part, options, text.as_slice(), sessions, output)
+    pool_text(rt, alloc, asked, options, text.as_slice(), sessions, output)
 }
 
 // The sessions that the words spell.
@@ -80,11 +81,11 @@ fn pool_words(alloc: Global, words: &[&str]) -> Result<Vec<Vec<HostCmd>>, Fault>
     }
 }
 
-// Plays the sessions on a part of the text, and writes the trace.
+// Plays the sessions on the net that the text denotes, and writes the trace.
 fn pool_text<W: Write, H: Threads + Wait + Sync>(
     rt: &H,
     alloc: Global,
-    part: &[u8],
+    asked: Option<&[u8]>,
     options: PoolOptions,
     text: &[u8],
     sessions: Vec<Vec<HostCmd>>,
@@ -93,9 +94,9 @@ fn pool_text<W: Write, H: Threads + Wait + Sync>(
     requires workers { (1 ≤ options.workers) × (options.workers ≤ 8) }
     requires journal { (0 < options.journal) × (options.journal ≤ 16777216) }
     requires sessions { (1 ≤ vec_len sessions) × (vec_len sessions ≤ 16) }
-    ensures { PoolsText text.now part.now options.fuel options.journal sessions.items options.workers (W.contents output.old) (W.contents output.new) result }
+    ensures { PoolsText text.now (option_copied asked.entry) options.fuel options.journal sessions.items options.workers (W.contents output.old) (W.contents output.new) result }
 {
-    let net = open_net(alloc, part, options.journal, text)?;
+    let net = open_net(alloc, asked, options.journal, text)?;
     let count = sessions.len();
     let pooled = run_pool(
         rt,

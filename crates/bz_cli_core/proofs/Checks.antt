@@ -48,11 +48,12 @@ not_read known had part old input.Memory = whatever known _ (λ netlist. whateve
 pub trace_not_read : (had : Option (List ℕ)) (netlist part : List ℕ) (old : Option (List ℕ)) (f : Fault) → IsOfInput f → IfSome had (λ text. StopsAtInput {E = Bool} old old (Err f) ⊎ ChecksTrace netlist text part old old (Err f))
 trace_not_read had netlist part old f is = whatever had _ (λ text. inl (is, keeps_same old))
 
-pub refused : (netlist trace part : List ℕ) (old : Option (List ℕ)) (e : Fault) → RefusesNet netlist part e → ChecksTrace netlist trace part old old (Err e)
+pub refused : (netlist trace part : List ℕ) (old : Option (List ℕ)) (e : Fault) → RefusesNet netlist (Some part) e → ChecksTrace netlist trace part old old (Err e)
 refused netlist trace part old (fault.Word at) r = absurd r
 refused netlist trace part old (fault.Text e) r = (r, keeps_same old)
 refused netlist trace part old (fault.Part e) r = (r, keeps_same old)
 refused netlist trace part old (fault.Net e name) r = (r, keeps_same old)
+refused netlist trace part old (fault.Top names) r = (r, keeps_same old)
 refused netlist trace part old (fault.Event e word) r = absurd r
 refused netlist trace part old (fault.Ended e who) r = absurd r
 refused netlist trace part old (fault.Discord who at) r = absurd r
@@ -61,11 +62,11 @@ refused netlist trace part old fault.Read r = absurd r
 refused netlist trace part old fault.Write r = absurd r
 refused netlist trace part old fault.Memory r = (r, keeps_same old)
 
-pub net_refused : (had : Option (List ℕ)) (netlist part : List ℕ) (old : Option (List ℕ)) (f : Fault) → RefusesNet netlist part f → IfSome had (λ text. StopsAtInput {E = Bool} old old (Err f) ⊎ ChecksTrace netlist text part old old (Err f))
+pub net_refused : (had : Option (List ℕ)) (netlist part : List ℕ) (old : Option (List ℕ)) (f : Fault) → RefusesNet netlist (Some part) f → IfSome had (λ text. StopsAtInput {E = Bool} old old (Err f) ⊎ ChecksTrace netlist text part old old (Err f))
 net_refused had netlist part old f r = whatever had _ (λ text. inr (refused netlist text part old f r))
 
 -- a verdict that was told is what is answered
-pub told : (netlist trace part : List ℕ) (w : Wiring) (v : Verdict) (counts : Counts) (old new : Option (List ℕ)) (answer : Result Bool Fault) → Denotes netlist part w → Judges w trace v → (v ≡ verdict.Run → CountsRun w trace counts) → TellsVerdict v counts old new answer
+pub told : (netlist trace part : List ℕ) (w : Wiring) (v : Verdict) (counts : Counts) (old new : Option (List ℕ)) (answer : Result Bool Fault) → Denotes netlist (Some part) w → Judges w trace v → (v ≡ verdict.Run → CountsRun w trace counts) → TellsVerdict v counts old new answer
     → ChecksTrace netlist trace part old new answer
 told netlist trace part w v counts old new (Ok answer) net judged counted t = (v, t.0, record { wiring = w; net = net; judged = judged; some = t.1; counts = counts; counted = counted; out = t.2 })
 told netlist trace part w v counts old new (Err fault.Write) net judged counted t = (v, record { wiring = w; net = net; judged = judged; some = t.0; counts = counts; counted = counted; out = t.1 })
@@ -74,6 +75,7 @@ told netlist trace part w v counts old new (Err (fault.Word at)) net judged coun
 told netlist trace part w v counts old new (Err (fault.Text e)) net judged counted t = absurd (let e = t.0 in cc)
 told netlist trace part w v counts old new (Err (fault.Part e)) net judged counted t = absurd (let e = t.0 in cc)
 told netlist trace part w v counts old new (Err (fault.Net e name)) net judged counted t = absurd (let e = t.0 in cc)
+told netlist trace part w v counts old new (Err (fault.Top names)) net judged counted t = absurd (let e = t.0 in cc)
 told netlist trace part w v counts old new (Err (fault.Event e word)) net judged counted t = absurd (let e = t.0 in cc)
 told netlist trace part w v counts old new (Err (fault.Ended e who)) net judged counted t = absurd (let e = t.0 in cc)
 told netlist trace part w v counts old new (Err (fault.Discord who at)) net judged counted t = absurd (let e = t.0 in cc)
@@ -81,7 +83,7 @@ told netlist trace part w v counts old new (Err fault.NoThread) net judged count
 told netlist trace part w v counts old new (Err fault.Read) net judged counted t = absurd (let e = t.0 in cc)
 
 -- of what the reader had both hold
-pub told_read : (had : Option (List ℕ)) (netlist part : List ℕ) (w : Wiring) (v : Verdict) (counts : Counts) (old new : Option (List ℕ)) (answer : Result Bool Fault) → Denotes netlist part w → IfSome had (λ text. Judges w text v) → IfSome had (λ text. v ≡ verdict.Run → CountsRun w text counts) → TellsVerdict v counts old new answer
+pub told_read : (had : Option (List ℕ)) (netlist part : List ℕ) (w : Wiring) (v : Verdict) (counts : Counts) (old new : Option (List ℕ)) (answer : Result Bool Fault) → Denotes netlist (Some part) w → IfSome had (λ text. Judges w text v) → IfSome had (λ text. v ≡ verdict.Run → CountsRun w text counts) → TellsVerdict v counts old new answer
     → IfSome had (λ text. StopsAtInput old new answer ⊎ ChecksTrace netlist text part old new answer)
 told_read None netlist part w v counts old new answer net judged counted t = tt
 told_read (Some text) netlist part w v counts old new answer net judged counted t = inr (told netlist text part w v counts old new answer net judged counted t)

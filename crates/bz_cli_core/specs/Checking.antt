@@ -1,5 +1,5 @@
 -- What the command `check` reads and writes: a netlist, and behind it a trace.
-use Rattle.std.specs.Prelude.{◌≡◌, ◌≢◌, ◌⊎◌, ⊤, ℕ, suc, ◌<◌, ◌≤◌, Bool, true, false, List, [], ◌∷◌, ◌++◌, length, take, drop, codes, decimal, slice_index, Option, Result, Ok, Err}
+use Rattle.std.specs.Prelude.{◌≡◌, ◌≢◌, ◌⊎◌, ⊤, ℕ, suc, ◌<◌, ◌≤◌, Bool, true, false, List, [], ◌∷◌, ◌++◌, length, take, drop, codes, decimal, slice_index, Option, Some, Result, Ok, Err}
 use Rattle.std.specs.Io.KnownBytes.{Appends, Keeps}
 use Rattle.bz_model.specs.Nets.{Wiring}
 use Rattle.bz_trace_text.specs.declared.tally.Counts.{Counts}
@@ -62,7 +62,7 @@ is_run v = false
 -- The netlist denotes a net, this is the verdict on the trace, and it went out as `Out` says.
 pub record Said (netlist trace part : List ℕ) (v : Verdict) (Out : List ℕ → Type 0) : Type 0 where
   pub wiring : Wiring
-  pub net : Denotes netlist part wiring
+  pub net : Denotes netlist (Some part) wiring
   pub judged : Judges wiring trace v
   pub some : v ≢ verdict.Memory
   pub counts : Counts
@@ -78,14 +78,14 @@ TellsVerdict v counts old new (Err fault) = (fault ≡ Memory) × Keeps old new
 
 -- The netlist in front of the trace is refused.
 abbrev pub RefusesNetlist : List ℕ → List ℕ → Fault → Type 0
-RefusesNetlist text part fault = (netlist trace : List ℕ) × Splits text netlist trace × RefusesNet netlist part fault
+RefusesNetlist text part fault = (netlist trace : List ℕ) × Splits text netlist trace × RefusesNet netlist (Some part) fault
 
 -- The verdict went out, and the answer is whether it says that the trace is a run's; where the writer failed, a front of it
 -- went out; where the netlist is refused, nothing.
 abbrev pub ChecksTrace : List ℕ → List ℕ → List ℕ → Option (List ℕ) → Option (List ℕ) → Result Bool Fault → Type 0
 ChecksTrace netlist trace part old new (Ok answer) = (v : Verdict) × (answer ≡ is_run v) × Said netlist trace part v (Appends old new)
 ChecksTrace netlist trace part old new (Err Write) = (v : Verdict) × Said netlist trace part v (AppendsSome old new)
-ChecksTrace netlist trace part old new (Err fault) = RefusesNet netlist part fault × Keeps old new
+ChecksTrace netlist trace part old new (Err fault) = RefusesNet netlist (Some part) fault × Keeps old new
 
 -- The same of a netlist with a trace behind it.
 abbrev pub ChecksText : List ℕ → List ℕ → Option (List ℕ) → Option (List ℕ) → Result Bool Fault → Type 0

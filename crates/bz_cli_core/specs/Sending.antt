@@ -9,7 +9,10 @@ use Rattle.bz_trace_text.specs.Writing.{HasLines, IsGone, first_lines}
 use Rattle.bz_net.specs.Progress.{Progress, IsToldBy, LeadsOn, with_journal}
 use Rattle.bz_net.specs.Simulation.{Simulation}
 use Rattle.bz_cli_core.specs.declared.pending.Pending.{Pending}
-use Rattle.bz_cli_core.specs.declared.playing.Stop.{Stop}
+use Rattle.bz_cli_core.specs.declared.playing.End.{End}
+use Rattle.bz_cli_core.specs.declared.playing.Halt.{Halt}
+use Rattle.bz_cli_core.specs.declared.run.Played.{Played}
+use Rattle.bz_cli_input.specs.declared.fault.Fault.{Fault}
 use Rattle.bz_cli_core.specs.Running.{IsPlayed}
 use Rattle.bz_cli_input.specs.Stopping.{AppendsSome}
 
@@ -42,11 +45,17 @@ pub record RunsOut (old new : Progress) (old_now : Option (List ℕ)) (before : 
   pub leads : LeadsOn old entries new
   pub gone : (ports : List External) (start : Option (List ℕ)) (played : List Entry) → IsGone start old_now before (first_lines ports played) → IsGone start new_now after (first_lines ports (played ++ entries))
 
--- The words were played from the opening on, to their end or up to where they stop, and so their entries are on their way.
-pub record PlaysOut (old new : Progress) (old_now : Option (List ℕ)) (before : Pending) (new_now : Option (List ℕ)) (after : Pending) (cmds : List Cmd) (stop : Option Stop) : Type 0 where
+-- The words were played from the opening on, to their end, up to where they halt, or up to where they stop, and so their entries
+-- are on their way.
+pub record PlaysOut (old new : Progress) (old_now : Option (List ℕ)) (before : Pending) (new_now : Option (List ℕ)) (after : Pending) (strict : Bool) (cmds : List Cmd) (end : End) : Type 0 where
   pub entries : List Entry
-  pub plays : IsPlayed new.wiring old.left cmds stop entries
+  pub plays : IsPlayed new.wiring old.left strict cmds end entries
   pub told : IsToldBy new entries
   pub sent : (start : Option (List ℕ)) → IsSent new.wiring.ports start [] old_now before → IsSent new.wiring.ports start entries new_now after
   pub wiring : new.wiring ≡ old.wiring
   pub left : length entries + new.left ≡ old.left
+
+-- what a play that was lent its net answers, with the net
+abbrev pub with_net : Progress → Result (Option Halt) Fault → Result Played Fault
+with_net net (Ok halt) = Ok (record { net = net; halt = halt })
+with_net net (Err fault) = Err fault

@@ -1,16 +1,20 @@
 //! The command `check`: whether a trace is that of a run of a part's net.
 
-ghost use Rattle.std.specs.Prelude.{◌≡◌, ◌⊎◌, ◌<◌, ◌++◌, MatchBool, OnOk, OnErr, IfSome, length, codes, decimal};
+ghost use Rattle.std.specs.Prelude.{◌≡◌, ◌⊎◌, ◌<◌, ◌++◌, [], Some, MatchBool, OnOk, OnErr, IfOk, IfErr, IfSome, length, codes, decimal};
 ghost use Rattle.std.specs.Io.KnownBytes.{Appends};
 ghost use Rattle.bz_text.specs.Writing.{Writes};
 ghost use Rattle.bz_cli_core.specs.Checking.{BeginsLine, BeginsTrace, BeginsWith, Checks, ChecksApart, ChecksText, ChecksTrace, EndsLine, IsTraceAt, Splits, TellsVerdict, is_run, run_text, verdict_text};
+ghost use Rattle.bz_cli_input.specs.Opening.{Denotes, RefusesNet};
 ghost use Rattle.bz_cli_input.specs.Reading.{ReadsWithin};
+ghost use Rattle.bz_model.specs.Limits.{max_entries};
+ghost use Rattle.bz_net.specs.Progress.{IsToldBy};
 ghost use Rattle.bz_cli_input.specs.Stopping.{AppendsSome, StopsAtInput};
 
 use bz_cli_input::{Fault, flat_of, read_input};
 use bz_model::Value;
+use bz_net::Play;
 use bz_text::{Piece, WriteFault, put_pieces};
-use bz_trace::{Counts, ReadFault, Verdict, check_and_count, check_read};
+use bz_trace::{Counts, MAX_ENTRIES, ReadFault, Verdict, check, check_read};
 use bz_trace_text::strip;
 use std::alloc::Global;
 use std::io::{Read, Write};
@@ -42,11 +46,11 @@ fn check_text<W: Write>(
     ensures { ChecksText text.now part.now (W.contents output.old) (W.contents output.new) result }
 {
     let (netlist, trace) = split_trace(text);
-    let flat = match flat_of(alloc, part, netlist) {
-        Ok(flat) => flat,
+    let mut net = match open_play(alloc, part, netlist) {
+        Ok(net) => net,
         Err(fault) => return Err(fault),
     };
-    let (verdict, counts) = check_and_count(alloc, flat, trace);
+    let (verdict, counts) = check(alloc, &mut net, trace);
     tell(verdict, counts, output)
 }
 
@@ -82,14 +86,28 @@ fn check_netlist<T: Read, W: Write>(
     ensures { IfSome (T.remaining trace.old) (λ text. StopsAtInput (W.contents output.old) (W.contents output.new) result
         ⊎ ChecksTrace netlist.now text part.now (W.contents output.old) (W.contents output.new) result) }
 {
-    let net = match flat_of(alloc, part, netlist) {
-        Ok(flat) => flat,
+    let mut net = match open_play(alloc, part, netlist) {
+        Ok(net) => net,
         Err(why) => return Err(why),
     };
-    match check_read(alloc, net, trace) {
+    match check_read(alloc, &mut net, trace) {
         Ok((verdict, counts)) => tell(verdict, counts, output),
         Err(ReadFault::Read | ReadFault::TooLong) => Err(Fault::Read),
         Err(ReadFault::Memory) => Err(Fault::Memory),
+    }
+}
+
+// The net of a part at its opening, for as many entries as a trace may have.
+fn open_play(alloc: Global, part: &[u8], netlist: &[u8]) -> Result<Play, Fault>
+    ensures denotes { IfOk result (λ net. Denotes netlist.now (Some part.now) net.wiring) }
+    ensures opened { IfOk result (λ net. IsToldBy net []) }
+    ensures left { IfOk result (λ net. net.left ≡ max_entries) }
+    ensures err { IfErr result (RefusesNet netlist.now (Some part.now)) }
+{
+    let flat = flat_of(alloc, Some(part), netlist)?;
+    match Play::open(alloc, flat, MAX_ENTRIES as u32) {
+        Ok(net) => Ok(net),
+        Err(_) => Err(Fault::Memory),
     }
 }
 

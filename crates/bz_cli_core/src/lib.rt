@@ -10,5 +10,5 @@ mod run;
 pub use bz_cli_input::{Fault, INPUT_LIMIT, InputFault, list_cmd, read_input};
 pub use checking::{check_cmd, check_trace_cmd, split_trace};
 pub use open::open_net;
-pub use playing::Stop;
-pub use run::{run_cmd, run_in_pieces, write_out};
+pub use playing::{Halt, Stop};
+pub use run::{Played, run_cmd, run_in_pieces, write_out};

@@ -1,16 +1,16 @@
 //! Words played on a net, and their entries on the way to the writer.
 
-ghost use Rattle.std.specs.Prelude.{◌≡◌, ◌≢◌, ◌≤◌, ◌<◌, [], vec_capacity, OnOk, IfErr};
+ghost use Rattle.std.specs.Prelude.{◌≡◌, ◌≢◌, ◌≤◌, ◌<◌, [], None, if◌then◌else◌, vec_capacity, IfOk, IfErr};
 ghost use Rattle.bz_model.specs.declared.event.Cmd.TheVariants as word;
 ghost use Rattle.bz_model.specs.declared.event.Who.TheVariants as who;
 ghost use Rattle.bz_net.specs.Progress.{IsToldBy};
 ghost use Rattle.bz_net.specs.Running.{Ran};
 ghost use Rattle.bz_cli_core.specs.Playing.{PlaysOne, StopsOne};
-ghost use Rattle.bz_cli_core.specs.Running.{stop_of};
+ghost use Rattle.bz_cli_core.specs.Running.{refusal_in};
 ghost use Rattle.bz_cli_core.specs.Sending.{GoesOut, PlaysOut, RunsOut};
 
 use crate::pending::Pending;
-use bz_model::{Cmd, Entry, HostCmd, NetError, Who};
+use bz_model::{Cmd, Entry, HostCmd, NetError, Reply, Who};
 use bz_net::{Play, RunEnd};
 use bz_trace_text::Outgoing;
 use std::io::Write;
@@ -22,44 +22,66 @@ pub struct Stop {
     pub error: NetError,
 }
 
-// Plays the words on a net that was just opened, host words as host 1 and firings as worker 1. A writer that fails doesn't end
-// the play.
+/// Where a strict play halted: at this word, counted from 1, a host command whose reply is a refusal.
+#[derive(Clone, Copy, Debug, PartialEq, Eq)]
+pub struct Halt {
+    pub word: usize,
+    pub reply: Reply,
+}
+
+/// How a play ended: all words were played, or it halted, or it stopped.
+#[derive(Clone, Copy)]
+pub(crate) enum End {
+    All,
+    Halt(Halt),
+    Stop(Stop),
+}
+
+// Plays the words on a net that was just opened, host words as host 1 and firings as worker 1. A strict play halts at the first
+// refusal. A writer that fails doesn't end the play.
 pub(crate) fn play_out<W: Write>(
     play: &mut Play,
+    strict: bool,
     cmds: &[Cmd],
     pending: &mut Pending,
     lines: &mut Outgoing,
     out: &mut W,
-) -> Result<(), Stop>
+) -> End
     requires told { IsToldBy play.old [] }
     requires room { 0 < vec_capacity pending.old.entries }
-    ensures plays { PlaysOut play.old play.new (W.contents out.old) pending.old (W.contents out.new) pending.new cmds.now (stop_of result) }
-    ensures memory { IfErr result (λ stop. stop.error ≢ NetError.Memory) }
+    ensures plays { PlaysOut play.old play.new (W.contents out.old) pending.old (W.contents out.new) pending.new strict cmds.now result }
+    ensures memory { (stop : Stop) → result ≡ End.Stop stop → stop.error ≢ NetError.Memory }
 {
     for (place, cmd) in cmds.iter().enumerate() {
-        match word_out(play, cmd, pending, lines, out) {
-            Ok(()) => {}
-            Err(error) => {
-                return Err(Stop {
-                    word: place + 1,
-                    error,
-                });
-            }
+        let word = place + 1;
+        let refusal = match word_out(play, cmd, pending, lines, out) {
+            Ok(refusal) => refusal,
+            Err(error) => return End::Stop(Stop { word, error }),
+        };
+        if let Some(reply) = halting(strict, refusal) {
+            return End::Halt(Halt { word, reply });
         }
     }
-    Ok(())
+    End::All
 }
 
-// Plays one word.
+// The refusal at which a play halts, if it does.
+fn halting(strict: bool, refusal: Option<Reply>) -> Option<Reply>
+    ensures { result ≡ (if strict then refusal else None) }
+{
+    if strict { refusal } else { None }
+}
+
+// Plays one word: the reply to it that is a refusal, if one is.
 fn word_out<W: Write>(
     play: &mut Play,
     cmd: &Cmd,
     pending: &mut Pending,
     lines: &mut Outgoing,
     out: &mut W,
-) -> Result<(), NetError>
+) -> Result<Option<Reply>, NetError>
     requires { 0 < vec_capacity pending.old.entries }
-    ensures ok { OnOk result (GoesOut play.old play.new (W.contents out.old) pending.old (W.contents out.new) pending.new (λ old new. PlaysOne old new cmd.now)) }
+    ensures ok { IfOk result (λ refusal. GoesOut play.old play.new (W.contents out.old) pending.old (W.contents out.new) pending.new (λ old new. PlaysOne old new cmd.now refusal)) }
     ensures err { IfErr result (λ e. GoesOut play.old play.new (W.contents out.old) pending.old (W.contents out.new) pending.new (λ old new. StopsOne old new cmd.now e)) }
     ensures memory { IfErr result (λ e. e ≢ NetError.Memory) }
     ensures room { vec_capacity pending.old.entries ≤ vec_capacity pending.new.entries }
@@ -67,22 +89,22 @@ fn word_out<W: Write>(
     match cmd {
         Cmd::Host(cmd) => command_out(play, cmd, pending, out),
         Cmd::Run(fuel) => match run_out(play, *fuel, pending, lines, out) {
-            RunEnd::Rest(_) => Ok(()),
-            RunEnd::Spent(_) => Ok(()),
+            RunEnd::Rest(_) => Ok(None),
+            RunEnd::Spent(_) => Ok(None),
             RunEnd::Refused(_, error) => Err(error),
         },
     }
 }
 
-// Makes a host command.
+// Makes a host command: the reply to it, if it is a refusal.
 fn command_out<W: Write>(
     play: &mut Play,
     cmd: &HostCmd,
     pending: &mut Pending,
     out: &mut W,
-) -> Result<(), NetError>
+) -> Result<Option<Reply>, NetError>
     requires { 0 < vec_capacity pending.old.entries }
-    ensures ok { OnOk result (GoesOut play.old play.new (W.contents out.old) pending.old (W.contents out.new) pending.new (λ old new. PlaysOne old new (word.Host cmd.now))) }
+    ensures ok { IfOk result (λ refusal. GoesOut play.old play.new (W.contents out.old) pending.old (W.contents out.new) pending.new (λ old new. PlaysOne old new (word.Host cmd.now) refusal)) }
     ensures err { IfErr result (λ e. GoesOut play.old play.new (W.contents out.old) pending.old (W.contents out.new) pending.new (λ old new. StopsOne old new (word.Host cmd.now) e)) }
     ensures memory { IfErr result (λ e. e ≢ NetError.Memory) }
     ensures room { vec_capacity pending.old.entries ≤ vec_capacity pending.new.entries }
@@ -91,9 +113,22 @@ fn command_out<W: Write>(
     match play.command(Who::Host(1), cmd) {
         Ok(entry) => {
             pending.entries.push(entry).unwrap();
-            Ok(())
+            Ok(refusal_in(entry))
         }
         Err(error) => Err(error),
+    }
+}
+
+// The reply of a host command that did nothing.
+fn refusal_in(entry: Entry) -> Option<Reply>
+    ensures { result ≡ refusal_in entry }
+{
+    match entry {
+        Entry::Host { reply, .. } => match reply {
+            Reply::Busy(_) | Reply::NotYet | Reply::NotTaken(_) => Some(reply),
+            Reply::Done | Reply::Value(_) | Reply::Watched(_) => None,
+        },
+        Entry::Fired { .. } | Entry::Rested { .. } => None,
     }
 }
 

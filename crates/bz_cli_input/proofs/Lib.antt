@@ -6,3 +6,4 @@ pub mod Lines
 pub mod ShortWords
 pub mod Marked
 mod Users
+mod Chosen

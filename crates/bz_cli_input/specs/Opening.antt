@@ -14,6 +14,7 @@ use Rattle.bz_flat.specs.declared.error.ElabError.TheVariants.{Recursive, Unknow
 use Rattle.bz_elab.specs.Refusals.{Applies, Elaborated}
 use Rattle.bz_elab.specs.Order.{Refuses}
 use Rattle.bz_model.specs.Nets.{Wiring}
+use Rattle.bz_cli_input.specs.Choosing.{Chooses, RefusesChoice}
 use Rattle.bz_cli_input.specs.declared.fault.Fault.{Fault}
 use Rattle.bz_cli_input.specs.declared.fault.Fault.TheVariants as fault
 
@@ -21,20 +22,20 @@ use Rattle.bz_cli_input.specs.declared.fault.Fault.TheVariants as fault
 abbrev pub IsSound : List Part → List ℕ → Type 0
 IsSound listed name = (e : ElabError) → Applies listed name e → ⊥
 
--- The text spells data, the data name parts, and the part of this name has this net. No refusal applies to it.
-pub record Denotes (text name : List ℕ) (w : Wiring) : Type 0 where
-  pub forms : List Datum
-  pub spelt : ComesTo text (data_are forms)
-  pub listed : List Part
-  pub read : parts forms ≡ Ok (map part_record listed)
-  pub net : Elaborated listed name w
-  pub sound : IsSound listed name
-
 -- The text spells data that name these parts.
 pub record NamesParts (text : List ℕ) (listed : List Part) : Type 0 where
   pub forms : List Datum
   pub spelt : ComesTo text (data_are forms)
   pub read : parts forms ≡ Ok (map part_record listed)
+
+-- The text names parts, and the one of them that is opened has this net. No refusal applies to it.
+pub record Denotes (text : List ℕ) (asked : Option (List ℕ)) (w : Wiring) : Type 0 where
+  pub listed : List Part
+  pub names : NamesParts text listed
+  pub name : List ℕ
+  pub chosen : Chooses listed asked name
+  pub net : Elaborated listed name w
+  pub sound : IsSound listed name
 
 -- the number, from 0, of the part that a refusal is in, where it is in one
 abbrev pub part_in : ElabError → Option ℕ
@@ -47,29 +48,31 @@ part_in (KindMismatch n i) = Some n
 part_in (WidthMismatch n i) = Some n
 part_in e = None
 
--- the name of that part, else the name asked for
+-- the name of that part, else that of the part that is opened
 abbrev pub name_told : List Part → List ℕ → ElabError → List ℕ
-name_told listed asked e = unwrap_or (option_map (λ part. part.name.items) (option_and_then (slice_get listed) (part_in e))) asked
+name_told listed name e = unwrap_or (option_map (λ part. part.name.items) (option_and_then (slice_get listed) (part_in e))) name
 
--- Why a text denotes no net of this name: it spells no data; its data name no parts, and of their faults none stands at a
--- lesser byte; the part has no net. Of memory that was refused nothing is said, and nothing else is a reason.
-abbrev pub RefusesNet : List ℕ → List ℕ → Fault → Type 0
-RefusesNet text name (fault.Text e) = MatchOption (outcome_of (Err e)) ⊥ (ComesTo text)
-RefusesNet text name (fault.Part e) = (forms : List Datum) × ComesTo text (data_are forms) × Tells (parts forms) e × MatchOption (fault_of e) ⊥ (IsLeast forms)
-RefusesNet text name (fault.Net e part) =
-    (forms : List Datum) × ComesTo text (data_are forms)
-    × ((listed : List Part) × (parts forms ≡ Ok (map part_record listed)) × Refuses listed name e × (part.items ≡ name_told listed name e))
-RefusesNet text name fault.Memory = ⊤
-RefusesNet text name fault = ⊥
-
--- Why a text names no parts, and why one of these parts has no net.
+-- Why a text names no parts: it spells no data; or its data name none, and of their faults none stands at a lesser byte. Of
+-- memory that was refused nothing is said, here and below.
 abbrev pub RefusesText : List ℕ → Fault → Type 0
 RefusesText text (fault.Text e) = MatchOption (outcome_of (Err e)) ⊥ (ComesTo text)
 RefusesText text (fault.Part e) = (forms : List Datum) × ComesTo text (data_are forms) × Tells (parts forms) e × MatchOption (fault_of e) ⊥ (IsLeast forms)
 RefusesText text fault.Memory = ⊤
 RefusesText text fault = ⊥
 
+-- why the part of this name has no net
 abbrev pub RefusesPart : List Part → List ℕ → Fault → Type 0
 RefusesPart listed name (fault.Net e part) = Refuses listed name e × (part.items ≡ name_told listed name e)
 RefusesPart listed name fault.Memory = ⊤
 RefusesPart listed name fault = ⊥
+
+-- Why a text denotes no net: it names no parts; none of them is opened; or the one that is opened has no net. Nothing else is a
+-- reason.
+abbrev pub RefusesNet : List ℕ → Option (List ℕ) → Fault → Type 0
+RefusesNet text asked (fault.Text e) = RefusesText text (fault.Text e)
+RefusesNet text asked (fault.Part e) = RefusesText text (fault.Part e)
+RefusesNet text asked (fault.Top names) = (listed : List Part) × NamesParts text listed × RefusesChoice listed asked (fault.Top names)
+RefusesNet text asked (fault.Net e part) =
+    (listed : List Part) × NamesParts text listed × ((name : List ℕ) × Chooses listed asked name × RefusesPart listed name (fault.Net e part))
+RefusesNet text asked fault.Memory = ⊤
+RefusesNet text asked fault = ⊥

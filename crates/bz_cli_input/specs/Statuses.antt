@@ -7,7 +7,7 @@ use Rattle.bz_breeze.specs.declared.error.BreezeError.TheVariants as part
 use Rattle.bz_words.specs.declared.words.SessionError.{SessionError}
 use Rattle.bz_words.specs.declared.words.SessionError.TheVariants as session
 use Rattle.bz_cli_input.specs.declared.fault.Fault.{Fault}
-use Rattle.bz_cli_input.specs.declared.fault.Fault.TheVariants.{Word, Text, Part, Net, Event, Ended, Discord, NoThread, Read, Write, Memory}
+use Rattle.bz_cli_input.specs.declared.fault.Fault.TheVariants.{Word, Text, Part, Top, Net, Event, Ended, Discord, NoThread, Read, Write, Memory}
 use Rattle.bz_cli_input.specs.declared.input.InputFault.{InputFault}
 use Rattle.bz_cli_input.specs.declared.input.InputFault.TheVariants as input
 
@@ -16,6 +16,7 @@ status_of (Text e) = 1
 status_of (Part e) = 1
 status_of (Net e part) = 1
 status_of (Word at) = 2
+status_of (Top names) = 2
 status_of (Event e word) = 3
 status_of (Ended e who) = 3
 status_of (Discord who at) = 3

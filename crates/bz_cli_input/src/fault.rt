@@ -14,6 +14,9 @@ use bz_words::SessionError;
 use std::alloc::{AllocError, AllocFailed};
 use std::fmt;
 
+/// The most names of parts in a line.
+const MOST_NAMES: usize = 10;
+
 /// Why a command failed. A want of memory is `Memory`, whichever layer met it.
 #[derive(Debug, Drop)]
 pub enum Fault {
@@ -23,7 +26,9 @@ pub enum Fault {
     Text(SexprError),
     /// A part of the netlist is at fault.
     Part(BreezeError),
-    /// The part asked for has no net; `part` is the name of the part that the refusal is in, or else the name asked for.
+    /// No part is named, and not just one is used by no other. These are the names of those that are not, in the order of the text.
+    Top(Vec<Vec<u8>>),
+    /// The part that is opened has no net; `part` is the name of the part that the refusal is in, or else of the one that is opened.
     Net { error: ElabError, part: Vec<u8> },
     /// An event of this word, counted from 1, was refused.
     Event { error: NetError, word: usize },
@@ -42,14 +47,15 @@ pub enum Fault {
 }
 
 impl Fault {
-    /// The exit status of a program that ends with this fault: 1 where the netlist is refused, 2 where a word is bad, 3 for
-    /// anything else.
+    /// The exit status of a program that ends with this fault: 1 where the netlist is refused, 2 where a word is bad or a part would
+    /// have to be named, 3 for anything else.
     pub fn status(&self) -> u8
         ensures { result ≡ status_of self.now }
     {
         match self {
             Fault::Text(_) | Fault::Part(_) | Fault::Net { .. } => 1,
             Fault::Word(_) => 2,
+            Fault::Top(_) => 2,
             Fault::Event { .. } | Fault::Ended { .. } | Fault::Discord { .. } => 3,
             Fault::NoThread | Fault::Read | Fault::Write | Fault::Memory => 3,
         }
@@ -134,6 +140,7 @@ impl fmt::Display for Fault {
                 Some(place) => write!(f, "{error} {} {}", name_at(place), place.at),
                 None => write!(f, "{error}"),
             },
+            Fault::Top(names) => show_tops(names.as_slice(), f),
             Fault::Net { error, part } => show_net_error(*error, NameForm(part.as_slice()), f),
             Fault::Event { error, word } => write!(f, "{error} word {word}"),
             Fault::Ended { error, who } => write!(f, "{error} {}", Letter(*who)),
@@ -165,6 +172,22 @@ fn name_at(place: &ByteAt) -> NameForm<'_> {
         Some(name) => NameForm(name.as_slice()),
         None => NameForm(&[]),
     }
+}
+
+// The names of the parts that no other uses, where not just one is, and none is named.
+fn show_tops<W: fmt::Write>(names: &[Vec<u8>], f: &mut fmt::Formatter<W>) -> fmt::Result {
+    if names.is_empty() {
+        return f.write_str("--part is missing, and the netlist has no part that no other uses");
+    }
+    f.write_str("--part is missing, and no other part uses any of these:")?;
+    for name in names.iter().take(MOST_NAMES) {
+        write!(f, " {}", NameForm(name.as_slice()))?;
+    }
+    let more = names.len().saturating_sub(MOST_NAMES);
+    if more > 0 {
+        write!(f, " and {more} more")?;
+    }
+    Ok(())
 }
 
 // A refusal of elaboration, with the part told by its name.

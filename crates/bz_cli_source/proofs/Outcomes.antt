@@ -31,37 +31,37 @@ use Rattle.bz_source.specs.Views.{part_lines_of}
 use Rattle.bz_cli_source.specs.PartLists.{ListsParts, Tells, TellsParts, parts_text}
 
 -- what the reader had is the text
-pub lists_on : {A : Type 0} (known : Option (List ℕ)) (items part : List ℕ) (old new : Option (List ℕ)) (answer : Result A Fault) → IfSome known (λ xs. items ≡ xs) → length items ≤ input_limit → ListsPaths items part old new answer
-    → IfSome known (λ text. Lists text part old new answer)
-lists_on None items part old new answer whole fits lists = tt
-lists_on (Some xs) items part old new answer whole fits lists = inr (subst (λ text. (length text ≤ input_limit) × ListsPaths text part old new answer) whole (fits, lists))
+pub lists_on : {A : Type 0} (known : Option (List ℕ)) (items : List ℕ) (asked old new : Option (List ℕ)) (answer : Result A Fault) → IfSome known (λ xs. items ≡ xs) → length items ≤ input_limit → ListsPaths items asked old new answer
+    → IfSome known (λ text. Lists text asked old new answer)
+lists_on None items asked old new answer whole fits lists = tt
+lists_on (Some xs) items asked old new answer whole fits lists = inr (subst (λ text. (length text ≤ input_limit) × ListsPaths text asked old new answer) whole (fits, lists))
 
--- what was read, with the places of the net
-pub surveyed : (text part : List ℕ) (w : Wiring) (listed : List Part) (lines : Vec PartLines Global) (s : Survey) → s.parts ≡ listed → s.lines ≡ lines → IsRead text part w listed lines.items → Locates listed part s.places → FindsNamed listed part s.places
-    → IsSurvey text part w s
-surveyed text part w listed lines s parts_are lines_are read places named = record {
-  source = subst (λ p. IsRead text part w p s.lines.items) (sym parts_are) (subst (λ (l : Vec PartLines Global). IsRead text part w listed l.items) (sym lines_are) read);
-  places = subst (λ p. Locates p part s.places) (sym parts_are) places;
-  named = subst (λ p. FindsNamed p part s.places) (sym parts_are) named;
-}
+module _ (text : List ℕ) (asked : Option (List ℕ)) (name : List ℕ) (w : Wiring) (listed : List Part) where
+  -- what was read, with the places of the net
+  pub surveyed : (lines : Vec PartLines Global) (s : Survey) → s.parts ≡ listed → s.lines ≡ lines → IsRead text asked name w listed lines.items → Locates listed name s.places → FindsNamed listed name s.places → IsSurvey text asked name w s
+  surveyed lines s parts_are lines_are read places named = record {
+    source = subst (λ p. IsRead text asked name w p s.lines.items) (sym parts_are) (subst (λ (l : Vec PartLines Global). IsRead text asked name w listed l.items) (sym lines_are) read);
+    places = subst (λ p. Locates p name s.places) (sym parts_are) places;
+    named = subst (λ p. FindsNamed p name s.places) (sym parts_are) named;
+  }
 
--- a net that was read has places
-pub no_miss : (text part : List ℕ) (w : Wiring) (listed : List Part) (lines : List PartLines) (e : PlacesError) → IsRead text part w listed lines → (e ≡ Memory) ⊎ Misses listed part e → e ≢ Memory → ⊥
-no_miss text part w listed lines e read (inl wanting) some = some wanting
-no_miss text part w listed lines e read (inr misses) some = never_misses listed part w e read.net misses
+  -- a net that was read has places
+  pub no_miss : (lines : List PartLines) (e : PlacesError) → IsRead text asked name w listed lines → (e ≡ Memory) ⊎ Misses listed name e → e ≢ Memory → ⊥
+  no_miss lines e read (inl wanting) some = some wanting
+  no_miss lines e read (inr misses) some = never_misses listed name w e read.net misses
 
--- a net that was taken apart stands where its survey says
-pub placed : (text part : List ℕ) (w : Wiring) (net : Pieces) (s : Survey) → w ≡ wiring_in net → IsSurvey text part w s → WellWired (wiring_in net) → EndsOf (wiring_in net) net.ends.items → IsPlaced text part net s
-placed text part w net s same survey wired ends = record { survey = subst (λ v. IsSurvey text part v s) same survey; wired = wired; ends = ends }
+module _ (text : List ℕ) (asked : Option (List ℕ)) (name : List ℕ) (net : Pieces) (s : Survey) where
+  -- a net that was taken apart stands where its survey says
+  pub placed : (w : Wiring) → w ≡ wiring_in net → IsSurvey text asked name w s → WellWired (wiring_in net) → EndsOf (wiring_in net) net.ends.items → IsPlaced text asked name net s
+  placed w same survey wired ends = record { survey = subst (λ v. IsSurvey text asked name v s) same survey; wired = wired; ends = ends }
 
--- all went out
-pub listed : {A : Type 0} (text part : List ℕ) (net : Pieces) (s : Survey) (old new : Option (List ℕ)) (u : A) → IsPlaced text part net s → Appends old new (paths_text net s part) → ListsPaths {E = A} text part old new (Ok u)
-listed text part net s old new u is out = inr (net, s, is, out)
+  -- all went out
+  pub listed : {A : Type 0} (old new : Option (List ℕ)) (u : A) → IsPlaced text asked name net s → Appends old new (paths_text net s name) → ListsPaths {E = A} text asked old new (Ok u)
+  listed old new u is out = inr (name, net, s, is, out)
 
--- the writer failed
-pub cut_short : (A : Type 0) (text part : List ℕ) (net : Pieces) (s : Survey) (old new : Option (List ℕ)) (fault : Fault) → fault ≡ Write → IsPlaced text part net s → AppendsSome old new (paths_text net s part)
-    → ListsPaths {E = A} text part old new (Err fault)
-cut_short A text part net s old new fault is placed out = rw is (inr (net, s, placed, out))
+  -- the writer failed
+  pub cut_short : (A : Type 0) (old new : Option (List ℕ)) (fault : Fault) → fault ≡ Write → IsPlaced text asked name net s → AppendsSome old new (paths_text net s name) → ListsPaths {E = A} text asked old new (Err fault)
+  cut_short A old new fault is placed out = rw is (inr (name, net, s, placed, out))
 
 -- the same of the parts of a text
 pub parts_on : {A : Type 0} (known : Option (List ℕ)) (items : List ℕ) (old new : Option (List ℕ)) (answer : Result A Fault) → IfSome known (λ xs. items ≡ xs) → length items ≤ input_limit → TellsParts items old new answer → IfSome known (λ text. ListsParts text old new answer)

@@ -8,11 +8,11 @@ use Rattle.bz_cli_input.specs.Stopping.{AppendsSome}
 use Rattle.bz_draw.specs.Drawing.{Draws, DrawsText, HasNet, IsWhole}
 
 -- what the reader had is the text
-pub draws_on : {A : Type 0} (known : Option (List ℕ)) (items part : List ℕ) (old new : Option (List ℕ)) (answer : Result (Option A) Fault) → IfSome known (λ xs. items ≡ xs) → length items ≤ input_limit → DrawsText items part old new answer
-    → IfSome known (λ text. Draws text part old new answer)
-draws_on None items part old new answer whole fits draws = tt
-draws_on (Some xs) items part old new answer whole fits draws = inr (subst (λ text. (length text ≤ input_limit) × DrawsText text part old new answer) whole (fits, draws))
+pub draws_on : {A : Type 0} (known : Option (List ℕ)) (items : List ℕ) (asked old new : Option (List ℕ)) (answer : Result (Option A) Fault) → IfSome known (λ xs. items ≡ xs) → length items ≤ input_limit → DrawsText items asked old new answer
+    → IfSome known (λ text. Draws text asked old new answer)
+draws_on None items asked old new answer whole fits draws = tt
+draws_on (Some xs) items asked old new answer whole fits draws = inr (subst (λ text. (length text ≤ input_limit) × DrawsText text asked old new answer) whole (fits, draws))
 
 -- the writer failed
-pub cut_short : (A : Type 0) (text part graph : List ℕ) (old new : Option (List ℕ)) (fault : Fault) → fault ≡ Write → HasNet text part → IsWhole graph → AppendsSome old new graph → DrawsText {N = A} text part old new (Err fault)
-cut_short A text part graph old new fault is net whole out = rw is (inr (net, (graph, whole, out)))
+pub cut_short : (A : Type 0) (text graph : List ℕ) (asked old new : Option (List ℕ)) (fault : Fault) → fault ≡ Write → HasNet text asked → IsWhole graph → AppendsSome old new graph → DrawsText {N = A} text asked old new (Err fault)
+cut_short A text graph asked old new fault is net whole out = rw is (inr (net, (graph, whole, out)))

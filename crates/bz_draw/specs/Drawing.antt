@@ -8,9 +8,9 @@ use Rattle.bz_cli_input.specs.Limits.{input_limit}
 use Rattle.bz_cli_input.specs.Opening.{Denotes, RefusesNet}
 use Rattle.bz_cli_input.specs.Stopping.{AppendsSome, StopsAtInput}
 
--- the text denotes a net of this name
-abbrev pub HasNet : List ℕ → List ℕ → Type 0
-HasNet text part = (w : Wiring) × Denotes text part w
+-- the text denotes a net
+abbrev pub HasNet : List ℕ → Option (List ℕ) → Type 0
+HasNet text asked = (w : Wiring) × Denotes text asked w
 
 -- a graph goes on to the line that closes it
 abbrev pub IsWhole : List ℕ → Type 0
@@ -24,11 +24,11 @@ DrawsNet old new (Err Write) = (graph : List ℕ) × IsWhole graph × AppendsSom
 DrawsNet old new (Err fault) = ⊥
 
 -- The netlist is refused, or memory was, and nothing went out; or a graph of the net that it denotes did.
-abbrev pub DrawsText : {N : Type 0} → List ℕ → List ℕ → Option (List ℕ) → Option (List ℕ) → Result (Option N) Fault → Type 0
-DrawsText text part old new answer =
-    IsErrAnd answer (λ fault. RefusesNet text part fault × Keeps old new)
-    ⊎ (HasNet text part × DrawsNet old new answer)
+abbrev pub DrawsText : {N : Type 0} → List ℕ → Option (List ℕ) → Option (List ℕ) → Option (List ℕ) → Result (Option N) Fault → Type 0
+DrawsText text asked old new answer =
+    IsErrAnd answer (λ fault. RefusesNet text asked fault × Keeps old new)
+    ⊎ (HasNet text asked × DrawsNet old new answer)
 
 -- The command `draw`: the input is not taken, or its net is drawn.
-abbrev pub Draws : {N : Type 0} → List ℕ → List ℕ → Option (List ℕ) → Option (List ℕ) → Result (Option N) Fault → Type 0
-Draws text part old new answer = StopsAtInput old new answer ⊎ ((length text ≤ input_limit) × DrawsText text part old new answer)
+abbrev pub Draws : {N : Type 0} → List ℕ → Option (List ℕ) → Option (List ℕ) → Option (List ℕ) → Result (Option N) Fault → Type 0
+Draws text asked old new answer = StopsAtInput old new answer ⊎ ((length text ≤ input_limit) × DrawsText text asked old new answer)

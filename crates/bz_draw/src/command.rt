@@ -1,6 +1,7 @@
 //! The command `draw`.
 
 ghost use Rattle.std.specs.Prelude.{IfErr, IfOk, IfSome, OnErr, OnOk};
+ghost use Rattle.std.specs.Option.{option_copied};
 ghost use Rattle.std.specs.Io.KnownBytes.{Appends};
 ghost use Rattle.bz_flat.specs.Wires.{EndsOf, WellWired};
 ghost use Rattle.bz_cli_input.specs.Opening.{RefusesNet};
@@ -23,35 +24,35 @@ use bz_text::{Text, WriteFault, put};
 use std::alloc::{AllocError, Global};
 use std::io::{Read, Write};
 
-/// Draws the net of a part of the netlist that the reader gives, or answers why there is no such drawing. Then nothing is
+/// Draws the net that the netlist denotes which the reader gives, or answers why there is no such drawing. Then nothing is
 /// written, nor where the netlist is refused.
 pub fn draw_cmd<R: Read, W: Write>(
     alloc: Global,
-    part: &[u8],
+    asked: Option<&[u8]>,
     view: View,
     input: &mut R,
     output: &mut W,
 ) -> Result<Option<NoDrawing>, Fault>
-    ensures draws { IfSome (R.remaining input.old) (λ text. Draws text part.now (W.contents output.old) (W.contents output.new) result) }
+    ensures draws { IfSome (R.remaining input.old) (λ text. Draws text (option_copied asked.entry) (W.contents output.old) (W.contents output.new) result) }
 
     // Whatever comes of it, it reads at most one byte past the limit.
     ensures bounded { ReadsWithin (R.remaining input.old) (R.remaining input.new) }
 {
     let text = read_input(alloc, input)?;
-    draw_text(alloc, part, view, text.as_slice(), output)
+    draw_text(alloc, asked, view, text.as_slice(), output)
 }
 
-// Draws the net of a part of the text. The graph is made whole before any of it goes out.
+// Draws the net that the text denotes. The graph is made whole before any of it goes out.
 fn draw_text<W: Write>(
     alloc: Global,
-    part: &[u8],
+    asked: Option<&[u8]>,
     view: View,
     text: &[u8],
     output: &mut W,
 ) -> Result<Option<NoDrawing>, Fault>
-    ensures { DrawsText text.now part.now (W.contents output.old) (W.contents output.new) result }
+    ensures { DrawsText text.now (option_copied asked.entry) (W.contents output.old) (W.contents output.new) result }
 {
-    let graph = match graph_of(alloc, part, view, text)? {
+    let graph = match graph_of(alloc, asked, view, text)? {
         Ok(graph) => graph,
         Err(why) => return Ok(Some(why)),
     };
@@ -59,18 +60,18 @@ fn draw_text<W: Write>(
     Ok(None)
 }
 
-// The graph of the net of a part of the text.
+// The graph of the net that the text denotes.
 fn graph_of(
     alloc: Global,
-    part: &[u8],
+    asked: Option<&[u8]>,
     view: View,
     text: &[u8],
 ) -> Result<Result<Text, NoDrawing>, Fault>
-    ensures net { IfOk result (λ graph. HasNet text.now part.now) }
+    ensures net { IfOk result (λ graph. HasNet text.now (option_copied asked.entry)) }
     ensures whole { IfOk result (λ made. IfOk made (λ graph. IfSome graph IsWhole)) }
-    ensures err { IfErr result (RefusesNet text.now part.now) }
+    ensures err { IfErr result (RefusesNet text.now (option_copied asked.entry)) }
 {
-    let (flat, survey) = survey_of(alloc, part, text)?;
+    let (flat, survey, name) = survey_of(alloc, asked, text)?;
     let net = flat.into_pieces();
     match drawing_at(alloc, &net, &survey.places, view)? {
         Ok(drawing) => {
@@ -81,7 +82,7 @@ fn graph_of(
                 drawing: &drawing,
             };
             let mut graph = Text::new(alloc);
-            put_graph(&mut graph, part, scene);
+            put_graph(&mut graph, name.as_slice(), scene);
             Ok(Ok(graph))
         }
         Err(why) => Ok(Err(why)),

@@ -35,6 +35,7 @@ pub(crate) fn told_of(fault: &Fault) -> Option<&'static str> {
         Fault::Text(_)
         | Fault::Word(_)
         | Fault::Part(_)
+        | Fault::Top(_)
         | Fault::Net { .. }
         | Fault::Event { .. }
         | Fault::Ended { .. } => None,

@@ -11,12 +11,17 @@ use bz_text::WriteFault;
 use std::alloc::Global;
 use std::io::Write;
 
-/// Tells a fault by its line, and behind that by the notes that were gathered, if any were asked for. Answers the exit status of
+/// Tells a fault by its line, and after that by the notes that were gathered, if any were asked for. Answers the exit status of
 /// the fault.
 pub fn tell<W: Write>(alloc: Global, fault: &Fault, notes: Option<&Draft>, out: &mut W) -> u8
     ensures { result ≡ status_of fault.now }
 {
-    let _ = writeln!(out, "breezesim: {fault}");
+    // (a part that would have to be named is an error of the command line)
+    let front = match fault {
+        Fault::Top(_) => "error",
+        _ => "breezesim",
+    };
+    let _ = writeln!(out, "{front}: {fault}");
     if let Some(notes) = notes {
         let _ = tell_notes(alloc, notes, out);
     }

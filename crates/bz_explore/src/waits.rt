@@ -89,7 +89,7 @@ pub(crate) fn put_chain(view: &View<'_>, comp: u32, text: &mut Text) {
 fn put_hung(view: &View<'_>, comp: u32, lines: &mut Text) -> Result<(), AllocError> {
     let (alloc, core) = (lines.alloc(), view.course.net().core());
     let graph = Graph::of(alloc, core)?;
-    let mut met = Table::new(alloc, core.comp_count() as u32)?;
+    let mut met = Table::new(alloc, core.comp_count())?;
     for number in &graph.hung(alloc, comp, &mut met)? {
         put_standing(view, &graph, *number, lines);
     }

@@ -1,9 +1,9 @@
 //! A component: where its ports are, and the values that it keeps.
 
-ghost use Rattle.std.specs.Prelude.{◌≡◌, ◌≤◌, ◌-◌, ◌^◌, ◌<◌, ◌↔◌, true, not, ℕ, Some, IsTrue, IfSome, IfOk, IfErr, length, slice_set, replicate};
+ghost use Rattle.std.specs.Prelude.{◌≡◌, ◌≤◌, ◌-◌, ◌^◌, ◌<◌, ◌↔◌, true, not, ℕ, Some, IsTrue, IfSome, IfOk, IfErr, MatchOption, length, slice_set, replicate};
 ghost use Rattle.std.specs.Option.{option_map};
 ghost use Rattle.bz_model.specs.declared.error.KindError.TheVariants.{Memory};
-ghost use Rattle.bz_model.specs.Heads.{Head, IsHeadOn, CanMove, Moves, Turns, HasOneHead, carried, opens, open_at};
+ghost use Rattle.bz_model.specs.Heads.{Head, IsHeadOn, CanMove, Moves, Proc, Turns, HasOneHead, carried, opens, open_at};
 ghost use Rattle.bz_model.specs.Terms.{IsNarrow};
 ghost use Rattle.bz_model.specs.Rows.{MeetsRow};
 ghost use Rattle.bz_model.specs.Processes.{member, start_of};
@@ -120,6 +120,23 @@ pub fn enabled(comp: &Comp, port: u32, phase: Phase) -> bool
     ensures { IsTrue result ↔ CanMove comp.now.proc port phase }
 {
     next(comp, port).is_some_and(|mv| phase.allows(mv))
+}
+
+/// The move that a component can make at a port whose channel has this phase, and the value that it would carry.
+pub fn foresee(comp: &Comp, port: u32, phase: Phase) -> Option<(Move, Option<Value>)>
+    ensures moves { MatchOption result (CanMove comp.now.proc port phase → ⊥)
+        (λ made. (rest : Proc) × Moves comp.now.proc port phase made.0 made.1 rest) }
+    ensures one { HasOneHead comp.now.proc.todo }
+{
+    let proc = &comp.proc;
+    let Some(due) = due_at(&proc.plan, proc.size, proc.left, port, proc.ports.get(port)) else {
+        return None;
+    };
+    if !phase.allows(due.mv) {
+        return None;
+    }
+    let incoming = taken(due.mv, riding(phase));
+    Some((due.mv, carried(&due, proc.slots.get(), incoming)))
 }
 
 /// Makes the move at a port whose channel has this phase: the move, and the value that it carries.

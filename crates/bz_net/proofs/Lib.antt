@@ -11,6 +11,7 @@ pub mod Fitting
 pub mod Lines
 pub mod Played
 pub mod Soles
+pub mod Stepping
 pub mod Soundness
 pub mod Opening
 pub mod Hosts

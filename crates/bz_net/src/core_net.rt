@@ -1,15 +1,16 @@
-//! A net without a journal: its wiring, one state of it, and which components can move in it.
+//! A net without a journal: its wiring, one state of it, and which components can move in it. Who reads a net reads its core,
+//! whether it keeps a journal (`Net`) or none (`Play`).
 
 ghost use Rattle.std.specs.Prelude.{◌≡◌, ◌≢◌, ◌≤◌, ◌<◌, None, Some, MatchBool, MatchOption, OnOk, IfOk, IfErr, length};
-ghost use Rattle.bz_model.specs.Hosts.{HostStep, command_refusal, refusal_at};
 ghost use Rattle.std.specs.Option.{option_copied, option_map};
+ghost use Rattle.bz_model.specs.Hosts.{HostStep, command_refusal, refusal_at, reply_to};
 ghost use Rattle.bz_model.specs.Names.{NamesDiffer, numbered, port_number};
 ghost use Rattle.bz_model.specs.Nets.{Step, StepsAt, opening, outside, phase_at};
 ghost use Rattle.bz_model.specs.Runs.{CanStep, IsLowest, IsNext, Rest};
 ghost use Rattle.bz_flat.specs.Flats.{site_of};
-ghost use Rattle.bz_flat.specs.Wires.{WellWired};
+ghost use Rattle.bz_flat.specs.Wires.{IsEnd, WellWired};
 ghost use Rattle.bz_net.specs.Core.{IsSole};
-ghost use Rattle.bz_net.specs.Due.{Foresees, IsSoleDue, TellsDue};
+ghost use Rattle.bz_net.specs.Due.{Foresees, GivesAsSteps, HasStep, IsSoleDue, TellsDue};
 ghost use Rattle.bz_net.specs.Ends.{TellsEnds, TellsPort, IsSolePort};
 ghost use Rattle.bz_net.specs.Noted.{MeetBefore, NotedAt, NotedMove};
 ghost use Rattle.bz_net.specs.Sides.{answers};
@@ -17,19 +18,19 @@ ghost use Rattle.bz_net.specs.Told.{MayMove, MovesAt};
 ghost use Rattle.bz_net.specs.Unbroken.{IsUnbroken};
 
 use crate::chan_row::ChanRow;
-use crate::here::{command, has_step, lowest_port, mark_all, move_comp};
+use crate::here::{command, has_step, has_step_by, lowest_port, mark_all, move_comp};
 use crate::kept_phases::Phases;
-use crate::moves::{answers, due_at, foresee, mixes, note_clash, port_in, refusal_of};
+use crate::moves::{answers, due_at, foresee, mixes, note_clash, port_in, refusal_of, reply_to};
 use crate::node::{Node, dup_all, start_all};
 use crate::noted::Noted;
 use crate::ready_row::{Keeping, ReadyRow};
 use bz_arena::Arena;
-use bz_flat::{Ends, Flat, FlatComp, dup_comps};
-use bz_model::{Move, Names, NetError, Phase, Reply, Value, Verb, node_of};
+use bz_flat::{Ends, Flat, FlatComp, Pieces, dup_comps};
+use bz_model::{Chan, Move, Names, NetError, Phase, Reply, Value, Verb, dup_ports, node_of};
 use std::alloc::{AllocError, Global};
 use std::marker::Model;
 
-/// A net in a state: its wiring, the state, and which components can move in it. Components, ports and channels count from 1.
+/// A net in a state, and which components can move. Components, ports and channels count from 1.
 pub struct Core {
     names: Names,
     sites: Arena<FlatComp>,
@@ -150,11 +151,50 @@ impl Core {
         })
     }
 
+    /// The flat net, whose names and channels are copied. Where memory is refused, it is gone.
+    pub(crate) fn into_flat(self, alloc: Global) -> Result<Flat, AllocError>
+        ensures { IfOk result (λ flat. flat.wiring ≡ self.wiring) }
+    {
+        let count = self.chan_count();
+        let Core {
+            names,
+            sites,
+            ends,
+            chans: _,
+            nodes: _,
+            phases: _,
+            ready: _,
+            mixes: _,
+        } = self;
+        let ports = dup_ports(alloc, names.ports())?;
+        let chans = chans_of(alloc, &names, count)?;
+        Ok(Flat::of(Pieces {
+            chans,
+            comps: sites,
+            ports,
+            ends,
+        }))
+    }
+
     /// How many components there are.
-    pub fn comp_count(&self) -> usize
+    pub fn comp_count(&self) -> u32
         ensures { result ≡ length self.now.wiring.sites }
     {
-        self.sites.len()
+        self.sites.len() as u32
+    }
+
+    /// A component, if there is such a component.
+    pub fn comp(&self, comp: u32) -> Option<&FlatComp>
+        ensures { option_map site_of (option_copied result) ≡ numbered self.now.wiring.sites comp }
+    {
+        node_of(&self.sites, comp)
+    }
+
+    /// How many channels there are.
+    pub fn chan_count(&self) -> u32
+        ensures { result ≡ length self.now.wiring.chans }
+    {
+        self.phases.len() as u32
     }
 
     /// The external ports and the channels.
@@ -164,13 +204,6 @@ impl Core {
         ensures wired { WellWired self.now.wiring }
     {
         &self.names
-    }
-
-    /// A component, if there is such a component.
-    pub fn comp(&self, comp: u32) -> Option<&FlatComp>
-        ensures { option_map site_of (option_copied result) ≡ numbered self.now.wiring.sites comp }
-    {
-        node_of(&self.sites, comp)
     }
 
     /// The number of the external port of this name, or the first reason to refuse a host command there.
@@ -217,7 +250,8 @@ impl Core {
         [pair.active, pair.passive]
     }
 
-    /// The port at which a component makes this move on a channel, if it holds that end.
+    /// The port at which a component makes this move on a channel: it holds the active end where it asks or gets, the
+    /// passive end where it takes or replies. `None` where the component holds no such end.
     pub fn port_at(&self, comp: u32, chan: u32, mv: Move) -> Option<u32>
         ensures end { TellsPort self.now.wiring.sites chan (answers mv) comp result }
         ensures sole { IsSolePort self.now.wiring.sites self.now.state comp chan mv result }
@@ -244,7 +278,7 @@ impl Core {
         has_step(&self.sites, &self.phases, &self.nodes, comp, port)
     }
 
-    /// The move that a component has at a port, whether or not it can be made.
+    /// The move that a component has at a port, whether or not its channel lets it be made.
     pub fn due(&self, comp: u32, port: u32) -> Option<Move>
         ensures due { TellsDue self.now.wiring.sites self.now.state comp port result }
         ensures sole { IsSoleDue self.now.wiring.sites self.now.state comp port result }
@@ -253,15 +287,46 @@ impl Core {
     }
 
     /// The channel, the move and the value of the step that a component has at a port, where it has one.
-    pub fn foresee(
+    pub fn foresee(&self, comp: u32, port: u32) -> Option<(u32, Move, Option<Value>)>
+        ensures { Foresees self.now.wiring.sites self.now.state comp port result }
+    {
+        foresee(&self.sites, &self.nodes, &self.phases, comp, port)
+    }
+
+    /// Whether a component has a step by this move on a channel, which it makes at this port, with this value. A value is given
+    /// where the move carries one.
+    #[inline(always)]
+    pub(crate) fn has_step(
         &self,
-        alloc: Global,
         comp: u32,
         port: u32,
-    ) -> Result<Option<(u32, Move, Option<Value>)>, AllocError>
-        ensures { IfOk result (Foresees self.now.wiring.sites self.now.state comp port) }
+        chan: u32,
+        mv: Move,
+        value: Option<Value>,
+    ) -> bool
+        requires end { IsEnd self.now.wiring.sites chan (answers mv) comp port }
+        requires given { GivesAsSteps self.now.wiring.sites self.now.state comp chan mv value }
+        ensures { MatchBool result (HasStep self.now.wiring.sites self.now.state comp port chan mv value)
+            (HasStep self.now.wiring.sites self.now.state comp port chan mv value → ⊥) }
     {
-        foresee(alloc, &self.sites, &self.nodes, &self.phases, comp, port)
+        has_step_by(
+            &self.sites,
+            &self.phases,
+            &self.nodes,
+            comp,
+            port,
+            chan,
+            mv,
+            value,
+        )
+    }
+
+    /// The reply to a host command on the channel of an external port.
+    pub fn reply(&self, verb: Verb, port: u32) -> Reply
+        ensures { result ≡ reply_to verb (phase_at self.now.state port) }
+    {
+        let (reply, _) = reply_to(verb, None, self.phase(port));
+        reply
     }
 
     /// The component that is next to fire, from a number on.
@@ -370,4 +435,22 @@ impl Core {
             _ => {}
         }
     }
+}
+
+// The channels of a net that has so many.
+fn chans_of(alloc: Global, names: &Names, count: u32) -> Result<Arena<Chan>, AllocError>
+    requires { count ≡ length names.now.chans }
+    ensures { IfOk result (λ chans. chans ≡ names.now.chans) }
+{
+    let mut chans = Arena::new(alloc);
+    for place in 0..count {
+        let Some(chan) = names.chan(place + 1) else {
+            unreachable!()
+        };
+        match chans.push(chan) {
+            Ok(_) => {}
+            Err(_) => return Err(AllocError),
+        }
+    }
+    Ok(chans)
 }

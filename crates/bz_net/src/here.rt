@@ -1,23 +1,26 @@
 //! What each component is told of its channels, the lowest port at which it can move by that, and its moves.
 
-ghost use Rattle.std.specs.Prelude.{◌≡◌, ◌≤◌, ◌<◌, ◌*◌, ◌^◌, ℕ, suc, false, length, map, slice_set, if◌then◌else◌, ◌↔◌, IsTrue, MatchOption, MatchBool, IfSome, IfNone, IfOk};
+ghost use Rattle.std.specs.Prelude.{◌≡◌, ◌≤◌, ◌<◌, ◌*◌, ◌^◌, ℕ, suc, false, length, map, slice_set, if◌then◌else◌, ◌↔◌, IsTrue, MatchOption, MatchBool, Option, IfSome, IfNone, IfOk};
 ghost use Rattle.bz_model.specs.declared.channel.Phase.{Phase};
 ghost use Rattle.bz_model.specs.Heads.{CanMove, Head, HasOneHead, IsHeadOn, Moves, Turns};
 ghost use Rattle.bz_kinds.specs.Riding.{riding};
-ghost use Rattle.bz_model.specs.Nets.{StepsAt};
-ghost use Rattle.bz_flat.specs.Wires.{StandsIn, ends_in};
+ghost use Rattle.bz_model.specs.Nets.{State, Step, StepsAt};
+ghost use Rattle.bz_model.specs.declared.channel.Move.{Move};
+ghost use Rattle.bz_flat.specs.Wires.{IsEnd, StandsIn, ends_in};
 ghost use Rattle.bz_flat.specs.Flats.{site_of};
 ghost use Rattle.bz_kinds.specs.Ready.{CanGo};
 ghost use Rattle.bz_model.specs.Runs.{CanStep, IsLowest};
 ghost use Rattle.bz_net.specs.Keeping.{comp_at, state_of, Exact, Placed, Refreshed, RefreshedEnds, MarksAll, CommandedAt, phase_in};
 ghost use Rattle.bz_model.specs.Hosts.{host_after};
 ghost use Rattle.bz_net.specs.ChanRow.{InRow};
+ghost use Rattle.bz_net.specs.Due.{GivesAsSteps, HasStep};
 ghost use Rattle.bz_net.specs.Nodes.{comps_of, heres_of};
+ghost use Rattle.bz_net.specs.Sides.{answers};
 ghost use Rattle.bz_net.specs.Told.{is_here, flag_of, Goes, NoneGoes, GoesAt, GoesFirst, MayMove, MovesAt, IsTurning, Sighted, AreEnds, AllAreEnds, HasBit, Came, Left, PutEnd, Retold, ToldOther, Turned, StaysSighted, HostSighted};
 
 use crate::chan_row::ChanRow;
 use crate::kept_phases::Phases;
-use crate::moves::{reply_to, sends};
+use crate::moves::{foresee, next_of, reply_to, sends};
 use crate::node::{Node, node_id};
 use crate::ready_row::{Keeping, ReadyRow};
 use bz_arena::Arena;
@@ -143,15 +146,73 @@ pub(crate) fn has_step(
     port: u32,
 ) -> bool
     requires { Sighted (map site_of sites.now) phases.now (comps_of nodes.now) (heres_of nodes.now) }
-    ensures { MatchBool result
+    ensures steps { MatchBool result
         (StepsAt (map site_of sites.now) (state_of phases.now (comps_of nodes.now)) comp port)
         (StepsAt (map site_of sites.now) (state_of phases.now (comps_of nodes.now)) comp port → ⊥) }
+    ensures turning { IsTrue result → IsTurning (comp_at (comps_of nodes.now) comp) }
 {
     if comp == 0 || comp as usize > nodes.len() {
         return false;
     }
     let node = nodes.get(node_id(comp));
     goes_at(&node.comp, &node.here, port)
+}
+
+/// Whether a component has a step by this move on a channel, which it makes at this port, with this value. Which move comes
+/// next there, and what a take or a got brings, its phase tells.
+#[inline(always)]
+pub(crate) fn has_step_by(
+    sites: &Arena<FlatComp>,
+    phases: &Phases,
+    nodes: &Arena<Node>,
+    comp: u32,
+    port: u32,
+    chan: u32,
+    mv: Move,
+    value: Option<Value>,
+) -> bool
+    requires sighted { Sighted (map site_of sites.now) phases.now (comps_of nodes.now) (heres_of nodes.now) }
+    requires placed { Placed (map site_of sites.now) phases.now (comps_of nodes.now) }
+    requires end { IsEnd (map site_of sites.now) chan (answers mv) comp port }
+    requires given { GivesAsSteps (map site_of sites.now) (state_of phases.now (comps_of nodes.now)) comp chan mv value }
+    ensures { MatchBool result
+        (HasStep (map site_of sites.now) (state_of phases.now (comps_of nodes.now)) comp port chan mv value)
+        (HasStep (map site_of sites.now) (state_of phases.now (comps_of nodes.now)) comp port chan mv value → ⊥) }
+{
+    if !has_step(sites, phases, nodes, comp, port) {
+        return false;
+    }
+    let place = chan as usize - 1;
+    if next_of(phases.get(place)) != Some(mv) {
+        return false;
+    }
+    match mv {
+        Move::Take | Move::Got => phases.riding(place) == value,
+        Move::Ask | Move::Reply => {
+            value.is_none() || carries(sites, phases, nodes, comp, port, value)
+        }
+    }
+}
+
+// Whether the step that a component has at a port carries this value.
+#[inline(never)]
+fn carries(
+    sites: &Arena<FlatComp>,
+    phases: &Phases,
+    nodes: &Arena<Node>,
+    comp: u32,
+    port: u32,
+    value: Option<Value>,
+) -> bool
+    requires { Placed (map site_of sites.now) phases.now (comps_of nodes.now) }
+    ensures { (k : ℕ) (mv : Move) (other : Option ℕ) (next : State) →
+        Step (map site_of sites.now) (state_of phases.now (comps_of nodes.now)) comp port k mv other next →
+        IsTrue result ↔ other ≡ value }
+{
+    match foresee(sites, nodes, phases, comp, port) {
+        Some((_, _, found)) => found == value,
+        None => false,
+    }
 }
 
 // Whether a component can move at a port by what it is told.

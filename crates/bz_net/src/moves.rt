@@ -1,12 +1,13 @@
 //! Reads of components and of channels, over the lists that a net keeps, and what a host command does to a phase.
 
 ghost use Rattle.std.specs.Prelude.{true, false, ◌≡◌, ◌≤◌, ◌<◌, ◌^◌, ℕ, suc, length, map, [], MatchOption, MatchBool, IfOk, IfSome};
-ghost use Rattle.bz_model.specs.Nets.{IsPort, StepsAt, chan_at, site_at};
+ghost use Rattle.bz_model.specs.Heads.{HasOneHead};
+ghost use Rattle.bz_model.specs.Nets.{IsPort, StepsAt, chan_at, proc_at, site_at};
 ghost use Rattle.bz_model.specs.Hosts.{reply_to, host_after, received, refusal_at};
 ghost use Rattle.bz_flat.specs.Flats.{site_of};
 ghost use Rattle.bz_model.specs.Clashes.{is_mixer, IsAsked, Clashes};
 ghost use Rattle.bz_net.specs.Noted.{NoneMixes, NotedEnd};
-ghost use Rattle.bz_net.specs.Due.{Foresees, IsSoleDue, TellsDue};
+ghost use Rattle.bz_net.specs.Due.{Foresees, IsSoleDue, TellsDue, next_of};
 ghost use Rattle.bz_net.specs.Ends.{IsPortIn};
 ghost use Rattle.bz_net.specs.Sides.{answers, sends};
 ghost use Rattle.bz_net.specs.Keeping.{state_of, Placed, ReadsChans};
@@ -19,7 +20,6 @@ use bz_arena::{Arena, Id};
 use bz_flat::{Ends, FlatComp};
 use bz_kind_rows::is_passive;
 use bz_model::{Kind, Move, Names, NetError, Phase, Reply, Value, Verb};
-use std::alloc::{AllocError, Global};
 
 /// The channel at a component's port.
 pub(crate) fn chan_of(sites: &Arena<FlatComp>, comp: u32, port: u32) -> Option<u32>
@@ -85,32 +85,40 @@ pub(crate) fn due_at(
     }
 }
 
-/// The channel, the move and the value of the step that a component has at a port, where it has one: the step is tried on a copy
-/// of the component.
+/// The channel, the move and the value of the step that a component has at a port, where it has one.
 pub(crate) fn foresee(
-    alloc: Global,
     sites: &Arena<FlatComp>,
     nodes: &Arena<Node>,
     phases: &Phases,
     comp: u32,
     port: u32,
-) -> Result<Option<(u32, Move, Option<Value>)>, AllocError>
+) -> Option<(u32, Move, Option<Value>)>
     requires { Placed (map site_of sites.now) phases.now (comps_of nodes.now) }
-    ensures { IfOk result (Foresees (map site_of sites.now) (state_of phases.now (comps_of nodes.now)) comp port) }
+    ensures seen { Foresees (map site_of sites.now) (state_of phases.now (comps_of nodes.now)) comp port result }
+    ensures one { IfSome result (λ _. HasOneHead (proc_at (state_of phases.now (comps_of nodes.now)) comp).todo) }
 {
     let Some(chan) = chan_of(sites, comp, port) else {
-        return Ok(None);
+        return None;
     };
-    let node = nodes.get(node_id(comp));
     let phase = phases.get(chan as usize - 1);
-    if !bz_kinds::enabled(&node.comp, port, phase) {
-        return Ok(None);
+    match bz_kinds::foresee(&nodes.get(node_id(comp)).comp, port, phase) {
+        Some((mv, value)) => Some((chan, mv, value)),
+        None => None,
     }
-    let Ok(mut copy) = bz_kinds::dup(alloc, &node.comp) else {
-        return Err(AllocError);
-    };
-    let (mv, value) = bz_kinds::apply(&mut copy, port, phase);
-    Ok(Some((chan, mv, value)))
+}
+
+/// The move that comes next on a channel in this phase.
+#[inline(always)]
+pub(crate) fn next_of(phase: Phase) -> Option<Move>
+    ensures { result ≡ next_of phase }
+{
+    match phase {
+        Phase::Idle => Some(Move::Ask),
+        Phase::Asked(_) => Some(Move::Take),
+        Phase::Taken => Some(Move::Reply),
+        Phase::Replied(_) => Some(Move::Got),
+        Phase::Broken => None,
+    }
 }
 
 /// Whether a kind is one at which requests may meet.

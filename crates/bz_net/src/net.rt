@@ -82,7 +82,7 @@ impl Net {
         ensures err { IfErr result (λ e. e ≡ NetError.Memory) }
     {
         let core = Core::open(alloc, flat, Keeping::Listed)?;
-        let noted = match Noted::new(alloc, core.comp_count()) {
+        let noted = match Noted::new(alloc, core.comp_count() as usize) {
             Ok(noted) => noted,
             Err(_) => return Err(NetError::Memory),
         };
@@ -92,6 +92,14 @@ impl Net {
             journal: Vec::new(alloc),
             limit: limit as usize,
         })
+    }
+
+    /// The net in its state.
+    pub fn core(&self) -> &Core
+        ensures wiring { result.now.wiring ≡ self.now.wiring }
+        ensures state { result.now.state ≡ self.now.state }
+    {
+        &self.core
     }
 
     /// The same net, with room for as many entries; what is done on one does not show on the other.
@@ -122,14 +130,6 @@ impl Net {
         })
     }
 
-    /// The net in its state, without its journal.
-    pub fn core(&self) -> &Core
-        ensures wiring { result.now.wiring ≡ self.now.wiring }
-        ensures state { result.now.state ≡ self.now.state }
-    {
-        &self.core
-    }
-
     /// Whether a component can move.
     pub fn is_ready(&self, comp: u32) -> bool
         ensures { MatchBool result (CanStep self.now.wiring.sites self.now.state comp)
@@ -154,15 +154,10 @@ impl Net {
     }
 
     /// The channel, the move and the value that `fire_move` would enter, where a component can move at a port.
-    pub fn foresee(
-        &self,
-        alloc: Global,
-        comp: u32,
-        port: u32,
-    ) -> Result<Option<(u32, Move, Option<Value>)>, AllocError>
-        ensures { IfOk result (Foresees self.now.wiring.sites self.now.state comp port) }
+    pub fn foresee(&self, comp: u32, port: u32) -> Option<(u32, Move, Option<Value>)>
+        ensures { Foresees self.now.wiring.sites self.now.state comp port result }
     {
-        self.core.foresee(alloc, comp, port)
+        self.core.foresee(comp, port)
     }
 
     /// Makes sure that one more entry can be added.
@@ -231,7 +226,7 @@ impl Net {
         ensures cause { IfErr result (RefusesLowest self.old comp) }
         ensures err { OnErr result (self.new ≡ self.old) }
     {
-        if comp == 0 || comp as usize > self.core.comp_count() {
+        if comp == 0 || comp > self.core.comp_count() {
             return Err(NetError::NotEnabled);
         }
         match self.core.lowest(comp) {

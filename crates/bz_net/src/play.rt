@@ -1,18 +1,17 @@
 //! A net that keeps no journal: the entries of its events go to whoever plays it.
 
-ghost use Rattle.std.specs.Prelude.{◌≡◌, ◌-◌, ◌≤◌, ◌<◌, min, length, [], ◌∷◌, ◌++◌, None, vec_len, vec_capacity, IfOk, IfErr, IfSome, IfNone, OnErr, List};
+ghost use Rattle.std.specs.Prelude.{◌≡◌, ◌⊎◌, ◌-◌, ◌≤◌, ◌<◌, ℕ, min, length, [], ◌∷◌, ◌++◌, None, vec_len, vec_capacity, IfOk, IfErr, IfSome, IfNone, OnErr, List};
 ghost use Rattle.std.specs.List.Sorted.{IsStrictlyIncreasing};
 ghost use Rattle.bz_model.specs.declared.event.Entry.{Entry};
 ghost use Rattle.bz_model.specs.declared.event.Reply.{Reply};
 ghost use Rattle.bz_model.specs.Hosts.{refusal_at};
 ghost use Rattle.bz_model.specs.Names.{NamesDiffer};
-ghost use Rattle.bz_model.specs.Nets.{StepsAt, outside};
+ghost use Rattle.bz_model.specs.Nets.{outside};
 ghost use Rattle.bz_model.specs.Runs.{Rest};
 ghost use Rattle.bz_flat.specs.Wires.{WellWired};
-ghost use Rattle.bz_net.specs.Ends.{TellsPort, IsSolePort};
+ghost use Rattle.bz_net.specs.Due.{GivesAsSteps, HasStep, LeadsOnlyTo};
 ghost use Rattle.bz_net.specs.Progress.{Enters, EntersRest, FiresAt, IsBelowLast, IsToldBy, LeadsOn, RefusesAt, RunsInto, with_journal};
-ghost use Rattle.bz_net.specs.Replies.{IsFiring, IsPicked, IsSoleStep, RefusesCommand, RefusesEntry, RefusesFire, Replies};
-ghost use Rattle.bz_net.specs.Sides.{answers};
+ghost use Rattle.bz_net.specs.Replies.{IsPicked, RefusesCommand, RefusesEntry, Replies};
 ghost use Rattle.bz_net.specs.Told.{MayMove};
 
 use crate::core_net::Core;
@@ -22,7 +21,7 @@ use crate::noted::Noted;
 use crate::ready_row::Keeping;
 use bz_flat::Flat;
 use bz_model::{Entry, HostCmd, Move, Names, NetError, Reply, Value, Verb, Who};
-use std::alloc::Global;
+use std::alloc::{AllocError, Global};
 use std::marker::Model;
 
 /// A net with the components at which requests met, and how many entries are still let in. After its opening it takes no
@@ -74,7 +73,7 @@ impl Play {
         ensures err { IfErr result (λ e. e ≡ NetError.Memory) }
     {
         let core = Core::open(alloc, flat, Keeping::Marked)?;
-        match Noted::new(alloc, core.comp_count()) {
+        match Noted::new(alloc, core.comp_count() as usize) {
             Ok(noted) => Ok(Play {
                 core,
                 noted,
@@ -82,6 +81,26 @@ impl Play {
             }),
             Err(_) => Err(NetError::Memory),
         }
+    }
+
+    /// The net in its state.
+    pub fn core(&self) -> &Core
+        ensures wiring { result.now.wiring ≡ self.now.wiring }
+        ensures state { result.now.state ≡ self.now.state }
+    {
+        &self.core
+    }
+
+    /// The flat net, whose names and channels are copied. Where memory is refused, it is gone.
+    pub fn into_flat(self, alloc: Global) -> Result<Flat, AllocError>
+        ensures { IfOk result (λ flat. flat.wiring ≡ self.wiring) }
+    {
+        let Play {
+            core,
+            noted: _,
+            left: _,
+        } = self;
+        core.into_flat(alloc)
     }
 
     /// The external ports and the channels of the net.
@@ -234,31 +253,34 @@ impl Play {
         }
     }
 
-    /// The port at which a component makes this move on a channel: it holds the active end where it asks or gets, the
-    /// passive end where it takes or replies. `None` where the component holds no such end.
-    pub fn port_at(&self, comp: u32, chan: u32, mv: Move) -> Option<u32>
-        ensures end { TellsPort self.now.wiring.sites chan (answers mv) comp result }
-        ensures sole { IsSolePort self.now.wiring.sites self.now.state comp chan mv result }
-    {
-        self.core.port_at(comp, chan, mv)
-    }
-
-    /// Fires the one move that a component has at a port.
+    /// Fires a component by this move on this channel, where its step there carries this value. `None` where it has no such
+    /// step, or no more entry is let in: then nothing changes. A value is given where the move carries one.
     #[inline(always)]
-    pub fn fire_move(&mut self, who: Who, comp: u32, port: u32) -> Result<Entry, NetError>
-        ensures fired { IfOk result (IsFiring who comp port) }
-        ensures sole { IfOk result (IsSoleStep (with_journal self.old []) (with_journal self.new []) who comp port) }
-        ensures enters { IfOk result (λ entry. Enters self.old entry self.new) }
-        ensures cause { IfErr result (λ e. (journal : List Entry) → RefusesFire (with_journal self.old journal) comp port e) }
-        ensures err { OnErr result (self.new ≡ self.old) }
+    pub fn fire_on(
+        &mut self,
+        who: Who,
+        comp: u32,
+        chan: u32,
+        mv: Move,
+        value: Option<Value>,
+    ) -> Option<Entry>
+        requires { GivesAsSteps self.old.wiring.sites self.old.state comp chan mv value }
+        ensures fired { IfSome result (λ entry. (port : ℕ) × (entry ≡ Entry.Fired who comp port chan mv value)) }
+        ensures enters { IfSome result (λ entry. Enters self.old entry self.new) }
+        ensures sole { IfSome result (λ _. LeadsOnlyTo self.old.wiring.sites self.old.state comp chan mv self.new.state) }
+        ensures none { IfNone result ((self.new ≡ self.old) × ((self.old.left ≡ 0)
+            ⊎ ((port : ℕ) → HasStep self.old.wiring.sites self.old.state comp port chan mv value → ⊥))) }
     {
-        if !self.core.can_fire(comp, port) {
-            return Err(NetError::NotEnabled);
-        }
+        let Some(port) = self.core.port_at(comp, chan, mv) else {
+            return None;
+        };
         if self.left == 0 {
-            return Err(NetError::JournalFull);
+            return None;
         }
-        Ok(self.fire(who, comp, Some(port)))
+        if !self.core.has_step(comp, port, chan, mv, value) {
+            return None;
+        }
+        Some(self.fire(who, comp, Some(port)))
     }
 
     /// Asks whether any component can move.

@@ -1,9 +1,10 @@
 -- A net that is played along the lines of a text.
-use Rattle.std.proofs.Common.{◌≡◌, ◌≢◌, Bool, cond, ℕ, zero, suc, ◌+◌, ◌<◌, ◌≤◌, List, [], ◌∷◌, ◌++◌, length, map, Option, Some, None, refl, sym, ap, ap₂, subst, ◌∙◌, arith, append_assoc, ◌⊎◌, inl, inr, length-append}
+use Rattle.std.proofs.Common.{◌≡◌, ◌≢◌, Bool, cond, ℕ, zero, suc, ◌+◌, ◌-◌, ◌<◌, ◌≤◌, List, [], ◌∷◌, ◌++◌, length, map, take, Option, Some, None, refl, sym, ap, ap₂, subst, ◌∙◌, arith, append_assoc, ◌⊎◌, inl, inr, length-append}
 use Rattle.std.specs.List.{AllByRecursion, count_by}
 use Rattle.std.proofs.lemmas.List.Sums.{sum_by-cons}
 use Rattle.std.proofs.Math.ListN.{length-map}
-use Rattle.std.proofs.lemmas.List.{append-nil, map-append}
+use Rattle.std.proofs.lemmas.List.{append-nil, map-append, take_all}
+use Rattle.std.proofs.Math.Seq.{take-append_seam}
 use Rattle.bz_model.specs.declared.event.Entry.{Entry}
 use Rattle.bz_model.specs.declared.event.Entry.TheVariants.{Fired, Host, Rested}
 use Rattle.bz_model.specs.Names.{Outside, External}
@@ -22,13 +23,13 @@ use Rattle.bz_trace_text.proofs.Lines.{line_takes}
 use Rattle.bz_trace_text.proofs.Strips.{none-some}
 use Rattle.bz_trace_text.proofs.Texts.{all_more, flat_more}
 use Rattle.bz_trace_text.proofs.Cuts.{Read, bad_behind, bad_most, lines_tell}
-use Rattle.bz_trace.specs.Verdicts.{AreDue, CountsRun, DifferAt, IsNoRun, StopsAtEntry, Judges, JudgesBy}
+use Rattle.bz_trace.specs.Verdicts.{AreDue, Concludes, CountsRun, DifferAt, IsNoRun, StopsAtEntry, Judges, Leaves}
 use Rattle.bz_trace.specs.declared.checking.Verdict.{Verdict}
 use Rattle.bz_trace.specs.declared.checking.Verdict.TheVariants as verdict
 use Rattle.bz_trace_text.specs.declared.tally.Counts.{Counts}
 use Rattle.bz_trace_text.specs.Counting.{AreFewer, Tells, is_fired, is_host, is_rest}
 use Rattle.bz_trace_text.proofs.Counted.{fewer}
-use Rattle.bz_trace.specs.Following.{Along, FollowsFront, FollowsText, Goes, NoneToFollow, PlaysOn, Stands, Stops}
+use Rattle.bz_trace.specs.Following.{Along, FollowsFront, FollowsText, Goes, IsLed, NoneToFollow, PlaysOn, Stands, Stops}
 use Rattle.bz_trace.specs.declared.lines.Followed.{Followed}
 
 -- a line is that of the entry as told
@@ -133,9 +134,13 @@ along_more w old new entries line along has goes =
           goes.sole l.last t l.last_alike (subst (λ o. Follows old.wiring o l.last t) same (subst (λ (v : Wiring). Follows v m l.last t) (sym along.wiring) after));
     }
 
+-- the entries before a line that stops are those that the net is along
+abbrev pub Halts : Wiring → Progress → List Entry → ℕ → Type 0
+Halts w net entries number = (stops : StopsAtEntry w entries number) × Along w net stops.before
+
 stops_here : (w : Wiring) (old : Progress) (entries : List Entry) (line : Entry) (number : ℕ) → WellWired w → AllByRecursion (HasLine (outside w)) entries → HasLine (outside w) line → Along w old entries → Stops old line
-    → number ≡ length entries + 2 → StopsAtEntry w (entries ++ line ∷ []) number
-stops_here w old entries line number wired each has along stops is = record {
+    → number ≡ length entries + 2 → Halts w old (entries ++ line ∷ []) number
+stops_here w old entries line number wired each has along stops is = (record {
   before = entries;
   here = line;
   after = [];
@@ -155,10 +160,10 @@ stops_here w old entries line number wired each has along stops is = record {
       let (m, front, after) = run_pop w (opening w) l.front l.last r.last (subst (λ xs. Run w (opening w) xs r.last) l.is r.run) in
       let same = along.sole l.front m front l.alike in
       stops l.last r.last l.last_alike (subst (λ o. Follows old.wiring o l.last r.last) same (subst (λ (v : Wiring). Follows v m l.last r.last) (sym along.wiring) after));
-}
+}, along)
 
-pub stopped_before : (w : Wiring) (entries : List Entry) (line : Entry) (number : ℕ) → StopsAtEntry w entries number → StopsAtEntry w (entries ++ line ∷ []) number
-stopped_before w entries line number stops = record {
+stopped_before : (w : Wiring) (net : Progress) (entries : List Entry) (line : Entry) (number : ℕ) → Halts w net entries number → Halts w net (entries ++ line ∷ []) number
+stopped_before w net entries line number (stops, along) = (record {
   before = stops.before;
   here = stops.here;
   after = stops.after ++ line ∷ [];
@@ -166,13 +171,15 @@ stopped_before w entries line number stops = record {
   line_is = stops.line_is;
   runs = stops.runs;
   fails = stops.fails;
-}
+}, along)
 
 stands_more : (w : Wiring) (old new : Progress) (entries : List Entry) (line : Entry) (number : ℕ) (stop later : Option ℕ) → WellWired w → AllByRecursion (HasLine (outside w)) entries → HasLine (outside w) line
     → number ≡ length entries + 2 → Stands w old entries stop → PlaysOn old new line number stop later → Stands w new (entries ++ line ∷ []) later
 stands_more w old new entries line number None None wired each has is along plays = along_more w old new entries line along has plays
-stands_more w old new entries line number None (Some k) wired each has is along plays = rw plays.1 (stops_here w old entries line number wired each has along plays.0 is)
-stands_more w old new entries line number (Some k) later wired each has is stops plays = rw plays (stopped_before w entries line k stops)
+stands_more w old new entries line number None (Some k) wired each has is along plays =
+    subst (λ (net : Progress). Halts w net (entries ++ line ∷ []) k) (sym plays.1) (stops_here w old entries line k wired each has along plays.0 (plays.2 ∙ is))
+stands_more w old new entries line number (Some k) later wired each has is stops plays =
+    subst (λ (o : Option ℕ). Stands w new (entries ++ line ∷ []) o) (sym plays.0) (subst (λ (net : Progress). Halts w net (entries ++ line ∷ []) k) (sym plays.1) (stopped_before w old entries line k stops))
 
 -- ---- what a line is counted as is what its entry is
 
@@ -224,6 +231,14 @@ follows_start names net text named wired opened full = record {
   stands = along_start net opened full;
 }
 
+stands_wired : (w : Wiring) (net : Progress) (entries : List Entry) (stop : Option ℕ) → Stands w net entries stop → net.wiring ≡ w
+stands_wired w net entries None along = along.wiring
+stands_wired w net entries (Some line) (stops, along) = along.wiring
+
+stands_told : (w : Wiring) (net : Progress) (entries : List Entry) (stop : Option ℕ) → Stands w net entries stop → (journal : List Entry) × IsToldBy net journal
+stands_told w net entries None along = (along.journal, along.of_net)
+stands_told w net entries (Some line) (stops, along) = (along.journal, along.of_net)
+
 some_left : (n : ℕ) → (n ≡ 0 → ⊥) → 0 < n
 some_left zero none = absurd (none refl)
 some_left (suc n) none = omega arith
@@ -244,6 +259,16 @@ module _ (names : Outside) (w : Wiring) (net : Progress) (text rest : List ℕ) 
 
   pub line_of_net : (line : Entry) (after : List ℕ) → line_at names rest ≡ Some (line, after) → far.stop ≡ None → HasLine (outside net.wiring) line
   line_of_net line after at none = subst (λ (u : Wiring). HasLine (outside u) line) (sym (goes_on none).wiring) (line_takes (outside w) rest line after (named (Some (line, after)) at)).has_line
+
+  -- and a run led to where the net is
+  pub led : far.stop ≡ None → IsLed net
+  led none = let along = goes_on none in (subst WellWired (sym along.wiring) f.wired, along.journal, along.of_net)
+
+  pub wiring_is : net.wiring ≡ w
+  wiring_is = stands_wired w net f.entries far.stop f.stands
+
+  pub told_here : (journal : List Entry) × IsToldBy net journal
+  told_here = stands_told w net f.entries far.stop f.stands
 
   pub can_count : AreFewer far.counts 18446744073709551615
   can_count =
@@ -288,17 +313,32 @@ follows_longer names w net text rest far more f = record {
   stands = f.stands;
 }
 
-pub judges : (w : Wiring) (text : List ℕ) (counts : Counts) (v : Verdict) → JudgesBy w text counts v → Judges w text v
-judges w text counts verdict.Run by = by.0
-judges w text counts (verdict.Not line) by = by
-judges w text counts (verdict.Bad line) by = by
-judges w text counts verdict.Memory by = tt
+pub judges : (w : Wiring) (text : List ℕ) (net : Progress) (counts : Counts) (v : Verdict) → Concludes w text net counts v → Judges w text v
+judges w text net counts verdict.Run by = by.0
+judges w text net counts (verdict.Not line) by = by.0
+judges w text net counts (verdict.Bad line) by = by.0
+judges w text net counts verdict.Memory by = tt
 
-pub counts_run : (w : Wiring) (text : List ℕ) (counts : Counts) (v : Verdict) → JudgesBy w text counts v → v ≡ verdict.Run → CountsRun w text counts
-counts_run w text counts verdict.Run by is = by
-counts_run w text counts (verdict.Not line) by is = absurd (let e = is in cc)
-counts_run w text counts (verdict.Bad line) by is = absurd (let e = is in cc)
-counts_run w text counts verdict.Memory by is = absurd (let e = is in cc)
+pub counts_run : (w : Wiring) (text : List ℕ) (net : Progress) (counts : Counts) (v : Verdict) → Concludes w text net counts v → v ≡ verdict.Run → CountsRun w text counts
+counts_run w text net counts verdict.Run by is = (by.0, by.1)
+counts_run w text net counts (verdict.Not line) by is = absurd (let e = is in cc)
+counts_run w text net counts (verdict.Bad line) by is = absurd (let e = is in cc)
+counts_run w text net counts verdict.Memory by is = absurd (let e = is in cc)
+
+pub leaves : (w : Wiring) (text : List ℕ) (net : Progress) (counts : Counts) (v : Verdict) → Concludes w text net counts v → Leaves w text net v
+leaves w text net counts verdict.Run by = (by.0, by.2)
+leaves w text net counts (verdict.Not line) by = by
+leaves w text net counts (verdict.Bad line) by = by.1
+leaves w text net counts verdict.Memory by = tt
+
+-- the entries in front of a line
+taken_front : (es before rest : List Entry) (line : ℕ) → es ≡ before ++ rest → line ≡ length before + 2 → take (line - 2) es ≡ before
+taken_front es before rest line is at =
+    let long : line - 2 ≡ length before = omega (arith, at) in
+    ap₂ (λ n xs. take n xs) long is ∙ take-append_seam before rest
+
+taken_all : (es : List Entry) (line : ℕ) → length es + 2 ≤ line → take (line - 2) es ≡ es
+taken_all es line long = take_all (line - 2) es (omega (arith, long))
 
 -- the text as a trace, where clash lines go on to its end
 abbrev trace_of : Version → List Entry → List ℕ → Trace
@@ -334,13 +374,19 @@ module _ (names : Outside) (w : Wiring) (net : Progress) (v : Version) (text res
     text_is : first_line v ++ text ≡ spelling w.ports (trace_of v f.entries from.0)
     text_is = ap (λ s. first_line v ++ s) (f.text_is ∙ ap (λ s. lines w.ports f.entries ++ s) from.3)
 
-    pub stops_at : (line : ℕ) → far.stop ≡ Some line → IsNoRun w (first_line v ++ text) line
-    stops_at line is = record {
-      trace = trace_of v f.entries from.0;
-      has_text = has_text;
-      text_is = text_is;
-      stops = inl (subst (Stands w net f.entries) is f.stands);
-    }
+    pub stops_at : (line : ℕ) → far.stop ≡ Some line → Leaves w (first_line v ++ text) net (verdict.Not line)
+    stops_at line is =
+        let (stops, along) = subst (Stands w net f.entries) is f.stands in (
+          record {
+            trace = trace_of v f.entries from.0;
+            has_text = has_text;
+            text_is = text_is;
+            stops = inl stops;
+          },
+          along.journal,
+          along.tells ∙ ap (map told) (sym (taken_front f.entries stops.before (stops.here ∷ stops.after) line stops.entries_are stops.line_is)),
+          along.of_net,
+        )
 
     -- no line of an entry has stopped
     module _ (due : List ℕ) (plays : far.stop ≡ None) (are_due : (journal : List Entry) → IsToldBy net journal → AreDue net.wiring v journal due) where
@@ -350,7 +396,7 @@ module _ (names : Outside) (w : Wiring) (net : Progress) (v : Version) (text res
       own_due : AreDue w v along.journal due
       own_due = subst (λ (u : Wiring). AreDue u v along.journal due) along.wiring (are_due along.journal along.of_net)
 
-      pub run_text : from.0 ≡ due → CountsRun w (first_line v ++ text) far.counts
+      pub run_text : from.0 ≡ due → Concludes w (first_line v ++ text) net far.counts verdict.Run
       run_text same =
           let long = sym (length-map along.journal told) ∙ ap length along.tells ∙ length-map f.entries told in (
             record {
@@ -365,10 +411,11 @@ module _ (names : Outside) (w : Wiring) (net : Progress) (v : Version) (text res
               text_is = text_is ∙ ap₂ (λ x y. first_line v ++ (x ++ clash_lines y)) (same_lines w.ports f.entries along.journal (sym along.tells)) same;
             },
             tells_alike far.counts f.entries along.journal (sym along.tells) f.tells,
+            along.of_net,
           )
 
-      pub no_run : (place : ℕ) → DifferAt from.0 due place → IsNoRun w (first_line v ++ text) (far.count + place + 2)
-      no_run place differ = record {
+      pub no_run : (place : ℕ) → DifferAt from.0 due place → Leaves w (first_line v ++ text) net (verdict.Not (far.count + place + 2))
+      no_run place differ = (record {
         trace = trace_of v f.entries from.0;
         has_text = has_text;
         text_is = text_is;
@@ -384,11 +431,7 @@ module _ (names : Outside) (w : Wiring) (net : Progress) (v : Version) (text res
           differ = differ;
           line_is = ap (λ n. n + place + 2) f.count_is;
         });
-      }
-
-pub judged : (w u : Wiring) (text behind : List ℕ) (v : Version) (counts : Counts) (said : Verdict) → u ≡ w → text ≡ first_line v ++ behind → JudgesBy u (first_line v ++ behind) counts said → JudgesBy w text counts said
-judged w u text behind v counts said same is by =
-    subst (λ t. JudgesBy w t counts said) (sym is) (subst (λ (x : Wiring). JudgesBy x (first_line v ++ behind) counts said) same by)
+      }, along.journal, along.tells ∙ ap (map told) (sym (taken_all f.entries (far.count + place + 2) (let is = f.count_is in omega (arith, is)))), along.of_net)
 
 -- one line more was followed
 pub gets_on_more : (from : Followed) (count : ℕ) (text rest after : List ℕ) → ((count ≡ from.count) × (rest ≡ text)) ⊎ ((from.count < count) × (length rest < length text)) → length after < length rest

@@ -1,6 +1,7 @@
--- What becomes of a line: where its event was made it is the only one, and where it was refused, or told another reply, no
--- entry that the line tells can follow.
-use Rattle.std.proofs.Common.{◌≡◌, ◌≢◌, ℕ, ◌<◌, Option, Some, None, List, [], refl, sym, ap, subst, ◌∙◌, arith}
+-- What becomes of a line: where its event was made it is the only one, and where it was refused, or would be told another
+-- reply, no entry that the line tells can follow.
+use Rattle.std.proofs.Common.{◌≡◌, ◌≢◌, ◌⊎◌, inl, inr, ℕ, ◌<◌, Bool, true, false, Option, Some, None, List, [], refl, sym, ap, subst, ◌∙◌, arith}
+use Rattle.std.specs.Prelude.{is_some}
 use Rattle.bz_model.specs.declared.channel.Move.{Move}
 use Rattle.bz_model.specs.declared.event.Who.{Who}
 use Rattle.bz_model.specs.declared.event.Verb.{Verb}
@@ -9,14 +10,16 @@ use Rattle.bz_model.specs.declared.event.Entry.{Entry}
 use Rattle.bz_model.specs.declared.event.Entry.TheVariants.{Fired, Host, Rested}
 use Rattle.bz_model.specs.declared.event.NetError.{NetError}
 use Rattle.bz_model.specs.declared.event.NetError.TheVariants.{UnknownPort, WrongSide, ValueMissing, ValueUnwanted, TooLarge, NotEnabled, JournalFull, Memory}
-use Rattle.bz_model.specs.Nets.{State, Step, StepsAt}
-use Rattle.bz_model.specs.Hosts.{HostStep, refusal_at}
+use Rattle.bz_model.specs.Nets.{State, outside, phase_at}
+use Rattle.bz_model.specs.Hosts.{HostStep, refusal_at, reply_to}
 use Rattle.bz_model.specs.Runs.{CanStep, Follows}
-use Rattle.bz_model.specs.Entries.{told}
-use Rattle.bz_net.specs.Ends.{IsSolePort}
+use Rattle.bz_model.specs.Entries.{HasLine, IsCarried, carries_at, told}
+use Rattle.bz_net.specs.Due.{GivesAsSteps, HasStep, LeadsOnlyTo}
 use Rattle.bz_net.specs.Progress.{Progress, Enters, RefusesAt, with_journal}
-use Rattle.bz_net.specs.Replies.{IsSoleStep, RefusesEntry, RefusesFire}
-use Rattle.bz_trace.specs.Following.{Goes, Stops}
+use Rattle.bz_net.specs.Replies.{RefusesEntry}
+use Rattle.bz_net.proofs.Fitting.{fits_in}
+use Rattle.bz_net.proofs.Lines.{has_line}
+use Rattle.bz_trace.specs.Following.{Goes, IsLed, Stops}
 
 -- the entry that a line tells, but for the port of a firing
 told_fired : (other : Entry) (who : Who) (c k : ℕ) (mv : Move) (value : Option ℕ) → told other ≡ Fired who c 0 k mv value → (p : ℕ) × (other ≡ Fired who c p k mv value)
@@ -46,16 +49,6 @@ let_in net ValueMissing place r = r []
 let_in net ValueUnwanted place r = r []
 let_in net TooLarge place r = r []
 
-no_step : (net : Progress) (c p : ℕ) (e : NetError) → 0 < net.left → ((journal : List Entry) → RefusesFire (with_journal net journal) c p e) → StepsAt net.wiring.sites net.state c p → ⊥
-no_step net c p NotEnabled place r steps = r [] steps
-no_step net c p JournalFull place r steps = let_in net JournalFull place (λ journal. (r journal).1)
-no_step net c p Memory place r steps = let_in net Memory place (λ journal. (r journal).1)
-no_step net c p UnknownPort place r steps = r []
-no_step net c p WrongSide place r steps = r []
-no_step net c p ValueMissing place r steps = r []
-no_step net c p ValueUnwanted place r steps = r []
-no_step net c p TooLarge place r steps = r []
-
 not_agreed : (net : Progress) (verb : Verb) (port : ℕ) (value : Option ℕ) (e : NetError) → 0 < net.left → RefusesAt net verb port value e → refusal_at net.wiring verb port value ≡ None → ⊥
 not_agreed net verb port value JournalFull place r agreed = let full = r.1 in absurd (omega (arith, full, place))
 not_agreed net verb port value Memory place r agreed = cc
@@ -68,35 +61,37 @@ not_agreed net verb port value TooLarge place r agreed = cc
 
 -- ---- firings
 
-same_port : (p q : ℕ) → Some p ≡ Some q → p ≡ q
-same_port p q e = cc
+same_carried : (carries : Bool) (a b : Option ℕ) → IsCarried carries a → IsCarried carries b → is_some a ≡ is_some b
+same_carried true (Some a) (Some b) p q = refl
+same_carried true (Some a) None p q = absurd q
+same_carried true None b p q = absurd p
+same_carried false None None p q = refl
+same_carried false None (Some b) p q = absurd q
+same_carried false (Some a) b p q = absurd p
 
-pub firing_refused : (net : Progress) (who : Who) (c port k : ℕ) (mv : Move) (value : Option ℕ) (e : NetError) → 0 < net.left → ((journal : List Entry) → RefusesFire (with_journal net journal) c port e)
-    → IsSolePort net.wiring.sites net.state c k mv (Some port) → Stops net (Fired who c 0 k mv value)
-firing_refused net who c port k mv value e place refused sole other next tells follows =
-    let (p, is) = told_fired other who c k mv value tells in
-    let step : Step net.wiring.sites net.state c p k mv value next = subst (λ o. Follows net.wiring net.state o next) is follows in
-    let same = same_port port p (sole p value next step) in
-    no_step net c port e place refused (subst (StepsAt net.wiring.sites net.state c) (sym same) step.steps_at)
+-- a line that the net has gives a value where the steps that it may tell carry one
+pub gives : (net : Progress) (who : Who) (c k : ℕ) (mv : Move) (value : Option ℕ) → IsLed net → HasLine (outside net.wiring) (Fired who c 0 k mv value) → GivesAsSteps net.wiring.sites net.state c k mv value
+gives net who c k mv value (wired, journal, led) has p other next step =
+    let w = net.wiring in
+    let own : HasLine (outside w) (Fired who c p k mv other) = has_line w net.state (Fired who c p k mv other) next wired (fits_in w journal net.state wired led.run) step has.0 in
+    same_carried (carries_at w.chans k mv) other value own.3 has.3
 
--- a firing was made, where the line may tell of another
-module _ (old new : Progress) (who : Who) (c port k : ℕ) (mv : Move) (value : Option ℕ) (entry : Entry) (one : IsSoleStep (with_journal old []) (with_journal new []) who c port entry) (sole : IsSolePort old.wiring.sites old.state c k mv (Some port)) where
-  by_line : (other : Entry) (next : State) → told other ≡ Fired who c 0 k mv value → Follows old.wiring old.state other next → (entry ≡ Fired who c port k mv value) × (new.state ≡ next)
-  by_line other next tells follows =
+pub firing_goes : (old new : Progress) (who : Who) (c k : ℕ) (mv : Move) (value : Option ℕ) (entry : Entry) → ((p : ℕ) × (entry ≡ Fired who c p k mv value)) → Enters old entry new → LeadsOnlyTo old.wiring.sites old.state c k mv new.state
+    → Goes old new (Fired who c 0 k mv value)
+firing_goes old new who c k mv value entry fired enters sole = record {
+  entry = entry;
+  tells = ap told fired.1;
+  enters = enters;
+  sole = λ other next tells follows.
       let (p, is) = told_fired other who c k mv value tells in
-      let step : Step old.wiring.sites old.state c p k mv value next = subst (λ o. Follows old.wiring old.state o next) is follows in
-      one k mv value next (subst (λ (q : ℕ). Step old.wiring.sites old.state c q k mv value next) (sym (same_port port p (sole p value next step))) step)
+      sole p value next (subst (λ o. Follows old.wiring old.state o next) is follows);
+}
 
-  pub firing_goes : entry ≡ Fired who c port k mv value → Enters old entry new → Goes old new (Fired who c 0 k mv value)
-  firing_goes is enters = record {
-    entry = entry;
-    tells = ap told is;
-    enters = enters;
-    sole = λ other next tells follows. sym (by_line other next tells follows).1;
-  }
-
-  pub firing_stops : entry ≢ Fired who c port k mv value → Stops old (Fired who c 0 k mv value)
-  firing_stops differs other next tells follows = differs (by_line other next tells follows).0
+pub firing_stops : (net : Progress) (who : Who) (c k : ℕ) (mv : Move) (value : Option ℕ) → 0 < net.left → (net.left ≡ 0) ⊎ ((p : ℕ) → HasStep net.wiring.sites net.state c p k mv value → ⊥) → Stops net (Fired who c 0 k mv value)
+firing_stops net who c k mv value place (inl full) other next tells follows = absurd (omega (arith, full, place))
+firing_stops net who c k mv value place (inr none) other next tells follows =
+    let (p, is) = told_fired other who c k mv value tells in
+    none p (next, subst (λ o. Follows net.wiring net.state o next) is follows)
 
 -- ---- host commands
 
@@ -104,7 +99,7 @@ module _ (old new : Progress) (who : Who) (verb : Verb) (port : ℕ) (value : Op
   host_step : (other : Entry) (next : State) → told other ≡ Host who verb port value reply → Follows old.wiring old.state other next → HostStep old.wiring old.state verb port value reply next
   host_step other next tells follows = subst (λ o. Follows old.wiring old.state o next) (told_host other who verb port value reply tells) follows
 
-  pub replied : Enters old (Host who verb port value reply) new → Goes old new (Host who verb port value reply)
+  replied : Enters old (Host who verb port value reply) new → Goes old new (Host who verb port value reply)
   replied enters = record {
     entry = Host who verb port value reply;
     tells = refl;
@@ -112,8 +107,12 @@ module _ (old new : Progress) (who : Who) (verb : Verb) (port : ℕ) (value : Op
     sole = λ other next tells follows. (host_step other next tells follows).next_is ∙ sym (enters.adds []).follows.next_is;
   }
 
-  pub replied_otherwise : (found : Reply) → found ≢ reply → Enters old (Host who verb port value found) new → Stops old (Host who verb port value reply)
-  replied_otherwise found differ enters other next tells follows = differ ((enters.adds []).follows.reply_is ∙ sym (host_step other next tells follows).reply_is)
+  pub replied_otherwise : reply_to verb (phase_at old.state port) ≢ reply → Stops old (Host who verb port value reply)
+  replied_otherwise differ other next tells follows = differ (sym (host_step other next tells follows).reply_is)
+
+  -- what was replied is what was looked for
+  pub replied_so : (found : Reply) → reply_to verb (phase_at old.state port) ≡ reply → Enters old (Host who verb port value found) new → Goes old new (Host who verb port value reply)
+  replied_so found same enters = replied (subst (λ (r : Reply). Enters old (Host who verb port value r) new) ((enters.adds []).follows.reply_is ∙ same) enters)
 
   pub command_refused : (e : NetError) → 0 < old.left → RefusesAt old verb port value e → Stops old (Host who verb port value reply)
   command_refused e place refused other next tells follows = not_agreed old verb port value e place refused (host_step other next tells follows).agreed

@@ -17,11 +17,11 @@ use Rattle.bz_trace_text.specs.declared.tally.Counts.{Counts}
 use Rattle.bz_trace.specs.declared.checking.Verdict.{Verdict}
 use Rattle.bz_trace.specs.declared.checking.Verdict.TheVariants as verdict
 use Rattle.bz_trace.specs.declared.reading.ReadFault.{ReadFault}
-use Rattle.bz_trace.specs.Verdicts.{CountsRun, Judges, JudgesBy}
+use Rattle.bz_trace.specs.Verdicts.{Concludes, CountsRun, Judges, Leaves}
 use Rattle.bz_trace.specs.Following.{FollowsText, GetsOn, NoneToFollow}
 use Rattle.bz_trace.specs.declared.reading.ReadFault.TheVariants as fault
 use Rattle.bz_trace.specs.Reading.{AwaitsMore, Comes, HasEnd, IsOther, IsTooLong, ReadsMore}
-use Rattle.bz_trace.proofs.Along.{bad_here, cons_same, counts_run, follows_longer, follows_start, judges}
+use Rattle.bz_trace.proofs.Along.{bad_here, cons_same, counts_run, follows_longer, follows_start, judges, leaves, told_here}
 use Rattle.bz_trace.proofs.Ends.{no_entry_on}
 use Rattle.bz_trace.proofs.Sole.{one_verdict_or_memory}
 
@@ -80,11 +80,11 @@ no_entry names net text more followed named h (inr full) = λ e after has is. fu
 
 -- where another line is whole, the trace is bad there, whatever comes
 pub bad_line : (old new : Option (List ℕ)) (names : Outside) (w : Wiring) (net : Progress) (v : Version) (front got held : List ℕ) (followed : Followed) → Consumes old new got → FollowsText names w net (front ++ got) held followed → NoneToFollow names held followed → IsOther v held
-    → IfSome old (λ more. IsBad (outside w) (first_line v ++ (front ++ more)) (followed.count + 2))
+    → IfSome old (λ more. Concludes w (first_line v ++ (front ++ more)) net followed.counts (verdict.Bad (followed.count + 2)))
 bad_line old new names w net v front got held followed taken follows none other =
-    whatever_comes old new got (λ more. IsBad (outside w) (first_line v ++ (front ++ more)) (followed.count + 2)) taken (λ left.
-    subst (λ t. IsBad (outside w) (first_line v ++ t) (followed.count + 2)) (append_assoc front got left)
-    (bad_here names w net v ((front ++ got) ++ left) (held ++ left) followed (follows_longer names w net (front ++ got) held followed left follows) (no_end held left other.0) (no_entry names (outside w) held left followed follows.names_are other.0 none) (other.1 left)))
+    whatever_comes old new got (λ more. Concludes w (first_line v ++ (front ++ more)) net followed.counts (verdict.Bad (followed.count + 2))) taken (λ left.
+    (subst (λ t. IsBad (outside w) (first_line v ++ t) (followed.count + 2)) (append_assoc front got left)
+    (bad_here names w net v ((front ++ got) ++ left) (held ++ left) followed (follows_longer names w net (front ++ got) held followed left follows) (no_end held left other.0) (no_entry names (outside w) held left followed follows.names_are other.0 none) (other.1 left)), told_here names w net (front ++ got) held followed follows))
 
 -- where more is held than can be, and it is no line yet, it is too long
 pub too_long : (old new : Option (List ℕ)) (names : Outside) (w : Wiring) (net : Progress) (v : Version) (front got held : List ℕ) (followed : Followed) → Consumes old new got → FollowsText names w net (front ++ got) held followed → 67108864 < length held → AwaitsMore v held
@@ -143,33 +143,30 @@ falls old new text rest piece later (inr more) is some fits within =
 
 -- ---- what is said of all that the reader had
 
-pub judged_read : (old new : Option (List ℕ)) (w u : Wiring) (held lines : List ℕ) (v : Version) (counts : Counts) (said : Verdict) → Consumes old new held → held ≡ first_line v ++ lines → u ≡ w
-    → IfSome new (λ more. JudgesBy u (first_line v ++ (lines ++ more)) counts said) → IfSome old (λ text. JudgesBy w text counts said)
-judged_read None new w u held lines v counts said taken is same by = tt
-judged_read (Some xs) None w u held lines v counts said taken is same by = absurd taken
-judged_read (Some xs) (Some left) w u held lines v counts said taken is same by =
-    let whole : first_line v ++ (lines ++ left) ≡ xs = sym (append_assoc (first_line v) lines left) ∙ ap (λ s. s ++ left) (sym is) ∙ sym taken in
-    subst (λ t. JudgesBy w t counts said) whole (subst (λ (x : Wiring). JudgesBy x (first_line v ++ (lines ++ left)) counts said) same by)
-
 each : (o : Option (List ℕ)) (P Q : List ℕ → Type 0) → ((text : List ℕ) → P text → Q text) → IfSome o P → IfSome o Q
 each None P Q all p = tt
 each (Some text) P Q all p = all text p
 
-abbrev pub IsJudged : Wiring → Option (List ℕ) → Result (Verdict × Counts) ReadFault → Type 0
-IsJudged w old result = IfOk result (λ said. IfSome old (λ text. JudgesBy w text said.1 said.0))
+abbrev pub IsSaid : Wiring → Option (List ℕ) → Progress → Result (Verdict × Counts) ReadFault → Type 0
+IsSaid w old net result = IfOk result (λ said. IfSome old (λ text. Concludes w text net said.1 said.0))
 
-pub right_of : (w : Wiring) (old : Option (List ℕ)) (r : Result (Verdict × Counts) ReadFault) → IsJudged w old r → IfOk r (λ said. IfSome old (λ text. Judges w text said.0))
-right_of w old (Ok said) by = each old _ _ (λ text. judges w text said.1 said.0) by
-right_of w old (Err f) by = tt
+module _ (w : Wiring) (old : Option (List ℕ)) (net : Progress) where
+  pub right_of : (r : Result (Verdict × Counts) ReadFault) → IsSaid w old net r → IfOk r (λ said. IfSome old (λ text. Judges w text said.0))
+  right_of (Ok said) by = each old _ _ (λ text. judges w text net said.1 said.0) by
+  right_of (Err f) by = tt
 
-pub counted_of : (w : Wiring) (old : Option (List ℕ)) (r : Result (Verdict × Counts) ReadFault) → IsJudged w old r → IfOk r (λ said. IfSome old (λ text. said.0 ≡ verdict.Run → CountsRun w text said.1))
-counted_of w old (Ok said) by = each old _ _ (λ text. counts_run w text said.1 said.0) by
-counted_of w old (Err f) by = tt
+  pub counted_of : (r : Result (Verdict × Counts) ReadFault) → IsSaid w old net r → IfOk r (λ said. IfSome old (λ text. said.0 ≡ verdict.Run → CountsRun w text said.1))
+  counted_of (Ok said) by = each old _ _ (λ text. counts_run w text net said.1 said.0) by
+  counted_of (Err f) by = tt
 
-pub only_of : (w : Wiring) (old : Option (List ℕ)) (r : Result (Verdict × Counts) ReadFault) → OnOk r (WellWired w) → IsJudged w old r
-    → IfOk r (λ said. IfSome old (λ text. (v : Verdict) → Judges w text v → v ≢ verdict.Memory → (said.0 ≡ v) ⊎ (said.0 ≡ verdict.Memory)))
-only_of w old (Ok said) wired by = each old _ _ (λ text one v holds some. one_verdict_or_memory w text said.0 v (λ other. wired) (judges w text said.1 said.0 one) holds some) by
-only_of w old (Err f) wired by = tt
+  pub leaves_of : (r : Result (Verdict × Counts) ReadFault) → IsSaid w old net r → IfOk r (λ said. IfSome old (λ text. Leaves w text net said.0))
+  leaves_of (Ok said) by = each old _ _ (λ text. leaves w text net said.1 said.0) by
+  leaves_of (Err f) by = tt
+
+  pub only_of : (r : Result (Verdict × Counts) ReadFault) → WellWired w → IsSaid w old net r
+      → IfOk r (λ said. IfSome old (λ text. (v : Verdict) → Judges w text v → v ≢ verdict.Memory → (said.0 ≡ v) ⊎ (said.0 ≡ verdict.Memory)))
+  only_of (Ok said) wired by = each old _ _ (λ text one v holds some. one_verdict_or_memory w text said.0 v (λ other. wired) (judges w text net said.1 said.0 one) holds some) by
+  only_of (Err f) wired by = tt
 
 -- ---- a piece more, or the end
 
@@ -181,10 +178,10 @@ pub some_came : (old new : Option (List ℕ)) (held later : List ℕ) (goal : �
 some_came old new held later goal true so r = (r.0, r.1, r.2, r.3.0)
 some_came old new held later goal false so r = absurd (let e = so in cc)
 
-pub said_at_end : (old mid new : Option (List ℕ)) (w : Wiring) (v : Version) (front got : List ℕ) (counts : Counts) (said : Verdict) → Consumes old mid got → Consumes mid new [] → IsAtEnd new → JudgesBy w (first_line v ++ (front ++ got)) counts said
-    → IfSome old (λ more. JudgesBy w (first_line v ++ (front ++ more)) counts said)
-said_at_end old mid new w v front got counts said taken none end by =
-    nothing_comes old new got (λ more. JudgesBy w (first_line v ++ (front ++ more)) counts said) (subst (λ t. Consumes old new t) (append-nil got) (consumes_then old mid new got [] taken none)) end by
+pub said_at_end : (old mid new : Option (List ℕ)) (w : Wiring) (net : Progress) (v : Version) (front got : List ℕ) (counts : Counts) (said : Verdict) → Consumes old mid got → Consumes mid new [] → IsAtEnd new → Concludes w (first_line v ++ (front ++ got)) net counts said
+    → IfSome old (λ more. Concludes w (first_line v ++ (front ++ more)) net counts said)
+said_at_end old mid new w net v front got counts said taken none end by =
+    nothing_comes old new got (λ more. Concludes w (first_line v ++ (front ++ more)) net counts said) (subst (λ t. Consumes old new t) (append-nil got) (consumes_then old mid new got [] taken none)) end by
 
 pub held_on : (old mid new : Option (List ℕ)) (names : Outside) (w : Wiring) (net : Progress) (front got held later : List ℕ) (goal : ℕ) (came : Bool) (followed : Followed) → came ≡ true → ReadsMore mid new held later goal came → Consumes old mid got → FollowsText names w net (front ++ got) held followed
     → Held old new names w net front later followed
@@ -198,22 +195,28 @@ comes_long : (new : Option (List ℕ)) (came : Bool) (piece later : List ℕ) (g
 comes_long new true piece later goal c = c.1
 comes_long new false piece later goal c = inr c.1
 
-pub first_bad_of : (old new : Option (List ℕ)) (net : Outside) (held later text : List ℕ) (came : Bool) → held ≡ [] → ReadsMore old new held later 8 came → text ≡ later → ((v : Version) (rest : List ℕ) → text ≡ first_line v ++ rest → ⊥) → IfSome old (λ t. IsBad net t 1)
+first_bad_of : (old new : Option (List ℕ)) (net : Outside) (held later text : List ℕ) (came : Bool) → held ≡ [] → ReadsMore old new held later 8 came → text ≡ later → ((v : Version) (rest : List ℕ) → text ≡ first_line v ++ rest → ⊥) → IfSome old (λ t. IsBad net t 1)
 first_bad_of old new net held later text came empty r is none =
     let taken = subst (λ p. Consumes old new p) (sym (r.2 ∙ ap (λ h. h ++ r.0) empty)) r.1 in
     first_bad old new net later taken (comes_long new came r.0 later 8 r.3) (λ v rest e. none v rest (is ∙ e))
 
+-- so nothing was played
+pub begins_badly : (old new : Option (List ℕ)) (w : Wiring) (net : Progress) (counts : Counts) (held later text : List ℕ) (came : Bool) → IsToldBy net [] → held ≡ [] → ReadsMore old new held later 8 came → text ≡ later → ((v : Version) (rest : List ℕ) → text ≡ first_line v ++ rest → ⊥)
+    → IfSome old (λ t. Concludes w t net counts (verdict.Bad 1))
+begins_badly old new w net counts held later text came opened empty r is none =
+    each old _ _ (λ t bad. (bad, ([], opened))) (first_bad_of old new (outside w) held later text came empty r is none)
+
 -- what was said of the lines behind the first one, of which a front was held, holds of all that the reader had
-pub judged_behind : (w : Wiring) (old mid : Option (List ℕ)) (held later text lines front : List ℕ) (version : Version) (goal : ℕ) (came : Bool) (answer : Result (Verdict × Counts) ReadFault)
+pub said_behind : (w : Wiring) (net : Progress) (old mid : Option (List ℕ)) (held later text lines front : List ℕ) (version : Version) (goal : ℕ) (came : Bool) (answer : Result (Verdict × Counts) ReadFault)
     → held ≡ [] → ReadsMore old mid held later goal came → text ≡ later → text ≡ first_line version ++ lines → front ≡ lines
-    → IfOk answer (λ said. IfSome mid (λ more. JudgesBy w (first_line version ++ (front ++ more)) said.1 said.0))
-    → IfOk answer (λ said. IfSome old (λ text. JudgesBy w text said.1 said.0))
-judged_behind w old mid held later text lines front version goal came (Err e) empty reads whole begins front_is judged = tt
-judged_behind w None mid held later text lines front version goal came (Ok said) empty reads whole begins front_is judged = tt
-judged_behind w (Some xs) None held later text lines front version goal came (Ok said) empty (piece, taken, is, comes) whole begins front_is judged = absurd taken
-judged_behind w (Some xs) (Some ys) held later text lines front version goal came (Ok said) empty (piece, taken, is, comes) whole begins front_is judged =
+    → IfOk answer (λ said. IfSome mid (λ more. Concludes w (first_line version ++ (front ++ more)) net said.1 said.0))
+    → IfOk answer (λ said. IfSome old (λ text. Concludes w text net said.1 said.0))
+said_behind w net old mid held later text lines front version goal came (Err e) empty reads whole begins front_is judged = tt
+said_behind w net None mid held later text lines front version goal came (Ok said) empty reads whole begins front_is judged = tt
+said_behind w net (Some xs) None held later text lines front version goal came (Ok said) empty (piece, taken, is, comes) whole begins front_is judged = absurd taken
+said_behind w net (Some xs) (Some ys) held later text lines front version goal came (Ok said) empty (piece, taken, is, comes) whole begins front_is judged =
     let piece_is : piece ≡ first_line version ++ front = ap (λ (l : List ℕ). l ++ piece) (sym empty) ∙ sym is ∙ sym whole ∙ begins ∙ ap (λ (l : List ℕ). first_line version ++ l) (sym front_is) in
-    subst (λ (t : List ℕ). JudgesBy w t said.1 said.0) (sym (taken ∙ ap (λ (l : List ℕ). l ++ ys) piece_is ∙ append_assoc (first_line version) front ys)) judged
+    subst (λ (t : List ℕ). Concludes w t net said.1 said.0) (sym (taken ∙ ap (λ (l : List ℕ). l ++ ys) piece_is ∙ append_assoc (first_line version) front ys)) judged
 
 -- and so does that they are too long
 pub long_behind : {A : Type 0} (w : Wiring) (old mid : Option (List ℕ)) (held later text lines front : List ℕ) (version : Version) (goal : ℕ) (came : Bool) (answer : Result A ReadFault)

@@ -28,15 +28,20 @@ pub record Goes (old new : Progress) (line : Entry) : Type 0 where
 abbrev pub Stops : Progress → Entry → Type 0
 Stops old line = (other : Entry) (next : State) → told other ≡ told line → Follows old.wiring old.state other next → ⊥
 
+-- the net goes on by the line, or stays where it is
 abbrev pub Plays : Progress → Progress → Entry → Step → Type 0
 Plays old new line step.Goes = Goes old new line
-Plays old new line step.Stops = Stops old line
+Plays old new line step.Stops = Stops old line × (new ≡ old)
 
 -- the number of the line that stopped, if one has: an earlier one, or this one
 abbrev pub PlaysOn : Progress → Progress → Entry → ℕ → Option ℕ → Option ℕ → Type 0
 PlaysOn old new line number None None = Goes old new line
-PlaysOn old new line number None (Some k) = Stops old line × (k ≡ number)
-PlaysOn old new line number (Some k) stop = stop ≡ Some k
+PlaysOn old new line number None (Some k) = Stops old line × (new ≡ old) × (k ≡ number)
+PlaysOn old new line number (Some k) stop = (stop ≡ Some k) × (new ≡ old)
+
+-- some run of a net that is wired well led to where it is
+abbrev pub IsLed : Progress → Type 0
+IsLed net = WellWired net.wiring × ((journal : List Entry) × IsToldBy net journal)
 
 -- a journal of the net tells the entries, and each run that tells them ends in the net's state
 pub record Along (w : Wiring) (net : Progress) (entries : List Entry) : Type 0 where
@@ -48,10 +53,10 @@ pub record Along (w : Wiring) (net : Progress) (entries : List Entry) : Type 0 w
   pub of_net : IsToldBy net journal
   pub sole : (es : List Entry) (t : State) → Run w (opening w) es t → map told es ≡ map told entries → t ≡ net.state
 
--- the net is along the entries, or this line stopped it
+-- the net is along the entries, or along those before the line that stopped it
 abbrev pub Stands : Wiring → Progress → List Entry → Option ℕ → Type 0
 Stands w net entries None = Along w net entries
-Stands w net entries (Some line) = StopsAtEntry w entries line
+Stands w net entries (Some line) = (stops : StopsAtEntry w entries line) × Along w net stops.before
 
 -- The text behind the first line of a trace is lines of entries and, behind them, the rest; those lines were followed.
 pub record FollowsText (names : Outside) (w : Wiring) (net : Progress) (text rest : List ℕ) (followed : Followed) : Type 0 where

@@ -1,11 +1,12 @@
 -- What is said of a text: it is the trace of a run, or the first line that no run allows, or the first that is no line.
-use Rattle.std.specs.Prelude.{◌≡◌, ◌≢◌, ◌⊎◌, ⊤, ℕ, ◌+◌, ◌≤◌, Option, Some, None, List, [], ◌∷◌, ◌++◌, length, MatchOption}
+use Rattle.std.specs.Prelude.{◌≡◌, ◌≢◌, ◌⊎◌, ⊤, ℕ, ◌+◌, ◌-◌, ◌≤◌, Option, Some, None, List, [], ◌∷◌, ◌++◌, length, map, take, MatchOption}
 use Rattle.std.specs.List.{AllByRecursion}
 use Rattle.bz_model.specs.declared.event.Entry.{Entry}
 use Rattle.bz_model.specs.Nets.{Wiring, State, opening, outside}
 use Rattle.bz_model.specs.Runs.{Run}
 use Rattle.bz_model.specs.Clashes.{AreClashed}
-use Rattle.bz_model.specs.Entries.{HasWho, IsNumber32}
+use Rattle.bz_model.specs.Entries.{HasWho, IsNumber32, told}
+use Rattle.bz_net.specs.Progress.{Progress, IsToldBy}
 use Rattle.bz_trace_text.specs.declared.tally.Counts.{Counts}
 use Rattle.bz_model.specs.Limits.{max_entries}
 use Rattle.bz_trace_text.specs.declared.text.Version.{Version}
@@ -97,12 +98,23 @@ Judges w text verdict.Memory = ⊤
 abbrev pub CountsRun : Wiring → List ℕ → Counts → Type 0
 CountsRun w text counts = (run : IsRunText w text) × Tells counts run.entries
 
--- The same, with these counts.
-abbrev pub JudgesBy : Wiring → List ℕ → Counts → Verdict → Type 0
-JudgesBy w text counts verdict.Run = CountsRun w text counts
-JudgesBy w text counts (verdict.Not line) = IsNoRun w text line
-JudgesBy w text counts (verdict.Bad line) = IsBad (outside w) text line
-JudgesBy w text counts verdict.Memory = ⊤
+-- a run led the net to where it is whose lines are those of these entries
+abbrev pub IsAfter : Progress → List Entry → Type 0
+IsAfter net entries = (journal : List Entry) × (map told journal ≡ map told entries) × IsToldBy net journal
+
+-- Where a check leaves the net: at the end of the run, or in front of the line that no run allows.
+abbrev pub Leaves : Wiring → List ℕ → Progress → Verdict → Type 0
+Leaves w text net verdict.Run = (run : IsRunText w text) × IsToldBy net run.entries
+Leaves w text net (verdict.Not line) = (no : IsNoRun w text line) × IsAfter net (take (line - 2) no.trace.entries)
+Leaves w text net (verdict.Bad line) = (journal : List Entry) × IsToldBy net journal
+Leaves w text net verdict.Memory = ⊤
+
+-- What is said of a text, with these counts, and where the net is left.
+abbrev pub Concludes : Wiring → List ℕ → Progress → Counts → Verdict → Type 0
+Concludes w text net counts verdict.Run = (run : IsRunText w text) × Tells counts run.entries × IsToldBy net run.entries
+Concludes w text net counts (verdict.Not line) = Leaves w text net (verdict.Not line)
+Concludes w text net counts (verdict.Bad line) = IsBad (outside w) text line × Leaves w text net (verdict.Bad line)
+Concludes w text net counts verdict.Memory = ⊤
 
 -- The first place at which these clash lines are other than those due.
 abbrev pub FirstDiffers : List ℕ → List ℕ → Option ℕ → Type 0

@@ -8,10 +8,9 @@ ghost use Rattle.bz_net.specs.Progress.{IsToldBy};
 ghost use Rattle.bz_model.specs.Limits.{max_entries};
 ghost use Rattle.bz_trace_text.specs.Texts.{first_line};
 ghost use Rattle.bz_trace.specs.Following.{FollowsText, IsFollowed, NoneToFollow};
-ghost use Rattle.bz_trace.specs.Verdicts.{AreDue, CountsRun, FirstDiffers, Judges, JudgesBy};
+ghost use Rattle.bz_trace.specs.Verdicts.{AreDue, Concludes, CountsRun, FirstDiffers, Judges, Leaves};
 
 use crate::lines::{Followed, play_lines};
-use bz_flat::Flat;
 use bz_net::Play;
 use bz_trace_text::{
     Counts, LineNames, MAX_ENTRIES, Version, clash_at, line_at, other_line, version_at,
@@ -30,42 +29,40 @@ pub enum Verdict {
     Memory,
 }
 
-/// Whether a text is the trace of a run of the net, from its opening.
-pub fn check(alloc: Global, flat: Flat, text: &[u8]) -> Verdict
+/// Whether a text is the trace of a run of the net, which is at its opening; and how many entries of each kind the trace of a
+/// run has. The net plays the lines that a run allows.
+pub fn check(alloc: Global, net: &mut Play, text: &[u8]) -> (Verdict, Counts)
+    requires opened { IsToldBy net.old [] }
+    requires left { net.old.left ≡ max_entries }
+
     // The verdict holds of the text, unless memory was wanting.
-    ensures right { Judges flat.wiring text.now result }
+    ensures right { Judges net.old.wiring text.now result.0 }
 
     // Whatever verdict holds of the text is answered.
-    ensures only { (v : Verdict) → Judges flat.wiring text.now v → v ≢ Verdict.Memory
-        → (result ≡ v) ⊎ (result ≡ Verdict.Memory) }
-{
-    check_and_count(alloc, flat, text).0
-}
-
-/// The same, and how many entries of each kind the trace of a run has.
-pub fn check_and_count(alloc: Global, flat: Flat, text: &[u8]) -> (Verdict, Counts)
-    ensures right { Judges flat.wiring text.now result.0 }
-    ensures only { (v : Verdict) → Judges flat.wiring text.now v → v ≢ Verdict.Memory
+    ensures only { (v : Verdict) → Judges net.old.wiring text.now v → v ≢ Verdict.Memory
         → (result.0 ≡ v) ⊎ (result.0 ≡ Verdict.Memory) }
-    ensures counted { result.0 ≡ Verdict.Run → CountsRun flat.wiring text.now result.1 }
+    ensures counted { result.0 ≡ Verdict.Run → CountsRun net.old.wiring text.now result.1 }
+
+    // So what is wrong with a line can be seen on the net.
+    ensures leaves { Leaves net.old.wiring text.now net.new result.0 }
+    ensures wiring { net.new.wiring ≡ net.old.wiring }
 {
-    check_text(alloc, flat, text)
+    check_text(alloc, net, text)
 }
 
-fn check_text(alloc: Global, flat: Flat, text: &[u8]) -> (Verdict, Counts)
-    ensures right { Judges flat.wiring text.now result.0 }
-    ensures counted { result.0 ≡ Verdict.Run → CountsRun flat.wiring text.now result.1 }
-    ensures wired { result.0 ≢ Verdict.Memory → WellWired flat.wiring }
+fn check_text(alloc: Global, net: &mut Play, text: &[u8]) -> (Verdict, Counts)
+    requires opened { IsToldBy net.old [] }
+    requires left { net.old.left ≡ max_entries }
+    ensures concludes { Concludes net.old.wiring text.now net.new result.1 result.0 }
+    ensures wired { WellWired net.old.wiring }
+    ensures wiring { net.new.wiring ≡ net.old.wiring }
 {
-    let Ok(mut net) = Play::open(alloc, flat, MAX_ENTRIES as u32) else {
-        return (Verdict::Memory, Counts::NONE);
-    };
     let Ok(names) = net.names().dup(alloc) else {
         return (Verdict::Memory, Counts::NONE);
     };
     let names = LineNames::new(alloc, &names);
     match version_at(text) {
-        Some((version, lines)) => check_lines(&mut net, &names, version, lines),
+        Some((version, lines)) => check_lines(net, &names, version, lines),
         None => (Verdict::Bad(1), Counts::NONE),
     }
 }
@@ -81,7 +78,8 @@ fn check_lines(
     requires left { net.old.left ≡ max_entries }
     requires names { names.now ≡ outside net.old.wiring }
     requires wired { WellWired net.old.wiring }
-    ensures { JudgesBy net.old.wiring (first_line version ++ text.now) result.1 result.0 }
+    ensures concludes { Concludes net.old.wiring (first_line version ++ text.now) net.new result.1 result.0 }
+    ensures wiring { net.new.wiring ≡ net.old.wiring }
 {
     let (followed, rest) = play_lines(net, names, Followed::NONE, text);
     let verdict = verdict_behind(net, names, version, followed, rest);
@@ -99,7 +97,7 @@ pub(crate) fn verdict_behind(
     requires followed { IsFollowed names.now net.now rest.now followed }
     requires no_more { NoneToFollow names.now rest.now followed }
     ensures { (w : Wiring) (text : List ℕ) → FollowsText names.now w net.now text rest.now followed
-        → JudgesBy w (first_line version ++ text) followed.counts result }
+        → Concludes w (first_line version ++ text) net.now followed.counts result }
 {
     if let Some(_) = line_at(names, rest) {
         return Verdict::Bad(MAX_ENTRIES + 2);

@@ -1,10 +1,9 @@
 //! One line of a trace, played on a net.
 
-ghost use Rattle.std.specs.Prelude.{◌≡◌, ◌<◌, ◌≤◌, ◌↔◌, ℕ, IsTrue, None, length};
+ghost use Rattle.std.specs.Prelude.{◌≡◌, ◌<◌, ◌≤◌, None, length};
 ghost use Rattle.bz_model.specs.Nets.{outside};
 ghost use Rattle.bz_model.specs.Entries.{HasLine};
-ghost use Rattle.bz_net.specs.Replies.{IsFiring};
-ghost use Rattle.bz_trace.specs.Following.{Plays, PlaysOn};
+ghost use Rattle.bz_trace.specs.Following.{IsLed, Plays, PlaysOn};
 
 use bz_model::{Entry, Move, Reply, Value, Verb, Who};
 use bz_net::{Play, RestReply};
@@ -21,6 +20,7 @@ pub(crate) enum Step {
 pub(crate) fn follow(net: &mut Play, line: Entry) -> Step
     requires place { 0 < net.old.left }
     requires has_line { HasLine (outside net.old.wiring) line }
+    requires led { IsLed net.old }
     ensures { Plays net.old net.new line result }
 {
     match line {
@@ -52,39 +52,14 @@ fn follow_firing(
     mv: Move,
     value: Option<Value>,
 ) -> Step
-    requires { 0 < net.old.left }
+    requires place { 0 < net.old.left }
+    requires has_line { HasLine (outside net.old.wiring) (Entry.Fired who comp 0 chan mv value) }
+    requires led { IsLed net.old }
     ensures { Plays net.old net.new (Entry.Fired who comp 0 chan mv value) result }
 {
-    let Some(port) = net.port_at(comp, chan, mv) else {
-        return Step::Stops;
-    };
-    match net.fire_move(who, comp, port) {
-        Ok(entry) => {
-            if tells(entry, chan, mv, value) {
-                Step::Goes
-            } else {
-                Step::Stops
-            }
-        }
-        Err(_) => Step::Stops,
-    }
-}
-
-// Whether a firing is this move on this channel, with this value.
-#[inline(always)]
-fn tells(entry: Entry, chan: u32, mv: Move, value: Option<Value>) -> bool
-    ensures { (who : Who) (comp port : ℕ) → IsFiring who comp port entry → IsTrue result ↔ entry ≡ Entry.Fired who comp port chan mv value }
-{
-    match entry {
-        Entry::Fired {
-            who: _,
-            comp: _,
-            port: _,
-            chan: on,
-            mv: made,
-            value: carries,
-        } => on == chan && made == mv && carries == value,
-        _ => false,
+    match net.fire_on(who, comp, chan, mv, value) {
+        Some(_) => Step::Goes,
+        None => Step::Stops,
     }
 }
 
@@ -102,14 +77,11 @@ fn follow_command(
     requires to { port ≤ length net.old.wiring.ports }
     ensures { Plays net.old net.new (Entry.Host who verb port value reply) result }
 {
+    if net.core().reply(verb, port) != reply {
+        return Step::Stops;
+    }
     match net.host_at(who, verb, port, value) {
-        Ok(found) => {
-            if found == reply {
-                Step::Goes
-            } else {
-                Step::Stops
-            }
-        }
+        Ok(_) => Step::Goes,
         Err(_) => Step::Stops,
     }
 }
@@ -136,6 +108,7 @@ pub(crate) fn play_on(
 ) -> Option<usize>
     requires place { stop ≡ None → 0 < net.old.left }
     requires has_line { stop ≡ None → HasLine (outside net.old.wiring) line }
+    requires led { stop ≡ None → IsLed net.old }
     ensures { PlaysOn net.old net.new line number stop result }
 {
     if stop.is_some() {

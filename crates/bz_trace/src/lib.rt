@@ -11,6 +11,6 @@ pub use bz_trace_text::{
     Counts, MAX_ENTRIES, TraceError, Version, counts, one_spelling, put_clashes, put_entries,
     put_first_line, read_trace, write_trace, write_trace_1,
 };
-pub use checking::{Verdict, check, check_and_count};
+pub use checking::{Verdict, check};
 pub use laws::plays_are_accepted;
 pub use reading::{ReadFault, check_read};

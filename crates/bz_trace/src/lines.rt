@@ -5,7 +5,7 @@ ghost use Rattle.bz_model.specs.Entries.{HasLine};
 ghost use Rattle.bz_model.specs.Nets.{Wiring, outside};
 ghost use Rattle.bz_trace_text.specs.Counting.{AreFewer};
 ghost use Rattle.bz_trace_text.specs.Reading.{line_at};
-ghost use Rattle.bz_trace.specs.Following.{FollowsFront, FollowsOne, FollowsText, GetsOn, IsFollowed, NoneToFollow};
+ghost use Rattle.bz_trace.specs.Following.{FollowsFront, FollowsOne, FollowsText, GetsOn, IsFollowed, IsLed, NoneToFollow};
 
 use crate::following::play_on;
 use bz_model::Entry;
@@ -100,6 +100,7 @@ fn follow_other<'t>(
 fn follow_one(net: &mut Play, followed: &mut Followed, line: Entry)
     requires place { followed.old.stop ≡ None → 0 < net.old.left }
     requires has_line { followed.old.stop ≡ None → HasLine (outside net.old.wiring) line }
+    requires led { followed.old.stop ≡ None → IsLed net.old }
     requires counts { AreFewer followed.old.counts 18446744073709551615 }
     requires fewer { followed.old.count < MAX_ENTRIES }
     ensures { FollowsOne net.old net.new line followed.old followed.new }

@@ -8,14 +8,13 @@ ghost use Rattle.bz_net.specs.Progress.{IsToldBy};
 ghost use Rattle.bz_trace_text.specs.Texts.{first_line};
 ghost use Rattle.bz_trace.specs.Following.{FollowsText, GetsOn, IsFollowed, NoneToFollow};
 ghost use Rattle.bz_trace.specs.Reading.{AwaitsMore, IsOther, IsTooLong, ReadsMore};
-ghost use Rattle.bz_trace.specs.Verdicts.{CountsRun, Judges, JudgesBy};
+ghost use Rattle.bz_trace.specs.Verdicts.{Concludes, CountsRun, Judges, Leaves};
 ghost use Rattle.bz_trace.specs.declared.reading.ReadFault.TheVariants.{Memory, TooLong};
 
 use crate::checking::{Verdict, verdict_behind};
 use crate::lines::{Followed, play_lines};
-use bz_flat::Flat;
 use bz_net::Play;
-use bz_trace_text::{Counts, LineNames, MAX_ENTRIES, Version, clash_at, version_at};
+use bz_trace_text::{Counts, LineNames, Version, clash_at, version_at};
 use std::alloc::{AllocError, Global};
 use std::io::Read;
 
@@ -45,35 +44,39 @@ impl From<AllocError> for ReadFault {
     }
 }
 
-/// What `check_and_count` says of the text that a reader gives, which may be longer than memory. Where it is no trace, no more
-/// of it is read than that takes.
+/// What `check` says of the text that a reader gives, which may be longer than memory. Where it is no trace, no more of it is
+/// read than that takes.
 pub fn check_read<R: Read>(
     alloc: Global,
-    flat: Flat,
+    net: &mut Play,
     input: &mut R,
 ) -> Result<(Verdict, Counts), ReadFault>
-    ensures right { IfOk result (λ said. IfSome (R.remaining input.old) (λ text. Judges flat.wiring text said.0)) }
+    requires opened { IsToldBy net.old [] }
+    requires left { net.old.left ≡ max_entries }
+    ensures right { IfOk result (λ said. IfSome (R.remaining input.old) (λ text. Judges net.old.wiring text said.0)) }
     ensures only { IfOk result (λ said. IfSome (R.remaining input.old) (λ text.
-        (v : Verdict) → Judges flat.wiring text v → v ≢ Verdict.Memory → (said.0 ≡ v) ⊎ (said.0 ≡ Verdict.Memory))) }
+        (v : Verdict) → Judges net.old.wiring text v → v ≢ Verdict.Memory → (said.0 ≡ v) ⊎ (said.0 ≡ Verdict.Memory))) }
     ensures counted { IfOk result (λ said. IfSome (R.remaining input.old) (λ text.
-        said.0 ≡ Verdict.Run → CountsRun flat.wiring text said.1)) }
-    ensures long { IfErr result (λ e. e ≡ TooLong → IfSome (R.remaining input.old) (IsTooLong flat.wiring)) }
+        said.0 ≡ Verdict.Run → CountsRun net.old.wiring text said.1)) }
+    ensures leaves { IfOk result (λ said. IfSome (R.remaining input.old) (λ text. Leaves net.old.wiring text net.new said.0)) }
+    ensures wiring { OnOk result (net.new.wiring ≡ net.old.wiring) }
+    ensures long { IfErr result (λ e. e ≡ TooLong → IfSome (R.remaining input.old) (IsTooLong net.old.wiring)) }
 {
-    read_text(alloc, flat, input)
+    read_text(alloc, net, input)
 }
 
 fn read_text<R: Read>(
     alloc: Global,
-    flat: Flat,
+    net: &mut Play,
     input: &mut R,
 ) -> Result<(Verdict, Counts), ReadFault>
-    ensures judged { IfOk result (λ said. IfSome (R.remaining input.old) (λ text. JudgesBy flat.wiring text said.1 said.0)) }
-    ensures wired { OnOk result (WellWired flat.wiring) }
-    ensures long { IfErr result (λ e. e ≡ TooLong → IfSome (R.remaining input.old) (IsTooLong flat.wiring)) }
+    requires opened { IsToldBy net.old [] }
+    requires left { net.old.left ≡ max_entries }
+    ensures concludes { IfOk result (λ said. IfSome (R.remaining input.old) (λ text. Concludes net.old.wiring text net.new said.1 said.0)) }
+    ensures wired { WellWired net.old.wiring }
+    ensures wiring { OnOk result (net.new.wiring ≡ net.old.wiring) }
+    ensures long { IfErr result (λ e. e ≡ TooLong → IfSome (R.remaining input.old) (IsTooLong net.old.wiring)) }
 {
-    let Ok(mut net) = Play::open(alloc, flat, MAX_ENTRIES as u32) else {
-        return Err(ReadFault::Memory);
-    };
     let Ok(names) = net.names().dup(alloc) else {
         return Err(ReadFault::Memory);
     };
@@ -83,7 +86,7 @@ fn read_text<R: Read>(
     match version_at(held.as_slice()) {
         Some((version, lines)) => {
             let front = Vec::from_slice(alloc, lines)?;
-            check_lines_of(alloc, &mut net, &names, version, front, input)
+            check_lines_of(alloc, net, &names, version, front, input)
         }
         None => Ok((Verdict::Bad(1), Counts::NONE)),
     }
@@ -102,8 +105,9 @@ fn check_lines_of<R: Read>(
     requires left { net.old.left ≡ max_entries }
     requires names { names.now ≡ outside net.old.wiring }
     requires wired { WellWired net.old.wiring }
-    ensures judged { IfOk result (λ said. IfSome (R.remaining input.old)
-        (λ more. JudgesBy net.old.wiring (first_line version ++ (front.items ++ more)) said.1 said.0)) }
+    ensures concludes { IfOk result (λ said. IfSome (R.remaining input.old)
+        (λ more. Concludes net.old.wiring (first_line version ++ (front.items ++ more)) net.new said.1 said.0)) }
+    ensures wiring { OnOk result (net.new.wiring ≡ net.old.wiring) }
     ensures long { IfErr result (λ e. e ≡ TooLong → IfSome (R.remaining input.old)
         (λ more. IsTooLong net.old.wiring (first_line version ++ (front.items ++ more)))) }
 {

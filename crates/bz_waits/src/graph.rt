@@ -8,7 +8,7 @@ ghost use Rattle.bz_waits.specs.Waiting.{AreWaits, IsAwaited, IsPlace, IsStuck, 
 
 use crate::cycles::cycles;
 use crate::due::{chooses, is_due, next_due, owed_chan};
-use crate::sites::{comp_count, port_count};
+use crate::sites::port_count;
 use crate::table::Table;
 use crate::wait::{Place, Wait};
 use bz_model::Move;
@@ -33,7 +33,7 @@ impl Graph {
         ensures cycles { IfOk result (λ graph. AreCycles graph.waits.items graph.cycles.items) }
     {
         let (waits, waiting) = waits_of(alloc, core)?;
-        let cycles = cycles(alloc, comp_count(core), &waits)?;
+        let cycles = cycles(alloc, core.comp_count(), &waits)?;
         Ok(Graph {
             waits,
             waiting,
@@ -73,7 +73,7 @@ fn waits_of(alloc: Global, core: &Core) -> Result<(Vec<Wait>, usize), AllocError
     ensures { IfOk result (λ made. AreWaits core.now.wiring.sites core.now.state made.0.items) }
 {
     let (mut waits, mut waiting) = (Vec::new(alloc), 0usize);
-    for place in 0..comp_count(core) {
+    for place in 0..core.comp_count() {
         let before = waits.len();
         add_comp(core, place + 1, &mut waits)?;
         if waits.len() > before {

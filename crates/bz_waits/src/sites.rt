@@ -10,15 +10,6 @@ use bz_flat::FlatComp;
 use bz_kind_rows::is_passive;
 use bz_net::Core;
 
-/// How many components there are.
-pub(crate) fn comp_count(core: &Core) -> u32
-    ensures { result ≡ length core.now.wiring.sites }
-{
-    // the wiring tells that there are fewer than 2^32
-    let _ = core.names();
-    core.comp_count() as u32
-}
-
 /// A component.
 pub(crate) fn site(core: &Core, comp: u32) -> &FlatComp
     requires from { 0 < comp }

@@ -1,4 +1,5 @@
 use Rattle.std.proofs.Common.{refl, sym, subst, ◌∙◌, arith}
+use Rattle.std.specs.Option.{option_copied}
 use Rattle.std.specs.Prelude.{length, vec_len}
 use Rattle.bz_locked.specs.Terms.{Terms, terms}
 use Rattle.bz_past.specs.Moments.{moment}
@@ -13,7 +14,7 @@ returns-in-Err g c =
     let options = c.args.options in
     let net = c.in_ok-net.net in
     let same = same_terms net.wiring opened.0 net.limit options.journal options.fuel (vec_len lists) (length lists.items) opened.2.wiring opened.2.limit_is lists.ok.0 in
-    no_close c.args.text.now c.args.part.now options.fuel options.journal lists.items options.workers opened.0 _ opened.1 same (g.W.Write.contents c.args.output.now) c.of_pool.result c.in-Err.error c.in-Err.ensures.refused c.of_pool.ensures
+    no_close c.args.text.now (option_copied c.args.asked) options.fuel options.journal lists.items options.workers opened.0 _ opened.1 same (g.W.Write.contents c.args.output.now) c.of_pool.result c.in-Err.error c.in-Err.ensures.refused c.of_pool.ensures
 
 pub returns : goal.returns
 returns g c =
@@ -29,4 +30,4 @@ returns g c =
     let played = subst (λ (t : Terms). ArePlayed t lists.items options.workers last ends.items) mine closed.played in
     let writes = c.write_closed.ensures lists.items options.workers c.in-Ok.pooled.0.stopped (sym lists.ok.0 ∙ sym c.len-count.ensures) (omega (arith, closed.ends, lists.ok.0, ends.ok.0)) played in
     let same = same_terms left.wiring opened.0 left.limit options.journal options.fuel (length lists.items) (length lists.items) (closed.pooled.opened ∙ opened.2.wiring) (closed.pooled.limited ∙ opened.2.limit_is) refl in
-    closed_so c.args.text.now c.args.part.now options.fuel options.journal lists.items options.workers opened.0 _ _ _ c.write_closed.result opened.1 same writes
+    closed_so c.args.text.now (option_copied c.args.asked) options.fuel options.journal lists.items options.workers opened.0 _ _ _ c.write_closed.result opened.1 same writes

@@ -11,5 +11,5 @@ pub returns : goal.returns
 returns g c =
     let netlist = c.split_trace.result.0.now in
     let trace = c.split_trace.result.1.now in
-    let checked = c.check_and_count-verdict in
-    (netlist, trace, c.split_trace.ensures, told netlist trace c.args.part.now c.in-Ok.flat.wiring checked.result.0 checked.result.1 _ _ c.tell.result c.in-Ok.ensures.ok checked.ensures.right checked.ensures.counted c.tell.ensures)
+    let checked = c.check-verdict in
+    (netlist, trace, c.split_trace.ensures, told netlist trace c.args.part.now c.in-Ok.net.wiring checked.result.0 checked.result.1 _ _ c.tell.result c.in-Ok.ensures.denotes checked.ensures.right checked.ensures.counted c.tell.ensures)

@@ -1,12 +1,19 @@
-use Rattle.std.proofs.Common.{◌≡◌, ℕ, Option, List, [], ◌∷◌, ◌++◌, refl, sym, ap, subst, append-nil}
+use Rattle.std.proofs.Common.{◌≡◌, ℕ, Option, List, [], ◌∷◌, ◌++◌, refl, sym, ap, subst, ◌∙◌, append-nil}
 use Rattle.bz_model.specs.declared.event.Cmd.TheVariants as word
 use Rattle.bz_model.specs.declared.event.Entry.{Entry}
+use Rattle.bz_model.specs.declared.event.Entry.TheVariants.{Host}
+use Rattle.bz_model.specs.declared.event.Reply.{Reply}
+use Rattle.bz_model.specs.declared.event.Who.TheVariants as who
 use Rattle.bz_net.specs.Progress.{Progress, IsToldBy, with_journal}
-use Rattle.bz_cli_core.specs.Playing.{StopsOne}
+use Rattle.bz_cli_core.specs.Playing.{PlaysOne, StopsOne}
+use Rattle.bz_cli_core.specs.Running.{refusal_in}
 use Rattle.bz_cli_core.specs.Sending.{IsSent}
 use Rattle.bz_cli_core.proofs.Played.{host_plays, host_stops}
 use Rattle.bz_cli_core.proofs.Pieces.{command_wants, sent_with}
 use Rattle.bz_cli_core.proofs.playing.command_out.Goals as goal
+
+same_last : (a b : Entry) → (a ∷ []) ≡ (b ∷ []) → a ≡ b
+same_last a b e = cc
 
 pub returns-in-Ok-clause-ok : goal.returns-in-Ok-clause-ok
 returns-in-Ok-clause-ok g c =
@@ -17,10 +24,14 @@ returns-in-Ok-clause-ok g c =
     let pushed : c.push.new.self.items ≡ ready.entries.items ++ e ∷ [] = rw c.unwrap.ensures at c.push.ensures.items in
     record {
       entries = e ∷ [];
-      made = λ journal. host_plays (with_journal old journal) (with_journal new (journal ++ e ∷ [])) c.args.cmd.now replies.0 (replies.1 journal);
+      made = λ journal. subst (λ (o : Option Reply). PlaysOne (with_journal old journal) (with_journal new (journal ++ e ∷ [])) (word.Host c.args.cmd.now) o) (refusal journal)
+          (host_plays (with_journal old journal) (with_journal new (journal ++ e ∷ [])) c.args.cmd.now replies.0 (replies.1 journal));
       leads = c.in-Ok.ensures.leads;
       sent = λ start played sent. sent_with old.wiring.ports now ready (record { entries = c.push.new.self; failed = ready.failed }) (e ∷ []) refl pushed start played (room start played sent);
     }
+  where
+    refusal : (journal : List Entry) → refusal_in (Host (who.Host 1) c.args.cmd.now.verb (c.in-Ok.ensures.replies.1 journal).port c.args.cmd.now.value c.in-Ok.ensures.replies.0) ≡ c.refusal_in.result
+    refusal journal = ap refusal_in (sym (same_last _ _ (c.in-Ok.ensures.replies.1 []).adds.journal)) ∙ sym c.refusal_in.ensures
 
 pub returns-in-Err-clause-err : goal.returns-in-Err-clause-err
 returns-in-Err-clause-err g c =

@@ -1,5 +1,5 @@
-use Rattle.std.proofs.Common.{◌≡◌, ℕ, [], sym, subst}
-use Rattle.std.specs.Prelude.{OnOk, IfErr}
+use Rattle.std.proofs.Common.{◌≡◌, ℕ, None, [], sym, subst}
+use Rattle.std.specs.Prelude.{IfOk, IfErr}
 use Rattle.bz_model.specs.declared.event.Cmd.{Cmd}
 use Rattle.bz_model.specs.declared.event.Who.TheVariants as who
 use Rattle.bz_net.specs.declared.event.RunEnd.{RunEnd}
@@ -14,7 +14,7 @@ use Rattle.bz_cli_core.proofs.playing.word_out.Goals as goal
 pub returns-in-Host-clause-ok : goal.returns-in-Host-clause-ok
 returns-in-Host-clause-ok g c =
     let o = c.command_out in
-    subst (λ (w : Cmd). OnOk o.result (GoesOut c.args.play.now o.new.play (g.W.Write.contents c.args.out.now) c.args.pending.now (g.W.Write.contents o.new.out) o.new.pending (λ x y. PlaysOne x y w))) (sym c.in-Host.is) o.ensures.ok
+    subst (λ (w : Cmd). IfOk o.result (λ refusal. GoesOut c.args.play.now o.new.play (g.W.Write.contents c.args.out.now) c.args.pending.now (g.W.Write.contents o.new.out) o.new.pending (λ x y. PlaysOne x y w refusal))) (sym c.in-Host.is) o.ensures.ok
 
 pub returns-in-Host-clause-err : goal.returns-in-Host-clause-err
 returns-in-Host-clause-err g c =
@@ -24,15 +24,15 @@ returns-in-Host-clause-err g c =
 pub returns-in-Rest-clause-ok : goal.returns-in-Rest-clause-ok
 returns-in-Rest-clause-ok g c =
     let o = c.run_out in let fuel = c.in-Run.fuel in
-    goes_as c.args.play.now o.new.play (g.W.Write.contents c.args.out.now) (g.W.Write.contents o.new.out) c.args.pending.now o.new.pending (λ x y. Ran x y (who.Worker 1) 1 fuel o.result) (λ x y. PlaysOne x y c.args.cmd.now)
-    (λ x y ran. subst (λ (w : Cmd). PlaysOne x y w) (sym c.in-Run.is) (rests_before x y fuel c.in-Rest.field-0 (subst (λ (e : RunEnd). Ran x y (who.Worker 1) 1 fuel e) c.in-Rest.is ran)))
+    goes_as c.args.play.now o.new.play (g.W.Write.contents c.args.out.now) (g.W.Write.contents o.new.out) c.args.pending.now o.new.pending (λ x y. Ran x y (who.Worker 1) 1 fuel o.result) (λ x y. PlaysOne x y c.args.cmd.now None)
+    (λ x y ran. subst (λ (w : Cmd). PlaysOne x y w None) (sym c.in-Run.is) (rests_before x y fuel c.in-Rest.field-0 (subst (λ (e : RunEnd). Ran x y (who.Worker 1) 1 fuel e) c.in-Rest.is ran)))
     o.ensures.goes
 
 pub returns-in-Spent-clause-ok : goal.returns-in-Spent-clause-ok
 returns-in-Spent-clause-ok g c =
     let o = c.run_out in let fuel = c.in-Run.fuel in
-    goes_as c.args.play.now o.new.play (g.W.Write.contents c.args.out.now) (g.W.Write.contents o.new.out) c.args.pending.now o.new.pending (λ x y. Ran x y (who.Worker 1) 1 fuel o.result) (λ x y. PlaysOne x y c.args.cmd.now)
-    (λ x y ran. subst (λ (w : Cmd). PlaysOne x y w) (sym c.in-Run.is) (fires_all x y fuel c.in-Spent.field-0 (subst (λ (e : RunEnd). Ran x y (who.Worker 1) 1 fuel e) c.in-Spent.is ran)))
+    goes_as c.args.play.now o.new.play (g.W.Write.contents c.args.out.now) (g.W.Write.contents o.new.out) c.args.pending.now o.new.pending (λ x y. Ran x y (who.Worker 1) 1 fuel o.result) (λ x y. PlaysOne x y c.args.cmd.now None)
+    (λ x y ran. subst (λ (w : Cmd). PlaysOne x y w None) (sym c.in-Run.is) (fires_all x y fuel c.in-Spent.field-0 (subst (λ (e : RunEnd). Ran x y (who.Worker 1) 1 fuel e) c.in-Spent.is ran)))
     o.ensures.goes
 
 pub returns-in-Refused-clause-err : goal.returns-in-Refused-clause-err

@@ -1,24 +1,24 @@
-use Rattle.std.proofs.Common.{◌≡◌, ◌≢◌, subst, rules}
-use Rattle.bz_model.specs.declared.event.Entry.TheVariants.{Host}
-use Rattle.bz_model.specs.declared.event.Reply.{Reply}
-use Rattle.bz_net.specs.Progress.{Enters}
-use Rattle.bz_trace.proofs.Stopping.{command_refused, replied, replied_otherwise}
+use Rattle.std.proofs.Common.{◌≡◌, ◌≢◌, ◌∙◌, refl, ap, subst, sym, rules}
+use Rattle.bz_model.specs.Hosts.{reply_to}
+use Rattle.bz_model.specs.Nets.{State, phase_at}
+use Rattle.bz_trace.proofs.Stopping.{command_refused, replied_otherwise, replied_so}
 use Rattle.bz_trace.proofs.following.follow_command.Goals as goal
 
-pub returns-then-eq : goal.returns-then-eq
-returns-then-eq c =
+pub returns-then-ne : goal.returns-then-ne
+returns-then-ne c =
     let a = c.args in
-    let new = c.host_at.new.self in
-    let same : c.in-Ok.found ≡ a.reply = search rules in
-    replied a.net.now new a.who a.verb a.port a.value a.reply (subst (λ (r : Reply). Enters a.net.now (Host a.who a.verb a.port a.value r) new) same c.in-Ok.ensures.enters)
+    let looked : c.reply.result ≡ reply_to a.verb (phase_at a.net.now.state a.port) = c.reply.ensures ∙ ap (λ (s : State). reply_to a.verb (phase_at s a.port)) c.core.ensures.state in
+    let differ : c.reply.result ≢ a.reply = search rules in
+    (replied_otherwise a.net.now a.net.now a.who a.verb a.port a.value a.reply (λ same. differ (looked ∙ same)), refl)
 
-pub returns-else-eq : goal.returns-else-eq
-returns-else-eq c =
+pub returns-in-Ok : goal.returns-in-Ok
+returns-in-Ok c =
     let a = c.args in
-    let differ : c.in-Ok.found ≢ a.reply = search rules in
-    replied_otherwise a.net.now c.host_at.new.self a.who a.verb a.port a.value a.reply c.in-Ok.found differ c.in-Ok.ensures.enters
+    let looked : c.reply.result ≡ reply_to a.verb (phase_at a.net.now.state a.port) = c.reply.ensures ∙ ap (λ (s : State). reply_to a.verb (phase_at s a.port)) c.core.ensures.state in
+    let same : c.reply.result ≡ a.reply = search rules in
+    replied_so a.net.now c.host_at.new.self a.who a.verb a.port a.value a.reply c.in-Ok.field-0 (sym looked ∙ same) c.in-Ok.ensures.enters
 
 pub returns-in-Err : goal.returns-in-Err
 returns-in-Err c =
     let a = c.args in
-    command_refused a.net.now c.host_at.new.self a.who a.verb a.port a.value a.reply c.in-Err.field-0 c.requires.place c.in-Err.ensures.cause
+    (command_refused a.net.now c.host_at.new.self a.who a.verb a.port a.value a.reply c.in-Err.field-0 c.requires.place c.in-Err.ensures.cause, c.in-Err.ensures.err)

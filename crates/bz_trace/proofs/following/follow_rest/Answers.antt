@@ -12,7 +12,7 @@ returns-in-Ok-Rest c =
 pub returns-in-Ok-Ready : goal.returns-in-Ok-Ready
 returns-in-Ok-Ready c =
     let ready = rw c.in-Ok-Ready.field-0-is at c.in-Ok-Ready.ensures.ok in
-    no_rest c.args.net.now c.args.who c.in-Ok-Ready.field-0-0 ready.0.is_in
+    (no_rest c.args.net.now c.args.who c.in-Ok-Ready.field-0-0 ready.0.is_in, ready.1)
 
 pub returns-in-Err : goal.returns-in-Err
-returns-in-Err c = rest_refused c.args.net.now c.args.who c.in-Err.field-0 c.requires c.in-Err.ensures.cause
+returns-in-Err c = (rest_refused c.args.net.now c.args.who c.in-Err.field-0 c.requires c.in-Err.ensures.cause, c.in-Err.ensures.err)

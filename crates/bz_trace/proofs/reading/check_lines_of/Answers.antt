@@ -1,6 +1,6 @@
 use Rattle.std.proofs.Common.{◌≡◌, ◌++◌, ◌∙◌, ℕ, true, false, List, refl, rules, sym, subst, arith}
 use Rattle.bz_trace.specs.Following.{FollowsText}
-use Rattle.bz_trace.proofs.Along.{within}
+use Rattle.bz_trace.proofs.Along.{wiring_is, within}
 use Rattle.bz_trace.proofs.Streams.{bad_line, falls, held_on, held_start, none_came, said_at_end, some_came, too_long}
 use Rattle.bz_trace.proofs.reading.check_lines_of.Goals as goal
 
@@ -14,12 +14,24 @@ overflow_add-result g c =
     let most = within c.args.names.now c.args.net.now.wiring c.follow_held.new.net text c.follow_held.new.held.items c.in_ok-followed.followed (c.in_ok-followed.ensures.follows c.args.net.now.wiring text l.invariant.follows) in
     omega (arith, most)
 
-pub returns-then-is_other-clause-judged : goal.returns-then-is_other-clause-judged
-returns-then-is_other-clause-judged g c =
+pub returns-then-is_other-clause-concludes : goal.returns-then-is_other-clause-concludes
+returns-then-is_other-clause-concludes g c =
     let l = c.following in
     let text = c.args.front.items ++ l.invariant.got in
     let other = rw c.as_slice.ensures.value at (c.if-is_other.ensures.other refl) in
     bad_line _ _ c.args.names.now c.args.net.now.wiring c.follow_held.new.net c.args.version c.args.front.items l.invariant.got c.follow_held.new.held.items c.in_ok-followed.followed l.invariant.taken (c.in_ok-followed.ensures.follows c.args.net.now.wiring text l.invariant.follows) c.in_ok-followed.ensures.no_more other
+
+pub returns-then-is_other-clause-wiring : goal.returns-then-is_other-clause-wiring
+returns-then-is_other-clause-wiring g c =
+    let l = c.following in
+    let text = c.args.front.items ++ l.invariant.got in
+    wiring_is c.args.names.now c.args.net.now.wiring c.follow_held.new.net text c.follow_held.new.held.items c.in_ok-followed.followed (c.in_ok-followed.ensures.follows c.args.net.now.wiring text l.invariant.follows)
+
+pub returns-then-not-branch-clause-wiring : goal.returns-then-not-branch-clause-wiring
+returns-then-not-branch-clause-wiring g c =
+    let l = c.following in
+    let text = c.args.front.items ++ l.invariant.got in
+    wiring_is c.args.names.now c.args.net.now.wiring c.follow_held.new.net text c.follow_held.new.held.items c.in_ok-followed.followed (c.in_ok-followed.ensures.follows c.args.net.now.wiring text l.invariant.follows)
 
 pub verdict_behind-verdict-requires-clause-followed : goal.verdict_behind-verdict-requires-clause-followed
 verdict_behind-verdict-requires-clause-followed g c =
@@ -30,15 +42,15 @@ verdict_behind-verdict-requires-clause-followed g c =
     let follows = c.in_ok-followed.ensures.follows c.args.net.now.wiring text l.invariant.follows in
     (c.args.net.now.wiring, text, subst (λ (r : List ℕ). FollowsText c.args.names.now c.args.net.now.wiring c.follow_held.new.net text r c.in_ok-followed.followed) (sym (c.as_slice-then-not-branch.ensures.value ∙ none.1)) follows)
 
-pub returns-then-not-branch-clause-judged : goal.returns-then-not-branch-clause-judged
-returns-then-not-branch-clause-judged g c =
+pub returns-then-not-branch-clause-concludes : goal.returns-then-not-branch-clause-concludes
+returns-then-not-branch-clause-concludes g c =
     let l = c.following in
     let text = c.args.front.items ++ l.invariant.got in
     let never : c.in_ok-read_more.field-0 ≡ false = search rules in
     let none = none_came _ _ _ _ _ c.in_ok-read_more.field-0 never c.in_ok-read_more.ensures.more in
     let follows = c.in_ok-followed.ensures.follows c.args.net.now.wiring text l.invariant.follows in
     let here = subst (λ (r : List ℕ). FollowsText c.args.names.now c.args.net.now.wiring c.follow_held.new.net text r c.in_ok-followed.followed) (sym (c.as_slice-then-not-branch.ensures.value ∙ none.1)) follows in
-    said_at_end _ _ _ c.args.net.now.wiring c.args.version c.args.front.items l.invariant.got c.in_ok-followed.followed.counts c.verdict_behind-verdict.result l.invariant.taken none.0 none.2 (c.verdict_behind-verdict.ensures c.args.net.now.wiring text here)
+    said_at_end _ _ _ c.args.net.now.wiring c.follow_held.new.net c.args.version c.args.front.items l.invariant.got c.in_ok-followed.followed.counts c.verdict_behind-verdict.result l.invariant.taken none.0 none.2 (c.verdict_behind-verdict.ensures c.args.net.now.wiring text here)
 
 pub following-smaller : goal.following-smaller
 following-smaller g c =

@@ -1,18 +1,17 @@
-use Rattle.bz_model.specs.Nets.{outside}
-use Rattle.bz_trace.proofs.Streams.{first_bad_of, judged_behind, long_behind}
+use Rattle.bz_trace.proofs.Streams.{begins_badly, long_behind, said_behind}
 use Rattle.bz_trace.proofs.reading.read_text.Goals as goal
 
-pub returns-clause-judged : goal.returns-clause-judged
-returns-clause-judged g c = first_bad_of _ _ (outside c.args.flat.wiring) c.new-held.result.items c.read_more.new.held.items c.as_slice.result.now c.in_ok-read_more.field-0 c.new-held.ensures.items c.in_ok-read_more.ensures.more c.as_slice.ensures.value c.in-None.ensures
+pub returns-clause-concludes : goal.returns-clause-concludes
+returns-clause-concludes g c = begins_badly _ _ c.args.net.now.wiring c.args.net.now _ c.new-held.result.items c.read_more.new.held.items c.as_slice.result.now c.in_ok-read_more.field-0 c.requires.opened c.new-held.ensures.items c.in_ok-read_more.ensures.more c.as_slice.ensures.value c.in-None.ensures
 
-pub returns-in-Some-clause-judged : goal.returns-in-Some-clause-judged
-returns-in-Some-clause-judged g c =
-    judged_behind c.args.flat.wiring _ _ c.new-held.result.items c.read_more.new.held.items c.as_slice.result.now c.in-Some.lines.now c.in_ok-front-in-Some.front.items c.in-Some.version _ c.in_ok-read_more.field-0 c.check_lines_of.result
+pub returns-in-Some-clause-concludes : goal.returns-in-Some-clause-concludes
+returns-in-Some-clause-concludes g c =
+    said_behind c.args.net.now.wiring c.check_lines_of.new.net _ _ c.new-held.result.items c.read_more.new.held.items c.as_slice.result.now c.in-Some.lines.now c.in_ok-front-in-Some.front.items c.in-Some.version _ c.in_ok-read_more.field-0 c.check_lines_of.result
     c.new-held.ensures.items c.in_ok-read_more.ensures.more c.as_slice.ensures.value c.in-Some.ensures c.in_ok-front-in-Some.ensures.items
-    (rw c.in-Ok.ensures.wiring at c.check_lines_of.ensures.judged)
+    c.check_lines_of.ensures.concludes
 
 pub returns-in-Some-clause-long : goal.returns-in-Some-clause-long
 returns-in-Some-clause-long g c =
-    long_behind c.args.flat.wiring _ _ c.new-held.result.items c.read_more.new.held.items c.as_slice.result.now c.in-Some.lines.now c.in_ok-front-in-Some.front.items c.in-Some.version _ c.in_ok-read_more.field-0 c.check_lines_of.result
+    long_behind c.args.net.now.wiring _ _ c.new-held.result.items c.read_more.new.held.items c.as_slice.result.now c.in-Some.lines.now c.in_ok-front-in-Some.front.items c.in-Some.version _ c.in_ok-read_more.field-0 c.check_lines_of.result
     c.new-held.ensures.items c.in_ok-read_more.ensures.more c.as_slice.ensures.value c.in-Some.ensures c.in_ok-front-in-Some.ensures.items
-    (rw c.in-Ok.ensures.wiring at c.check_lines_of.ensures.long)
+    c.check_lines_of.ensures.long
