@@ -29,7 +29,7 @@ use Rattle.bz_cli_core.specs.declared.playing.End.TheVariants as end
 use Rattle.bz_cli_core.specs.Running.{GoesOn, IsPlayed, NoneRefused, WritesTrace}
 use Rattle.bz_cli_input.specs.Stopping.{AppendsSome}
 use Rattle.bz_cli_core.specs.Sending.{GoesOut, IsSent, PlaysOut, PutsOut, SentUp}
-use Rattle.bz_cli_core.proofs.Played.{cut_at, longer, none_both, plays_on, stops_there}
+use Rattle.bz_cli_core.proofs.Words.{cut_at, longer, none_both, plays_on, stops_there}
 use Rattle.bz_cli_input.proofs.Written.{all_of}
 
 -- all of a text went out, whatever a flush answered

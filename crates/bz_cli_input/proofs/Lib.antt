@@ -1,7 +1,6 @@
 pub mod Taken
 pub mod Written
 pub mod Outcomes
-pub mod Opened
 pub mod Lines
 pub mod ShortWords
 pub mod Marked

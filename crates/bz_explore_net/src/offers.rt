@@ -93,7 +93,7 @@ fn add_port(
     requires { OffersUpTo net.now.wiring.sites net.now.state comp port offers.old.items }
     ensures { IfOk result (λ _. OffersUpTo net.now.wiring.sites net.now.state comp (port + 1) offers.new.items) }
 {
-    match net.foresee(alloc, comp, port)? {
+    match net.foresee(comp, port) {
         None => Ok(()),
         Some((chan, mv, value)) => {
             offers.push(Offer {

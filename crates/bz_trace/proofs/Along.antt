@@ -23,7 +23,7 @@ use Rattle.bz_trace_text.proofs.Lines.{line_takes}
 use Rattle.bz_trace_text.proofs.Strips.{none-some}
 use Rattle.bz_trace_text.proofs.Texts.{all_more, flat_more}
 use Rattle.bz_trace_text.proofs.Cuts.{Read, bad_behind, bad_most, lines_tell}
-use Rattle.bz_trace.specs.Verdicts.{AreDue, Concludes, CountsRun, DifferAt, IsNoRun, StopsAtEntry, Judges, Leaves}
+use Rattle.bz_trace.specs.Verdicts.{AreDue, Concludes, CountsRun, DifferAt, StopsAtEntry, Judges, Leaves}
 use Rattle.bz_trace.specs.declared.checking.Verdict.{Verdict}
 use Rattle.bz_trace.specs.declared.checking.Verdict.TheVariants as verdict
 use Rattle.bz_trace_text.specs.declared.tally.Counts.{Counts}
@@ -262,7 +262,7 @@ module _ (names : Outside) (w : Wiring) (net : Progress) (text rest : List ℕ) 
 
   -- and a run led to where the net is
   pub led : far.stop ≡ None → IsLed net
-  led none = let along = goes_on none in (subst WellWired (sym along.wiring) f.wired, along.journal, along.of_net)
+  led none = let along = goes_on none in (subst WellWired (sym along.wiring) f.wired, (along.journal, along.of_net))
 
   pub wiring_is : net.wiring ≡ w
   wiring_is = stands_wired w net f.entries far.stop f.stands
@@ -383,9 +383,7 @@ module _ (names : Outside) (w : Wiring) (net : Progress) (v : Version) (text res
             text_is = text_is;
             stops = inl stops;
           },
-          along.journal,
-          along.tells ∙ ap (map told) (sym (taken_front f.entries stops.before (stops.here ∷ stops.after) line stops.entries_are stops.line_is)),
-          along.of_net,
+          (along.journal, along.tells ∙ ap (map told) (sym (taken_front f.entries stops.before (stops.here ∷ stops.after) line stops.entries_are stops.line_is)), along.of_net),
         )
 
     -- no line of an entry has stopped
@@ -431,7 +429,7 @@ module _ (names : Outside) (w : Wiring) (net : Progress) (v : Version) (text res
           differ = differ;
           line_is = ap (λ n. n + place + 2) f.count_is;
         });
-      }, along.journal, along.tells ∙ ap (map told) (sym (taken_all f.entries (far.count + place + 2) (let is = f.count_is in omega (arith, is)))), along.of_net)
+      }, (along.journal, along.tells ∙ ap (map told) (sym (taken_all f.entries (far.count + place + 2) (let is = f.count_is in omega (arith, is)))), along.of_net))
 
 -- one line more was followed
 pub gets_on_more : (from : Followed) (count : ℕ) (text rest after : List ℕ) → ((count ≡ from.count) × (rest ≡ text)) ⊎ ((from.count < count) × (length rest < length text)) → length after < length rest

@@ -71,7 +71,7 @@ same_carried false (Some a) b p q = absurd p
 
 -- a line that the net has gives a value where the steps that it may tell carry one
 pub gives : (net : Progress) (who : Who) (c k : ℕ) (mv : Move) (value : Option ℕ) → IsLed net → HasLine (outside net.wiring) (Fired who c 0 k mv value) → GivesAsSteps net.wiring.sites net.state c k mv value
-gives net who c k mv value (wired, journal, led) has p other next step =
+gives net who c k mv value (wired, (journal, led)) has p other next step =
     let w = net.wiring in
     let own : HasLine (outside w) (Fired who c p k mv other) = has_line w net.state (Fired who c p k mv other) next wired (fits_in w journal net.state wired led.run) step has.0 in
     same_carried (carries_at w.chans k mv) other value own.3 has.3

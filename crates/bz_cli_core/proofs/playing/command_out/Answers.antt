@@ -8,7 +8,7 @@ use Rattle.bz_net.specs.Progress.{Progress, IsToldBy, with_journal}
 use Rattle.bz_cli_core.specs.Playing.{PlaysOne, StopsOne}
 use Rattle.bz_cli_core.specs.Running.{refusal_in}
 use Rattle.bz_cli_core.specs.Sending.{IsSent}
-use Rattle.bz_cli_core.proofs.Played.{host_plays, host_stops}
+use Rattle.bz_cli_core.proofs.Words.{host_plays, host_stops}
 use Rattle.bz_cli_core.proofs.Pieces.{command_wants, sent_with}
 use Rattle.bz_cli_core.proofs.playing.command_out.Goals as goal
 

@@ -5,12 +5,12 @@ use Rattle.bz_explore_net.proofs.offers.add_port.Goals as goal
 pub returns-in-None : goal.returns-in-None
 returns-in-None c =
     let n = c.args.net.now in
-    let none = rw c.in-None.is at c.in_ok-foresee.ensures in
+    let none = c.in-None.ensures in
     offers_none n.wiring.sites n.state c.args.comp c.args.port c.args.offers.now.items c.requires none
 
 pub returns-in_ok-push-in-Some : goal.returns-in_ok-push-in-Some
 returns-in_ok-push-in-Some c =
     let n = c.args.net.now in
-    let some = rw c.in-Some.is at c.in_ok-foresee.ensures in
+    let some = c.in-Some.ensures in
     rw c.in_ok-push-in-Some.ensures.items
     (offers_one n.wiring.sites n.state c.args.comp c.args.port c.args.offers.now.items c.requires _ refl refl some)

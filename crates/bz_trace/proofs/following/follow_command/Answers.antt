@@ -1,4 +1,4 @@
-use Rattle.std.proofs.Common.{◌≡◌, ◌≢◌, ◌∙◌, refl, ap, subst, sym, rules}
+use Rattle.std.proofs.Common.{◌≡◌, ◌≢◌, ◌∙◌, refl, ap, sym, rules}
 use Rattle.bz_model.specs.Hosts.{reply_to}
 use Rattle.bz_model.specs.Nets.{State, phase_at}
 use Rattle.bz_trace.proofs.Stopping.{command_refused, replied_otherwise, replied_so}

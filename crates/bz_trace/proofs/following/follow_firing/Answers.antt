@@ -11,5 +11,5 @@ returns-in-Some c =
 
 pub returns-in-None : goal.returns-in-None
 returns-in-None c =
-    let a = c.args in let none = c.in-None.ensures in
+    let a = c.args in let none = c.in-None.ensures.none in
     (firing_stops a.net.now a.who a.comp a.chan a.mv a.value c.requires.place none.1, none.0)

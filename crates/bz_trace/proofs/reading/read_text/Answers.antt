@@ -2,7 +2,7 @@ use Rattle.bz_trace.proofs.Streams.{begins_badly, long_behind, said_behind}
 use Rattle.bz_trace.proofs.reading.read_text.Goals as goal
 
 pub returns-clause-concludes : goal.returns-clause-concludes
-returns-clause-concludes g c = begins_badly _ _ c.args.net.now.wiring c.args.net.now _ c.new-held.result.items c.read_more.new.held.items c.as_slice.result.now c.in_ok-read_more.field-0 c.requires.opened c.new-held.ensures.items c.in_ok-read_more.ensures.more c.as_slice.ensures.value c.in-None.ensures
+returns-clause-concludes g c = begins_badly _ _ c.args.net.now.wiring c.args.net.now (record { fired = 0; host = 0; rests = 0 }) c.new-held.result.items c.read_more.new.held.items c.as_slice.result.now c.in_ok-read_more.field-0 c.requires.opened c.new-held.ensures.items c.in_ok-read_more.ensures.more c.as_slice.ensures.value c.in-None.ensures
 
 pub returns-in-Some-clause-concludes : goal.returns-in-Some-clause-concludes
 returns-in-Some-clause-concludes g c =
