@@ -16,7 +16,6 @@ use bz_net::Core;
 use std::alloc::{AllocError, Global};
 
 /// Who waits for whom in a net in a state.
-#[derive(Drop)]
 pub struct Graph {
     /// What each component waits for that can't move, by components.
     pub waits: Vec<Wait>,
@@ -24,6 +23,17 @@ pub struct Graph {
     pub waiting: usize,
     /// The cycles of those that wait for one another in any case, each from its least member on.
     pub cycles: Vec<Vec<u32>>,
+}
+
+// By hand, so that who lets one go has one call to show and not all its parts.
+impl Drop for Graph {
+    fn drop(self) {
+        let Graph {
+            waits: _,
+            waiting: _,
+            cycles: _,
+        } = self;
+    }
 }
 
 impl Graph {

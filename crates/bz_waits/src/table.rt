@@ -3,8 +3,14 @@
 use std::alloc::{AllocError, Global};
 
 /// A number for each component. Components count from 1.
-#[derive(Drop)]
 pub struct Table(Vec<u32>);
+
+// By hand, as that of a `Graph`.
+impl Drop for Table {
+    fn drop(self) {
+        let Table(_) = self;
+    }
+}
 
 impl Table {
     /// One of zeros, for so many components.
