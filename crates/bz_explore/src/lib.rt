@@ -3,9 +3,7 @@
 
 mod answer;
 mod commands;
-mod cycles;
 mod explored;
-mod graph;
 mod looking;
 mod piece;
 mod refusals;

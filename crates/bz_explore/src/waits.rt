@@ -1,14 +1,14 @@
 //! Who holds each channel, and for whom each component waits.
 
 use crate::answer::{HALF, MORE, MOST_LINES, put_cut};
-use crate::cycles::Table;
-use crate::graph::{Graph, Place, Wait, Whom};
 use crate::piece::{Piece, say_phase};
 use crate::view::View;
 use bz_explore_moves::gathered;
 use bz_explore_net::busy_chans;
 use bz_model::{Move, Phase, Verb};
 use bz_text::Text;
+use bz_waits::{Graph, Place, Table, Wait, Whom};
+use std::alloc::AllocError;
 
 /// The column of what holds a channel, and of what is waited for.
 const COLUMN: usize = 26;
@@ -22,7 +22,9 @@ const MOST_TOLD: usize = 1000;
 /// Adds why nothing moves: the cycles of waiting, then who waits for nobody, for the host or for one that is idle, and how
 /// many wait.
 pub(crate) fn put_waits(view: &View<'_>, text: &mut Text) {
-    let graph = Graph::of(view, text);
+    let Some(graph) = graph_of(view, text) else {
+        return;
+    };
     let mut lines = Text::new(text.alloc());
     put_cycles(view, &graph, MOST_MEMBERS, &mut lines);
     for root in [Whom::Nobody, Whom::Host, Whom::Idle] {
@@ -47,7 +49,9 @@ pub(crate) fn put_all_waits(view: &View<'_>, text: &mut Text) {
     for chan in &gathered(busy_chans(alloc, course.flat(), course.net()), text) {
         put_held(view, *chan, text);
     }
-    let graph = Graph::of(view, text);
+    let Some(graph) = graph_of(view, text) else {
+        return;
+    };
     put_each(view, graph.waits.as_slice(), text);
     put_cycles(view, &graph, usize::MAX, text);
     put_counts(view, &graph, text);
@@ -56,7 +60,9 @@ pub(crate) fn put_all_waits(view: &View<'_>, text: &mut Text) {
 /// Adds lines of a page, each behind `end`: the cycles, for whom each component waits, or behind `ended` that it has halted, and
 /// how many there are.
 pub(crate) fn put_ends(view: &View<'_>, text: &mut Text) {
-    let graph = Graph::of(view, text);
+    let Some(graph) = graph_of(view, text) else {
+        return;
+    };
     for cycle in graph.cycles.iter().take(MOST_TOLD) {
         text.put("end ");
         put_cycle(view, cycle.as_slice(), MOST_MEMBERS, text);
@@ -73,18 +79,37 @@ pub(crate) fn put_ends(view: &View<'_>, text: &mut Text) {
 /// Adds on what a component hangs: for whom each waits, or that it can move or is idle; then the cycles among these, each of
 /// which is met with all of its members or with none.
 pub(crate) fn put_chain(view: &View<'_>, comp: u32, text: &mut Text) {
-    let graph = Graph::of(view, text);
     let mut lines = Text::new(text.alloc());
-    let mut met = Table::new(view.course.flat().comp_count(), text);
-    for number in &graph.hung(comp, &mut met, text) {
-        put_standing(view, &graph, *number, &mut lines);
+    match put_hung(view, comp, &mut lines) {
+        Ok(()) => put_cut(&lines, HALF, HALF, MORE, text),
+        Err(_) => text.lose(),
+    }
+}
+
+fn put_hung(view: &View<'_>, comp: u32, lines: &mut Text) -> Result<(), AllocError> {
+    let (alloc, core) = (lines.alloc(), view.course.net().core());
+    let graph = Graph::of(alloc, core)?;
+    let mut met = Table::new(alloc, core.comp_count())?;
+    for number in &graph.hung(alloc, comp, &mut met)? {
+        put_standing(view, &graph, *number, lines);
     }
     for cycle in &graph.cycles {
         if met.at(first_of(cycle.as_slice())) > 0 {
-            put_cycle(view, cycle.as_slice(), MOST_MEMBERS, &mut lines);
+            put_cycle(view, cycle.as_slice(), MOST_MEMBERS, lines);
         }
     }
-    put_cut(&lines, HALF, HALF, MORE, text);
+    Ok(())
+}
+
+// Who waits for whom in the net; where memory is refused for it the text is lost.
+fn graph_of(view: &View<'_>, text: &mut Text) -> Option<Graph> {
+    match Graph::of(text.alloc(), view.course.net().core()) {
+        Ok(graph) => Some(graph),
+        Err(_) => {
+            text.lose();
+            None
+        }
+    }
 }
 
 fn put_standing(view: &View<'_>, graph: &Graph, number: u32, text: &mut Text) {

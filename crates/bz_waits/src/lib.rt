@@ -1,0 +1,13 @@
+//! Who waits for whom in a net: for whom each component waits that can't move, and the cycles of these.
+#![tactic(auto)]
+
+mod cycles;
+mod due;
+mod graph;
+mod sites;
+mod table;
+mod wait;
+
+pub use graph::Graph;
+pub use table::Table;
+pub use wait::{Place, Wait, Whom};
