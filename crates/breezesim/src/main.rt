@@ -5,13 +5,13 @@ mod disk;
 
 use crate::disk::Disk;
 use bz_cli_args::{
-    ArgsFault, BAD_COMMAND_LINE, CommandName, Error, Options, Request, Source, Told,
-    request_of, shared_stdin, split_words, stray_word, tell_error, word_starts, words_of,
+    ArgsFault, BAD_COMMAND_LINE, CommandName, Error, Options, Request, Source, Told, request_of,
+    shared_stdin, split_words, stray_word, tell_error, word_starts, words_of,
 };
 use bz_cli_input::{Fault, INPUT_LIMIT, read_input};
 use bz_cli_program::{
-    Cause, CheckEnd, Given, NoName, chart, check, draw, is_file, kinds, list, netlist_in, open_file,
-    page, part_named, parts, pool, run, text_of,
+    Cause, CheckEnd, Given, NoName, chart, check, draw, is_file, kinds, list, netlist_in,
+    open_file, page, part_named, parts, pool, run, text_of,
 };
 use bz_cli_trace::{Checked, check_trace};
 use bz_explain::{Asked, Explained, WordFile, Words, explain};

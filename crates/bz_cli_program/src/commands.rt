@@ -93,10 +93,12 @@ fn ended<E: Write>(
     ensures { result ≡ of_run played }
 {
     match played {
-        Ok(Played {
-            net: _,
-            halt: Some(halt),
-        }) => {
+        Ok(
+            Played {
+                net: _,
+                halt: Some(halt),
+            },
+        ) => {
             tell_halt(halt, errors);
             Ok(REFUSED)
         }
@@ -311,10 +313,7 @@ fn place_of(line: Option<u64>) -> Option<usize>
 }
 
 // The status of what is made of a trace. Why nothing is goes to `errors`, but for a fault that other commands have too.
-fn made<C: Display, E: Write>(
-    made: Result<(), TraceFault<C>>,
-    errors: &mut E,
-) -> Result<u8, Fault>
+fn made<C: Display, E: Write>(made: Result<(), TraceFault<C>>, errors: &mut E) -> Result<u8, Fault>
     ensures { result ≡ of_made made }
 {
     match made {

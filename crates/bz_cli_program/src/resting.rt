@@ -19,7 +19,9 @@ pub(crate) fn note_rest<W: Write>(alloc: Global, net: &Core, errors: &mut W) {
         return;
     }
     let mut draft = Draft::new(alloc);
-    let count = (1..=net.chan_count()).filter(|chan| net.phase(*chan) != Phase::Idle).count();
+    let count = (1..=net.chan_count())
+        .filter(|chan| net.phase(*chan) != Phase::Idle)
+        .count();
     if count > 0 {
         put_waits(net, count, &mut draft);
         put_cycles(net, &mut draft);
@@ -56,6 +58,34 @@ fn put_wait(net: &Core, chan: u32, draft: &mut Draft) {
     put_end(net, chan, from, draft);
     draft.put(" waits for ", &[]);
     put_end(net, chan, to, draft);
+}
+
+// A line for each cycle of components that wait for one another.
+fn put_cycles(net: &Core, draft: &mut Draft) {
+    match Graph::of(draft.alloc(), net) {
+        Ok(graph) => {
+            for cycle in graph.cycles.iter().take(MOST_TOLD) {
+                put_cycle(net, cycle.as_slice(), draft);
+            }
+        }
+        Err(_) => draft.fail(),
+    }
+}
+
+fn put_cycle(net: &Core, cycle: &[u32], draft: &mut Draft) {
+    draft.put("deadlock: ", &[]);
+    for comp in cycle.iter().take(MOST_TOLD) {
+        put_comp(net, *comp, draft);
+        draft.put(" -> ", &[]);
+    }
+    match cycle.len().checked_sub(MOST_TOLD) {
+        Some(more) if more > 0 => draft.put(".. % more -> ", &[Number(more)]),
+        _ => {}
+    }
+    if let Some(comp) = cycle.first() {
+        put_comp(net, *comp, draft);
+    }
+    draft.say("", &[]);
 }
 
 // A component, or the host at the port.
