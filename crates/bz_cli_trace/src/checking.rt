@@ -9,7 +9,7 @@ ghost use Rattle.bz_cli_input.specs.Reading.{ReadsWithin};
 ghost use Rattle.bz_cli_input.specs.Stopping.{AppendsSome, IsOfInput, StopsAtInput};
 ghost use Rattle.bz_cli_trace.specs.Checking.{Checks, ChecksApart, ChecksTrace, TellsVerdict, is_run, run_text, verdict_text};
 
-use crate::checked::{Checked, check_trace, check_reader};
+use crate::checked::{Checked, check_reader, check_trace};
 use crate::texts::Texts;
 use bz_cli_input::{Fault, read_input};
 use bz_model::Value;
