@@ -1,10 +1,11 @@
 -- Where a trace begins in a text.
-use Rattle.std.proofs.Common.{◌≡◌, ◌⊎◌, inl, inr, ℕ, zero, suc, ◌<◌, ◌≤◌, Bool, true, false, MatchBool, Some, None, List, [], ◌∷◌, length, take, drop, length-drop, ◌-◌, refl, sym, ap, subst, ◌∙◌, arith}
+use Rattle.std.proofs.Common.{◌≡◌, ◌⊎◌, inl, inr, ℕ, zero, suc, ◌<◌, ◌≤◌, Bool, true, false, MatchBool, Some, None, List, [], ◌∷◌, ◌++◌, length, take, drop, length-drop, ◌-◌, refl, sym, ap, subst, ◌∙◌, arith}
+use Rattle.bz_trace_text.specs.declared.text.Version.{Version}
 use Rattle.bz_trace_text.specs.declared.text.Version.TheVariants.{One, Two}
 use Rattle.bz_trace_text.specs.Reading.{strip}
 use Rattle.bz_trace_text.proofs.Cuts.{same_first_rest}
 use Rattle.bz_trace_text.proofs.Strips.{none-some, strip_again, strip_takes}
-use Rattle.bz_cli_core.specs.Checking.{BeginsTrace, BeginsWith, EndsLine, IsTraceAt, version_words}
+use Rattle.bz_cli_core.specs.Checking.{BeginsLine, BeginsTrace, BeginsWith, EndsLine, IsTraceAt, Splits, version_words}
 
 pub match_as : {A B : Type 0} → (r : Bool) → (A → B) → (B → A) → MatchBool r A (A → ⊥) → MatchBool r B (B → ⊥)
 match_as true there back m = there m

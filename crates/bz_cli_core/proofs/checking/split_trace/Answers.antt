@@ -1,4 +1,4 @@
-use Rattle.std.proofs.Common.{inl, inr, refl, length, arith}
+use Rattle.std.proofs.Common.{◌≡◌, ◌<◌, ◌≤◌, ℕ, inl, inr, refl, length, arith}
 use Rattle.std.proofs.lemmas.Grind.{common_steps}
 use Rattle.bz_cli_core.proofs.Splitting.{not_before, one_more}
 use Rattle.bz_cli_core.proofs.checking.split_trace.Goals as goal
