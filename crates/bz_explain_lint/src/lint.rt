@@ -77,7 +77,7 @@ fn finding_of_text<'a>(
     let asked = Asked {
         netlist: text,
         file: lint.file,
-        part: b"",
+        part: None,
         words: Words {
             list: &[],
             is_pool: false,
