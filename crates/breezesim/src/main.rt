@@ -10,8 +10,8 @@ use bz_cli_args::{
 };
 use bz_cli_input::{Fault, INPUT_LIMIT, read_input};
 use bz_cli_program::{
-    Cause, CheckEnd, Given, NoName, chart, check, draw, is_file, kinds, list, netlist_in,
-    open_file, page, part_named, parts, pool, run, text_of,
+    Cause, Given, NoName, chart, check, draw, is_file, kinds, list, netlist_in, open_file, page,
+    part_named, parts, pool, run, text_of,
 };
 use bz_cli_trace::{Checked, check_trace};
 use bz_explain::{Asked, Explained, WordFile, Words, explain};
@@ -91,7 +91,7 @@ fn judge_trace<R: Read + Drop, T: Read, W: Write>(
         CommandName::Chart => chart(alloc, given, input, trace, output, errors)?,
         CommandName::Page => page(alloc, given, input, trace, output, errors)?,
         _ => {
-            let CheckEnd { status, checked } = check(alloc, given, input, trace, output)?;
+            let (status, checked) = check(alloc, given, input, trace, output)?;
             if status == NO_RUN {
                 note_trace(rt, given, input.kept(), Some(checked));
             }

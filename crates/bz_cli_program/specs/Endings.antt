@@ -9,7 +9,6 @@ use Rattle.bz_cli_trace.specs.declared.fault.TraceFault.TheVariants.{Command}
 use Rattle.bz_cli_trace.specs.Making.{status_of}
 use Rattle.bz_cli_trace.specs.Checking.{is_run}
 use Rattle.bz_cli_trace.specs.declared.checked.Checked.{Checked}
-use Rattle.bz_cli_program.specs.declared.commands.CheckEnd.{CheckEnd}
 use Rattle.bz_cli_args.specs.declared.request.Options.{Options}
 use Rattle.bz_chart.specs.declared.range.LineRange.{LineRange}
 
@@ -39,8 +38,8 @@ abbrev pub of_check : Result Checked Fault → Result ℕ Fault
 of_check (Ok checked) = Ok (if is_run checked.verdict then 0 else 1)
 of_check (Err fault) = Err fault
 
-abbrev pub status_in : Result CheckEnd Fault → Result ℕ Fault
-status_in (Ok end) = Ok end.status
+abbrev pub status_in : {A : Type 0} → Result (ℕ × A) Fault → Result ℕ Fault
+status_in (Ok end) = Ok end.0
 status_in (Err fault) = Err fault
 
 -- 0 where there is a drawing, and else 2

@@ -92,23 +92,21 @@ fn ended<E: Write>(
 ) -> Result<u8, Fault>
     ensures { result ≡ of_run played }
 {
-    match played {
-        Ok(
-            Played {
-                net: _,
-                halt: Some(halt),
-            },
-        ) => {
+    let played = match played {
+        Ok(played) => played,
+        Err(unplayed) => return Err(unplayed),
+    };
+    match played.halt {
+        Some(halt) => {
             tell_halt(halt, errors);
             Ok(REFUSED)
         }
-        Ok(played) => {
+        None => {
             if explains {
                 note_rest(alloc, played.net.core(), errors);
             }
             Ok(DONE)
         }
-        Err(unplayed) => Err(unplayed),
     }
 }
 
@@ -126,30 +124,15 @@ fn tell_halt<E: Write>(halt: Halt, errors: &mut E) {
     );
 }
 
-/// The status of a check, and the net that was checked.
-pub struct CheckEnd {
-    pub status: u8,
-    pub checked: Checked,
-}
-
-// Written by hand: callers then prove one drop instead of one for each field.
-impl Drop for CheckEnd {
-    fn drop(self) {
-        let CheckEnd {
-            status: _,
-            checked: _,
-        } = self;
-    }
-}
-
-/// Reports whether a trace is that of a run: the one that is given, or the one after the netlist.
+/// Reports whether a trace is that of a run: the one that is given, or the one after the netlist. The status, and the net that
+/// was checked.
 pub fn check<R: Read, T: Read, W: Write>(
     alloc: Global,
     given: Given<'_, '_>,
     input: &mut R,
     trace: Option<&mut T>,
     output: &mut W,
-) -> Result<CheckEnd, Fault>
+) -> Result<(u8, Checked), Fault>
     ensures checks { MatchOption trace.entry
         (IfSome (R.remaining input.old)
         (λ text. Does of_check (Checks text (option_copied given.entry.part)
@@ -167,14 +150,14 @@ pub fn check<R: Read, T: Read, W: Write>(
     }
 }
 
-// The end of a check.
-fn judged(checked: Result<Checked, Fault>) -> Result<CheckEnd, Fault>
+// The status of a check, before the net that was checked.
+fn judged(checked: Result<Checked, Fault>) -> Result<(u8, Checked), Fault>
     ensures { status_in result ≡ of_check checked }
 {
     match checked {
         Ok(checked) => {
             let status = if checked.is_run() { DONE } else { NO_RUN };
-            Ok(CheckEnd { status, checked })
+            Ok((status, checked))
         }
         Err(unchecked) => Err(unchecked),
     }

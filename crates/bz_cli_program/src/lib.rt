@@ -7,6 +7,6 @@ mod files;
 mod given;
 mod resting;
 
-pub use commands::{CheckEnd, chart, check, draw, kinds, list, page, parts, pool, run};
+pub use commands::{chart, check, draw, kinds, list, page, parts, pool, run};
 pub use files::{Cause, is_file, open_file, text_of};
 pub use given::{Given, NoName, netlist_in, part_named};
