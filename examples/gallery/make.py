@@ -1,3 +1,4 @@
+#!/usr/bin/env python3
 """make.py FOLDER: writes the netlists of the gallery."""
 import sys
 
