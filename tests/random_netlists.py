@@ -106,7 +106,7 @@ class Netlist:
             wanted = (form, 0 if form == "s" else widths[name])
             numbers = [self.channel(at, sense, wanted) for _ in range(size if port.startswith("[") else 1)]
             entries.append(numbers if port.startswith("[") else numbers[0])
-        self.components.append((kind, self.parameters(parameters, size, widths["low"]), entries))
+        self.components.append((kind, ports.split(), self.parameters(parameters, size, widths["low"]), entries))
 
     def channel(self, at, sense, wanted):
         """The number of a channel for this end of component `at`: one that lacks it, or a new one."""
@@ -129,15 +129,16 @@ class Netlist:
 
     def reach_all(self):
         """Gives each component that no request reaches a port of its own, in place of what it is joined to."""
-        for at, (kind, parameters, entries) in enumerate(self.components):
+        for at, (kind, ports, parameters, entries) in enumerate(self.components):
             if at not in self.reached():
                 left = next(n for n, ends in enumerate(self.ends) if ends.get("p") == at)
                 del self.ends[left]["p"]
                 self.channels.append(self.channels[left])
                 self.ends.append({"p": at})
                 number = {left: len(self.channels) - 1}
-                entries = [[number.get(n, n) for n in it] if isinstance(it, list) else number.get(it, it) for it in entries]
-                self.components[at] = (kind, parameters, entries)
+                # (its active end may be on that channel too)
+                entries = [renumbered(it, number) if "p" in port[:2] else it for port, it in zip(ports, entries)]
+                self.components[at] = (kind, ports, parameters, entries)
 
     def close(self):
         """Closes ends that would be ports where these are too many, those of the first component last."""
@@ -148,7 +149,8 @@ class Netlist:
             found = loose.pop()
             kinds = {"s": ["Continue"] * 3 + ["Halt"], "u": ["ContinuePush"] * 3 + ["HaltPush"], "l": ["Constant"]}
             self.ends[found]["p"] = len(self.components)
-            self.components.append((self.pick.choice(kinds[self.channels[found][0]]), f"8 {self.pick.randrange(16)}", [found]))
+            kind = self.pick.choice(kinds[self.channels[found][0]])
+            self.components.append((kind, ["p"], f"8 {self.pick.randrange(16)}", [found]))
 
     def parameters(self, form, size, low):
         pick = self.pick
@@ -185,10 +187,15 @@ class Netlist:
         # (a port is declared by the end that it has inside)
         senses = ["active" if "a" in self.ends[n] else "passive" for n in order if len(self.ends[n]) == 1]
         components = []
-        for kind, parameters, entries in self.components:
-            written = [f"({' '.join(str(place[n]) for n in it)})" if isinstance(it, list) else str(place[it]) for it in entries]
+        for kind, _, parameters, entries in self.components:
+            written = [f"({' '.join(map(str, it))})" if isinstance(it, list) else str(it) for it in renumbered(entries, place)]
             components.append(f'(component "$Brz{kind}" ({parameters}) ({" ".join(written)}))')
         return senses, [channel_text(*self.channels[n]) for n in order], components
+
+
+def renumbered(it, number):
+    """A channel's number, or a list of such, with others in their places."""
+    return [renumbered(one, number) for one in it] if isinstance(it, list) else number.get(it, it)
 
 
 def channel_text(form, width):

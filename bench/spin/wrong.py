@@ -1,22 +1,23 @@
 #!/usr/bin/env python3
-"""Is a wrong process seen? wrong.py PROGRAM [--random] [--nets N]
+"""Is a wrong process seen? wrong.py PROGRAM [--random N]
 
-Wrong processes stand in the model of one kind in turn, and nets are compared with the program until one differs: the kind
-alone, or random nets round a component of it. A model that Spin or the graph's reader refuses is seen too. It needs Spin and a
-C compiler.
+Wrong processes stand in the model of one kind in turn, and nets are compared with the program until one differs: those of the
+atlas, or N random ones round a component of that kind. A model that Spin or the graph's reader refuses is seen too. With the
+true process that net may not differ. It needs Spin and a C compiler.
 """
 import argparse
 import random
 import subprocess
 import sys
 
+import atlas
 import terms
 from compare import compared
 from spin import TooLarge
 
 # (spin has put tests/ on the path)
 from playing.program import Program
-from random_netlists import SMALL, Netlist, Scale
+from random_netlists import SMALL, Netlist
 
 FEW_STATES = 2500
 
@@ -88,37 +89,50 @@ WRONG = [
 ]
 
 
-def first_seen(program, kind, scale, nets):
-    """Which net differs, if one does, and how many were compared."""
-    tried = 0
-    for number in range(nets):
-        pick = random.Random(1000 + number)
-        netlist = Netlist(pick, scale, kind).part()
+def nets_of(kind, count):
+    """So many random nets round a component of a kind, or those of the atlas, each with the values of the host."""
+    for number in range(1, count + 1):
+        yield Netlist(random.Random(1000 + number), SMALL, kind).part(), (0, 7)
+    for name, netlist, values in [] if count else atlas.nets():
+        if name.split(" ")[0] == kind:
+            yield netlist, values
+
+
+def fault_of(program, kind, process, netlist, values):
+    """What differs in a net where components of a kind have this process, or None."""
+    true, terms.PROCESSES[kind] = terms.PROCESSES[kind], process
+    try:
+        return compared(program, kind, netlist, "p", values, FEW_STATES)[0]
+    except (ValueError, subprocess.CalledProcessError) as refused:
+        return str(refused)
+    finally:
+        terms.PROCESSES[kind] = true
+
+
+def first_seen(program, kind, change, nets):
+    """Which net differs with the wrong process, if one does, and how many were compared."""
+    true, tried = terms.PROCESSES[kind], 0
+    for number, (netlist, values) in enumerate(nets, 1):
         try:
-            fault = compared(program, kind, netlist, "p", (0, 7), FEW_STATES)[0]
+            fault = fault_of(program, kind, lambda it: change(true(it)), netlist, values)
+            if fault and fault_of(program, kind, true, netlist, values):
+                sys.exit(f"with the true process it differs too:\n{netlist}")
         except TooLarge:
             continue
-        except (ValueError, subprocess.CalledProcessError) as refused:
-            fault = str(refused)
         tried += 1
         if fault:
-            return number + 1, tried
+            return number, tried
     return None, tried
 
 
 def main():
     words = argparse.ArgumentParser(description=__doc__)
     words.add_argument("program")
-    words.add_argument("--random", action="store_true")
-    words.add_argument("--nets", type=int, default=4)
+    words.add_argument("--random", type=int, default=0)
     asked = words.parse_args()
-    scale = SMALL if asked.random else Scale(SMALL.widths, [2], [1], joined=0)
     missed = 0
     for kind, change in WRONG:
-        true = terms.PROCESSES[kind]
-        terms.PROCESSES[kind] = lambda it, true=true, change=change: change(true(it))
-        seen, tried = first_seen(Program(asked.program), kind, scale, asked.nets)
-        terms.PROCESSES[kind] = true
+        seen, tried = first_seen(Program(asked.program), kind, change, nets_of(kind, asked.random))
         missed += not seen
         print(f"{kind} {change.__name__}: {f'seen in net {seen}' if seen else f'NOT SEEN in {tried} nets'}", flush=True)
     print(f"{len(WRONG)} wrong processes, {missed} not seen")
