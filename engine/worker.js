@@ -36,4 +36,4 @@ async function serve({id, act, given}) {
   }
 }
 
-if (typeof document === 'undefined') self.onmessage = async event => self.postMessage(await serve(event.data));
+if (typeof WorkerGlobalScope !== 'undefined') self.onmessage = async event => self.postMessage(await serve(event.data));

@@ -338,5 +338,5 @@ function open() {
 }
 
 // What tests look at.
-const forTests = {view, phaseAfter, lastChange, valueAfter, lineText, tell, get net() { return net; }, get trace() { return trace; },
-  get found() { return found; }};
+const forTests = {view, phaseAfter, lastChange, valueAfter, lineText, tell, get net() { return net; },
+  get trace() { return trace; }, get found() { return found; }};

@@ -1,8 +1,9 @@
 // ---- the three texts that the program wrote, as a net and a trace; nothing here touches the picture -----------------
 
 // The text of a block. LF and printable ASCII but `<` and `%` stand for themselves there; any other byte is `%` and two digits.
-function textOf(id) {
-  const text = document.getElementById(id).textContent;
+const textOf = id => unescaped(document.getElementById(id).textContent);
+
+function unescaped(text) {
   if (!text.includes('%')) return text;
   return text.replace(/%([0-9A-F]{2})/g, (all, digits) => String.fromCharCode(parseInt(digits, 16)));
 }

@@ -6,7 +6,7 @@ pub(crate) const HEAD: &str = r##"<!doctype html>
 <head>
 <meta charset="utf-8">
 <meta name="viewport" content="width=device-width">
-<meta http-equiv="Content-Security-Policy" content="default-src 'none'; style-src 'unsafe-inline'; script-src 'sha256-6DSSG1bYtWdCscnp/j0Mg2ZUMMN4l8EXKsn6j9MyEJU='">
+<meta http-equiv="Content-Security-Policy" content="default-src 'none'; style-src 'unsafe-inline'; script-src 'sha256-EzOtzecNPeRPBSsIb/AQyKgkDME9N/dTVXm7dzoGQ4w='">
 <title>breezesim</title>
 <style>
 /* Colours: light, and dark where the reader's system or the reader says so. Phases are told by dashes and marks too. */
@@ -348,8 +348,9 @@ pub(crate) const TAIL: &str = r##"</script>
 // ---- the three texts that the program wrote, as a net and a trace; nothing here touches the picture -----------------
 
 // The text of a block. LF and printable ASCII but `<` and `%` stand for themselves there; any other byte is `%` and two digits.
-function textOf(id) {
-  const text = document.getElementById(id).textContent;
+const textOf = id => unescaped(document.getElementById(id).textContent);
+
+function unescaped(text) {
   if (!text.includes('%')) return text;
   return text.replace(/%([0-9A-F]{2})/g, (all, digits) => String.fromCharCode(parseInt(digits, 16)));
 }
@@ -2535,8 +2536,8 @@ function open() {
 }
 
 // What tests look at.
-const forTests = {view, phaseAfter, lastChange, valueAfter, lineText, tell, get net() { return net; }, get trace() { return trace; },
-  get found() { return found; }};
+const forTests = {view, phaseAfter, lastChange, valueAfter, lineText, tell, get net() { return net; },
+  get trace() { return trace; }, get found() { return found; }};
 forTests.times = open();
 window.breezesim = forTests;
 })();
