@@ -40,7 +40,7 @@ async function refuse(name, netlist, {errors}) {
   const lint = await call(['lint', '-n', NETLIST], netlist);
   document.body.classList.remove('living');
   $('return').hidden = !live.isOpen;
-  $('refusal').textContent = `${name}\n\n${errors.trim()}\n\n${lint.status === 1 ? lint.output : ''}`.trim();
+  $('refusal').textContent = (lint.status === 1 ? lint.output : errors).trim().replaceAll(NETLIST, name);
   $('refusal').hidden = false;
   return false;
 }
