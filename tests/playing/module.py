@@ -5,7 +5,9 @@ import json
 import os
 import subprocess
 
-HERE = os.path.dirname(os.path.realpath(__file__))
+TOP = os.path.dirname(os.path.dirname(os.path.dirname(os.path.realpath(__file__))))
+# Where the host of the module stands. (Wrong ones stand elsewhere.)
+ENGINE = os.environ.get("ENGINE") or f"{TOP}/engine"
 # What needs threads, which a module hasn't.
 THREADS = "pool"
 
@@ -39,7 +41,7 @@ class Module:
 
     def _started(self):
         if self._owner != os.getpid():
-            words = ["node", f"{HERE}/module_calls.mjs", self.path]
+            words = ["node", f"{ENGINE}/calls.mjs", self.path]
             self._node = subprocess.Popen(words, stdin=subprocess.PIPE, stdout=subprocess.PIPE)
             self._owner = os.getpid()
         return self._node

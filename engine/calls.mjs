@@ -1,10 +1,10 @@
-// module_calls.mjs MODULE.wasm: a call of the module for each line of standard input, {words, given, folder} as JSON with words and
-// input in base64, answered by a line {status, output, errors}. The module is compiled once.
+// calls.mjs MODULE.wasm: for tests, a call of the module for each line of standard input: {words, given, folder} as JSON, with
+// words and input in base64, answered by a line {status, output, errors}. The module is compiled once.
 import fs from 'node:fs';
 import readline from 'node:readline';
-import {engineOf, filesIn} from '../../engine/node.mjs';
+import {engineOf, filesIn} from './node.mjs';
 
-const engine = engineOf(fs.readFileSync(new URL('../../engine/engine.js', import.meta.url), 'utf8'));
+const engine = engineOf(fs.readFileSync(new URL('engine.js', import.meta.url), 'utf8'));
 const module = new WebAssembly.Module(fs.readFileSync(process.argv[2]));
 const bytesOf = text => new Uint8Array(Buffer.from(text, 'base64'));
 const base64 = data => Buffer.from(data).toString('base64');
