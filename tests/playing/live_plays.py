@@ -165,12 +165,18 @@ def values(stage):
     stage.verdict("buffer")
     stage.button("undo", "undo")
     stage.trace("undone", stage.explored("buffer", lines[:4]))
+    stage.command("undo 2")
+    stage.trace("two undone at once", stage.explored("buffer", lines[:2]))
+    stage.button("redo", "redo")
     stage.found("marks", "document.querySelector('[data-channel=\"3\"]').classList.contains('idle')", True)
     stage.button("redo", "redo")
     stage.trace("redone", stage.explored("buffer", lines))
     stage.scrub(5)
     stage.page.key("b")
     stage.trace("from within a run", stage.explored("buffer", ["offer:activate", "run 3"]))
+    stage.scrub(4)
+    stage.page.key("b")
+    stage.trace("and of what was left of it", stage.explored("buffer", ["offer:activate", "run 2"]))
 
 
 def deadlock(stage):
@@ -252,6 +258,7 @@ def traces(stage):
             file.write(text.replace("fire 6 reply 10 0", "fire 6 reply 10 1"))
         stage.choose(f"{room}/spoilt.trace")
     stage.found("notes", f"/not a run: line \\d+\\n[^]*note: /.test({ANSWER})", True)
+    stage.trace("as before", "".join(text.splitlines(True)[:20]))
 
 
 def refusals(stage):
@@ -314,6 +321,28 @@ def stopped(stage):
     stage.found("it plays on", f"{TRACE}.length > {len(before)}", True)
 
 
+def long_runs(stage):
+    """Of a run that is too long for its answer the trace is read whole. It grows, is taken back, and is cut."""
+    net = NETS["large"]
+    with tempfile.TemporaryDirectory() as room:
+        with open(f"{room}/large.breeze", "wb") as file:
+            file.write(net.text())
+        stage.choose(f"{room}/large.breeze", "file")
+        words = ["run", "--part", net.part, "--netlist", f"{room}/large.breeze", "--", "offer:go"]
+        wanted = {count: stage.program.run([*words, f"run:{count}"]).output.decode() for count in (698, 9000, 20000)}
+    stage.command("offer:go")
+    stage.command("run 9000")
+    stage.trace("a part of it", wanted[9000])
+    stage.command("run 11000")
+    stage.trace("all of it", wanted[20000])
+    stage.button("undo")
+    stage.trace("undone", wanted[9000])
+    stage.scrub(700)
+    stage.page.key("b")
+    stage.trace("cut", wanted[698])
+    stage.found("the audit", "breezesim.found.bad", 0)
+
+
 def narrow(stage):
     """On a phone the picture, the bar and what can come next are there, and nothing scrolls sideways."""
     stage.page.resize(420, 800)
@@ -329,7 +358,7 @@ def narrow(stage):
 
 # The plays, and whether each is played in all ways of calling.
 PLAYS = {both_outcomes: True, values: True, deadlock: True, clashes: True, saved_pages: True, sessions: True, traces: True}
-PLAYS.update({refusals: False, parts: False, pasted: False, stopped: False, narrow: False})
+PLAYS.update({refusals: False, parts: False, pasted: False, stopped: False, long_runs: True, narrow: False})
 
 
 def play(act, browser, program, path, way):
