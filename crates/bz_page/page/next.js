@@ -4,12 +4,12 @@
 const MOST_MOVES = 60, MOST_SIGNS = 200;
 const isNow = () => view.line >= live.end;
 
-// The last answer of the engine.
+// The last answer of the engine: of what was played its end is seen first, of anything else its beginning.
 function say(text, isBad = /^error: /m.test(text)) {
   const lines = text.trimEnd().split('\n');
   $('answer').textContent = (lines.length > 60 ? ['..', ...lines.slice(-60)] : lines).join('\n');
   $('answer').classList.toggle('bad', isBad);
-  $('answer').scrollTop = $('answer').scrollHeight;
+  $('answer').scrollTop = /^[hw]\d+ /.test(text) ? $('answer').scrollHeight : 0;
 }
 
 // When all else is shown: what can come next, or, at an earlier line, how to go on from there.
