@@ -7,7 +7,7 @@ import time
 
 from .page_looks import is_same
 from .page_nets import NETS
-from .page_plays import shown
+from .page_plays import hostile_netlist, shown
 from .tests import EXAMPLES
 
 READY = "document.body.classList.contains('ready')"
@@ -343,6 +343,25 @@ def long_runs(stage):
     stage.found("the audit", "breezesim.found.bad", 0)
 
 
+def hostile_names(stage):
+    """Names that would end a script or be markup are names, also on a page that is saved."""
+    with tempfile.TemporaryDirectory() as room:
+        with open(f"{room}/hostile.breeze", "wb") as file:
+            file.write(hostile_netlist())
+        stage.choose(f"{room}/hostile.breeze", "file")
+        listed = stage.program.run(["parts", "--netlist", f"{room}/hostile.breeze"]).output.decode().splitlines()
+        names = [line.split()[2] for line in listed if line.startswith("port ")]
+        for name in names:
+            stage.command(f"offer:{name}".replace("#", "%23"))
+        with open(f"{room}/saved.html", "w", encoding="utf-8") as file:
+            file.write(stage.save("whole"))
+        for is_saved in (False, True):
+            if is_saved:
+                stage.open(f"{room}/saved.html")
+            stage.trace("its lines", "".join(["trace 2\n", *(f"h1 offer {name} done\n" for name in names)]))
+            stage.found("nothing else ran", "[typeof window.hit, document.querySelectorAll('img').length]", ["undefined", 0])
+
+
 def narrow(stage):
     """On a phone the picture, the bar and what can come next are there, and nothing scrolls sideways."""
     stage.page.resize(420, 800)
@@ -358,7 +377,7 @@ def narrow(stage):
 
 # The plays, and whether each is played in all ways of calling.
 PLAYS = {both_outcomes: True, values: True, deadlock: True, clashes: True, saved_pages: True, sessions: True, traces: True}
-PLAYS.update({refusals: False, parts: False, pasted: False, stopped: False, long_runs: True, narrow: False})
+PLAYS.update({long_runs: True, refusals: False, parts: False, pasted: False, hostile_names: False, stopped: False, narrow: False})
 
 
 def play(act, browser, program, path, way):
