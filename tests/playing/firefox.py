@@ -192,6 +192,12 @@ class Page:
         for kind in ("mouseMoved", "mousePressed", "mouseReleased"):
             self.mouse(kind, x, y)
 
+    def choose(self, selector, path):
+        """Chooses a file in a field for files."""
+        self._switch()
+        found = self.browser.call("WebDriver:FindElement", using="css selector", value=selector)["value"]
+        self.browser.call("WebDriver:ElementSendKeys", id=next(iter(found.values())), text=os.path.abspath(path))
+
     def picture(self):
         """What is seen, as PNG."""
         self._switch()

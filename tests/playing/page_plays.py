@@ -391,13 +391,18 @@ HOSTILE = [
 ]
 
 
-def hostile_names(browser, ground):
-    """Names that would end a script, open a comment or be markup are names."""
+def hostile_netlist():
+    """A part with these names."""
     quoted = [b'"' + name.replace(b"\\", b"\\\\").replace(b'"', b'\\"') + b'"' for name in HOSTILE]
     ports = b"".join(b"(sync-port " + name + b" passive)" for name in quoted)
     inner = b"".join(b'(component "$BrzContinue" () (%d))' % (i + 1) for i in range(len(HOSTILE)))
     channels = b" (sync)" * len(HOSTILE)
-    netlist = b"(breeze-part %b (ports %b) (channels%b) (components %b))\n" % (quoted[0], ports, channels, inner)
+    return b"(breeze-part %b (ports %b) (channels%b) (components %b))\n" % (quoted[0], ports, channels, inner)
+
+
+def hostile_names(browser, ground):
+    """Names that would end a script, open a comment or be markup are names."""
+    netlist = hostile_netlist()
     path, part = ground.file("hostile.breeze", netlist), part_words(HOSTILE[0])
     listed = ground.program.run(["list", *part, "--netlist", path]).output.decode().splitlines()
     names = [line.split()[2] for line in listed if line.startswith("port ")]

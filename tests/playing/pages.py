@@ -9,7 +9,11 @@ from .tests import EXAMPLES, TOP
 CRATE = f"{TOP}/crates/bz_page"
 SOURCES = f"{CRATE}/page"
 TEMPLATE = f"{CRATE}/src/template.rt"
-# What the browser's tests saw last: the sums of the template's sources and of the pages of the examples.
+# What the live page has beside the template's sources.
+LIVE = {"live.js", "session.js", "next.js", "start.js", "live.css", "live.html"}
+ENGINE = f"{TOP}/engine"
+# What the browser's tests saw last: the sums of the template's sources, of the pages of the examples, and of what the live page
+# has beside these.
 SEEN = f"{TOP}/tests/page-seen"
 NAMES = ["HEAD", "MID1", "MID2", "TAIL"]
 BLOCKS = ["list", "rows", "trace"]
@@ -117,15 +121,27 @@ def sum_of(data):
     return hashlib.sha256(data).hexdigest()
 
 
+def sums_of(kind, paths):
+    """The sums of files by their names."""
+    sums = {}
+    for path in paths:
+        with open(path, "rb") as file:
+            sums[f"{kind} {os.path.basename(path)}"] = sum_of(file.read())
+    return sums
+
+
+def files_in(folder):
+    return [f"{folder}/{name}" for name in sorted(os.listdir(folder)) if os.path.isfile(f"{folder}/{name}")]
+
+
 def source_sums():
     """The sums of the template and of all that it is made from."""
-    names = sorted(os.listdir(SOURCES))
-    paths = {**{name: f"{SOURCES}/{name}" for name in names if os.path.isfile(f"{SOURCES}/{name}")}, "template.rt": TEMPLATE}
-    sums = {}
-    for name, path in paths.items():
-        with open(path, "rb") as file:
-            sums[f"source {name}"] = sum_of(file.read())
-    return sums
+    return sums_of("source", [*(path for path in files_in(SOURCES) if os.path.basename(path) not in LIVE), TEMPLATE])
+
+
+def live_sums():
+    """The sums of what the live page has beside these."""
+    return sums_of("live", [*(f"{SOURCES}/{name}" for name in LIVE), *files_in(ENGINE)])
 
 
 def seen():
@@ -138,7 +154,10 @@ def seen():
 
 
 def write_seen(sums):
-    """Writes what was seen."""
+    """Writes what was seen, in place of what is there of its kinds."""
+    kinds = {what.split()[0] for what in sums}
+    sums = {**sums, **{what: found for what, found in seen().items() if what.split()[0] not in kinds}}
     with open(SEEN, "w", encoding="utf-8") as file:
-        file.write("# What ./test-page saw last in a browser: the template's sources, and the pages of the examples (SHA-256).\n")
+        file.write("# What ./test-page saw last in a browser: the template's sources, the pages of the examples, and what the\n")
+        file.write("# live page has beside these (SHA-256).\n")
         file.writelines(f"{what} {found}\n" for what, found in sorted(sums.items()))

@@ -5,6 +5,8 @@ import re
 import subprocess
 from dataclasses import dataclass
 
+from .module import LeftOut, Module
+
 # How long a call may take. (The longest takes two seconds.)
 SECONDS = 60
 
@@ -19,13 +21,24 @@ class Ran:
 
 
 class Program:
-    """The program at a path."""
+    """The program at a path: a program of this machine, or a WebAssembly module (`.wasm`)."""
 
     def __init__(self, path):
         self.path = os.path.abspath(path)
+        self._module = Module(self.path) if path.endswith(".wasm") else None
+
+    def run_as(self, name):
+        """Calls it by this name, with no words."""
+        if self._module:
+            raise LeftOut("only a process has a name")
+        how = {"executable": self.path, "stdin": subprocess.DEVNULL, "capture_output": True, "close_fds": False}
+        ran = subprocess.run([name], check=False, **how)
+        return Ran(ran.returncode, ran.stdout, ran.stderr)
 
     def run(self, words, given=b"", **how):
         """Calls it with these words. `given` is its standard input: bytes that come through a pipe, or an open file."""
+        if self._module:
+            return Ran(*self._module.call(words, given, how))
         if isinstance(given, bytes):
             how["input"] = given
         else:

@@ -8,6 +8,7 @@ from collections import Counter
 from dataclasses import dataclass
 from typing import Callable
 
+from .module import LeftOut
 from .program import SECONDS
 
 TOP = os.path.dirname(os.path.dirname(os.path.dirname(os.path.realpath(__file__))))
@@ -41,6 +42,8 @@ _tests = []
 def _play(place):
     try:
         return place, _tests[place].play()
+    except LeftOut as why:
+        return place, why
     except subprocess.TimeoutExpired:
         return place, f"no end within {SECONDS} seconds"
     except Exception as fault:  # (whatever goes wrong with a test, it has failed)
@@ -59,10 +62,12 @@ def run_all(groups, tests, faults=()):
     each with why. The last line is `N passed, M failed`; answers whether all passed."""
     global _tests
     _tests = tests
-    failed = Counter()
+    failed, left_out = Counter(), Counter()
     with multiprocessing.get_context("fork").Pool(jobs()) as pool:
         for place, differs in pool.imap(_play, range(len(tests)), 8):
-            if differs is not None:
+            if isinstance(differs, LeftOut):
+                left_out[tests[place].group, str(differs)] += 1
+            elif differs is not None:
                 failed[tests[place].group] += 1
                 print(f"{tests[place].group}: {tests[place].name}: {differs}")
     for group, why in faults:
@@ -76,7 +81,9 @@ def run_all(groups, tests, faults=()):
     for group in groups:
         how = f"{failed[group]} NOT as written" if failed[group] else "all as written"
         print(f"{group}: {found[group]} cases, {how}")
+    for (group, why), count in left_out.items():
+        print(f"{group}: {count} cases are left out: {why}")
     wrong = sum(failed.values())
-    print(f"{max(len(tests) - wrong, 0)} passed, {wrong} failed")
+    print(f"{max(len(tests) - wrong - sum(left_out.values()), 0)} passed, {wrong} failed")
     sys.stdout.flush()
     return not wrong

@@ -15,7 +15,8 @@ function show() {
   showDetails();
   showStrip();
   if (view.isCharted) showChart();
-  writeLink();
+  added.afterShow();
+  if (!added.isLive) writeLink();
 }
 
 // Goes to a line, or to the nearest that there is.
@@ -234,7 +235,7 @@ function dragTo(event) {
 function dragEnd(event) {
   const isClick = drag.from && !drag.isFar && $('svg').contains(event.target);
   drag.from = null;
-  if (isClick && !clicked(event)) select(null);
+  if (isClick && !added.takesClick(event) && !clicked(event)) select(null);
 }
 
 function listen() {
@@ -267,7 +268,7 @@ function listen() {
     act();
     $(id).blur();
   };
-  window.addEventListener('hashchange', event => readLink(event.newURL));
+  if (!added.isLive) window.addEventListener('hashchange', event => readLink(event.newURL));
   const observer = new ResizeObserver(() => {
     measure();
     showJournal();
@@ -284,7 +285,7 @@ function listen() {
 
 // ---- the opening ----------------------------------------------------------------------------------------------------
 
-const isLarge = all.components.length > MANY;
+let isLarge = false;
 
 // What the page is of, and whether its trace agrees with itself.
 function showFoot() {
@@ -294,24 +295,48 @@ function showFoot() {
   const audited = [`${counted(moves, 'move')} by the four-move table`, `${counted(values, 'value')} handed over`,
     `${counted(told, 'phase')} told`, counted(met.size, 'clash', 'clashes')].join(', ');
   $('foot').textContent = bad ? `THIS PAGE IS DAMAGED: line ${bad} is none of a run`
-    : `${counts.join('; ')}. Looked at again on opening: ${audited}: all agree.`;
+    : `${counts.join('; ')}. Looked at again: ${audited}: all agree.`;
   $('foot').classList.toggle('bad', bad > 0);
 }
 
-// Opens the page: of a net with many components the outermost copies are folded.
-function open() {
+// Takes a net at its opening, or with a trace, in place of what is shown. Of a net with many components the outermost copies are
+// folded.
+function load(list, rows, text) {
+  net = readNet(list, rows);
+  all = {components: net.components.slice(1), channels: net.channels.slice(1)};
+  isLarge = all.components.length > MANY;
+  Object.assign(view, {line: 1, selected: null, isFocused: isLarge, focusLine: 0, folded: new Set(), foldedInFocus: new Set(),
+    isStubbed: null});
+  if (all.components.length > MANY / 2) for (const path of net.instances.keys()) if (!path.includes('/')) view.folded.add(path);
   document.title = `${net.part} · breezesim`;
   $('part').textContent = net.part;
+  takeTrace(readTrace(text, net));
+}
+
+// Takes a trace of the net, or what the trace has become.
+function takeTrace(it) {
+  trace = it;
+  found = audit(trace, net);
+  clashLines = [...found.met.values()].sort((a, b) => a - b);
+  strip.key = '';
   $('scrubber').max = trace.count;
-  if (all.components.length > MANY / 2) for (const path of net.instances.keys()) if (!path.includes('/')) view.folded.add(path);
   showFoot();
+}
+
+// Opens the page on the three texts that it carries.
+function open() {
+  const times = {started: performance.now()};
+  load(textOf('net'), textOf('rows'), textOf('trace'));
+  times.read = performance.now() - times.started;
   play(false);
   measure();
   listen();
   readLink(window.location.href);
+  times.open = performance.now() - times.started;
+  times.layout = view.layoutTime;
+  return times;
 }
 
-open();
-// what tests look at
-window.breezesim = {net, trace, found, view, phaseAfter, lastChange, valueAfter, lineText, tell,
-  times: {read: readAt - startedAt, open: performance.now() - startedAt, layout: view.layoutTime}};
+// What tests look at.
+const forTests = {view, phaseAfter, lastChange, valueAfter, lineText, tell, get net() { return net; },
+  get trace() { return trace; }, get found() { return found; }};

@@ -1,8 +1,9 @@
 // ---- the three texts that the program wrote, as a net and a trace; nothing here touches the picture -----------------
 
 // The text of a block. LF and printable ASCII but `<` and `%` stand for themselves there; any other byte is `%` and two digits.
-function textOf(id) {
-  const text = document.getElementById(id).textContent;
+const textOf = id => unescaped(document.getElementById(id).textContent);
+
+function unescaped(text) {
   if (!text.includes('%')) return text;
   return text.replace(/%([0-9A-F]{2})/g, (all, digits) => String.fromCharCode(parseInt(digits, 16)));
 }
@@ -100,30 +101,59 @@ const MOVES = {ask: ASK, take: TAKE, reply: REPLY, got: GOT};
 const HOST_MOVES = {offer: ASK, accept: TAKE, answer: REPLY, collect: GOT};
 const isMove = what => what >= ASK && what <= GOT;
 
-// The trace with an index: of each line, from 1, where it begins, what it is, its channel and its component (0 where none is).
+// A trace with its index: of each line, from 1, where it begins, what it is, its channel and its component (0 where none is); and
+// the lines of each channel and component, rising. It grows by the lines that are added.
 function readTrace(text, net) {
-  let count = 0;
-  for (let at = text.indexOf('\n'); at >= 0; at = text.indexOf('\n', at + 1)) count++;
-  const trace = {text, count, start: new Uint32Array(count + 2), what: new Uint8Array(count + 1),
-    channel: new Uint32Array(count + 1), component: new Uint32Array(count + 1), hostLines: [], rests: [], clashes: []};
-  const portChannels = new Map(net.ports.filter(port => port).map(port => [port.name, port.number]));
-  let start = 0;
-  for (let line = 1; line <= count; line++) {
-    const end = text.indexOf('\n', start);
-    trace.start[line] = start;
-    if (line > 1) readLine(trace, line, start, end, portChannels);
-    start = end + 1;
-  }
-  trace.start[count + 1] = start;
-  const {channels, components} = net, {what, channel, component} = trace;
-  trace.changesOf = linesBy(channel, channels.length, count, line => isMove(what[line]));
-  trace.linesOfChannel = linesBy(channel, channels.length, count, line => channel[line] > 0);
-  trace.linesOfComponent = linesBy(component, components.length, count, line => component[line] > 0 && isMove(what[line]));
+  const trace = {text: '', count: 0, start: new Uint32Array(64), what: new Uint8Array(64), channel: new Uint32Array(64),
+    component: new Uint32Array(64), hostLines: [], rests: [], clashes: [], audited: null,
+    changesOf: [], linesOfChannel: [], linesOfComponent: [],
+    portChannels: new Map(net.ports.filter(port => port).map(port => [port.name, port.number]))};
+  addLines(trace, text);
   return trace;
 }
 
+// Adds lines after the last one.
+function addLines(trace, text) {
+  const before = trace.count;
+  let more = 0, start = trace.text.length;
+  for (let at = text.indexOf('\n'); at >= 0; at = text.indexOf('\n', at + 1)) more++;
+  trace.text += text;
+  makeRoom(trace, before + more + 2);
+  const {what, channel, component} = trace;
+  for (let line = before + 1; line <= before + more; line++) {
+    const end = trace.text.indexOf('\n', start);
+    trace.start[line] = start;
+    what[line] = channel[line] = component[line] = 0;
+    if (line > 1) readLine(trace, line, start, end);
+    if (channel[line]) addLine(trace.linesOfChannel, channel[line], line);
+    if (isMove(what[line])) {
+      addLine(trace.changesOf, channel[line], line);
+      if (component[line]) addLine(trace.linesOfComponent, component[line], line);
+    }
+    start = end + 1;
+  }
+  trace.count = before + more;
+  trace.start[trace.count + 1] = start;
+}
+
+// Takes off the clash lines, which stand after all others.
+function dropClashes(trace) {
+  trace.count -= trace.clashes.length;
+  trace.clashes.length = 0;
+  trace.text = trace.text.slice(0, trace.start[trace.count + 1]);
+}
+
+function makeRoom(trace, size) {
+  if (size <= trace.start.length) return;
+  for (const name of ['start', 'what', 'channel', 'component']) {
+    const grown = new trace[name].constructor(Math.max(size, 2 * trace[name].length));
+    grown.set(trace[name]);
+    trace[name] = grown;
+  }
+}
+
 // Reads one line. A firing is read letter by letter, since there may be millions.
-function readLine(trace, line, start, end, portChannels) {
+function readLine(trace, line, start, end) {
   const {text} = trace, blank = text.indexOf(' ', start);
   if (text.charCodeAt(blank + 1) === 102) {                                           // WHO fire
     const at = text.indexOf(' ', blank + 6), letter = text.charCodeAt(at + 1);        // a, t, r, or g
@@ -142,7 +172,7 @@ function readLine(trace, line, start, end, portChannels) {
     trace.rests.push(line);
   } else {
     const isDone = words[1] !== 'watch' && (words.includes('done', 3) || words.includes('value', 3));
-    trace.channel[line] = portChannels.get(words[2]) || 0;
+    trace.channel[line] = trace.portChannels.get(words[2]) || 0;
     trace.what[line] = isDone ? HOST_MOVES[words[1]] || NONE : TOLD;
     trace.hostLines.push(line);
   }
@@ -153,16 +183,6 @@ function numberAt(text, at, end) {
   let number = 0;
   for (let i = at, digit; i < end && (digit = text.charCodeAt(i)) !== 32; i++) number = number * 10 + digit - 48;
   return number;
-}
-
-// The lines of each key, rising: those of key k are list[first[k]] up to list[first[k + 1]].
-function linesBy(keys, keyCount, lineCount, isWanted) {
-  const first = new Uint32Array(keyCount + 2);
-  for (let line = 1; line <= lineCount; line++) if (isWanted(line)) first[keys[line] + 1]++;
-  for (let key = 0; key <= keyCount; key++) first[key + 1] += first[key];
-  const next = first.slice(), list = new Uint32Array(first[keyCount + 1]);
-  for (let line = 1; line <= lineCount; line++) if (isWanted(line)) list[next[keys[line]]++] = line;
-  return {first, list};
 }
 
 const lineText = (trace, line) => trace.text.slice(trace.start[line], trace.start[line + 1] - 1);
@@ -177,10 +197,13 @@ function countIn(list, from, to, line) {
   return low - from;
 }
 
-// Of the lines of a key: how many there are, how many are at or below a line, and the one at an index (0 where there is none).
-const countOf = (lines, key) => lines.first[key + 1] - lines.first[key];
-const countTo = (lines, key, line) => countIn(lines.list, lines.first[key], lines.first[key + 1], line);
-const nthOf = (lines, key, index) => (index < 0 || index >= countOf(lines, key) ? 0 : lines.list[lines.first[key] + index]);
+// The lines of a key, how many there are, how many are at or below a line, and the one at an index (0 where there is none).
+const NO_LINES = [];
+const linesOf = (lines, key) => lines[key] || NO_LINES;
+const addLine = (lines, key, line) => { (lines[key] || (lines[key] = [])).push(line); };
+const countOf = (lines, key) => linesOf(lines, key).length;
+const countTo = (lines, key, line) => countIn(linesOf(lines, key), 0, countOf(lines, key), line);
+const nthOf = (lines, key, index) => linesOf(lines, key)[index] || 0;
 
 // The last line at or below a line that changed a channel; 0 where none did. From it the channel's phase and value.
 const lastChange = (trace, channel, line) => nthOf(trace.changesOf, channel, countTo(trace.changesOf, channel, line) - 1);
@@ -225,20 +248,24 @@ function callersOf(net, trace, component, line) {
 }
 
 // Holds the trace against itself, apart from what the page shows of it: each line's move by the four-move table, values handed
-// over, phases and values that hosts were told, and the clash lines. `bad` is the first line that disagrees, or 0.
+// over, phases and values that hosts were told, and the clash lines. `bad` is the first line that disagrees, or 0. It goes on
+// where the last look at the same trace ended.
 function audit(trace, net) {
-  const seen = {phase: new Uint8Array(net.channels.length), change: new Uint32Array(net.channels.length), open: new Map()};
-  const found = {moves: 0, told: 0, values: 0, bad: 0, met: new Map()};
-  for (let line = 2; line <= trace.count && !found.bad; line++) {
+  const seen = trace.audited || (trace.audited = {to: 1, phase: new Uint8Array(net.channels.length), open: new Map(),
+    change: new Uint32Array(net.channels.length), found: {moves: 0, told: 0, values: 0, bad: 0, met: new Map()}});
+  const {found} = seen, end = trace.count - trace.clashes.length;
+  for (let line = seen.to + 1; line <= end && !found.bad; line++) {
     const what = trace.what[line];
     if (what === NONE || isMove(what) && !auditMove(trace, net, line, seen, found)) found.bad = line;
     if (what === TOLD && !auditTold(trace, line, seen, found)) found.bad = line;
   }
+  seen.to = end;
+  if (!found.bad && trace.clashes[0] <= end) return {...found, bad: trace.clashes[0]};
   const due = [...found.met.keys()].sort((a, b) => a - b).join();
   const written = trace.clashes.map(line => trace.component[line]).join();
   // (a trace of version 1 has no clash lines)
-  if (!found.bad && due !== written && lineText(trace, 1) === 'trace 2') found.bad = trace.clashes[0] || trace.count;
-  return found;
+  const isAgreed = found.bad > 0 || due === written || lineText(trace, 1) !== 'trace 2';
+  return isAgreed ? found : {...found, bad: trace.clashes[0] || trace.count};
 }
 
 // A move must find its channel in the phase before it, and bring on what was put there.

@@ -62,7 +62,7 @@ function isEndTold() {
 function endDetails() {
   const shown = [html('div', 'hint', 'Click a component or a channel to see its history.')];
   if (!isEndTold()) return shown;
-  shown.push(html('div', 'title end', 'Who waits for whom at the end'));
+  shown.push(html('div', 'title end', `Who waits for whom ${added.isLive ? 'now' : 'at the end'}`));
   for (const line of net.end) {
     const names = /^(?:wait|or|ended) \S+ (\d+)/.exec(line), isCycle = /^(circle|cycle)/.test(line);
     const row = html('div', isCycle ? 'wait cycle' : 'wait', line.replace(/ +/g, ' '));
@@ -154,7 +154,7 @@ function history() {
 
 // The next or last line of what is selected, or of the hosts where nothing is; 0 where there is none.
 function eventLine(direction) {
-  const {hostLines} = trace, ofHosts = [{first: [0, hostLines.length], list: hostLines}, 0];
+  const {hostLines} = trace, ofHosts = [[hostLines], 0];
   const [lines, key] = view.selected ? selectedLines() : ofHosts;
   const seen = countTo(lines, key, view.line), isHere = nthOf(lines, key, seen - 1) === view.line;
   return nthOf(lines, key, direction > 0 ? seen : seen - (isHere ? 2 : 1));
@@ -164,7 +164,7 @@ function eventLine(direction) {
 
 const STRIP_HEIGHT = 22;
 const strip = {key: ''};
-const clashLines = [...found.met.values()].sort((a, b) => a - b);
+let clashLines = [];
 
 function showStrip() {
   const canvas = $('strip'), width = Math.round(sizes.strip.width), ratio = window.devicePixelRatio || 1;
@@ -189,7 +189,7 @@ function showStrip() {
   marks(clashLines, 0, clashLines.length, 0, STRIP_HEIGHT, '--clash');
   if (view.selected) {
     const [lines, number] = selectedLines();
-    marks(lines.list, lines.first[number], lines.first[number + 1], 9, 15, '--selected');
+    marks(linesOf(lines, number), 0, countOf(lines, number), 9, 15, '--selected');
   }
   if (search.hits) marks(search.hits, 0, search.hits.length, 16, STRIP_HEIGHT, '--found');
 }

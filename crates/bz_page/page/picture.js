@@ -16,14 +16,15 @@ function html(tag, style, text) {
   return element;
 }
 
-const startedAt = performance.now();
-const net = readNet(textOf('net'), textOf('rows')), trace = readTrace(textOf('trace'), net), found = audit(trace, net);
-const readAt = performance.now();
+// The net and its trace, what the trace's audit found, and all components and channels (`load` sets them).
+let net = null, trace = null, found = null, all = null;
+
+// What the live page adds: what is done when all is shown, whether it takes a click, and ends of channels that stay in focus.
+const added = {isLive: false, afterShow() {}, takesClick() { return false; }, endsInFocus() { return []; }};
 
 // Above so many components a page begins in focus. In focus are at most so many, of so many lines around, and it is made anew
 // when the line has moved so far.
 const MANY = 300, IN_FOCUS = 90, NEAR = 40, REFOCUS = 25;
-const all = {components: net.components.slice(1), channels: net.channels.slice(1)};
 
 // What the reader chose. `selected` is `c5` for a component, `k7` for a channel, or null.
 const view = {line: 1, selected: null, isFocused: false, focusLine: 0, folded: new Set(), foldedInFocus: new Set(),
@@ -73,6 +74,7 @@ function showNear(line) {
     const channel = at > 1 && at <= trace.count && net.channels[trace.channel[at]];
     if (channel) for (const end of [channel.active, channel.passive]) keepEnd(end, at);
   }
+  for (const end of added.endsInFocus()) keepEnd(end, line);
   view.focusLine = line;
   const components = [...kept].sort((a, b) => a - b).map(number => net.components[number]);
   const isKept = end => end === 'host' || end !== null && kept.has(end.component);

@@ -1,0 +1,115 @@
+// ---- live: the engine, on a thread of its own where the browser gives one to a file ----------------------------------
+
+// What is open. `steps` are the commands that stand, each with how many lines the trace had before it; `undone` those that were
+// taken back, the last one first; `log` all lines that the session was told and that moved something. `moves` is what can come
+// next, `circle` who waits in one, and `stuck` the channels between those.
+const live = {worker: null, waiting: new Map(), calls: 0, bytes: null, how: {}, name: '', netlist: null, part: '', isOpen: false,
+  isBusy: false, isStopped: false, end: 1, steps: [], undone: [], log: [], moves: [], circle: new Set(), stuck: new Set(),
+  values: new Map(), times: {}};
+
+// The module that the page carries.
+async function moduleBytes() {
+  const packed = Uint8Array.from(atob(textOf('engine').trim()), letter => letter.charCodeAt(0));
+  const stream = new Blob([packed]).stream().pipeThrough(new DecompressionStream('gzip'));
+  return new Response(stream).arrayBuffer();
+}
+
+// Starts the engine on a worker, or else on the page's own thread. `live.how` says otherwise in tests.
+async function startEngine() {
+  live.bytes = live.bytes || await moduleBytes();
+  live.waiting.clear();
+  live.worker = null;
+  if (!live.how.isAlone) try {
+    live.worker = new Worker(URL.createObjectURL(new Blob([textOf('worker')], {type: 'text/javascript'})));
+    live.worker.onmessage = event => answered(event.data);
+    const refused = new Promise((_, reject) => { live.worker.onerror = reject; });
+    return await Promise.race([ask('load', {bytes: live.bytes}), refused]);
+  } catch (fault) {
+    live.worker = null;
+  }
+  return ask('load', {bytes: live.bytes});
+}
+
+// Asks the engine; the answer is a promise.
+function ask(act, given) {
+  const id = ++live.calls;
+  return new Promise((resolve, reject) => {
+    live.waiting.set(id, {resolve, reject});
+    if (live.worker) live.worker.postMessage({id, act, given});
+    else serve({id, act, given}).then(answered);
+  });
+}
+
+function answered({id, answer, fault}) {
+  const waiting = live.waiting.get(id);
+  live.waiting.delete(id);
+  if (!waiting) return;
+  if (fault) waiting.reject(new Error(fault));
+  else waiting.resolve(answer);
+}
+
+// Ends what the engine plays, starts it again, and plays there what stands.
+async function stop() {
+  if (!live.isBusy || !live.worker || live.isStopped) return;
+  live.isStopped = true;
+  const waiting = [...live.waiting.values()];
+  live.worker.terminate();
+  try {
+    await startEngine();
+    await openSession();
+    if (live.log.length) await sayPlainly(live.log);
+  } finally {
+    live.isStopped = false;
+    for (const {reject} of waiting) reject(new Error('stopped: nothing of it was played'));
+  }
+}
+
+// Has one thing done at a time, and shows that it is. Answers what that answers, or null where it failed, which is shown.
+async function busily(act) {
+  if (live.isBusy) return null;
+  const began = performance.now(), timer = setTimeout(() => { $('stop').hidden = !live.worker; }, 400);
+  live.isBusy = true;
+  document.body.classList.add('busy');
+  try {
+    return await act();
+  } catch (fault) {
+    say(`error: ${fault.message || fault}`);
+    return null;
+  } finally {
+    clearTimeout(timer);
+    live.isBusy = false;
+    document.body.classList.remove('busy');
+    $('stop').hidden = true;
+    live.times.step = performance.now() - began;
+  }
+}
+
+// ---- the files that the engine sees, and calls of the program ---------------------------------------------------------
+
+const NETLIST = 'netlist.breeze', TRACE = 'played.trace';
+const WRITTEN = {trace: TRACE, session: 'played.session', page: 'played.html'};
+
+// A call of the program on a netlist and these files.
+const call = (words, netlist, files = {}) => ask('call', {words, files: {[NETLIST]: netlist, ...files}});
+const ofPart = part => ['--part-form', part, '-n', NETLIST];
+
+// Opens a session on what is open.
+const openSession = () => ask('open', {words: ['explore', ...ofPart(live.part)], files: {[NETLIST]: live.netlist},
+  isReplayed: live.how.isReplayed});
+
+// Lines as the session takes them: those that move something are played before each later one where the call can't be held.
+const isMoving = line => /^\s*(fire|run|random|seed|undo|offer|accept|answer|collect|watch)\b/.test(line);
+const saidLines = lines => lines.map(line => ({line, isKept: isMoving(line)}));
+const sayPlainly = (lines, wanted = []) => ask('say', {lines: saidLines(lines), wanted});
+
+// Where a text of a page begins and ends, and that text. (Spelled out, the words would end this script.)
+const blockStart = id => `<${'script'} type="text/plain" id="${id}">`, BLOCK_END = `</${'script'}>`;
+const blockIn = (page, id) => unescaped(page.split(blockStart(id))[1].split(BLOCK_END)[0]);
+
+// A text of which each letter is a byte, as bytes and back.
+const bytesOfLetters = text => Uint8Array.from(text, letter => letter.charCodeAt(0));
+function lettersOf(bytes) {
+  const pieces = [];
+  for (let at = 0; at < bytes.length; at += 8192) pieces.push(String.fromCharCode(...bytes.subarray(at, at + 8192)));
+  return pieces.join('');
+}

@@ -1,0 +1,239 @@
+// ---- live: a netlist, and what is played on its net -------------------------------------------------------------------
+
+// Opens a netlist, or says why it is refused: of several parts the one that is named, or the first that no other uses.
+async function openNetlist(name, netlist, part = null) {
+  const told = await call(['parts', '-n', NETLIST], netlist);
+  if (told.status !== 0) return refuse(name, netlist, told);
+  const parts = told.output.split('\n').filter(line => line.startsWith('part ')).map(line => line.split(' '));
+  if (parts.length === 0) return refuse(name, netlist, {errors: 'it has no part'});
+  const isTop = words => words[4] === 'top', named = parts.find(words => words[1] === part);
+  const [, chosen] = named || parts.find(isTop) || parts[0];
+  if (!await openPart(name, netlist, chosen)) return false;
+  const optionOf = words => new Option(words[1] + (isTop(words) ? '' : ' (used by others)'), words[1]);
+  $('parts').replaceChildren(...parts.map(optionOf));
+  $('parts').value = chosen;
+  $('parts').hidden = parts.length < 2;
+  return true;
+}
+
+// Opens the net of a part at its opening. What the page shows of a net stands in a page that the program makes.
+async function openPart(name, netlist, part) {
+  const made = await call(['page', ...ofPart(part), '--trace', TRACE, '--explain'], netlist, {[TRACE]: 'trace 2\n'});
+  if (made.status !== 0) return refuse(name, netlist, made);
+  Object.assign(live, {name, netlist, part, isOpen: false, steps: [], undone: [], log: [], values: new Map()});
+  const told = await openSession();
+  if (told.status !== null) return refuse(name, netlist, told);
+  load(blockIn(made.output, 'net'), blockIn(made.output, 'rows'), 'trace 2\n');
+  live.isOpen = true;
+  document.body.classList.add('living');
+  $('refusal').hidden = true;
+  $('focus').classList.toggle('on', view.isFocused);
+  say('');
+  measure();
+  await sayLines([]);
+  redraw();
+  return true;
+}
+
+// Shows why a netlist is refused: all that `lint` finds, or else what the program said.
+async function refuse(name, netlist, {errors}) {
+  const lint = await call(['lint', '-n', NETLIST], netlist);
+  document.body.classList.remove('living');
+  $('return').hidden = !live.isOpen;
+  $('refusal').textContent = (lint.status === 1 ? lint.output : errors).trim().replaceAll(NETLIST, name);
+  $('refusal').hidden = false;
+  return false;
+}
+
+// ---- lines, and what they change --------------------------------------------------------------------------------------
+
+// Up to so many components who waits for whom is asked after each move; of more where none can move. So many lines are shown.
+const MOST_WAITS = 300, MOST_TOLD = 1000;
+
+// Says lines, and then asks for what the page shows. Answers the answers to the lines.
+async function sayLines(lines) {
+  const began = performance.now(), {answers, memory} = await sayPlainly([...lines, 'moves', 'state']);
+  const told = answers.slice(0, lines.length).map(it => it.output), [moves, state] = answers.slice(-2).map(it => it.output);
+  live.moves = movesIn(moves);
+  const isAsked = all.components.length <= MOST_WAITS || !live.moves.some(it => !it.isHost);
+  const isWhole = lines.every((line, i) => isWholly(line, told[i]));
+  const questions = [...(isAsked ? ['waits all'] : []), ...(isWhole ? [] : [`trace! ${TRACE}`])];
+  const more = questions.length ? await sayPlainly(questions, isWhole ? [] : [TRACE]) : {answers: [], files: {}};
+  Object.assign(live.times, {memory, engine: performance.now() - began});
+  takeWaits(isAsked ? more.answers[0].output : '');
+  lines.forEach((line, i) => noteLine(line, told[i]));
+  if (isWhole) growTrace(told.map(output => entriesIn(output).map(line => `${line}\n`).join('')).join(''), clashesIn(state));
+  else renewTrace(more.files[TRACE]);
+  live.end = trace.count - trace.clashes.length;
+  view.line = live.end;
+  return told;
+}
+
+const entriesIn = output => output.split('\n').filter(line => /^[hw]\d+ /.test(line));
+const firedIn = output => Number((/^(\d+) fired, /m.exec(output) || [0, 0])[1]);
+const isRest = line => line.endsWith(' rest');
+
+// Whether an answer has each line that a command added to the trace. (Of a long run it has the first and the last ones.)
+function isWholly(line, output) {
+  if (/^\s*undo\b/.test(line)) return /^error: /.test(output);
+  const fired = firedIn(output);
+  return fired === 0 || entriesIn(output).filter(it => !isRest(it)).length === fired;
+}
+
+// Notes a line that stands, and what it changed: how many lines it added to the trace, or how many commands it took back.
+function noteLine(line, output) {
+  if (!isMoving(line) || /^error: /.test(output)) return;
+  live.log.push(line);
+  const undo = /^\s*undo\b\s*(\d*)/.exec(line), before = live.end;
+  if (undo) {
+    const gone = live.steps.splice(-Number(undo[1] || 1));
+    live.undone.push(...gone.map(it => it.line).reverse());
+    if (gone.length) live.end = gone[0].before;
+    return;
+  }
+  const entries = entriesIn(output), fired = firedIn(output);
+  live.end += fired ? fired + entries.filter(isRest).length : entries.length;
+  if (live.end > before) live.steps.push({line, before});
+}
+
+// The clash lines of the trace, as `state` tells them.
+function clashesIn(state) {
+  const numbers = /^clashes:((?: \d+)+)$/m.exec(state);
+  return numbers ? numbers[1].trim().split(' ').map(number => `clash ${number}\n`).join('') : '';
+}
+
+function growTrace(came, clashes) {
+  dropClashes(trace);
+  addLines(trace, came + clashes);
+  takeTrace(trace);
+}
+
+// Takes the trace as the program wrote it. Where it is that of before with more lines, the index grows.
+function renewTrace(text) {
+  const before = trace.text.length;
+  dropClashes(trace);
+  const isMore = text.length >= trace.text.length && text.startsWith(trace.text);
+  if (isMore) {
+    addLines(trace, text.slice(trace.text.length));
+    takeTrace(trace);
+  } else takeTrace(readTrace(text, net));
+  // (lines may have been taken back, so all is marked anew)
+  if (!isMore || text.length < before) drawn.line = 0;
+}
+
+// `fire 3 1    take 4          Sequence activate`, `answer:i:V                  port 2 pull 8, taken`
+function movesIn(text) {
+  const moves = [];
+  for (const line of text.split('\n')) {
+    const fire = /^fire (\d+) (\d+) +(ask|take|reply|got) (\d+)(?: (\d+))? /.exec(line);
+    const word = /^((offer|accept|answer|collect):(\S*?))(:V)? +port (\d+) /.exec(line);
+    if (fire) {
+      const [, component, port, what, channel, value] = fire;
+      moves.push({command: `fire ${component} ${port}`, component: Number(component), what, channel: Number(channel), value});
+    } else if (word) {
+      const [, command, what, , needs, channel] = word;
+      moves.push({command, what, channel: Number(channel), needsValue: Boolean(needs), isHost: true});
+    }
+  }
+  return moves;
+}
+
+// Takes who waits for whom: cycles first, the components in them, and the channels on which one of these waits for another.
+function takeWaits(text) {
+  const lines = text.split('\n').filter(line => line), isCircle = line => /^c(ycle|ircle): /.test(line);
+  net.end = [...lines.filter(isCircle), ...lines.filter(line => !isCircle(line))].slice(0, MOST_TOLD);
+  live.circle = new Set();
+  live.stuck = new Set();
+  for (const line of lines.filter(isCircle))
+    for (const name of line.slice(line.indexOf(': ') + 2).split(' -> ')) live.circle.add(Number(/^\S+ (\d+)/.exec(name)[1]));
+  for (const line of lines) {
+    const wait = /^(?:wait|or) \S+ +(\d+).* for \S+ (\d+).* to (?:reply|ask) on (\d+)/.exec(line);
+    if (wait && live.circle.has(Number(wait[1])) && live.circle.has(Number(wait[2]))) live.stuck.add(Number(wait[3]));
+  }
+}
+
+// ---- what the reader does ---------------------------------------------------------------------------------------------
+
+// Makes one command. `isRedone`: it was undone before, and what was undone after it stays so.
+const make = (line, isRedone = false) => live.isOpen && busily(async () => {
+  const wanted = /^\s*(trace|page|session)!?\s+(\S+)\s*$/.exec(line), {undone} = live;
+  if (/^\s*(quit|exit|q)\s*$/.test(line)) return say('error: this page has no end: close it, or open another netlist');
+  if (wanted) return saveWritten(wanted[1], wanted[2]);
+  const before = live.steps.length, [told] = await sayLines([line]);
+  if (live.steps.length > before) live.undone = isRedone ? undone : [];
+  say(told);
+  return show();
+});
+const undo = () => live.steps.length > 0 && make('undo');
+const redo = () => live.undone.length > 0 && make(live.undone.pop(), true);
+
+// Goes on from an earlier line: takes back what came after it, and of a run that it is in the part after it.
+const goOnFrom = line => busily(async () => {
+  const {steps} = live, endOf = i => (i + 1 < steps.length ? steps[i + 1].before : live.end);
+  const first = steps.findIndex((_, i) => endOf(i) > line), lines = [];
+  if (first < 0) return;
+  const {line: cut, before} = steps[first];
+  lines.push(`undo ${steps.length - first}`);
+  if (before < line) lines.push(`${cut.trim().startsWith('random') ? 'random' : 'run'} ${line - before}`);
+  await sayLines(lines);
+  live.undone = [];
+  say(`This is line ${live.end} again.`);
+  show();
+});
+
+// Plays many commands, one after another, from the opening: of a session, or of a trace.
+async function playAll(lines) {
+  if (!await openPart(live.name, live.netlist, live.part)) return [];
+  const told = await sayLines(lines), faults = [];
+  told.forEach((output, i) => { if (/^(error|differs): /m.test(output)) faults.push(`${lines[i]}: ${output.trim()}`); });
+  live.undone = [];
+  show();
+  return faults;
+}
+
+// The commands that make the lines of a trace.
+function commandsOf(text) {
+  const commands = [];
+  for (const line of text.split('\n').slice(1)) {
+    const [, verb, ...rest] = line.split(' ');
+    if (verb === 'fire') commands.push(fireOf(Number(rest[0]), rest[1], Number(rest[2])));
+    if (verb === 'rest') commands.push('run 1');
+    if (verb === 'watch' || verb === 'accept' || verb === 'collect') commands.push(`${verb}:${rest[0]}`);
+    if (verb === 'offer' || verb === 'answer') commands.push(`${verb}:${rest[0]}${/^\d+$/.test(rest[1]) ? `:${rest[1]}` : ''}`);
+  }
+  return commands;
+}
+function fireOf(component, what, channel) {
+  const {channels, ports} = net.components[component], isActive = what === 'ask' || what === 'got';
+  return `fire ${component} ${channels.findIndex((number, p) => p > 0 && number === channel && ports[p].isPassive !== isActive)}`;
+}
+
+// Checks a trace. One of a run is played, and can be changed; of any other the notes are shown.
+async function checkTrace(name, bytes) {
+  const words = ['check', ...ofPart(live.part), '--trace', TRACE, '--explain'];
+  const {status, output, errors} = await call(words, live.netlist, {[TRACE]: bytes});
+  const verdict = `${name}: ${output}${errors}`.trim();
+  if (status !== 0) return say(verdict, true);
+  const faults = await playAll(commandsOf(lettersOf(bytes)));
+  return say([verdict, ...faults.slice(0, 3)].join('\n'), faults.length > 0);
+}
+
+async function playSession(name, text) {
+  const lines = text.split('\n').map(line => line.replace(/#.*/, '').trim());
+  const played = lines.filter(line => line && !/^(quit|exit|q|(trace|page|session)\b.*)$/.test(line));
+  const faults = await playAll(played);
+  say([`${name}: ${counted(played.length, 'line')} played`, ...faults.slice(0, 3)].join('\n'), faults.length > 0);
+}
+
+// What was dropped, chosen, pasted or carried: a netlist, or a trace or a session of the netlist that is open.
+const take = (name, bytes) => busily(async () => {
+  const text = lettersOf(bytes);
+  if (/^trace [12]\n/.test(text)) return live.isOpen ? checkTrace(name, bytes) : refuseAlone(name, 'a trace');
+  if (text.includes('(breeze-part') || !live.isOpen) return openNetlist(name, bytes);
+  return playSession(name, text);
+});
+
+function refuseAlone(name, what) {
+  $('refusal').textContent = `${name} is ${what}: open its netlist first`;
+  $('refusal').hidden = false;
+}

@@ -1,0 +1,387 @@
+"""What is done on the live page in a browser: each play by clicks and keys, held against the native program."""
+
+import json
+import os
+import tempfile
+import time
+
+from .page_looks import is_same
+from .page_nets import NETS
+from .page_plays import hostile_netlist, shown
+from .tests import EXAMPLES
+
+READY = "document.body.classList.contains('ready')"
+RESTING = "breezesim.live.isOpen && !breezesim.live.isBusy"
+TRACE = "breezesim.trace.text"
+ANSWER = "document.getElementById('answer').textContent"
+SIGNS = "[...document.querySelectorAll('#can [data-can]')].map(it => it.dataset.can)"
+SECONDS = 30
+# How the page is called: its session is one call that is held while it waits, or is played anew for each line, or runs without a
+# worker.
+WAYS = ["", "#replayed", "#alone"]
+
+
+class Stage:
+    """The live page in a browser, the native program, and what was wrong so far."""
+
+    def __init__(self, browser, program, path, way="", **how):
+        self.browser, self.program, self.path, self.way, self.how, self.faults = browser, program, path, way, how, []
+        self.page = None
+        self.open(path)
+
+    def open(self, path):
+        """Opens a live page anew."""
+        if self.page:
+            self.faults += is_same("errors", self.page.errors, [])
+            self.page.close()
+        self.page = self.browser.page(**self.how).open(path, self.way)
+        self.found("the engine", READY, True)
+
+    def found(self, what, script, wanted):
+        """A script has to have this value; it may need some time to get it."""
+        self.faults += is_same(what, self.page.until(script, wanted, SECONDS), wanted)
+
+    def settle(self):
+        self.page.until(RESTING, True, SECONDS)
+
+    def click(self, script):
+        """Clicks in the middle of the element that a script answers."""
+        place = f"(() => {{ const it = {script}; it.scrollIntoView({{block: 'nearest'}}); const at = it.getBoundingClientRect();"
+        self.page.click(*self.page.do(f"{place} return [at.x + at.width / 2, at.y + at.height / 2]; }})()"))
+        self.settle()
+
+    def button(self, *names):
+        for name in names:
+            self.click(f"document.getElementById('{name}')")
+
+    def sign(self, *commands):
+        """Clicks the signs of moves in the picture."""
+        for command in commands:
+            self.click(f"document.querySelector('#can [data-can=\"{command}\"] circle')")
+
+    def move(self, *commands):
+        """Clicks moves in the list."""
+        for command in commands:
+            self.click(f"document.querySelector('#moves [data-can=\"{command}\"]')")
+
+    def command(self, line):
+        """Types a command."""
+        self.click("document.getElementById('command')")
+        self.page.type(line)
+        self.page.key("Enter", "Escape")
+        self.settle()
+
+    def scrub(self, line):
+        set_to = f"it.value = {line}; it.dispatchEvent(new Event('input'));"
+        self.page.do(f"(() => {{ const it = document.getElementById('scrubber'); {set_to} }})()")
+
+    def start(self, name):
+        """Opens an example by its card."""
+        if not self.page.do("getComputedStyle(document.getElementById('start')).display !== 'none'"):
+            self.button("leave")
+        cards = "[...document.querySelectorAll('.example')]"
+        self.click(f"{cards}.find(it => it.firstChild.textContent === '{name}')")
+        self.found(f"the part of {name}", "document.getElementById('part').textContent", name)
+        self.settle()
+
+    def choose(self, path, name="more-files"):
+        """Chooses a file."""
+        self.page.choose(f"#{name}", path)
+        time.sleep(0.1)
+        self.settle()
+
+    def save(self, what):
+        """What is saved by the list of the bar."""
+        self.page.do("void (breezesim.live.saved = null)")
+        chosen = f"it.value = '{what}'; it.dispatchEvent(new Event('change'));"
+        self.page.do(f"(() => {{ const it = document.getElementById('saving'); {chosen} }})()")
+        self.page.until("Boolean(breezesim.live.saved)", True, SECONDS)
+        return self.page.do("breezesim.live.saved.text")
+
+    def trace(self, what, wanted):
+        """The trace has to be this."""
+        self.found(what, TRACE, wanted)
+
+    def explored(self, name, lines, what="trace"):
+        """What the native `explore` writes of an example after these lines: its trace or its session."""
+        words = ["explore", "--part", name, "--netlist", f"{EXAMPLES}/{name}.breeze"]
+        with tempfile.TemporaryDirectory() as room:
+            self.program.run(words, "".join(f"{it}\n" for it in [*lines, f"{what} {room}/written"]).encode())
+            with open(f"{room}/written", encoding="utf-8") as file:
+                return file.read()
+
+    def verdict(self, name):
+        """The page's trace is one of a run, as the native `check` says."""
+        words = ["check", "--part", name, "--netlist", f"{EXAMPLES}/{name}.breeze", "--trace"]
+        with tempfile.NamedTemporaryFile(suffix=".trace") as file:
+            file.write(self.page.do(TRACE).encode())
+            file.flush()
+            ran = self.program.run([*words, file.name])
+        self.faults += is_same("the verdict", (ran.status, ran.output[:5]), (0, b"run: "))
+
+    def ended(self):
+        self.faults += is_same("errors", self.page.errors, [])
+        # (its own worker is a text of the page)
+        self.faults += is_same("requests", [it for it in self.page.let_through() if not it.startswith("blob:")], [])
+        self.page.close()
+        return self.faults
+
+
+def both_outcomes(stage):
+    """Of the Arbiter first the one outcome is played, and then, from the line before it, the other."""
+    stage.start("arbiter_tree")
+    stage.trace("the opening", "trace 2\n")
+    stage.sign("offer:a", "offer:b")
+    stage.found("the choice", SIGNS, ["fire 1 1", "fire 1 2", "offer:c", "offer:d"])
+    stage.sign("fire 1 1")
+    stage.found("a is first", f"{TRACE}.split('\\n')[3]", "w1 fire 1 take 1")
+    stage.button("run")
+    stage.trace("as explore writes it", stage.explored("arbiter_tree", ["offer:a", "offer:b", "fire 1 1", "run"]))
+    stage.scrub(3)
+    stage.found("no signs at an earlier line", SIGNS, [])
+    stage.click("document.querySelector('#moves button.go')")
+    stage.trace("before the choice", "trace 2\nh1 offer a done\nh1 offer b done\n")
+    stage.move("fire 1 2")
+    stage.button("run")
+    stage.trace("b is first", stage.explored("arbiter_tree", ["offer:a", "offer:b", "fire 1 2", "run"]))
+    stage.verdict("arbiter_tree")
+
+
+def values(stage):
+    """A word that needs a value has a field. Undo and redo go line by line, and one can go on from within a run."""
+    stage.start("buffer")
+    stage.sign("offer:activate")
+    stage.button("run")
+    stage.sign("accept:i", "answer:i")
+    stage.found("the field is gone to", "document.activeElement.dataset.given", "answer:i")
+    stage.page.type("5")
+    stage.page.key("Enter")
+    stage.settle()
+    stage.button("run")
+    stage.sign("accept:o")
+    lines = ["offer:activate", "run", "accept:i", "answer:i:5", "run", "accept:o"]
+    stage.found("steps", "breezesim.live.steps.map(it => it.line)", lines)
+    stage.trace("as explore writes it", stage.explored("buffer", lines))
+    stage.verdict("buffer")
+    stage.button("undo", "undo")
+    stage.trace("undone", stage.explored("buffer", lines[:4]))
+    stage.command("undo 2")
+    stage.trace("two undone at once", stage.explored("buffer", lines[:2]))
+    stage.button("redo", "redo")
+    stage.found("marks", "document.querySelector('[data-channel=\"3\"]').classList.contains('idle')", True)
+    stage.button("redo", "redo")
+    stage.trace("redone", stage.explored("buffer", lines))
+    stage.scrub(5)
+    stage.page.key("b")
+    stage.trace("from within a run", stage.explored("buffer", ["offer:activate", "run 3"]))
+    stage.scrub(4)
+    stage.page.key("b")
+    stage.trace("and of what was left of it", stage.explored("buffer", ["offer:activate", "run 2"]))
+
+
+def deadlock(stage):
+    """At rest who waits in a circle is red, and told in words."""
+    stage.start("cross")
+    stage.sign("offer:go")
+    stage.page.key("m")
+    red = "[...document.querySelectorAll('.component.stuck')].map(it => Number(it.dataset.component)).sort()"
+    stage.found("red components", red, [2, 3, 4, 5])
+    red = "[...document.querySelectorAll('.channel.stuck')].map(it => Number(it.dataset.channel)).sort()"
+    stage.found("red channels", red, [4, 5, 6, 7])
+    told = "document.querySelector('.wait.cycle').textContent"
+    stage.found("in words", told, "cycle: Sequence 2 -> Passivator 4 -> Sequence 3 -> Passivator 5 -> Sequence 2")
+    stage.page.key("u")
+    stage.found("none before", "document.querySelectorAll('.stuck').length", 0)
+
+
+def clashes(stage):
+    """Clash lines stand after all others, whatever comes then."""
+    stage.start("careless")
+    stage.sign("offer:a", "offer:b")
+    stage.button("run")
+    lines = ["offer:a", "offer:b", "run"]
+    stage.trace("a clash", stage.explored("careless", lines))
+    stage.sign("accept:use")
+    stage.trace("more lines", stage.explored("careless", [*lines, "accept:use"]))
+    stage.button("undo")
+    stage.trace("fewer lines", stage.explored("careless", lines))
+    stage.found("the audit", "breezesim.found.bad", 0)
+
+
+def saved_pages(stage):
+    """A page that is saved goes on where it was, also of random moves; the session, the trace and a page are saved."""
+    stage.start("arbiter_tree")
+    lines = ["offer:a", "offer:c", "seed 7", "random 3", "run 2"]
+    stage.sign("offer:a", "offer:c")
+    for line in lines[2:]:
+        stage.command(line)
+    trace = stage.explored("arbiter_tree", lines)
+    stage.trace("as explore writes it", trace)
+    stage.faults += is_same("the trace", stage.save("trace"), trace)
+    stage.faults += is_same("the session", stage.save("session"), stage.explored("arbiter_tree", lines, "session"))
+    stage.faults += is_same("a page", stage.save("page"), stage.explored("arbiter_tree", lines, "page"))
+    with tempfile.TemporaryDirectory() as room:
+        with open(f"{room}/saved.html", "w", encoding="utf-8") as file:
+            file.write(stage.save("whole"))
+        stage.open(f"{room}/saved.html")
+    stage.trace("carried", trace)
+    stage.settle()
+    stage.button("run")
+    stage.trace("it goes on", stage.explored("arbiter_tree", [*lines, "run"]))
+
+
+def sessions(stage):
+    """The session of each example, chosen as a file, ends with the trace that the native program writes."""
+    for name in ("buffer", "arbiter_tree"):
+        stage.start(name)
+        path = f"{EXAMPLES}/{name}.session"
+        with open(path, encoding="utf-8") as file:
+            lines = [line.split("#")[0].strip() for line in file]
+        stage.choose(path)
+        played = [line for line in lines if line and line.split()[0] not in ("trace", "page", "session", "quit")]
+        stage.trace(f"the session of {name}", stage.explored(name, played))
+
+
+def traces(stage):
+    """A trace that is a run is played, line by line, and can be changed; of any other the notes are shown."""
+    stage.start("countdown")
+    with open(f"{EXAMPLES}/countdown.trace", encoding="utf-8") as file:
+        text = file.read()
+    stage.choose(f"{EXAMPLES}/countdown.trace")
+    stage.trace("played", text)
+    stage.found("the verdict", f"{ANSWER}.startsWith('countdown.trace: run: ')", True)
+    stage.scrub(20)
+    stage.page.key("b")
+    stage.trace("a front of it", "".join(text.splitlines(True)[:20]))
+    with tempfile.TemporaryDirectory() as room:
+        with open(f"{room}/spoilt.trace", "w", encoding="utf-8") as file:
+            file.write(text.replace("fire 6 reply 10 0", "fire 6 reply 10 1"))
+        stage.choose(f"{room}/spoilt.trace")
+    stage.found("notes", f"/not a run: line \\d+\\n[^]*note: /.test({ANSWER})", True)
+    stage.trace("as before", "".join(text.splitlines(True)[:20]))
+
+
+def refusals(stage):
+    """A netlist that is refused shows what `lint` says, and what was open can be gone back to. A bad command changes nothing."""
+    stage.start("buffer")
+    stage.sign("offer:activate")
+    stage.choose(f"{EXAMPLES}/explain/several.breeze")
+    linted = stage.program.run(["lint", "--netlist", "several.breeze"], cwd=f"{EXAMPLES}/explain").output.decode()
+    stage.found("what lint says", "document.getElementById('refusal').textContent", linted.strip())
+    stage.button("return")
+    stage.trace("the other one is open", "trace 2\nh1 offer activate done\n")
+    for line, wanted in [("answer:i:999", "error: "), ("mvoes", "error: "), ("quit", "error: "), ("waits 2", "Loop 2 can move")]:
+        stage.command(line)
+        stage.found(line, f"{ANSWER}.includes('{wanted}')", True)
+        stage.trace(f"after {line}", "trace 2\nh1 offer activate done\n")
+    stage.command("trace mine.trace")
+    stage.found("a file that a command names", "breezesim.live.saved.name", "mine.trace")
+
+
+def parts(stage):
+    """Of several parts one is chosen."""
+    stage.start("pipeline")
+    stage.found("parts", "[...document.getElementById('parts').options].map(it => it.value)", ["buffer", "pipeline"])
+    chosen = "it.value = 'buffer'; it.dispatchEvent(new Event('change'));"
+    stage.page.do(f"(() => {{ const it = document.getElementById('parts'); {chosen} }})()")
+    stage.found("the part", "document.getElementById('part').textContent", "buffer")
+    stage.settle()
+    stage.sign("offer:activate")
+    stage.trace("it plays", "trace 2\nh1 offer activate done\n")
+
+
+def pasted(stage):
+    """A netlist that is pasted is opened byte for byte, also with letters of more than a byte."""
+    with open(f"{EXAMPLES}/buffer.breeze", encoding="utf-8") as file:
+        text = "; \u00e9\u2192\n" + file.read()
+    stage.page.do(f"void (document.getElementById('paste').value = {json.dumps(text)})")
+    stage.button("open-paste")
+    stage.found("the part", "document.getElementById('part').textContent", "buffer")
+    stage.settle()
+    stage.faults += is_same("the netlist", stage.page.do("[...breezesim.live.netlist]"), list(text.encode()))
+
+
+def stopped(stage):
+    """A long run is stopped, and all is as before it. (Without a worker a page can't be stopped.)"""
+    if stage.way == "#alone":
+        return
+    with tempfile.TemporaryDirectory() as room:
+        with open(f"{room}/large.breeze", "wb") as file:
+            file.write(NETS["large"].text())
+        stage.choose(f"{room}/large.breeze", "file")
+    stage.command("offer:go")
+    stage.command("run 200")
+    before = stage.page.do(TRACE)
+    stage.faults += is_same("it was played", before.count("\n") > 200, True)
+    stage.page.do("void (breezesim.make('random 900000'), setTimeout(() => breezesim.stop(), 20))")
+    time.sleep(0.5)
+    stage.settle()
+    stage.trace("as before", before)
+    stage.command("run 20")
+    stage.found("it plays on", f"{TRACE}.length > {len(before)}", True)
+
+
+def long_runs(stage):
+    """Of a run that is too long for its answer the trace is read whole. It grows, is taken back, and is cut."""
+    net = NETS["large"]
+    with tempfile.TemporaryDirectory() as room:
+        with open(f"{room}/large.breeze", "wb") as file:
+            file.write(net.text())
+        stage.choose(f"{room}/large.breeze", "file")
+        words = ["run", "--part", net.part, "--netlist", f"{room}/large.breeze", "--", "offer:go"]
+        wanted = {count: stage.program.run([*words, f"run:{count}"]).output.decode() for count in (698, 9000, 20000)}
+    stage.command("offer:go")
+    stage.command("run 9000")
+    stage.trace("a part of it", wanted[9000])
+    stage.command("run 11000")
+    stage.trace("all of it", wanted[20000])
+    stage.button("undo")
+    stage.trace("undone", wanted[9000])
+    stage.scrub(700)
+    stage.page.key("b")
+    stage.trace("cut", wanted[698])
+    stage.found("the audit", "breezesim.found.bad", 0)
+
+
+def hostile_names(stage):
+    """Names that would end a script or be markup are names, also on a page that is saved."""
+    with tempfile.TemporaryDirectory() as room:
+        with open(f"{room}/hostile.breeze", "wb") as file:
+            file.write(hostile_netlist())
+        stage.choose(f"{room}/hostile.breeze", "file")
+        listed = stage.program.run(["parts", "--netlist", f"{room}/hostile.breeze"]).output.decode().splitlines()
+        names = [line.split()[2] for line in listed if line.startswith("port ")]
+        for name in names:
+            stage.command(f"offer:{name}".replace("#", "%23"))
+        with open(f"{room}/saved.html", "w", encoding="utf-8") as file:
+            file.write(stage.save("whole"))
+        for is_saved in (False, True):
+            if is_saved:
+                stage.open(f"{room}/saved.html")
+            stage.trace("its lines", "".join(["trace 2\n", *(f"h1 offer {name} done\n" for name in names)]))
+            stage.found("nothing else ran", "[typeof window.hit, document.querySelectorAll('img').length]", ["undefined", 0])
+
+
+def narrow(stage):
+    """On a phone the picture, the bar and what can come next are there, and nothing scrolls sideways."""
+    stage.page.resize(420, 800)
+    stage.start("arbiter_tree")
+    stage.found("no sideways scrolling", "document.documentElement.scrollWidth <= innerWidth", True)
+    for name in ("svg", "run", "moves", "scrubber"):
+        place = f"document.getElementById('{name}').getBoundingClientRect()"
+        stage.found(name, f"(it => it.width > 0 && it.height > 0)({place})", True)
+    stage.move("offer:a")
+    stage.trace("a move", "trace 2\nh1 offer a done\n")
+    stage.faults += is_same("the picture", shown(stage.page, "#svg"), True)
+
+
+# The plays, and whether each is played in all ways of calling.
+PLAYS = {both_outcomes: True, values: True, deadlock: True, clashes: True, saved_pages: True, sessions: True, traces: True}
+PLAYS.update({long_runs: True, refusals: False, parts: False, pasted: False, hostile_names: False, stopped: False, narrow: False})
+
+
+def play(act, browser, program, path, way):
+    """What a play finds wrong."""
+    stage = Stage(browser, program, os.path.abspath(path), way)
+    act(stage)
+    return stage.ended()
