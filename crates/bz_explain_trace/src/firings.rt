@@ -1,6 +1,6 @@
 //! Firings and rests that no run has.
 
-use crate::scene::{Scene, ends_of, phase_of};
+use crate::scene::{Scene, holder_at, phase_of};
 use bz_explain_notes::Arg::{self, Count, Name, Number, Spaced, Text};
 use bz_explain_notes::Draft;
 use bz_model::{Move, Phase, Value};
@@ -106,15 +106,14 @@ fn put_number<'t>(draft: &mut Draft, thing: &'t str, number: u32, count: Arg<'t>
 
 // Tells whose the end is at which such a move is made.
 fn put_end(draft: &mut Draft, scene: &Scene<'_>, firing: Firing) {
-    let (sense, holder) = match (firing.mv, ends_of(scene.net.core(), firing.chan)) {
-        (Move::Ask | Move::Got, Some([active, _])) => ("active", active),
-        (Move::Take | Move::Reply, Some([_, passive])) => ("passive", passive),
-        (_, None) => ("", None),
+    let sense = match firing.mv {
+        Move::Ask | Move::Got => "active",
+        Move::Take | Move::Reply => "passive",
     };
     draft.put("% on ", &[Text(firing.mv.word())]);
     scene.put_chan(draft, firing.chan);
     draft.put(", whose % end is that of ", &[Text(sense)]);
-    match holder {
+    match holder_at(scene.net.core(), firing.chan, firing.mv) {
         Some(comp) => scene.put_comp(draft, comp),
         None => draft.put("the host, at port %", &[Name(scene.port_name(firing.chan))]),
     }

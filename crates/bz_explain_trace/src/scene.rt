@@ -4,7 +4,7 @@ use crate::items::LineAt;
 use bz_explain_notes::Arg::{self, Bytes, Name, Number, Path};
 use bz_explain_notes::Draft;
 use bz_kind_rows::kind_word;
-use bz_model::Phase;
+use bz_model::{Move, Phase};
 use bz_net::{Core, Play};
 use bz_source::Survey;
 
@@ -56,7 +56,11 @@ impl Scene<'_> {
 
     /// The name of an external port.
     pub(crate) fn port_name(&self, port: u32) -> &[u8] {
-        self.net.names().name(port).unwrap_or(b"")
+        let names = self.net.names();
+        match names.name(port) {
+            Some(name) => name,
+            None => b"",
+        }
     }
 }
 
@@ -68,10 +72,12 @@ pub(crate) fn phase_of(net: &Core, chan: u32) -> Option<Phase> {
     }
 }
 
-/// The components at the active and the passive end of a channel, where there is one of this number.
-pub(crate) fn ends_of(net: &Core, chan: u32) -> Option<[Option<u32>; 2]> {
-    match net.names().chan(chan) {
-        Some(_) => Some(net.ends(chan)),
-        None => None,
+/// The component at the end of a channel at which such a move is made, where a component stands there.
+pub(crate) fn holder_at(net: &Core, chan: u32, mv: Move) -> Option<u32> {
+    net.names().chan(chan)?;
+    let ends = net.ends(chan);
+    match mv {
+        Move::Ask | Move::Got => ends[0],
+        Move::Take | Move::Reply => ends[1],
     }
 }
