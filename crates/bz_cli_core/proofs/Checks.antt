@@ -1,5 +1,5 @@
 -- What the command `check` answers.
-use Rattle.std.proofs.Common.{◌≡◌, ◌≢◌, ◌≤◌, ℕ, Bool, List, Option, Some, None, length, ◌⊎◌, inl, inr, refl, subst}
+use Rattle.std.proofs.Common.{◌≡◌, ◌≤◌, ℕ, Bool, List, Option, Some, None, length, ◌⊎◌, inl, inr, refl, subst}
 use Rattle.std.specs.Prelude.{Result, Ok, Err, IfSome}
 use Rattle.std.specs.Io.KnownBytes.{Keeps}
 use Rattle.bz_model.specs.Nets.{Wiring}
@@ -15,7 +15,7 @@ use Rattle.bz_cli_input.specs.Limits.{input_limit}
 use Rattle.bz_cli_input.specs.Statuses.{of_input}
 use Rattle.bz_cli_input.specs.Stopping.{IsOfInput, StopsAtInput}
 use Rattle.bz_cli_input.specs.Opening.{Denotes, RefusesNet}
-use Rattle.bz_cli_core.specs.Checking.{Checks, ChecksApart, ChecksText, ChecksTrace, Said, TellsVerdict}
+use Rattle.bz_cli_core.specs.Checking.{Checks, ChecksApart, ChecksText, ChecksTrace, TellsVerdict}
 
 -- what the reader had is the text
 pub checks_on : (known : Option (List ℕ)) (items part : List ℕ) (old new : Option (List ℕ)) (answer : Result Bool Fault) → IfSome known (λ xs. items ≡ xs) → length items ≤ input_limit → ChecksText items part old new answer → IfSome known (λ text. Checks text part old new answer)

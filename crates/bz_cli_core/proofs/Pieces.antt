@@ -193,7 +193,7 @@ words_all old new a c before after strict cmds i all words =
       told = words.told;
       sent = λ start sent. subst (λ (w : Wiring). IsSent w.ports start words.entries c after) (sym wiring) (words.sent start (subst (λ (w : Wiring). IsSent w.ports start [] a before) wiring sent));
       wiring = wiring;
-      left = words.playing.limit;
+      left = let limit = words.playing.limit in omega (arith, limit);
     }
 
 -- what was played, the text that goes out of it, and the net that it leads to

@@ -1,4 +1,4 @@
-use Rattle.bz_cli_core.proofs.Checks.{net_refused, told_read, trace_not_read}
+use Rattle.bz_cli_core.proofs.Checks.{net_refused, told_read}
 use Rattle.bz_cli_core.proofs.checking.check_netlist.Goals as goal
 
 pub returns-in-Err : goal.returns-in-Err

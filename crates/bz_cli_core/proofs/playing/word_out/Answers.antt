@@ -1,4 +1,4 @@
-use Rattle.std.proofs.Common.{◌≡◌, ℕ, None, [], sym, subst}
+use Rattle.std.proofs.Common.{None, [], sym, subst}
 use Rattle.std.specs.Prelude.{IfOk, IfErr}
 use Rattle.bz_model.specs.declared.event.Cmd.{Cmd}
 use Rattle.bz_model.specs.declared.event.Who.TheVariants as who
