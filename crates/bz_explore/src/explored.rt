@@ -68,11 +68,12 @@ impl Ending {
     }
 }
 
-/// Opens the net of a part of the netlist that a reader gives, and follows the lines of another, each with its answer. At a
-/// prompt a greeting and prompts are written too, else a line that can't be followed is told by its number.
+/// Opens the net of the part that is asked for by name, or else of the only one that no other uses, in the netlist that a reader
+/// gives, and follows the lines of another, each with its answer. At a prompt a greeting and prompts are written too, else a line
+/// that can't be followed is told by its number.
 pub fn explore_cmd<R: Read, L: BufRead, W: Write, S: Shelf>(
     alloc: Global,
-    part: &[u8],
+    asked: Option<&[u8]>,
     prompts: bool,
     netlist: &mut R,
     lines: &mut L,
@@ -83,27 +84,27 @@ pub fn explore_cmd<R: Read, L: BufRead, W: Write, S: Shelf>(
     ensures { ReadsWithin (R.remaining netlist.old) (R.remaining netlist.new) }
 {
     let text = read_input(alloc, netlist)?;
-    explore_text(alloc, part, text.as_slice(), prompts, lines, shelf, output)
+    explore_text(alloc, asked, text.as_slice(), prompts, lines, shelf, output)
 }
 
 // Opens the net of a part of the text.
 fn explore_text<L: BufRead, W: Write, S: Shelf>(
     alloc: Global,
-    part: &[u8],
+    asked: Option<&[u8]>,
     text: &[u8],
     prompts: bool,
     lines: &mut L,
     shelf: &mut S,
     output: &mut W,
 ) -> Result<Ending, Fault> {
-    let (flat, survey) = survey_of(alloc, part, text)?;
+    let (flat, survey, name) = survey_of(alloc, asked, text)?;
     let Ok(mut course) = Course::open(alloc, flat, JOURNAL) else {
         return Err(Fault::Memory);
     };
     let mut session = Session {
         course: &mut course,
         survey: &survey,
-        part,
+        part: name.as_slice(),
         typed: Vec::new(alloc),
         answer: Answer {
             text: Text::new(alloc),
