@@ -5,8 +5,8 @@
 
 Each row is one workload, and where there are two programs, how many times as much the first takes. First come the instructions
 that callgrind counts (a part of valgrind): those of a move and of a line that is checked, from the 20,000th to the 220,000th, in
-millions those of opening and listing a netlist, and those of a call of a command. They are the same each time. What a program
-refuses, as one that knows fewer commands, has no figure. Then come times: the best of each program in seconds, its memory at its
+millions those of opening and listing a netlist, and those of a call of a command; last with the part named, with none named, and
+so as at a terminal. They are the same each time. What a program refuses, as one that knows fewer commands, has no figure. Then come times: the best of each program in seconds, its memory at its
 greatest in MB, and its page faults. A row of moves leaves out the time of the same command without any. No figure of memory is
 below that of Python itself, some 15 MB, out of which the programs are started. The largest netlists
 are opened a second time with what the launcher tells the C library of memory, as ./breezesim opens them. --counts shows the
@@ -30,10 +30,13 @@ OPENED = [("large", 100000), ("pipeline", 10000), ("tree", 100000)]
 # Calls: a command, the netlist, and of how many moves the trace is, where it reads one.
 CALLS = [("list", "large", 20000, 0), ("draw", "pipeline", 800, 0), ("lint", "pipeline", 1000, 0)]
 CALLS += [(command, "pipeline", 10, 1000) for command in ("check", "chart", "page")]
+# How a call says which part it opens: by name; not at all, so that it is the one on top; and so with notes, as the launcher calls
+# at a terminal.
+WAYS = [("named", ["--part", "bench"]), ("on top", []), ("at a terminal", ["--explain"])]
 
 
-def run(words):
-    return ["run", "--part", "bench", "--journal", "16777216", *words]
+def run(words, way=WAYS[0][1]):
+    return ["run", *way, "--journal", "16777216", *words]
 
 
 def moving(moves):
@@ -121,6 +124,16 @@ def counts(programs, netlists):
         words = [command] if command == "lint" else [command, "--part", "bench"]
         label = f"{shape} {size}: {command}" + (f" of {moves} moves" if moves else "")
         show_counts(label, [counted(p, words, text) for p in programs], millions)
+    counts_by_way(programs, netlists)
+
+
+def counts_by_way(programs, netlists):
+    large, loops = netlists.path("large", 10000), netlists.path("loops", 64)
+    for name, way in WAYS:
+        show_counts(f"large 10000: listed, {name}", [counted(p, ["list", *way], large) for p in programs], millions)
+        show_counts(f"large 10000: opened, {name}", [counted(p, run(["run:0"], way), large) for p in programs], millions)
+        words = run(["offer:go", f"run:{COUNTED}"], way)
+        show_counts(f"loops 64: {COUNTED} moves, {name}", [counted(p, words, loops) for p in programs], millions)
 
 
 # Times and memory.
@@ -198,6 +211,8 @@ def times(programs, netlists):
         show(f"{shape}: listed", [measured(p, ["list", "--part", "bench"], text) for p in programs])
         show(f"{shape}: opened", [measured(p, run(["run:0"]), text) for p in programs])
         show(f"{shape}: opened, as launched", [measured(p, run(["run:0"]), text, launcher_settings()) for p in programs])
+        for name, way in WAYS[1:]:
+            show(f"{shape}: opened, {name}", [measured(p, run(["run:0"], way), text) for p in programs])
 
 
 def main():

@@ -5,14 +5,15 @@ mod disk;
 
 use crate::disk::Disk;
 use bz_cli_args::{
-    ArgsFault, BAD_COMMAND_LINE, CommandName, Error, Options, PartName, Request, Source, Told,
-    request_of, shared_stdin, split_words, stray_word, tell_error, word_starts, words_of,
+    ArgsFault, BAD_COMMAND_LINE, CommandName, Error, Options, Request, Source, Told, request_of,
+    shared_stdin, split_words, stray_word, tell_error, word_starts, words_of,
 };
 use bz_cli_input::{Fault, INPUT_LIMIT, read_input};
 use bz_cli_program::{
-    Cause, Given, chart, check, check_words, draw, is_file, kinds, list, netlist_in, open_file,
-    page, part_named, parts, pool, run, tell_tops, text_of, tops_of,
+    Cause, Given, NoName, chart, check, draw, is_file, kinds, list, netlist_in, open_file, page,
+    part_named, parts, pool, run, text_of,
 };
+use bz_cli_trace::{Checked, check_trace};
 use bz_explain::{Asked, Explained, WordFile, Words, explain};
 use bz_explain_lint::{Lint, lint_cmd};
 use bz_explain_notes::Arg::{Number, Text};
@@ -26,6 +27,9 @@ use std::process::ExitCode;
 use std::sync::Wait;
 use std::thread::Threads;
 use std::{fs, io};
+
+/// The status of a trace that is not that of a run.
+const NO_RUN: u8 = 1;
 
 /// How many bytes of output are gathered before they go out.
 const BUFFER_SIZE: usize = 65_536;
@@ -82,11 +86,22 @@ fn judge_trace<R: Read + Drop, T: Read, W: Write>(
     trace: Option<&mut T>,
     output: &mut W,
 ) -> Result<u8, Fault> {
-    match given.options.command {
-        CommandName::Chart => chart(rt.alloc(), given, input, trace, output, &mut rt.stderr()),
-        CommandName::Page => page(rt.alloc(), given, input, trace, output, &mut rt.stderr()),
-        _ => check(rt.alloc(), given, input, trace, output),
+    let (alloc, errors) = (rt.alloc(), &mut rt.stderr());
+    let status = match given.options.command {
+        CommandName::Chart => chart(alloc, given, input, trace, output, errors)?,
+        CommandName::Page => page(alloc, given, input, trace, output, errors)?,
+        _ => {
+            let (status, checked) = check(alloc, given, input, trace, output)?;
+            if status == NO_RUN {
+                note_trace(rt, given, input.kept(), Some(checked));
+            }
+            return Ok(status);
+        }
+    };
+    if status == NO_RUN {
+        note_trace(rt, given, input.kept(), None);
     }
+    Ok(status)
 }
 
 // Plays a net by the lines of standard input.
@@ -115,12 +130,8 @@ fn lint<R: Read, W: Write>(
     input: &mut R,
     output: &mut W,
 ) -> Result<u8, Fault> {
-    let part = match given.options.part {
-        PartName::Top => None,
-        PartName::Text(_) | PartName::Form(_) => Some(given.part),
-    };
     let lint = Lint {
-        part,
+        part: given.part,
         file: file_of(given.options.netlist),
         is_json: given.options.json,
     };
@@ -146,50 +157,69 @@ fn play<T: Threads + Wait + Sync, R: Read + Drop>(
     input: &mut Keeping<R>,
 ) -> ExitCode {
     match perform(rt, threads, given, input) {
-        Ok(status) => {
-            note_trace(rt, given, input.kept(), status);
-            ExitCode::from(status)
-        }
+        Ok(status) => ExitCode::from(status),
         Err(fault) => refuse_noted(rt, &fault, given, input.kept()),
     }
 }
 
-// Tells why a trace is none of a run, where the input was kept for that.
-fn note_trace<'a>(rt: &HostRuntime, given: Given<'a, '_>, kept: Option<&'a [u8]>, status: u8) {
-    if let (1, Some(kept), CommandName::Check | CommandName::Chart | CommandName::Page) = (
-        status,
-        kept,
-        given.options.command,
-    ) {
-        let netlist = netlist_in(&given.options, kept);
-        let notes = match given.options.trace {
-            None => {
-                let (_, trace) = kept.split_at(netlist.len().min(kept.len()));
-                let claim = Claim {
-                    part: given.part,
-                    netlist,
-                    trace,
-                    file: None,
-                };
-                explain_trace(rt.alloc(), claim)
-            }
-            Some(source) => notes_of(rt, given.part, netlist, source),
-        };
-        let _ = tell_notes(rt.alloc(), &notes, &mut rt.stderr());
+// Notes why a trace is not that of a run, where the input was kept for that. Without a net that refused it, it is checked once more.
+fn note_trace<'a>(
+    rt: &HostRuntime,
+    given: Given<'a, '_>,
+    kept: Option<&'a [u8]>,
+    checked: Option<Checked>,
+) {
+    let Some(kept) = kept else {
+        return;
+    };
+    let netlist = netlist_in(&given.options, kept);
+    let notes = match given.options.trace {
+        None => {
+            let (_, trace) = kept.split_at(netlist.len().min(kept.len()));
+            let claim = Claim {
+                netlist,
+                trace,
+                file: None,
+            };
+            notes_on(rt.alloc(), given.part, claim, checked)
+        }
+        Some(source) => notes_of(rt, given.part, netlist, source, checked),
+    };
+    let _ = tell_notes(rt.alloc(), &notes, &mut rt.stderr());
+}
+
+// The notes of a trace by the net that refused it, or else by one that checks it once more.
+fn notes_on(
+    alloc: Global,
+    part: Option<&[u8]>,
+    claim: Claim<'_>,
+    checked: Option<Checked>,
+) -> Draft {
+    if let Some(checked) = checked {
+        return explain_trace(alloc, claim, checked);
+    }
+    match check_trace(alloc, part, claim.netlist, claim.trace) {
+        Ok(checked) => explain_trace(alloc, claim, checked),
+        Err(_) => Draft::new(alloc),
     }
 }
 
 // The notes of a trace with a file of its own, which is read once more for them.
-fn notes_of<'a>(rt: &HostRuntime, part: &'a [u8], netlist: &'a [u8], source: Source<'a>) -> Draft {
+fn notes_of<'a>(
+    rt: &HostRuntime,
+    part: Option<&'a [u8]>,
+    netlist: &'a [u8],
+    source: Source<'a>,
+    checked: Option<Checked>,
+) -> Draft {
     let alloc = rt.alloc();
     if let Some((path, trace)) = read_again(rt, source) {
         let claim = Claim {
-            part,
             netlist,
             trace: trace.as_slice(),
             file: Some(path),
         };
-        return explain_trace(alloc, claim);
+        return notes_on(alloc, part, claim, checked);
     }
     let mut notes = Draft::new(alloc);
     notes.say(
@@ -302,57 +332,21 @@ fn tell_unreadable(rt: &HostRuntime, path: &str, cause: &Cause) -> Result<u8, Fa
     Ok(BAD_COMMAND_LINE)
 }
 
-// Plays the one part of the netlist that no other part uses.
-fn play_top<T: Threads + Wait + Sync, R: Read + Drop>(
-    rt: &HostRuntime,
-    threads: &T,
-    given: Given<'_, '_>,
-    input: &mut Keeping<R>,
-) -> ExitCode {
-    let alloc = rt.alloc();
-    if let Err(fault) = check_words(alloc, given) {
-        return refuse_noted(rt, &fault, given, input.kept());
-    }
-    let text = match read_input(alloc, input) {
-        Ok(text) => text,
-        Err(fault) => return refuse_noted(rt, &Fault::from(fault), given, input.kept()),
-    };
-    let text = text.as_slice();
-    match tops_of(alloc, netlist_in(&given.options, text)) {
-        Ok(names) => match names.as_slice() {
-            [name] => {
-                let input = &mut Keeping::new(alloc, text, given.options.explains);
-                let part = name.as_slice();
-                play(rt, threads, Given { part, ..given }, input)
-            }
-            names => {
-                let _ = tell_tops(names, &mut rt.stderr());
-                ExitCode::from(BAD_COMMAND_LINE)
-            }
-        },
-        Err(fault) => refuse_noted(rt, &fault, given, input.kept()),
-    }
-}
-
-// Plays a part that the command line names, or the one on top. None is given yet.
+// Plays the part that the command line names, or the one on top where it names none.
 fn play_named<T: Threads + Wait + Sync, R: Read + Drop>(
     rt: &HostRuntime,
     threads: &T,
     given: Given<'_, '_>,
     input: &mut Keeping<R>,
 ) -> ExitCode {
-    let options = given.options;
-    let part = match part_named(rt.alloc(), options.part) {
-        Ok(Some(part)) => part,
-        Ok(None) => return reject(rt, "the value of --part-form is not a name form"),
-        Err(_) => return refuse(rt, &Fault::Memory),
-    };
-    let part = part.as_slice();
-    let given = Given { part, ..given };
-    match (options.command, options.part) {
-        (CommandName::Parts | CommandName::Lint | CommandName::Kinds, _)
-        | (_, PartName::Text(_) | PartName::Form(_)) => play(rt, threads, given, input),
-        (_, PartName::Top) => play_top(rt, threads, given, input),
+    match part_named(rt.alloc(), given.options.part) {
+        Ok(None) => play(rt, threads, given, input),
+        Ok(Some(name)) => {
+            let part = Some(name.as_slice());
+            play(rt, threads, Given { part, ..given }, input)
+        }
+        Err(NoName::Form) => reject(rt, "the value of --part-form is not a name form"),
+        Err(NoName::Memory) => refuse(rt, &Fault::Memory),
     }
 }
 
@@ -384,7 +378,7 @@ fn play_words_of<T: Threads + Wait + Sync, R: Read + Drop>(
     };
     let given = Given {
         options,
-        part: &[],
+        part: None,
         words: words.as_slice(),
         word_text: Some(text.as_str()),
     };
@@ -404,7 +398,7 @@ fn play_on<T: Threads + Wait + Sync, R: Read + Drop>(
     }
     let given = Given {
         options,
-        part: &[],
+        part: None,
         words: request.words.as_slice(),
         word_text: None,
     };

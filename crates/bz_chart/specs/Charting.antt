@@ -1,80 +1,51 @@
 -- What the command `chart` reads and writes: a netlist, a trace, and a drawing.
-use Rattle.std.specs.Prelude.{◌≡◌, ◌≤◌, ◌⊎◌, ⊤, ℕ, List, length, Option, Result, Ok, Err, IsErrAnd}
-use Rattle.std.specs.Io.KnownBytes.{Appends, Keeps}
+use Rattle.std.specs.Prelude.{⊤, ℕ, List, Option, Result, Ok, Err}
 use Rattle.bz_model.specs.Nets.{Wiring}
-use Rattle.bz_trace.specs.declared.checking.Verdict.{Verdict}
 use Rattle.bz_trace.specs.declared.checking.Verdict.TheVariants as verdict
-use Rattle.bz_trace.specs.Verdicts.{Judges}
-use Rattle.bz_cli_input.specs.declared.fault.Fault.{Fault}
-use Rattle.bz_cli_input.specs.declared.fault.Fault.TheVariants.{Write, Memory}
-use Rattle.bz_cli_core.specs.Checking.{Splits}
-use Rattle.bz_cli_input.specs.Limits.{input_limit}
-use Rattle.bz_cli_input.specs.Opening.{Denotes, RefusesNet}
-use Rattle.bz_cli_input.specs.Stopping.{AppendsSome}
-use Rattle.bz_cli_input.specs.Stopping as stopping
-use Rattle.bz_cli_input.specs.Statuses as command
+use Rattle.bz_cli_input.specs.declared.fault.Fault.TheVariants.{Memory}
+use Rattle.bz_cli_trace.specs.declared.fault.TraceFault.{TraceFault}
+use Rattle.bz_cli_trace.specs.declared.fault.TraceFault.TheVariants.{Command, Other}
+use Rattle.bz_cli_trace.specs.Making.{IsJudged, MakesNone, SendsMade}
+use Rattle.bz_cli_trace.specs.Taking.{TakesText, TakesTwo}
 use Rattle.bz_chart.specs.declared.range.LineRange.{LineRange}
-use Rattle.bz_chart.specs.declared.fault.ChartFault.{ChartFault}
-use Rattle.bz_chart.specs.declared.fault.ChartFault.TheVariants.{Command, NotRun, NotTrace, Piece}
+use Rattle.bz_chart.specs.declared.range.PieceFault.{PieceFault}
 use Rattle.bz_chart.specs.Pieces.{IsPiece, IsNoPiece, line_count}
-
-abbrev pub status_of : ChartFault → ℕ
-status_of (Command fault) = command.status_of fault
-status_of (NotRun line) = 1
-status_of (NotTrace line) = 1
-status_of (Piece fault) = 2
-
--- The netlist denotes a net, the verdict on the trace is this one, and this is so as well.
-pub record Judged (netlist trace part : List ℕ) (v : Verdict) (So : Type 0) : Type 0 where
-  pub wiring : Wiring
-  pub net : Denotes netlist part wiring
-  pub judged : Judges wiring trace v
-  pub so : So
 
 -- the lines that are asked for are there
 abbrev pub HasPiece : LineRange → List ℕ → Type 0
 HasPiece range trace = (first rows : ℕ) × IsPiece range (line_count trace) first rows
 
+-- or they are not, whatever the net
+abbrev pub RefusesPiece : LineRange → List ℕ → Wiring → PieceFault → Type 0
+RefusesPiece range trace w fault = IsNoPiece range (line_count trace) fault
+
 -- What comes of the trace of a run: these lines are drawn, or it is told why not. Of memory that was refused nothing is said.
-abbrev pub DrawsPiece : {A : Type 0} → LineRange → List ℕ → Result A ChartFault → Type 0
+abbrev pub DrawsPiece : {A : Type 0} → LineRange → List ℕ → Result A (TraceFault PieceFault) → Type 0
 DrawsPiece range trace (Ok drawing) = HasPiece range trace
-DrawsPiece range trace (Err (Piece fault)) = IsNoPiece range (line_count trace) fault
+DrawsPiece range trace (Err (Other fault)) = IsNoPiece range (line_count trace) fault
 DrawsPiece range trace (Err (Command Memory)) = ⊤
 DrawsPiece range trace (Err fault) = ⊥
 
--- why no chart of a trace is drawn
-abbrev pub Refuses : List ℕ → List ℕ → List ℕ → LineRange → ChartFault → Type 0
-Refuses netlist trace part range (Command fault) = RefusesNet netlist part fault
-Refuses netlist trace part range (NotRun line) = Judged netlist trace part (verdict.Not line) ⊤
-Refuses netlist trace part range (NotTrace line) = Judged netlist trace part (verdict.Bad line) ⊤
-Refuses netlist trace part range (Piece fault) = Judged netlist trace part verdict.Run (IsNoPiece range (line_count trace) fault)
+-- The trace is that of a run of the net that the netlist denotes, and the lines that are asked for are there.
+abbrev pub HasChart : List ℕ → List ℕ → Option (List ℕ) → LineRange → Type 0
+HasChart netlist trace asked range = (w : Wiring) × IsJudged netlist trace asked verdict.Run w × HasPiece range trace
 
 -- Only the trace of a run is drawn.
-abbrev pub Draws : {A : Type 0} → List ℕ → List ℕ → List ℕ → LineRange → Result A ChartFault → Type 0
-Draws netlist trace part range (Ok drawing) = Judged netlist trace part verdict.Run (HasPiece range trace)
-Draws netlist trace part range (Err fault) = Refuses netlist trace part range fault
+abbrev pub Draws : {A : Type 0} → List ℕ → List ℕ → Option (List ℕ) → LineRange → Result A (TraceFault PieceFault) → Type 0
+Draws netlist trace asked range (Ok drawing) = HasChart netlist trace asked range
+Draws netlist trace asked range (Err fault) = MakesNone (RefusesPiece range trace) netlist trace asked fault
 
--- The drawing went out; where the writer failed, a front of it; where there is none, nothing.
-abbrev pub ChartsTrace : {A : Type 0} → List ℕ → List ℕ → List ℕ → LineRange → Option (List ℕ) → Option (List ℕ) → Result A ChartFault → Type 0
-ChartsTrace netlist trace part range old new (Ok u) = Judged netlist trace part verdict.Run (HasPiece range trace) × ((drawing : List ℕ) × Appends old new drawing)
-ChartsTrace netlist trace part range old new (Err (Command Write)) = Judged netlist trace part verdict.Run (HasPiece range trace) × ((drawing : List ℕ) × AppendsSome old new drawing)
-ChartsTrace netlist trace part range old new (Err fault) = Refuses netlist trace part range fault × Keeps old new
+-- a drawing is made, of which `Out` is so
+abbrev pub MakesChart : List ℕ → List ℕ → Option (List ℕ) → LineRange → (List ℕ → Type 0) → Type 0
+MakesChart netlist trace asked range Out = HasChart netlist trace asked range × ((drawing : List ℕ) × Out drawing)
 
--- The same of a netlist with a trace behind it.
-abbrev pub ChartsText : {A : Type 0} → List ℕ → List ℕ → LineRange → Option (List ℕ) → Option (List ℕ) → Result A ChartFault → Type 0
-ChartsText text part range old new answer = (netlist trace : List ℕ) × Splits text netlist trace × ChartsTrace netlist trace part range old new answer
-
-abbrev pub IsOfInput : ChartFault → Type 0
-IsOfInput (Command fault) = stopping.IsOfInput fault
-IsOfInput fault = ⊥
+abbrev pub ChartsTrace : {A : Type 0} → List ℕ → List ℕ → Option (List ℕ) → LineRange → Option (List ℕ) → Option (List ℕ) → Result A (TraceFault PieceFault) → Type 0
+ChartsTrace netlist trace asked range old new answer = SendsMade (RefusesPiece range trace) (MakesChart netlist trace asked range) netlist trace asked old new answer
 
 -- The command `chart`: the input is not taken and nothing goes out, or the trace in it is drawn.
-abbrev pub Charts : {A : Type 0} → List ℕ → List ℕ → LineRange → Option (List ℕ) → Option (List ℕ) → Result A ChartFault → Type 0
-Charts text part range old new answer =
-    IsErrAnd answer (λ fault. IsOfInput fault × Keeps old new) ⊎ ((length text ≤ input_limit) × ChartsText text part range old new answer)
+abbrev pub Charts : {A : Type 0} → List ℕ → Option (List ℕ) → LineRange → Option (List ℕ) → Option (List ℕ) → Result A (TraceFault PieceFault) → Type 0
+Charts text asked range old new answer = TakesText (λ netlist trace. ChartsTrace netlist trace asked range old new answer) text old new answer
 
 -- The same of a netlist and a trace apart.
-abbrev pub ChartsApart : {A : Type 0} → List ℕ → List ℕ → List ℕ → LineRange → Option (List ℕ) → Option (List ℕ) → Result A ChartFault → Type 0
-ChartsApart netlist trace part range old new answer =
-    IsErrAnd answer (λ fault. IsOfInput fault × Keeps old new)
-    ⊎ ((length netlist ≤ input_limit) × (length trace ≤ input_limit) × ChartsTrace netlist trace part range old new answer)
+abbrev pub ChartsApart : {A : Type 0} → List ℕ → List ℕ → Option (List ℕ) → LineRange → Option (List ℕ) → Option (List ℕ) → Result A (TraceFault PieceFault) → Type 0
+ChartsApart netlist trace asked range old new answer = TakesTwo (λ n t. ChartsTrace n t asked range old new answer) netlist trace old new answer

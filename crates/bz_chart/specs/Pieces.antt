@@ -1,5 +1,5 @@
 -- Which lines of a trace are drawn, or why none are.
-use Rattle.std.specs.Prelude.{◌≡◌, ℕ, ◌⊎◌, ◌+◌, ◌-◌, ◌<◌, ◌≤◌, ◌==◌, List, Option, Some, None, IsSome, unwrap_or, max, count_by}
+use Rattle.std.specs.Prelude.{◌≡◌, ℕ, ◌⊎◌, ◌+◌, ◌-◌, ◌<◌, ◌≤◌, ◌==◌, List, Some, None, IsSome, unwrap_or, max, count_by}
 use Rattle.bz_chart.specs.declared.range.LineRange.{LineRange}
 use Rattle.bz_chart.specs.declared.range.PieceFault.{PieceFault}
 use Rattle.bz_chart.specs.declared.range.PieceFault.TheVariants.{Above, NoLast, NoFirst, TooLong}

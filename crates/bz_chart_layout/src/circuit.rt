@@ -1,4 +1,7 @@
 //! The net whose trace is drawn: its lifelines, and which of them stand at the ends of a channel.
+//!
+//! A lifeline is for each external port that is used, not for each host: of a request that no host has taken yet nobody could
+//! say to which host it goes.
 
 ghost use Rattle.std.specs.Prelude.{◌≡◌, ◌+◌, ◌*◌, ◌<◌, ◌^◌, length, not};
 ghost use Rattle.std.specs.Option.{option_copied, option_map};

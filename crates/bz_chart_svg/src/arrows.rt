@@ -1,5 +1,7 @@
 //! Requests and replies: each leaves on the row of one line, waits in a lane beside the other lifeline, and comes in on the
 //! row of another line.
+//!
+//! A channel's name is shown where one points at its number: beside the arrow it would lie over others.
 
 ghost use Rattle.std.specs.Prelude.{◌≤◌};
 ghost use Rattle.bz_chart_layout.specs.Layout.{HasRoom, IsClear};

@@ -1,4 +1,7 @@
 //! Which lifelines a chart shows, from left to right.
+//!
+//! They go by passive ports, components and active ports, each by number and not by who moves first. So the copies of a part
+//! are side by side, and two pieces of one trace have the same order.
 
 use crate::rows::shown;
 use crate::scene::Chart;

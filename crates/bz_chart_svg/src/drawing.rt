@@ -1,4 +1,7 @@
 //! The whole drawing.
+//!
+//! A chart has a light ground with a border and no second set of colours for dark pages: that would take a style sheet, which
+//! charts do without, or an option, and then the page that shows the picture would have to know which one it got.
 
 use crate::columns::Columns;
 use crate::flow::Flow;

@@ -1,4 +1,8 @@
 //! What stands at the head of each lifeline, and again between and below the rows.
+//!
+//! A kind's name is written in up to three lines of whole words, so that none is cut or shown by its first word, which may be
+//! another kind's name. Long words are set in smaller letters. Comparisons and sums are shown by their signs, as `≠ 0`, since
+//! `NotEquals 0` has no room in a column; other operations by their words.
 
 ghost use Rattle.bz_chart_layout.specs.Layout.{HasRoom, IsClear};
 

@@ -1,4 +1,6 @@
 //! The lanes beside a lifeline, in which requests and replies wait until they come in.
+//!
+//! The last lane is shared: of requests in it each keeps it in use until it has come in itself.
 
 ghost use Rattle.std.specs.Prelude.{◌≤◌, ◌<◌, ◌+◌, ◌-◌, ◌^◌};
 

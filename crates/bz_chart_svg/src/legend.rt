@@ -1,4 +1,6 @@
 //! What the signs of a chart mean.
+//!
+//! It explains the signs that the piece shows, and not those that the trace has elsewhere.
 
 ghost use Rattle.bz_chart_layout.specs.Layout.{HasRoom};
 

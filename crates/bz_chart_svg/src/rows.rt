@@ -1,4 +1,7 @@
 //! The lines of the trace, each on a row.
+//!
+//! Where no lifeline is shown, as of rests alone, a row has no room for the word `rest` at its right end: there it is in the
+//! line only.
 
 use crate::svg::{HOST_LINE, LINE, Pen, RECT, put_text};
 use crate::words::Cut;

@@ -32,7 +32,7 @@ use Rattle.bz_cli_input.specs.declared.fault.Fault.{Fault}
 use Rattle.bz_cli_input.specs.declared.fault.Fault.TheVariants.{Write}
 use Rattle.bz_cli_input.specs.Limits.{input_limit}
 use Rattle.bz_cli_input.specs.Opening.{Denotes}
-use Rattle.bz_cli_core.proofs.Checks.{keeps_same}
+use Rattle.bz_cli_core.proofs.Outcomes.{keeps_same}
 use Rattle.bz_cli.specs.Pooling.{IsAgreed, IsFirstRefused, IsOfPool, Pooled, Pools, PoolsText, RefusesSessions, TellsRefused, WritesClosed, fault_for}
 use Rattle.bz_cli_input.specs.Stopping.{AppendsSome}
 use Rattle.bz_cli_input.specs.Statuses.{of_words}

@@ -3,7 +3,5 @@
 
 mod pooling;
 
-pub use bz_cli_core::{
-    Fault, INPUT_LIMIT, InputFault, Stop, check_cmd, list_cmd, read_input, run_cmd,
-};
+pub use bz_cli_core::{Fault, INPUT_LIMIT, InputFault, Stop, list_cmd, read_input, run_cmd};
 pub use pooling::{PoolOptions, pool_cmd};

@@ -1,4 +1,9 @@
 //! What the command line asks for.
+//!
+//! `-` is standard input only as the value of an option that takes a file. Standard input has one text: where two are asked
+//! of it, or the netlist and the lines of `explore`, the command line is bad. A file that can't be opened, a folder too, is a
+//! mistake of the command line, and so is whatever is wrong with a file of words, since that is known before the netlist is
+//! read. What fails while a netlist is read is F1, as it would be on standard input.
 
 use crate::commands::command_line;
 use crate::options::{FUEL_BY_DEFAULT, HOPS_BY_DEFAULT, JOURNAL_BY_DEFAULT, WORKERS_BY_DEFAULT};

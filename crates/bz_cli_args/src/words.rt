@@ -1,4 +1,7 @@
 //! The words of the command line, and those of a file.
+//!
+//! Words and `--part` are text: what is not UTF-8 is a bad command line. A part whose name is no text is named in name form,
+//! by `--part-form`. Both take a name that begins with `-` too.
 
 use std::alloc::{AllocError, Global};
 use std::io;

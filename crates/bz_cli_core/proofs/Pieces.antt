@@ -155,24 +155,27 @@ module _ (old mid new : Progress) (a b c : Option (List ℕ)) (before between af
         let (so, some) = halts strict refusal reply halting in
         let (host, cmd_is, (last, entry, refused)) : Refuses cmd one.entries (Some reply) = subst (Refuses cmd one.entries) some refuses_here in
         let made = one.made so_far.entries in
-        ends_here (λ x y. PlaysOne x y cmd refusal) one (end.Halt (record { word = i + 1; reply = reply })) made.wiring made.limit (λ left. (so, record {
-          earlier = take i cmds;
-          cmd = host;
-          later = drop (suc i) cmds;
-          cmds_are = subst (λ (x : Cmd). cmds ≡ take i cmds ++ x ∷ drop (suc i) cmds) cmd_is (cut_at (with_journal old []) (with_journal mid so_far.entries) (with_journal new (so_far.entries ++ one.entries)) cmds i cmd lt is so_far.playing);
-          word_is = ap (λ n. n + 1) (sym (length-take-le i cmds (omega (arith, lt))));
-          plays = record {
-            last = new.state;
-            plays = subst (λ (x : Cmd). PlaysWords new.wiring (opening new.wiring) (take i cmds ++ x ∷ []) (so_far.entries ++ one.entries) new.state) cmd_is
-                (subst (λ xs. PlaysWords new.wiring (opening new.wiring) xs (so_far.entries ++ one.entries) new.state)
-                (longer (with_journal old []) (with_journal mid so_far.entries) (with_journal new (so_far.entries ++ one.entries)) cmds i cmd lt is so_far.playing) playing_here.plays);
-          };
-          front = so_far.entries;
-          last = last;
-          entries_are = ap (λ es. so_far.entries ++ es) entry;
-          none = so_far.none so;
-          refused = refused;
-        }))
+        ends_here (λ x y. PlaysOne x y cmd refusal) one (end.Halt (record { word = i + 1; reply = reply })) made.wiring made.limit (λ left. (
+          so,
+          record {
+            earlier = take i cmds;
+            cmd = host;
+            later = drop (suc i) cmds;
+            cmds_are = subst (λ (x : Cmd). cmds ≡ take i cmds ++ x ∷ drop (suc i) cmds) cmd_is (cut_at (with_journal old []) (with_journal mid so_far.entries) (with_journal new (so_far.entries ++ one.entries)) cmds i cmd lt is so_far.playing);
+            word_is = ap (λ n. n + 1) (sym (length-take-le i cmds (omega (arith, lt))));
+            plays = record {
+              last = new.state;
+              plays = subst (λ (x : Cmd). PlaysWords new.wiring (opening new.wiring) (take i cmds ++ x ∷ []) (so_far.entries ++ one.entries) new.state) cmd_is
+                  (subst (λ xs. PlaysWords new.wiring (opening new.wiring) xs (so_far.entries ++ one.entries) new.state)
+                  (longer (with_journal old []) (with_journal mid so_far.entries) (with_journal new (so_far.entries ++ one.entries)) cmds i cmd lt is so_far.playing) playing_here.plays);
+            };
+            front = so_far.entries;
+            last = last;
+            entries_are = ap (λ es. so_far.entries ++ es) entry;
+            none = so_far.none so;
+            refused = refused;
+          },
+        ))
 
   pub word_stops : (e : NetError) → GoesOut mid new b between c after (λ x y. StopsOne x y cmd e) → PlaysOut old new a before c after strict cmds (end.Stop (record { word = i + 1; error = e }))
   word_stops e one =
@@ -201,11 +204,15 @@ pub written_out : (old new : Progress) (a c : Option (List ℕ)) (before after :
     → (trace : WritesTrace old.wiring old.left strict cmds end Out) × (new.wiring ≡ old.wiring) × IsToldBy new trace.entries
 written_out old new a c before after strict cmds end p comps rising is Out out =
     let clashed : AreClashed new.wiring p.entries comps = rw is (record { rising = rising; exact = p.told.clashed }) in
-    subst (λ (w : Wiring). (trace : WritesTrace w old.left strict cmds end Out) × (new.wiring ≡ w) × IsToldBy new trace.entries) p.wiring (record {
-      entries = p.entries;
-      plays = p.plays;
-      within = let left = p.left in omega (arith, left);
-      trace = trace_text new.wiring.ports p.entries comps;
-      is_trace = record { comps = comps; clashed = clashed; text_is = refl };
-      out = out;
-    }, refl, p.told)
+    subst (λ (w : Wiring). (trace : WritesTrace w old.left strict cmds end Out) × (new.wiring ≡ w) × IsToldBy new trace.entries) p.wiring (
+      record {
+        entries = p.entries;
+        plays = p.plays;
+        within = let left = p.left in omega (arith, left);
+        trace = trace_text new.wiring.ports p.entries comps;
+        is_trace = record { comps = comps; clashed = clashed; text_is = refl };
+        out = out;
+      },
+      refl,
+      p.told,
+    )

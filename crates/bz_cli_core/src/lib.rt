@@ -1,14 +1,12 @@
-//! The commands `run` and `check`, over any reader and writer; `list` is passed on from `bz_cli_input`.
+//! The command `run`, over any reader and writer; `list` is passed on from `bz_cli_input`.
 #![tactic(auto)]
 
-mod checking;
 mod open;
 mod pending;
 mod playing;
 mod run;
 
 pub use bz_cli_input::{Fault, INPUT_LIMIT, InputFault, list_cmd, read_input};
-pub use checking::{check_cmd, check_trace_cmd, split_trace};
 pub use open::open_net;
 pub use playing::{Halt, Stop};
 pub use run::{Played, run_cmd, run_in_pieces, write_out};

@@ -1,4 +1,7 @@
 //! What the kinds of component ask for beside their ports.
+//!
+//! They are a table of their own, since `widths_fit` and `sizes_fit` are conditions that can't be listed. `tests/kinds` holds
+//! the two together.
 
 use bz_kind_rows::KindName;
 

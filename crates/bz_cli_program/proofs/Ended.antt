@@ -1,14 +1,7 @@
 -- How the program ends, by what its command answers.
-use Rattle.std.proofs.Common.{◌≡◌, ℕ, Option, None, Some, Result, Ok, Err, List, map, inl, inr, refl, subst}
-use Rattle.std.specs.Prelude.{IfSome, IsErrAnd, ⊤}
-use Rattle.bz_model.specs.declared.event.Cmd.{Cmd}
-use Rattle.bz_words.specs.Words.{command_of}
+use Rattle.std.proofs.Common.{◌≡◌, ℕ, Option, None, Some, Result, List}
+use Rattle.std.specs.Prelude.{IfSome, ⊤}
 use Rattle.bz_cli_input.specs.declared.fault.Fault.{Fault}
-use Rattle.bz_cli_input.specs.declared.input.InputFault.{InputFault}
-use Rattle.bz_cli_input.specs.declared.input.InputFault.TheVariants as input
-use Rattle.bz_cli_input.specs.Statuses.{of_input}
-use Rattle.bz_cli_core.specs.Running.{AreCommands, RefusesWords, Runs}
-use Rattle.bz_cli_core.proofs.Checks.{keeps_same}
 use Rattle.bz_cli_program.specs.Endings.{Does, IsDone, of_done}
 
 -- what is said of the answer of a command that answers nothing else
@@ -37,25 +30,3 @@ pub with_some_apart : {B : Type 0} (known had : Option (List ℕ)) (Says : B →
 with_some_apart None had Says b says = tt
 with_some_apart (Some netlist) None Says b says = tt
 with_some_apart (Some netlist) (Some text) Says b says = (b, says)
-
--- a run of the text that the reader had
-pub runs_on_text : (known : Option (List ℕ)) (items : List ℕ) (words : List (List ℕ)) (part : List ℕ) (journal : ℕ) (old new : Option (List ℕ)) (result : Result ℕ Fault) → IfSome known (λ xs. items ≡ xs) → IsDone (Runs items words part journal old new) result
-    → IfSome known (λ text. IsDone (Runs text words part journal old new) result)
-runs_on_text None items words part journal old new result whole runs = tt
-runs_on_text (Some xs) items words part journal old new result whole runs = subst (λ text. IsDone (Runs text words part journal old new) result) whole runs
-
--- whatever the reader had
-whatever : (known : Option (List ℕ)) (P : List ℕ → Type 0) → ((text : List ℕ) → P text) → IfSome known P
-whatever None P all = tt
-whatever (Some text) P all = all text
-
--- a run whose words are refused, and one whose input is not taken
-module _ (known : Option (List ℕ)) (words : List (List ℕ)) (part : List ℕ) (journal : ℕ) (old : Option (List ℕ)) where
-  pub words_refused : (f : Fault) (result : Result ℕ Fault) → IsErrAnd result (λ g. g ≡ f) → RefusesWords words f → IfSome known (λ text. IsDone (Runs text words part journal old old) result)
-  words_refused f (Ok status) is refuses = absurd is
-  words_refused f (Err g) is refuses = rw is (whatever known _ (λ text. (Err f, inl (refuses, keeps_same old), refl)))
-
-  pub input_refused : (cmds : List Cmd) → AreCommands words (map command_of cmds) → (f : InputFault) (result : Result ℕ Fault) → IsErrAnd result (λ g. g ≡ of_input f) → IfSome known (λ text. IsDone (Runs text words part journal old old) result)
-  input_refused cmds are f (Ok status) is = absurd is
-  input_refused cmds are input.Read (Err g) is = rw is (whatever known _ (λ text. (Err (of_input input.Read), inr (cmds, are, inl (tt, keeps_same old)), refl)))
-  input_refused cmds are input.Memory (Err g) is = rw is (whatever known _ (λ text. (Err (of_input input.Memory), inr (cmds, are, inl (tt, keeps_same old)), refl)))

@@ -1,14 +1,15 @@
 //! What each command does. The status with which the program ends, or the fault that it tells.
 
 ghost use Rattle.std.specs.Prelude.{◌≡◌, ◌≤◌, ◌<◌, ⊤, false, true, IfSome, MatchOption};
+ghost use Rattle.std.specs.Option.{option_copied};
 ghost use Rattle.bz_chart.specs.Charting.{Charts, ChartsApart};
 ghost use Rattle.bz_cli.specs.Pooling.{Pools};
-ghost use Rattle.bz_cli_core.specs.Checking.{Checks, ChecksApart};
+ghost use Rattle.bz_cli_trace.specs.Checking.{Checks, ChecksApart};
 ghost use Rattle.bz_cli_core.specs.Running.{Runs};
 ghost use Rattle.bz_cli_input.specs.Listed.{Lists};
 ghost use Rattle.bz_cli_input.specs.Reading.{ReadsWithin};
 ghost use Rattle.bz_cli_program.specs.Endings.{AreWorkers, Does, IsDone, IsJournal, IsRefused};
-ghost use Rattle.bz_cli_program.specs.Endings.{lines_asked, of_chart, of_check, of_done, of_drawing, of_page};
+ghost use Rattle.bz_cli_program.specs.Endings.{lines_asked, of_check, of_done, of_drawing, of_made, of_run, status_in};
 ghost use Rattle.bz_cli_source.specs.Listed as placed;
 ghost use Rattle.bz_cli_source.specs.PartLists.{ListsParts};
 ghost use Rattle.bz_draw.specs.Drawing.{Draws};
@@ -19,20 +20,20 @@ ghost use Rattle.bz_words.specs.Words.{texts};
 
 use crate::given::Given;
 use crate::resting::note_rest;
-use crate::watching::{Watched, commands_of, watch};
-use bz_chart::{ChartFault, LineRange, chart_cmd, chart_trace_cmd};
+use bz_chart::{LineRange, chart_cmd, chart_trace_cmd};
 use bz_cli::{PoolOptions, pool_cmd};
 use bz_cli_args::{BAD_COMMAND_LINE, MAX_JOURNAL, MAX_WORKERS, Options};
-use bz_cli_core::{check_cmd, check_trace_cmd, run_cmd};
-use bz_cli_input::{Fault, list_cmd, read_input};
+use bz_cli_core::{Halt, Played, run_cmd};
+use bz_cli_input::{Fault, list_cmd};
 use bz_cli_kinds::kinds_cmd;
 use bz_cli_source::{list_paths_cmd, parts_cmd};
+use bz_cli_trace::{Checked, TraceFault, check_cmd, check_trace_cmd};
 use bz_draw::{NoDrawing, View, draw_cmd};
-use bz_explain_notes::{Draft, tell_notes};
-use bz_model::Cmd;
-use bz_page::{PageFault, page_cmd, page_trace_cmd};
+use bz_model::Reply;
+use bz_page::{page_cmd, page_trace_cmd};
 use bz_session::End;
 use std::alloc::Global;
+use std::fmt::Display;
 use std::io::{Read, Write};
 use std::sync::Wait;
 use std::thread::Threads;
@@ -46,7 +47,8 @@ const NO_RUN: u8 = 1;
 /// The status of a strict run that met a host command that was not done.
 const REFUSED: u8 = 3;
 
-/// Plays the words on a net, and writes the trace. What is told of words that were all played goes to `errors`.
+/// Plays the words on a net, and writes the trace. A strict run halts at the first host command that is not done, and reports it to
+/// `errors`. So are the handshakes under way where a run ends at rest, if notes are asked for.
 pub fn run<R: Read, W: Write, E: Write>(
     alloc: Global,
     given: Given<'_, '_>,
@@ -56,199 +58,108 @@ pub fn run<R: Read, W: Write, E: Write>(
 ) -> Result<u8, Fault>
     ensures refused { (IsJournal given.entry.options.journal → ⊥)
         → IsRefused (W.contents output.old) (W.contents output.new) result }
-    ensures runs { IsJournal given.entry.options.journal → given.entry.options.strict ≡ false → IfSome (R.remaining input.old)
-        (λ text. IsDone
-        (Runs text (texts given.entry.words.now) given.entry.part.now given.entry.options.journal
+    ensures runs { IsJournal given.entry.options.journal → IfSome (R.remaining input.old)
+        (λ text. Does of_run
+        (Runs text (texts given.entry.words.now) (option_copied given.entry.part) given.entry.options.journal given.entry.options.strict
         (W.contents output.old) (W.contents output.new))
         result) }
 
     // Whatever comes of it, it reads at most one byte past the limit.
     ensures bounded { ReadsWithin (R.remaining input.old) (R.remaining input.new) }
 {
-    let journal = given.options.journal;
-    if journal == 0 || journal > MAX_JOURNAL {
+    let options = given.options;
+    if options.journal == 0 || options.journal > MAX_JOURNAL {
         return Ok(BAD_COMMAND_LINE);
     }
-    if given.options.strict {
-        return run_strict(alloc, given, input, output, errors);
-    }
-    if given.options.explains {
-        return run_noted(alloc, given, input, output, errors);
-    }
-    done(run_cmd(alloc, given.part, journal, given.words, input, output))
-}
-
-// Plays the words, and notes who waits for whom where they end at rest.
-fn run_noted<R: Read, W: Write, E: Write>(
-    alloc: Global,
-    given: Given<'_, '_>,
-    input: &mut R,
-    output: &mut W,
-    errors: &mut E,
-) -> Result<u8, Fault>
-    requires least { 0 < given.options.journal }
-    requires most { given.options.journal ≤ 16777216 }
-    ensures runs { IfSome (R.remaining input.old)
-        (λ text. IsDone
-        (Runs text (texts given.entry.words.now) given.entry.part.now given.entry.options.journal
-        (W.contents output.old) (W.contents output.new))
-        result) }
-    ensures bounded { ReadsWithin (R.remaining input.old) (R.remaining input.new) }
-{
-    let cmds = commands_of(alloc, given.words)?;
-    let text = read_input(alloc, input)?;
-    play_noted(
-        alloc,
-        given,
-        cmds.as_slice(),
-        text.as_slice(),
-        output,
-        errors,
-    )
-}
-
-// The same of a text, and of words that spell these commands.
-fn play_noted<W: Write, E: Write>(
-    alloc: Global,
-    given: Given<'_, '_>,
-    cmds: &[Cmd],
-    netlist: &[u8],
-    output: &mut W,
-    errors: &mut E,
-) -> Result<u8, Fault>
-    requires least { 0 < given.options.journal }
-    requires most { given.options.journal ≤ 16777216 }
-    ensures { IsDone
-        (Runs netlist.now (texts given.entry.words.now) given.entry.part.now given.entry.options.journal
-        (W.contents output.old) (W.contents output.new))
-        result }
-{
-    let journal = given.options.journal;
-    let mut text = netlist;
-    let played = run_cmd(alloc, given.part, journal, given.words, &mut text, output);
-    if played.is_ok() {
-        watch_rest(alloc, given, cmds, netlist, errors);
-    }
-    done(played)
-}
-
-// Plays the commands again, and notes who waits for whom where they end at rest.
-fn watch_rest<E: Write>(
-    alloc: Global,
-    given: Given<'_, '_>,
-    cmds: &[Cmd],
-    netlist: &[u8],
-    errors: &mut E,
-) {
-    let watched = watch(
-        alloc,
-        given.part,
-        given.options.journal,
-        cmds,
-        false,
-        netlist,
-    );
-    // (where memory is wanting for them there are no notes)
-    if let Ok(watched) = watched {
-        tell_rest(alloc, given, netlist, &watched, errors);
-    }
-}
-
-// Notes who waits for whom, where words ended at rest.
-fn tell_rest<E: Write>(
-    alloc: Global,
-    given: Given<'_, '_>,
-    netlist: &[u8],
-    watched: &Watched,
-    errors: &mut E,
-) {
-    if watched.is_at_rest {
-        let mut draft = Draft::new(alloc);
-        note_rest(
-            alloc,
-            given.part,
-            netlist,
-            watched.moves.as_slice(),
-            &mut draft,
-        );
-        let _ = tell_notes(alloc, &draft, errors);
-    }
-}
-
-// Plays the words to see what becomes of them, and then to write the trace, no further than to the first host command that is not
-// done.
-fn run_strict<R: Read, W: Write, E: Write>(
-    alloc: Global,
-    given: Given<'_, '_>,
-    input: &mut R,
-    output: &mut W,
-    errors: &mut E,
-) -> Result<u8, Fault>
-    requires least { 0 < given.options.journal }
-    requires most { given.options.journal ≤ 16777216 }
-    ensures { ReadsWithin (R.remaining input.old) (R.remaining input.new) }
-{
-    let options = given.options;
-    let cmds = commands_of(alloc, given.words)?;
-    let text = read_input(alloc, input)?;
-    let mut text = text.as_slice();
-    let watched = watch(
+    let played = run_cmd(
         alloc,
         given.part,
         options.journal,
-        cmds.as_slice(),
-        true,
-        text,
-    )?;
-    let words = given.words.get(..watched.words).unwrap_or(given.words);
-    let netlist = text;
-    run_cmd(alloc, given.part, options.journal, words, &mut text, output)?;
-    if let Some(refusal) = watched.refusal {
-        let _ = writeln!(
-            errors,
-            "error: --strict: word {} is answered {refusal}",
-            watched.words
-        );
-        return Ok(REFUSED);
-    }
-    if options.explains {
-        tell_rest(alloc, given, netlist, &watched, errors);
-    }
-    Ok(DONE)
+        options.strict,
+        given.words,
+        input,
+        output,
+    );
+    ended(alloc, options.explains, played, errors)
 }
 
-/// Tells whether a trace is that of a run: the one that is given, or the one behind the netlist.
+// The status of a run. Where it halted is reported; where it ended at rest, the handshakes under way.
+fn ended<E: Write>(
+    alloc: Global,
+    explains: bool,
+    played: Result<Played, Fault>,
+    errors: &mut E,
+) -> Result<u8, Fault>
+    ensures { result ≡ of_run played }
+{
+    let played = match played {
+        Ok(played) => played,
+        Err(unplayed) => return Err(unplayed),
+    };
+    match played.halt {
+        Some(halt) => {
+            tell_halt(halt, errors);
+            Ok(REFUSED)
+        }
+        None => {
+            if explains {
+                note_rest(alloc, played.net.core(), errors);
+            }
+            Ok(DONE)
+        }
+    }
+}
+
+// Reports the host command at which a strict run halted.
+fn tell_halt<E: Write>(halt: Halt, errors: &mut E) {
+    let answer = match halt.reply {
+        Reply::Busy(_) => "busy",
+        Reply::NotYet => "not-yet",
+        _ => "not-taken",
+    };
+    let _ = writeln!(
+        errors,
+        "error: --strict: word {} is answered {answer}",
+        halt.word
+    );
+}
+
+/// Reports whether a trace is that of a run: the one that is given, or the one after the netlist. The status, and the net that
+/// was checked.
 pub fn check<R: Read, T: Read, W: Write>(
     alloc: Global,
     given: Given<'_, '_>,
     input: &mut R,
     trace: Option<&mut T>,
     output: &mut W,
-) -> Result<u8, Fault>
+) -> Result<(u8, Checked), Fault>
     ensures checks { MatchOption trace.entry
         (IfSome (R.remaining input.old)
-        (λ text. Does of_check (Checks text given.entry.part.now (W.contents output.old) (W.contents output.new)) result))
+        (λ text. Does of_check (Checks text (option_copied given.entry.part)
+        (W.contents output.old) (W.contents output.new)) (status_in result)))
         (λ apart. IfSome (R.remaining input.old) (λ netlist. IfSome (T.remaining apart.now)
-        (λ text. Does of_check (ChecksApart netlist text given.entry.part.now
-        (W.contents output.old) (W.contents output.new)) result))) }
+        (λ text. Does of_check (ChecksApart netlist text (option_copied given.entry.part)
+        (W.contents output.old) (W.contents output.new)) (status_in result)))) }
 
     // Whatever comes of it, it reads at most one byte past the limit.
     ensures bounded { ReadsWithin (R.remaining input.old) (R.remaining input.new) }
 {
     match trace {
-        Some(trace) => told(check_trace_cmd(alloc, given.part, input, trace, output)),
-        None => told(check_cmd(alloc, given.part, input, output)),
+        Some(trace) => judged(check_trace_cmd(alloc, given.part, input, trace, output)),
+        None => judged(check_cmd(alloc, given.part, input, output)),
     }
 }
 
-// The status of a check.
-fn told(is_run: Result<bool, Fault>) -> Result<u8, Fault>
-    ensures { result ≡ of_check is_run }
+// The status of a check, before the net that was checked.
+fn judged(checked: Result<Checked, Fault>) -> Result<(u8, Checked), Fault>
+    ensures { status_in result ≡ of_check checked }
 {
-    match is_run {
-        Ok(true) => Ok(DONE),
-        Ok(false) => Ok(NO_RUN),
-        Err(fault) => Err(fault),
+    match checked {
+        Ok(checked) => {
+            let status = if checked.is_run() { DONE } else { NO_RUN };
+            Ok((status, checked))
+        }
+        Err(unchecked) => Err(unchecked),
     }
 }
 
@@ -260,9 +171,9 @@ pub fn list<R: Read, W: Write>(
     output: &mut W,
 ) -> Result<u8, Fault>
     ensures plainly { given.entry.options.paths ≡ false → IfSome (R.remaining input.old)
-        (λ text. IsDone (Lists text given.entry.part.now (W.contents output.old) (W.contents output.new)) result) }
+        (λ text. IsDone (Lists text (option_copied given.entry.part) (W.contents output.old) (W.contents output.new)) result) }
     ensures places { given.entry.options.paths ≡ true → IfSome (R.remaining input.old)
-        (λ text. IsDone (placed.Lists text given.entry.part.now (W.contents output.old) (W.contents output.new)) result) }
+        (λ text. IsDone (placed.Lists text (option_copied given.entry.part) (W.contents output.old) (W.contents output.new)) result) }
 
     // Whatever comes of it, it reads at most one byte past the limit.
     ensures bounded { ReadsWithin (R.remaining input.old) (R.remaining input.new) }
@@ -299,7 +210,7 @@ pub fn draw<R: Read, W: Write, E: Write>(
     errors: &mut E,
 ) -> Result<u8, Fault>
     ensures draws { IfSome (R.remaining input.old)
-        (λ text. Does of_drawing (Draws {N = NoDrawing} text given.entry.part.now
+        (λ text. Does of_drawing (Draws {N = NoDrawing} text (option_copied given.entry.part)
         (W.contents output.old) (W.contents output.new)) result) }
 
     // Whatever comes of it, it reads at most one byte past the limit.
@@ -350,12 +261,12 @@ pub fn chart<R: Read, T: Read, W: Write, E: Write>(
     errors: &mut E,
 ) -> Result<u8, Fault>
     ensures charts { MatchOption trace.entry
-        (IfSome (R.remaining input.old) (λ text. Does of_chart
-        (Charts {A = ⊤} text given.entry.part.now (lines_asked given.entry.options)
+        (IfSome (R.remaining input.old) (λ text. Does of_made
+        (Charts {A = ⊤} text (option_copied given.entry.part) (lines_asked given.entry.options)
         (W.contents output.old) (W.contents output.new))
         result))
-        (λ apart. IfSome (R.remaining input.old) (λ netlist. IfSome (T.remaining apart.now) (λ text. Does of_chart
-        (ChartsApart {A = ⊤} netlist text given.entry.part.now (lines_asked given.entry.options)
+        (λ apart. IfSome (R.remaining input.old) (λ netlist. IfSome (T.remaining apart.now) (λ text. Does of_made
+        (ChartsApart {A = ⊤} netlist text (option_copied given.entry.part) (lines_asked given.entry.options)
         (W.contents output.old) (W.contents output.new))
         result))) }
 
@@ -369,9 +280,9 @@ pub fn chart<R: Read, T: Read, W: Write, E: Write>(
     match trace {
         Some(trace) => {
             let drawn = chart_trace_cmd(alloc, given.part, lines, input, trace, output);
-            charted(drawn, errors)
+            made(drawn, errors)
         }
-        None => charted(chart_cmd(alloc, given.part, lines, input, output), errors),
+        None => made(chart_cmd(alloc, given.part, lines, input, output), errors),
     }
 }
 
@@ -384,13 +295,13 @@ fn place_of(line: Option<u64>) -> Option<usize>
     }
 }
 
-// The status of a chart. Why there is none is told, but for a fault that other commands have too.
-fn charted<E: Write>(drawn: Result<(), ChartFault>, errors: &mut E) -> Result<u8, Fault>
-    ensures { result ≡ of_chart drawn }
+// The status of what is made of a trace. Why nothing is goes to `errors`, but for a fault that other commands have too.
+fn made<C: Display, E: Write>(made: Result<(), TraceFault<C>>, errors: &mut E) -> Result<u8, Fault>
+    ensures { result ≡ of_made made }
 {
-    match drawn {
+    match made {
         Ok(()) => Ok(DONE),
-        Err(ChartFault::Command(fault)) => Err(fault),
+        Err(TraceFault::Command(fault)) => Err(fault),
         Err(why) => {
             let _ = writeln!(errors, "error: {why}");
             Ok(why.status())
@@ -409,12 +320,12 @@ pub fn page<R: Read, T: Read, W: Write, E: Write>(
     errors: &mut E,
 ) -> Result<u8, Fault>
     ensures pages { MatchOption trace.entry
-        (IfSome (R.remaining input.old) (λ text. Does of_page
-        (λ answer. (blank : Blank) × Pages {A = ⊤} blank text given.entry.part.now
+        (IfSome (R.remaining input.old) (λ text. Does of_made
+        (λ answer. (blank : Blank) × Pages {A = ⊤} blank text (option_copied given.entry.part)
         (W.contents output.old) (W.contents output.new) answer)
         result))
-        (λ apart. IfSome (R.remaining input.old) (λ netlist. IfSome (T.remaining apart.now) (λ text. Does of_page
-        (λ answer. (blank : Blank) × PagesApart {A = ⊤} blank netlist text given.entry.part.now
+        (λ apart. IfSome (R.remaining input.old) (λ netlist. IfSome (T.remaining apart.now) (λ text. Does of_made
+        (λ answer. (blank : Blank) × PagesApart {A = ⊤} blank netlist text (option_copied given.entry.part)
         (W.contents output.old) (W.contents output.new) answer)
         result))) }
 
@@ -424,23 +335,9 @@ pub fn page<R: Read, T: Read, W: Write, E: Write>(
     match trace {
         Some(trace) => {
             let written = page_trace_cmd(alloc, given.part, input, trace, output);
-            paged(written, errors)
+            made(written, errors)
         }
-        None => paged(page_cmd(alloc, given.part, input, output), errors),
-    }
-}
-
-// The status of a page. Why there is none is told, but for a fault that other commands have too.
-fn paged<E: Write>(written: Result<(), PageFault>, errors: &mut E) -> Result<u8, Fault>
-    ensures { result ≡ of_page written }
-{
-    match written {
-        Ok(()) => Ok(DONE),
-        Err(PageFault::Command(fault)) => Err(fault),
-        Err(fault) => {
-            let _ = writeln!(errors, "error: {fault}");
-            Ok(fault.status())
-        }
+        None => made(page_cmd(alloc, given.part, input, output), errors),
     }
 }
 
@@ -457,7 +354,7 @@ pub fn pool<T: Threads + Wait + Sync, R: Read, W: Write, E: Write>(
         → IsRefused (W.contents output.old) (W.contents output.new) result }
     ensures pools { AreWorkers given.entry.options.workers → IsJournal given.entry.options.journal
         → IfSome (R.remaining input.old) (λ text. Does of_done
-        (Pools text (texts given.entry.words.now) given.entry.part.now given.entry.options.workers given.entry.options.fuel
+        (Pools text (texts given.entry.words.now) (option_copied given.entry.part) given.entry.options.workers given.entry.options.fuel
         given.entry.options.journal (W.contents output.old) (W.contents output.new))
         result) }
 

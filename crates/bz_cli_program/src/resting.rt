@@ -1,53 +1,44 @@
-//! A note on handshakes that are under way where words ended at rest.
+//! A note on handshakes that are under way where words ended at rest, and on the cycles of who waits for whom.
 
-use bz_cli_input::flat_of;
 use bz_explain_notes::Arg::{Bytes, Count, Name, Number};
-use bz_explain_notes::Draft;
-use bz_flat::{Ends, Flat};
+use bz_explain_notes::{Draft, tell_notes};
 use bz_kind_rows::kind_word;
-use bz_model::{Move, numbered};
+use bz_model::Phase;
+use bz_net::Core;
+use bz_waits::Graph;
 use std::alloc::Global;
+use std::io::Write;
 
-/// The most handshakes that are told.
+/// The most handshakes, cycles, and members of a cycle that a note shows.
 const MOST_TOLD: usize = 10;
 
-/// Notes who waits for whom, by the last move on each channel of a part's net. There is no note where none waits.
-pub(crate) fn note_rest(
-    alloc: Global,
-    part: &[u8],
-    netlist: &[u8],
-    moves: &[Move],
-    draft: &mut Draft,
-) {
-    let count = moves.iter().filter(|mv| is_under_way(**mv)).count();
-    if count == 0 {
+/// Notes who waits for whom in a net at rest, and in what cycles. There is no note where no handshake is under way, or some
+/// component can move.
+pub(crate) fn note_rest<W: Write>(alloc: Global, net: &Core, errors: &mut W) {
+    if net.next_ready(1).is_some() {
         return;
     }
-    match flat_of(alloc, part, netlist) {
-        Ok(flat) => put_waits(&flat, moves, count, draft),
-        Err(_) => draft.fail(),
+    let mut draft = Draft::new(alloc);
+    let count = (1..=net.chan_count())
+        .filter(|chan| net.phase(*chan) != Phase::Idle)
+        .count();
+    if count > 0 {
+        put_waits(net, count, &mut draft);
+        put_cycles(net, &mut draft);
     }
+    let _ = tell_notes(alloc, &draft, errors);
 }
 
-fn is_under_way(mv: Move) -> bool {
-    match mv {
-        Move::Ask | Move::Take | Move::Reply => true,
-        Move::Got => false,
-    }
-}
-
-fn put_waits(flat: &Flat, moves: &[Move], count: usize, draft: &mut Draft) {
+fn put_waits(net: &Core, count: usize, draft: &mut Draft) {
     draft.put(
         "at rest with % under way",
         &[Count(count, "handshake", "handshakes")],
     );
     let mut told = 0usize;
-    let mut chan = 0u32;
-    for mv in moves {
-        chan = chan.saturating_add(1);
-        if is_under_way(*mv) && told < MOST_TOLD {
+    for chan in 1..=net.chan_count() {
+        if net.phase(chan) != Phase::Idle && told < MOST_TOLD {
             draft.put(if told == 0 { ": " } else { ", " }, &[]);
-            put_wait(flat, chan, *mv, draft);
+            put_wait(net, chan, draft);
             told += 1;
         }
     }
@@ -57,39 +48,61 @@ fn put_waits(flat: &Flat, moves: &[Move], count: usize, draft: &mut Draft) {
     }
 }
 
-// Who waits for whom on a channel: behind a reply the passive end does, and else the active one.
-fn put_wait(flat: &Flat, chan: u32, mv: Move, draft: &mut Draft) {
-    let ends = flat.ends(chan).unwrap_or(Ends {
-        active: None,
-        passive: None,
-        active_port: 0,
-        passive_port: 0,
-    });
-    let (from, to) = match mv {
-        Move::Reply => (ends.passive, ends.active),
-        _ => (ends.active, ends.passive),
+// Who waits for whom on a channel: after a reply the passive end does, and else the active one.
+fn put_wait(net: &Core, chan: u32, draft: &mut Draft) {
+    let [active, passive] = net.ends(chan);
+    let (from, to) = match net.phase(chan) {
+        Phase::Replied(_) => (passive, active),
+        _ => (active, passive),
     };
-    put_end(flat, chan, from, draft);
+    put_end(net, chan, from, draft);
     draft.put(" waits for ", &[]);
-    put_end(flat, chan, to, draft);
+    put_end(net, chan, to, draft);
+}
+
+// A line for each cycle of components that wait for one another.
+fn put_cycles(net: &Core, draft: &mut Draft) {
+    match Graph::of(draft.alloc(), net) {
+        Ok(graph) => {
+            for cycle in graph.cycles.iter().take(MOST_TOLD) {
+                put_cycle(net, cycle.as_slice(), draft);
+            }
+        }
+        Err(_) => draft.fail(),
+    }
+}
+
+fn put_cycle(net: &Core, cycle: &[u32], draft: &mut Draft) {
+    draft.put("deadlock: ", &[]);
+    for comp in cycle.iter().take(MOST_TOLD) {
+        put_comp(net, *comp, draft);
+        draft.put(" -> ", &[]);
+    }
+    match cycle.len().checked_sub(MOST_TOLD) {
+        Some(more) if more > 0 => draft.put(".. % more -> ", &[Number(more)]),
+        _ => {}
+    }
+    if let Some(comp) = cycle.first() {
+        put_comp(net, *comp, draft);
+    }
+    draft.say("", &[]);
 }
 
 // A component, or the host at the port.
-fn put_end(flat: &Flat, chan: u32, end: Option<u32>, draft: &mut Draft) {
+fn put_end(net: &Core, chan: u32, end: Option<u32>, draft: &mut Draft) {
     match end {
-        Some(number) => {
-            let kind = match flat.comp(number) {
-                Some(site) => kind_word(&site.kind),
-                None => b"",
-            };
-            draft.put("% %", &[Bytes(kind), Number(number as usize)]);
-        }
+        Some(comp) => put_comp(net, comp, draft),
         None => {
-            let name = match numbered(flat.ports(), chan) {
-                Some(port) => port.name.as_slice(),
-                None => b"",
-            };
+            let name = net.names().name(chan).unwrap_or(b"");
             draft.put("the host at %", &[Name(name)]);
         }
     }
+}
+
+fn put_comp(net: &Core, comp: u32, draft: &mut Draft) {
+    let kind = match net.comp(comp) {
+        Some(site) => kind_word(&site.kind),
+        None => b"",
+    };
+    draft.put("% %", &[Bytes(kind), Number(comp as usize)]);
 }

@@ -10,8 +10,8 @@ pub struct Asked<'a, 't> {
     pub netlist: &'a [u8],
     /// The name of its file, if it is one's.
     pub file: Option<&'a str>,
-    /// The name of the part.
-    pub part: &'a [u8],
+    /// The name of the part that is asked for. Without one that is the part that no other uses.
+    pub part: Option<&'a [u8]>,
     pub words: Words<'a, 't>,
 }
 

@@ -9,7 +9,7 @@ use crate::spelling::explain_spelling;
 use crate::told::told_of;
 use crate::word_faults::explain_word;
 use bz_breeze::parts_of;
-use bz_cli_input::Fault;
+use bz_cli_input::{Fault, Netlist as Records};
 use bz_explain_net::Netlist;
 use bz_explain_notes::{Draft, Findings};
 use bz_sexpr::read_forest;
@@ -64,8 +64,12 @@ fn explain_data(draft: &mut Draft, fault: &Fault, asked: Asked<'_, '_>) -> Resul
         }
         return Ok(no_findings(alloc));
     }
-    let parts = parts_of(alloc, data)?;
-    match (fault, parts.find(asked.part)) {
+    let records = Records {
+        parts: parts_of(alloc, data)?,
+    };
+    let name = records.name(alloc, asked.part)?;
+    let (parts, opened) = (&records.parts, name.as_slice());
+    match (fault, parts.find(opened)) {
         (Fault::Net { error, .. }, _) => {
             let lines = lines_of(alloc, text, data)?;
             let netlist = Netlist {
@@ -73,10 +77,10 @@ fn explain_data(draft: &mut Draft, fault: &Fault, asked: Asked<'_, '_>) -> Resul
                 file: asked.file,
                 text,
                 data,
-                parts: &parts,
+                parts,
                 lines: lines.as_slice(),
             };
-            return match explain_net(draft, netlist, asked.part, *error) {
+            return match explain_net(draft, netlist, opened, *error) {
                 Ok(others) => Ok(others),
                 Err(_error) => Err(Fault::Memory),
             };

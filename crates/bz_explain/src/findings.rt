@@ -1,4 +1,8 @@
 //! Findings in a netlist, which are told beside one another.
+//!
+//! At most 20 are written, as compilers do: who mends these sees the others change. They are asked of the same functions that
+//! refuse: of each component its own first fault, and of a net all ends that are wrong. Another fault of a component shows
+//! once the first is mended.
 
 use crate::mended::Mended;
 use bz_breeze_records::Part;

@@ -1,4 +1,8 @@
 //! A netlist without the components that are at fault, so that the ends of its channels can be looked at.
+//!
+//! The text is read again with a component that adds nothing in the place of each one at fault, so all else keeps its place.
+//! What a component at fault may have held is not known, so no channel that it names is said to be loose. An instance at
+//! fault may bring any channels, so then no ends are looked at.
 
 use crate::marks::Marks;
 use bz_breeze::parts_of;

@@ -1,4 +1,7 @@
 //! Words that are none.
+//!
+//! Where a word is the name of a file, a note says so. The file is not taken as the netlist: it might be the trace, or the
+//! words.
 
 use crate::asked::Words;
 use bz_explain_notes::Arg::{Number, Text, Word};

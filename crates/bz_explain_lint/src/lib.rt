@@ -1,4 +1,6 @@
 //! The command `lint`: all faults of a netlist, whichever parts are looked at, and warnings of what is likely to be a mistake.
+//!
+//! Findings go to standard output, since they are what is asked for, and notes always follow them.
 #![tactic(auto)]
 
 mod lint;

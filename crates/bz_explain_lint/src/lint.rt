@@ -1,4 +1,8 @@
 //! All that is wrong with a netlist, whichever parts are looked at.
+//!
+//! Each part on top is opened, and each part that no part on top reaches. Several of them may share a part of a million
+//! components, so there is a limit to what is opened. If parts are left over, their number is shown and nothing is warned of:
+//! one of them may be what reaches a component.
 
 use crate::opening::Linted;
 use bz_breeze::parts_of;
@@ -73,7 +77,7 @@ fn finding_of_text<'a>(
     let asked = Asked {
         netlist: text,
         file: lint.file,
-        part: b"",
+        part: None,
         words: Words {
             list: &[],
             is_pool: false,

@@ -2,6 +2,9 @@
 //!
 //! No kind of component begins by itself: each waits for a request at a passive port. So a component that is at the passive end
 //! of no channel with a request stands still for ever.
+//!
+//! What is reached may ask at all of its active ports, so only what is certain is reported: a component none of whose copies
+//! is reached in any net that is opened.
 
 use bz_arena::Id;
 use bz_explain::{Marks, set};

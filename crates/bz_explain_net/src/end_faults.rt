@@ -1,4 +1,6 @@
 //! Channels and ports of a net that are at fault.
+//!
+//! What holds the ends of a channel is looked for among the components of the net, which are made once more for that.
 
 use crate::data::Head;
 use crate::site::{Netlist, put_place};

@@ -1,4 +1,7 @@
 //! Two entries of a component by whose exchange it fits, as where a generator wrote them the wrong way round.
+//!
+//! Of E9 and E10 the exchange is tried; of E11 it is of two channels that would both have their ends. This is a hint, not a
+//! proof.
 
 use crate::site::Site;
 use bz_breeze_records::{Component, Entries, Name, Slot};

@@ -37,7 +37,7 @@ pub struct Wired {
     pub faults: Vec<ElabError>,
 }
 
-// By hand, so that who lets one go has one call to show and not all its parts.
+// Written by hand: callers then prove one drop instead of one for each field.
 impl Drop for Wired {
     fn drop(self) {
         let Wired {

@@ -1,4 +1,8 @@
 //! What is found in a netlist, told with its place: as lines for people, and as JSON for tools.
+//!
+//! A line of a finding begins with `FILE:LINE:COLUMN:`, as those of compilers, so that editors find the place. The first line
+//! of a command's fault has a fixed form without a place; its first note has it. JSON is written directly, by one writer
+//! whose strings have a contract: a tree of values for a few lines would cost more.
 
 use crate::draft::Draft;
 use crate::notes::shown;

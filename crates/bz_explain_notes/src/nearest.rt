@@ -1,4 +1,7 @@
 //! Names, and which one of several was probably meant.
+//!
+//! How far two names are apart is what `strsim` says, without regard to case. No clause says that it is the least number of
+//! letters put in, left out and changed.
 
 ghost use Rattle.std.specs.Prelude.{◌≡◌, map, IfOk};
 ghost use Rattle.std.specs.Char.{to_ascii_lowercase};

@@ -1,4 +1,6 @@
 //! The line of a text at which something stands, with a caret below it.
+//!
+//! Of a longer line 100 bytes are shown, always with the place that is meant.
 
 use crate::arg::Arg::{Blanks, Bytes, Number, Text};
 use crate::draft::Draft;

@@ -1,10 +1,8 @@
 //! What a trace is looked at for.
 
-/// A text that should be the trace of a run of a part's net.
+/// A text that should be the trace of a run of a net.
 #[derive(Clone, Copy)]
 pub struct Claim<'t> {
-    /// The name of the part.
-    pub part: &'t [u8],
     pub netlist: &'t [u8],
     /// The trace: what its file has, or else what stands behind the netlist from the line that begins a trace on, which is
     /// nothing where no line does.

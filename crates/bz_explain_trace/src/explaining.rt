@@ -1,43 +1,32 @@
-//! What is told of a trace that is none of a run.
+//! What is said of a trace that is not that of a run.
 
 use crate::beginnings::explain_beginning;
 use crate::claim::Claim;
 use crate::form_faults::explain_form;
-use crate::stops::{Ground, explain_stop};
-use bz_cli_source::survey_of;
+use crate::stops::explain_stop;
+use bz_cli_trace::Checked;
 use bz_explain_notes::Arg::Text;
 use bz_explain_notes::Draft;
-use bz_trace::{Verdict, check};
+use bz_trace::Verdict;
 use std::alloc::Global;
 
-/// The notes of a trace that is none of a run: on the line that `check` names. Of the trace of a run, and of a netlist that is
-/// refused, there are none; nor where memory is wanting for all of them.
-pub fn explain_trace(alloc: Global, claim: Claim<'_>) -> Draft {
+/// The notes of a trace that was checked and is not that of a run: on the line that the verdict names, by the net that refused it.
+/// Of the trace of a run there are none; nor where memory is wanting for all of them.
+pub fn explain_trace(alloc: Global, claim: Claim<'_>, checked: Checked) -> Draft {
     let mut draft = Draft::new(alloc);
-    if let Ok((flat, survey)) = survey_of(alloc, claim.part, claim.netlist) {
-        let ground = Ground {
-            flat: &flat,
-            survey: &survey,
-            trace: claim.trace,
-        };
-        explain_claim(&mut draft, claim, ground);
+    if let (Verdict::Bad(_) | Verdict::Not(_), Some(file)) = (checked.verdict, claim.file) {
+        draft.say("the trace is that of %", &[Text(file)]);
     }
+    explain_checked(&mut draft, claim, checked);
     draft
 }
 
-fn explain_claim(draft: &mut Draft, claim: Claim<'_>, ground: Ground<'_>) {
-    let verdict = match ground.flat.dup(draft.alloc()) {
-        Ok(flat) => check(draft.alloc(), flat, claim.trace),
-        Err(_) => Verdict::Memory,
-    };
-    if let (Verdict::Bad(_) | Verdict::Not(_), Some(file)) = (verdict, claim.file) {
-        draft.say("the trace is that of %", &[Text(file)]);
-    }
-    match verdict {
+fn explain_checked(draft: &mut Draft, claim: Claim<'_>, checked: Checked) {
+    match checked.verdict {
         Verdict::Run => {}
         Verdict::Bad(1) => explain_beginning(draft, claim),
-        Verdict::Bad(line) => explain_form(draft, ground.flat, claim.trace, line),
-        Verdict::Not(line) => explain_stop(draft, ground, line),
+        Verdict::Bad(line) => explain_form(draft, checked.net.names(), claim.trace, line),
+        Verdict::Not(line) => explain_stop(draft, checked, claim.trace, line),
         Verdict::Memory => draft.fail(),
     }
 }

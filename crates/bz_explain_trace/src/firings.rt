@@ -1,10 +1,9 @@
 //! Firings and rests that no run has.
 
-use crate::scene::{Scene, phase_of};
+use crate::scene::{Scene, ends_of, phase_of};
 use bz_explain_notes::Arg::{self, Count, Name, Number, Spaced, Text};
 use bz_explain_notes::Draft;
 use bz_model::{Move, Phase, Value};
-use std::alloc::Global;
 
 /// A firing, as a line has it.
 #[derive(Clone, Copy)]
@@ -42,7 +41,7 @@ const VALUE: usize = 6;
 /// The notes of a firing.
 pub(crate) fn explain_firing(draft: &mut Draft, scene: &Scene<'_>, firing: Firing) {
     let Firing { comp, chan, .. } = firing;
-    let misfire = scene.misfire(draft.alloc(), firing);
+    let misfire = scene.misfire(firing);
     let item = match misfire {
         Misfire::NoComp => COMP,
         Misfire::NoChan | Misfire::NoEnd => CHAN,
@@ -54,11 +53,19 @@ pub(crate) fn explain_firing(draft: &mut Draft, scene: &Scene<'_>, firing: Firin
     draft.put("\nfound: ", &[]);
     match misfire {
         Misfire::NoComp => {
-            let comps = Count(scene.flat.comp_count() as usize, "component", "components");
+            let comps = Count(
+                scene.net.core().comp_count() as usize,
+                "component",
+                "components",
+            );
             put_number(draft, "component", comp, comps);
         }
         Misfire::NoChan => {
-            let chans = Count(scene.flat.chan_count() as usize, "channel", "channels");
+            let chans = Count(
+                scene.net.core().chan_count() as usize,
+                "channel",
+                "channels",
+            );
             put_number(draft, "channel", chan, chans);
         }
         Misfire::NoEnd => put_end(draft, scene, firing),
@@ -73,18 +80,18 @@ pub(crate) fn explain_firing(draft: &mut Draft, scene: &Scene<'_>, firing: Firin
 
 impl Scene<'_> {
     // What is wrong with a firing.
-    fn misfire(&self, alloc: Global, firing: Firing) -> Misfire {
+    fn misfire(&self, firing: Firing) -> Misfire {
         let Firing { comp, chan, mv, .. } = firing;
-        if self.flat.comp(comp).is_none() {
+        if self.net.core().comp(comp).is_none() {
             return Misfire::NoComp;
         }
-        let Some(phase) = phase_of(self.net, chan) else {
+        let Some(phase) = phase_of(self.net.core(), chan) else {
             return Misfire::NoChan;
         };
-        match self.net.port_at(comp, chan, mv) {
+        match self.net.core().port_at(comp, chan, mv) {
             None => Misfire::NoEnd,
-            Some(port) => match self.net.foresee(alloc, comp, port) {
-                Ok(Some((_, due, _))) if due == mv => Misfire::OtherValue(phase),
+            Some(port) => match self.net.core().foresee(comp, port) {
+                Some((_, due, _)) if due == mv => Misfire::OtherValue(phase),
                 _ => Misfire::NotNow(phase),
             },
         }
@@ -99,9 +106,9 @@ fn put_number<'t>(draft: &mut Draft, thing: &'t str, number: u32, count: Arg<'t>
 
 // Tells whose the end is at which such a move is made.
 fn put_end(draft: &mut Draft, scene: &Scene<'_>, firing: Firing) {
-    let (sense, holder) = match (firing.mv, scene.flat.ends(firing.chan)) {
-        (Move::Ask | Move::Got, Some(ends)) => ("active", ends.active),
-        (Move::Take | Move::Reply, Some(ends)) => ("passive", ends.passive),
+    let (sense, holder) = match (firing.mv, ends_of(scene.net.core(), firing.chan)) {
+        (Move::Ask | Move::Got, Some([active, _])) => ("active", active),
+        (Move::Take | Move::Reply, Some([_, passive])) => ("passive", passive),
         (_, None) => ("", None),
     };
     draft.put("% on ", &[Text(firing.mv.word())]);
@@ -126,11 +133,11 @@ fn put_phase(draft: &mut Draft, phase: Phase) {
 
 // Tells what the component could do, or what others could where it can't move.
 fn put_expected(draft: &mut Draft, scene: &Scene<'_>, comp: u32) {
-    if scene.net.is_ready(comp) {
+    if scene.net.core().is_ready(comp) {
         let args = [scene.kind(comp), Number(comp as usize)];
         draft.put("\nexpected: what % % can do: ", &args);
         scene.put_moves_of(draft, comp, 0);
-    } else if scene.net.next_ready(1).is_some() {
+    } else if scene.net.core().next_ready(1).is_some() {
         draft.put("\nexpected: what others can do: ", &[]);
         scene.put_moves(draft);
     } else {

@@ -1,19 +1,19 @@
 //! Lines that have none of the forms of a trace.
 
 use crate::forms::{Line, Misfit, Want};
-use crate::items::{LineAt, item_of, line_of};
+use crate::items::{LineAt, item_of, line_of, start_of_line};
 use bz_explain_notes::Arg::{Count, Number, Word};
 use bz_explain_notes::{Draft, port_names};
-use bz_flat::Flat;
+use bz_model::Names;
 use bz_trace_text::MAX_ENTRIES;
 
 /// The notes of a line, by its number, that has none of the forms, or stands where none of its form may.
-pub(crate) fn explain_form(draft: &mut Draft, flat: &Flat, trace: &[u8], number: usize) {
+pub(crate) fn explain_form(draft: &mut Draft, names: &Names, trace: &[u8], number: usize) {
     let at = LineAt::of(trace, start_of_line(trace, number));
     let text = line_of(at.rest);
     let line = Line {
         alloc: draft.alloc(),
-        flat,
+        names,
         text,
     };
     match line.misfit() {
@@ -32,20 +32,6 @@ pub(crate) fn explain_form(draft: &mut Draft, flat: &Flat, trace: &[u8], number:
     }
 }
 
-// The byte at which a line begins, counted from 1.
-fn start_of_line(trace: &[u8], number: usize) -> usize {
-    let mut line = 1usize;
-    for (place, byte) in trace.iter().enumerate() {
-        if line == number {
-            return place;
-        }
-        if *byte == b'\n' {
-            line = line.saturating_add(1);
-        }
-    }
-    trace.len()
-}
-
 // An item that doesn't fit.
 fn explain_misfit(draft: &mut Draft, line: Line<'_>, at: LineAt<'_>, misfit: Misfit) {
     at.put(draft, misfit.item);
@@ -58,7 +44,7 @@ fn explain_misfit(draft: &mut Draft, line: Line<'_>, at: LineAt<'_>, misfit: Mis
     }
     draft.put("\nexpected: ", &[]);
     if let Want::Port(_) = misfit.want {
-        let names = draft.gathered(port_names(draft.alloc(), line.flat.ports()));
+        let names = draft.gathered(port_names(draft.alloc(), line.names.ports()));
         let count = Count(names.len(), "port", "ports");
         draft.say_one_of(count, &names, item.unwrap_or(b""));
     } else {

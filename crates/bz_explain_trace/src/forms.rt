@@ -3,8 +3,7 @@
 ghost use Rattle.std.specs.Prelude.{◌≤◌, IfSome};
 
 use crate::items::item_of;
-use bz_flat::Flat;
-use bz_model::{Move, Value, carries};
+use bz_model::{Move, Names, Value, carries};
 use bz_text::put_name;
 use std::alloc::Global;
 
@@ -42,7 +41,7 @@ pub(crate) enum Want {
 #[derive(Clone, Copy)]
 pub(crate) struct Line<'t> {
     pub(crate) alloc: Global,
-    pub(crate) flat: &'t Flat,
+    pub(crate) names: &'t Names,
     /// Without its end.
     pub(crate) text: &'t [u8],
 }
@@ -111,7 +110,7 @@ impl Line<'_> {
     // What belongs behind a channel on which a move is made.
     fn behind_chan(self, mv: Move, chan: Value) -> Want {
         let number = u32::try_from(chan).unwrap_or(0);
-        match self.flat.chan(number) {
+        match self.names.chan(number) {
             Some(found) if carries(found.kind, mv) => Want::Carried(number),
             _ => Want::NoValue(number),
         }
@@ -119,7 +118,7 @@ impl Line<'_> {
 
     // Whether this is the name of an external port, in its form. Where memory is wanting it is taken for one.
     fn is_port(self, word: &[u8]) -> bool {
-        for port in self.flat.ports() {
+        for port in self.names.ports() {
             let mut form = Vec::new(self.alloc);
             if put_name(&mut form, &port.name).is_err() || form.as_slice() == word {
                 return true;

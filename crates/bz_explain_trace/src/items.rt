@@ -26,6 +26,20 @@ impl<'t> LineAt<'t> {
     }
 }
 
+/// The byte at which a line begins, by its number from 1; the end of the trace where it has no such line.
+pub(crate) fn start_of_line(trace: &[u8], number: usize) -> usize {
+    let mut line = 1usize;
+    for (place, byte) in trace.iter().enumerate() {
+        if line == number {
+            return place;
+        }
+        if *byte == b'\n' {
+            line = line.saturating_add(1);
+        }
+    }
+    trace.len()
+}
+
 /// A line without its end.
 pub(crate) fn line_of(text: &[u8]) -> &[u8] {
     match text.iter().position(|byte| *byte == b'\n') {

@@ -10,7 +10,6 @@ mod form_faults;
 mod forms;
 mod items;
 mod moves;
-mod replaying;
 mod replies;
 mod scene;
 mod stops;

@@ -12,7 +12,7 @@ impl Scene<'_> {
     /// Goes on with the moves that a component can make, behind so many others: how many there are then.
     pub(crate) fn put_moves_of(&self, draft: &mut Draft, comp: u32, before: usize) -> usize {
         let mut told = before;
-        if self.net.is_ready(comp) {
+        if self.net.core().is_ready(comp) {
             for port in 1..=self.port_count(comp) {
                 told = self.put_move_at(draft, comp, port, told);
             }
@@ -25,7 +25,7 @@ impl Scene<'_> {
         let mut told = 0usize;
         let mut from = 1u32;
         for _ in 0..=MOST_TOLD {
-            match self.net.next_ready(from) {
+            match self.net.core().next_ready(from) {
                 Some(comp) if comp >= from => {
                     told = self.put_moves_of(draft, comp, told);
                     from = comp.saturating_add(1);
@@ -37,21 +37,17 @@ impl Scene<'_> {
     }
 
     fn put_move_at(&self, draft: &mut Draft, comp: u32, port: u32, told: usize) -> usize {
-        match self.net.foresee(draft.alloc(), comp, port) {
-            Ok(Some((chan, mv, value))) => {
+        match self.net.core().foresee(comp, port) {
+            Some((chan, mv, value)) => {
                 put_move(draft, comp, (chan, mv, value), told);
                 told.saturating_add(1)
             }
-            Ok(None) => told,
-            Err(_) => {
-                draft.fail();
-                told
-            }
+            None => told,
         }
     }
 
     fn port_count(&self, comp: u32) -> u32 {
-        match self.flat.comp(comp) {
+        match self.net.core().comp(comp) {
             Some(site) => u32::try_from(site.chans.len()).unwrap_or(u32::MAX),
             None => 0,
         }

@@ -3,7 +3,8 @@
 use crate::scene::Scene;
 use bz_explain_notes::Arg::{self, Name, Number, Spaced, Text, Wide};
 use bz_explain_notes::Draft;
-use bz_model::{NetError, Phase, Reply, Value, Verb, low_bits};
+use bz_model::{NetError, Phase, Reply, Value, Verb, Who, low_bits};
+use bz_net::Play;
 
 /// A host's command, as a line has it.
 #[derive(Clone, Copy)]
@@ -12,6 +13,20 @@ pub(crate) struct Command {
     pub(crate) port: u32,
     pub(crate) value: Option<Value>,
     pub(crate) reply: Reply,
+}
+
+/// What a host's command is replied, or why it is refused, where the port is one of the net's.
+pub(crate) fn reply_of(
+    net: &mut Play,
+    who: Who,
+    verb: Verb,
+    port: u32,
+    value: Option<Value>,
+) -> Option<Result<Reply, NetError>> {
+    if port == 0 || port as usize > net.names().ports().len() {
+        return None;
+    }
+    Some(net.host_at(who, verb, port, value))
 }
 
 /// The notes of a command that the port doesn't take.
@@ -23,7 +38,7 @@ pub(crate) fn explain_refused(
 ) {
     let item = if error == NetError::WrongSide { 2 } else { 4 };
     put_command(draft, scene, command, item);
-    let Some(chan) = scene.flat.chan(command.port) else {
+    let Some(chan) = scene.net.names().chan(command.port) else {
         return draft.say("", &[]);
     };
     let most = Wide(low_bits(Value::MAX, chan.width));

@@ -1,19 +1,17 @@
-//! A net behind the lines that it allows, and how its components and channels are called.
+//! A net before the line that it refuses, and how its components and channels are called.
 
 use crate::items::LineAt;
 use bz_explain_notes::Arg::{self, Bytes, Name, Number, Path};
 use bz_explain_notes::Draft;
-use bz_flat::Flat;
 use bz_kind_rows::kind_word;
-use bz_model::{Phase, numbered};
-use bz_net::Net;
+use bz_model::Phase;
+use bz_net::{Core, Play};
 use bz_source::Survey;
 
-/// A net behind the lines that it allows, where its components stand in the netlist, and the line that no run has there.
+/// A net before the line that it refuses, where its components stand in the netlist, and that line.
 #[derive(Clone, Copy)]
 pub(crate) struct Scene<'t> {
-    pub(crate) flat: &'t Flat,
-    pub(crate) net: &'t Net,
+    pub(crate) net: &'t Play,
     pub(crate) survey: &'t Survey,
     pub(crate) line: LineAt<'t>,
 }
@@ -21,7 +19,7 @@ pub(crate) struct Scene<'t> {
 impl Scene<'_> {
     /// The kind of a component.
     pub(crate) fn kind(&self, comp: u32) -> Arg<'static> {
-        match self.flat.comp(comp) {
+        match self.net.core().comp(comp) {
             Some(site) => Bytes(kind_word(&site.kind)),
             None => Bytes(b"component"),
         }
@@ -58,17 +56,22 @@ impl Scene<'_> {
 
     /// The name of an external port.
     pub(crate) fn port_name(&self, port: u32) -> &[u8] {
-        match numbered(self.flat.ports(), port) {
-            Some(port) => port.name.as_slice(),
-            None => b"",
-        }
+        self.net.names().name(port).unwrap_or(b"")
     }
 }
 
 /// The phase of a channel, where there is one of this number.
-pub(crate) fn phase_of(net: &Net, chan: u32) -> Option<Phase> {
+pub(crate) fn phase_of(net: &Core, chan: u32) -> Option<Phase> {
     match net.names().chan(chan) {
         Some(_) => Some(net.phase(chan)),
+        None => None,
+    }
+}
+
+/// The components at the active and the passive end of a channel, where there is one of this number.
+pub(crate) fn ends_of(net: &Core, chan: u32) -> Option<[Option<u32>; 2]> {
+    match net.names().chan(chan) {
+        Some(_) => Some(net.ends(chan)),
         None => None,
     }
 }

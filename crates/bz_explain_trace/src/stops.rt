@@ -2,73 +2,71 @@
 
 use crate::clashes::explain_clash;
 use crate::firings::{Firing, explain_firing, explain_rest};
-use crate::items::LineAt;
-use crate::replaying::{open, play, reply_of};
-use crate::replies::{Command, explain_refused, explain_reply};
+use crate::items::{LineAt, start_of_line};
+use crate::replies::{Command, explain_refused, explain_reply, reply_of};
 use crate::scene::{Scene, phase_of};
+use bz_cli_trace::Checked;
 use bz_explain_notes::Draft;
-use bz_flat::Flat;
 use bz_model::{Entry, NetError};
-use bz_net::Net;
+use bz_net::Play;
 use bz_source::Survey;
-use bz_trace_text::{LineNames, clash_at, line_at, version_at};
+use bz_trace_text::{LineNames, clash_at, line_at};
+use std::alloc::AllocError;
 
-/// A net, where its components stand in the netlist, and a text that should be the trace of a run of it.
-#[derive(Clone, Copy)]
-pub(crate) struct Ground<'t> {
-    pub(crate) flat: &'t Flat,
-    pub(crate) survey: &'t Survey,
-    pub(crate) trace: &'t [u8],
-}
-
-/// Tells why no run has a line.
-pub(crate) fn explain_stop(draft: &mut Draft, ground: Ground<'_>, line: usize) {
-    let told = match open(draft.alloc(), ground.flat, line) {
-        Some(mut net) => explain_line(draft, ground, &mut net, line),
-        None => None,
-    };
-    if told.is_none() {
-        draft.fail();
+/// Says why no run has a line, by its number, where the net that was checked has played the lines before it.
+pub(crate) fn explain_stop(draft: &mut Draft, checked: Checked, trace: &[u8], number: usize) {
+    let (mut net, source, part) = checked.into_parts();
+    match source.survey(draft.alloc(), part.as_slice()) {
+        Ok(survey) => explain_line(draft, &mut net, &survey, trace, number),
+        Err(_) => draft.fail(),
     }
 }
 
-// Plays the lines before this one, and tells why no run has it. `None` where memory is wanting.
-fn explain_line(draft: &mut Draft, ground: Ground<'_>, net: &mut Net, line: usize) -> Option<()> {
-    let names = net.names().dup(draft.alloc()).ok()?;
-    let names = LineNames::new(draft.alloc(), &names);
-    explain_named(draft, ground, net, &names, line)
-}
-
-fn explain_named(
-    draft: &mut Draft,
-    ground: Ground<'_>,
-    net: &mut Net,
-    names: &LineNames<'_>,
-    line: usize,
-) -> Option<()> {
-    let (_, lines) = version_at(ground.trace)?;
-    let played = play(net, names, lines, line.saturating_sub(2))?;
-    match line_at(names, played.rest) {
-        Some((entry, _)) => explain_entry(draft, ground, net, played.rest, entry),
-        None => {
-            let due = net.clashes().get(played.clashes).copied();
-            let found = match clash_at(played.rest) {
+fn explain_line(draft: &mut Draft, net: &mut Play, survey: &Survey, trace: &[u8], number: usize) {
+    let start = start_of_line(trace, number);
+    let line = LineAt::of(trace, start);
+    match line_entry(draft, net, line) {
+        Ok(Some(entry)) => {
+            if explain_entry(draft, net, survey, line, entry).is_none() {
+                draft.fail();
+            }
+        }
+        Ok(None) => {
+            let before = clash_count(trace.get(..start).unwrap_or(trace));
+            let due = net.clashes().get(before).copied();
+            let found = match clash_at(line.rest) {
                 Some((found, _)) => Some(found),
                 None => None,
             };
-            let scene = ground.scene(net, played.rest);
-            explain_clash(draft, &scene, found, due);
-            Some(())
+            explain_clash(draft, &Scene { net, survey, line }, found, due);
         }
+        Err(_) => draft.fail(),
     }
 }
 
-// Tells why no run has an entry. The net goes on by it where it is a command.
+// The entry of a line, if it is that of one.
+fn line_entry(draft: &Draft, net: &Play, line: LineAt<'_>) -> Result<Option<Entry>, AllocError> {
+    let names = net.names().dup(draft.alloc())?;
+    match line_at(&LineNames::new(draft.alloc(), &names), line.rest) {
+        Some((entry, _)) => Ok(Some(entry)),
+        None => Ok(None),
+    }
+}
+
+// How many of these lines are those of clashes.
+fn clash_count(lines: &[u8]) -> usize {
+    lines
+        .split(|byte| *byte == b'\n')
+        .filter(|line| line.starts_with(b"clash "))
+        .count()
+}
+
+// Says why no run has an entry. The net goes on by it where it is a command.
 fn explain_entry(
     draft: &mut Draft,
-    ground: Ground<'_>,
-    net: &mut Net,
-    rest: &[u8],
+    net: &mut Play,
+    survey: &Survey,
+    line: LineAt<'_>,
     entry: Entry,
 ) -> Option<()> {
     match entry {
@@ -86,8 +84,7 @@ fn explain_entry(
                 mv,
                 value,
             };
-            let scene = ground.scene(net, rest);
-            explain_firing(draft, &scene, firing);
+            explain_firing(draft, &Scene { net, survey, line }, firing);
         }
         Entry::Host {
             who,
@@ -102,9 +99,9 @@ fn explain_entry(
                 value,
                 reply,
             };
-            let phase = phase_of(net, port)?;
+            let phase = phase_of(net.core(), port)?;
             let due = reply_of(net, who, verb, port, value)?;
-            let scene = ground.scene(net, rest);
+            let scene = Scene { net, survey, line };
             match due {
                 Ok(due) => explain_reply(draft, &scene, command, phase, due),
                 Err(NetError::Memory) => return None,
@@ -112,23 +109,9 @@ fn explain_entry(
             }
         }
         Entry::Rested { who: _ } => {
-            let comp = net.next_ready(1)?;
-            let scene = ground.scene(net, rest);
-            explain_rest(draft, &scene, comp);
+            let comp = net.core().next_ready(1)?;
+            explain_rest(draft, &Scene { net, survey, line }, comp);
         }
     }
     Some(())
-}
-
-impl<'t> Ground<'t> {
-    // A net behind the lines that it allows, before what the trace still has.
-    fn scene(self, net: &'t Net, rest: &[u8]) -> Scene<'t> {
-        let at = self.trace.len().saturating_sub(rest.len());
-        Scene {
-            flat: self.flat,
-            net,
-            survey: self.survey,
-            line: LineAt::of(self.trace, at),
-        }
-    }
 }

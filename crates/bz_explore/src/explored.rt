@@ -97,14 +97,14 @@ fn explore_text<L: BufRead, W: Write, S: Shelf>(
     shelf: &mut S,
     output: &mut W,
 ) -> Result<Ending, Fault> {
-    let (flat, survey, name) = survey_of(alloc, asked, text)?;
+    let (flat, survey, part) = survey_of(alloc, asked, text)?;
     let Ok(mut course) = Course::open(alloc, flat, JOURNAL) else {
         return Err(Fault::Memory);
     };
     let mut session = Session {
         course: &mut course,
         survey: &survey,
-        part: name.as_slice(),
+        part: part.as_slice(),
         typed: Vec::new(alloc),
         answer: Answer {
             text: Text::new(alloc),

@@ -14,7 +14,7 @@ use bz_explore_moves::gathered;
 use bz_explore_net::Course;
 use bz_model::{Cmd, HostCmd, NetError, Reply};
 use bz_net::RunEnd;
-use bz_page::PageFault;
+use bz_page::TooLarge;
 use bz_source::Survey;
 use bz_text::Text;
 use std::io::Write;
@@ -249,7 +249,7 @@ impl<'s> Session<'s> {
         let comps = self.course.flat().comp_count() as usize;
         if comps > MOST_COMPS {
             self.answer.begin_error();
-            let _ = writeln!(self.answer.text, "{}", PageFault::TooLarge(comps));
+            let _ = writeln!(self.answer.text, "{}", TooLarge { comps });
         } else {
             self.write(shelf, call);
         }

@@ -1,4 +1,7 @@
 //! Moves that are picked by chance.
+//!
+//! A move is picked in two draws, a component and then a port, so each component that can move is as likely as any other,
+//! however many of its ports can. The picking goes on only with moves that are made.
 
 ghost use Rattle.std.specs.Prelude.{◌≡◌, ◌<◌, ◌%◌, ℕ, length, IfOk, IfErr, OnErr};
 ghost use Rattle.bz_model.specs.Nets.{StepsAt, site_at};

@@ -1,4 +1,9 @@
 //! A net that is played by hand, and how to go back in it.
+//!
+//! `undo` only notes how far to go back: the net is opened anew, and the journal's front made again, where it is next looked
+//! at. So several `undo` are one replay. Where the picking was goes back too. Room for a mark is taken before a command is
+//! carried out: without memory for it nothing changes. Where the journal is full before all moves are made, those that were
+//! made stay, with their mark.
 
 ghost use Rattle.std.specs.Prelude.{◌≡◌, ◌≢◌, ◌<◌, ◌≤◌, [], ◌∷◌, length, IfOk, IfErr, OnOk, OnErr};
 ghost use Rattle.bz_model.specs.declared.event.Who.TheVariants as who;
@@ -53,7 +58,7 @@ pub struct Course {
     limit: u32,
 }
 
-// By hand, so that who lets one go has one call to show and not all its parts.
+// Written by hand: callers then prove one drop instead of one for each field.
 impl Drop for Course {
     fn drop(self) {
         let Course {

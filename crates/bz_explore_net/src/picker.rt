@@ -1,4 +1,6 @@
 //! Picking by chance.
+//!
+//! A draw takes 64 bits modulo the number of choices. That some are likelier by one in 2^44 or less is not made up for.
 
 ghost use Rattle.std.specs.Prelude.{◌≡◌, ◌<◌, ◌%◌};
 ghost use Rattle.bz_explore_net.specs.Picking.{after, begun, drawn};

@@ -63,13 +63,16 @@ module _ (sites : List Site) (phases : List Phase) (comps : List Component) (her
       let value = carried h.move h.gives q.store (incoming phase h.move) in let rest = after_head q h (incoming phase h.move) in (
         h.move,
         value,
-        (moved s k (phase_after phase h.move value) c rest, record {
-          steps_at = at;
-          chan_is = sym end.on;
-          rest = rest;
-          moves = record { head = h; on = on; move_is = refl; allowed = subst (λ (j : ℕ). IsTrue (allows (phase_in phases j) h.move)) end.on may; value_is = refl; leaves = refl };
-          next_is = refl;
-        }),
+        (
+          moved s k (phase_after phase h.move value) c rest,
+          record {
+            steps_at = at;
+            chan_is = sym end.on;
+            rest = rest;
+            moves = record { head = h; on = on; move_is = refl; allowed = subst (λ (j : ℕ). IsTrue (allows (phase_in phases j) h.move)) end.on may; value_is = refl; leaves = refl };
+            next_is = refl;
+          },
+        ),
       )
 
   module _ (turning : IsTurning (comp_at comps c)) where

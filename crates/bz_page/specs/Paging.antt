@@ -1,78 +1,64 @@
 -- What the command `page` reads and writes: a netlist, a trace, and a page.
-use Rattle.std.specs.Prelude.{◌≡◌, ◌<◌, ◌≤◌, ◌⊎◌, ⊤, ℕ, List, [], length, map, Option, Result, Ok, Err, IsErrAnd}
+use Rattle.std.specs.Prelude.{◌≡◌, ◌<◌, ◌≤◌, ⊤, ℕ, List, [], length, map, Option, Result, Ok, Err}
+use Rattle.std.specs.declared.alloc.Global.{Global}
+use Rattle.std.specs.declared.vec.Vec.{Vec}
 use Rattle.std.specs.Io.KnownBytes.{Appends, Keeps}
 use Rattle.bz_model.specs.Nets.{Wiring}
-use Rattle.bz_flat.specs.Flats.{Plan, site_of}
+use Rattle.bz_flat.specs.Flats.{site_of}
 use Rattle.bz_flat.specs.Wires.{EndsOf, WellWired}
 use Rattle.bz_flat.specs.declared.flat.Pieces.{Pieces}
 use Rattle.bz_source.specs.Found.{Locates}
 use Rattle.bz_source.specs.Net.{FindsNamed}
-use Rattle.bz_source.specs.declared.source.Source.{Source}
 use Rattle.bz_source.specs.declared.survey.Survey.{Survey}
-use Rattle.bz_trace.specs.declared.checking.Verdict.{Verdict}
 use Rattle.bz_trace.specs.declared.checking.Verdict.TheVariants as verdict
 use Rattle.bz_trace.specs.Verdicts.{Judges}
 use Rattle.bz_cli_input.specs.declared.fault.Fault.{Fault}
 use Rattle.bz_cli_input.specs.declared.fault.Fault.TheVariants.{Write, Memory}
-use Rattle.bz_cli_input.specs.Limits.{input_limit}
-use Rattle.bz_cli_input.specs.Opening.{Denotes, RefusesNet}
-use Rattle.bz_cli_input.specs.Statuses as command
 use Rattle.bz_cli_input.specs.Stopping.{AppendsSome}
-use Rattle.bz_cli_input.specs.Stopping as stopping
-use Rattle.bz_cli_core.specs.Checking.{Splits}
 use Rattle.bz_cli_source.specs.Surveys.{IsPlaced, wiring_in}
 use Rattle.bz_cli_source.specs.Listing.{paths_text}
-use Rattle.bz_page.specs.declared.fault.PageFault.{PageFault}
-use Rattle.bz_page.specs.declared.fault.PageFault.TheVariants.{Command, NotRun, NotTrace, TooLarge}
+use Rattle.bz_cli_trace.specs.declared.fault.TraceFault.{TraceFault}
+use Rattle.bz_cli_trace.specs.declared.fault.TraceFault.TheVariants.{Command, Other}
+use Rattle.bz_cli_trace.specs.declared.checked.Checked.{Checked}
+use Rattle.bz_cli_trace.specs.Making.{MakesNone, SendsMade}
+use Rattle.bz_cli_trace.specs.Taking.{TakesText, TakesTwo}
+use Rattle.bz_page.specs.declared.fault.TooLarge.{TooLarge}
 use Rattle.bz_page.specs.Pages.{Blank, page_text}
 use Rattle.bz_page.specs.Rows.{rows_text}
 
-abbrev pub status_of : PageFault → ℕ
-status_of (Command fault) = command.status_of fault
-status_of (NotRun line) = 1
-status_of (NotTrace line) = 1
-status_of (TooLarge comps) = 2
+-- a net has so many components, and that is more than a page holds
+abbrev pub IsTooLarge : Wiring → TooLarge → Type 0
+IsTooLarge w large = (large.comps ≡ length w.sites) × (100000 < large.comps)
 
--- The netlist denotes this net, and this is the verdict on the trace.
-pub record Judged (netlist trace part : List ℕ) (v : Verdict) (w : Wiring) : Type 0 where
-  pub net : Denotes netlist part w
-  pub judged : Judges w trace v
-
--- Why there is no page of a trace. Of memory that was refused nothing is said.
-abbrev pub Refuses : List ℕ → List ℕ → List ℕ → PageFault → Type 0
-Refuses netlist trace part (Command fault) = RefusesNet netlist part fault
-Refuses netlist trace part (NotRun line) = (w : Wiring) × Judged netlist trace part (verdict.Not line) w
-Refuses netlist trace part (NotTrace line) = (w : Wiring) × Judged netlist trace part (verdict.Bad line) w
-Refuses netlist trace part (TooLarge comps) = (w : Wiring) × Judged netlist trace part verdict.Run w × (comps ≡ length w.sites) × (100000 < comps)
-
--- A page can be made: these are the net that the netlist denotes and the places in it, the trace is that of a run of this net,
--- and it has no more components than a page holds.
-pub record HasPage (netlist trace part : List ℕ) (net : Pieces) (s : Survey) : Type 0 where
-  pub placed : IsPlaced netlist part net s
+-- A page can be made: these are the net that the netlist denotes and the places in it, by the name of its part; the trace is that
+-- of a run of this net, and it has no more components than a page holds.
+pub record HasPage (netlist trace : List ℕ) (asked : Option (List ℕ)) (name : List ℕ) (net : Pieces) (s : Survey) : Type 0 where
+  pub placed : IsPlaced netlist asked name net s
   pub judged : Judges (wiring_in net) trace verdict.Run
   pub few : length net.comps ≤ 100000
 
-abbrev pub Finds : List ℕ → List ℕ → List ℕ → Result (Pieces × Survey) PageFault → Type 0
-Finds netlist trace part (Ok found) = HasPage netlist trace part found.0 found.1
-Finds netlist trace part (Err fault) = Refuses netlist trace part fault
+abbrev pub Finds : List ℕ → List ℕ → Option (List ℕ) → Result (Pieces × Survey × Vec ℕ Global) (TraceFault TooLarge) → Type 0
+Finds netlist trace asked (Ok found) = HasPage netlist trace asked found.2.items found.0 found.1
+Finds netlist trace asked (Err fault) = MakesNone IsTooLarge netlist trace asked fault
 
--- These are the pieces of a net, and the places in it of the part of this name in a text that was read.
-pub record IsPlacedOf (name : List ℕ) (plan : Plan) (source : Source) (net : Pieces) (s : Survey) : Type 0 where
-  pub wiring : plan.wiring ≡ wiring_in net
+-- These are the pieces of the net that was checked, and the places in it, by the name of its part.
+pub record IsPlacedOf (c : Checked) (name : List ℕ) (net : Pieces) (s : Survey) : Type 0 where
+  pub wiring : c.net.wiring ≡ wiring_in net
   pub wired : WellWired (wiring_in net)
   pub ends : EndsOf (wiring_in net) net.ends.items
-  pub parts : s.parts ≡ source.parts
-  pub lines : s.lines ≡ source.lines
+  pub named_is : name ≡ c.part.items
+  pub parts : s.parts ≡ c.source.parts
+  pub lines : s.lines ≡ c.source.lines
   pub places : Locates s.parts name s.places
   pub named : FindsNamed s.parts name s.places
   pub few : length net.comps ≤ 100000
 
 -- There are such pieces and places, or the net has more components than a page holds, or memory was refused.
-abbrev pub Places : List ℕ → Plan → Source → Result (Pieces × Survey) PageFault → Type 0
-Places name plan source (Ok found) = IsPlacedOf name plan source found.0 found.1
-Places name plan source (Err (TooLarge comps)) = (comps ≡ length plan.wiring.sites) × (100000 < comps)
-Places name plan source (Err (Command Memory)) = ⊤
-Places name plan source (Err fault) = ⊥
+abbrev pub Places : Checked → Result (Pieces × Survey × Vec ℕ Global) (TraceFault TooLarge) → Type 0
+Places c (Ok found) = IsPlacedOf c found.2.items found.0 found.1
+Places c (Err (Other large)) = IsTooLarge c.net.wiring large
+Places c (Err (Command Memory)) = ⊤
+Places c (Err fault) = ⊥
 
 -- the page of a net and a trace: its list is what `list --paths` writes of the net
 abbrev pub net_page : Blank → List ℕ → Pieces → Survey → List ℕ → List ℕ → List ℕ
@@ -86,30 +72,18 @@ PagesNet b part net s trace ends old new (Err Memory) = Keeps old new
 PagesNet b part net s trace ends old new (Err fault) = ⊥
 
 -- The page of the net that a netlist denotes went out as `Out` says, with a trace that is that of a run of it.
-abbrev pub IsPagedRun : Blank → List ℕ → List ℕ → List ℕ → (List ℕ → Type 0) → Type 0
-IsPagedRun b netlist trace part Out = (net : Pieces) × (s : Survey) × HasPage netlist trace part net s × Out (net_page b part net s trace [])
+abbrev pub IsPagedRun : Blank → List ℕ → List ℕ → Option (List ℕ) → (List ℕ → Type 0) → Type 0
+IsPagedRun b netlist trace asked Out =
+    (name : List ℕ) × (net : Pieces) × (s : Survey) × HasPage netlist trace asked name net s × Out (net_page b name net s trace [])
 
--- Only the trace of a run is played. Its page went out; where the writer failed, a front of it; where there is none, nothing.
-abbrev pub PagesTrace : {A : Type 0} → Blank → List ℕ → List ℕ → List ℕ → Option (List ℕ) → Option (List ℕ) → Result A PageFault → Type 0
-PagesTrace b netlist trace part old new (Ok u) = IsPagedRun b netlist trace part (Appends old new)
-PagesTrace b netlist trace part old new (Err (Command Write)) = IsPagedRun b netlist trace part (AppendsSome old new)
-PagesTrace b netlist trace part old new (Err fault) = Refuses netlist trace part fault × Keeps old new
-
--- The same of a netlist with a trace behind it.
-abbrev pub PagesText : {A : Type 0} → Blank → List ℕ → List ℕ → Option (List ℕ) → Option (List ℕ) → Result A PageFault → Type 0
-PagesText b text part old new answer = (netlist trace : List ℕ) × Splits text netlist trace × PagesTrace b netlist trace part old new answer
-
-abbrev pub IsOfInput : PageFault → Type 0
-IsOfInput (Command fault) = stopping.IsOfInput fault
-IsOfInput fault = ⊥
+-- Only the trace of a run is played.
+abbrev pub PagesTrace : {A : Type 0} → Blank → List ℕ → List ℕ → Option (List ℕ) → Option (List ℕ) → Option (List ℕ) → Result A (TraceFault TooLarge) → Type 0
+PagesTrace b netlist trace asked old new answer = SendsMade IsTooLarge (IsPagedRun b netlist trace asked) netlist trace asked old new answer
 
 -- The command `page`: the input is not taken and nothing goes out, or a page of the trace in it does.
-abbrev pub Pages : {A : Type 0} → Blank → List ℕ → List ℕ → Option (List ℕ) → Option (List ℕ) → Result A PageFault → Type 0
-Pages b text part old new answer =
-    IsErrAnd answer (λ fault. IsOfInput fault × Keeps old new) ⊎ ((length text ≤ input_limit) × PagesText b text part old new answer)
+abbrev pub Pages : {A : Type 0} → Blank → List ℕ → Option (List ℕ) → Option (List ℕ) → Option (List ℕ) → Result A (TraceFault TooLarge) → Type 0
+Pages b text asked old new answer = TakesText (λ netlist trace. PagesTrace b netlist trace asked old new answer) text old new answer
 
 -- The same of a netlist and a trace apart.
-abbrev pub PagesApart : {A : Type 0} → Blank → List ℕ → List ℕ → List ℕ → Option (List ℕ) → Option (List ℕ) → Result A PageFault → Type 0
-PagesApart b netlist trace part old new answer =
-    IsErrAnd answer (λ fault. IsOfInput fault × Keeps old new)
-    ⊎ ((length netlist ≤ input_limit) × (length trace ≤ input_limit) × PagesTrace b netlist trace part old new answer)
+abbrev pub PagesApart : {A : Type 0} → Blank → List ℕ → List ℕ → Option (List ℕ) → Option (List ℕ) → Option (List ℕ) → Result A (TraceFault TooLarge) → Type 0
+PagesApart b netlist trace asked old new answer = TakesTwo (λ n t. PagesTrace b n t asked old new answer) netlist trace old new answer

@@ -12,5 +12,5 @@ mod template;
 pub use around::Template;
 pub use command::{page_cmd, page_trace_cmd};
 pub use escaping::put_escaped;
-pub use fault::PageFault;
+pub use fault::TooLarge;
 pub use net_page::put_page;

@@ -140,38 +140,44 @@ Halts w net entries number = (stops : StopsAtEntry w entries number) × Along w 
 
 stops_here : (w : Wiring) (old : Progress) (entries : List Entry) (line : Entry) (number : ℕ) → WellWired w → AllByRecursion (HasLine (outside w)) entries → HasLine (outside w) line → Along w old entries → Stops old line
     → number ≡ length entries + 2 → Halts w old (entries ++ line ∷ []) number
-stops_here w old entries line number wired each has along stops is = (record {
-  before = entries;
-  here = line;
-  after = [];
-  entries_are = refl;
-  line_is = is;
-  runs = record {
-    entries = along.journal;
-    by = all_who (outside w) along.journal along.each;
-    last = old.state;
-    run = run_along w old entries along;
-    text_is = same_lines w.ports entries along.journal (sym along.tells);
-  };
-  fails = λ r.
-      let own = run_has_lines w r.entries r.last wired r.run r.by in
-      let alike = lines_tell (outside w) r.entries (entries ++ line ∷ []) own (all_more (HasLine (outside w)) entries line each has) (sym r.text_is) in
-      let l = last_of r.entries entries line alike in
-      let (m, front, after) = run_pop w (opening w) l.front l.last r.last (subst (λ xs. Run w (opening w) xs r.last) l.is r.run) in
-      let same = along.sole l.front m front l.alike in
-      stops l.last r.last l.last_alike (subst (λ o. Follows old.wiring o l.last r.last) same (subst (λ (v : Wiring). Follows v m l.last r.last) (sym along.wiring) after));
-}, along)
+stops_here w old entries line number wired each has along stops is = (
+  record {
+    before = entries;
+    here = line;
+    after = [];
+    entries_are = refl;
+    line_is = is;
+    runs = record {
+      entries = along.journal;
+      by = all_who (outside w) along.journal along.each;
+      last = old.state;
+      run = run_along w old entries along;
+      text_is = same_lines w.ports entries along.journal (sym along.tells);
+    };
+    fails = λ r.
+        let own = run_has_lines w r.entries r.last wired r.run r.by in
+        let alike = lines_tell (outside w) r.entries (entries ++ line ∷ []) own (all_more (HasLine (outside w)) entries line each has) (sym r.text_is) in
+        let l = last_of r.entries entries line alike in
+        let (m, front, after) = run_pop w (opening w) l.front l.last r.last (subst (λ xs. Run w (opening w) xs r.last) l.is r.run) in
+        let same = along.sole l.front m front l.alike in
+        stops l.last r.last l.last_alike (subst (λ o. Follows old.wiring o l.last r.last) same (subst (λ (v : Wiring). Follows v m l.last r.last) (sym along.wiring) after));
+  },
+  along,
+)
 
 stopped_before : (w : Wiring) (net : Progress) (entries : List Entry) (line : Entry) (number : ℕ) → Halts w net entries number → Halts w net (entries ++ line ∷ []) number
-stopped_before w net entries line number (stops, along) = (record {
-  before = stops.before;
-  here = stops.here;
-  after = stops.after ++ line ∷ [];
-  entries_are = ap (λ xs. xs ++ line ∷ []) stops.entries_are ∙ append_assoc stops.before (stops.here ∷ stops.after) (line ∷ []);
-  line_is = stops.line_is;
-  runs = stops.runs;
-  fails = stops.fails;
-}, along)
+stopped_before w net entries line number (stops, along) = (
+  record {
+    before = stops.before;
+    here = stops.here;
+    after = stops.after ++ line ∷ [];
+    entries_are = ap (λ xs. xs ++ line ∷ []) stops.entries_are ∙ append_assoc stops.before (stops.here ∷ stops.after) (line ∷ []);
+    line_is = stops.line_is;
+    runs = stops.runs;
+    fails = stops.fails;
+  },
+  along,
+)
 
 stands_more : (w : Wiring) (old new : Progress) (entries : List Entry) (line : Entry) (number : ℕ) (stop later : Option ℕ) → WellWired w → AllByRecursion (HasLine (outside w)) entries → HasLine (outside w) line
     → number ≡ length entries + 2 → Stands w old entries stop → PlaysOn old new line number stop later → Stands w new (entries ++ line ∷ []) later
@@ -413,23 +419,26 @@ module _ (names : Outside) (w : Wiring) (net : Progress) (v : Version) (text res
           )
 
       pub no_run : (place : ℕ) → DifferAt from.0 due place → Leaves w (first_line v ++ text) net (verdict.Not (far.count + place + 2))
-      no_run place differ = (record {
-        trace = trace_of v f.entries from.0;
-        has_text = has_text;
-        text_is = text_is;
-        stops = inr (record {
-          entries = along.journal;
-          by = all_who (outside w) along.journal along.each;
-          last = net.state;
-          run = run_along w net f.entries along;
-          alike = same_lines w.ports f.entries along.journal (sym along.tells);
-          clashes = due;
-          due = own_due;
-          place = place;
-          differ = differ;
-          line_is = ap (λ n. n + place + 2) f.count_is;
-        });
-      }, (along.journal, along.tells ∙ ap (map told) (sym (taken_all f.entries (far.count + place + 2) (let is = f.count_is in omega (arith, is)))), along.of_net))
+      no_run place differ = (
+        record {
+          trace = trace_of v f.entries from.0;
+          has_text = has_text;
+          text_is = text_is;
+          stops = inr (record {
+            entries = along.journal;
+            by = all_who (outside w) along.journal along.each;
+            last = net.state;
+            run = run_along w net f.entries along;
+            alike = same_lines w.ports f.entries along.journal (sym along.tells);
+            clashes = due;
+            due = own_due;
+            place = place;
+            differ = differ;
+            line_is = ap (λ n. n + place + 2) f.count_is;
+          });
+        },
+        (along.journal, along.tells ∙ ap (map told) (sym (taken_all f.entries (far.count + place + 2) (let is = f.count_is in omega (arith, is)))), along.of_net),
+      )
 
 -- one line more was followed
 pub gets_on_more : (from : Followed) (count : ℕ) (text rest after : List ℕ) → ((count ≡ from.count) × (rest ≡ text)) ⊎ ((from.count < count) × (length rest < length text)) → length after < length rest

@@ -82,9 +82,11 @@ no_entry names net text more followed named h (inr full) = λ e after has is. fu
 pub bad_line : (old new : Option (List ℕ)) (names : Outside) (w : Wiring) (net : Progress) (v : Version) (front got held : List ℕ) (followed : Followed) → Consumes old new got → FollowsText names w net (front ++ got) held followed → NoneToFollow names held followed → IsOther v held
     → IfSome old (λ more. Concludes w (first_line v ++ (front ++ more)) net followed.counts (verdict.Bad (followed.count + 2)))
 bad_line old new names w net v front got held followed taken follows none other =
-    whatever_comes old new got (λ more. Concludes w (first_line v ++ (front ++ more)) net followed.counts (verdict.Bad (followed.count + 2))) taken (λ left.
-    (subst (λ t. IsBad (outside w) (first_line v ++ t) (followed.count + 2)) (append_assoc front got left)
-    (bad_here names w net v ((front ++ got) ++ left) (held ++ left) followed (follows_longer names w net (front ++ got) held followed left follows) (no_end held left other.0) (no_entry names (outside w) held left followed follows.names_are other.0 none) (other.1 left)), told_here names w net (front ++ got) held followed follows))
+    whatever_comes old new got (λ more. Concludes w (first_line v ++ (front ++ more)) net followed.counts (verdict.Bad (followed.count + 2))) taken (λ left. (
+      subst (λ t. IsBad (outside w) (first_line v ++ t) (followed.count + 2)) (append_assoc front got left)
+          (bad_here names w net v ((front ++ got) ++ left) (held ++ left) followed (follows_longer names w net (front ++ got) held followed left follows) (no_end held left other.0) (no_entry names (outside w) held left followed follows.names_are other.0 none) (other.1 left)),
+      told_here names w net (front ++ got) held followed follows,
+    ))
 
 -- where more is held than can be, and it is no line yet, it is too long
 pub too_long : (old new : Option (List ℕ)) (names : Outside) (w : Wiring) (net : Progress) (v : Version) (front got held : List ℕ) (followed : Followed) → Consumes old new got → FollowsText names w net (front ++ got) held followed → 67108864 < length held → AwaitsMore v held

@@ -42,7 +42,7 @@ fn is_discord_told(alloc: Global, wanted: &[u8]) -> bool {
     let asked = Asked {
         netlist: b"",
         file: None,
-        part: b"buffer",
+        part: Some(b"buffer"),
         words: Words {
             list: &[],
             is_pool: false,

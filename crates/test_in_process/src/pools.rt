@@ -42,7 +42,13 @@ pub fn pool<T: Threads + Wait + Sync>(threads: &T, alloc: Global) -> Pooled {
     let mut input = TWO.as_bytes();
     let mut text = Vec::new(alloc);
     let ends = pool_cmd(
-        threads, alloc, b"two", options, &BOTH, &mut input, &mut text,
+        threads,
+        alloc,
+        Some(b"two"),
+        options,
+        &BOTH,
+        &mut input,
+        &mut text,
     );
     let told = told_of(&ends);
     Pooled { text, told }

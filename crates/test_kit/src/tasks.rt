@@ -3,8 +3,9 @@
 
 ghost use Rattle.std.specs.Prelude.{◌<◌, ◌≤◌};
 
-use bz_cli_core::{check_cmd, run_cmd, run_in_pieces};
+use bz_cli_core::{run_cmd, run_in_pieces};
 use bz_cli_input::{Fault, list_cmd};
+use bz_cli_trace::check_cmd;
 use std::alloc::Global;
 use std::io::{Read, Write};
 
@@ -45,7 +46,7 @@ fn list_over<R: Read, W: Write>(
     input: &mut R,
     output: &mut W,
 ) -> Result<(), Fault> {
-    list_cmd(alloc, part.as_bytes(), input, output)
+    list_cmd(alloc, Some(part.as_bytes()), input, output)
 }
 
 /// Plays words, with a journal of so many entries.
@@ -60,7 +61,9 @@ pub fn run_over<R: Read, W: Write>(
     requires least { 0 < journal }
     requires most { journal ≤ 16777216 }
 {
-    run_cmd(alloc, part.as_bytes(), journal, words, input, output)
+    let asked = Some(part.as_bytes());
+    run_cmd(alloc, asked, journal, false, words, input, output)?;
+    Ok(())
 }
 
 /// Plays words, with a trace that goes out `room` entries at a time.
@@ -77,7 +80,9 @@ pub fn pieces_over<R: Read, W: Write>(
     requires most { journal ≤ 16777216 }
     requires some { 0 < room }
 {
-    run_in_pieces(alloc, part.as_bytes(), journal, room, words, input, output)
+    let asked = Some(part.as_bytes());
+    run_in_pieces(alloc, asked, journal, false, room, words, input, output)?;
+    Ok(())
 }
 
 /// Whether the trace behind the netlist is that of a run.
@@ -87,5 +92,5 @@ pub(crate) fn check_over<R: Read, W: Write>(
     input: &mut R,
     output: &mut W,
 ) -> Result<bool, Fault> {
-    check_cmd(alloc, part.as_bytes(), input, output)
+    Ok(check_cmd(alloc, Some(part.as_bytes()), input, output)?.is_run())
 }

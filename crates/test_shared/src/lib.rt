@@ -1,4 +1,6 @@
 //! Shared nets, their sessions and pools of workers as worked examples. Nothing stands on this crate.
+//!
+//! Ends of workers are compared here alone, since the program says only of sessions that they still wait.
 #![tactic(auto)]
 
 #[cfg(test)]

@@ -1,8 +1,12 @@
-use Rattle.std.proofs.Common.{arith}
-use Rattle.bz_chart.proofs.Charts.{charts_on}
+use Rattle.std.specs.Option.{option_copied}
+use Rattle.bz_cli_trace.proofs.Makes.{no_text, taken_text}
+use Rattle.bz_chart.specs.declared.range.PieceFault.{PieceFault}
+use Rattle.bz_chart.specs.Charting.{ChartsTrace}
 use Rattle.bz_chart.proofs.chart.chart_cmd.Goals as goal
 
-pub returns-clause-charts : goal.returns-clause-charts
-returns-clause-charts g c =
-    let charts = rw c.as_slice.ensures.value at c.chart_text.ensures in
-    charts_on _ c.in-Ok.text.items c.args.part.now c.args.range _ _ _ c.in-Ok.ensures.whole (omega (arith, c.in-Ok.text.ok.0, c.in-Ok.ensures.limit)) charts
+pub returns-in-Ok-clause-charts : goal.returns-in-Ok-clause-charts
+returns-in-Ok-clause-charts g c =
+    taken_text (λ netlist trace. ChartsTrace netlist trace (option_copied c.args.asked) c.args.range _ _ c.chart_texts.result) c.in-Ok.texts _ _ _ _ c.in-Ok.ensures.taken c.chart_texts.ensures
+
+pub returns-in-Err-clause-charts : goal.returns-in-Err-clause-charts
+returns-in-Err-clause-charts g c = rw c.from.ensures (no_text (Unit {0}) PieceFault _ _ _ c.in-Err.fault)

@@ -1,3 +1,4 @@
+use Rattle.std.specs.Option.{option_copied}
 use Rattle.bz_words.specs.Words.{texts}
 use Rattle.bz_cli.specs.Pooling.{Pools}
 use Rattle.bz_cli_program.specs.Endings.{of_done}
@@ -6,4 +7,4 @@ use Rattle.bz_cli_program.proofs.commands.pool.Goals as goal
 
 pub returns-clause-pools : goal.returns-clause-pools
 returns-clause-pools g c =
-    λ workers journal. does of_done _ (λ text answer. Pools text (texts c.args.given.words.now) c.args.given.part.now c.args.given.options.workers c.args.given.options.fuel c.args.given.options.journal _ _ answer) c.pool_cmd-pooled.result _ c.pool_cmd-pooled.ensures.pools c.closed.ensures
+    λ workers journal. does of_done _ (λ text answer. Pools text (texts c.args.given.words.now) (option_copied c.args.given.part) c.args.given.options.workers c.args.given.options.fuel c.args.given.options.journal _ _ answer) c.pool_cmd-pooled.result _ c.pool_cmd-pooled.ensures.pools c.closed.ensures

@@ -1,8 +1,10 @@
+use Rattle.std.specs.Option.{option_copied}
 use Rattle.bz_words.specs.Words.{texts}
 use Rattle.bz_cli_core.specs.Running.{Runs}
-use Rattle.bz_cli_program.proofs.Ended.{is_done}
+use Rattle.bz_cli_program.specs.Endings.{of_run}
+use Rattle.bz_cli_program.proofs.Ended.{does}
 use Rattle.bz_cli_program.proofs.commands.run.Goals as goal
 
 pub returns-clause-runs : goal.returns-clause-runs
 returns-clause-runs g c =
-    λ within lenient. is_done _ (λ text answer. Runs text (texts c.args.given.words.now) c.args.given.part.now c.args.given.options.journal _ _ answer) c.run_cmd.result _ c.run_cmd.ensures.runs c.done.ensures
+    λ within. does of_run _ (λ text answer. Runs text (texts c.args.given.words.now) (option_copied c.args.given.part) c.args.given.options.journal c.args.given.options.strict _ _ answer) c.run_cmd-played.result _ c.run_cmd-played.ensures.runs c.ended.ensures

@@ -1,9 +1,13 @@
-use Rattle.std.proofs.Common.{arith}
+use Rattle.std.specs.Option.{option_copied}
+use Rattle.bz_cli_trace.proofs.Makes.{no_text, taken_text}
+use Rattle.bz_page.specs.declared.fault.TooLarge.{TooLarge}
 use Rattle.bz_page.specs.Pages.{blank_of}
-use Rattle.bz_page.proofs.Paged.{pages_on}
+use Rattle.bz_page.specs.Paging.{PagesTrace}
 use Rattle.bz_page.proofs.command.page_of_input.Goals as goal
 
-pub returns-clause-pages : goal.returns-clause-pages
-returns-clause-pages g c =
-    let pages = rw c.as_slice.ensures.value at c.page_of_text.ensures in
-    pages_on (blank_of c.args.template) _ c.in-Ok.text.items c.args.part.now _ _ _ c.in-Ok.ensures.whole (omega (arith, c.in-Ok.text.ok.0, c.in-Ok.ensures.limit)) pages
+pub returns-in-Ok-clause-pages : goal.returns-in-Ok-clause-pages
+returns-in-Ok-clause-pages g c =
+    taken_text (λ netlist trace. PagesTrace (blank_of c.args.template) netlist trace (option_copied c.args.asked) _ _ c.page_of_texts.result) c.in-Ok.texts _ _ _ _ c.in-Ok.ensures.taken c.page_of_texts.ensures
+
+pub returns-in-Err-clause-pages : goal.returns-in-Err-clause-pages
+returns-in-Err-clause-pages g c = rw c.from.ensures (no_text (Unit {0}) TooLarge _ _ _ c.in-Err.fault)

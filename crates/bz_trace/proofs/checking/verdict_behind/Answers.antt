@@ -3,14 +3,14 @@ use Rattle.bz_trace.proofs.checking.verdict_behind.Goals as goal
 
 pub returns-in-Some : goal.returns-in-Some
 returns-in-Some c w text f = (
-    too_many c.args.names.now w c.args.net.now c.args.version text c.args.rest.now c.args.followed f c.in-Some.field-0.0 c.in-Some.field-0.1.now c.requires.no_more c.in-Some.ensures,
-    told_here c.args.names.now w c.args.net.now text c.args.rest.now c.args.followed f,
+  too_many c.args.names.now w c.args.net.now c.args.version text c.args.rest.now c.args.followed f c.in-Some.field-0.0 c.in-Some.field-0.1.now c.requires.no_more c.in-Some.ensures,
+  told_here c.args.names.now w c.args.net.now text c.args.rest.now c.args.followed f,
 )
 
 pub returns-in-Some-other_line : goal.returns-in-Some-other_line
 returns-in-Some-other_line c w text f = (
-    other_behind c.args.names.now w c.args.net.now c.args.version text c.args.rest.now c.args.followed f c.in-Some-other_line.line c.in_default.ensures c.in-Some-other_line.ensures,
-    told_here c.args.names.now w c.args.net.now text c.args.rest.now c.args.followed f,
+  other_behind c.args.names.now w c.args.net.now c.args.version text c.args.rest.now c.args.followed f c.in-Some-other_line.line c.in_default.ensures c.in-Some-other_line.ensures,
+  told_here c.args.names.now w c.args.net.now text c.args.rest.now c.args.followed f,
 )
 
 pub returns-in-Some-stop : goal.returns-in-Some-stop

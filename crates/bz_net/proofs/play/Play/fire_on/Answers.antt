@@ -19,17 +19,21 @@ fire-requires-clause-may c =
     subst (λ (v : Progress). MayMove v.wiring.sites v.state c.args.comp (Some c.in-Some.port)) c.self.view_is c.if-not-has_step.ensures.1.steps_at
 
 pub returns-in_default-clause-none : goal.returns-in_default-clause-none
-returns-in_default-clause-none c =
-    (refl, inr (λ p has.
-        let own = subst (λ (v : Progress). HasStep v.wiring.sites v.state c.args.comp p c.args.chan c.args.mv c.args.value) (sym c.self.view_is) has in
-        no_port p (c.in_default.ensures.sole p c.args.value own.0 own.1)))
+returns-in_default-clause-none c = (
+  refl,
+  inr (λ p has.
+      let own = subst (λ (v : Progress). HasStep v.wiring.sites v.state c.args.comp p c.args.chan c.args.mv c.args.value) (sym c.self.view_is) has in
+      no_port p (c.in_default.ensures.sole p c.args.value own.0 own.1)),
+)
 
 pub returns-then-not-has_step-clause-none : goal.returns-then-not-has_step-clause-none
-returns-then-not-has_step-clause-none c =
-    (refl, inr (λ p has.
-        let own = subst (λ (v : Progress). HasStep v.wiring.sites v.state c.args.comp p c.args.chan c.args.mv c.args.value) (sym c.self.view_is) has in
-        let at = same_port c.in-Some.port p (c.in-Some.ensures.sole p c.args.value own.0 own.1) in
-        c.if-not-has_step.ensures (subst (λ (q : ℕ). HasStep c.self.inside.core.wiring.sites c.self.inside.core.state c.args.comp q c.args.chan c.args.mv c.args.value) at own)))
+returns-then-not-has_step-clause-none c = (
+  refl,
+  inr (λ p has.
+      let own = subst (λ (v : Progress). HasStep v.wiring.sites v.state c.args.comp p c.args.chan c.args.mv c.args.value) (sym c.self.view_is) has in
+      let at = same_port c.in-Some.port p (c.in-Some.ensures.sole p c.args.value own.0 own.1) in
+      c.if-not-has_step.ensures (subst (λ (q : ℕ). HasStep c.self.inside.core.wiring.sites c.self.inside.core.state c.args.comp q c.args.chan c.args.mv c.args.value) at own)),
+)
 
 pub returns-clause-fired : goal.returns-clause-fired
 returns-clause-fired c =
@@ -42,8 +46,8 @@ pub returns-clause-sole : goal.returns-clause-sole
 returns-clause-sole c = λ q other next step.
     let (p, is, firing, sole) = c.fire.ensures.fired in
     let own : Step c.self.inside.core.wiring.sites c.self.inside.core.state c.args.comp q c.args.chan c.args.mv other next =
-        subst (λ (v : Progress). Step v.wiring.sites v.state c.args.comp q c.args.chan c.args.mv other next) (sym c.self.view_is) step in
+    subst (λ (v : Progress). Step v.wiring.sites v.state c.args.comp q c.args.chan c.args.mv other next) (sym c.self.view_is) step in
     let at = same_port c.in-Some.port q (c.in-Some.ensures.sole q other next own) in
     let here = subst (λ (r : ℕ). Step c.args.self.now.wiring.sites c.args.self.now.state c.args.comp r c.args.chan c.args.mv other next) (sym is)
-        (subst (λ (r : ℕ). Step c.args.self.now.wiring.sites c.args.self.now.state c.args.comp r c.args.chan c.args.mv other next) at step) in
+    (subst (λ (r : ℕ). Step c.args.self.now.wiring.sites c.args.self.now.state c.args.comp r c.args.chan c.args.mv other next) at step) in
     sym (sole c.args.chan c.args.mv other next here).1

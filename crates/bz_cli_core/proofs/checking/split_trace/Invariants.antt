@@ -1,6 +1,0 @@
-use Rattle.std.proofs.Common.{ℕ, ◌<◌}
-use Rattle.bz_cli_core.specs.Checking.{IsTraceAt}
-use Rattle.bz_cli_core.proofs.checking.split_trace.Given as goal
-
-abbrev pub invariant-loop-place : goal.invariant-loop-place
-invariant-loop-place l = (k : ℕ) → k < l.place → IsTraceAt l.text k → ⊥

@@ -1,0 +1,3 @@
+pub mod Splits
+pub mod Makes
+pub mod Checks

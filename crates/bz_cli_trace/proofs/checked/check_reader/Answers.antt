@@ -1,0 +1,9 @@
+use Rattle.std.proofs.Common.{sym}
+use Rattle.bz_cli_trace.proofs.Checks.{checked_read}
+use Rattle.bz_cli_trace.proofs.checked.check_reader.Goals as goal
+
+pub returns-in-Ok-check_read-clause-ok : goal.returns-in-Ok-check_read-clause-ok
+returns-in-Ok-check_read-clause-ok g c =
+    let opened = c.in-Ok.ensures in
+    let said = c.in-Ok-check_read.ensures in
+    checked_read _ c.args.netlist.now _ _ c.in-Ok.opened.0.wiring (sym said.wiring) opened.net opened.read said.right said.counted said.leaves

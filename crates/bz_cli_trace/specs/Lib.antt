@@ -1,0 +1,5 @@
+pub mod Splitting
+pub mod Texts
+pub mod Taking
+pub mod Making
+pub mod Checking

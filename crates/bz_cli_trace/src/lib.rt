@@ -1,0 +1,18 @@
+//! What a command on a trace begins with: a netlist and a trace, the net of which the trace is a run, or why there is none; and
+//! the command `check`.
+#![tactic(auto)]
+
+mod checked;
+mod checking;
+mod fault;
+mod held;
+mod run;
+mod splitting;
+mod texts;
+
+pub use checked::{Checked, check_trace};
+pub use checking::{check_cmd, check_trace_cmd};
+pub use fault::TraceFault;
+pub use run::run_of;
+pub use splitting::split_trace;
+pub use texts::Texts;
