@@ -296,7 +296,7 @@ fn place_of(line: Option<u64>) -> Option<usize>
 }
 
 // The status of what is made of a trace. Why nothing is goes to `errors`, but for a fault that other commands have too.
-fn made<C: Display, E: Write>(made: Result<(), TraceFault<C>>, errors: &mut E) -> Result<u8, Fault>
+fn made<C: Display + Drop, E: Write>(made: Result<(), TraceFault<C>>, errors: &mut E) -> Result<u8, Fault>
     ensures { result ≡ of_made made }
 {
     match made {

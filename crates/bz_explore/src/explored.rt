@@ -68,8 +68,9 @@ impl Ending {
     }
 }
 
-/// Opens the net of a part of the netlist that a reader gives, and follows the lines of another, each with its answer. At a
-/// prompt a greeting and prompts are written too, else a line that can't be followed is told by its number.
+/// Opens the net of the part that is asked for by name, or else of the only one that no other uses, in the netlist that a reader
+/// gives, and follows the lines of another, each with its answer. At a prompt a greeting and prompts are written too, else a line
+/// that can't be followed is told by its number.
 pub fn explore_cmd<R: Read, L: BufRead, W: Write, S: Shelf>(
     alloc: Global,
     asked: Option<&[u8]>,

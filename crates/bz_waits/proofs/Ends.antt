@@ -6,7 +6,8 @@ use Rattle.bz_model.specs.Nets.{Site, State}
 use Rattle.bz_net.specs.Ends.{StandsAt, TellsEnds}
 use Rattle.bz_waits.specs.declared.wait.Place.{Place}
 use Rattle.bz_waits.specs.declared.wait.Place.TheVariants.{Each, First, Other}
-use Rattle.bz_waits.specs.Waiting.{IsAtEnd, IsPlace, next_place}
+use Rattle.bz_waits.specs.Adding.{next_place}
+use Rattle.bz_waits.specs.Waiting.{IsAtEnd, IsPlace}
 
 active_told : (sites : List Site) (k : ℕ) (ends : List (Option ℕ)) → TellsEnds sites k ends → StandsAt sites k false (get_or ends 0 None)
 active_told sites k [] told = absurd told

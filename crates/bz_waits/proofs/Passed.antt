@@ -7,7 +7,8 @@ use Rattle.bz_model.specs.declared.channel.Move.TheVariants.{Got}
 use Rattle.bz_model.specs.declared.channel.Phase.TheVariants.{Taken}
 use Rattle.bz_model.specs.Nets.{Site, State, IsPort, chan_at, passive_at, phase_at, site_at}
 use Rattle.bz_net.specs.Due.{IsSoleDue, TellsDue}
-use Rattle.bz_waits.specs.Waiting.{IsDue, IsDueTwice, IsFirstPast, IsIdle, IsStuck, Owes}
+use Rattle.bz_waits.specs.Adding.{IsFirstPast}
+use Rattle.bz_waits.specs.Waiting.{IsDue, IsDueTwice, IsIdle, IsStuck, Owes}
 
 -- P of none past n up to m
 pub record NonePast (P : ℕ → Type 0) (n m : ℕ) : Type 0 where

@@ -1,5 +1,5 @@
 -- Who waits for whom in a state of a net: components that can't move, and what has to come first.
-use Rattle.std.specs.Prelude.{◌≡◌, ◌⊎◌, ℕ, ◌<◌, ⊤, Bool, true, not, Option, List, Contains, MatchOption}
+use Rattle.std.specs.Prelude.{◌≡◌, ◌⊎◌, ℕ, ◌<◌, ⊤, Bool, true, not, List, Contains}
 use Rattle.std.specs.List.{All}
 use Rattle.bz_model.specs.declared.channel.Move.{Move}
 use Rattle.bz_model.specs.declared.channel.Move.TheVariants.{Ask, Take, Reply, Got}
@@ -28,9 +28,9 @@ IsDue sites s c mv p = IsPort sites c p × HasMove (proc_at s c) p mv
 abbrev pub IsDueTwice : List Site → State → ℕ → Move → Type 0
 IsDueTwice sites s c mv = (p q : ℕ) × (p < q) × IsDue sites s c mv p × IsDue sites s c mv q
 
--- the first number past n of which P holds
-abbrev pub IsFirstPast : (ℕ → Type 0) → ℕ → Option ℕ → Type 0
-IsFirstPast P n first = MatchOption first ((p : ℕ) → n < p → P p → ⊥) (λ p. (n < p) × P p × ((q : ℕ) → n < q → q < p → P q → ⊥))
+-- it waits for no reply
+abbrev pub GetsNone : List Site → State → ℕ → Type 0
+GetsNone sites s c = (p : ℕ) → IsDue sites s c Got p → ⊥
 
 -- component c has taken the request on channel k, and has not replied to it
 abbrev pub Owes : List Site → State → ℕ → ℕ → Type 0
@@ -39,7 +39,7 @@ Owes sites s c k = ((p : ℕ) × IsEnd sites k true c p) × (phase_at s k ≡ Ta
 -- it can't move, waits for no reply and owes none
 pub record IsIdle (sites : List Site) (s : State) (c : ℕ) : Type 0 where
   pub stuck : IsStuck sites s c
-  pub gets : (p : ℕ) → IsDue sites s c Got p → ⊥
+  pub gets : GetsNone sites s c
   pub owes : (k : ℕ) → Owes sites s c k → ⊥
 
 -- What component c waits for where this move is due: for a reply, and where it owes a reply itself for a request.
@@ -70,6 +70,7 @@ IsWhom sites s other Busy = (0 < other) × (IsIdle sites s other → ⊥)
 abbrev pub Chooses : List Site → State → ℕ → Move → Type 0
 Chooses sites s c due = (due ≡ Take) × ((site_at sites c).kind ≡ DecisionWait) × IsDueTwice sites s c Take
 
+-- how this goes with what else the component waits for
 abbrev pub IsPlace : List Site → State → ℕ → Move → Place → Type 0
 IsPlace sites s c due Each = Chooses sites s c due → ⊥
 IsPlace sites s c due First = Chooses sites s c due
@@ -78,12 +79,6 @@ IsPlace sites s c due Other = Chooses sites s c due
 -- it has to come in any case, and from a component that is not idle
 abbrev pub IsLink : Wait → Type 0
 IsLink w = (w.whom ≡ Busy) × (w.place ≡ Each)
-
--- the place of the next port at which the same component waits
-abbrev pub next_place : Place → Place
-next_place Each = Each
-next_place First = Other
-next_place Other = Other
 
 -- a component waits at a port for the other end of its channel
 pub record WaitsAtPort (sites : List Site) (s : State) (w : Wait) : Type 0 where
@@ -97,9 +92,9 @@ pub record WaitsAtPort (sites : List Site) (s : State) (w : Wait) : Type 0 where
   pub first : w.mv ≡ first_move due (phase_at s w.chan)
   pub place : IsPlace sites s w.comp due w.place
 
--- a component has halted and owes a reply: nothing will move it
+-- a component has halted: no move is due at any of its ports for which it could wait, and it owes a reply
 pub record HasHalted (sites : List Site) (s : State) (w : Wait) : Type 0 where
-  pub gets : (p : ℕ) → IsDue sites s w.comp Got p → ⊥
+  pub gets : GetsNone sites s w.comp
   pub takes : (p : ℕ) → IsDue sites s w.comp Take p → ⊥
   pub owes : Owes sites s w.comp w.chan
   pub other : w.other ≡ 0
@@ -118,14 +113,11 @@ WaitsOn waits c k = (w : Wait) × Contains waits w × (w.comp ≡ c) × (w.chan 
 abbrev pub HasWait : List Wait → ℕ → Type 0
 HasWait waits c = (k : ℕ) × WaitsOn waits c k
 
--- Each is a wait. Each reply is told that a component waits for which can't move, and each such component that owes a reply.
+-- Each of these is a wait. Of a component that can't move there is one for each reply that it waits for. Where it owes a reply
+-- itself there is one at least, and where it waits for no reply then, one for each request that it waits for.
 pub record AreWaits (sites : List Site) (s : State) (waits : List Wait) : Type 0 where
   pub each : All (IsWait sites s) waits
   pub gets : (c p : ℕ) → IsStuck sites s c → IsDue sites s c Got p → WaitsOn waits c (chan_at sites c p)
   pub owes : (c k : ℕ) → IsStuck sites s c → Owes sites s c k → HasWait waits c
-
--- the same of the components before c
-pub record WaitsBefore (sites : List Site) (s : State) (c : ℕ) (waits : List Wait) : Type 0 where
-  pub each : All (IsWait sites s) waits
-  pub gets : (d p : ℕ) → d < c → IsStuck sites s d → IsDue sites s d Got p → WaitsOn waits d (chan_at sites d p)
-  pub owes : (d k : ℕ) → d < c → IsStuck sites s d → Owes sites s d k → HasWait waits d
+  pub takes : (c p k : ℕ) → IsStuck sites s c → GetsNone sites s c → Owes sites s c k → IsDue sites s c Take p
+      → WaitsOn waits c (chan_at sites c p)

@@ -1,7 +1,8 @@
 //! What is due at the ports of a component, and what it owes.
 
 ghost use Rattle.std.specs.Prelude.{◌≡◌, ◌<◌, ◌≤◌, ℕ, length, MatchBool, MatchOption};
-ghost use Rattle.bz_waits.specs.Waiting.{Chooses, IsDue, IsDueTwice, IsFirstPast, IsIdle, Owes};
+ghost use Rattle.bz_waits.specs.Adding.{IsFirstPast};
+ghost use Rattle.bz_waits.specs.Waiting.{Chooses, IsDue, IsDueTwice, IsIdle, Owes};
 
 use crate::sites::{chan_at, is_passive_at, port_count, site};
 use bz_model::{Kind, Move, Phase};

@@ -2,9 +2,9 @@
 
 ghost use Rattle.std.specs.Prelude.{◌≡◌, ◌<◌, ◌≤◌, ◌+◌, length, IfOk};
 ghost use Rattle.std.specs.List.{All};
-ghost use Rattle.bz_waits.specs.Adding.{AddsAll};
+ghost use Rattle.bz_waits.specs.Adding.{AddsAll, WaitsBefore};
 ghost use Rattle.bz_waits.specs.Cycles.{AreCycles};
-ghost use Rattle.bz_waits.specs.Waiting.{AreWaits, IsAwaited, IsPlace, IsStuck, IsWait, WaitsBefore};
+ghost use Rattle.bz_waits.specs.Waiting.{AreWaits, IsAwaited, IsPlace, IsStuck, IsWait};
 
 use crate::cycles::cycles;
 use crate::due::{chooses, is_due, next_due, owed_chan};

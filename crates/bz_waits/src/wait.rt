@@ -2,7 +2,8 @@
 
 ghost use Rattle.std.specs.Prelude.{◌≡◌, ◌≤◌, length, MatchOption};
 ghost use Rattle.bz_model.specs.Nets.{chan_at};
-ghost use Rattle.bz_waits.specs.Waiting.{IsAwaited, IsDue, IsLink, IsPlace, IsStuck, IsWait, IsWhom, first_move, next_place};
+ghost use Rattle.bz_waits.specs.Adding.{next_place};
+ghost use Rattle.bz_waits.specs.Waiting.{IsAwaited, IsDue, IsLink, IsPlace, IsStuck, IsWait, IsWhom, first_move};
 
 use crate::due::is_idle;
 use crate::sites::{chan_at, other_end};

@@ -1,8 +1,8 @@
 use Rattle.std.proofs.Common.{◌+◌, sym, ap, subst, ◌∙◌}
 use Rattle.bz_waits.specs.declared.wait.Wait.{Wait}
 use Rattle.bz_model.specs.declared.channel.Move.TheVariants.{Got, Take}
-use Rattle.bz_waits.specs.Adding.{AddsAll}
-use Rattle.bz_waits.specs.Waiting.{IsDue, IsWait, WaitsBefore}
+use Rattle.bz_waits.specs.Adding.{AddsAll, WaitsBefore}
+use Rattle.bz_waits.specs.Waiting.{IsDue, IsWait}
 use Rattle.bz_waits.proofs.Ends.{if_ok}
 use Rattle.bz_waits.proofs.Gathered.{before_gets, before_halted, before_idle, before_ready, before_takes, halted_wait}
 use Rattle.bz_waits.proofs.Passed.{none_found, some_found}
@@ -41,4 +41,4 @@ returns c =
     let takes = none_found (IsDue n.wiring.sites n.state c.args.comp Take) c.next_due-2.result c.next_due-2.ensures (sym c.is_some-2.ensures ∙ c.if-is_some-2.false) (λ p due. due.0.port_from) in
     let wait = halted_wait n.wiring.sites n.state c.args.comp c.in-Some.chan c.if-is_ready.ensures gets takes c.in-Some.ensures in
     rw c.in_ok-push.ensures.items
-    (before_halted n.wiring.sites n.state c.args.comp old c.requires.before c.halted.result (subst (IsWait n.wiring.sites n.state) (sym c.halted.ensures) wait) (ap (λ (w : Wait). w.comp) c.halted.ensures) gets)
+    (before_halted n.wiring.sites n.state c.args.comp old c.requires.before c.halted.result (subst (IsWait n.wiring.sites n.state) (sym c.halted.ensures) wait) (ap (λ (w : Wait). w.comp) c.halted.ensures) gets takes)

@@ -1,5 +1,5 @@
 use Rattle.std.proofs.Common.{◌+◌}
-use Rattle.bz_waits.specs.Waiting.{WaitsBefore}
+use Rattle.bz_waits.specs.Adding.{WaitsBefore}
 use Rattle.bz_waits.proofs.graph.waits_of.Given as goal
 
 abbrev pub invariant-loop-place : goal.invariant-loop-place
