@@ -119,12 +119,7 @@ pub fn has_chan(play: &Play, chan: u32) -> bool {
 
 /// The port of a move in a net that keeps no journal.
 pub fn port_of_move(play: &Play, comp: u32, chan: u32, mv: Move) -> Option<u32> {
-    play.port_at(comp, chan, mv)
-}
-
-/// A firing of a net that keeps no journal.
-pub fn move_at(play: &mut Play, comp: u32, port: u32) -> Result<Entry, NetError> {
-    play.fire_move(WORKER, comp, port)
+    play.core().port_at(comp, chan, mv)
 }
 
 /// Whether a net that keeps no journal rests.

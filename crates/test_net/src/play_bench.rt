@@ -6,9 +6,7 @@ use bz_net::Play;
 use std::alloc::Global;
 use std::process::Abort;
 use std::test::Fail;
-use test_kit::calls::{
-    ask_rest, command, has_chan, has_clashes, host_at, move_at, port_of_move, run_into,
-};
+use test_kit::calls::{ask_rest, command, has_chan, has_clashes, host_at, port_of_move, run_into};
 use test_kit::play_of;
 
 /// A net without a journal, and the buffer for its firings.
@@ -43,7 +41,7 @@ impl Bench for PlayBench {
             "buffer" => entries_text(alloc, self.buffer.as_slice()),
             "run" => run(alloc, &mut self.play, &mut self.buffer, words),
             "host" => host(alloc, &mut self.play, words),
-            "host-at" | "move" | "rest" => make(alloc, &mut self.play, name, words),
+            "host-at" | "rest" => make(alloc, &mut self.play, name, words),
             _ => look(alloc, &self.play, name, words),
         }
     }
@@ -74,7 +72,6 @@ fn made(alloc: Global, made: Result<Entry, NetError>) -> Result<String, Fail> {
 // A call that may change the play.
 fn make(alloc: Global, play: &mut Play, name: &str, words: &mut Words<'_>) -> Result<String, Fail> {
     match name {
-        "move" => made(alloc, move_at(play, words.number(), words.number())),
         "rest" => show(alloc, &ask_rest(play)),
         _ => show(
             alloc,

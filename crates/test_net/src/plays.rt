@@ -58,11 +58,11 @@ host-at offer 1 | Ok(Done)
 rest | Ok(Ready(2))
 port-at 2 1 take | Some(1)
 port-at 2 1 ask | None
-move 2 2 | N6 NotEnabled
-move 2 1 | 2.1 take 1
-move 2 2 | 2.2 ask 4
-move 3 1 | N7 JournalFull
-move 3 2 | N6 NotEnabled
+room 9 | room
+run 2 1 | Spent(1), next 3
+run 2 1 | Spent(1), next 3
+buffer | 2.1 take 1, 2.2 ask 4
+run 3 1 | Refused(0, JournalFull), next 3
 rest | Ok(Ready(3))
 host-at watch 1 | Err(JournalFull)
 ";
