@@ -1,4 +1,7 @@
 //! Files in which traces and sessions are kept.
+//!
+//! A file is made anew, so that no other program's file can come between the look and the writing. With `!` it is opened
+//! first, compared with the netlist by device and number, and only then emptied.
 
 use bz_explore::{NoFile, Shelf};
 use std::fs;

@@ -1,4 +1,7 @@
 //! The command `chart`: lines of a trace, drawn.
+//!
+//! The survey, for the heads, is made once the trace is known for a run: nobody else pays for it. Out of memory is the only
+//! fault that can come of it. A drawing is made whole before any of it goes out.
 
 ghost use Rattle.std.specs.Prelude.{◌≡◌, ◌≤◌, length, IfSome, OnOk, OnErr};
 ghost use Rattle.std.specs.Option.{option_copied};

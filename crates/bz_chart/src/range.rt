@@ -1,4 +1,8 @@
 //! Which lines of a trace are asked for.
+//!
+//! Line 1 has no row, so a `--from` below 2 means line 2, and where `--to` names a line before it the error is `--from 2 is
+//! above --to 1`. A trace of no further line is drawn without rows, where no first line is asked for. A range of more than
+//! 2,000 lines is too long also where both ends are given.
 
 ghost use Rattle.std.specs.Prelude.{◌<◌, ◌^◌, IfOk, IfErr};
 ghost use Rattle.bz_chart.specs.Pieces.{IsNoPiece, IsPiece};

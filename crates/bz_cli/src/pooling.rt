@@ -1,4 +1,9 @@
 //! The command `pool`: sessions of host words played beside workers on a part of a netlist, and the trace of it.
+//!
+//! The first end that is a refusal is reported, sessions before workers, after the trace of all. Before the close nothing is
+//! written: after a refusal of `run_pool` there is no net to write of. A worker's end names word 0, by which `main` knows it
+//! from a session's. An end that would name a bad word can't come, since words are read before they are played; it is
+//! reported as out of memory.
 
 ghost use Rattle.std.specs.Prelude.{◌≡◌, ◌≤◌, ◌<◌, ◌+◌, length, map, vec_len, IfOk, IfErr, IfSome, IfNone};
 ghost use Rattle.std.specs.List.{All};

@@ -1,4 +1,7 @@
 //! Words played on a net, and their entries on the way to the writer.
+//!
+//! A writer that fails does not end a play: nothing more is written, and the words are played to their end, which the limit
+//! bounds. So what went out is a front of the trace of the whole play.
 
 ghost use Rattle.std.specs.Prelude.{◌≡◌, ◌≢◌, ◌≤◌, ◌<◌, [], None, if◌then◌else◌, vec_capacity, IfOk, IfErr};
 ghost use Rattle.bz_model.specs.declared.event.Cmd.TheVariants as word;

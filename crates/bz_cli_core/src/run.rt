@@ -1,4 +1,11 @@
 //! The command `run`: words played on a part of a netlist, and the trace of it.
+//!
+//! `run` keeps no journal. Its buffer is reserved before the net is opened, and from the opening on it takes no memory: so F3
+//! comes with nothing written. The limit of `--journal` counts the entries that were played, whether they went out or not.
+//!
+//! How many entries of host commands go out at a time is a parameter of `run_in_pieces`, so that tests can have pieces of one
+//! entry. A run's entries wait in no buffer: an entry of 112 bytes takes as long to keep and to read again as its line takes
+//! to compose.
 
 ghost use Rattle.std.specs.Prelude.{◌≡◌, ◌≢◌, ◌<◌, ◌≤◌, [], map, vec_capacity, IfOk, IfErr, IfSome, OnOk, OnErr};
 ghost use Rattle.std.specs.Io.KnownBytes.{Appends};

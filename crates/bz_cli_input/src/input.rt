@@ -1,4 +1,6 @@
 //! The program's input, up to its limit.
+//!
+//! An interrupted read counts as a failure, and so does an interrupted write.
 
 ghost use Rattle.std.specs.Prelude.{◌≡◌, ◌≤◌, vec_len, IfOk, IfSome, OnOk};
 ghost use Rattle.std.specs.Io.KnownBytes.{IsAtEnd};

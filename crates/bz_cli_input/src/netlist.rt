@@ -1,4 +1,7 @@
 //! From a text to the net of one of its parts. The text is read once.
+//!
+//! The text goes once its parts are read, as its nodes do: the net is made with the records alone beside it. A command that
+//! goes on reading after the netlist keeps its text.
 
 ghost use Rattle.std.specs.Prelude.{◌≡◌, IfOk, IfErr};
 ghost use Rattle.std.specs.Option.{option_copied};

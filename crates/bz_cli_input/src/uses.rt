@@ -1,4 +1,6 @@
 //! Which parts of a netlist have instances in others.
+//!
+//! A part that uses itself alone is on top, and is refused for that (E2); `parts` doesn't mark it `top`.
 
 ghost use Rattle.std.specs.Prelude.{◌≡◌, ◌<◌, IfOk, false, length, replicate};
 ghost use Rattle.bz_cli_input.specs.Marking.{Marks};

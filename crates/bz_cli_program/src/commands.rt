@@ -1,4 +1,7 @@
 //! What each command does. The status with which the program ends, or the fault that it tells.
+//!
+//! A trace with a file of its own is not kept for notes, since it may be long: the file is opened and read again, where it is
+//! a file and no pipe.
 
 ghost use Rattle.std.specs.Prelude.{◌≡◌, ◌≤◌, ◌<◌, ⊤, false, true, IfSome, MatchOption};
 ghost use Rattle.std.specs.Option.{option_copied};
@@ -296,7 +299,10 @@ fn place_of(line: Option<u64>) -> Option<usize>
 }
 
 // The status of what is made of a trace. Why nothing is goes to `errors`, but for a fault that other commands have too.
-fn made<C: Display + Drop, E: Write>(made: Result<(), TraceFault<C>>, errors: &mut E) -> Result<u8, Fault>
+fn made<C: Display + Drop, E: Write>(
+    made: Result<(), TraceFault<C>>,
+    errors: &mut E,
+) -> Result<u8, Fault>
     ensures { result ≡ of_made made }
 {
     match made {

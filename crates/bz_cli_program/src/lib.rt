@@ -1,5 +1,8 @@
 //! What the program does for each command but `explore`, over any reader and writers; and what comes before: files, and the name
 //! of the part.
+//!
+//! A file that can't be opened is an `error:` line with status 2 before anything else is read or written: a mistake of the
+//! command line.
 #![tactic(auto)]
 
 mod commands;

@@ -1,4 +1,7 @@
 //! The command `list --paths`.
+//!
+//! The line of an instance has no source, though its record may have one. An instance whose copy brings nothing has no line:
+//! a tree of parts that hold nothing but instances would be a long walk.
 
 ghost use Rattle.std.specs.Prelude.{◌≡◌, ◌≤◌, OnOk, OnErr, IfSome, length};
 ghost use Rattle.std.specs.Option.{option_copied};

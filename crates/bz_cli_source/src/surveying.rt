@@ -1,4 +1,7 @@
 //! From a netlist to the net of a part, and to where everything in it stands. The text is read once.
+//!
+//! `net_of` leaves the places for later (`Source::survey`): those of a tree of instances may cost several times what its net
+//! does, and who checks a trace first may not want them.
 
 ghost use Rattle.std.specs.Prelude.{IfOk, IfErr};
 ghost use Rattle.std.specs.Option.{option_copied};

@@ -1,4 +1,7 @@
 //! A netlist with a trace after it.
+//!
+//! The line that begins the trace is looked for by bytes alone, also within comments and texts of the netlist. As the last
+//! line of all, without its LF, it begins a trace too, which is bad at line 1.
 
 ghost use Rattle.std.specs.Prelude.{◌<◌, MatchBool, length};
 ghost use Rattle.bz_cli_trace.specs.Splitting.{BeginsLine, BeginsTrace, BeginsWith, EndsLine, IsTraceAt, Splits};

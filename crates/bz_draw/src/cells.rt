@@ -1,4 +1,8 @@
 //! The cells of a component's box, at which edges end.
+//!
+//! A side of a box has its ports' names only where it has several: of one alone the kind says it already, and boxes are a
+//! third narrower. With more than 16 ports the single ones too are cells under their names, with the channel's number at the
+//! far end.
 
 use bz_flat::FlatComp;
 use bz_kind_rows::{PortAt, port_at, port_table};

@@ -1,4 +1,7 @@
 //! What is drawn of a net.
+//!
+//! What is drawn is a value, whose edges and nodes are in contracts; how it is written in DOT is tested against files. A
+//! drawing is made whole before any of it goes out, so nothing is written where memory is refused.
 
 ghost use Rattle.std.specs.Prelude.{◌≡◌, ◌+◌, ◌<◌, ◌≤◌, length, map, is_none, IfOk};
 ghost use Rattle.bz_flat.specs.Wires.{EndsOf, WellWired};

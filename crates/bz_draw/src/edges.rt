@@ -1,4 +1,7 @@
 //! The edges of a drawing.
+//!
+//! Labels are at the active end: between other edges nobody can see to which one they belong. A channel's name is in the
+//! tooltip alone, since most are those of a variable or a port that is beside it.
 
 ghost use Rattle.std.specs.Prelude.{◌≡◌, ◌+◌, ◌<◌, ◌≤◌, ◌^◌, length, map, IfOk};
 ghost use Rattle.bz_model.specs.Names.{external};

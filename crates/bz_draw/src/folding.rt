@@ -1,4 +1,6 @@
 //! Which components of a net are drawn themselves, and which lie in the box of an instance.
+//!
+//! A drawing is cut where it is folded, so a component is within its box, and the box has no ports.
 
 use bz_source::{PathAt, Places};
 use std::alloc::{AllocError, Global};

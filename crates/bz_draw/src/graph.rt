@@ -1,4 +1,7 @@
 //! The text of a graph.
+//!
+//! The ground is transparent, with light boxes, lines of a middle grey, and a blue and a brown of middle lightness, each with
+//! a contrast of 4 and more to white and to black.
 
 ghost use Rattle.std.specs.Prelude.{IfSome};
 ghost use Rattle.bz_draw.specs.Drawing.{IsWhole};

@@ -1,4 +1,7 @@
 //! Which part of a net is drawn.
+//!
+//! No more than 5,000 components and boxes are drawn, also at a depth that was asked for: of more Graphviz makes nothing that
+//! one can look at, and what is near a component can be drawn of any net.
 
 use crate::drawing::Drawing;
 use bz_flat::Pieces;

@@ -1,4 +1,6 @@
 //! Traces that are no runs explain themselves: notes on the line that the verdict names, what was found there and what was due.
+//!
+//! The notes come after the verdict is written, so nothing that they say can change it.
 #![tactic(auto)]
 
 mod beginnings;

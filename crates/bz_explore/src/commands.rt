@@ -1,4 +1,7 @@
 //! Lines as commands.
+//!
+//! `run:N` is no line, since it would begin at component 1 again. A run that fills the journal is answered as far as it went,
+//! and then that the journal is full.
 
 use crate::answer::Answer;
 use crate::piece::Piece;

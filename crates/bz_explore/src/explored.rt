@@ -1,4 +1,8 @@
 //! The command `explore`, over any readers and writers.
+//!
+//! Prompts are written only where standard input and output are both a terminal: else a log would have them, or a pipe.
+//! Ctrl-C ends it there and can't take the line back, since the toolchain's library has no handler of signals and no call
+//! that changes how a terminal is read.
 
 ghost use Rattle.std.specs.Prelude.{◌≡◌};
 ghost use Rattle.bz_cli_input.specs.Reading.{ReadsWithin};

@@ -1,4 +1,8 @@
 //! What is written to files: the trace of a net so far, a page on which it plays, and the commands that stand.
+//!
+//! `session FILE` writes commands and not moves. The picking of `random` is followed along the commands that are kept, and a
+//! `seed` is written where it doesn't go on as it would. A page is made whole before there is a file, so that without memory
+//! the file that was there stays; it has 1,000 cycles and 1,000 waits at most, since a browser makes a line of each.
 
 ghost use Rattle.std.specs.Prelude.{OnOk, OnErr};
 ghost use Rattle.bz_explore.specs.Saving.{SavesSome, SavesTrace};

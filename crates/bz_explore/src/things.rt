@@ -1,4 +1,8 @@
 //! What a word stands for: components by their numbers, and components and channels by their names and places in the source.
+//!
+//! A word that several things have finds all of them and is no error: a variable's name is that of its channels too. A
+//! compiler calls a variable by its bits, as `x[0..7]`, and its channels `x`: so it is found without them too. A place
+//! without a column is a whole line; files are compared whole, as the compiler wrote them.
 
 use crate::answer::{Answer, add};
 use crate::commands::number;

@@ -1,4 +1,9 @@
 //! The command `page`: a page of the run of a net.
+//!
+//! Whether the trace is that of a run is looked at first, and then how large the net is: so `page` refuses what `check`
+//! refuses in `check`'s order, and says that a net is too large only of a run. 100,000 components are the most, since the
+//! text of `list --paths` has some 200 bytes for each, and a browser reads all of it as it opens. A trace has no limit but
+//! that of the input.
 
 ghost use Rattle.std.specs.Prelude.{◌≡◌, IfSome};
 ghost use Rattle.std.specs.Option.{option_copied};

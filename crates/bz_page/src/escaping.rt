@@ -1,4 +1,7 @@
 //! How texts stand in a page, so that none can end its element, and each reads back byte for byte.
+//!
+//! A text is escaped, and not in an encoding of its own: it can be read and searched in the source. `%` is escaped too, so
+//! that no text looks escaped that isn't.
 
 ghost use Rattle.std.specs.Prelude.{◌≡◌, ◌≢◌, ◌<◌, ◌++◌, List, ℕ, length, IfOk, OnErr};
 ghost use Rattle.std.specs.List.{AllByRecursion, AllPass};

@@ -1,4 +1,8 @@
 //! A page of a net and its trace.
+//!
+//! `put_page` takes any trace and a net that is at hand, for who made the trace with it; what `page` checks it doesn't check.
+//! The list and the rows are put together in memory before anything goes out, so nothing is written where memory is refused;
+//! the trace is escaped as it goes out, in stretches between bytes that are.
 
 ghost use Rattle.std.specs.Prelude.{◌≡◌, ◌≤◌, IfOk, OnOk, OnErr, length};
 ghost use Rattle.std.specs.Io.KnownBytes.{Appends};

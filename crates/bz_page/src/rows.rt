@@ -1,4 +1,7 @@
 //! What a page is told beside the list and the trace: the ports of each kind in the net, and what parameters say.
+//!
+//! The rows go by the table of kinds and not by components, so that the page has no table of its own; a kind that the net
+//! hasn't is left out.
 
 ghost use Rattle.std.specs.Prelude.{◌≡◌, ◌≤◌, drop, length, map, IfOk, IfSome};
 ghost use Rattle.std.specs.List.{flat_map};
