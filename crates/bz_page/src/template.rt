@@ -1,6 +1,4 @@
 //! The page without its data, made by `page/make` from the files of `page`.
-//!
-//! Nothing of the part, the files, the version or the time is in the template: so it is a constant, and the clauses name it.
 
 /// What stands before the list.
 pub(crate) const HEAD: &str = r##"<!doctype html>
