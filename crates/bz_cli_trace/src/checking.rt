@@ -9,7 +9,7 @@ ghost use Rattle.bz_cli_input.specs.Reading.{ReadsWithin};
 ghost use Rattle.bz_cli_input.specs.Stopping.{AppendsSome, IsOfInput, StopsAtInput};
 ghost use Rattle.bz_cli_trace.specs.Checking.{Checks, ChecksApart, ChecksTrace, TellsVerdict, is_run, run_text, verdict_text};
 
-use crate::checked::{Checked, check_trace, check_reader};
+use crate::checked::{Checked, check_reader, check_trace};
 use crate::texts::Texts;
 use bz_cli_input::{Fault, read_input};
 use bz_model::Value;
@@ -18,8 +18,8 @@ use bz_trace::{Counts, Verdict};
 use std::alloc::Global;
 use std::io::{Read, Write};
 
-/// Checks the trace after the netlist that the reader gives, and writes the verdict: the net that was checked. A netlist that is
-/// refused is told before the trace is looked at, and nothing is written.
+/// Checks the trace after the netlist that the reader gives, writes the verdict, and answers the net that was checked. A netlist
+/// that is refused is reported before the trace is looked at, and nothing is written.
 pub fn check_cmd<R: Read, W: Write>(
     alloc: Global,
     asked: Option<&[u8]>,

@@ -53,7 +53,11 @@ pub(crate) fn explain_firing(draft: &mut Draft, scene: &Scene<'_>, firing: Firin
     draft.put("\nfound: ", &[]);
     match misfire {
         Misfire::NoComp => {
-            let comps = Count(scene.net.core().comp_count() as usize, "component", "components");
+            let comps = Count(
+                scene.net.core().comp_count() as usize,
+                "component",
+                "components",
+            );
             put_number(draft, "component", comp, comps);
         }
         Misfire::NoChan => {

@@ -127,10 +127,7 @@ fn run_net(
 }
 
 // A net in its pieces, where everything in it stands, and the name of its part, unless it is too large for a page.
-fn place(
-    alloc: Global,
-    checked: Checked,
-) -> Result<(Pieces, Survey, Vec<u8>), TraceFault<TooLarge>>
+fn place(alloc: Global, checked: Checked) -> Result<(Pieces, Survey, Vec<u8>), TraceFault<TooLarge>>
     ensures { Places checked result }
 {
     let (flat, source, part) = match checked.into_flat(alloc) {
