@@ -1,13 +1,12 @@
 //! The command `check`: whether a trace is that of a run of a part's net.
 
-ghost use Rattle.std.specs.Prelude.{◌≡◌, ◌≢◌, ◌⊎◌, ◌++◌, OnOk, OnErr, IfErr, IfOk, IfSome, codes, decimal};
+ghost use Rattle.std.specs.Prelude.{◌⊎◌, ◌++◌, OnOk, OnErr, IfSome, codes, decimal};
 ghost use Rattle.std.specs.Option.{option_copied};
 ghost use Rattle.std.specs.Io.KnownBytes.{Appends};
 ghost use Rattle.bz_text.specs.Writing.{Writes};
-ghost use Rattle.bz_cli_input.specs.Opening.{RefusesNet};
 ghost use Rattle.bz_cli_input.specs.Reading.{ReadsWithin};
-ghost use Rattle.bz_cli_input.specs.Stopping.{AppendsSome, IsOfInput, StopsAtInput};
-ghost use Rattle.bz_cli_trace.specs.Checking.{Checks, ChecksApart, ChecksTrace, TellsVerdict, is_run, run_text, verdict_text};
+ghost use Rattle.bz_cli_input.specs.Stopping.{AppendsSome, StopsAtInput};
+ghost use Rattle.bz_cli_trace.specs.Checking.{Checks, ChecksApart, ChecksTrace, TellsVerdict, run_text, verdict_text};
 
 use crate::checked::{Checked, check_reader, check_trace};
 use crate::texts::Texts;
