@@ -1,4 +1,4 @@
-pub mod Played
+pub mod Words
 pub mod Spelt
 pub mod Outcomes
 pub mod Pieces

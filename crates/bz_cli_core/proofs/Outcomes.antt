@@ -1,5 +1,5 @@
 -- What went out of a play, from what was played and what was written.
-use Rattle.std.proofs.Common.{◌≡◌, ◌≢◌, ◌≤◌, ℕ, Bool, Option, None, Some, Result, Ok, Err, List, length, map, inr, refl, subst}
+use Rattle.std.proofs.Common.{◌≡◌, ◌≢◌, ◌≤◌, ℕ, Bool, Option, None, Some, Result, Err, List, length, map, inr, refl, subst}
 use Rattle.std.specs.Prelude.{IfSome}
 use Rattle.std.specs.Io.KnownBytes.{Appends, Keeps}
 use Rattle.bz_model.specs.declared.event.NetError.{NetError}

@@ -29,7 +29,7 @@ use Rattle.bz_cli_core.specs.declared.playing.End.TheVariants as end
 use Rattle.bz_cli_core.specs.Running.{GoesOn, IsPlayed, NoneRefused, WritesTrace}
 use Rattle.bz_cli_input.specs.Stopping.{AppendsSome}
 use Rattle.bz_cli_core.specs.Sending.{GoesOut, IsSent, PlaysOut, PutsOut, SentUp}
-use Rattle.bz_cli_core.proofs.Played.{cut_at, longer, none_both, plays_on, stops_there}
+use Rattle.bz_cli_core.proofs.Words.{cut_at, longer, none_both, plays_on, stops_there}
 use Rattle.bz_cli_input.proofs.Written.{all_of}
 
 -- all of a text went out, whatever a flush answered
@@ -193,7 +193,7 @@ words_all old new a c before after strict cmds i all words =
       told = words.told;
       sent = λ start sent. subst (λ (w : Wiring). IsSent w.ports start words.entries c after) (sym wiring) (words.sent start (subst (λ (w : Wiring). IsSent w.ports start [] a before) wiring sent));
       wiring = wiring;
-      left = words.playing.limit;
+      left = let limit = words.playing.limit in omega (arith, limit);
     }
 
 -- what was played, the text that goes out of it, and the net that it leads to

@@ -1,4 +1,4 @@
-use Rattle.std.proofs.Common.{◌≡◌, ℕ, Option, List, [], ◌∷◌, ◌++◌, refl, sym, ap, subst, ◌∙◌, append-nil}
+use Rattle.std.proofs.Common.{◌≡◌, Option, List, [], ◌∷◌, ◌++◌, refl, sym, ap, subst, ◌∙◌, append-nil}
 use Rattle.bz_model.specs.declared.event.Cmd.TheVariants as word
 use Rattle.bz_model.specs.declared.event.Entry.{Entry}
 use Rattle.bz_model.specs.declared.event.Entry.TheVariants.{Host}
@@ -7,8 +7,7 @@ use Rattle.bz_model.specs.declared.event.Who.TheVariants as who
 use Rattle.bz_net.specs.Progress.{Progress, IsToldBy, with_journal}
 use Rattle.bz_cli_core.specs.Playing.{PlaysOne, StopsOne}
 use Rattle.bz_cli_core.specs.Running.{refusal_in}
-use Rattle.bz_cli_core.specs.Sending.{IsSent}
-use Rattle.bz_cli_core.proofs.Played.{host_plays, host_stops}
+use Rattle.bz_cli_core.proofs.Words.{host_plays, host_stops}
 use Rattle.bz_cli_core.proofs.Pieces.{command_wants, sent_with}
 use Rattle.bz_cli_core.proofs.playing.command_out.Goals as goal
 

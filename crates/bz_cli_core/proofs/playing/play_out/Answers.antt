@@ -1,4 +1,4 @@
-use Rattle.std.proofs.Common.{◌<◌, ◌≤◌, ◌∙◌, sym, vec_capacity, arith}
+use Rattle.std.proofs.Common.{◌∙◌, sym, arith}
 use Rattle.bz_cli_core.proofs.Pieces.{word_halts, word_more, word_stops, words_all}
 use Rattle.bz_cli_core.proofs.playing.play_out.Goals as goal
 

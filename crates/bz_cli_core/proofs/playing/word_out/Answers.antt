@@ -1,4 +1,4 @@
-use Rattle.std.proofs.Common.{◌≡◌, ℕ, None, [], sym, subst}
+use Rattle.std.proofs.Common.{None, [], sym, subst}
 use Rattle.std.specs.Prelude.{IfOk, IfErr}
 use Rattle.bz_model.specs.declared.event.Cmd.{Cmd}
 use Rattle.bz_model.specs.declared.event.Who.TheVariants as who
@@ -7,7 +7,7 @@ use Rattle.bz_net.specs.Progress.{with_journal}
 use Rattle.bz_net.specs.Running.{Ran}
 use Rattle.bz_cli_core.specs.Playing.{PlaysOne, StopsOne}
 use Rattle.bz_cli_core.specs.Sending.{GoesOut}
-use Rattle.bz_cli_core.proofs.Played.{fires_all, firing_stops, rests_before}
+use Rattle.bz_cli_core.proofs.Words.{fires_all, firing_stops, rests_before}
 use Rattle.bz_cli_core.proofs.Pieces.{entry_wants, goes_as}
 use Rattle.bz_cli_core.proofs.playing.word_out.Goals as goal
 

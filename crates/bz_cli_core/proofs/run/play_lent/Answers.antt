@@ -1,4 +1,3 @@
-use Rattle.std.proofs.Common.{◌≡◌, None, Some}
 use Rattle.std.proofs.lemmas.Result.{err_from_is_err_and}
 use Rattle.std.specs.Io.KnownBytes.{Appends}
 use Rattle.bz_cli_core.specs.declared.playing.End.TheVariants as end
@@ -36,8 +35,8 @@ returns-in-Halt-clause-plays g c =
     let puts = rw c.names.ensures.value at c.in_ok-finish.ensures in
     written_out play o.new.play begun (g.W.Write.contents o.new.out) c.begin-pending.result o.new.pending c.args.strict c.args.cmds.now (end.Halt halt) p c.clashes.result.now c.clashes.ensures.rising c.clashes.ensures.clashed (Appends old new) (puts old p.entries sent)
 
-pub returns-in-Stop-clause-plays : goal.returns-in-Stop-clause-plays
-returns-in-Stop-clause-plays g c =
+pub returns-clause-plays : goal.returns-clause-plays
+returns-clause-plays g c =
     let play = c.args.play.now in let o = c.play_out-end in let p = c.in-Stop.ensures.plays in let stop = c.in-Stop.stop in
     let old = g.W.Write.contents c.args.output.now in let begun = g.W.Write.contents c.begin-pending.new.out in
     let new = g.W.Write.contents c.finish.new.out in
@@ -46,8 +45,8 @@ returns-in-Stop-clause-plays g c =
     rw c.fault_of.ensures (told play.wiring play.left c.args.strict c.args.cmds.now old new stop.word stop.error
     (written_out play o.new.play begun (g.W.Write.contents o.new.out) c.begin-pending.result o.new.pending c.args.strict c.args.cmds.now (end.Stop stop) p c.clashes.result.now c.clashes.ensures.rising c.clashes.ensures.clashed (Appends old new) (puts old p.entries sent)).0)
 
-pub returns-in-Stop-clause-memory : goal.returns-in-Stop-clause-memory
-returns-in-Stop-clause-memory g c = rw c.fault_of.ensures (fault_wants c.in-Stop.stop.word c.in-Stop.stop.error (c.play_out-end.ensures.memory c.in-Stop.stop c.in-Stop.is))
+pub returns-clause-memory : goal.returns-clause-memory
+returns-clause-memory g c = rw c.fault_of.ensures (fault_wants c.in-Stop.stop.word c.in-Stop.stop.error (c.play_out-end.ensures.memory c.in-Stop.stop c.in-Stop.is))
 
 pub returns-in_err-finish-clause-memory : goal.returns-in_err-finish-clause-memory
 returns-in_err-finish-clause-memory g c =

@@ -1,4 +1,3 @@
-use Rattle.std.proofs.Common.{ℕ, ◌<◌, arith}
 use Rattle.bz_cli_core.proofs.Spelt.{bad_here, spelt_more}
 use Rattle.bz_cli_core.proofs.run.run_words.Goals as goal
 

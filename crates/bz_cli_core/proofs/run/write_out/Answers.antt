@@ -1,3 +1,0 @@
-use Rattle.std.proofs.Common.{Option, List, ℕ}
-use Rattle.bz_cli_input.proofs.Written.{all_of, appends_keeps, some_front}
-use Rattle.bz_cli_core.proofs.run.write_out.Goals as goal
