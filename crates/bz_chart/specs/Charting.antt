@@ -19,7 +19,7 @@ HasPiece range trace = (first rows : ℕ) × IsPiece range (line_count trace) fi
 abbrev pub RefusesPiece : LineRange → List ℕ → Wiring → PieceFault → Type 0
 RefusesPiece range trace w fault = IsNoPiece range (line_count trace) fault
 
--- What comes of the trace of a run: these lines are drawn, or it is told why not. Of memory that was refused nothing is said.
+-- What comes of the trace of a run: these lines are drawn, or the reason why not is answered. Of memory that was refused nothing is said.
 abbrev pub DrawsPiece : {A : Type 0} → LineRange → List ℕ → Result A (TraceFault PieceFault) → Type 0
 DrawsPiece range trace (Ok drawing) = HasPiece range trace
 DrawsPiece range trace (Err (Other fault)) = IsNoPiece range (line_count trace) fault

@@ -67,7 +67,7 @@ pub none_checked : (had : Option (List ℕ)) (netlist : List ℕ) (asked : Optio
 none_checked had netlist asked old f (inl is) = whatever had _ (λ text. inl (is, keeps_same old))
 none_checked had netlist asked old f (inr r) = whatever had _ (λ text. inr (refused netlist text asked old f r))
 
--- a verdict that was told
+-- a verdict that went out
 pub said : (netlist trace : List ℕ) (asked : Option (List ℕ)) (c : Checked) (old new : Option (List ℕ)) → IsChecked netlist trace asked c → TellsVerdict {A = Unit {0}} c.verdict c.counts old new (Ok tt) → ChecksTrace netlist trace asked old new (Ok c)
 said netlist trace asked c old new checked t = record { checked = checked; some = t.0; out = t.1 }
 

@@ -42,7 +42,7 @@ pub record Said (netlist trace : List ℕ) (asked : Option (List ℕ)) (c : Chec
   pub some : c.verdict ≢ verdict.Memory
   pub out : Out (verdict_text c.verdict c.counts)
 
--- A verdict went out; where the writer failed, a front of it. Of a want of memory nothing is told.
+-- A verdict went out; where the writer failed, a front of it. Where memory was refused, nothing did.
 abbrev pub TellsVerdict : {A : Type 0} → Verdict → Counts → Option (List ℕ) → Option (List ℕ) → Result A Fault → Type 0
 TellsVerdict v counts old new (Ok u) = (v ≢ verdict.Memory) × Appends old new (verdict_text v counts)
 TellsVerdict v counts old new (Err Write) = (v ≢ verdict.Memory) × AppendsSome old new (verdict_text v counts)

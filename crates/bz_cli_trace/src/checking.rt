@@ -1,13 +1,12 @@
 //! The command `check`: whether a trace is that of a run of a part's net.
 
-ghost use Rattle.std.specs.Prelude.{◌≡◌, ◌≢◌, ◌⊎◌, ◌++◌, OnOk, OnErr, IfErr, IfOk, IfSome, codes, decimal};
+ghost use Rattle.std.specs.Prelude.{◌⊎◌, ◌++◌, OnOk, OnErr, IfSome, codes, decimal};
 ghost use Rattle.std.specs.Option.{option_copied};
 ghost use Rattle.std.specs.Io.KnownBytes.{Appends};
 ghost use Rattle.bz_text.specs.Writing.{Writes};
-ghost use Rattle.bz_cli_input.specs.Opening.{RefusesNet};
 ghost use Rattle.bz_cli_input.specs.Reading.{ReadsWithin};
-ghost use Rattle.bz_cli_input.specs.Stopping.{AppendsSome, IsOfInput, StopsAtInput};
-ghost use Rattle.bz_cli_trace.specs.Checking.{Checks, ChecksApart, ChecksTrace, TellsVerdict, is_run, run_text, verdict_text};
+ghost use Rattle.bz_cli_input.specs.Stopping.{AppendsSome, StopsAtInput};
+ghost use Rattle.bz_cli_trace.specs.Checking.{Checks, ChecksApart, ChecksTrace, TellsVerdict, run_text, verdict_text};
 
 use crate::checked::{Checked, check_reader, check_trace};
 use crate::texts::Texts;
@@ -18,8 +17,8 @@ use bz_trace::{Counts, Verdict};
 use std::alloc::Global;
 use std::io::{Read, Write};
 
-/// Checks the trace after the netlist that the reader gives, and writes the verdict: the net that was checked. A netlist that is
-/// refused is told before the trace is looked at, and nothing is written.
+/// Checks the trace after the netlist that the reader gives, writes the verdict, and answers the net that was checked. A netlist
+/// that is refused is reported before the trace is looked at, and nothing is written.
 pub fn check_cmd<R: Read, W: Write>(
     alloc: Global,
     asked: Option<&[u8]>,

@@ -4,7 +4,7 @@
 #[derive(Clone, Copy)]
 pub struct Claim<'t> {
     pub netlist: &'t [u8],
-    /// The trace: what its file has, or else what stands behind the netlist from the line that begins a trace on, which is
+    /// The trace: what its file has, or else what stands after the netlist from the line that begins a trace on, which is
     /// nothing where no line does.
     pub trace: &'t [u8],
     /// The name of its file, where it has one of its own.

@@ -11,7 +11,7 @@ use bz_trace::Verdict;
 use std::alloc::Global;
 
 /// The notes of a trace that was checked and is not that of a run: on the line that the verdict names, by the net that refused it.
-/// Of the trace of a run there are none; nor where memory is wanting for all of them.
+/// Of the trace of a run there are none, nor where memory is refused for some of them.
 pub fn explain_trace(alloc: Global, claim: Claim<'_>, checked: Checked) -> Draft {
     let mut draft = Draft::new(alloc);
     if let (Verdict::Bad(_) | Verdict::Not(_), Some(file)) = (checked.verdict, claim.file) {
