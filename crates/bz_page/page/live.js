@@ -56,12 +56,16 @@ async function stop() {
   live.worker.terminate();
   try {
     await startEngine();
-    await openSession();
-    if (live.log.length) await sayPlainly(live.log);
   } finally {
     live.isStopped = false;
     for (const {reject} of waiting) reject(new Error('stopped: nothing of it was played'));
   }
+}
+
+// Plays in a new session what stands, where the last one has ended.
+async function playAgain() {
+  await openSession();
+  if (live.log.length) await ask('say', {lines: saidLines(live.log)});
 }
 
 // Has one thing done at a time, and shows that it is. Answers what that answers, or null where it failed, which is shown.
@@ -74,6 +78,7 @@ async function busily(act) {
     return await act();
   } catch (fault) {
     say(`error: ${fault.message || fault}`);
+    if (live.isOpen) await playAgain().catch(again => say(`error: ${again.message || again}`));
     return null;
   } finally {
     clearTimeout(timer);
@@ -100,7 +105,13 @@ const openSession = () => ask('open', {words: ['explore', ...ofPart(live.part)],
 // Lines as the session takes them: those that move something are played before each later one where the call can't be held.
 const isMoving = line => /^\s*(fire|run|random|seed|undo|offer|accept|answer|collect|watch)\b/.test(line);
 const saidLines = lines => lines.map(line => ({line, isKept: isMoving(line)}));
-const sayPlainly = (lines, wanted = []) => ask('say', {lines: saidLines(lines), wanted});
+
+// Says lines. That the session ended (memory was refused, say) is a fault, with the program's own words.
+async function sayPlainly(lines, wanted = []) {
+  const said = await ask('say', {lines: saidLines(lines), wanted}), last = said.answers.find(it => it.status !== null);
+  if (last) throw new Error(`${last.output}${last.errors}`.trim() || `the session ended with status ${last.status}`);
+  return said;
+}
 
 // Where a text of a page begins and ends, and that text. (Spelled out, the words would end this script.)
 const blockStart = id => `<${'script'} type="text/plain" id="${id}">`, BLOCK_END = `</${'script'}>`;

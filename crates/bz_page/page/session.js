@@ -96,7 +96,7 @@ function noteLine(line, output) {
   if (live.end > before) live.steps.push({line, before});
 }
 
-// The clash lines of the trace, as `state` tells them.
+// The clash lines of the trace, by the numbers that `state` writes.
 function clashesIn(state) {
   const numbers = /^clashes:((?: \d+)+)$/m.exec(state);
   return numbers ? numbers[1].trim().split(' ').map(number => `clash ${number}\n`).join('') : '';
