@@ -19,7 +19,7 @@ from spin import TooLarge
 from playing.program import Program
 from random_netlists import SMALL, Netlist
 
-FEW_STATES = 2500
+FEW_STATES = 600
 
 
 def changed(term, change):
@@ -103,6 +103,8 @@ def fault_of(program, kind, process, netlist, values):
     true, terms.PROCESSES[kind] = terms.PROCESSES[kind], process
     try:
         return compared(program, kind, netlist, "p", values, FEW_STATES)[0]
+    except subprocess.TimeoutExpired as late:
+        raise TooLarge("the walk takes too long") from late
     except (ValueError, subprocess.CalledProcessError) as refused:
         return str(refused)
     finally:
