@@ -48,6 +48,27 @@ breezesim: note: 8 | (breeze-part "spare" (ports (sync-port "go" passive)) (chan
 breezesim: note:   | ^ part spare
 breezesim: note: found: no instance of it in part lost, nor in any part that this one uses
 """
+# Functions with one truth value, with none and with two.
+FLAGS = b"""(breeze-part "flags"
+ (ports (port "r" passive) (port "a" active) (port "b" active))
+ (channels (pull 8) (pull 4) (pull 4) (pull 8) (pull 8) (pull 4))
+ (components
+  (component "$BrzAdapt" (8 8 "true") (1 4))
+  (component "$BrzBinaryFunc" (8 8 4 "Add" "true") (4 5 6))
+  (component "$BrzBinaryFuncConstR" (8 4 3 5 "Add") (5 2))
+  (component "$BrzAdapt" (4 4 "false" "true") (6 3))))
+"""
+UNUSED_FLAGS = b"""-:5:3: W4 UnusedFlag flags 1
+breezesim: note: at line 5, column 3
+breezesim: note: 5 |   (component "$BrzAdapt" (8 8 "true") (1 4))
+breezesim: note:   |   ^ component 1 of part flags
+breezesim: note: found: $BrzAdapt with one truth value, which has no meaning: its signs are those from the second on
+-:6:3: W4 UnusedFlag flags 2
+breezesim: note: at line 6, column 3
+breezesim: note: 6 |   (component "$BrzBinaryFunc" (8 8 4 "Add" "true") (4 5 6))
+breezesim: note:   |   ^ component 2 of part flags
+breezesim: note: found: $BrzBinaryFunc with one truth value, which has no meaning: its signs are those from the second on
+"""
 # A part that reaches itself, with none on top.
 ROUND = b"""(breeze-part "one" (components (component "other" () ())))
 (breeze-part "other" (components (component "one" () ())))
@@ -86,6 +107,7 @@ def add_linted(cases):
     warnings = CHANNEL_2 + CHANNEL_5 + UNREACHED
     cases.gives("lint with warnings", ["lint", "-n", "lost.breeze"], b"", Ran(0, warnings, b""))
     cases.gives("lint -p with warnings", ["lint", "-p", "lost", "-n", "lost.breeze"], b"", Ran(0, UNUSED + warnings, b""))
+    cases.gives("lint of flags", ["lint"], FLAGS, Ran(0, UNUSED_FLAGS, b""))
     for name, words, given, wanted in [
         ("of a circle", ["-n", "round.breeze"], b"", [b"round.breeze:1:1: E2 Recursive one"]),
         ("of 65 instances", ["-n", "deep.breeze"], b"", [b"deep.breeze:1:1: E3 TooDeep"]),

@@ -1,16 +1,47 @@
 //! What is accepted, and likely to be a mistake.
 
+use bz_breeze_records::Component;
 use bz_explain::{Gathered, Marks, marks_of};
 use bz_explain_net::{Head, Netlist};
 use bz_explain_notes::Arg::{self, Bytes, Name};
 use bz_explain_notes::{Draft, Severity};
-use bz_model::Value;
+use bz_kind_rows::{KindName, kind_named};
+use bz_model::{Param, Value};
 use bz_text::{Piece, Text};
 use std::alloc::AllocError;
 
 /// What is found at a component that no request can reach.
 const UNREACHED: &str =
     "found: %, which no request can reach: none that a host makes at a port leads to it";
+
+/// What is found at a function whose only truth value has no meaning.
+const UNUSED_FLAG: &str =
+    "found: % with one truth value, which has no meaning: its signs are those from the second on";
+
+/// What is warned of at a channel or a component.
+#[derive(Clone, Copy)]
+enum Warning {
+    UnusedChannel,
+    Unreached,
+    UnusedFlag,
+}
+
+impl Warning {
+    fn code(self) -> &'static [u8] {
+        match self {
+            Warning::UnusedChannel => b"W2 UnusedChannel ",
+            Warning::Unreached => b"W3 Unreached ",
+            Warning::UnusedFlag => b"W4 UnusedFlag ",
+        }
+    }
+
+    fn head(self) -> Head {
+        match self {
+            Warning::UnusedChannel => Head::Channels,
+            Warning::Unreached | Warning::UnusedFlag => Head::Components,
+        }
+    }
+}
 
 /// Warns of parts, channels and components of a netlist that has no fault. `part` is the one that is meant to be used, where
 /// one is named, and `reached` are the components that can be asked for something.
@@ -59,33 +90,47 @@ fn warn_of_channels(gathered: &mut Gathered<'_>, named: &Marks) -> Result<(), Al
                 ),
             };
             if !named.has(number, position) && gathered.has_room() {
-                warn_of(gathered, Head::Channels, number, position, form, Name(name))?;
+                let warning = Warning::UnusedChannel;
+                warn_of(gathered, warning, number, position, form, Name(name))?;
             }
         }
     }
     Ok(())
 }
 
-// Warns of components that no request can reach.
+// Warns of components that no request can reach, and of truth values without a meaning.
 fn warn_of_components(gathered: &mut Gathered<'_>, reached: &Marks) -> Result<(), AllocError> {
     let parts = gathered.netlist.parts;
     for (number, part) in parts.list().iter().enumerate() {
         for (place, component) in part.components.iter().enumerate() {
             let (position, name) = (place + 1, component.name.as_slice());
-            let is_instance = parts.number(name).is_some();
-            if !is_instance && !reached.has(number, position) && gathered.has_room() {
-                warn_of(
-                    gathered,
-                    Head::Components,
-                    number,
-                    position,
-                    UNREACHED,
-                    Bytes(name),
-                )?;
+            let found = if parts.number(name).is_some() {
+                None
+            } else if !reached.has(number, position) {
+                Some((Warning::Unreached, UNREACHED))
+            } else if has_unused_flag(component) {
+                Some((Warning::UnusedFlag, UNUSED_FLAG))
+            } else {
+                None
+            };
+            if let (Some((warning, form)), true) = (found, gathered.has_room()) {
+                warn_of(gathered, warning, number, position, form, Bytes(name))?;
             }
         }
     }
     Ok(())
+}
+
+// Whether a component has one truth value, and is of a kind whose signs are those from the second on.
+fn has_unused_flag(component: &Component) -> bool {
+    let flags = component.params.iter();
+    let flags = flags.filter(|param| matches!(param, Param::Flag(_)));
+    match kind_named(component.name.as_slice()) {
+        Some(KindName::Adapt | KindName::BinaryFunc | KindName::BinaryFuncConstR) => {
+            flags.count() == 1
+        }
+        _ => false,
+    }
 }
 
 // The channels of each part that its components name.
@@ -102,7 +147,7 @@ fn named_chans(netlist: Netlist<'_>) -> Result<Marks, AllocError> {
 // Warns of a channel or a component of a part, by what a form says of it.
 fn warn_of(
     gathered: &mut Gathered<'_>,
-    sort: Head,
+    warning: Warning,
     number: usize,
     position: usize,
     form: &str,
@@ -110,13 +155,10 @@ fn warn_of(
 ) -> Result<(), AllocError> {
     let netlist = gathered.netlist;
     let mut notes = Draft::on(netlist.alloc, netlist.file);
-    netlist.put_listed(&mut notes, number, sort, position);
+    netlist.put_listed(&mut notes, number, warning.head(), position);
     notes.say(form, &[arg]);
-    let code: &'static [u8] = match sort {
-        Head::Components => b"W3 Unreached ",
-        _ => b"W2 UnusedChannel ",
-    };
-    add(gathered, code, number, Some(position as Value), notes)
+    let place = Some(position as Value);
+    add(gathered, warning.code(), number, place, notes)
 }
 
 // A warning, by its code and name, and what it is about: a part, or a position there.

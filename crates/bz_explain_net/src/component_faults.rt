@@ -128,13 +128,13 @@ impl Site<'_> {
             draft.put_names(&ports);
             draft.say("", &[]);
         } else if let Some(kind) = self.kind(draft) {
-            self.put_lengths(draft);
+            self.put_lengths(draft, &kind);
             put_row(draft, &kind);
         }
     }
 
-    // Tells the numbers of entries, and the lengths of the lists.
-    fn put_lengths(&self, draft: &mut Draft) {
+    // Tells the numbers of entries, the lengths of the lists, and how many sets a text gives.
+    fn put_lengths(&self, draft: &mut Draft, kind: &Kind) {
         let entries = self.component.entries.as_slice();
         let lists = entries
             .iter()
@@ -148,7 +148,22 @@ impl Site<'_> {
                 form = " and %";
             }
         }
+        if let Some(count) = self.set_count(kind) {
+            draft.put("; its text has %", &[Count(count, "set", "sets")]);
+        }
         draft.say("", &[]);
+    }
+
+    // How many sets the text of a Case or a CaseFetch gives.
+    fn set_count(&self, kind: &Kind) -> Option<usize> {
+        match kind {
+            Kind::Case(_) | Kind::CaseFetch(_) => {
+                let text = first_word(self.component.params.as_slice())?;
+                let marks = text.iter().filter(|byte| **byte == b';').count();
+                Some(marks.saturating_add(1))
+            }
+            _ => None,
+        }
     }
 
     // A channel of another kind or width than its port asks for.
