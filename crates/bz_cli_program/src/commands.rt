@@ -71,13 +71,14 @@ pub fn run<R: Read, W: Write, E: Write>(
     ensures bounded { ReadsWithin (R.remaining input.old) (R.remaining input.new) }
 {
     let options = given.options;
-    if options.journal == 0 || options.journal > MAX_JOURNAL {
+    let journal = options.journal;
+    if journal == 0 || journal > MAX_JOURNAL {
         return Ok(BAD_COMMAND_LINE);
     }
     let played = run_cmd(
         alloc,
         given.part,
-        options.journal,
+        journal,
         options.strict,
         given.words,
         input,
