@@ -1,5 +1,7 @@
 //! A note on handshakes that are under way where words ended at rest, and on the cycles of who waits for whom.
 
+ghost use Rattle.std.specs.Prelude.{◌<◌, ◌≤◌, length};
+
 use bz_explain_notes::Arg::{Bytes, Count, Name, Number};
 use bz_explain_notes::{Draft, tell_notes};
 use bz_kind_rows::kind_word;
@@ -35,10 +37,10 @@ fn put_waits(net: &Core, count: usize, draft: &mut Draft) {
         &[Count(count, "handshake", "handshakes")],
     );
     let mut told = 0usize;
-    for chan in 1..=net.chan_count() {
-        if net.phase(chan) != Phase::Idle && told < MOST_TOLD {
+    for place in 0..net.chan_count() {
+        if net.phase(place + 1) != Phase::Idle && told < MOST_TOLD {
             draft.put(if told == 0 { ": " } else { ", " }, &[]);
-            put_wait(net, chan, draft);
+            put_wait(net, place + 1, draft);
             told += 1;
         }
     }
@@ -49,7 +51,10 @@ fn put_waits(net: &Core, count: usize, draft: &mut Draft) {
 }
 
 // Who waits for whom on a channel: after a reply the passive end does, and else the active one.
-fn put_wait(net: &Core, chan: u32, draft: &mut Draft) {
+fn put_wait(net: &Core, chan: u32, draft: &mut Draft)
+    requires from { 0 < chan }
+    requires to { chan ≤ length net.now.wiring.chans }
+{
     let [active, passive] = net.ends(chan);
     let (from, to) = match net.phase(chan) {
         Phase::Replied(_) => (passive, active),
