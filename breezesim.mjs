@@ -1,0 +1,73 @@
+#!/usr/bin/env node
+// breezesim for a machine with Node, on its files: `node breezesim.mjs ARGS` is `breezesim ARGS`. The program is in the live
+// page of the same name, breezesim.html, which stands beside this file.
+import fs from 'node:fs';
+import path from 'node:path';
+import tty from 'node:tty';
+import zlib from 'node:zlib';
+import {fileURLToPath} from 'node:url';
+
+// Errors and flags of Linux in those of this machine.
+const ERRORS = {EPERM: 1, ENOENT: 2, EIO: 5, ENXIO: 6, EBADF: 9, EAGAIN: 11, ENOMEM: 12, EACCES: 13, EEXIST: 17, ENOTDIR: 20,
+  EISDIR: 21, EINVAL: 22, EMFILE: 24, EFBIG: 27, ENOSPC: 28, EROFS: 30, EPIPE: 32, ENAMETOOLONG: 36, ELOOP: 40};
+const {O_RDONLY, O_WRONLY, O_RDWR, O_CREAT, O_EXCL, O_TRUNC, O_APPEND} = fs.constants;
+const FLAGS = [[0o100, O_CREAT], [0o200, O_EXCL], [0o1000, O_TRUNC], [0o2000, O_APPEND]];
+const flagsOf = flags => FLAGS.reduce((sum, [theirs, ours]) => (flags & theirs ? sum | ours : sum),
+  [O_RDONLY, O_WRONLY, O_RDWR][flags & 3]);
+
+// Calls the system until it doesn't say that it isn't ready. (Node's standard streams may not block.)
+function calling(act) {
+  for (;;) {
+    try {
+      return act();
+    } catch (fault) {
+      if (fault.code === 'EOF') return 0;  // (Windows, at the end of a pipe)
+      if (fault.code !== 'EAGAIN') throw fault.code ? Object.assign(fault, {errno: -(ERRORS[fault.code] || ERRORS.EIO)}) : fault;
+      Atomics.wait(new Int32Array(new SharedArrayBuffer(4)), 0, 0, 5);
+    }
+  }
+}
+
+// Of a file its mode, its number and its device.
+const identityOf = ({mode, ino, dev}) => [mode, ino, dev];
+
+// A descriptor of the system.
+export class Descriptor {
+  constructor(fd) { this.fd = fd; }
+  get isTerminal() { return tty.isatty(this.fd); }
+  read(to) { return calling(() => fs.readSync(this.fd, to, 0, to.length, null)); }
+  write(from) { return calling(() => fs.writeSync(this.fd, from, 0, from.length)); }
+  stat() { return calling(() => identityOf(fs.fstatSync(this.fd, {bigint: true}))); }
+  truncate(length) { calling(() => fs.ftruncateSync(this.fd, length)); }
+  close() { if (this.fd > 2) calling(() => fs.closeSync(this.fd)); }
+}
+
+// The files of the system, as they are called in a folder.
+export const filesIn = folder => ({
+  open: (name, flags) => new Descriptor(calling(() => fs.openSync(path.resolve(folder, name), flagsOf(flags), 0o666))),
+  stat: name => calling(() => identityOf(fs.statSync(path.resolve(folder, name), {bigint: true}))),
+});
+
+// The engine of a script, engine.js.
+export const engineOf = script => new Function(`${script}; return engine;`)();
+
+// The engine and the module that a live page carries.
+function carriedBy(page) {
+  const block = id => page.split(`<script type="text/plain" id="${id}">`)[1].split('</script>')[0];
+  const script = block('worker').replace(/%([0-9A-F]{2})/g, (_, digits) => String.fromCharCode(parseInt(digits, 16)));
+  return {engine: engineOf(script), module: zlib.gunzipSync(Buffer.from(block('engine'), 'base64'))};
+}
+
+function main(here) {
+  const page = here.replace(/\.mjs$/, '.html');
+  if (!fs.existsSync(page)) {
+    process.stderr.write(`breezesim: the program is in ${path.basename(page)}, which must stand beside ${path.basename(here)}\n`);
+    process.exitCode = 3;
+    return;
+  }
+  const {engine, module} = carriedBy(fs.readFileSync(page, 'latin1')), streams = [0, 1, 2].map(fd => new Descriptor(fd));
+  process.exitCode = engine.play(new WebAssembly.Module(module), process.argv.slice(2), filesIn('.'), streams);
+}
+
+const here = fileURLToPath(import.meta.url);
+if (process.argv[1] && fs.realpathSync(process.argv[1]) === fs.realpathSync(here)) main(here);
