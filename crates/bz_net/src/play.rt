@@ -253,8 +253,8 @@ impl Play {
         }
     }
 
-    /// Fires a component by this move on this channel, where its step there carries this value. `None` where it has no such
-    /// step, or no more entry is let in: then nothing changes. A value is given where the move carries one.
+    /// Fires a component by this move on this channel, where its step there carries this value: the port. `None` where it has
+    /// no such step, or no more entry is let in: then nothing changes. A value is given where the move carries one.
     #[inline(always)]
     pub fn fire_on(
         &mut self,
@@ -263,10 +263,9 @@ impl Play {
         chan: u32,
         mv: Move,
         value: Option<Value>,
-    ) -> Option<Entry>
+    ) -> Option<u32>
         requires { GivesAsSteps self.old.wiring.sites self.old.state comp chan mv value }
-        ensures fired { IfSome result (λ entry. (port : ℕ) × (entry ≡ Entry.Fired who comp port chan mv value)) }
-        ensures enters { IfSome result (λ entry. Enters self.old entry self.new) }
+        ensures enters { IfSome result (λ port. Enters self.old (Entry.Fired who comp port chan mv value) self.new) }
         ensures sole { IfSome result (λ _. LeadsOnlyTo self.old.wiring.sites self.old.state comp chan mv self.new.state) }
         ensures none { IfNone result ((self.new ≡ self.old) × ((self.old.left ≡ 0)
             ⊎ ((port : ℕ) → HasStep self.old.wiring.sites self.old.state comp port chan mv value → ⊥))) }
@@ -280,7 +279,8 @@ impl Play {
         if !self.core.has_step(comp, port, chan, mv, value) {
             return None;
         }
-        Some(self.fire(who, comp, Some(port)))
+        self.fire(who, comp, Some(port));
+        Some(port)
     }
 
     /// Asks whether any component can move.

@@ -1,3 +1,5 @@
+use Rattle.std.proofs.Common.{refl}
+use Rattle.bz_model.specs.declared.event.Entry.TheVariants.{Fired}
 use Rattle.bz_trace.proofs.Stopping.{firing_goes, firing_stops, gives}
 use Rattle.bz_trace.proofs.following.follow_firing.Goals as goal
 
@@ -7,7 +9,7 @@ fire_on-requires c = let a = c.args in gives a.net.now a.who a.comp a.chan a.mv 
 pub returns-in-Some : goal.returns-in-Some
 returns-in-Some c =
     let a = c.args in let made = c.in-Some.ensures in
-    firing_goes a.net.now c.fire_on.new.self a.who a.comp a.chan a.mv a.value c.in-Some.field-0 made.fired made.enters made.sole
+    firing_goes a.net.now c.fire_on.new.self a.who a.comp a.chan a.mv a.value (Fired a.who a.comp c.in-Some.field-0 a.chan a.mv a.value) (c.in-Some.field-0, refl) made.enters made.sole
 
 pub returns-in-None : goal.returns-in-None
 returns-in-None c =

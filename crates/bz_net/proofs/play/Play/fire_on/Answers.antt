@@ -1,7 +1,8 @@
 use Rattle.std.proofs.Common.{◌≡◌, ℕ, Some, None, inr, refl, sym, subst}
 use Rattle.bz_model.specs.Nets.{Step}
 use Rattle.bz_net.specs.Due.{GivesAsSteps, HasStep}
-use Rattle.bz_net.specs.Progress.{Progress}
+use Rattle.bz_model.specs.declared.event.Entry.{Entry}
+use Rattle.bz_net.specs.Progress.{Enters, Progress}
 use Rattle.bz_net.specs.Told.{MayMove}
 use Rattle.bz_net.proofs.play.Play.fire_on.Goals as goal
 
@@ -35,12 +36,14 @@ returns-then-not-has_step-clause-none c = (
       c.if-not-has_step.ensures (subst (λ (q : ℕ). HasStep c.self.inside.core.wiring.sites c.self.inside.core.state c.args.comp q c.args.chan c.args.mv c.args.value) at own)),
 )
 
-pub returns-clause-fired : goal.returns-clause-fired
-returns-clause-fired c =
+pub returns-clause-enters : goal.returns-clause-enters
+returns-clause-enters c =
     let (p, is, firing, sole) = c.fire.ensures.fired in
     let has = subst (λ (v : Progress). HasStep v.wiring.sites v.state c.args.comp c.in-Some.port c.args.chan c.args.mv c.args.value) c.self.view_is c.if-not-has_step.ensures in
     let here = subst (λ (q : ℕ). HasStep c.args.self.now.wiring.sites c.args.self.now.state c.args.comp q c.args.chan c.args.mv c.args.value) (sym is) has in
-    (p, (sole c.args.chan c.args.mv c.args.value here.0 here.1).0)
+    let entry = (sole c.args.chan c.args.mv c.args.value here.0 here.1).0 in
+    subst (λ (q : ℕ). Enters c.args.self.now (Entry.Fired c.args.who c.args.comp q c.args.chan c.args.mv c.args.value) c.fire.new.self) is
+    (subst (λ (e : Entry). Enters c.args.self.now e c.fire.new.self) entry c.fire.ensures.enters)
 
 pub returns-clause-sole : goal.returns-clause-sole
 returns-clause-sole c = λ q other next step.
