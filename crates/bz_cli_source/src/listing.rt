@@ -72,13 +72,13 @@ fn print_chans<W: Write>(
     }
 }
 
-fn print_chan<W: Write>(
+fn print_chan<'a, W: Write>(
     printer: &mut Printer,
     out: &mut W,
     net: &Pieces,
-    s: &Survey,
+    s: &'a Survey,
     i: usize,
-    place: &PathAt,
+    place: &'a PathAt,
 )
     requires { i < 2 ^ 63 }
     ensures { Prints (W.contents out.old) printer.old (W.contents out.new) printer.new (chan_line net.now s.now (i + 1) (path_at_of place.now)) }
@@ -160,12 +160,12 @@ fn print_instances<W: Write>(
     }
 }
 
-fn print_instance<W: Write>(
+fn print_instance<'a, W: Write>(
     printer: &mut Printer,
     out: &mut W,
-    s: &Survey,
+    s: &'a Survey,
     _i: usize,
-    place: &PathAt,
+    place: &'a PathAt,
 )
     ensures { Prints (W.contents out.old) printer.old (W.contents out.new) printer.new (instance_line s.now (_i + 1) (path_at_of place.now)) }
 {
@@ -220,13 +220,13 @@ fn print_comp<W: Write>(
     }
 }
 
-fn print_placed<W: Write>(
+fn print_placed<'a, W: Write>(
     printer: &mut Printer,
     out: &mut W,
-    s: &Survey,
+    s: &'a Survey,
     number: u32,
-    comp: &FlatComp,
-    place: &PathAt,
+    comp: &'a FlatComp,
+    place: &'a PathAt,
 )
     ensures { Prints (W.contents out.old) printer.old (W.contents out.new) printer.new (placed_comp s.now number (site_of comp.now) (path_at_of place.now)) }
 {

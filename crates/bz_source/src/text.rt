@@ -52,11 +52,11 @@ pub fn comp_line_at<'a>(parts: &'a Parts, lines: &[PartLines], place: &'a PathAt
 }
 
 /// Writes the line of a component, counted from 1, and where it stands, without the end of the line.
-pub fn put_comp<W: Write>(
+pub fn put_comp<'a, W: Write>(
     out: &mut W,
     number: u32,
-    comp: &FlatComp,
-    at: LineAt<'_>,
+    comp: &'a FlatComp,
+    at: LineAt<'a>,
 ) -> Result<(), WriteFault>
     ensures { Writes (W.contents out.old) (W.contents out.new) result (placed_comp_text number (site_of comp.now) (line_at_of at.entry)) }
 {
