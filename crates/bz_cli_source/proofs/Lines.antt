@@ -1,12 +1,11 @@
 -- The pieces of a line.
-use Rattle.std.proofs.Common.{◌≡◌, ℕ, zero, suc, ◌+◌, ◌<◌, ◌≤◌, Bool, false, not, Option, None, Some, List, [], ◌∷◌, ◌++◌, length, map, get_or, refl, sym, ap, ◌∙◌, arith, slice_get, if◌then◌else◌, append_assoc, codes, decimal}
+use Rattle.std.proofs.Common.{◌≡◌, ℕ, zero, suc, ◌+◌, ◌<◌, ◌≤◌, Bool, false, not, Option, None, Some, List, [], ◌∷◌, ◌++◌, length, map, get_or, refl, sym, ap, ◌∙◌, arith, slice_get, if◌then◌else◌}
 use Rattle.std.proofs.lemmas.List.{length-map}
 use Rattle.std.proofs.lemmas.Option.{slice_get_past}
 use Rattle.bz_model.specs.declared.names.Port.{Port}
 use Rattle.bz_model.specs.Names.{External, external, numbered, port_sense}
 use Rattle.bz_model.specs.Nets.{Site}
 use Rattle.bz_source.specs.Found.{PathAt}
-use Rattle.bz_source.specs.Labels.{Label, label_text, name_note, source_note}
 use Rattle.bz_source.specs.declared.survey.Survey.{Survey}
 use Rattle.bz_cli_source.specs.Listing.{comp_line, host_holds, placed_comp}
 
@@ -31,14 +30,3 @@ host_none ports i passive le =
     let n : i + 1 ≡ suc i = omega arith in
     let past : slice_get (map external ports) i ≡ None = slice_get_past (map external ports) i (omega (arith, le, length-map ports external)) in
     ap (λ k. host_holds (map external ports) k passive) n ∙ rw (past, host_holds) refl
-
--- the end of a line, by the pieces of its label
-pub labelled : (name source : List ℕ) (l label : Label) → name ≡ name_note l.name → source ≡ source_note l.source → l ≡ label → name ++ (source ++ (codes "\n" ++ [])) ≡ label_text label ++ codes "\n"
-labelled name source l label is_name is_source is =
-    let at_once : name ++ (source ++ codes "\n") ≡ name_note l.name ++ (source_note l.source ++ codes "\n") = cc in
-    at_once ∙ sym (append_assoc (name_note l.name) (source_note l.source) (codes "\n")) ∙ ap (λ x. label_text x ++ codes "\n") is
-
--- the line of a channel, by what its pieces are
-pub chan_pieces : (k : ℕ) (carried carried' active active' passive passive' at at' end end' : List ℕ) → carried ≡ carried' → active ≡ active' → passive ≡ passive' → at ≡ at' → end ≡ end'
-    → codes "channel " ++ (decimal k ++ (codes " " ++ (carried ++ (codes " " ++ (active ++ (codes " " ++ (passive ++ (at ++ end)))))))) ≡ codes "channel " ++ (decimal k ++ (codes " " ++ (carried' ++ (codes " " ++ (active' ++ (codes " " ++ (passive' ++ (at' ++ end'))))))))
-chan_pieces k carried carried' active active' passive passive' at at' end end' a b c d e = cc

@@ -16,9 +16,7 @@ use bz_cli_input::{chan_at, print_head, print_ports};
 use bz_flat::{Ends, FlatComp, Pieces};
 use bz_kind_rows::kind_word;
 use bz_model::{Port, Value};
-use bz_source::{
-    PathAt, Survey, at_piece, chan_line_at, comp_line_at, name_piece, source_piece,
-};
+use bz_source::{PathAt, Survey, at_piece, chan_line_at, comp_line_at, name_piece, source_piece};
 use bz_text::{Piece, WriteFault};
 use bz_trace_text::Printer;
 use std::io::Write;
@@ -91,9 +89,17 @@ fn print_chan<'a, W: Write>(
         Piece::Bytes(b" "),
         Piece::Carried(chan_at(&net.chans, i)),
         Piece::Bytes(b" "),
-        end_piece(ends.active, ends.active_port, host_holds(&net.ports, i, false)),
+        end_piece(
+            ends.active,
+            ends.active_port,
+            host_holds(&net.ports, i, false),
+        ),
         Piece::Bytes(b" "),
-        end_piece(ends.passive, ends.passive_port, host_holds(&net.ports, i, true)),
+        end_piece(
+            ends.passive,
+            ends.passive_port,
+            host_holds(&net.ports, i, true),
+        ),
         at_piece(chan_line_at(&s.parts, &s.lines, place)),
         name_piece(label.name),
         source_piece(label.source),
@@ -147,12 +153,7 @@ fn is_other(sense: bool, passive: bool) -> bool
     if sense { !passive } else { passive }
 }
 
-fn print_instances<W: Write>(
-    printer: &mut Printer,
-    out: &mut W,
-    s: &Survey,
-    instances: &[PathAt],
-)
+fn print_instances<W: Write>(printer: &mut Printer, out: &mut W, s: &Survey, instances: &[PathAt])
     ensures { Prints (W.contents out.old) printer.old (W.contents out.new) printer.new (lines (instance_line s.now) 1 (map path_at_of instances.now)) }
 {
     for (i, place) in instances.iter().enumerate() {
@@ -191,12 +192,7 @@ fn comp_name<'s>(s: &'s Survey, place: &PathAt) -> &'s [u8]
     }
 }
 
-fn print_comps<W: Write>(
-    printer: &mut Printer,
-    out: &mut W,
-    s: &Survey,
-    comps: &Arena<FlatComp>,
-)
+fn print_comps<W: Write>(printer: &mut Printer, out: &mut W, s: &Survey, comps: &Arena<FlatComp>)
     requires { length comps.now ≤ 1000000 }
     ensures { Prints (W.contents out.old) printer.old (W.contents out.new) printer.new (lines (comp_line s.now) 1 (map site_of comps.now)) }
 {
@@ -205,18 +201,13 @@ fn print_comps<W: Write>(
     }
 }
 
-fn print_comp<W: Write>(
-    printer: &mut Printer,
-    out: &mut W,
-    s: &Survey,
-    i: usize,
-    comp: &FlatComp,
-)
+fn print_comp<W: Write>(printer: &mut Printer, out: &mut W, s: &Survey, i: usize, comp: &FlatComp)
     requires { i < 1000000 }
     ensures { Prints (W.contents out.old) printer.old (W.contents out.new) printer.new (comp_line s.now (i + 1) (site_of comp.now)) }
 {
-    if let Some(place) = s.places.comp(i as u32 + 1) {
-        print_placed(printer, out, s, i as u32 + 1, comp, place);
+    match s.places.comp(i as u32 + 1) {
+        Some(place) => print_placed(printer, out, s, i as u32 + 1, comp, place),
+        None => {}
     }
 }
 

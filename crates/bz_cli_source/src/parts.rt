@@ -128,7 +128,14 @@ fn print_numbered<W: Write>(
     requires within { place < length parts.now }
     ensures { Prints (W.contents out.old) printer.old (W.contents out.new) printer.new (numbered_text parts.now lines.now (place + 1) part.now) }
 {
-    print_part(printer, out, parts, part, line_at(lines, place), used[place]);
+    print_part(
+        printer,
+        out,
+        parts,
+        part,
+        line_at(lines, place),
+        used[place],
+    );
 }
 
 // The line at which the part at a place begins.
@@ -152,7 +159,12 @@ fn print_part<W: Write>(
     ensures { Prints (W.contents out.old) printer.old (W.contents out.new) printer.new (part_text parts.now line used part.now) }
 {
     print_head(printer, out, part, line, used);
-    print_ports(printer, out, part.channels.as_slice(), part.ports.as_slice());
+    print_ports(
+        printer,
+        out,
+        part.channels.as_slice(),
+        part.ports.as_slice(),
+    );
     print_counts(printer, out, part, instance_count(parts, part));
 }
 

@@ -18,4 +18,4 @@ pub returns : goal.returns
 returns g c =
     let line = numbered_text c.args.parts.now c.args.lines.now in
     let long = rw c.list-part-items.ensures.value at c.loop-i-test.false in
-    subst (Prints (g.W.Write.contents c.args.out.now) c.args.printer.now (g.W.Write.contents c.loop-i.out.now) c.loop-i.printer.now) (ap (lines line 1) (map-id c.args.parts.now)) (printed_lines line (λ p. p) c.args.parts.now c.loop-i.i (omega (arith, long)) _ _ _ _ _ _ c.loop-i.invariant)
+    subst (Prints (g.W.Write.contents c.args.out.now) c.args.printer.now (g.W.Write.contents c.loop-i.out) c.loop-i.printer) (ap (lines line 1) (map-id c.args.parts.now)) (printed_lines line (λ p. p) c.args.parts.now c.loop-i.i (omega (arith, long)) _ _ _ _ _ _ c.loop-i.invariant)
