@@ -2,7 +2,6 @@
 use Rattle.std.specs.Prelude.{ℕ, suc, Bool, true, false, List, [], ◌∷◌, ◌++◌, length, codes, decimal}
 use Rattle.std.specs.List.{flat_map}
 use Rattle.bz_model.specs.declared.channel.Chan.{Chan}
-use Rattle.bz_model.specs.declared.kind.Kind.{Kind}
 use Rattle.bz_model.specs.Names.{External}
 use Rattle.bz_model.specs.Nets.{Site, Wiring, chan_in}
 use Rattle.bz_model.specs.Traces.{name_form}
@@ -19,11 +18,8 @@ port_line k port chan =
     codes "port " ++ (decimal k ++ (codes " " ++ (name_form port.name ++ (codes " " ++ (sense_text port.passive ++ (codes " " ++ (carried_text chan.kind chan.width ++ codes "\n")))))))
 
 -- component k: its kind, and its channels in the order of its ports
-abbrev pub comp_head : ℕ → Kind → List ℕ
-comp_head k kind = codes "component " ++ (decimal k ++ (codes " " ++ kind_word kind))
-
 abbrev pub comp_line : ℕ → Site → List ℕ
-comp_line k site = comp_head k site.kind ++ (flat_map spaced site.chans ++ codes "\n")
+comp_line k site = codes "component " ++ (decimal k ++ (codes " " ++ (kind_word site.kind ++ (flat_map spaced site.chans ++ codes "\n"))))
 
 -- a line for each of the list, numbered from k on
 abbrev pub lines : {X : Type 0} → (ℕ → X → List ℕ) → ℕ → List X → List ℕ
@@ -40,8 +36,5 @@ counts_text chans comps = codes "channels " ++ (decimal chans ++ (codes "\ncompo
 abbrev pub ports_text : List Chan → List External → List ℕ
 ports_text chans ports = lines (λ k port. port_line k port (chan_in chans k)) 1 ports
 
-abbrev pub comps_text : ℕ → List Site → List ℕ
-comps_text chans sites = counts_text chans (length sites) ++ lines comp_line 1 sites
-
 abbrev pub list_text : List ℕ → Wiring → List ℕ
-list_text name w = head_text name ++ (ports_text w.chans w.ports ++ comps_text (length w.chans) w.sites)
+list_text name w = head_text name ++ (ports_text w.chans w.ports ++ (counts_text (length w.chans) (length w.sites) ++ lines comp_line 1 w.sites))

@@ -13,7 +13,7 @@ mod uses;
 pub use fault::Fault;
 pub use input::{INPUT_LIMIT, InputFault, read_input};
 pub use list::list_cmd;
-pub use listing::{carried_parts, chan_at, put_head, put_port, put_ports};
+pub use listing::{chan_at, print_head, print_port, print_ports};
 pub use netlist::{Netlist, flat_of, flat_of_input};
 pub use refusal::in_part;
 pub use uses::{mark_used, used_by_others};

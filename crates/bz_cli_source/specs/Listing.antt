@@ -12,6 +12,7 @@ use Rattle.bz_flat.specs.Flats.{site_of}
 use Rattle.bz_flat.specs.declared.flat.Ends.{Ends}
 use Rattle.bz_flat.specs.declared.flat.Pieces.{Pieces}
 use Rattle.bz_flat.specs.Wires.{ends_in}
+use Rattle.bz_text.specs.Pieces.{stepped}
 use Rattle.bz_source.specs.declared.survey.Survey.{Survey}
 use Rattle.bz_source.specs.Found.{PathAt}
 use Rattle.bz_source.specs.Texts.{at_text, placed_comp_text}
@@ -30,43 +31,26 @@ end_text (Some c) p host = decimal c ++ (codes "." ++ decimal p)
 end_text None p true = codes "host"
 end_text None p false = codes "-"
 
--- channel k: what it carries
-abbrev pub chan_head : ℕ → Chan → List ℕ
-chan_head k chan = codes "channel " ++ (decimal k ++ (codes " " ++ carried_text chan.kind chan.width))
-
--- its active end, and its passive end
-abbrev pub ends_text : List External → ℕ → Ends → List ℕ
-ends_text ports k ends =
-    (codes " " ++ end_text ends.active ends.active_port (host_holds ports k false)) ++ (codes " " ++ end_text ends.passive ends.passive_port (host_holds ports k true))
-
--- where a channel stands, what it is called and where it comes from, to the end of its line
-abbrev pub chan_end : Survey → PathAt → List ℕ
-chan_end s at = at_text (chan_line_at s.parts s.lines.items at) ++ (label_text (chan_label s.lines.items at) ++ codes "\n")
-
--- where an instance stands, to the end of its line
-abbrev pub comp_end : Survey → PathAt → List ℕ
-comp_end s at = at_text (comp_line_at s.parts s.lines.items at) ++ codes "\n"
-
-abbrev pub placed_chan : Pieces → Survey → ℕ → Chan → PathAt → List ℕ
-placed_chan net s k chan at = chan_head k chan ++ (ends_text (map external net.ports.items) k (ends_in net.ends.items k) ++ chan_end s at)
+-- channel k: what it carries, its active end and its passive end, where it stands, what it is called and where it comes from
+abbrev pub placed_chan : Pieces → Survey → ℕ → Chan → Ends → PathAt → List ℕ
+placed_chan net s k chan ends at =
+    codes "channel " ++ (decimal k ++ (codes " " ++ (carried_text chan.kind chan.width
+    ++ (codes " " ++ (end_text ends.active ends.active_port (host_holds (map external net.ports.items) k false)
+    ++ (codes " " ++ (end_text ends.passive ends.passive_port (host_holds (map external net.ports.items) k true)
+    ++ (at_text (chan_line_at s.parts s.lines.items at) ++ (label_text (chan_label s.lines.items at) ++ codes "\n")))))))))
 
 abbrev pub chan_line : Pieces → Survey → ℕ → PathAt → List ℕ
-chan_line net s k at = placed_chan net s k (chan_in net.chans k) at
-
--- an outer instance, in a path
-abbrev pub stepped : ℕ → List ℕ
-stepped n = decimal n ++ codes "/"
+chan_line net s k at = placed_chan net s k (chan_in net.chans k) (ends_in net.ends.items k) at
 
 -- the name that a component has in the text
 abbrev pub comp_name : List Part → PathAt → List ℕ
 comp_name parts at = elim (option_and_then (λ p. component p at.position) (slice_get parts at.part)) [ None ↦ [] | Some c ↦ c.name.items ]
 
--- the path of the instance itself, and the name of its part
-abbrev pub instance_head : List Part → PathAt → List ℕ
-instance_head parts at = (codes "instance " ++ flat_map stepped at.path) ++ (decimal at.position ++ (codes " " ++ name_form (comp_name parts at)))
-
+-- the path of an instance, the name of its part, and where it stands
 abbrev pub instance_line : Survey → ℕ → PathAt → List ℕ
-instance_line s k at = instance_head s.parts at ++ comp_end s at
+instance_line s k at =
+    codes "instance " ++ (flat_map stepped at.path ++ (decimal at.position ++ (codes " " ++ (name_form (comp_name s.parts at)
+    ++ (at_text (comp_line_at s.parts s.lines.items at) ++ codes "\n")))))
 
 -- component k, where it stands, what it is called and where it comes from
 abbrev pub placed_comp : Survey → ℕ → Site → PathAt → List ℕ
@@ -87,8 +71,5 @@ instances_text s = count_line (codes "instances ") (length s.places.instances) +
 abbrev pub comps_text : Pieces → Survey → List ℕ
 comps_text net s = count_line (codes "components ") (length (map site_of net.comps)) ++ lines (comp_line s) 1 (map site_of net.comps)
 
-abbrev pub inside_text : Pieces → Survey → List ℕ
-inside_text net s = chans_text net s ++ (instances_text s ++ comps_text net s)
-
 abbrev pub paths_text : Pieces → Survey → List ℕ → List ℕ
-paths_text net s name = head_text name ++ (ports_text net.chans (map external net.ports.items) ++ inside_text net s)
+paths_text net s name = head_text name ++ (ports_text net.chans (map external net.ports.items) ++ (chans_text net s ++ (instances_text s ++ comps_text net s)))

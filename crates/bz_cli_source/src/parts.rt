@@ -1,10 +1,11 @@
 //! The command `parts`: the parts of a netlist, each with its ports and how much it has.
 
-ghost use Rattle.std.specs.Prelude.{◌≡◌, ◌+◌, ◌<◌, ◌++◌, IfOk, IfSome, OnErr, OnOk, false, length, map, replicate};
+ghost use Rattle.std.specs.Prelude.{◌≡◌, ◌+◌, ◌<◌, IfOk, IfSome, OnErr, OnOk, false, length, map, replicate};
 ghost use Rattle.std.specs.Io.KnownBytes.{Appends};
 ghost use Rattle.bz_model.specs.Names.{external};
 ghost use Rattle.bz_model.specs.Nets.{chan_in};
 ghost use Rattle.bz_text.specs.Writing.{Writes};
+ghost use Rattle.bz_trace_text.specs.Printing.{Prints};
 ghost use Rattle.bz_cli_input.specs.Listing.{ports_text};
 ghost use Rattle.bz_cli_input.specs.Marking.{Marks};
 ghost use Rattle.bz_cli_input.specs.Reading.{ReadsWithin};
@@ -12,10 +13,11 @@ ghost use Rattle.bz_cli_input.specs.Stopping.{AppendsSome};
 ghost use Rattle.bz_cli_source.specs.PartLists.{ListsParts, TellsParts, counts_text, head_text, instance_count, is_used, line_of_part, numbered_text, own_ports_text, part_text, parts_text, top_text};
 
 use bz_breeze_records::{Part as PartRecord, Parts};
-use bz_cli_input::{Fault, mark_used, put_port, read_input};
+use bz_cli_input::{Fault, mark_used, print_port, read_input};
 use bz_model::{Chan, ChanKind, Port, Value};
 use bz_source::{PartLines, lines_of};
-use bz_text::{Piece, WriteFault, put_pieces};
+use bz_text::{Piece, WriteFault};
+use bz_trace_text::Printer;
 use std::alloc::{AllocError, Global};
 use std::io::{Read, Write};
 
@@ -92,26 +94,48 @@ fn put_parts<W: Write>(
     requires { Marks (replicate (length parts.now) false) used.now (is_used parts.now) }
     ensures { Writes (W.contents out.old) (W.contents out.new) result (parts_text parts.now lines.now) }
 {
+    let mut printer = Printer::new();
+    print_parts(&mut printer, out, parts, lines, used);
+    printer.end(out)
+}
+
+fn print_parts<W: Write>(
+    printer: &mut Printer,
+    out: &mut W,
+    parts: &Parts,
+    lines: &[PartLines],
+    used: &[bool],
+)
+    requires { Marks (replicate (length parts.now) false) used.now (is_used parts.now) }
+    ensures { Prints (W.contents out.old) printer.old (W.contents out.new) printer.new (parts_text parts.now lines.now) }
+{
     for (i, part) in parts.list().iter().enumerate() {
-        put_numbered(out, parts, lines, used, i, part)?;
+        print_numbered(printer, out, parts, lines, used, i, part);
     }
-    Ok(())
 }
 
 // The part at a place of the list.
-fn put_numbered<W: Write>(
+fn print_numbered<W: Write>(
+    printer: &mut Printer,
     out: &mut W,
     parts: &Parts,
     lines: &[PartLines],
     used: &[bool],
     place: usize,
     part: &PartRecord,
-) -> Result<(), WriteFault>
+)
     requires used { Marks (replicate (length parts.now) false) used.now (is_used parts.now) }
     requires within { place < length parts.now }
-    ensures { Writes (W.contents out.old) (W.contents out.new) result (numbered_text parts.now lines.now (place + 1) part.now) }
+    ensures { Prints (W.contents out.old) printer.old (W.contents out.new) printer.new (numbered_text parts.now lines.now (place + 1) part.now) }
 {
-    put_part(out, parts, part, line_at(lines, place), used[place])
+    print_part(
+        printer,
+        out,
+        parts,
+        part,
+        line_at(lines, place),
+        used[place],
+    );
 }
 
 // The line at which the part at a place begins.
@@ -124,24 +148,24 @@ fn line_at(lines: &[PartLines], place: usize) -> usize
     }
 }
 
-fn put_part<W: Write>(
+fn print_part<W: Write>(
+    printer: &mut Printer,
     out: &mut W,
     parts: &Parts,
     part: &PartRecord,
     line: usize,
     used: bool,
-) -> Result<(), WriteFault>
-    ensures { Writes (W.contents out.old) (W.contents out.new) result (part_text parts.now line used part.now) }
+)
+    ensures { Prints (W.contents out.old) printer.old (W.contents out.new) printer.new (part_text parts.now line used part.now) }
 {
-    put_head(out, part, line, used)?;
-    put_body(out, part, instance_count(parts, part))
-}
-
-fn put_body<W: Write>(out: &mut W, part: &PartRecord, instances: usize) -> Result<(), WriteFault>
-    ensures { Writes (W.contents out.old) (W.contents out.new) result (own_ports_text part.now ++ counts_text part.now instances) }
-{
-    put_ports(out, part.channels.as_slice(), part.ports.as_slice())?;
-    put_counts(out, part, instances)
+    print_head(printer, out, part, line, used);
+    print_ports(
+        printer,
+        out,
+        part.channels.as_slice(),
+        part.ports.as_slice(),
+    );
+    print_counts(printer, out, part, instance_count(parts, part));
 }
 
 // How many of a part's components are instances.
@@ -154,13 +178,14 @@ fn instance_count(parts: &Parts, part: &PartRecord) -> usize
         .count()
 }
 
-fn put_head<W: Write>(
+fn print_head<W: Write>(
+    printer: &mut Printer,
     out: &mut W,
     part: &PartRecord,
     line: usize,
     used: bool,
-) -> Result<(), WriteFault>
-    ensures { Writes (W.contents out.old) (W.contents out.new) result (head_text part.now line used) }
+)
+    ensures { Prints (W.contents out.old) printer.old (W.contents out.new) printer.new (head_text part.now line used) }
 {
     let pieces = [
         Piece::Bytes(b"part "),
@@ -169,7 +194,7 @@ fn put_head<W: Write>(
         Piece::Number(line as Value),
         Piece::Bytes(top_word(used)),
     ];
-    put_pieces(out, &pieces)
+    printer.print(out, &pieces);
 }
 
 fn top_word(used: bool) -> &'static [u8]
@@ -178,13 +203,12 @@ fn top_word(used: bool) -> &'static [u8]
     if used { b"\n" } else { b" top\n" }
 }
 
-fn put_ports<W: Write>(out: &mut W, chans: &[Chan], ports: &[Port]) -> Result<(), WriteFault>
-    ensures { Writes (W.contents out.old) (W.contents out.new) result (ports_text chans.now (map external ports.now)) }
+fn print_ports<W: Write>(printer: &mut Printer, out: &mut W, chans: &[Chan], ports: &[Port])
+    ensures { Prints (W.contents out.old) printer.old (W.contents out.new) printer.new (ports_text chans.now (map external ports.now)) }
 {
     for (place, port) in ports.iter().enumerate() {
-        put_port(out, place, port, chan_at(chans, place))?;
+        print_port(printer, out, place, port, chan_at(chans, place));
     }
-    Ok(())
 }
 
 // The channel at a place, one without width where there is none.
@@ -200,8 +224,8 @@ fn chan_at(chans: &[Chan], place: usize) -> Chan
     }
 }
 
-fn put_counts<W: Write>(out: &mut W, part: &PartRecord, instances: usize) -> Result<(), WriteFault>
-    ensures { Writes (W.contents out.old) (W.contents out.new) result (counts_text part.now instances) }
+fn print_counts<W: Write>(printer: &mut Printer, out: &mut W, part: &PartRecord, instances: usize)
+    ensures { Prints (W.contents out.old) printer.old (W.contents out.new) printer.new (counts_text part.now instances) }
 {
     let pieces = [
         Piece::Bytes(b"channels "),
@@ -212,5 +236,5 @@ fn put_counts<W: Write>(out: &mut W, part: &PartRecord, instances: usize) -> Res
         Piece::Number(instances as Value),
         Piece::Bytes(b"\n"),
     ];
-    put_pieces(out, &pieces)
+    printer.print(out, &pieces);
 }

@@ -1,11 +1,12 @@
 -- What the records of a text say of names, and of the source that they come from.
-use Rattle.std.specs.Prelude.{ℕ, ◌++◌, ◌&&◌, List, [], ◌∷◌, Option, None, Some, map, drop, nat_le, if◌then◌else◌, codes, decimal}
+use Rattle.std.specs.Prelude.{ℕ, ◌++◌, ◌&&◌, List, [], ◌∷◌, Option, None, Some, map, drop, nat_le, if◌then◌else◌, codes}
 use Rattle.std.specs.List.{filter_map}
 use Rattle.std.specs.Option.{option_and_then}
 use Rattle.bz_sexpr.specs.Data.{Datum, leaf, num, text}
 use Rattle.bz_breeze.specs.Turns.{inside}
 use Rattle.bz_breeze.specs.Shapes.{headed}
 use Rattle.bz_model.specs.Traces.{name_form}
+use Rattle.bz_text.specs.Pieces.{source_text}
 
 -- a place in a compiler's source
 pub record SourceAt : Type 0 where
@@ -68,10 +69,6 @@ labels channels components = record {
   components = map comp_source components;
 }
 
--- a file and the place in it
-abbrev pub source_text : SourceAt → List ℕ
-source_text at = name_form at.file ++ (codes ":" ++ (decimal at.line ++ (codes ":" ++ decimal at.column)))
-
 -- What a channel or a component of a net is called, and where it comes from.
 pub record Label : Type 0 where
   pub name : Option (List ℕ)
@@ -83,7 +80,7 @@ name_note (Some name) = codes " name " ++ name_form name
 
 abbrev pub source_note : Option SourceAt → List ℕ
 source_note None = []
-source_note (Some at) = codes " from " ++ source_text at
+source_note (Some at) = codes " from " ++ source_text at.file at.line at.column
 
 abbrev pub label_text : Label → List ℕ
 label_text label = name_note label.name ++ source_note label.source

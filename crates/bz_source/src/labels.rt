@@ -1,16 +1,16 @@
 //! What the records of a text say of names, and of the source that they come from.
 
-ghost use Rattle.std.specs.Prelude.{◌≡◌, ◌++◌, codes, drop, map, IfOk, IsTrue};
+ghost use Rattle.std.specs.Prelude.{◌≡◌, drop, map, IfOk, IsTrue};
 ghost use Rattle.std.specs.Option.{option_copied, option_map};
 ghost use Rattle.bz_sexpr.specs.Forms.{form_view, forms_view, text_view};
+ghost use Rattle.bz_text.specs.Pieces.{piece_text};
 ghost use Rattle.bz_text.specs.Writing.{Writes};
-ghost use Rattle.bz_source.specs.Labels.{behind, chan_name, first_name, first_source, label_text, labels, name_in, name_note, named, placed, source_in, source_note, source_text};
+ghost use Rattle.bz_source.specs.Labels.{behind, chan_name, first_name, first_source, label_text, labels, name_in, name_note, named, placed, source_in, source_note};
 ghost use Rattle.bz_source.specs.Views.{label_of, labels_of_part, mark_at, source_at, written_at};
 
 use crate::lines::{headed, inside};
-use bz_model::Value;
 use bz_sexpr::{Form, Forms, Leaf, Shape, Text};
-use bz_text::{Piece, WriteFault, put, put_pieces};
+use bz_text::{Piece, WriteFault, put_pieces};
 use std::alloc::{AllocError, Global};
 use std::io::Write;
 use std::rc::Rc;
@@ -75,51 +75,31 @@ impl SourceMark {
     }
 }
 
-/// Writes a place in a source, as `two_place.balsa:7:5`, the file in name form.
-pub fn put_source<W: Write>(out: &mut W, at: SourceAt<'_>) -> Result<(), WriteFault>
-    ensures { Writes (W.contents out.old) (W.contents out.new) result (source_text (source_at at.entry)) }
-{
-    let pieces = [
-        Piece::Name(at.file),
-        Piece::Bytes(b":"),
-        Piece::Number(Value::from(at.line)),
-        Piece::Bytes(b":"),
-        Piece::Number(Value::from(at.column)),
-    ];
-    put_pieces(out, &pieces)
-}
-
 /// Writes a label, from ` name ` and from ` from ` on, where there are such.
 pub fn put_label<W: Write>(out: &mut W, label: Label<'_>) -> Result<(), WriteFault>
     ensures { Writes (W.contents out.old) (W.contents out.new) result (label_text (label_of label.entry)) }
 {
-    put_name_of(out, label.name)?;
-    put_source_of(out, label.source)
+    put_pieces(out, &[name_piece(label.name), source_piece(label.source)])
 }
 
-fn put_name_of<W: Write>(out: &mut W, name: Option<&[u8]>) -> Result<(), WriteFault>
-    ensures { Writes (W.contents out.old) (W.contents out.new) result (name_note (option_copied name.entry)) }
+/// What a channel or a component is called, as a piece of a line, empty where it has no name.
+pub fn name_piece(name: Option<&[u8]>) -> Piece<'_>
+    ensures { piece_text result ≡ name_note (option_copied name.entry) }
 {
     match name {
-        Some(name) => put_pieces(out, &[Piece::Bytes(b" name "), Piece::Name(name)]),
-        None => Ok(()),
+        Some(name) => Piece::Called(name),
+        None => Piece::Bytes(b""),
     }
 }
 
-fn put_source_of<W: Write>(out: &mut W, at: Option<SourceAt<'_>>) -> Result<(), WriteFault>
-    ensures { Writes (W.contents out.old) (W.contents out.new) result (source_note (option_map source_at at.entry)) }
+/// Where a channel or a component comes from, as a piece of a line, empty where that is not known.
+pub fn source_piece(at: Option<SourceAt<'_>>) -> Piece<'_>
+    ensures { piece_text result ≡ source_note (option_map source_at at.entry) }
 {
     match at {
-        Some(at) => put_from(out, at),
-        None => Ok(()),
+        Some(at) => Piece::From(at.file, at.line, at.column),
+        None => Piece::Bytes(b""),
     }
-}
-
-fn put_from<W: Write>(out: &mut W, at: SourceAt<'_>) -> Result<(), WriteFault>
-    ensures { Writes (W.contents out.old) (W.contents out.new) result (codes " from " ++ source_text (source_at at.entry)) }
-{
-    put(out, b" from ")?;
-    put_source(out, at)
 }
 
 /// The labels of a part, by the members of its lists of channels and of components.

@@ -16,10 +16,10 @@ mod walk;
 
 pub use detail::{Detail, put_detail};
 pub use error::PlacesError;
-pub use labels::{Label, Labels, SourceAt, SourceMark, put_label, put_source};
+pub use labels::{Label, Labels, SourceAt, SourceMark, name_piece, put_label, source_piece};
 pub use lines::{LineCounter, PartLines, lines_of};
 pub use path_at::PathAt;
 pub use places::Places;
 pub use source::Source;
 pub use survey::Survey;
-pub use text::{LineAt, chan_line_at, comp_line_at, put_comp, put_line_at, put_path};
+pub use text::{LineAt, at_piece, chan_line_at, comp_line_at, put_comp, put_path};

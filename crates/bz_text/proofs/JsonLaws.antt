@@ -1,8 +1,8 @@
 -- Strings of JSON read back as the texts that they were made of.
-use Rattle.std.proofs.Common.{◌≡◌, ◌≢◌, ℕ, ◌<◌, ◌+◌, ◌*◌, ◌/◌, ◌%◌, ◌==◌, ◌||◌, Bool, true, false, cond, nat_lt, List, [], ◌∷◌, ◌++◌, refl, sym, ap, ap₂, ◌∙◌, subst, append_assoc, arith}
+use Rattle.std.proofs.Common.{◌≡◌, ℕ, ◌<◌, ◌+◌, ◌*◌, ◌/◌, ◌%◌, ◌==◌, ◌||◌, Bool, true, false, cond, nat_lt, List, [], ◌∷◌, ◌++◌, refl, sym, ap, ap₂, subst, arith}
 use Rattle.std.proofs.lemmas.Bool.Decides.{nat_tests}
 use Rattle.bz_model.specs.Traces.{hex_digit}
-use Rattle.bz_text.specs.Json.{Reads, ReadsAs, json_byte, json_inside, nothing, itself, quote, backslash, number}
+use Rattle.bz_text.specs.Json.{Reads, ReadsAs, json_inside, nothing, itself, quote, backslash, number}
 use Rattle.bz_text.proofs.NameLaws.{cons_same, hex_same}
 
 by_tests : (b : ℕ) (q s c : Bool) (inside text : List ℕ) → (b == 34) ≡ q → (b == 92) ≡ s → nat_lt b 32 ≡ c → Reads inside text

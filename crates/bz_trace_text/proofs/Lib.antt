@@ -1,5 +1,6 @@
 pub mod Pages
 pub mod Going
+pub mod Printed
 pub mod Digits
 pub mod Strips
 pub mod Numbers

@@ -3,3 +3,4 @@ pub mod Reading
 pub mod Texts
 pub mod Counting
 pub mod Spelling
+pub mod Printing

@@ -1,4 +1,4 @@
-//! The lines of a trace: written, read back, and counted; and the page that lines are composed on.
+//! The lines of a trace: written, read back, and counted; and what prints texts by pages.
 #![tactic(auto)]
 
 mod counting;
@@ -8,6 +8,7 @@ mod numeral;
 mod outgoing;
 mod page;
 mod ports;
+mod printer;
 mod reading;
 mod spelled;
 mod tally;
@@ -19,9 +20,10 @@ pub use firing::firing_at;
 pub use outgoing::Outgoing;
 pub use page::Page;
 pub use ports::LineNames;
+pub use printer::Printer;
 pub use reading::{clash_at, line_at, strip};
 pub use tally::Counts;
 pub use text::{
     MAX_ENTRIES, TraceError, Version, one_spelling, other_line, read_trace, version_at,
 };
-pub use trace::{make_room, put_clashes, put_entries, put_first_line, write_trace, write_trace_1};
+pub use trace::{put_clashes, put_entries, put_first_line, write_trace, write_trace_1};

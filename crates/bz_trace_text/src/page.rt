@@ -1,6 +1,6 @@
 //! Lines composed on a page, which goes out whole.
 
-ghost use Rattle.std.specs.Prelude.{◌≡◌, ℕ, ◌+◌, ◌<◌, ◌≤◌, List, [], ◌∷◌, ◌++◌, ◌↔◌, length, take, drop, decimal, IsTrue};
+ghost use Rattle.std.specs.Prelude.{◌≡◌, ℕ, ◌+◌, ◌<◌, ◌≤◌, List, [], ◌∷◌, ◌++◌, ◌↔◌, length, take, drop, decimal, IsTrue, Some};
 ghost use Rattle.bz_model.specs.Traces.{fired_text};
 ghost use Rattle.bz_text.specs.Writing.{Writes};
 ghost use Rattle.bz_trace_text.specs.Spelling.{AreSpelled};
@@ -9,6 +9,7 @@ use crate::line::{set_end, set_move};
 use crate::numeral::Numeral;
 use bz_model::{Move, Value, Who};
 use bz_text::{WriteFault, put};
+use std::io;
 use std::io::Write;
 use std::marker::Model;
 
@@ -105,6 +106,21 @@ impl Page {
         self.at = set_value(&mut self.bytes, self.at, value);
     }
 
+    /// How many bytes wait.
+    pub(crate) fn len(&self) -> usize
+        ensures { result ≡ length self.now }
+    {
+        self.at
+    }
+
+    /// Leaves out what was composed after the first bytes.
+    pub(crate) fn shorten(&mut self, len: usize)
+        requires { len ≤ length self.old }
+        ensures { self.new ≡ take len self.old }
+    {
+        self.at = len;
+    }
+
     /// Composes the line of a firing. Numbers that are spelled already are taken from there.
     #[inline(always)]
     pub(crate) fn fired(
@@ -133,6 +149,24 @@ impl Page {
         let at = self.at;
         self.at = 0;
         put(out, &self.bytes[..at])
+    }
+}
+
+/// As a writer a page takes a text that there is room for, and nothing of any other.
+impl Write for Page {
+    ghost contents = { λ page. Some page };
+
+    #[inline(always)]
+    fn write(&mut self, bytes: &[u8]) -> io::Result<usize> {
+        if bytes.len() > ROOM - self.at {
+            return Ok(0);
+        }
+        self.text(bytes);
+        Ok(bytes.len())
+    }
+
+    fn flush(&mut self) -> io::Result<()> {
+        Ok(())
     }
 }
 

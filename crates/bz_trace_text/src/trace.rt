@@ -158,9 +158,9 @@ fn add_entry<W: Write>(
     }
 }
 
-/// Makes room for 96 bytes, where there is less.
+// Makes room for 96 bytes, where there is less.
 #[inline(always)]
-pub fn make_room<W: Write>(page: &mut Page, out: &mut W) -> Result<(), WriteFault>
+fn make_room<W: Write>(page: &mut Page, out: &mut W) -> Result<(), WriteFault>
     ensures text { Composes (W.contents out.old) (W.contents out.new) page.old page.new result [] }
     ensures room { IfOk result (λ _. length page.new + 96 ≤ 8192) }
 {

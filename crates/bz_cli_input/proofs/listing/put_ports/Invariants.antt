@@ -1,9 +1,0 @@
-use Rattle.std.proofs.Common.{map, take}
-use Rattle.std.specs.Io.KnownBytes.{Appends}
-use Rattle.bz_model.specs.Names.{external}
-use Rattle.bz_model.specs.Nets.{chan_in}
-use Rattle.bz_cli_input.specs.Listing.{lines, port_line}
-use Rattle.bz_cli_input.proofs.listing.put_ports.Given as goal
-
-abbrev pub invariant-loop-place : goal.invariant-loop-place
-invariant-loop-place g l = Appends (g.W.Write.contents l.initial.out) (g.W.Write.contents l.out) (lines (λ k port. port_line k port (chan_in l.chans k)) 1 (map external (take l.place l.ports)))

@@ -1,0 +1,9 @@
+use Rattle.std.proofs.Common.{map, take}
+use Rattle.bz_source.specs.Views.{path_at_of}
+use Rattle.bz_trace_text.specs.Printing.{Prints}
+use Rattle.bz_cli_input.specs.Listing.{lines}
+use Rattle.bz_cli_source.specs.Listing.{instance_line}
+use Rattle.bz_cli_source.proofs.listing.print_instances.Given as goal
+
+abbrev pub invariant-loop-i : goal.invariant-loop-i
+invariant-loop-i g l = Prints (g.W.Write.contents l.initial.out) l.initial.printer (g.W.Write.contents l.out) l.printer (lines (instance_line l.s) 1 (map path_at_of (take l.i l.instances)))
