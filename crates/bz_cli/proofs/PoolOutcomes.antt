@@ -32,7 +32,7 @@ use Rattle.bz_cli_input.specs.declared.fault.Fault.{Fault}
 use Rattle.bz_cli_input.specs.declared.fault.Fault.TheVariants.{Write}
 use Rattle.bz_cli_input.specs.Limits.{input_limit}
 use Rattle.bz_cli_input.specs.Opening.{Denotes}
-use Rattle.bz_cli_core.proofs.Outcomes.{keeps_same}
+use Rattle.std.proofs.KnownBytes.{Keeps-refl}
 use Rattle.bz_cli.specs.Pooling.{IsAgreed, IsFirstRefused, IsOfPool, Pooled, Pools, PoolsText, RefusesSessions, TellsRefused, WritesClosed, fault_for}
 use Rattle.bz_cli_input.specs.Stopping.{AppendsSome}
 use Rattle.bz_cli_input.specs.Statuses.{of_words}
@@ -108,7 +108,7 @@ same_terms v w l m fuel j k of_wiring of_limit of_sessions =
 pub no_close : (text : List ℕ) (asked : Option (List ℕ)) (fuel journal : ℕ) (lists : List (Vec HostCmd Global)) (workers : ℕ) (w : Wiring) (t : Terms) → Denotes text asked w → t ≡ terms w journal fuel (length lists) → (old : Option (List ℕ)) (fault : Fault) (e : PoolError) → RefusesPool t workers e → fault ≡ of_pool e → PoolsText text asked fuel journal lists workers old old (Err fault)
 no_close text asked fuel journal lists workers w t denotes same old fault e why is =
     let told = of_a_pool (terms w journal fuel (length lists)) workers e (subst (λ (u : Terms). RefusesPool u workers e) same why) in
-    inr (w, denotes, inl (subst (λ f. IsOfPool (terms w journal fuel (length lists)) workers f) (sym is) told, keeps_same old))
+    inr (w, denotes, inl (subst (λ f. IsOfPool (terms w journal fuel (length lists)) workers f) (sym is) told, Keeps-refl old))
 
 -- it was closed
 pub closed_so : (text : List ℕ) (asked : Option (List ℕ)) (fuel journal : ℕ) (lists : List (Vec HostCmd Global)) (workers : ℕ) (w : Wiring) (t : Terms) (old new : Option (List ℕ)) (answer : Result (Vec End Global) Fault) → Denotes text asked w → t ≡ terms w journal fuel (length lists) → WritesClosed t lists workers old new answer → PoolsText text asked fuel journal lists workers old new answer

@@ -1,7 +1,7 @@
 -- What went out of a play, from what was played and what was written.
 use Rattle.std.proofs.Common.{◌≡◌, ◌≢◌, ◌≤◌, ℕ, Bool, Option, None, Some, Result, Err, List, length, map, inr, refl, subst}
 use Rattle.std.specs.Prelude.{IfSome}
-use Rattle.std.specs.Io.KnownBytes.{Appends, Keeps}
+use Rattle.std.specs.Io.KnownBytes.{Appends}
 use Rattle.bz_model.specs.declared.event.NetError.{NetError}
 use Rattle.bz_model.specs.declared.event.NetError.TheVariants as net
 use Rattle.bz_cli_input.specs.declared.fault.Fault.{Fault}
@@ -48,7 +48,3 @@ pub runs_on : (known : Option (List ℕ)) (items : List ℕ) (words : List (List
 runs_on None items words asked limit strict cmds old new answer whole fits are plays = tt
 runs_on (Some xs) items words asked limit strict cmds old new answer whole fits are plays =
     inr (cmds, are, inr (subst (λ text. (length text ≤ input_limit) × PlaysText text asked limit strict cmds old new answer) whole (fits, plays)))
-
-pub keeps_same : (o : Option (List ℕ)) → Keeps o o
-keeps_same None = tt
-keeps_same (Some xs) = refl

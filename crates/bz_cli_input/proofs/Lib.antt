@@ -1,6 +1,5 @@
-pub mod Taken
 pub mod Written
-pub mod Outcomes
+pub mod Answered
 pub mod Lines
 pub mod ShortWords
 pub mod Marked

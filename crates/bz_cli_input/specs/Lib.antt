@@ -2,6 +2,7 @@ pub mod Limits
 pub mod Reading
 pub mod Statuses
 pub mod Stopping
+pub mod Answering
 pub mod Choosing
 pub mod Opening
 pub mod Listing

@@ -1,28 +1,23 @@
 -- What the command `list --paths` reads and writes.
-use Rattle.std.specs.Prelude.{ℕ, ◌≤◌, ◌⊎◌, List, length, Option, Result, Ok, Err, IsErrAnd}
-use Rattle.std.specs.Io.KnownBytes.{Appends, Keeps}
+use Rattle.std.specs.Prelude.{◌≡◌, ℕ, List, Option, Result}
 use Rattle.bz_cli_input.specs.declared.fault.Fault.{Fault}
 use Rattle.bz_cli_input.specs.declared.fault.Fault.TheVariants.{Write}
-use Rattle.bz_cli_input.specs.Limits.{input_limit}
+use Rattle.bz_cli_input.specs.Answering.{Answers, AnswersInput}
 use Rattle.bz_cli_input.specs.Opening.{RefusesNet}
-use Rattle.bz_cli_input.specs.Stopping.{AppendsSome, StopsAtInput}
+use Rattle.bz_cli_input.specs.Stopping.{IsOfInput}
 use Rattle.bz_flat.specs.declared.flat.Pieces.{Pieces}
 use Rattle.bz_source.specs.declared.survey.Survey.{Survey}
 use Rattle.bz_cli_source.specs.Surveys.{IsPlaced}
 use Rattle.bz_cli_source.specs.Listing.{paths_text}
 
--- The text of a net and its survey went out; where the writer failed, a front of it.
-abbrev pub TellsSurvey : {E : Type 0} → List ℕ → Pieces → Survey → Option (List ℕ) → Option (List ℕ) → Result E Fault → Type 0
-TellsSurvey name net s old new (Ok u) = Appends old new (paths_text net s name)
-TellsSurvey name net s old new (Err Write) = AppendsSome old new (paths_text net s name)
-TellsSurvey name net s old new (Err fault) = ⊥
+-- the list of the net that a text denotes, with where everything in it stands, under the name of its part
+abbrev pub IsPathList : List ℕ → Option (List ℕ) → List ℕ → Type 0
+IsPathList text asked list = (name : List ℕ) × (net : Pieces) × (s : Survey) × IsPlaced text asked name net s × (list ≡ paths_text net s name)
 
--- The netlist is refused and nothing went out, or the text of its survey did.
+-- The netlist is refused, or that list goes out.
 abbrev pub ListsPaths : {E : Type 0} → List ℕ → Option (List ℕ) → Option (List ℕ) → Option (List ℕ) → Result E Fault → Type 0
-ListsPaths text asked old new answer =
-    IsErrAnd answer (λ fault. RefusesNet text asked fault × Keeps old new)
-    ⊎ ((name : List ℕ) × (net : Pieces) × (s : Survey) × IsPlaced text asked name net s × TellsSurvey name net s old new answer)
+ListsPaths text asked old new answer = Answers Write (λ u list. IsPathList text asked list) (RefusesNet text asked) old new answer
 
--- The command: the input is not taken, or its net is listed.
+-- The command.
 abbrev pub Lists : {E : Type 0} → List ℕ → Option (List ℕ) → Option (List ℕ) → Option (List ℕ) → Result E Fault → Type 0
-Lists text asked old new answer = StopsAtInput old new answer ⊎ ((length text ≤ input_limit) × ListsPaths text asked old new answer)
+Lists text asked old new answer = AnswersInput IsOfInput (λ netlist. ListsPaths netlist asked old new answer) text old new answer

@@ -1,13 +1,8 @@
 -- What the command `parts` reads and writes: of each part what its own record has, in the order of the text.
-use Rattle.std.specs.Prelude.{◌≡◌, ℕ, ◌-◌, ◌≤◌, ◌⊎◌, Bool, true, false, List, ◌++◌, length, map, codes, decimal, count_by, is_some, slice_get, Option, None, Some, Result, Ok, Err}
+use Rattle.std.specs.Prelude.{◌≡◌, ℕ, ◌-◌, Bool, true, false, List, ◌++◌, length, map, codes, decimal, count_by, is_some, slice_get, Option, None, Some, Result}
 use Rattle.std.specs.List.{list_any}
-use Rattle.std.specs.Io.KnownBytes.{Appends, Keeps}
-use Rattle.bz_sexpr.specs.Data.{Datum}
-use Rattle.bz_sexpr.specs.Spelling.{ComesTo, data_are}
 use Rattle.bz_breeze_records.specs.declared.part.Part.{Part}
 use Rattle.bz_breeze_records.specs.Parts.{number_named}
-use Rattle.bz_breeze_records.specs.Records.{part_record}
-use Rattle.bz_breeze.specs.Parts.{parts}
 use Rattle.bz_model.specs.Names.{external}
 use Rattle.bz_model.specs.Traces.{name_form}
 use Rattle.bz_source.specs.declared.lines.PartLines.{PartLines}
@@ -15,10 +10,10 @@ use Rattle.bz_source.specs.Lines.{lines_in}
 use Rattle.bz_source.specs.Views.{part_lines_of}
 use Rattle.bz_cli_input.specs.declared.fault.Fault.{Fault}
 use Rattle.bz_cli_input.specs.declared.fault.Fault.TheVariants.{Write}
-use Rattle.bz_cli_input.specs.Limits.{input_limit}
+use Rattle.bz_cli_input.specs.Answering.{Answers, AnswersInput}
 use Rattle.bz_cli_input.specs.Listing.{lines, ports_text}
-use Rattle.bz_cli_input.specs.Opening.{RefusesText}
-use Rattle.bz_cli_input.specs.Stopping.{AppendsSome, StopsAtInput}
+use Rattle.bz_cli_input.specs.Opening.{NamesParts, RefusesText}
+use Rattle.bz_cli_input.specs.Stopping.{IsOfInput}
 use Rattle.bz_cli_input.specs.Uses.{has_instance_of}
 
 -- some part has an instance of part n
@@ -59,22 +54,18 @@ numbered_text listed places k part = part_text listed (line_of_part places (k - 
 abbrev pub parts_text : List Part → List PartLines → List ℕ
 parts_text listed places = lines (numbered_text listed places) 1 listed
 
--- The text spells data that name parts, which begin at these lines, and what is told of them went out as `Out` says.
-pub record Tells (text : List ℕ) (Out : List ℕ → Type 0) : Type 0 where
-  pub forms : List Datum
-  pub spelt : ComesTo text (data_are forms)
+-- the list of the parts that a text names, which begin at these lines
+pub record IsPartList (text list : List ℕ) : Type 0 where
   pub listed : List Part
-  pub read : parts forms ≡ Ok (map part_record listed)
+  pub names : NamesParts text listed
   pub places : List PartLines
-  pub stand : map part_lines_of places ≡ lines_in text forms
-  pub out : Out (parts_text listed places)
+  pub stand : map part_lines_of places ≡ lines_in text names.forms
+  pub list_is : list ≡ parts_text listed places
 
--- The parts were told; where the writer failed, a front of them; where the text names none, nothing.
+-- The netlist is refused, or the list of its parts goes out.
 abbrev pub TellsParts : {E : Type 0} → List ℕ → Option (List ℕ) → Option (List ℕ) → Result E Fault → Type 0
-TellsParts text old new (Ok u) = Tells text (Appends old new)
-TellsParts text old new (Err Write) = Tells text (AppendsSome old new)
-TellsParts text old new (Err fault) = RefusesText text fault × Keeps old new
+TellsParts text old new answer = Answers Write (λ u list. IsPartList text list) (RefusesText text) old new answer
 
--- The command: the input is not taken, or its parts are told.
+-- The command.
 abbrev pub ListsParts : {E : Type 0} → List ℕ → Option (List ℕ) → Option (List ℕ) → Result E Fault → Type 0
-ListsParts text old new answer = StopsAtInput old new answer ⊎ ((length text ≤ input_limit) × TellsParts text old new answer)
+ListsParts text old new answer = AnswersInput IsOfInput (λ netlist. TellsParts netlist old new answer) text old new answer

@@ -1,17 +1,16 @@
 -- What the command `check` reads and writes: a netlist, a trace, and what is said of it.
-use Rattle.std.specs.Prelude.{◌≡◌, ◌≢◌, ◌⊎◌, ℕ, ◌≤◌, Bool, true, false, List, [], ◌++◌, length, codes, decimal, Option, Result, Ok, Err}
-use Rattle.std.specs.Io.KnownBytes.{Appends, Keeps}
+use Rattle.std.specs.Prelude.{◌≡◌, ◌≢◌, ℕ, Bool, true, false, List, [], ◌++◌, codes, decimal, Option, Result}
 use Rattle.bz_trace_text.specs.declared.tally.Counts.{Counts}
 use Rattle.bz_trace.specs.declared.checking.Verdict.{Verdict}
 use Rattle.bz_trace.specs.declared.checking.Verdict.TheVariants as verdict
 use Rattle.bz_trace.specs.Verdicts.{CountsRun, Judges, Leaves}
 use Rattle.bz_cli_input.specs.declared.fault.Fault.{Fault}
 use Rattle.bz_cli_input.specs.declared.fault.Fault.TheVariants.{Memory, Write}
-use Rattle.bz_cli_input.specs.Limits.{input_limit}
+use Rattle.bz_cli_input.specs.Answering.{Answers, AnswersInput}
 use Rattle.bz_cli_input.specs.Opening.{Denotes, RefusesNet}
-use Rattle.bz_cli_input.specs.Stopping.{AppendsSome, StopsAtInput}
+use Rattle.bz_cli_input.specs.Stopping.{IsOfInput}
 use Rattle.bz_cli_source.specs.Surveys.{IsRead}
-use Rattle.bz_cli_trace.specs.Splitting.{Splits}
+use Rattle.bz_cli_trace.specs.Taking.{AnswersText}
 use Rattle.bz_cli_trace.specs.declared.checked.Checked.{Checked}
 
 abbrev pub run_text : Counts → List ℕ
@@ -36,33 +35,26 @@ pub record IsChecked (netlist trace : List ℕ) (asked : Option (List ℕ)) (c :
   pub counted : c.verdict ≡ verdict.Run → CountsRun c.net.wiring trace c.counts
   pub leaves : Leaves c.net.wiring trace c.net c.verdict
 
--- And that verdict went out as `Out` says.
-pub record Said (netlist trace : List ℕ) (asked : Option (List ℕ)) (c : Checked) (Out : List ℕ → Type 0) : Type 0 where
-  pub checked : IsChecked netlist trace asked c
-  pub some : c.verdict ≢ verdict.Memory
-  pub out : Out (verdict_text c.verdict c.counts)
+-- it is told, where memory was not refused
+abbrev pub SaysVerdict : Verdict → Counts → List ℕ → Type 0
+SaysVerdict v counts text = (v ≢ verdict.Memory) × (text ≡ verdict_text v counts)
 
--- A verdict went out; where the writer failed, a front of it. Where memory was refused, nothing did.
+-- It goes out, or memory was refused.
 abbrev pub TellsVerdict : {A : Type 0} → Verdict → Counts → Option (List ℕ) → Option (List ℕ) → Result A Fault → Type 0
-TellsVerdict v counts old new (Ok u) = (v ≢ verdict.Memory) × Appends old new (verdict_text v counts)
-TellsVerdict v counts old new (Err Write) = (v ≢ verdict.Memory) × AppendsSome old new (verdict_text v counts)
-TellsVerdict v counts old new (Err fault) = (fault ≡ Memory) × Keeps old new
+TellsVerdict v counts old new answer = Answers Write (λ u text. SaysVerdict v counts text) (λ fault. fault ≡ Memory) old new answer
 
--- The verdict went out, and the net that was checked is answered; where the writer failed, a front of the verdict went out; where
--- the netlist is refused, nothing.
+-- the verdict on a trace, with the net that was checked
+abbrev pub IsVerdict : List ℕ → List ℕ → Option (List ℕ) → Checked → List ℕ → Type 0
+IsVerdict netlist trace asked c text = IsChecked netlist trace asked c × SaysVerdict c.verdict c.counts text
+
+-- The netlist is refused, or the verdict goes out.
 abbrev pub ChecksTrace : List ℕ → List ℕ → Option (List ℕ) → Option (List ℕ) → Option (List ℕ) → Result Checked Fault → Type 0
-ChecksTrace netlist trace asked old new (Ok checked) = Said netlist trace asked checked (Appends old new)
-ChecksTrace netlist trace asked old new (Err Write) = (checked : Checked) × Said netlist trace asked checked (AppendsSome old new)
-ChecksTrace netlist trace asked old new (Err fault) = RefusesNet netlist asked fault × Keeps old new
+ChecksTrace netlist trace asked old new answer = Answers Write (IsVerdict netlist trace asked) (RefusesNet netlist asked) old new answer
 
--- The same of a netlist with a trace after it.
-abbrev pub ChecksText : List ℕ → Option (List ℕ) → Option (List ℕ) → Option (List ℕ) → Result Checked Fault → Type 0
-ChecksText text asked old new answer = (netlist trace : List ℕ) × Splits text netlist trace × ChecksTrace netlist trace asked old new answer
-
--- The command `check`: the input is not taken, or the trace in it is checked.
+-- The command `check`.
 abbrev pub Checks : List ℕ → Option (List ℕ) → Option (List ℕ) → Option (List ℕ) → Result Checked Fault → Type 0
-Checks text asked old new answer = StopsAtInput old new answer ⊎ ((length text ≤ input_limit) × ChecksText text asked old new answer)
+Checks text asked old new answer = AnswersText IsOfInput (λ netlist trace. ChecksTrace netlist trace asked old new answer) text old new answer
 
 -- The same of a netlist and a trace apart: the one or the other is not taken, or the trace is checked.
 abbrev pub ChecksApart : List ℕ → List ℕ → Option (List ℕ) → Option (List ℕ) → Option (List ℕ) → Result Checked Fault → Type 0
-ChecksApart netlist trace asked old new answer = StopsAtInput old new answer ⊎ ((length netlist ≤ input_limit) × ChecksTrace netlist trace asked old new answer)
+ChecksApart netlist trace asked old new answer = AnswersInput IsOfInput (λ n. ChecksTrace n trace asked old new answer) netlist old new answer

@@ -1,14 +1,12 @@
 -- What a command makes of the trace of a run, or why it makes nothing.
-use Rattle.std.specs.Prelude.{ℕ, List, Option, Result, Ok, Err}
-use Rattle.std.specs.Io.KnownBytes.{Appends, Keeps}
+use Rattle.std.specs.Prelude.{◌≡◌, ℕ, List, Option}
 use Rattle.bz_model.specs.Nets.{Wiring}
 use Rattle.bz_trace.specs.declared.checking.Verdict.{Verdict}
 use Rattle.bz_trace.specs.declared.checking.Verdict.TheVariants as verdict
 use Rattle.bz_trace.specs.Verdicts.{Judges}
-use Rattle.bz_cli_input.specs.declared.fault.Fault.TheVariants.{Write}
+use Rattle.bz_cli_input.specs.declared.fault.Fault.TheVariants.{Memory}
 use Rattle.bz_cli_input.specs.Opening.{Denotes, RefusesNet}
 use Rattle.bz_cli_input.specs.Statuses as command
-use Rattle.bz_cli_input.specs.Stopping.{AppendsSome}
 use Rattle.bz_cli_trace.specs.declared.fault.TraceFault.{TraceFault}
 use Rattle.bz_cli_trace.specs.declared.fault.TraceFault.TheVariants.{Command, NotRun, NotTrace, Other}
 
@@ -34,9 +32,8 @@ MakesNone Refuses netlist trace asked (Other cause) = (w : Wiring) × IsJudged n
 abbrev pub RefusesRun : {C : Type 0} → List ℕ → List ℕ → Option (List ℕ) → TraceFault C → Type 0
 RefusesRun netlist trace asked fault = MakesNone (λ w cause. ⊥) netlist trace asked fault
 
--- What is made of the trace of a run goes out; where the writer fails, a front of it; where nothing is made, nothing. `Makes Out` says
--- that `Out` is so of what is made.
-abbrev pub SendsMade : {A C : Type 0} → (Wiring → C → Type 0) → ((List ℕ → Type 0) → Type 0) → List ℕ → List ℕ → Option (List ℕ) → Option (List ℕ) → Option (List ℕ) → Result A (TraceFault C) → Type 0
-SendsMade Refuses Makes netlist trace asked old new (Ok u) = Makes (Appends old new)
-SendsMade Refuses Makes netlist trace asked old new (Err (Command Write)) = Makes (AppendsSome old new)
-SendsMade Refuses Makes netlist trace asked old new (Err fault) = MakesNone Refuses netlist trace asked fault × Keeps old new
+-- Why nothing is made of the trace of a run: memory was refused, or `Refuses`.
+abbrev pub RefusesMaking : {C : Type 0} → (C → Type 0) → TraceFault C → Type 0
+RefusesMaking Refuses (Command fault) = fault ≡ Memory
+RefusesMaking Refuses (Other cause) = Refuses cause
+RefusesMaking Refuses fault = ⊥

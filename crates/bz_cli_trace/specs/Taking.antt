@@ -1,6 +1,6 @@
 -- Where a netlist and a trace come from, and what a command does with them.
-use Rattle.std.specs.Prelude.{◌≡◌, ◌⊎◌, ℕ, ◌≤◌, List, length, Option, Result, IsErrAnd}
-use Rattle.std.specs.Io.KnownBytes.{Keeps}
+use Rattle.std.specs.Prelude.{◌≡◌, ℕ, ◌≤◌, List, length, Option, Result}
+use Rattle.bz_cli_input.specs.Answering.{AnswersInput}
 use Rattle.bz_cli_input.specs.Limits.{input_limit}
 use Rattle.bz_cli_input.specs.Stopping as stopping
 use Rattle.bz_cli_trace.specs.declared.fault.TraceFault.{TraceFault}
@@ -24,14 +24,10 @@ abbrev pub IsOfInput : {C : Type 0} → TraceFault C → Type 0
 IsOfInput (Command fault) = stopping.IsOfInput fault
 IsOfInput fault = ⊥
 
--- A text is not taken and nothing goes out, or the command does `Does` with its netlist and its trace.
-abbrev pub TakesText : {A C : Type 0} → (List ℕ → List ℕ → Type 0) → List ℕ → Option (List ℕ) → Option (List ℕ) → Result A (TraceFault C) → Type 0
-TakesText Does text old new answer =
-    IsErrAnd answer (λ fault. IsOfInput fault × Keeps old new)
-    ⊎ ((length text ≤ input_limit) × ((netlist trace : List ℕ) × Splits text netlist trace × Does netlist trace))
+-- A text is not taken, and nothing goes out; or the command does `Does` with its netlist and its trace.
+abbrev pub AnswersText : {A F : Type 0} → (F → Type 0) → (List ℕ → List ℕ → Type 0) → List ℕ → Option (List ℕ) → Option (List ℕ) → Result A F → Type 0
+AnswersText IsOf Does text old new answer = AnswersInput IsOf (λ t. (netlist trace : List ℕ) × Splits t netlist trace × Does netlist trace) text old new answer
 
 -- The same of a netlist and a trace apart.
-abbrev pub TakesTwo : {A C : Type 0} → (List ℕ → List ℕ → Type 0) → List ℕ → List ℕ → Option (List ℕ) → Option (List ℕ) → Result A (TraceFault C) → Type 0
-TakesTwo Does netlist trace old new answer =
-    IsErrAnd answer (λ fault. IsOfInput fault × Keeps old new)
-    ⊎ ((length netlist ≤ input_limit) × (length trace ≤ input_limit) × Does netlist trace)
+abbrev pub AnswersTwo : {A F : Type 0} → (F → Type 0) → (List ℕ → List ℕ → Type 0) → List ℕ → List ℕ → Option (List ℕ) → Option (List ℕ) → Result A F → Type 0
+AnswersTwo IsOf Does netlist trace old new answer = AnswersInput IsOf (λ n. (length trace ≤ input_limit) × Does n trace) netlist old new answer

@@ -1,4 +1,3 @@
 pub mod Ends
 pub mod EdgeLaws
 pub mod NodeLaws
-pub mod Outcomes

@@ -14,18 +14,22 @@ use Rattle.bz_trace.specs.declared.checking.Verdict.TheVariants as verdict
 use Rattle.bz_trace.specs.Verdicts.{Judges}
 use Rattle.bz_cli_input.specs.declared.fault.Fault.{Fault}
 use Rattle.bz_cli_input.specs.declared.fault.Fault.TheVariants as fault
+use Rattle.bz_cli_input.specs.Opening.{RefusesNet}
+use Rattle.bz_cli_input.proofs.Answered.{failed_as, sent_as}
 use Rattle.bz_cli_source.specs.Surveys.{IsRead, wiring_in}
 use Rattle.bz_cli_trace.specs.declared.fault.TraceFault.{TraceFault}
-use Rattle.bz_cli_trace.specs.declared.fault.TraceFault.TheVariants.{Command, NotRun, NotTrace, Other}
+use Rattle.bz_cli_trace.specs.declared.fault.TraceFault.TheVariants.{Command}
 use Rattle.bz_cli_trace.specs.declared.checked.Checked.{Checked}
 use Rattle.bz_cli_trace.specs.Checking.{IsChecked}
+use Rattle.bz_cli_trace.specs.Making.{MakesNone}
+use Rattle.bz_cli_trace.proofs.Makes.{none_of_run, run_judged}
 use Rattle.bz_page.specs.declared.fault.TooLarge.{TooLarge}
 use Rattle.bz_page.specs.Pages.{Blank, page_text}
-use Rattle.bz_page.specs.Paging.{Finds, HasPage, IsPlacedOf, PagesNet, PagesTrace, Places}
+use Rattle.bz_page.specs.Paging.{Finds, HasPage, IsPage, IsPlacedOf, IsTooLarge, PagesNet, PagesTrace, Places, net_page}
 
 -- a page of texts that are known to be these
-pub page_of : (Out : List ℕ → Type 0) (b : Blank) (list listed rows told trace : List ℕ) → list ≡ listed → rows ≡ told → Out (page_text b list rows trace) → Out (page_text b listed told trace)
-page_of Out b list listed rows told trace is are out = subst (λ l. Out (page_text b l told trace)) is (subst (λ r. Out (page_text b list r trace)) are out)
+pub page_is : (b : Blank) (list listed rows told trace : List ℕ) → list ≡ listed → rows ≡ told → page_text b list rows trace ≡ page_text b listed told trace
+page_is b list listed rows told trace is are = ap (λ l. page_text b l rows trace) is ∙ ap (λ r. page_text b listed r trace) are
 
 -- a net in its pieces, and the places in it
 pub placed_of : (c : Checked) (plan : Plan) (source : Source) (part : Vec ℕ Global) (called : List ℕ) (net : Pieces) (s : Survey) → plan.wiring ≡ c.net.wiring → source ≡ c.source → part ≡ c.part → called ≡ part.items → plan.wiring ≡ wiring_in net → WellWired (wiring_in net)
@@ -54,46 +58,14 @@ found netlist trace asked c (Ok (net, s, part)) checked run places =
       judged = subst (λ w. Judges w trace verdict.Run) places.wiring (subst (Judges c.net.wiring trace) run checked.judged);
       few = places.few;
     }
-found netlist trace asked c (Err (Other large)) checked run places = (c.net.wiring, record { net = checked.net; judged = subst (Judges c.net.wiring trace) run checked.judged }, places)
-found netlist trace asked c (Err (NotRun line)) checked run places = absurd places
-found netlist trace asked c (Err (NotTrace line)) checked run places = absurd places
-found netlist trace asked c (Err (Command (fault.Word at))) checked run places = absurd places
-found netlist trace asked c (Err (Command (fault.Text e))) checked run places = absurd places
-found netlist trace asked c (Err (Command (fault.Part e))) checked run places = absurd places
-found netlist trace asked c (Err (Command (fault.Top names))) checked run places = absurd places
-found netlist trace asked c (Err (Command (fault.Net e name))) checked run places = absurd places
-found netlist trace asked c (Err (Command (fault.Event e word))) checked run places = absurd places
-found netlist trace asked c (Err (Command (fault.Ended e who))) checked run places = absurd places
-found netlist trace asked c (Err (Command (fault.Discord who at))) checked run places = absurd places
-found netlist trace asked c (Err (Command fault.NoThread)) checked run places = absurd places
-found netlist trace asked c (Err (Command fault.Read)) checked run places = absurd places
-found netlist trace asked c (Err (Command fault.Write)) checked run places = absurd places
-found netlist trace asked c (Err (Command fault.Memory)) checked run places = tt
+found netlist trace asked c (Err f) checked run places = none_of_run IsTooLarge netlist trace asked c.net.wiring f (run_judged netlist trace asked c checked run) places
 
-pub paged_short : (A : Type 0) (b : Blank) (netlist trace : List ℕ) (asked : Option (List ℕ)) (name : List ℕ) (net : Pieces) (s : Survey) (old new : Option (List ℕ)) (f : Fault) → HasPage netlist trace asked name net s → PagesNet {A = A} b name net s trace [] old new (Err f)
-    → PagesTrace {A = A} b netlist trace asked old new (Err (Command f))
-paged_short A b netlist trace asked name net s old new (fault.Word at) has out = absurd out
-paged_short A b netlist trace asked name net s old new (fault.Text e) has out = absurd out
-paged_short A b netlist trace asked name net s old new (fault.Part e) has out = absurd out
-paged_short A b netlist trace asked name net s old new (fault.Top names) has out = absurd out
-paged_short A b netlist trace asked name net s old new (fault.Net e part) has out = absurd out
-paged_short A b netlist trace asked name net s old new (fault.Event e word) has out = absurd out
-paged_short A b netlist trace asked name net s old new (fault.Ended e who) has out = absurd out
-paged_short A b netlist trace asked name net s old new (fault.Discord who at) has out = absurd out
-paged_short A b netlist trace asked name net s old new fault.NoThread has out = absurd out
-paged_short A b netlist trace asked name net s old new fault.Read has out = absurd out
-paged_short A b netlist trace asked name net s old new fault.Write has out = (name, net, s, has, out)
-paged_short A b netlist trace asked name net s old new fault.Memory has out = (tt, out)
+-- what went out of the page of a net that has one, and what was answered
+module _ (b : Blank) (netlist trace : List ℕ) (asked : Option (List ℕ)) (name : List ℕ) (net : Pieces) (s : Survey) (has : HasPage netlist trace asked name net s) (old new : Option (List ℕ)) where
+  pub paged : PagesNet {A = Unit {0}} b name net s trace [] old new (Ok tt) → PagesTrace {A = Unit {0}} b netlist trace asked old new (Ok tt)
+  paged out = sent_as Command fault.Write (λ (u : Unit {0}) page. page ≡ net_page b name net s trace []) (λ f. f ≡ fault.Memory) (λ (u : Unit {0}) page. IsPage b netlist trace asked page) (MakesNone IsTooLarge netlist trace asked) old new tt tt
+      (λ page is. (name, net, s, has, is)) out
 
--- the same of texts that are known to be these, under a name that is known to be this one
-pub paged_short_of : (A : Type 0) (b : Blank) (n t netlist trace : List ℕ) (asked : Option (List ℕ)) (name called : List ℕ) (net : Pieces) (s : Survey) (old new : Option (List ℕ)) (f : Fault) → n ≡ netlist → t ≡ trace → called ≡ name → HasPage n t asked name net s
-    → PagesNet {A = A} b called net s t [] old new (Err f) → PagesTrace {A = A} b netlist trace asked old new (Err (Command f))
-paged_short_of A b n t netlist trace asked name called net s old new f is are so has out =
-    let named : PagesNet {A = A} b name net s t [] old new (Err f) = subst (λ k. PagesNet {A = A} b k net s t [] old new (Err f)) so out in
-    subst (λ k. PagesTrace {A = A} b k trace asked old new (Err (Command f))) is (subst (λ k. PagesTrace {A = A} b n k asked old new (Err (Command f))) are (paged_short A b n t asked name net s old new f has named))
-
-pub paged_of : (A : Type 0) (b : Blank) (n t netlist trace : List ℕ) (asked : Option (List ℕ)) (name called : List ℕ) (net : Pieces) (s : Survey) (old new : Option (List ℕ)) (u : A) → n ≡ netlist → t ≡ trace → called ≡ name → HasPage n t asked name net s
-    → PagesNet {A = A} b called net s t [] old new (Ok u) → PagesTrace {A = A} b netlist trace asked old new (Ok u)
-paged_of A b n t netlist trace asked name called net s old new u is are so has out =
-    let named : PagesNet {A = A} b name net s t [] old new (Ok u) = subst (λ k. PagesNet {A = A} b k net s t [] old new (Ok u)) so out in
-    subst (λ k. PagesTrace {A = A} b k trace asked old new (Ok u)) is (subst (λ k. PagesTrace {A = A} b n k asked old new (Ok u)) are (name, net, s, has, named))
+  pub paged_short : (f : Fault) → PagesNet {A = Unit {0}} b name net s trace [] old new (Err f) → PagesTrace {A = Unit {0}} b netlist trace asked old new (Err (Command f))
+  paged_short f out = failed_as Command fault.Write (λ (u : Unit {0}) page. page ≡ net_page b name net s trace []) (λ f. f ≡ fault.Memory) (λ (u : Unit {0}) page. IsPage b netlist trace asked page) (MakesNone IsTooLarge netlist trace asked) old new f tt
+      (λ u page is. (name, net, s, has, is)) (λ is. subst (RefusesNet netlist asked) (sym is) tt) out

@@ -1,8 +1,7 @@
 -- What the command `page` reads and writes: a netlist, a trace, and a page.
-use Rattle.std.specs.Prelude.{◌≡◌, ◌<◌, ◌≤◌, ⊤, ℕ, List, [], length, map, Option, Result, Ok, Err}
+use Rattle.std.specs.Prelude.{◌≡◌, ◌<◌, ◌≤◌, ℕ, List, [], length, map, Option, Result, Ok, Err}
 use Rattle.std.specs.declared.alloc.Global.{Global}
 use Rattle.std.specs.declared.vec.Vec.{Vec}
-use Rattle.std.specs.Io.KnownBytes.{Appends, Keeps}
 use Rattle.bz_model.specs.Nets.{Wiring}
 use Rattle.bz_flat.specs.Flats.{site_of}
 use Rattle.bz_flat.specs.Wires.{EndsOf, WellWired}
@@ -14,14 +13,14 @@ use Rattle.bz_trace.specs.declared.checking.Verdict.TheVariants as verdict
 use Rattle.bz_trace.specs.Verdicts.{Judges}
 use Rattle.bz_cli_input.specs.declared.fault.Fault.{Fault}
 use Rattle.bz_cli_input.specs.declared.fault.Fault.TheVariants.{Write, Memory}
-use Rattle.bz_cli_input.specs.Stopping.{AppendsSome}
+use Rattle.bz_cli_input.specs.Answering.{Answers}
 use Rattle.bz_cli_source.specs.Surveys.{IsPlaced, wiring_in}
 use Rattle.bz_cli_source.specs.Listing.{paths_text}
 use Rattle.bz_cli_trace.specs.declared.fault.TraceFault.{TraceFault}
-use Rattle.bz_cli_trace.specs.declared.fault.TraceFault.TheVariants.{Command, Other}
+use Rattle.bz_cli_trace.specs.declared.fault.TraceFault.TheVariants.{Command}
 use Rattle.bz_cli_trace.specs.declared.checked.Checked.{Checked}
-use Rattle.bz_cli_trace.specs.Making.{MakesNone, SendsMade}
-use Rattle.bz_cli_trace.specs.Taking.{TakesText, TakesTwo}
+use Rattle.bz_cli_trace.specs.Making.{MakesNone, RefusesMaking}
+use Rattle.bz_cli_trace.specs.Taking.{AnswersText, AnswersTwo, IsOfInput}
 use Rattle.bz_page.specs.declared.fault.TooLarge.{TooLarge}
 use Rattle.bz_page.specs.Pages.{Blank, page_text}
 use Rattle.bz_page.specs.Rows.{rows_text}
@@ -56,34 +55,29 @@ pub record IsPlacedOf (c : Checked) (name : List ℕ) (net : Pieces) (s : Survey
 -- There are such pieces and places, or the net has more components than a page holds, or memory was refused.
 abbrev pub Places : Checked → Result (Pieces × Survey × Vec ℕ Global) (TraceFault TooLarge) → Type 0
 Places c (Ok found) = IsPlacedOf c found.2.items found.0 found.1
-Places c (Err (Other large)) = IsTooLarge c.net.wiring large
-Places c (Err (Command Memory)) = ⊤
-Places c (Err fault) = ⊥
+Places c (Err fault) = RefusesMaking (IsTooLarge c.net.wiring) fault
 
 -- the page of a net and a trace: its list is what `list --paths` writes of the net
 abbrev pub net_page : Blank → List ℕ → Pieces → Survey → List ℕ → List ℕ → List ℕ
 net_page b part net s trace ends = page_text b (paths_text net s part) (rows_text s (map site_of net.comps) ends) trace
 
--- It went out; where the writer failed, a front of it; where memory was refused, nothing.
+-- It goes out, or memory was refused.
 abbrev pub PagesNet : {A : Type 0} → Blank → List ℕ → Pieces → Survey → List ℕ → List ℕ → Option (List ℕ) → Option (List ℕ) → Result A Fault → Type 0
-PagesNet b part net s trace ends old new (Ok u) = Appends old new (net_page b part net s trace ends)
-PagesNet b part net s trace ends old new (Err Write) = AppendsSome old new (net_page b part net s trace ends)
-PagesNet b part net s trace ends old new (Err Memory) = Keeps old new
-PagesNet b part net s trace ends old new (Err fault) = ⊥
+PagesNet b part net s trace ends old new answer = Answers Write (λ u page. page ≡ net_page b part net s trace ends) (λ fault. fault ≡ Memory) old new answer
 
--- The page of the net that a netlist denotes went out as `Out` says, with a trace that is that of a run of it.
-abbrev pub IsPagedRun : Blank → List ℕ → List ℕ → Option (List ℕ) → (List ℕ → Type 0) → Type 0
-IsPagedRun b netlist trace asked Out =
-    (name : List ℕ) × (net : Pieces) × (s : Survey) × HasPage netlist trace asked name net s × Out (net_page b name net s trace [])
+-- the page of the net that a netlist denotes, with a trace that is that of a run of it
+abbrev pub IsPage : Blank → List ℕ → List ℕ → Option (List ℕ) → List ℕ → Type 0
+IsPage b netlist trace asked page =
+    (name : List ℕ) × (net : Pieces) × (s : Survey) × HasPage netlist trace asked name net s × (page ≡ net_page b name net s trace [])
 
 -- Only the trace of a run is played.
 abbrev pub PagesTrace : {A : Type 0} → Blank → List ℕ → List ℕ → Option (List ℕ) → Option (List ℕ) → Option (List ℕ) → Result A (TraceFault TooLarge) → Type 0
-PagesTrace b netlist trace asked old new answer = SendsMade IsTooLarge (IsPagedRun b netlist trace asked) netlist trace asked old new answer
+PagesTrace b netlist trace asked old new answer = Answers (Command Write) (λ u page. IsPage b netlist trace asked page) (MakesNone IsTooLarge netlist trace asked) old new answer
 
--- The command `page`: the input is not taken and nothing goes out, or a page of the trace in it does.
+-- The command `page`.
 abbrev pub Pages : {A : Type 0} → Blank → List ℕ → Option (List ℕ) → Option (List ℕ) → Option (List ℕ) → Result A (TraceFault TooLarge) → Type 0
-Pages b text asked old new answer = TakesText (λ netlist trace. PagesTrace b netlist trace asked old new answer) text old new answer
+Pages b text asked old new answer = AnswersText IsOfInput (λ netlist trace. PagesTrace b netlist trace asked old new answer) text old new answer
 
 -- The same of a netlist and a trace apart.
 abbrev pub PagesApart : {A : Type 0} → Blank → List ℕ → List ℕ → Option (List ℕ) → Option (List ℕ) → Option (List ℕ) → Result A (TraceFault TooLarge) → Type 0
-PagesApart b netlist trace asked old new answer = TakesTwo (λ n t. PagesTrace b n t asked old new answer) netlist trace old new answer
+PagesApart b netlist trace asked old new answer = AnswersTwo IsOfInput (λ n t. PagesTrace b n t asked old new answer) netlist trace old new answer

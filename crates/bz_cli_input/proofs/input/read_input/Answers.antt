@@ -1,6 +1,6 @@
 use Rattle.std.proofs.Common.{arith, length-append, ◌++◌, take}
 use Rattle.std.proofs.lemmas.List.{length-take}
-use Rattle.bz_cli_input.proofs.Taken.{consumes_then}
+use Rattle.std.proofs.KnownBytes.{Consumes-trans}
 use Rattle.bz_cli_input.proofs.input.read_input.Goals as goal
 
 pub returns-in_err-extend_from_slice-in-Ok-clause-bounded : goal.returns-in_err-extend_from_slice-in-Ok-clause-bounded
@@ -13,4 +13,4 @@ returns-in_err-extend_from_slice-in-Ok-clause-bounded g c =
     let l = c.len-in-reading.ensures in
     let room = length-take c.min-room.result c.reading.chunk in
     let both = length-append text.items piece in
-    (text.items ++ piece, omega (arith, text.ok.0, c.reading-test.true, c.len.ensures), consumes_then _ _ _ text.items piece c.reading.invariant.taken c.in-Ok.ensures.bytes.0)
+    (text.items ++ piece, omega (arith, text.ok.0, c.reading-test.true, c.len.ensures), Consumes-trans _ _ _ text.items piece c.reading.invariant.taken c.in-Ok.ensures.bytes.0)

@@ -1,17 +1,29 @@
-use Rattle.std.proofs.lemmas.Result.{err_from_is_err_and}
-use Rattle.std.specs.Io.KnownBytes.{Appends}
+use Rattle.std.proofs.Common.{inr, ap}
 use Rattle.bz_sexpr.specs.Forms.{forest_view}
-use Rattle.bz_cli_input.specs.Stopping.{AppendsSome}
-use Rattle.bz_cli_source.proofs.Outcomes.{told, told_short}
+use Rattle.bz_cli_input.specs.declared.fault.Fault.TheVariants.{Write}
+use Rattle.bz_cli_input.specs.Opening.{RefusesText}
+use Rattle.bz_cli_input.proofs.Answered.{cut_short}
+use Rattle.bz_cli_source.specs.PartLists.{IsPartList, parts_text}
 use Rattle.bz_cli_source.proofs.parts.list_parts.Goals as goal
 
 pub returns-in_err-write_out : goal.returns-in_err-write_out
 returns-in_err-write_out g c =
-    let old = g.W.Write.contents c.args.output.now in let new = g.W.Write.contents c.write_out.new.output in
-    let fault = err_from_is_err_and c.from_residual-in_err-write_out.result c.from_residual-in_err-write_out.ensures.1 in
-    rw fault.1 (told_short (Unit {0}) c.args.text.now old new fault.0 fault.2 (told c.args.text.now (forest_view c.in_ok-forest.forest) c.in_ok-parts.parts c.in_ok-lines.lines.items (AppendsSome old new) c.in_ok-forest.ensures.right (rw c.forms.ensures at c.in_ok-parts.ensures.ok) (rw c.forms-2.ensures at c.in_ok-lines.ensures) (rw c.as_slice.ensures.value at c.in_err-write_out.ensures.err)))
+    let list : IsPartList c.args.text.now (parts_text c.in_ok-parts.parts c.as_slice.result.now) = record {
+      listed = c.in_ok-parts.parts;
+      names = record { forms = forest_view c.in_ok-forest.forest; spelt = c.in_ok-forest.ensures.right; read = rw c.forms.ensures at c.in_ok-parts.ensures.ok };
+      places = c.in_ok-lines.lines.items;
+      stand = rw c.forms-2.ensures at c.in_ok-lines.ensures;
+      list_is = ap (parts_text c.in_ok-parts.parts) c.as_slice.ensures.value;
+    } in
+    cut_short Write (λ u list. IsPartList c.args.text.now list) (RefusesText c.args.text.now) _ _ _ c.from_residual-in_err-write_out.ensures.1 tt _ list c.in_err-write_out.ensures.err
 
 pub returns : goal.returns
 returns g c =
-    let old = g.W.Write.contents c.args.output.now in let new = g.W.Write.contents c.write_out.new.output in
-    told c.args.text.now (forest_view c.in_ok-forest.forest) c.in_ok-parts.parts c.in_ok-lines.lines.items (Appends old new) c.in_ok-forest.ensures.right (rw c.forms.ensures at c.in_ok-parts.ensures.ok) (rw c.forms-2.ensures at c.in_ok-lines.ensures) (rw c.as_slice.ensures.value at c.in_ok-write_out.ensures.ok)
+    let list : IsPartList c.args.text.now (parts_text c.in_ok-parts.parts c.as_slice.result.now) = record {
+      listed = c.in_ok-parts.parts;
+      names = record { forms = forest_view c.in_ok-forest.forest; spelt = c.in_ok-forest.ensures.right; read = rw c.forms.ensures at c.in_ok-parts.ensures.ok };
+      places = c.in_ok-lines.lines.items;
+      stand = rw c.forms-2.ensures at c.in_ok-lines.ensures;
+      list_is = ap (parts_text c.in_ok-parts.parts) c.as_slice.ensures.value;
+    } in
+    inr (parts_text c.in_ok-parts.parts c.as_slice.result.now, list, c.in_ok-write_out.ensures.ok)

@@ -1,5 +1,5 @@
 use Rattle.std.specs.Option.{option_copied}
-use Rattle.bz_cli_source.proofs.Outcomes.{no_miss, surveyed}
+use Rattle.bz_cli_source.proofs.Placed.{no_miss, surveyed}
 use Rattle.bz_cli_source.proofs.surveying.survey_of.Goals as goal
 
 pub returns-in-Ok-clause-survey : goal.returns-in-Ok-clause-survey

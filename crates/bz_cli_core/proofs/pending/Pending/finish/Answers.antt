@@ -3,7 +3,8 @@ use Rattle.std.proofs.lemmas.Result.{err_from_is_err_and}
 use Rattle.bz_model.specs.Traces.{trace_text}
 use Rattle.bz_cli_core.specs.Sending.{SentUp}
 use Rattle.bz_cli_core.proofs.Pieces.{all_sent, puts_all, some_of_trace}
-use Rattle.bz_cli_input.proofs.Written.{appends_keeps, some_front}
+use Rattle.std.proofs.KnownBytes.{Appends-kept}
+use Rattle.bz_cli_input.proofs.Written.{some_front}
 use Rattle.bz_cli_core.proofs.pending.Pending.finish.Goals as goal
 
 pub returns-then-self : goal.returns-then-self
@@ -30,4 +31,4 @@ returns g c = λ start played sent.
     let has = all_sent ports start p.failed now played p.entries.items c.if-self.false c.put.ensures.none (c.put.ensures.sent start played sent) in
     let text = trace_text ports played c.args.clashes.now in
     puts_all c.map_err.result start (g.W.Write.contents c.flush.new.self) text
-    (appends_keeps start (g.W.Write.contents c.put_clashes.new.out) (g.W.Write.contents c.flush.new.self) text (c.in_ok-put_clashes.ensures.whole ports start played has) c.flush.ensures.bytes)
+    (Appends-kept start (g.W.Write.contents c.put_clashes.new.out) (g.W.Write.contents c.flush.new.self) text (c.in_ok-put_clashes.ensures.whole ports start played has) c.flush.ensures.bytes)
