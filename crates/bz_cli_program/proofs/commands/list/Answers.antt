@@ -6,8 +6,8 @@ use Rattle.bz_cli_program.proofs.commands.list.Goals as goal
 
 pub returns-then-given-clause-places : goal.returns-then-given-clause-places
 returns-then-given-clause-places g c =
-    λ places. is_done _ (λ text answer. placed.Lists text (option_copied c.args.given.part) _ _ answer) c.list_paths_cmd.result _ c.list_paths_cmd.ensures.lists c.done.ensures
+    λ places. is_done _ (λ text answer. placed.Lists text (option_copied c.args.part) _ _ answer) c.list_paths_cmd.result _ c.list_paths_cmd.ensures.lists c.done.ensures
 
 pub returns-else-given-clause-plainly : goal.returns-else-given-clause-plainly
 returns-else-given-clause-plainly g c =
-    λ plainly. is_done _ (λ text answer. Lists text (option_copied c.args.given.part) _ _ answer) c.list_cmd.result _ c.list_cmd.ensures.lists c.done-else-given.ensures
+    λ plainly. is_done _ (λ text answer. Lists text (option_copied c.args.part) _ _ answer) c.list_cmd.result _ c.list_cmd.ensures.lists c.done-else-given.ensures
