@@ -57,9 +57,12 @@ pooled_so fuel closed lists workers ends stopped played comps Out clashed run fe
 }
 
 -- its trace went out, no end is a refusal, and the net is answered as it was left
-pub closed_well : (fuel : ℕ) (closed : Simulation) (lists : List (Vec HostCmd Global)) (workers : ℕ) (ends : Vec End Global) (old new : Option (List ℕ)) (play : WritesPlay (terms closed.wiring closed.limit fuel (length lists)) lists workers ends.items (Appends old new)) → closed.journal ≡ play.entries → closed.state ≡ play.to → All IsAgreed ends.items → vec_len ends ≡ length lists + workers
+pub closed_well : (fuel : ℕ) (closed : Simulation) (lists : List (Vec HostCmd Global)) (workers : ℕ) (ends : Vec End Global) (stopped : Bool) → ArePlayed (terms closed.wiring closed.limit fuel (length lists)) lists workers (moment closed stopped) ends.items → (comps : List ℕ) (old new : Option (List ℕ)) → AreClashed closed.wiring closed.journal comps
+    → Run closed.wiring (opening closed.wiring) closed.journal closed.state → length closed.journal ≤ closed.limit → fired_count closed.journal ≤ fuel → Appends old new (trace_text closed.wiring.ports closed.journal comps) → All IsAgreed ends.items → vec_len ends ≡ length lists + workers
     → WritesClosed (terms closed.wiring closed.limit fuel (length lists)) lists workers old new (Ok (record { net = closed; ends = ends }))
-closed_well fuel closed lists workers ends old new play journal state agreed counted = (play, agreed, counted, (refl, journal, state))
+unfolding pooled_so
+closed_well fuel closed lists workers ends stopped played comps old new clashed run few within out agreed counted =
+    (pooled_so fuel closed lists workers ends.items stopped played comps (Appends old new) clashed run few within out, agreed, counted, (refl, refl, refl))
 
 -- an end that was refused is told behind the trace
 pub told_behind : (t : Terms) (lists : List (Vec HostCmd Global)) (workers : ℕ) (old new : Option (List ℕ)) (e : NetError) (who : Who) → TellsRefused t lists workers old new (fault_for e who) → WritesClosed t lists workers old new (Err (fault_for e who))
