@@ -1,6 +1,6 @@
 -- What went out of a pool, from what was played and what was written.
-use Rattle.std.proofs.Common.{Bool, ◌≡◌, ◌≤◌, ◌+◌, ◌<◌, ℕ, Option, None, Some, Result, Err, List, [], ◌∷◌, length, map, take, get_or, inl, inr, subst, refl, sym, ap, ◌∙◌}
-use Rattle.std.specs.Prelude.{IfSome}
+use Rattle.std.proofs.Common.{Bool, ◌≡◌, ◌≤◌, ◌+◌, ◌<◌, ℕ, Option, None, Some, Result, Ok, Err, List, [], ◌∷◌, length, map, take, get_or, inl, inr, subst, refl, sym, ap, ◌∙◌}
+use Rattle.std.specs.Prelude.{IfSome, vec_len}
 use Rattle.std.specs.List.{All}
 use Rattle.std.specs.declared.alloc.Global.{Global}
 use Rattle.std.specs.declared.vec.Vec.{Vec}
@@ -28,19 +28,20 @@ use Rattle.bz_words.specs.declared.words.SessionError.{SessionError}
 use Rattle.bz_words.specs.declared.words.SessionError.TheVariants as session
 use Rattle.bz_words.specs.Words.{Spell}
 use Rattle.bz_session.specs.declared.playing.End.{End}
+use Rattle.bz_cli.specs.declared.pooling.Pooled.{Pooled}
 use Rattle.bz_cli_input.specs.declared.fault.Fault.{Fault}
 use Rattle.bz_cli_input.specs.declared.fault.Fault.TheVariants.{Write}
 use Rattle.bz_cli_input.specs.Limits.{input_limit}
 use Rattle.bz_cli_input.specs.Opening.{Denotes}
 use Rattle.std.proofs.KnownBytes.{Keeps-refl}
-use Rattle.bz_cli.specs.Pooling.{IsAgreed, IsFirstRefused, IsOfPool, Pooled, Pools, PoolsText, RefusesSessions, TellsRefused, WritesClosed, fault_for}
+use Rattle.bz_cli.specs.Pooling.{IsAgreed, IsFirstRefused, IsOfPool, Pools, PoolsText, RefusesSessions, TellsRefused, WritesClosed, WritesPlay, fault_for}
 use Rattle.bz_cli_input.specs.Stopping.{AppendsSome}
 use Rattle.bz_cli_input.specs.Statuses.{of_words}
 use Rattle.bz_cli.specs.Faults.{of_pool}
 
 -- what was played on the net, and the text that goes out of it
 pub pooled_so : (fuel : ℕ) (closed : Simulation) (lists : List (Vec HostCmd Global)) (workers : ℕ) (ends : List End) (stopped : Bool) → ArePlayed (terms closed.wiring closed.limit fuel (length lists)) lists workers (moment closed stopped) ends → (comps : List ℕ) (Out : List ℕ → Type 0) → AreClashed closed.wiring closed.journal comps
-    → Run closed.wiring (opening closed.wiring) closed.journal closed.state → length closed.journal ≤ closed.limit → fired_count closed.journal ≤ fuel → Out (trace_text closed.wiring.ports closed.journal comps) → Pooled (terms closed.wiring closed.limit fuel (length lists)) lists workers ends Out
+    → Run closed.wiring (opening closed.wiring) closed.journal closed.state → length closed.journal ≤ closed.limit → fired_count closed.journal ≤ fuel → Out (trace_text closed.wiring.ports closed.journal comps) → WritesPlay (terms closed.wiring closed.limit fuel (length lists)) lists workers ends Out
 pooled_so fuel closed lists workers ends stopped played comps Out clashed run few within out = record {
   entries = closed.journal;
   to = closed.state;
@@ -55,6 +56,14 @@ pooled_so fuel closed lists workers ends stopped played comps Out clashed run fe
   out = out;
 }
 
+-- its trace went out, no end is a refusal, and the net is answered as it was left
+pub closed_well : (fuel : ℕ) (closed : Simulation) (lists : List (Vec HostCmd Global)) (workers : ℕ) (ends : Vec End Global) (stopped : Bool) → ArePlayed (terms closed.wiring closed.limit fuel (length lists)) lists workers (moment closed stopped) ends.items → (comps : List ℕ) (old new : Option (List ℕ)) → AreClashed closed.wiring closed.journal comps
+    → Run closed.wiring (opening closed.wiring) closed.journal closed.state → length closed.journal ≤ closed.limit → fired_count closed.journal ≤ fuel → Appends old new (trace_text closed.wiring.ports closed.journal comps) → All IsAgreed ends.items → vec_len ends ≡ length lists + workers
+    → WritesClosed (terms closed.wiring closed.limit fuel (length lists)) lists workers old new (Ok (record { net = closed; ends = ends }))
+unfolding pooled_so
+closed_well fuel closed lists workers ends stopped played comps old new clashed run few within out agreed counted =
+    (pooled_so fuel closed lists workers ends.items stopped played comps (Appends old new) clashed run few within out, agreed, counted, (refl, refl, refl))
+
 -- an end that was refused is told behind the trace
 pub told_behind : (t : Terms) (lists : List (Vec HostCmd Global)) (workers : ℕ) (old new : Option (List ℕ)) (e : NetError) (who : Who) → TellsRefused t lists workers old new (fault_for e who) → WritesClosed t lists workers old new (Err (fault_for e who))
 told_behind t lists workers old new net.UnknownPort who p = p
@@ -66,18 +75,18 @@ told_behind t lists workers old new net.NotEnabled who p = p
 told_behind t lists workers old new net.JournalFull who p = p
 told_behind t lists workers old new net.Memory who p = p
 
-pub first_told : (t : Terms) (lists : List (Vec HostCmd Global)) (workers sessions : ℕ) (ends : List End) (old new : Option (List ℕ)) (fault : Fault) → length lists ≡ sessions → IsFirstRefused ends sessions fault → Pooled t lists workers ends (Appends old new) → WritesClosed t lists workers old new (Err fault)
+pub first_told : (t : Terms) (lists : List (Vec HostCmd Global)) (workers sessions : ℕ) (ends : List End) (old new : Option (List ℕ)) (fault : Fault) → length lists ≡ sessions → IsFirstRefused ends sessions fault → WritesPlay t lists workers ends (Appends old new) → WritesClosed t lists workers old new (Err fault)
 first_told t lists workers sessions ends old new fault count first p =
     let is : IsFirstRefused ends (length lists) fault = subst (λ n. IsFirstRefused ends n fault) (sym count) first in
     let tells : TellsRefused t lists workers old new fault = (ends, p, is) in
     subst (λ f. WritesClosed t lists workers old new (Err f)) (sym is.told) (told_behind t lists workers old new is.error _ (subst (λ f. TellsRefused t lists workers old new f) is.told tells))
 
 -- the writer failed
-pub cut_short : (t : Terms) (lists : List (Vec HostCmd Global)) (workers : ℕ) (ends : List End) (old new : Option (List ℕ)) (fault : Fault) → fault ≡ Write → Pooled t lists workers ends (AppendsSome old new) → WritesClosed t lists workers old new (Err fault)
+pub cut_short : (t : Terms) (lists : List (Vec HostCmd Global)) (workers : ℕ) (ends : List End) (old new : Option (List ℕ)) (fault : Fault) → fault ≡ Write → WritesPlay t lists workers ends (AppendsSome old new) → WritesClosed t lists workers old new (Err fault)
 cut_short t lists workers ends old new fault is p = rw is (ends, p)
 
 -- what the reader had is the text
-pub pools_on : (known : Option (List ℕ)) (items : List ℕ) (words : List (List ℕ)) (asked : Option (List ℕ)) (workers fuel journal : ℕ) (sessions : List (Vec HostCmd Global)) (old new : Option (List ℕ)) (answer : Result (Vec End Global) Fault) → IfSome known (λ xs. items ≡ xs) → length items ≤ input_limit → Spell words (map hosts_of sessions) → PoolsText items asked fuel journal sessions workers old new answer → IfSome known (λ text. Pools text words asked workers fuel journal old new answer)
+pub pools_on : (known : Option (List ℕ)) (items : List ℕ) (words : List (List ℕ)) (asked : Option (List ℕ)) (workers fuel journal : ℕ) (sessions : List (Vec HostCmd Global)) (old new : Option (List ℕ)) (answer : Result Pooled Fault) → IfSome known (λ xs. items ≡ xs) → length items ≤ input_limit → Spell words (map hosts_of sessions) → PoolsText items asked fuel journal sessions workers old new answer → IfSome known (λ text. Pools text words asked workers fuel journal old new answer)
 pools_on None items words asked workers fuel journal sessions old new answer whole fits are plays = tt
 pools_on (Some xs) items words asked workers fuel journal sessions old new answer whole fits are plays =
     inr (sessions, are, inr (subst (λ text. (length text ≤ input_limit) × PoolsText text asked fuel journal sessions workers old new answer) whole (fits, plays)))
@@ -111,6 +120,6 @@ no_close text asked fuel journal lists workers w t denotes same old fault e why 
     inr (w, denotes, inl (subst (λ f. IsOfPool (terms w journal fuel (length lists)) workers f) (sym is) told, Keeps-refl old))
 
 -- it was closed
-pub closed_so : (text : List ℕ) (asked : Option (List ℕ)) (fuel journal : ℕ) (lists : List (Vec HostCmd Global)) (workers : ℕ) (w : Wiring) (t : Terms) (old new : Option (List ℕ)) (answer : Result (Vec End Global) Fault) → Denotes text asked w → t ≡ terms w journal fuel (length lists) → WritesClosed t lists workers old new answer → PoolsText text asked fuel journal lists workers old new answer
+pub closed_so : (text : List ℕ) (asked : Option (List ℕ)) (fuel journal : ℕ) (lists : List (Vec HostCmd Global)) (workers : ℕ) (w : Wiring) (t : Terms) (old new : Option (List ℕ)) (answer : Result Pooled Fault) → Denotes text asked w → t ≡ terms w journal fuel (length lists) → WritesClosed t lists workers old new answer → PoolsText text asked fuel journal lists workers old new answer
 closed_so text asked fuel journal lists workers w t old new answer denotes same writes =
     inr (w, denotes, inr (subst (λ (u : Terms). WritesClosed u lists workers old new answer) same writes))

@@ -24,6 +24,7 @@ use Rattle.bz_words.specs.Words.{Spell}
 use Rattle.bz_session.specs.declared.playing.End.{End}
 use Rattle.bz_session.specs.declared.playing.End.TheVariants as end
 use Rattle.bz_words.specs.declared.words.SessionError.TheVariants as session
+use Rattle.bz_cli.specs.declared.pooling.Pooled.{Pooled}
 use Rattle.bz_cli_input.specs.Limits.{input_limit}
 use Rattle.bz_cli_input.specs.Opening.{Denotes, RefusesNet}
 use Rattle.bz_cli_input.specs.Stopping.{AppendsSome, StopsAtInput}
@@ -38,7 +39,7 @@ RefusesSessions words fault = ⊥
 -- The trace of a run of the net of these terms from its opening, which has no more entries and no more firings than these allow,
 -- went out as `Out` says. In it each session has played its list of commands, and these are the ends of the sessions and of so
 -- many workers. All that they were told has led to the end of this run.
-pub record Pooled (t : Terms) (lists : List (Vec HostCmd Global)) (workers : ℕ) (ends : List End) (Out : List ℕ → Type 0) : Type 0 where
+pub record WritesPlay (t : Terms) (lists : List (Vec HostCmd Global)) (workers : ℕ) (ends : List End) (Out : List ℕ → Type 0) : Type 0 where
   pub entries : List Entry
   pub to : State
   pub run : Run t.wiring (opening t.wiring) entries to
@@ -82,19 +83,26 @@ pub record IsFirstRefused (ends : List End) (sessions : ℕ) (fault : Fault) : T
 -- An end was refused: it is the first, and is told behind the trace.
 abbrev pub TellsRefused : Terms → List (Vec HostCmd Global) → ℕ → Option (List ℕ) → Option (List ℕ) → Fault → Type 0
 TellsRefused t lists workers old new fault =
-    (ends : List End) × Pooled t lists workers ends (Appends old new) × IsFirstRefused ends (length lists) fault
+    (ends : List End) × WritesPlay t lists workers ends (Appends old new) × IsFirstRefused ends (length lists) fault
 
--- What went out of a pool that was closed, and what was answered: the trace of all; where the writer failed, a front of it.
-abbrev pub WritesClosed : Terms → List (Vec HostCmd Global) → ℕ → Option (List ℕ) → Option (List ℕ) → Result (Vec End Global) Fault → Type 0
-WritesClosed t lists workers old new (Ok ends) = Pooled t lists workers ends.items (Appends old new) × All IsAgreed ends.items × (vec_len ends ≡ length lists + workers)
+-- The net was left in this state, with these entries as its journal.
+abbrev pub IsLeft : Terms → List Entry → State → Simulation → Type 0
+IsLeft t entries to left = (left.wiring ≡ t.wiring) × (left.journal ≡ entries) × (left.state ≡ to)
+
+-- What went out of a pool that was closed, and what was answered: the trace of all, and the net as it was left; where the writer
+-- failed, a front of the trace.
+abbrev pub WritesClosed : Terms → List (Vec HostCmd Global) → ℕ → Option (List ℕ) → Option (List ℕ) → Result Pooled Fault → Type 0
+WritesClosed t lists workers old new (Ok pooled) =
+    (play : WritesPlay t lists workers pooled.ends.items (Appends old new)) × All IsAgreed pooled.ends.items × (vec_len pooled.ends ≡ length lists + workers)
+    × IsLeft t play.entries play.to pooled.net
 WritesClosed t lists workers old new (Err (Ended net.Memory who)) = ⊥
 WritesClosed t lists workers old new (Err (Ended e who)) = TellsRefused t lists workers old new (Ended e who)
 WritesClosed t lists workers old new (Err Memory) = TellsRefused t lists workers old new Memory
-WritesClosed t lists workers old new (Err Write) = (ends : List End) × Pooled t lists workers ends (AppendsSome old new)
+WritesClosed t lists workers old new (Err Write) = (ends : List End) × WritesPlay t lists workers ends (AppendsSome old new)
 WritesClosed t lists workers old new (Err fault) = ⊥
 
 -- the same of a net with these ends, whatever the lists of so many sessions were that were played on it
-abbrev pub WritesOf : Simulation → List End → ℕ → ℕ → Option (List ℕ) → Option (List ℕ) → Result (Vec End Global) Fault → Type 0
+abbrev pub WritesOf : Simulation → List End → ℕ → ℕ → Option (List ℕ) → Option (List ℕ) → Result Pooled Fault → Type 0
 WritesOf net ends sessions fuel old new answer =
     (lists : List (Vec HostCmd Global)) (workers : ℕ) (stopped : Bool) → length lists ≡ sessions → length ends ≡ length lists + workers
     → ArePlayed (terms net.wiring net.limit fuel (length lists)) lists workers (moment net stopped) ends
@@ -109,7 +117,7 @@ IsOfPool t workers fault = ⊥
 
 -- No net was opened, or the pool came to no close, and nothing went out; or it was closed, on the net that the text denotes,
 -- with a journal of so many entries.
-abbrev pub PoolsText : List ℕ → Option (List ℕ) → ℕ → ℕ → List (Vec HostCmd Global) → ℕ → Option (List ℕ) → Option (List ℕ) → Result (Vec End Global) Fault → Type 0
+abbrev pub PoolsText : List ℕ → Option (List ℕ) → ℕ → ℕ → List (Vec HostCmd Global) → ℕ → Option (List ℕ) → Option (List ℕ) → Result Pooled Fault → Type 0
 PoolsText text asked fuel journal lists workers old new answer =
     IsErrAnd answer (λ fault. RefusesNet text asked fault × Keeps old new)
     ⊎ ((w : Wiring) × Denotes text asked w
@@ -117,7 +125,7 @@ PoolsText text asked fuel journal lists workers old new answer =
     ⊎ WritesClosed (terms w journal fuel (length lists)) lists workers old new answer))
 
 -- The command `pool`: the words are refused; or they spell sessions, and the input is not taken, or they are played on it.
-abbrev pub Pools : List ℕ → List (List ℕ) → Option (List ℕ) → ℕ → ℕ → ℕ → Option (List ℕ) → Option (List ℕ) → Result (Vec End Global) Fault → Type 0
+abbrev pub Pools : List ℕ → List (List ℕ) → Option (List ℕ) → ℕ → ℕ → ℕ → Option (List ℕ) → Option (List ℕ) → Result Pooled Fault → Type 0
 Pools text words asked workers fuel journal old new answer =
     IsErrAnd answer (λ fault. RefusesSessions words fault × Keeps old new)
     ⊎ ((sessions : List (Vec HostCmd Global)) × Spell words (map hosts_of sessions)

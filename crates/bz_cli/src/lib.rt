@@ -4,4 +4,4 @@
 mod pooling;
 
 pub use bz_cli_core::{Fault, INPUT_LIMIT, InputFault, Stop, list_cmd, read_input, run_cmd};
-pub use pooling::{PoolOptions, pool_cmd};
+pub use pooling::{PoolOptions, Pooled, pool_cmd};

@@ -20,7 +20,7 @@ ghost use Rattle.bz_cli_input.specs.Reading.{ReadsWithin};
 
 use bz_cli_core::{open_net, write_out};
 use bz_cli_input::{Fault, read_input};
-use bz_locked::CloseError;
+use bz_locked::{CloseError, Closed};
 use bz_model::{HostCmd, NetError, Who};
 use bz_net::Net;
 use bz_pool::{Gate, PoolError, run_pool};
@@ -41,6 +41,19 @@ pub struct PoolOptions {
     pub journal: u32,
 }
 
+/// A pool that was closed and whose trace went out: the net as it was left, and how the sessions ended, then the workers.
+pub struct Pooled {
+    pub net: Net,
+    pub ends: Vec<End>,
+}
+
+// By hand, so that who lets one go has one call to show and not all its parts.
+impl Drop for Pooled {
+    fn drop(self) {
+        let Pooled { net: _, ends: _ } = self;
+    }
+}
+
 // Nothing is done round a fire.
 struct Ungated;
 
@@ -51,8 +64,7 @@ impl Gate for Ungated {
 }
 
 /// Plays each session's words on the net that the netlist denotes which the reader gives, beside workers, each on a thread of
-/// its own, and writes the trace once all have ended. The ends are those of the sessions, then of the workers. An event that was
-/// refused is told by the first end that has one.
+/// its own, and writes the trace once all have ended. An event that was refused is told by the first end that has one.
 pub fn pool_cmd<R: Read, W: Write, H: Threads + Wait + Sync>(
     rt: &H,
     alloc: Global,
@@ -61,7 +73,7 @@ pub fn pool_cmd<R: Read, W: Write, H: Threads + Wait + Sync>(
     words: &[&str],
     input: &mut R,
     output: &mut W,
-) -> Result<Vec<End>, Fault>
+) -> Result<Pooled, Fault>
     requires workers { (1 ≤ options.workers) × (options.workers ≤ 8) }
     requires journal { (0 < options.journal) × (options.journal ≤ 16777216) }
     ensures pools { IfSome (R.remaining input.old) (λ text. Pools text (texts words.now) (option_copied asked.entry) options.workers options.fuel options.journal (W.contents output.old) (W.contents output.new) result) }
@@ -95,7 +107,7 @@ fn pool_text<W: Write, H: Threads + Wait + Sync>(
     text: &[u8],
     sessions: Vec<Vec<HostCmd>>,
     output: &mut W,
-) -> Result<Vec<End>, Fault>
+) -> Result<Pooled, Fault>
     requires workers { (1 ≤ options.workers) × (options.workers ≤ 8) }
     requires journal { (0 < options.journal) × (options.journal ≤ 16777216) }
     requires sessions { (1 ≤ vec_len sessions) × (vec_len sessions ≤ 16) }
@@ -116,7 +128,14 @@ fn pool_text<W: Write, H: Threads + Wait + Sync>(
         Ok(pooled) => pooled,
         Err(error) => return Err(of_pool(error)),
     };
-    write_closed(&closed.net, ends, count, options.fuel, output)
+    let Closed {
+        net,
+        stopped: _,
+        front: _,
+        shares: _,
+        records: _,
+    } = closed;
+    write_closed(net, ends, count, options.fuel, output)
 }
 
 // Why a pool came to no close, as the command's fault.
@@ -133,20 +152,20 @@ fn of_pool(error: PoolError) -> Fault
 
 // Writes the trace of a pool that was closed, with its ends, of which the first so many are the sessions'.
 fn write_closed<W: Write>(
-    net: &Net,
+    net: Net,
     ends: Vec<End>,
     sessions: usize,
     fuel: u64,
     output: &mut W,
-) -> Result<Vec<End>, Fault>
-    requires run { Run net.now.wiring (opening net.now.wiring) net.now.journal net.now.state }
-    requires within { fired_count net.now.journal ≤ fuel }
+) -> Result<Pooled, Fault>
+    requires run { Run net.wiring (opening net.wiring) net.journal net.state }
+    requires within { fired_count net.journal ≤ fuel }
     requires few { vec_len ends ≤ 24 }
-    ensures { WritesOf net.now ends.items sessions fuel (W.contents output.old) (W.contents output.new) result }
+    ensures { WritesOf net ends.items sessions fuel (W.contents output.old) (W.contents output.new) result }
 {
     write_out(net.names(), net.journal(), net.clashes(), output)?;
     match first_refused(ends.as_slice(), sessions) {
-        None => Ok(ends),
+        None => Ok(Pooled { net, ends }),
         Some(fault) => Err(fault),
     }
 }

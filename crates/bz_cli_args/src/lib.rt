@@ -1,16 +1,21 @@
 //! The command line of the program: what it takes, its help, and the words of a file.
 #![tactic(auto)]
 
+mod asked;
 mod commands;
 mod help;
 mod options;
 mod request;
 mod words;
 
+pub use asked::{
+    ChartOptions, Command, DrawOptions, FormatOptions, ListOptions, PoolOptions, RunOptions,
+    Source, TraceOptions,
+};
 pub use commands::command_line;
 pub use options::{MAX_JOURNAL, MAX_WORKERS};
 pub use request::{
-    BAD_COMMAND_LINE, CommandName, Error, Options, PartName, Request, Source, Told, request_of,
-    shared_stdin, stray_word, tell_error,
+    BAD_COMMAND_LINE, Error, PartName, Request, Told, request_of, shared_stdin, stray_word,
+    tell_error,
 };
 pub use words::{ArgsFault, split_words, word_starts, words_of};

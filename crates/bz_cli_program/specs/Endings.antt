@@ -9,7 +9,7 @@ use Rattle.bz_cli_trace.specs.declared.fault.TraceFault.TheVariants.{Command}
 use Rattle.bz_cli_trace.specs.Making.{status_of}
 use Rattle.bz_cli_trace.specs.Checking.{is_run}
 use Rattle.bz_cli_trace.specs.declared.checked.Checked.{Checked}
-use Rattle.bz_cli_args.specs.declared.request.Options.{Options}
+use Rattle.bz_cli_args.specs.declared.asked.ChartOptions.{ChartOptions}
 use Rattle.bz_chart.specs.declared.range.LineRange.{LineRange}
 
 -- The command has answered something of which this is said, and the program ends so of that answer.
@@ -38,10 +38,6 @@ abbrev pub of_check : Result Checked Fault → Result ℕ Fault
 of_check (Ok checked) = Ok (if is_run checked.verdict then 0 else 1)
 of_check (Err fault) = Err fault
 
-abbrev pub status_in : {A : Type 0} → Result (ℕ × A) Fault → Result ℕ Fault
-status_in (Ok end) = Ok end.0
-status_in (Err fault) = Err fault
-
 -- 0 where there is a drawing, and else 2
 abbrev pub of_drawing : {N : Type 0} → Result (Option N) Fault → Result ℕ Fault
 of_drawing (Ok None) = Ok 0
@@ -55,7 +51,7 @@ of_made (Err (Command fault)) = Err fault
 of_made (Err fault) = Ok (status_of fault)
 
 -- the lines of a trace that are asked for
-abbrev pub lines_asked : Options → LineRange
+abbrev pub lines_asked : ChartOptions → LineRange
 lines_asked options = record { from = options.from; to = options.to }
 
 -- the most entries of a journal, and the number of workers, that a command line may name

@@ -58,7 +58,7 @@ fn is_folder<F: OpenFile>(file: &F) -> bool {
 }
 
 /// Whether there is a file of this name, and no folder or device.
-pub fn is_file<R: Files>(files: &R, path: &str) -> bool {
+pub(crate) fn is_file<R: Files>(files: &R, path: &str) -> bool {
     match fs::metadata(files, path) {
         Ok(data) => data.is_file(),
         Err(_) => false,
@@ -85,7 +85,7 @@ impl<R: Read + Drop> Read for Failing<R> {
 }
 
 /// The text that a reader gives, if it has no more bytes than a netlist may have.
-pub fn text_of<R: Read + Drop>(alloc: Global, input: R) -> Result<String, Cause> {
+pub(crate) fn text_of<R: Read + Drop>(alloc: Global, input: R) -> Result<String, Cause> {
     let mut input = Failing { input, error: None };
     let bytes = match read_input(alloc, &mut input) {
         Ok(bytes) => bytes,

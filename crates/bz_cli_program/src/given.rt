@@ -1,30 +1,112 @@
 //! What a command is given beside its input.
+//!
+//! Words that a file has are read before the netlist, and so is the name of the part: what is wrong with them is known first.
 
-use bz_cli_args::{CommandName, Options, PartName};
+use crate::files::{open_file, text_of};
+use crate::refusal::Refusal;
+use bz_cli_args::{Command, PartName, Request, Source, split_words};
 use bz_cli_trace::split_trace;
-use std::alloc::Global;
+use std::alloc::{AllocError, Global};
+use std::io::Input;
+use std::rt::Files;
 
 /// What a command is given beside its input.
 #[derive(Clone, Copy)]
 pub struct Given<'a, 't> {
-    pub options: Options<'a>,
+    pub command: Command<'a>,
     /// The name of the part to open. Where none is given, that is the one part that no other part uses.
     pub part: Option<&'a [u8]>,
     pub words: &'a [&'t str],
     /// The text in which the words stand, if that is a file's.
     pub word_text: Option<&'a str>,
+    /// The name of the netlist's file, if it is one's.
+    pub file: Option<&'a str>,
+    /// Whether notes are asked for.
+    pub explains: bool,
+    /// Whether lines are typed at a prompt.
+    pub prompts: bool,
 }
 
-/// Why there is no name of a part.
-#[derive(Clone, Copy)]
-pub enum NoName {
-    /// What should be one in name form is not.
-    Form,
-    Memory,
+/// The text of the words, if that is a file's, and the name of the part, if one is named.
+#[derive(Drop)]
+pub struct Texts {
+    words: Option<String>,
+    part: Option<Vec<u8>>,
 }
 
-/// The name of the part to open, if one is named.
-pub fn part_named(alloc: Global, part: PartName<'_>) -> Result<Option<Vec<u8>>, NoName> {
+impl Texts {
+    /// Those of a request. Words may come from standard input.
+    pub fn of<'a, F: Files + Input>(
+        rt: &F,
+        alloc: Global,
+        request: &Request<'a>,
+    ) -> Result<Texts, Refusal<'a>> {
+        let words = match request.command.word_file() {
+            Some(source) => Some(words_in(rt, alloc, source)?),
+            None => None,
+        };
+        let part = part_named(alloc, request.part)?;
+        Ok(Texts { words, part })
+    }
+
+    /// The words of the text, or else those of the command line.
+    pub fn words<'t>(
+        &'t self,
+        alloc: Global,
+        request: &'t Request<'_>,
+    ) -> Result<Vec<&'t str>, AllocError> {
+        match &self.words {
+            Some(text) => split_words(alloc, text.as_str()),
+            None => Vec::from_slice(alloc, request.words.as_slice()),
+        }
+    }
+
+    /// What the command of a request is given, with these words.
+    pub fn given<'t>(
+        &'t self,
+        request: &'t Request<'_>,
+        words: &'t [&'t str],
+        prompts: bool,
+    ) -> Given<'t, 't> {
+        Given {
+            command: request.command,
+            part: match &self.part {
+                Some(name) => Some(name.as_slice()),
+                None => None,
+            },
+            words,
+            word_text: match &self.words {
+                Some(text) => Some(text.as_str()),
+                None => None,
+            },
+            file: request.netlist.file(),
+            explains: request.explains,
+            prompts,
+        }
+    }
+}
+
+// The words of a file, or of standard input.
+fn words_in<'a, F: Files + Input>(
+    rt: &F,
+    alloc: Global,
+    source: Source<'a>,
+) -> Result<String, Refusal<'a>> {
+    let text = match source {
+        Source::Stdin => text_of(alloc, rt.reader()),
+        Source::File(path) => match open_file(rt, path) {
+            Ok(file) => text_of(alloc, file),
+            Err(cause) => Err(cause),
+        },
+    };
+    match text {
+        Ok(text) => Ok(text),
+        Err(cause) => Err(Refusal::File(source.file().unwrap_or("-"), cause)),
+    }
+}
+
+// The name of the part to open, if one is named.
+fn part_named<'a>(alloc: Global, part: PartName<'_>) -> Result<Option<Vec<u8>>, Refusal<'a>> {
     let name = match part {
         PartName::Form(form) => bz_words::read_name(alloc, form.as_bytes()),
         PartName::Text(name) => Vec::from_slice(alloc, name.as_bytes()).map(Some),
@@ -32,15 +114,16 @@ pub fn part_named(alloc: Global, part: PartName<'_>) -> Result<Option<Vec<u8>>, 
     };
     match name {
         Ok(Some(name)) => Ok(Some(name)),
-        Ok(None) => Err(NoName::Form),
-        Err(_) => Err(NoName::Memory),
+        Ok(None) => Err(Refusal::Line("the value of --part-form is not a name form")),
+        Err(_) => Err(Refusal::Memory),
     }
 }
 
 /// The netlist of a command's input: what stands in front of the trace where the command reads one there.
-pub fn netlist_in<'t>(options: &Options<'_>, input: &'t [u8]) -> &'t [u8] {
-    match (options.command, options.trace) {
-        (CommandName::Check | CommandName::Chart | CommandName::Page, None) => split_trace(input).0,
-        _ => input,
+pub(crate) fn netlist_in<'t>(command: Command<'_>, input: &'t [u8]) -> &'t [u8] {
+    if command.reads_trace() && command.trace_file().is_none() {
+        split_trace(input).0
+    } else {
+        input
     }
 }

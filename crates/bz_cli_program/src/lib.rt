@@ -1,5 +1,4 @@
-//! What the program does for each command but `explore`, over any reader and writers; and what comes before: files, and the name
-//! of the part.
+//! What the program does, over any reader and writers: from a request to a status, with files and notes.
 //!
 //! A file that can't be opened is an `error:` line with status 2 before anything else is read or written: a mistake of the
 //! command line.
@@ -8,8 +7,15 @@
 mod commands;
 mod files;
 mod given;
+mod noting;
+mod outcome;
+mod performing;
+mod refusal;
 mod resting;
 
-pub use commands::{chart, check, draw, kinds, list, page, parts, pool, run};
-pub use files::{Cause, is_file, open_file, text_of};
-pub use given::{Given, NoName, netlist_in, part_named};
+pub use files::open_file;
+pub use given::{Given, Texts};
+pub use noting::end;
+pub use outcome::Outcome;
+pub use performing::program;
+pub use refusal::{Refusal, tip};

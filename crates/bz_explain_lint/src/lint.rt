@@ -4,6 +4,8 @@
 //! components, so there is a limit to what is opened. If parts are left over, their number is shown and nothing is warned of:
 //! one of them may be what reaches a component.
 
+ghost use Rattle.bz_cli_input.specs.Reading.{ReadsWithin};
+
 use crate::opening::Linted;
 use bz_breeze::parts_of;
 use bz_cli_input::{Fault, in_part, read_input};
@@ -34,7 +36,10 @@ pub fn lint_cmd<R: Read, W: Write>(
     lint: Lint<'_>,
     input: &mut R,
     output: &mut W,
-) -> Result<bool, Fault> {
+) -> Result<bool, Fault>
+    // Whatever comes of it, it reads at most one byte past the limit.
+    ensures { ReadsWithin (R.remaining input.old) (R.remaining input.new) }
+{
     let text = read_input(alloc, input)?;
     let findings = findings_in(alloc, lint, text.as_slice())?;
     tell(alloc, lint, &findings, output)

@@ -41,7 +41,7 @@ pub fn pool<T: Threads + Wait + Sync>(threads: &T, alloc: Global) -> Pooled {
     };
     let mut input = TWO.as_bytes();
     let mut text = Vec::new(alloc);
-    let ends = pool_cmd(
+    let pooled = pool_cmd(
         threads,
         alloc,
         Some(b"two"),
@@ -50,7 +50,7 @@ pub fn pool<T: Threads + Wait + Sync>(threads: &T, alloc: Global) -> Pooled {
         &mut input,
         &mut text,
     );
-    let told = told_of(&ends);
+    let told = told_of(&pooled);
     Pooled { text, told }
 }
 

@@ -1,7 +1,7 @@
 use Rattle.std.proofs.Common.{refl, sym, subst, ◌∙◌, arith}
 use Rattle.std.specs.Option.{option_copied}
 use Rattle.std.specs.Prelude.{length, vec_len}
-use Rattle.bz_locked.specs.Terms.{Terms, terms}
+use Rattle.bz_locked.specs.Terms.{Terms}
 use Rattle.bz_past.specs.Moments.{moment}
 use Rattle.bz_pool.specs.Pooled.{ArePlayed}
 use Rattle.bz_cli.proofs.PoolOutcomes.{closed_so, no_close, same_terms}

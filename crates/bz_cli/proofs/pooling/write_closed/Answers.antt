@@ -3,12 +3,12 @@ use Rattle.std.proofs.lemmas.Result.{err_from_is_err_and}
 use Rattle.std.specs.Io.KnownBytes.{Appends}
 use Rattle.bz_locked.specs.Terms.{terms}
 use Rattle.bz_cli_input.specs.Stopping.{AppendsSome}
-use Rattle.bz_cli.proofs.PoolOutcomes.{cut_short, first_told, pooled_so}
+use Rattle.bz_cli.proofs.PoolOutcomes.{closed_well, cut_short, first_told, pooled_so}
 use Rattle.bz_cli.proofs.pooling.write_closed.Goals as goal
 
 pub returns-in_err-write_out : goal.returns-in_err-write_out
 returns-in_err-write_out g c lists workers stopped count counts played =
-    let net = c.args.net.now in
+    let net = c.args.net in
     let old = g.W.Write.contents c.args.output.now in
     let new = g.W.Write.contents c.write_out.new.output in
     let out = rw (c.names.ensures.value, c.journal.ensures.entries) at c.in_err-write_out.ensures.err in
@@ -17,15 +17,15 @@ returns-in_err-write_out g c lists workers stopped count counts played =
 
 pub returns-in-None : goal.returns-in-None
 returns-in-None g c lists workers stopped count counts played =
-    let net = c.args.net.now in
+    let net = c.args.net in
     let old = g.W.Write.contents c.args.output.now in
     let new = g.W.Write.contents c.write_out.new.output in
     let out = rw (c.names.ensures.value, c.journal.ensures.entries) at c.in_ok-write_out.ensures.ok in
-    (pooled_so c.args.fuel net lists workers c.args.ends.items stopped played c.clashes.result.now (Appends old new) c.clashes.ensures c.requires.run c.journal.ensures.within c.requires.within out, rw c.as_slice.ensures.value at c.in-None.ensures.none, omega (arith, counts, c.args.ends.ok.0))
+    closed_well c.args.fuel net lists workers c.args.ends stopped played c.clashes.result.now old new c.clashes.ensures c.requires.run c.journal.ensures.within c.requires.within out (rw c.as_slice.ensures.value at c.in-None.ensures.none) (omega (arith, counts, c.args.ends.ok.0))
 
 pub returns-in-Some : goal.returns-in-Some
 returns-in-Some g c lists workers stopped count counts played =
-    let net = c.args.net.now in
+    let net = c.args.net in
     let old = g.W.Write.contents c.args.output.now in
     let new = g.W.Write.contents c.write_out.new.output in
     let out = rw (c.names.ensures.value, c.journal.ensures.entries) at c.in_ok-write_out.ensures.ok in

@@ -7,4 +7,4 @@ use Rattle.bz_cli_program.proofs.commands.draw.Goals as goal
 
 pub returns-clause-draws : goal.returns-clause-draws
 returns-clause-draws g c =
-    does of_drawing _ (λ text answer. Draws {N = NoDrawing} text (option_copied c.args.given.part) _ _ answer) c.draw_cmd-drawn.result _ c.draw_cmd-drawn.ensures.draws c.drawn_or_told.ensures
+    does of_drawing _ (λ text answer. Draws {N = NoDrawing} text (option_copied c.args.part) _ _ answer) c.draw_cmd-drawn.result _ c.draw_cmd-drawn.ensures.draws c.drawn_or_told.ensures

@@ -7,4 +7,4 @@ use Rattle.bz_cli_program.proofs.commands.pool.Goals as goal
 
 pub returns-clause-pools : goal.returns-clause-pools
 returns-clause-pools g c =
-    λ workers journal. does of_done _ (λ text answer. Pools text (texts c.args.given.words.now) (option_copied c.args.given.part) c.args.given.options.workers c.args.given.options.fuel c.args.given.options.journal _ _ answer) c.pool_cmd-pooled.result _ c.pool_cmd-pooled.ensures.pools c.closed.ensures
+    λ workers journal. does of_done _ (λ text answer. Pools text (texts c.args.given.now.words.now) (option_copied c.args.given.now.part) c.args.options.workers c.args.options.fuel c.args.options.journal _ _ answer) c.pool_cmd-pooled.result _ c.pool_cmd-pooled.ensures.pools c.closed.ensures

@@ -7,4 +7,4 @@ use Rattle.bz_cli_program.proofs.commands.run.Goals as goal
 
 pub returns-clause-runs : goal.returns-clause-runs
 returns-clause-runs g c =
-    λ within. does of_run _ (λ text answer. Runs text (texts c.args.given.words.now) (option_copied c.args.given.part) c.args.given.options.journal c.args.given.options.strict _ _ answer) c.run_cmd-played.result _ c.run_cmd-played.ensures.runs c.ended.ensures
+    λ within. does of_run _ (λ text answer. Runs text (texts c.args.given.now.words.now) (option_copied c.args.given.now.part) c.args.options.journal c.args.options.strict _ _ answer) c.run_cmd-played.result _ c.run_cmd-played.ensures.runs c.ended.ensures

@@ -1,0 +1,216 @@
+//! A command that was asked for, with the options of it.
+
+use crate::options::{FUEL_BY_DEFAULT, HOPS_BY_DEFAULT, JOURNAL_BY_DEFAULT, WORKERS_BY_DEFAULT};
+use clap::ArgMatches;
+
+/// A command of the program, with its options.
+#[derive(Clone, Copy)]
+pub enum Command<'a> {
+    Run(RunOptions<'a>),
+    Explore,
+    Check(TraceOptions<'a>),
+    List(ListOptions),
+    Lint(FormatOptions),
+    Parts,
+    Kinds(FormatOptions),
+    Draw(DrawOptions),
+    Chart(ChartOptions<'a>),
+    Page(TraceOptions<'a>),
+    Pool(PoolOptions<'a>),
+}
+
+/// The options of `run`.
+#[derive(Clone, Copy)]
+pub struct RunOptions<'a> {
+    /// The most entries of the journal.
+    pub journal: u32,
+    /// Whether the run stops at a host command that is not done.
+    pub strict: bool,
+    /// Where the words come from, if they don't stand on the command line.
+    pub word_file: Option<Source<'a>>,
+}
+
+/// The options of a command that reads a trace.
+#[derive(Clone, Copy)]
+pub struct TraceOptions<'a> {
+    /// Where the trace comes from, if it doesn't stand behind the netlist.
+    pub trace: Option<Source<'a>>,
+}
+
+/// The options of `list`.
+#[derive(Clone, Copy)]
+pub struct ListOptions {
+    /// Whether the list has places.
+    pub paths: bool,
+}
+
+/// The options of `lint` and `kinds`.
+#[derive(Clone, Copy)]
+pub struct FormatOptions {
+    /// Whether JSON is asked for.
+    pub json: bool,
+}
+
+/// The options of `draw`.
+#[derive(Clone, Copy)]
+pub struct DrawOptions {
+    /// Instances within so many others are drawn as boxes.
+    pub depth: Option<u32>,
+    /// The component around which a net is drawn.
+    pub around: Option<u32>,
+    /// How many channels away from that component what is drawn may be.
+    pub hops: u32,
+}
+
+/// The options of `chart`.
+#[derive(Clone, Copy)]
+pub struct ChartOptions<'a> {
+    /// Where the trace comes from, if it doesn't stand behind the netlist.
+    pub trace: Option<Source<'a>>,
+    /// The first line of the trace that is drawn.
+    pub from: Option<u64>,
+    /// The last line of it that is drawn.
+    pub to: Option<u64>,
+}
+
+/// The options of `pool`.
+#[derive(Clone, Copy)]
+pub struct PoolOptions<'a> {
+    pub workers: u8,
+    /// The most firings of all workers together.
+    pub fuel: u64,
+    /// The most entries of the journal.
+    pub journal: u32,
+    /// Where the words come from, if they don't stand on the command line.
+    pub word_file: Option<Source<'a>>,
+}
+
+/// Where a text comes from.
+#[derive(Clone, Copy)]
+pub enum Source<'a> {
+    Stdin,
+    File(&'a str),
+}
+
+impl<'a> Source<'a> {
+    /// The name of the file that is read from.
+    pub fn file(self) -> Option<&'a str> {
+        match self {
+            Source::Stdin => None,
+            Source::File(path) => Some(path),
+        }
+    }
+}
+
+impl<'a> Command<'a> {
+    /// Where the words come from, if the command takes words and they don't stand on the command line.
+    pub fn word_file(self) -> Option<Source<'a>> {
+        match self {
+            Command::Run(options) => options.word_file,
+            Command::Pool(options) => options.word_file,
+            _ => None,
+        }
+    }
+
+    /// Where the trace comes from, if the command reads one and it doesn't stand behind the netlist.
+    pub fn trace_file(self) -> Option<Source<'a>> {
+        match self {
+            Command::Check(options) => options.trace,
+            Command::Chart(options) => options.trace,
+            Command::Page(options) => options.trace,
+            _ => None,
+        }
+    }
+
+    /// Whether the command reads a trace.
+    pub fn reads_trace(self) -> bool {
+        matches!(
+            self,
+            Command::Check(_) | Command::Chart(_) | Command::Page(_)
+        )
+    }
+
+    /// Whether words are those of the sessions of a pool.
+    pub fn is_pool(self) -> bool {
+        matches!(self, Command::Pool(_))
+    }
+
+    /// Whether a net is played by the lines of standard input.
+    pub fn is_by_hand(self) -> bool {
+        matches!(self, Command::Explore)
+    }
+}
+
+/// The command of a name, with the options that stand behind it.
+pub(crate) fn command_in<'a>(name: &str, matches: &ArgMatches<'a>) -> Option<Command<'a>> {
+    Some(match name {
+        "run" => Command::Run(run_options(matches)),
+        "explore" => Command::Explore,
+        "check" => Command::Check(trace_options(matches)),
+        "list" => Command::List(ListOptions {
+            paths: matches.get_flag("paths"),
+        }),
+        "lint" => Command::Lint(format_options(matches)),
+        "parts" => Command::Parts,
+        "kinds" => Command::Kinds(format_options(matches)),
+        "draw" => Command::Draw(draw_options(matches)),
+        "chart" => Command::Chart(chart_options(matches)),
+        "page" => Command::Page(trace_options(matches)),
+        "pool" => Command::Pool(pool_options(matches)),
+        _ => return None,
+    })
+}
+
+fn run_options<'a>(matches: &ArgMatches<'a>) -> RunOptions<'a> {
+    RunOptions {
+        journal: matches.get_one("journal").unwrap_or(JOURNAL_BY_DEFAULT),
+        strict: matches.get_flag("strict"),
+        word_file: source_named(matches, "word-file"),
+    }
+}
+
+fn trace_options<'a>(matches: &ArgMatches<'a>) -> TraceOptions<'a> {
+    TraceOptions {
+        trace: source_named(matches, "trace"),
+    }
+}
+
+fn format_options(matches: &ArgMatches<'_>) -> FormatOptions {
+    FormatOptions {
+        json: matches.get_str("format") == Some("json"),
+    }
+}
+
+fn draw_options(matches: &ArgMatches<'_>) -> DrawOptions {
+    DrawOptions {
+        depth: matches.get_one("depth"),
+        around: matches.get_one("around"),
+        hops: matches.get_one("hops").unwrap_or(HOPS_BY_DEFAULT),
+    }
+}
+
+fn chart_options<'a>(matches: &ArgMatches<'a>) -> ChartOptions<'a> {
+    ChartOptions {
+        trace: source_named(matches, "trace"),
+        from: matches.get_one("from"),
+        to: matches.get_one("to"),
+    }
+}
+
+fn pool_options<'a>(matches: &ArgMatches<'a>) -> PoolOptions<'a> {
+    PoolOptions {
+        workers: matches.get_one("workers").unwrap_or(WORKERS_BY_DEFAULT),
+        fuel: matches.get_one("fuel").unwrap_or(FUEL_BY_DEFAULT),
+        journal: matches.get_one("journal").unwrap_or(JOURNAL_BY_DEFAULT),
+        word_file: source_named(matches, "word-file"),
+    }
+}
+
+/// Where the text of an option comes from, if it is given.
+pub(crate) fn source_named<'a>(matches: &ArgMatches<'a>, option: &str) -> Option<Source<'a>> {
+    match matches.get_str(option) {
+        Some("-") => Some(Source::Stdin),
+        Some(path) => Some(Source::File(path)),
+        None => None,
+    }
+}

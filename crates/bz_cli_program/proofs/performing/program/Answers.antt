@@ -1,0 +1,34 @@
+use Rattle.bz_cli_program.proofs.performing.program.Goals as goal
+
+pub returns-in-Run-clause-does : goal.returns-in-Run-clause-does
+returns-in-Run-clause-does g c = rw (c.in-Run.is, c.of.ensures) (c.run.ensures.refused, c.run.ensures.runs)
+
+pub returns-in-Explore-clause-does : goal.returns-in-Explore-clause-does
+returns-in-Explore-clause-does g c = rw c.in-Explore.is tt
+
+pub returns-in-Check-clause-does : goal.returns-in-Check-clause-does
+returns-in-Check-clause-does g c = rw c.in-Check.is c.check.ensures.checks
+
+pub returns-in-List-clause-does : goal.returns-in-List-clause-does
+returns-in-List-clause-does g c = rw (c.in-List.is, c.of-in-List.ensures) (c.list.ensures.plainly, c.list.ensures.places)
+
+pub returns-in-Lint-clause-does : goal.returns-in-Lint-clause-does
+returns-in-Lint-clause-does g c = rw c.in-Lint.is tt
+
+pub returns-in-Parts-clause-does : goal.returns-in-Parts-clause-does
+returns-in-Parts-clause-does g c = rw (c.in-Parts.is, c.of-in-Parts.ensures) c.parts.ensures.parts
+
+pub returns-in-Kinds-clause-does : goal.returns-in-Kinds-clause-does
+returns-in-Kinds-clause-does g c = rw c.in-Kinds.is tt
+
+pub returns-in-Draw-clause-does : goal.returns-in-Draw-clause-does
+returns-in-Draw-clause-does g c = rw (c.in-Draw.is, c.of-in-Draw.ensures) c.draw.ensures.draws
+
+pub returns-in-Chart-clause-does : goal.returns-in-Chart-clause-does
+returns-in-Chart-clause-does g c = rw (c.in-Chart.is, c.of-in-Chart.ensures) c.chart.ensures.charts
+
+pub returns-in-Page-clause-does : goal.returns-in-Page-clause-does
+returns-in-Page-clause-does g c = rw (c.in-Page.is, c.of-in-Page.ensures) c.page.ensures.pages
+
+pub returns-in-Pool-clause-does : goal.returns-in-Pool-clause-does
+returns-in-Pool-clause-does g c = rw (c.in-Pool.is, c.of-in-Pool.ensures) (c.pool.ensures.refused, c.pool.ensures.pools)

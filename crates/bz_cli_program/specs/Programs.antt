@@ -1,0 +1,76 @@
+-- What the program does of each command, with these words and this input: with what status or fault it ends, and what went out.
+use Rattle.std.specs.Prelude.{◌≡◌, ℕ, ⊤, false, true, Option, None, Some, Result, List, IfSome}
+use Rattle.bz_chart.specs.Charting.{Charts, ChartsApart}
+use Rattle.bz_cli.specs.Pooling.{Pools}
+use Rattle.bz_cli_args.specs.declared.asked.ChartOptions.{ChartOptions}
+use Rattle.bz_cli_args.specs.declared.asked.Command.{Command}
+use Rattle.bz_cli_args.specs.declared.asked.Command.TheVariants as asked
+use Rattle.bz_cli_args.specs.declared.asked.ListOptions.{ListOptions}
+use Rattle.bz_cli_args.specs.declared.asked.PoolOptions.{PoolOptions}
+use Rattle.bz_cli_args.specs.declared.asked.RunOptions.{RunOptions}
+use Rattle.bz_cli_core.specs.Running.{Runs}
+use Rattle.bz_cli_input.specs.Listed.{Lists}
+use Rattle.bz_cli_input.specs.declared.fault.Fault.{Fault}
+use Rattle.bz_cli_source.specs.Listed as placed
+use Rattle.bz_cli_source.specs.PartLists.{ListsParts}
+use Rattle.bz_cli_trace.specs.Checking.{Checks, ChecksApart}
+use Rattle.bz_draw.specs.Drawing.{Draws}
+use Rattle.bz_draw.specs.declared.fault.NoDrawing.{NoDrawing}
+use Rattle.bz_page.specs.Pages.{Blank}
+use Rattle.bz_page.specs.Paging.{Pages, PagesApart}
+use Rattle.bz_cli_program.specs.Endings.{AreWorkers, Does, IsDone, IsJournal, IsRefused, lines_asked, of_check, of_done, of_drawing, of_made, of_run}
+
+-- `run`, where the journal may be as long as is asked for
+abbrev pub RunEnds : RunOptions → List (List ℕ) → Option (List ℕ) → Option (List ℕ) → Option (List ℕ) → Option (List ℕ) → Result ℕ Fault → Type 0
+RunEnds options words part known old new result =
+    ((IsJournal options.journal → ⊥) → IsRefused old new result)
+    × (IsJournal options.journal → IfSome known (λ text. Does of_run (Runs text words part options.journal options.strict old new) result))
+
+-- `check`, of the trace after the netlist, or of one that a reader of its own gives
+abbrev pub CheckEnds : Option (List ℕ) → Option (List ℕ) → Option (Option (List ℕ)) → Option (List ℕ) → Option (List ℕ) → Result ℕ Fault → Type 0
+CheckEnds part known None old new result = IfSome known (λ text. Does of_check (Checks text part old new) result)
+CheckEnds part known (Some apart) old new result =
+    IfSome known (λ netlist. IfSome apart (λ text. Does of_check (ChecksApart netlist text part old new) result))
+
+-- `list`, with places where they are asked for
+abbrev pub ListEnds : ListOptions → Option (List ℕ) → Option (List ℕ) → Option (List ℕ) → Option (List ℕ) → Result ℕ Fault → Type 0
+ListEnds options part known old new result =
+    (options.paths ≡ false → IfSome known (λ text. IsDone (Lists text part old new) result))
+    × (options.paths ≡ true → IfSome known (λ text. IsDone (placed.Lists text part old new) result))
+
+-- `chart`, of the lines that are asked for
+abbrev pub ChartEnds : ChartOptions → Option (List ℕ) → Option (List ℕ) → Option (Option (List ℕ)) → Option (List ℕ) → Option (List ℕ) → Result ℕ Fault → Type 0
+ChartEnds options part known None old new result =
+    IfSome known (λ text. Does of_made (Charts {A = ⊤} text part (lines_asked options) old new) result)
+ChartEnds options part known (Some apart) old new result =
+    IfSome known (λ netlist. IfSome apart (λ text. Does of_made (ChartsApart {A = ⊤} netlist text part (lines_asked options) old new) result))
+
+-- `page`
+abbrev pub PageEnds : Option (List ℕ) → Option (List ℕ) → Option (Option (List ℕ)) → Option (List ℕ) → Option (List ℕ) → Result ℕ Fault → Type 0
+PageEnds part known None old new result =
+    IfSome known (λ text. Does of_made (λ answer. (blank : Blank) × Pages {A = ⊤} blank text part old new answer) result)
+PageEnds part known (Some apart) old new result =
+    IfSome known (λ netlist. IfSome apart (λ text. Does of_made (λ answer. (blank : Blank) × PagesApart {A = ⊤} blank netlist text part old new answer) result))
+
+-- `pool`, where there may be as many workers and entries as are asked for
+abbrev pub PoolEnds : PoolOptions → List (List ℕ) → Option (List ℕ) → Option (List ℕ) → Option (List ℕ) → Option (List ℕ) → Result ℕ Fault → Type 0
+PoolEnds options words part known old new result =
+    ((AreWorkers options.workers × IsJournal options.journal → ⊥) → IsRefused old new result)
+    × (AreWorkers options.workers → IsJournal options.journal
+    → IfSome known (λ text. Does of_done (Pools text words part options.workers options.fuel options.journal old new) result))
+
+-- What the program does of a command, its words, the part that is asked for, the input where it is known, and the bytes of a trace
+-- apart where there is one. Of `explore`, `lint` and `kinds` nothing is said.
+abbrev pub ProgramDoes : Command → List (List ℕ) → Option (List ℕ) → Option (List ℕ) → Option (Option (List ℕ)) → Option (List ℕ) → Option (List ℕ) → Result ℕ Fault → Type 0
+ProgramDoes (asked.Run options) words part known trace old new result = RunEnds options words part known old new result
+ProgramDoes asked.Explore words part known trace old new result = ⊤
+ProgramDoes (asked.Check options) words part known trace old new result = CheckEnds part known trace old new result
+ProgramDoes (asked.List options) words part known trace old new result = ListEnds options part known old new result
+ProgramDoes (asked.Lint options) words part known trace old new result = ⊤
+ProgramDoes asked.Parts words part known trace old new result = IfSome known (λ text. IsDone (ListsParts text old new) result)
+ProgramDoes (asked.Kinds options) words part known trace old new result = ⊤
+ProgramDoes (asked.Draw options) words part known trace old new result =
+    IfSome known (λ text. Does of_drawing (Draws {N = NoDrawing} text part old new) result)
+ProgramDoes (asked.Chart options) words part known trace old new result = ChartEnds options part known trace old new result
+ProgramDoes (asked.Page options) words part known trace old new result = PageEnds part known trace old new result
+ProgramDoes (asked.Pool options) words part known trace old new result = PoolEnds options words part known old new result

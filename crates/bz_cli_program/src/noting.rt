@@ -1,0 +1,178 @@
+//! How the program ends once its command has: a fault is reported, and notes are made where they were asked for.
+//!
+//! A trace with a file of its own is not kept for notes, since it may be long: the file is opened and read again, where it is
+//! a file and no pipe.
+
+use crate::files::{is_file, open_file};
+use crate::given::{Given, netlist_in};
+use crate::outcome::{NO_RUN, Outcome};
+use bz_cli_args::{Source, word_starts};
+use bz_cli_input::{Fault, INPUT_LIMIT, read_input};
+use bz_cli_trace::{Checked, check_trace};
+use bz_explain::{Asked, Explained, WordFile, Words, explain};
+use bz_explain_notes::Arg::{Number, Text};
+use bz_explain_notes::{Draft, tell, tell_findings, tell_notes};
+use bz_explain_trace::{Claim, explain_trace};
+use std::alloc::Global;
+use std::io::Write;
+use std::rt::Files;
+
+/// Reports what a command came to, with notes where the input was kept for them. The status with which the program ends.
+pub fn end<F: Files, E: Write>(
+    files: &F,
+    alloc: Global,
+    given: &Given<'_, '_>,
+    kept: Option<&[u8]>,
+    outcome: Outcome,
+    errors: &mut E,
+) -> u8 {
+    let (status, checked) = outcome.into_parts();
+    match status {
+        Ok(status) => {
+            if status == NO_RUN && given.command.reads_trace() {
+                note_trace(files, alloc, given, kept, checked, errors);
+            }
+            status
+        }
+        Err(fault) => refuse(files, alloc, &fault, given, kept, errors),
+    }
+}
+
+// Notes why a trace is not that of a run. Without a net that refused it, it is checked once more.
+fn note_trace<'a, F: Files, E: Write>(
+    files: &F,
+    alloc: Global,
+    given: &Given<'a, '_>,
+    kept: Option<&'a [u8]>,
+    checked: Option<Checked>,
+    errors: &mut E,
+) {
+    let Some(kept) = kept else {
+        return;
+    };
+    let netlist = netlist_in(given.command, kept);
+    let notes = match given.command.trace_file() {
+        None => {
+            let (_, trace) = kept.split_at(netlist.len().min(kept.len()));
+            let claim = Claim {
+                netlist,
+                trace,
+                file: None,
+            };
+            notes_on(alloc, given.part, claim, checked)
+        }
+        Some(source) => notes_of(files, alloc, given.part, netlist, source, checked),
+    };
+    let _ = tell_notes(alloc, &notes, errors);
+}
+
+// The notes of a trace by the net that refused it, or else by one that checks it once more.
+fn notes_on(
+    alloc: Global,
+    part: Option<&[u8]>,
+    claim: Claim<'_>,
+    checked: Option<Checked>,
+) -> Draft {
+    if let Some(checked) = checked {
+        return explain_trace(alloc, claim, checked);
+    }
+    match check_trace(alloc, part, claim.netlist, claim.trace) {
+        Ok(checked) => explain_trace(alloc, claim, checked),
+        Err(_) => Draft::new(alloc),
+    }
+}
+
+// The notes of a trace with a file of its own, which is read once more for them.
+fn notes_of<'a, F: Files>(
+    files: &F,
+    alloc: Global,
+    part: Option<&'a [u8]>,
+    netlist: &'a [u8],
+    source: Source<'a>,
+    checked: Option<Checked>,
+) -> Draft {
+    if let Some((path, trace)) = read_again(files, alloc, source) {
+        let claim = Claim {
+            netlist,
+            trace: trace.as_slice(),
+            file: Some(path),
+        };
+        return notes_on(alloc, part, claim, checked);
+    }
+    let mut notes = Draft::new(alloc);
+    notes.say(
+        "the reason is told only where the trace is a regular file of at most % bytes",
+        &[Number(INPUT_LIMIT)],
+    );
+    notes
+}
+
+// What a file has. Standard input, a pipe and a device can't be read twice.
+fn read_again<'a, F: Files>(
+    files: &F,
+    alloc: Global,
+    source: Source<'a>,
+) -> Option<(&'a str, Vec<u8>)> {
+    let Source::File(path) = source else {
+        return None;
+    };
+    if !is_file(files, path) {
+        return None;
+    }
+    let mut file = open_file(files, path).ok()?;
+    let trace = read_input(alloc, &mut file).ok()?;
+    Some((path, trace))
+}
+
+// Reports a fault by its line, with notes behind it where the input was kept for them.
+fn refuse<'a, F: Files, E: Write>(
+    files: &F,
+    alloc: Global,
+    fault: &Fault,
+    given: &Given<'a, '_>,
+    kept: Option<&'a [u8]>,
+    errors: &mut E,
+) -> u8 {
+    let kept = match (kept, fault) {
+        (Some(kept), _) => kept,
+        // (what could not be kept for want of memory)
+        (None, Fault::Memory) if given.explains => &[],
+        (None, _) => return tell(alloc, fault, None, errors),
+    };
+    // (where memory is wanting for them, the places of words are not told)
+    let starts = match given.word_text {
+        Some(text) => word_starts(alloc, text).unwrap_or_else(|_| Vec::new(alloc)),
+        None => Vec::new(alloc),
+    };
+    let asked = Asked {
+        netlist: netlist_in(given.command, kept),
+        file: given.file,
+        part: given.part,
+        words: Words {
+            list: given.words,
+            is_pool: given.command.is_pool(),
+            file: given.word_text.map(|text| WordFile {
+                text: text.as_bytes(),
+                starts: starts.as_slice(),
+            }),
+        },
+    };
+    let Explained { mut notes, others } = explain(alloc, fault, asked);
+    note_file(files, fault, given.words, &mut notes);
+    let status = tell(alloc, fault, Some(&notes), errors);
+    let _ = tell_findings(alloc, given.file.unwrap_or("-"), &others, errors);
+    status
+}
+
+// Notes that a word that is none is a file.
+fn note_file<F: Files>(files: &F, fault: &Fault, words: &[&str], notes: &mut Draft) {
+    let Fault::Word(number) = fault else {
+        return;
+    };
+    if let Some(word) = words.get(number.saturating_sub(1)) {
+        if is_file(files, word) {
+            let form = "help: % is a file; files are named by options, as --netlist %";
+            notes.say(form, &[Text(word), Text(word)]);
+        }
+    }
+}

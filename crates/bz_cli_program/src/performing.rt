@@ -1,0 +1,72 @@
+//! From what was asked to a status: each command with what it reads and writes.
+
+ghost use Rattle.std.specs.Prelude.{◌≡◌};
+ghost use Rattle.std.specs.Option.{option_copied, option_map};
+ghost use Rattle.bz_cli_input.specs.Reading.{ReadsWithin};
+ghost use Rattle.bz_cli_program.specs.Programs.{ProgramDoes};
+ghost use Rattle.bz_words.specs.Words.{texts};
+
+use crate::commands::{chart, check, draw, explore, kinds, lint, list, page, parts, pool, run};
+use crate::given::Given;
+use crate::outcome::Outcome;
+use bz_cli_args::Command;
+use bz_cli_input::Fault;
+use bz_explore::Shelf;
+use std::alloc::Global;
+use std::io::{BufRead, Read, Write};
+use std::sync::Wait;
+use std::thread::Threads;
+
+/// Does what a command says: reads the netlist from `input`, the trace from `trace` or else behind the netlist, and the lines of
+/// `explore` from `lines`, whose files are made on the shelf. Results go to `output`; what is wrong, and notes at a run's end, to
+/// `errors`.
+pub fn program<
+    H: Threads + Wait + Sync,
+    R: Read,
+    T: Read,
+    L: BufRead,
+    S: Shelf,
+    W: Write,
+    E: Write,
+>(
+    threads: &H,
+    alloc: Global,
+    given: &Given<'_, '_>,
+    input: &mut R,
+    trace: Option<&mut T>,
+    lines: &mut L,
+    shelf: &mut S,
+    output: &mut W,
+    errors: &mut E,
+) -> Outcome
+    ensures does { ProgramDoes given.now.command (texts given.now.words.now) (option_copied given.now.part) (R.remaining input.old)
+        (option_map (λ apart. T.remaining apart.now) trace.entry) (W.contents output.old) (W.contents output.new) result.status }
+
+    // Whatever comes of it, it reads at most one byte past the limit.
+    ensures bounded { ReadsWithin (R.remaining input.old) (R.remaining input.new) }
+{
+    let part = given.part;
+    match given.command {
+        Command::Run(options) => of(run(alloc, given, options, input, output, errors)),
+        Command::Explore => of(explore(alloc, given, input, lines, shelf, output)),
+        Command::Check(_) => check(alloc, part, input, trace, output),
+        Command::List(options) => of(list(alloc, part, options, input, output)),
+        Command::Lint(options) => of(lint(alloc, given, options, input, output)),
+        Command::Parts => of(parts(alloc, input, output)),
+        Command::Kinds(options) => of(kinds(alloc, options, output)),
+        Command::Draw(options) => of(draw(alloc, part, options, input, output, errors)),
+        Command::Chart(options) => of(chart(alloc, part, options, input, trace, output, errors)),
+        Command::Page(_) => of(page(alloc, part, input, trace, output, errors)),
+        Command::Pool(options) => of(pool(threads, alloc, given, options, input, output, errors)),
+    }
+}
+
+// What comes of a command that answers no net.
+fn of(status: Result<u8, Fault>) -> Outcome
+    ensures { result.status ≡ status }
+{
+    Outcome {
+        status,
+        checked: None,
+    }
+}
