@@ -1,0 +1,63 @@
+-- Links that are put one after another.
+use Rattle.std.proofs.Common.{◌≡◌, ℕ, ◌+◌, ◌-◌, ◌<◌, ◌≤◌, inl, inr, Bool, true, not, List, [], ◌∷◌, ◌++◌, length, get_or, refl, sym, ap, subst, ◌∙◌, arith, get_or-append_left, get_or-append_right, length-append}
+use Rattle.std.proofs.lemmas.Bool.{cases_lt}
+use Rattle.bz_model.specs.Nets.{Site, Wiring, State}
+use Rattle.bz_flat.specs.Wires.{IsEnd}
+use Rattle.bz_waits.specs.Waiting.{IsAtEnd}
+use Rattle.bz_stuck.specs.declared.rings.Link.{Link}
+use Rattle.bz_stuck.specs.Rings.{IsLinkAt, IsRing}
+use Rattle.bz_stuck.specs.Stuck.{is_member}
+
+-- the links of the first components of a list
+pub record LinksUpTo (w : Wiring) (s : State) (row : List Bool) (comps : List ℕ) (n : ℕ) (links : List Link) : Type 0 where
+  pub len : length links ≡ n
+  pub at : (i : ℕ) (d : Link) → i < n → IsLinkAt w s row comps i (get_or links i d)
+
+-- who stands at an end, where somebody does
+pub somebody : (sites : List Site) (k : ℕ) (side : Bool) (other : ℕ) → (other ≡ 0 → ⊥) → IsAtEnd sites k side other → (q : ℕ) × IsEnd sites k side other q
+somebody sites k side other some (inl none) = absurd (some none.0)
+somebody sites k side other some (inr there) = there
+
+module _ (w : Wiring) (s : State) (row : List Bool) where
+  pub ring_none : IsRing w s (is_member row) []
+  ring_none = record {
+    members = λ k d lt. absurd (omega (arith, lt));
+    links = λ k d lt. absurd (omega (arith, lt));
+    next = λ i d lt. absurd (omega (arith, lt));
+    back = λ i d is. absurd (omega (arith, is));
+  }
+
+  module _ (comps : List ℕ) where
+    pub links_start : LinksUpTo w s row comps 0 []
+    links_start = record { len = refl; at = λ i d lt. absurd (omega (arith, lt)) }
+
+    module _ (n : ℕ) (links : List Link) (so : LinksUpTo w s row comps n links) where
+      pub links_more : (l : Link) → IsLinkAt w s row comps n l → LinksUpTo w s row comps (n + 1) (links ++ l ∷ [])
+      links_more l is = record {
+        len = let len = so.len in let more : length (links ++ l ∷ []) ≡ length links + 1 = length-append links (l ∷ []) in omega (arith, len, more);
+        at = λ i d lt. elim (cases_lt i n) [
+          | inl less ↦
+              let len = so.len in
+              subst (λ m. IsLinkAt w s row comps i m) (sym (get_or-append_left links (l ∷ []) i d (omega (arith, less, len)))) (so.at i d less)
+          | inr least ↦
+              let same : n ≡ i = omega (arith, lt, least) in
+              let zero_at : i - n ≡ 0 = omega (arith, same) in
+              let here : get_or (links ++ l ∷ []) i d ≡ l = get_or-append_right links (l ∷ []) n i d so.len least ∙ ap (λ j. get_or (l ∷ []) j d) zero_at in
+              subst (λ m. IsLinkAt w s row comps i m) (sym here) (subst (λ j. IsLinkAt w s row comps j l) same is)
+        ];
+      }
+
+      pub links_all : n ≡ length comps → IsRing w s (is_member row) links
+      links_all is = record {
+        members = λ k d lt. (at k d lt).stuck;
+        links = λ k d lt. (at k d lt).link;
+        next = λ i d lt.
+            let len = so.len in
+            (at i d (omega (arith, lt))).next (omega (arith, lt, len, is)) ∙ sym (at (i + 1) d lt).comp;
+        back = λ i d last.
+            let len = so.len in
+            (at i d (omega (arith, last))).back (omega (arith, last, len, is)) ∙ sym (at 0 d (omega (arith, last))).comp;
+      }
+        where
+          at : (i : ℕ) (d : Link) → i < length links → IsLinkAt w s row comps i (get_or links i d)
+          at i d lt = so.at i d (let len = so.len in omega (arith, lt, len))
