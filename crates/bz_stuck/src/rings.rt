@@ -67,7 +67,8 @@ fn next_of(comps: &[u32], place: usize) -> u32
 
 // The first link from a member to a component.
 fn find_link(core: &Core, members: &[bool], comp: u32, other: u32) -> Option<Link>
-    ensures { IfSome result (λ l. (is_member members.now comp ≡ true) × IsLink core.now.wiring core.now.state l × (l.comp ≡ comp) × (l.other ≡ other)) }
+    ensures { IfSome result (λ l. (is_member members.now comp ≡ true) × IsLink core.now.wiring core.now.state l
+        × (l.comp ≡ comp) × (l.other ≡ other)) }
 {
     if comp == 0 || comp > core.comp_count() || !has(members, comp) {
         return None;

@@ -11,4 +11,4 @@ mod wait;
 pub use graph::Graph;
 pub use sites::{chan_at, other_end, port_count};
 pub use table::Table;
-pub use wait::{Place, Wait, Whom};
+pub use wait::{Place, Wait, Whom, first_move};
