@@ -1,6 +1,9 @@
 -- Components are taken out that are in no stuck set, so that every one that is in such a set is left.
-use Rattle.std.proofs.Common.{◌≡◌, ℕ, ◌+◌, ◌<◌, ◌≤◌, ◌⊎◌, inl, inr, Bool, true, false, List, [], ◌∷◌, ◌++◌, length, get_or, set, replicate, refl, sym, ap, subst, ◌∙◌, arith, length-set, get_or-set_other, get_or-set_same, get_or-replicate, length-replicate, get_or_past}
+use Rattle.std.proofs.Common.{◌≡◌, ℕ, ◌+◌, ◌<◌, ◌≤◌, ◌⊎◌, inl, inr, Bool, true, false, Option, Some, List, [], ◌∷◌, ◌++◌, length, get_or, set, replicate, refl, sym, ap, subst, ◌∙◌, arith}
+use Rattle.std.proofs.lemmas.List.{length-set, get_or-set_other, get_or-set_same, get_or-replicate, length-replicate, get_or_past}
 use Rattle.std.specs.List.{All, sum_by}
+use Rattle.std.specs.Prelude.{slice_get}
+use Rattle.std.proofs.lemmas.Option.{get_or_from_slice_get, slice_get_within}
 use Rattle.std.proofs.lemmas.Bool.{cases_lt, false≢true}
 use Rattle.std.proofs.lemmas.List.Elements.{All-push, All-nil}
 use Rattle.std.proofs.lemmas.List.Sums.{sum_by-set}
@@ -9,7 +12,7 @@ use Rattle.bz_model.specs.Nets.{Wiring, State, IsPort, StepsAt, chan_at}
 use Rattle.bz_model.specs.Runs.{CanStep}
 use Rattle.bz_stuck.specs.Freeing.{Covers, Frees, HasDueOn, HasHost, IsFree}
 use Rattle.bz_stuck.specs.Holding.{IsLoose}
-use Rattle.bz_stuck.specs.Stuck.{AreStuck, IsGreatest, StuckAt, is_member}
+use Rattle.bz_stuck.specs.Stuck.{AreComps, AreStuck, IsGreatest, StuckAt, is_member}
 
 same_or_not : (a b : ℕ) → (a ≡ b) ⊎ (a ≡ b → ⊥)
 same_or_not a b = elim (cases_lt a b) [
@@ -90,6 +93,12 @@ module _ (w : Wiring) (s : State) where
       ];
     }
 
+  -- what was read of those that were taken out
+  pub free_read : (row : List Bool) (freed : List ℕ) (i c : ℕ) → Frees w s row freed → Some c ≡ slice_get freed i → IsFree w s c
+  free_read row freed i c frees is =
+      let within = slice_get_within freed i c (sym is) in
+      subst (IsFree w s) (get_or_from_slice_get freed i c c (sym is)) (frees.each i c within)
+
   pub frees_start : (row : List Bool) → Covers w s row → Frees w s row []
   frees_start row covers = record { covers = covers; each = All-nil (IsFree w s) }
 
@@ -108,3 +117,14 @@ module _ (w : Wiring) (s : State) where
         get_or-set_other (replicate n true) 0 d false false (λ e. omega (arith, e, from))
         ∙ get_or-replicate n d true false (omega (arith, to, is));
   }
+
+  pub covers_comps : (row : List Bool) → Covers w s row → AreComps w (is_member row)
+  covers_comps row covers c is = (from, let within = member_within row c is in let len = covers.len in omega (arith, within, len))
+    where
+      from : 0 < c
+      from = elim (cases_lt 0 c) [
+        | inl less ↦ less
+        | inr least ↦
+            let zero_is : c ≡ 0 = omega (arith, least) in
+            absurd (false≢true (sym covers.first ∙ subst (λ d. is_member row d ≡ true) zero_is is))
+      ]

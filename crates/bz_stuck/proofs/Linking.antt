@@ -1,11 +1,13 @@
 -- Links that are put one after another.
-use Rattle.std.proofs.Common.{◌≡◌, ℕ, ◌+◌, ◌-◌, ◌<◌, ◌≤◌, inl, inr, Bool, true, not, List, [], ◌∷◌, ◌++◌, length, get_or, refl, sym, ap, subst, ◌∙◌, arith, get_or-append_left, get_or-append_right, length-append}
+use Rattle.std.proofs.Common.{◌≡◌, ℕ, ◌+◌, ◌-◌, ◌<◌, ◌≤◌, inl, inr, Bool, true, not, List, [], ◌∷◌, ◌++◌, length, get_or, refl, sym, ap, subst, ◌∙◌, arith}
+use Rattle.std.proofs.lemmas.List.{get_or_append_left, get_or-append_right, length-append}
+use Rattle.std.specs.Prelude.{slice_index}
 use Rattle.std.proofs.lemmas.Bool.{cases_lt}
 use Rattle.bz_model.specs.Nets.{Site, Wiring, State}
 use Rattle.bz_flat.specs.Wires.{IsEnd}
 use Rattle.bz_waits.specs.Waiting.{IsAtEnd}
 use Rattle.bz_stuck.specs.declared.rings.Link.{Link}
-use Rattle.bz_stuck.specs.Rings.{IsLinkAt, IsRing}
+use Rattle.bz_stuck.specs.Rings.{IsLink, IsLinkAt, IsRing}
 use Rattle.bz_stuck.specs.Stuck.{is_member}
 
 -- the links of the first components of a list
@@ -31,6 +33,17 @@ module _ (w : Wiring) (s : State) (row : List Bool) where
     pub links_start : LinksUpTo w s row comps 0 []
     links_start = record { len = refl; at = λ i d lt. absurd (omega (arith, lt)) }
 
+    -- the link that was found from one component to the next
+    pub link_found : (n next : ℕ) (l : Link) → is_member row (slice_index comps n) ≡ true → IsLink w s l → l.comp ≡ slice_index comps n → l.other ≡ next
+        → (n + 1 < length comps → next ≡ slice_index comps (n + 1)) → (n + 1 ≡ length comps → next ≡ slice_index comps 0) → IsLinkAt w s row comps n l
+    link_found n next l stuck link comp other more last = record {
+      stuck = subst (λ c. is_member row c ≡ true) (sym comp) stuck;
+      link = link;
+      comp = comp;
+      next = λ lt. other ∙ more lt;
+      back = λ is. other ∙ last is;
+    }
+
     module _ (n : ℕ) (links : List Link) (so : LinksUpTo w s row comps n links) where
       pub links_more : (l : Link) → IsLinkAt w s row comps n l → LinksUpTo w s row comps (n + 1) (links ++ l ∷ [])
       links_more l is = record {
@@ -38,7 +51,7 @@ module _ (w : Wiring) (s : State) (row : List Bool) where
         at = λ i d lt. elim (cases_lt i n) [
           | inl less ↦
               let len = so.len in
-              subst (λ m. IsLinkAt w s row comps i m) (sym (get_or-append_left links (l ∷ []) i d (omega (arith, less, len)))) (so.at i d less)
+              subst (λ m. IsLinkAt w s row comps i m) (sym (get_or_append_left links (l ∷ []) d i (omega (arith, less, len)))) (so.at i d less)
           | inr least ↦
               let same : n ≡ i = omega (arith, lt, least) in
               let zero_at : i - n ≡ 0 = omega (arith, same) in

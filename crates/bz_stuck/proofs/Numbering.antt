@@ -1,5 +1,6 @@
 -- The numbers of members, gathered one after another.
-use Rattle.std.proofs.Common.{◌≡◌, ℕ, ◌+◌, ◌-◌, ◌<◌, ◌≤◌, inl, inr, Bool, true, false, List, [], ◌∷◌, ◌++◌, length, get_or, refl, sym, ap, subst, ◌∙◌, arith, get_or-append_left, get_or-append_right, length-append}
+use Rattle.std.proofs.Common.{◌≡◌, ℕ, ◌+◌, ◌-◌, ◌<◌, ◌≤◌, inl, inr, Bool, true, false, List, [], ◌∷◌, ◌++◌, length, get_or, refl, sym, ap, subst, ◌∙◌, arith}
+use Rattle.std.proofs.lemmas.List.{get_or_append_left, get_or-append_right, length-append}
 use Rattle.std.specs.List.{All, Contains}
 use Rattle.std.specs.List.Sorted.{IsStrictlyIncreasing}
 use Rattle.std.specs.Prelude.{slice_index}
@@ -39,10 +40,10 @@ module _ (row : List Bool) where
     rising_more : IsStrictlyIncreasing (numbers ++ (n + 1) ∷ [])
     rising_more k lt =
         let len : length (numbers ++ (n + 1) ∷ []) ≡ length numbers + 1 = length-append numbers ((n + 1) ∷ []) in
-        let here : slice_index (numbers ++ (n + 1) ∷ []) k ≡ slice_index numbers k = get_or-append_left numbers ((n + 1) ∷ []) k 0 (omega (arith, lt, len)) in
+        let here : slice_index (numbers ++ (n + 1) ∷ []) k ≡ slice_index numbers k = get_or_append_left numbers ((n + 1) ∷ []) 0 k (omega (arith, lt, len)) in
         elim (cases_lt (k + 1) (length numbers)) [
           | inl less ↦
-              let next : slice_index (numbers ++ (n + 1) ∷ []) (k + 1) ≡ slice_index numbers (k + 1) = get_or-append_left numbers ((n + 1) ∷ []) (k + 1) 0 less in
+              let next : slice_index (numbers ++ (n + 1) ∷ []) (k + 1) ≡ slice_index numbers (k + 1) = get_or_append_left numbers ((n + 1) ∷ []) 0 (k + 1) less in
               let up = so.rising k less in omega (arith, here, next, up)
           | inr least ↦
               let end : k + 1 ≡ length numbers = omega (arith, lt, len, least) in

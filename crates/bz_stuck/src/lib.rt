@@ -10,4 +10,4 @@ mod set;
 pub use laws::what_is_stuck_stays;
 pub use looking::are_stuck;
 pub use rings::Link;
-pub use set::{Stuck, stuck};
+pub use set::Stuck;

@@ -83,6 +83,8 @@ fn port_holds(core: &Core, members: &[bool], comp: u32, port: u32) -> bool
     requires { IsPort core.now.wiring.sites comp port }
     ensures { IsTrue result ↔ PortHolds core.now.wiring core.now.state (is_member members.now) comp port }
 {
+    // the wiring tells that the channel is one of the net's
+    let _ = core.names();
     if core.can_fire(comp, port) {
         return false;
     }

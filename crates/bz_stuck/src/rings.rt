@@ -17,7 +17,7 @@ use std::alloc::{AllocError, Global};
 
 /// The most members from which a ring is looked for, and the most components that are met by that.
 const MOST_STARTS: usize = 400;
-const MOST_MET: usize = 2_000_000;
+const MOST_MET: usize = 1_000_000;
 
 /// What a component waits for at one of its ports. Components, ports and channels count from 1.
 #[derive(Clone, Copy)]
@@ -122,18 +122,24 @@ fn shortest_of(
     holds: bool,
     came: &mut Table,
 ) -> Result<Vec<u32>, AllocError> {
-    let mut best: Vec<u32> = Vec::new(alloc);
+    let mut best = Vec::new(alloc);
     let (mut starts, mut met) = (0usize, 0usize);
     for start in numbers {
         if starts < MOST_STARTS && met < MOST_MET && holds_request(core, *start) == holds {
             starts = starts.saturating_add(1);
             let ring = ring_from(alloc, core, *start, came, &mut met)?;
-            if best.is_empty() || !ring.is_empty() && ring.len() < best.len() {
-                best = ring;
-            }
+            best = shorter(best, ring);
         }
     }
     Ok(best)
+}
+
+// The shorter one of two that are not empty, the first where they are alike.
+fn shorter(best: Vec<u32>, ring: Vec<u32>) -> Vec<u32> {
+    if best.is_empty() || !ring.is_empty() && ring.len() < best.len() {
+        return ring;
+    }
+    best
 }
 
 // The components of a shortest ring through one. How many were met is added.

@@ -1,7 +1,7 @@
 //! The search for all that can never move again. Who can move, or waits for the host, is taken out of the components, and so is
 //! whoever waits for one that was taken out.
 
-ghost use Rattle.std.specs.Prelude.{◌≡◌, ◌<◌, ◌≤◌, IfOk, IsTrue, length};
+ghost use Rattle.std.specs.Prelude.{◌≡◌, ◌<◌, ◌≤◌, IfOk, IsTrue, length, slice_get};
 ghost use Rattle.bz_model.specs.Nets.{IsPort, chan_at};
 ghost use Rattle.bz_stuck.specs.Freeing.{Covers, Frees, HasDueOn, HasHost, IsFree};
 ghost use Rattle.bz_stuck.specs.Stuck.{AreStuck, is_member};
@@ -42,12 +42,21 @@ fn free(alloc: Global, core: &Core, members: &mut Vec<bool>) -> Result<(), Alloc
     let mut freed = Vec::new(alloc);
     begin(core, members, &mut freed)?;
     for turn in 0..core.comp_count() {
-        let Some(comp) = freed.get(turn as usize).copied() else {
+        let Some(comp) = at(freed.as_slice(), turn) else {
             break;
         };
         free_round(core, comp, members, &mut freed)?;
     }
     Ok(())
+}
+
+fn at(freed: &[u32], place: u32) -> Option<u32>
+    ensures { result ≡ slice_get freed.now place }
+{
+    match freed.get(place as usize) {
+        Some(comp) => Some(*comp),
+        None => None,
+    }
 }
 
 // Takes out who can move, and who waits for the host.
@@ -93,7 +102,12 @@ fn waits_for_host(core: &Core, comp: u32, port: u32) -> bool
 }
 
 // Takes out who waits for a component that was taken out.
-fn free_round(core: &Core, comp: u32, members: &mut Vec<bool>, freed: &mut Vec<u32>) -> Result<(), AllocError>
+fn free_round(
+    core: &Core,
+    comp: u32,
+    members: &mut Vec<bool>,
+    freed: &mut Vec<u32>,
+) -> Result<(), AllocError>
     requires free { IsFree core.now.wiring core.now.state comp }
     requires frees { Frees core.now.wiring core.now.state members.old.items freed.old.items }
     ensures { IfOk result (λ _. Frees core.now.wiring core.now.state members.new.items freed.new.items) }
@@ -105,7 +119,13 @@ fn free_round(core: &Core, comp: u32, members: &mut Vec<bool>, freed: &mut Vec<u
 }
 
 // The same at one of its ports.
-fn free_at(core: &Core, comp: u32, port: u32, members: &mut Vec<bool>, freed: &mut Vec<u32>) -> Result<(), AllocError>
+fn free_at(
+    core: &Core,
+    comp: u32,
+    port: u32,
+    members: &mut Vec<bool>,
+    freed: &mut Vec<u32>,
+) -> Result<(), AllocError>
     requires free { IsFree core.now.wiring core.now.state comp }
     requires port { IsPort core.now.wiring.sites comp port }
     requires frees { Frees core.now.wiring core.now.state members.old.items freed.old.items }
@@ -140,7 +160,7 @@ fn free_waiting(
     requires frees { Frees core.now.wiring core.now.state members.old.items freed.old.items }
     ensures { IfOk result (λ _. Frees core.now.wiring core.now.state members.new.items freed.new.items) }
 {
-    if !has(members, other) {
+    if !has(members.as_slice(), other) {
         return Ok(());
     }
     if has_due_on(core, other, chan_at(core, comp, port), side) {
@@ -162,7 +182,12 @@ fn has_due_on(core: &Core, comp: u32, chan: u32, side: Move) -> bool
     }
 }
 
-fn take_out(core: &Core, comp: u32, members: &mut Vec<bool>, freed: &mut Vec<u32>) -> Result<(), AllocError>
+fn take_out(
+    core: &Core,
+    comp: u32,
+    members: &mut Vec<bool>,
+    freed: &mut Vec<u32>,
+) -> Result<(), AllocError>
     requires free { IsFree core.now.wiring core.now.state comp }
     requires frees { Frees core.now.wiring core.now.state members.old.items freed.old.items }
     ensures { IfOk result (λ _. Frees core.now.wiring core.now.state members.new.items freed.new.items) }
@@ -178,7 +203,7 @@ fn settle(core: &Core, members: &mut Vec<bool>)
     ensures stuck { AreStuck core.now.wiring core.now.state (is_member members.new.items) }
     ensures covers { Covers core.now.wiring core.now.state members.new.items }
 {
-    'settling: while let Some(comp) = first_loose(core, members) {
+    'settling: while let Some(comp) = first_loose(core, members.as_slice()) {
         members[comp as usize] = false;
     }
 }

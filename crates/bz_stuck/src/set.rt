@@ -38,18 +38,18 @@ impl Model for Stuck {
     ghost invariant = { λ s. AreNumbers s.members.items s.numbers.items };
 }
 
-/// All components of a net that can never move again from the state that it is in, whatever hosts do.
-pub fn stuck(alloc: Global, core: &Core) -> Result<Stuck, AllocError>
-    ensures comps { IfOk result (λ set. AreComps core.now.wiring (is_member set)) }
-    ensures stuck { IfOk result (λ set. AreStuck core.now.wiring core.now.state (is_member set)) }
-    ensures greatest { IfOk result (λ set. IsGreatest core.now.wiring core.now.state (is_member set)) }
-{
-    let members = search(alloc, core)?;
-    let numbers = numbers_of(alloc, &members, core.comp_count())?;
-    Ok(Stuck { members, numbers })
-}
-
 impl Stuck {
+    /// All components of a net that can never move again from the state that it is in, whatever hosts do.
+    pub fn of(alloc: Global, core: &Core) -> Result<Stuck, AllocError>
+        ensures comps { IfOk result (λ set. AreComps core.now.wiring (is_member set)) }
+        ensures stuck { IfOk result (λ set. AreStuck core.now.wiring core.now.state (is_member set)) }
+        ensures greatest { IfOk result (λ set. IsGreatest core.now.wiring core.now.state (is_member set)) }
+    {
+        let members = search(alloc, core)?;
+        let numbers = numbers_of(alloc, &members, core.comp_count())?;
+        Ok(Stuck { members, numbers })
+    }
+
     /// Whether a component is one of them.
     pub fn contains(&self, comp: u32) -> bool
         ensures { result ≡ is_member self.now comp }

@@ -1,4 +1,5 @@
 use Rattle.std.proofs.Common.{sym, ◌∙◌}
+use Rattle.std.proofs.lemmas.Bool.{false≢true}
 use Rattle.bz_stuck.proofs.Holding.{loose_told}
 use Rattle.bz_stuck.proofs.looking.is_loose.Goals as goal
 
@@ -8,4 +9,4 @@ returns-then-has c =
     loose_told n.wiring n.state c.args.members.now c.args.comp c.comp_holds.result c.requires.from c.requires.to (sym c.has.ensures ∙ c.if-has.true) c.comp_holds.ensures
 
 pub returns : goal.returns
-returns c = λ is. ?
+returns c = λ is. absurd (false≢true (sym c.if-has.false ∙ c.has.ensures ∙ is))
