@@ -62,10 +62,10 @@ all_at w s row c p k mv chan port has holds = λ d q there on. holds.among mv po
 
 pub port_kept : (w : Wiring) (s : State) (row : List Bool) (c p k : ℕ) → (StepsAt w.sites s c p → ⊥) → k ≡ chan_at w.sites c p → length w.ports < k → AllIn w.sites row k → PortHolds w s (is_member row) c p
 port_kept w s row c p k none chan far all = record {
-    still = none;
-    inner = λ mv port has. subst (λ j. length w.ports < j) chan far;
-    among = λ mv port has d q there on. all d q there (on ∙ sym chan);
-  }
+  still = none;
+  inner = λ mv port has. subst (λ j. length w.ports < j) chan far;
+  among = λ mv port has d q there on. all d q there (on ∙ sym chan);
+}
 
 -- what a look at a member tells
 pub loose_told : (w : Wiring) (s : State) (row : List Bool) (c : ℕ) (holds : Bool) → 0 < c → c ≤ length w.sites → is_member row c ≡ true

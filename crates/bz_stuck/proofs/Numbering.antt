@@ -49,7 +49,7 @@ module _ (row : List Bool) where
               let end : k + 1 ≡ length numbers = omega (arith, lt, len, least) in
               let zero_at : (k + 1) - length numbers ≡ 0 = omega (arith, end) in
               let next : slice_index (numbers ++ (n + 1) ∷ []) (k + 1) ≡ n + 1 =
-                  get_or-append_right numbers ((n + 1) ∷ []) (length numbers) (k + 1) 0 refl least ∙ ap (λ i. get_or ((n + 1) ∷ []) i 0) zero_at in
+              get_or-append_right numbers ((n + 1) ∷ []) (length numbers) (k + 1) 0 refl least ∙ ap (λ i. get_or ((n + 1) ∷ []) i 0) zero_at in
               let to : slice_index numbers k ≤ n = so.within k 0 (omega (arith, end)) in
               omega (arith, here, next, to)
         ]

@@ -17,6 +17,7 @@ use std::alloc::{AllocError, Global};
 
 /// The most members from which a ring is looked for, and the most components that are met by that.
 const MOST_STARTS: usize = 400;
+
 const MOST_MET: usize = 1_000_000;
 
 /// What a component waits for at one of its ports. Components, ports and channels count from 1.
@@ -32,7 +33,12 @@ pub struct Link {
 }
 
 /// A short ring among members, or nothing where none is found.
-pub(crate) fn ring(alloc: Global, core: &Core, members: &[bool], numbers: &[u32]) -> Result<Vec<Link>, AllocError>
+pub(crate) fn ring(
+    alloc: Global,
+    core: &Core,
+    members: &[bool],
+    numbers: &[u32],
+) -> Result<Vec<Link>, AllocError>
     ensures { IfOk result (λ links. IsRing core.now.wiring core.now.state (is_member members.now) links.items) }
 {
     let comps = shortest(alloc, core, numbers)?;
@@ -40,7 +46,12 @@ pub(crate) fn ring(alloc: Global, core: &Core, members: &[bool], numbers: &[u32]
 }
 
 // The links from each of these components to the next, and from the last to the first, or nothing where one of them is none.
-fn close(alloc: Global, core: &Core, members: &[bool], comps: &[u32]) -> Result<Vec<Link>, AllocError>
+fn close(
+    alloc: Global,
+    core: &Core,
+    members: &[bool],
+    comps: &[u32],
+) -> Result<Vec<Link>, AllocError>
     ensures { IfOk result (λ links. IsRing core.now.wiring core.now.state (is_member members.now) links.items) }
 {
     let mut links = Vec::new(alloc);
