@@ -5,7 +5,7 @@ use Rattle.bz_model.specs.Nets.{Site, Wiring, State, IsPort, StepsAt, chan_at, p
 use Rattle.bz_net.specs.Due.{HasMove}
 use Rattle.bz_stuck.specs.Stuck.{StuckAt, is_member}
 
--- who stands at an end is a member, or nobody does
+-- a member is at an end, or nobody
 abbrev pub IsIn : List Bool → Option ℕ → Type 0
 IsIn row None = ⊤
 IsIn row (Some c) = is_member row c ≡ true

@@ -33,7 +33,7 @@ Spares member (Fired who c p k mv value) = member c ≡ true → ⊥
 Spares member (Host who verb port value reply) = ⊤
 Spares member (Rested who) = ⊤
 
--- a set as a row: component c stands at place c
+-- a set as a row: component c is at place c
 abbrev pub is_member : List Bool → ℕ → Bool
 is_member row c = slice_index_or row c false
 

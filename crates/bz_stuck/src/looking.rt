@@ -54,7 +54,7 @@ pub(crate) fn has(members: &[bool], comp: u32) -> bool
     }
 }
 
-// Whether nobody but a member stands at an end.
+// Whether a member is at an end, or nobody.
 fn is_in(members: &[bool], end: Option<u32>) -> bool
     ensures { IsTrue result ↔ IsIn members.now end }
 {

@@ -28,7 +28,7 @@ pub struct Link {
     pub chan: u32,
     /// The move that comes next at the port.
     pub due: Move,
-    /// Who stands at the other end of the channel.
+    /// The component at the other end of the channel.
     pub other: u32,
 }
 

@@ -80,7 +80,7 @@ impl Stuck {
     }
 }
 
-// The numbers of the members of a row for so many components.
+// The numbers of the members of a row, for this number of components.
 fn numbers_of(alloc: Global, members: &[bool], comps: u32) -> Result<Vec<u32>, AllocError>
     requires { length members.now ≤ comps + 1 }
     ensures { IfOk result (λ numbers. AreNumbers members.now numbers.items) }
