@@ -93,38 +93,8 @@ module _ (w : Wiring) (s : State) where
       ];
     }
 
-  -- what was read of those that were taken out
-  pub free_read : (row : List Bool) (freed : List ℕ) (i c : ℕ) → Frees w s row freed → Some c ≡ slice_get freed i → IsFree w s c
-  free_read row freed i c frees is =
-      let within = slice_get_within freed i c (sym is) in
-      subst (IsFree w s) (get_or_from_slice_get freed i c c (sym is)) (frees.each i c within)
-
-  pub frees_start : (row : List Bool) → Covers w s row → Frees w s row []
-  frees_start row covers = record { covers = covers; each = All-nil (IsFree w s) }
-
   pub frees_more : (row : List Bool) (freed : List ℕ) (c : ℕ) → Frees w s row freed → IsFree w s c → Frees w s (set row c false) (freed ++ c ∷ [])
   frees_more row freed c frees free = record {
     covers = covers_less row frees.covers c free;
     each = All-push (IsFree w s) freed c frees.each free;
   }
-
-  -- the row of all
-  pub covers_all : (n : ℕ) → n ≡ length w.sites + 1 → Covers w s (set (replicate n true) 0 false)
-  covers_all n is = record {
-    len = length-set (replicate n true) 0 false ∙ length-replicate n true ∙ is;
-    first = get_or-set_same (replicate n true) 0 false false (let len = length-replicate n true in omega (arith, len, is));
-    greatest = λ other stuck d from to in_it.
-        get_or-set_other (replicate n true) 0 d false false (λ e. omega (arith, e, from))
-        ∙ get_or-replicate n d true false (omega (arith, to, is));
-  }
-
-  pub covers_comps : (row : List Bool) → Covers w s row → AreComps w (is_member row)
-  covers_comps row covers c is = (from, let within = member_within row c is in let len = covers.len in omega (arith, within, len))
-    where
-      from : 0 < c
-      from = elim (cases_lt 0 c) [
-        | inl less ↦ less
-        | inr least ↦
-            let zero_is : c ≡ 0 = omega (arith, least) in
-            absurd (false≢true (sym covers.first ∙ subst (λ d. is_member row d ≡ true) zero_is is))
-      ]

@@ -15,24 +15,8 @@ pub record LinksUpTo (w : Wiring) (s : State) (row : List Bool) (comps : List �
   pub len : length links ≡ n
   pub at : (i : ℕ) (d : Link) → i < n → IsLinkAt w s row comps i (get_or links i d)
 
--- who stands at an end, where somebody does
-pub somebody : (sites : List Site) (k : ℕ) (side : Bool) (other : ℕ) → (other ≡ 0 → ⊥) → IsAtEnd sites k side other → (q : ℕ) × IsEnd sites k side other q
-somebody sites k side other some (inl none) = absurd (some none.0)
-somebody sites k side other some (inr there) = there
-
 module _ (w : Wiring) (s : State) (row : List Bool) where
-  pub ring_none : IsRing w s (is_member row) []
-  ring_none = record {
-    members = λ k d lt. absurd (omega (arith, lt));
-    links = λ k d lt. absurd (omega (arith, lt));
-    next = λ i d lt. absurd (omega (arith, lt));
-    back = λ i d is. absurd (omega (arith, is));
-  }
-
   module _ (comps : List ℕ) where
-    pub links_start : LinksUpTo w s row comps 0 []
-    links_start = record { len = refl; at = λ i d lt. absurd (omega (arith, lt)) }
-
     -- the link that was found from one component to the next
     pub link_found : (n next : ℕ) (l : Link) → is_member row (slice_index comps n) ≡ true → IsLink w s l → l.comp ≡ slice_index comps n → l.other ≡ next
         → (n + 1 < length comps → next ≡ slice_index comps (n + 1)) → (n + 1 ≡ length comps → next ≡ slice_index comps 0) → IsLinkAt w s row comps n l
