@@ -21,7 +21,8 @@ AreStuck w s member = (c : ℕ) → member c ≡ true → StuckAt w s member c
 
 -- every component that is of such a set is of this one
 abbrev pub IsGreatest : Wiring → State → (ℕ → Bool) → Type 0
-IsGreatest w s member = (other : ℕ → Bool) → AreStuck w s other → (c : ℕ) → 0 < c → c ≤ length w.sites → other c ≡ true → member c ≡ true
+IsGreatest w s member = (other : ℕ → Bool) → AreStuck w s other
+    → (c : ℕ) → 0 < c → c ≤ length w.sites → other c ≡ true → member c ≡ true
 
 -- the members are components
 abbrev pub AreComps : Wiring → (ℕ → Bool) → Type 0

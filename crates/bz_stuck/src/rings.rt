@@ -15,9 +15,10 @@ use bz_net::Core;
 use bz_waits::{Table, chan_at, other_end, port_count};
 use std::alloc::{AllocError, Global};
 
-/// The most members from which a ring is looked for, and the most components that are met by that.
+/// The most members from which a ring is looked for.
 const MOST_STARTS: usize = 400;
 
+/// How many components are met before no other start is tried.
 const MOST_MET: usize = 1_000_000;
 
 /// What a component waits for at one of its ports. Components, ports and channels count from 1.
@@ -181,8 +182,8 @@ fn ring_from(
     Ok(ring)
 }
 
-// Whether a component waits for the one at the start. For whom else it waits is added to those that are gone through, where it was
-// not met before.
+// Whether a component waits for the one at the start. Whoever else it waits for is added to those that are gone through, where it
+// was not met before.
 fn goes_to(
     core: &Core,
     comp: u32,
