@@ -1,4 +1,5 @@
-//! A note on handshakes that are under way where words ended at rest, and on the cycles of who waits for whom.
+//! Notes on what can never move again where words ended at rest, on handshakes that are under way there, and on the cycles of who
+//! waits for whom.
 
 ghost use Rattle.std.specs.Prelude.{◌<◌, ◌≤◌, length};
 
@@ -7,6 +8,7 @@ use bz_explain_notes::{Draft, tell_notes};
 use bz_kind_rows::kind_word;
 use bz_model::Phase;
 use bz_net::Core;
+use bz_stuck::Stuck;
 use bz_waits::Graph;
 use std::alloc::Global;
 use std::io::Write;
@@ -14,13 +16,14 @@ use std::io::Write;
 /// The most handshakes, cycles, and members of a cycle that a note shows.
 const MOST_TOLD: usize = 10;
 
-/// Notes who waits for whom in a net at rest, and in what cycles. There is no note where no handshake is under way, or some
-/// component can move.
+/// Notes how many components of a net at rest can never move again, who waits for whom, and in what cycles. There is no note where
+/// some component can move, and none of who waits where no handshake is under way.
 pub(crate) fn note_rest<W: Write>(alloc: Global, net: &Core, errors: &mut W) {
     if net.next_ready(1).is_some() {
         return;
     }
     let mut draft = Draft::new(alloc);
+    put_stuck(net, &mut draft);
     let count = (1..=net.chan_count())
         .filter(|chan| net.phase(*chan) != Phase::Idle)
         .count();
@@ -29,6 +32,17 @@ pub(crate) fn note_rest<W: Write>(alloc: Global, net: &Core, errors: &mut W) {
         put_cycles(net, &mut draft);
     }
     let _ = tell_notes(alloc, &draft, errors);
+}
+
+fn put_stuck(net: &Core, draft: &mut Draft) {
+    match Stuck::of(draft.alloc(), net) {
+        Ok(set) if set.len() > 0 => draft.say(
+            "stuck: % of % components can never move again, whatever the host does",
+            &[Number(set.len()), Number(net.comp_count() as usize)],
+        ),
+        Ok(_) => {}
+        Err(_) => draft.fail(),
+    }
 }
 
 fn put_waits(net: &Core, count: usize, draft: &mut Draft) {

@@ -6,8 +6,9 @@ use crate::view::View;
 use bz_explore_moves::gathered;
 use bz_explore_net::busy_chans;
 use bz_model::{Move, Phase, Verb};
+use bz_stuck::{Link, Stuck};
 use bz_text::Text;
-use bz_waits::{Graph, Place, Table, Wait, Whom};
+use bz_waits::{Graph, Place, Table, Wait, Whom, first_move};
 use std::alloc::AllocError;
 
 /// The column of what holds a channel, and of what is waited for.
@@ -19,9 +20,13 @@ const MOST_MEMBERS: usize = 20;
 /// The most cycles, and the most waits, that a page tells at its end.
 const MOST_TOLD: usize = 1000;
 
-/// Adds why nothing moves: the cycles of waiting, then who waits for nobody, for the host or for one that is idle, and how
-/// many wait.
+/// The most links of a ring that are told.
+const MOST_LINKS: usize = 40;
+
+/// Adds why nothing moves: what can never move again, the cycles of waiting, then who waits for nobody, for the host or for one
+/// that is idle, and how many wait.
 pub(crate) fn put_waits(view: &View<'_>, text: &mut Text) {
+    put_stuck(view, text);
     let Some(graph) = graph_of(view, text) else {
         return;
     };
@@ -40,6 +45,58 @@ pub(crate) fn put_waits(view: &View<'_>, text: &mut Text) {
         ".. % lines more: `waits all` tells them\n",
         text,
     );
+}
+
+// How many components can never move again, and a ring of them, where there are any.
+fn put_stuck(view: &View<'_>, text: &mut Text) {
+    match Stuck::of(text.alloc(), view.course.net().core()) {
+        Ok(set) if set.len() > 0 => put_set(view, &set, text),
+        Ok(_) => {}
+        Err(_) => text.lose(),
+    }
+}
+
+fn put_set(view: &View<'_>, set: &Stuck, text: &mut Text) {
+    let core = view.course.net().core();
+    let counts = [
+        Piece::many(set.len()),
+        Piece::many(core.comp_count() as usize),
+    ];
+    text.say(
+        "stuck: % of % components can never move again, whatever the host does\n",
+        &counts,
+    );
+    match set.ring(text.alloc(), core) {
+        Ok(ring) => put_ring(view, ring.as_slice(), text),
+        Err(_) => text.lose(),
+    }
+}
+
+// A ring, with a line for each of its members, of which at most so many are told.
+fn put_ring(view: &View<'_>, ring: &[Link], text: &mut Text) {
+    match ring.len() {
+        0 => return,
+        1 => text.put("ring: 1 waits for itself\n"),
+        count => text.say("ring: % wait for one another\n", &[Piece::many(count)]),
+    }
+    for link in ring.iter().take(MOST_LINKS) {
+        put_wait(view, wait_of(view, *link), text);
+    }
+    let more = ring.len().saturating_sub(MOST_LINKS);
+    if more > 0 {
+        text.say(MORE, &[Piece::many(more)]);
+    }
+}
+
+fn wait_of(view: &View<'_>, link: Link) -> Wait {
+    Wait {
+        comp: link.comp,
+        chan: link.chan,
+        whom: Whom::Busy,
+        other: link.other,
+        mv: first_move(link.due, view.phase(link.chan)),
+        place: Place::Each,
+    }
 }
 
 /// Adds who holds each channel that is not idle, for whom each component waits, the cycles among these, and how many there

@@ -23,7 +23,7 @@ pub(crate) fn site(core: &Core, comp: u32) -> &FlatComp
 }
 
 /// How many ports a component has.
-pub(crate) fn port_count(core: &Core, comp: u32) -> u32
+pub fn port_count(core: &Core, comp: u32) -> u32
     requires from { 0 < comp }
     requires to { comp ≤ length core.now.wiring.sites }
     ensures { result ≡ length (site_at core.now.wiring.sites comp).chans }
@@ -34,7 +34,7 @@ pub(crate) fn port_count(core: &Core, comp: u32) -> u32
 }
 
 /// The channel at a port.
-pub(crate) fn chan_at(core: &Core, comp: u32, port: u32) -> u32
+pub fn chan_at(core: &Core, comp: u32, port: u32) -> u32
     requires { IsPort core.now.wiring.sites comp port }
     ensures { result ≡ chan_at core.now.wiring.sites comp port }
 {
@@ -51,7 +51,7 @@ pub(crate) fn is_passive_at(core: &Core, comp: u32, port: u32) -> bool
 }
 
 /// The component at the other end of the channel at a port, 0 where none stands there.
-pub(crate) fn other_end(core: &Core, comp: u32, port: u32) -> u32
+pub fn other_end(core: &Core, comp: u32, port: u32) -> u32
     requires { IsPort core.now.wiring.sites comp port }
     ensures { IsAtEnd core.now.wiring.sites (chan_at core.now.wiring.sites comp port)
         (not (passive_at core.now.wiring.sites comp port)) result }

@@ -128,8 +128,8 @@ fn whom_of(core: &Core, other: u32) -> Whom
     }
 }
 
-// What has to come first where a move is due on a channel in this phase: a deed of who stands at the other end.
-fn first_move(due: Move, phase: Phase) -> Move
+/// What has to come first where a move is due on a channel in this phase: a deed of who stands at the other end.
+pub fn first_move(due: Move, phase: Phase) -> Move
     ensures { result ≡ first_move due phase }
 {
     match (due, phase) {

@@ -1,0 +1,4 @@
+pub mod Stuck
+pub mod Holding
+pub mod Freeing
+pub mod Rings

@@ -1,0 +1,13 @@
+//! Components of a net that can never move again, whatever hosts do.
+#![tactic(auto)]
+
+mod laws;
+mod looking;
+mod rings;
+mod searching;
+mod set;
+
+pub use laws::what_is_stuck_stays;
+pub use looking::are_stuck;
+pub use rings::Link;
+pub use set::Stuck;
