@@ -378,6 +378,8 @@ def narrow(stage):
 # The plays, and whether each is played in all ways of calling.
 PLAYS = {both_outcomes: True, values: True, deadlock: True, clashes: True, saved_pages: True, sessions: True, traces: True}
 PLAYS.update({long_runs: True, refusals: False, parts: False, pasted: False, hostile_names: False, stopped: False, narrow: False})
+# Those that look at the picture.
+DRAWN = {narrow}
 
 
 def play(act, browser, program, path, way):
