@@ -269,6 +269,7 @@ def refusals(stage):
     linted = stage.program.run(["lint", "--netlist", "several.breeze"], cwd=f"{EXAMPLES}/explain").output.decode()
     stage.found("what lint says", "document.getElementById('refusal').textContent", linted.strip())
     stage.button("return")
+    stage.found("the start is left", "getComputedStyle(document.getElementById('start')).display", "none")
     stage.trace("the other one is open", "trace 2\nh1 offer activate done\n")
     for line, wanted in [("answer:i:999", "error: "), ("mvoes", "error: "), ("quit", "error: "), ("waits 2", "Loop 2 can move")]:
         stage.command(line)

@@ -184,7 +184,8 @@ const document = {
 };
 document.activeElement = document.body;
 // (of what styles hide, the start alone)
-const isShown = it => !it.hidden && !(it.id === 'start' && document.body.classList.contains('living'));
+const isShown = it => !it.hidden && !(it.id === 'start' && document.body.classList.contains('living'))
+  && (!it.parent || isShown(it.parent));
 Object.assign(globalThis, {
   document, window: globalThis, Blob: PageBlob, Option: PageOption,
   location: {hash: link, href: `file://${file}${link}`}, history: {replaceState() {}}, matchMedia: () => ({matches: false}),
@@ -207,7 +208,7 @@ const acts = {
   do: ({script}) => (0, eval)(script),
   click({x}) {
     const element = points[Math.floor(x / 10) - 41];
-    if (!element || !root.contains(element)) throw new Error('nothing is there to be clicked');
+    if (!element || !root.contains(element) || !isShown(element)) throw new Error('nothing is there to be clicked');
     if (['input', 'textarea'].includes(element.tag)) element.focus();
     for (const type of ['pointerdown', 'pointerup']) dispatch(element, type);
     element.click();

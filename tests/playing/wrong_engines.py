@@ -15,7 +15,7 @@ from .tests import TOP
 WRONG = f"{TOP}/engine/wrong"
 # What a change of these files is compiled into.
 COMPILED = {"engine/host.c", "engine/narrow"}
-SECONDS = 120
+SECONDS = 400
 
 
 def said_in(path):
