@@ -3,6 +3,8 @@
 
     live.py PAGE.html [--firefox]    each line is a net: how long it takes to open, a step (the middle one of 40), of it the
                                      engine, the last of the commands before, an undo of that, and the memory of the engine
+    live.py --steps MODULE.wasm      the engine's share of a step, in Node on one thread: the least and the middle one of 40, as
+                                     time of a processor (`cpu`) and by the clock
     live.py --calls MODULE.wasm PROGRAM
                                      1,000,000 moves in one process of Node, call after call, and by the native program: user time
 
@@ -55,6 +57,39 @@ SCRIPT = """(() => { window.measured = null; (async () => {
   const times = {open: rounded(open), step: middle(steps), engine: middle(parts), last: rounded(last), undo: rounded(undone)};
   window.measured = {...counts, ...times, memory: Math.round(memory / 1e5) / 10};
 })().catch(fault => { window.measured = String(fault); }); })()"""
+STEPS = """import fs from 'node:fs';
+const [script, moduleFile, netlistFile, part, ...lines] = process.argv.slice(1), bytesOf = text => new TextEncoder().encode(text);
+const engine = new Function(`${fs.readFileSync(script, 'utf8')}; return engine;`)();
+const module = new WebAssembly.Module(fs.readFileSync(moduleFile));
+const output = new engine.Sink(), disk = new engine.Memory({'net.breeze': new Uint8Array(fs.readFileSync(netlistFile))});
+const spent = () => process.cpuUsage().user / 1000, times = {cpu: [], clock: []};
+function* asked() {
+  for (const line of lines) yield line;
+  let moves = yield 'moves', state = yield 'state';
+  const [, count] = /components: ([0-9]+)/.exec(state);
+  for (let i = 0; i < 40; i++) {
+    const move = /^fire [0-9]+ [0-9]+/m.exec(moves);
+    if (!move) break;
+    const cpu = spent(), clock = performance.now();
+    yield move[0];
+    moves = yield 'moves';
+    state = yield 'state';
+    if (Number(count) <= 300) yield 'waits all';
+    times.cpu.push(spent() - cpu);
+    times.clock.push(performance.now() - clock);
+  }
+  const told = [Number(count), Number(/trace: ([0-9]+)/.exec(state)[1]), moves.split('\\n').length - 2];
+  for (const list of [times.cpu, times.clock]) {
+    const sorted = [...list].sort((a, b) => a - b);
+    told.push(...[sorted[0], sorted[sorted.length >> 1]].map(it => (it || 0).toFixed(1)));
+  }
+  console.log(told.map(it => String(it).padStart(12)).join(''));
+}
+const session = asked(), next = () => {
+  const {value, done} = session.next(output.take());
+  return done ? null : bytesOf(`${value}\\n`);
+};
+engine.play(module, ['explore', '-p', part, '-n', 'net.breeze'], disk, [new engine.Spring(next), output, new engine.Sink()]);"""
 CALLS = """import fs from 'node:fs';
 const [script, moduleFile, netlistFile, part] = process.argv.slice(1);
 const engine = new Function(`${fs.readFileSync(script, 'utf8')}; return engine;`)();
@@ -83,6 +118,18 @@ def measure_page(path, kind):
             page.close()
 
 
+def measure_steps(module):
+    columns = ["components", "fired", "moves", "cpu least", "cpu middle", "clock least", "clock middle"]
+    print(*[f"{it:>12}" for it in columns], "   ms", sep="")
+    for text, lines in CASES:
+        with tempfile.NamedTemporaryFile(suffix=".breeze") as file:
+            file.write(text)
+            file.flush()
+            part = NET.part if lines[0] == "offer:go" else "chain"
+            words = [f"{TOP}/engine/engine.js", module, file.name, part, *lines]
+            subprocess.run(["node", "--input-type=module", "-e", STEPS, *words], check=True)
+
+
 def measure_calls(module, program):
     with tempfile.TemporaryDirectory() as room:
         with open(f"{room}/net.breeze", "wb") as file:
@@ -101,6 +148,9 @@ def measure_calls(module, program):
 if __name__ == "__main__":
     if len(sys.argv) == 4 and sys.argv[1] == "--calls":
         measure_calls(*sys.argv[2:])
+    elif len(sys.argv) == 3 and sys.argv[1] == "--steps":
+        print(time.strftime("%H:%M"), "load", *os.getloadavg())
+        measure_steps(sys.argv[2])
     elif len(sys.argv) in (2, 3) and not sys.argv[1].startswith("-"):
         print(time.strftime("%H:%M"), "load", *os.getloadavg())
         measure_page(sys.argv[1], Firefox if sys.argv[2:] == ["--firefox"] else Browser)

@@ -269,6 +269,7 @@ def refusals(stage):
     linted = stage.program.run(["lint", "--netlist", "several.breeze"], cwd=f"{EXAMPLES}/explain").output.decode()
     stage.found("what lint says", "document.getElementById('refusal').textContent", linted.strip())
     stage.button("return")
+    stage.found("the start is left", "getComputedStyle(document.getElementById('start')).display", "none")
     stage.trace("the other one is open", "trace 2\nh1 offer activate done\n")
     for line, wanted in [("answer:i:999", "error: "), ("mvoes", "error: "), ("quit", "error: "), ("waits 2", "Loop 2 can move")]:
         stage.command(line)
@@ -378,6 +379,8 @@ def narrow(stage):
 # The plays, and whether each is played in all ways of calling.
 PLAYS = {both_outcomes: True, values: True, deadlock: True, clashes: True, saved_pages: True, sessions: True, traces: True}
 PLAYS.update({long_runs: True, refusals: False, parts: False, pasted: False, hostile_names: False, stopped: False, narrow: False})
+# Those that look at the picture.
+DRAWN = {narrow}
 
 
 def play(act, browser, program, path, way):

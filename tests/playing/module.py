@@ -1,4 +1,4 @@
-"""The program as a WebAssembly module, called in a process of Node that stays."""
+"""The program as a WebAssembly module, called in a process of Node that stays, or where its streams matter in one of its own."""
 
 import base64
 import json
@@ -10,6 +10,8 @@ TOP = os.path.dirname(os.path.dirname(os.path.dirname(os.path.realpath(__file__)
 ENGINE = os.environ.get("ENGINE") or f"{TOP}/engine"
 # What needs threads, which a module hasn't.
 THREADS = "pool"
+# How long a call in a process of its own may take.
+SECONDS = 120
 
 
 class LeftOut(Exception):
@@ -30,14 +32,24 @@ class Module:
         """What a call gives: its status, its output and its errors."""
         if next((it for it in words if os.fsdecode(it)[:1] != "-"), None) == THREADS:
             raise LeftOut("it has no threads")
+        if "preexec_fn" in how:
+            raise LeftOut("Node can't run within such limits, or without standard streams")
         if not isinstance(given, bytes) or set(how) - {"cwd"}:
-            raise LeftOut("only a process has such streams and limits")
+            return self._called_alone(words, given, how)
         said = {"words": [_base64(it) for it in words], "given": _base64(given), "folder": os.path.abspath(how.get("cwd") or ".")}
         node = self._started()
         node.stdin.write(f"{json.dumps(said)}\n".encode())
         node.stdin.flush()
         ran = json.loads(node.stdout.readline())
         return ran["status"], base64.b64decode(ran["output"]), base64.b64decode(ran["errors"])
+
+    def _called_alone(self, words, given, how):
+        """A call that has its own streams."""
+        how = {"stdout": subprocess.PIPE, "stderr": subprocess.PIPE, "timeout": SECONDS, "close_fds": False, **how}
+        how["input" if isinstance(given, bytes) else "stdin"] = given
+        script = f"{os.path.dirname(os.path.realpath(__file__))}/alone.mjs"
+        ran = subprocess.run(["node", script, ENGINE, self.path, *words], check=False, **how)
+        return ran.returncode, ran.stdout or b"", ran.stderr or b""
 
     def _started(self):
         if self._owner != os.getpid():
