@@ -16,10 +16,10 @@ use bz_cli_program::{
 use bz_cli_trace::{Checked, check_trace};
 use bz_explain::{Asked, Explained, WordFile, Words, explain};
 use bz_explain_lint::{Lint, lint_cmd};
-use bz_explain_notes::Arg::{Number, Text};
 use bz_explain_notes::{Draft, Keeping, tell, tell_findings, tell_notes};
 use bz_explain_trace::{Claim, explain_trace};
 use bz_explore::explore_cmd;
+use bz_view::Piece::{Number, Text};
 use std::alloc::Global;
 use std::io::{BufWriter, IsTerminal, Read, Write};
 use std::os::fd::AsFd;

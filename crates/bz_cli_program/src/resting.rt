@@ -2,11 +2,11 @@
 
 ghost use Rattle.std.specs.Prelude.{◌<◌, ◌≤◌, length};
 
-use bz_explain_notes::Arg::{Bytes, Count, Name, Number};
 use bz_explain_notes::{Draft, tell_notes};
 use bz_kind_rows::kind_word;
 use bz_model::Phase;
 use bz_net::Core;
+use bz_view::Piece::{Bytes, Count, Name, Number};
 use bz_waits::Graph;
 use std::alloc::Global;
 use std::io::Write;
@@ -34,7 +34,7 @@ pub(crate) fn note_rest<W: Write>(alloc: Global, net: &Core, errors: &mut W) {
 fn put_waits(net: &Core, count: usize, draft: &mut Draft) {
     draft.put(
         "at rest with % under way",
-        &[Count(count, "handshake", "handshakes")],
+        &[Count(count, "handshake")],
     );
     let mut told = 0usize;
     for place in 0..net.chan_count() {

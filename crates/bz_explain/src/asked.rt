@@ -1,6 +1,6 @@
 //! What a command was asked.
 
-use bz_explain_notes::Arg::Number;
+use bz_view::Piece::Number;
 use bz_explain_notes::{Draft, put_source};
 
 /// What a command was asked, as far as its faults speak of it.

@@ -3,7 +3,7 @@
 use crate::asked::Words;
 use crate::told::FULL;
 use bz_breeze_records::Part;
-use bz_explain_notes::Arg::{Count, Name, Number, Text, Wide, Word};
+use bz_view::Piece::{Count, Name, Number, Text, Wide, Shown};
 use bz_explain_notes::{Draft, port_names};
 use bz_model::{Chan, Cmd, HostCmd, NetError, Port, Value, Verb, low_bits};
 use bz_words::command;
@@ -24,7 +24,7 @@ pub(crate) fn explain_event(
     error: NetError,
 ) {
     if let Some(word) = words.word(number) {
-        let args = [Number(number), Word(word.as_bytes())];
+        let args = [Number(number), Shown(word.as_bytes())];
         draft.put("found: word % is %", &args);
         explain_refused(draft, part, word, error);
     }
@@ -47,7 +47,7 @@ pub(crate) fn explain_session(
             number = 0;
         } else if current == session && is_refused(draft, part, word, error) {
             words.put_place(draft, before + 1);
-            let args = [Number(number), Number(session), Word(word.as_bytes())];
+            let args = [Number(number), Number(session), Shown(word.as_bytes())];
             draft.put("found: word % of session % is %", &args);
             return explain_refused(draft, part, word, error);
         }
@@ -102,7 +102,7 @@ fn explain_refused(draft: &mut Draft, part: &Part, word: &str, error: NetError) 
 // A port that there is not.
 fn explain_unknown(draft: &mut Draft, part: &Part, name: &[u8]) {
     let names = draft.gathered(port_names(draft.alloc(), &part.ports));
-    let count = Count(names.len(), "port", "ports");
+    let count = Count(names.len(), "port");
     draft.put(", and no port has the name %\nexpected: ", &[Name(name)]);
     draft.say_one_of(count, &names, name);
 }
@@ -128,7 +128,7 @@ impl Outside<'_> {
             }
             _ => {
                 let width = self.chan.width;
-                let bits = Count(width as usize, "bit", "bits");
+                let bits = Count(width as usize, "bit");
                 let args = [bits, Wide(low_bits(Value::MAX, width))];
                 draft.say("has %\nexpected: a value up to %", &args);
             }

@@ -3,7 +3,7 @@
 use crate::part_faults::Wrong;
 use crate::reading::{find_named, name_in, put_datum, say_found};
 use bz_explain_net::{Head, Members, headed, inside, nth};
-use bz_explain_notes::Arg::{Name, Number, Wide};
+use bz_view::Piece::{Name, Number, Wide};
 use bz_explain_notes::Draft;
 use bz_model::MAX_WIDTH;
 use bz_sexpr::{Form, Forms, Leaf, Shape};

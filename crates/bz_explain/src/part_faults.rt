@@ -4,7 +4,7 @@ use crate::member_faults::explain_member;
 use crate::reading::{find_named, name_in, say_found};
 use bz_breeze::ByteAt;
 use bz_explain_net::{Head, Which, find, headed, members_of, nth, part_items, put_place};
-use bz_explain_notes::Arg::{self, At, Count, Name, Number};
+use bz_view::Piece::{self, At, Count, Name, Number};
 use bz_explain_notes::{Draft, spot_of};
 use bz_sexpr::{Form, Forms};
 
@@ -66,7 +66,7 @@ impl<'t> Wrong<'t> {
         let (Some(head), Some((_, members))) = (Head::of(item), headed(item)) else {
             return;
         };
-        let (word, name) = (Arg::Text(head.member()), Name(self.name));
+        let (word, name) = (Piece::Text(head.member()), Name(self.name));
         if item.span().from == self.at {
             self.put_mark(draft, "the second %s form of part %", &[word, name]);
             self.put_first(draft, find(self.items, Which::Headed(head)));
@@ -80,7 +80,7 @@ impl<'t> Wrong<'t> {
     }
 
     // Tells where it is at fault, and by a form what stands there.
-    fn put_mark(&self, draft: &mut Draft, mark: &str, args: &[Arg<'_>]) {
+    fn put_mark(&self, draft: &mut Draft, mark: &str, args: &[Piece<'_>]) {
         put_place(draft, self.text, self.at, mark, args);
     }
 
@@ -92,7 +92,7 @@ impl<'t> Wrong<'t> {
     }
 
     /// The line and column of a datum.
-    pub(crate) fn spot_of(&self, form: Form<'_>) -> Arg<'static> {
+    pub(crate) fn spot_of(&self, form: Form<'_>) -> Piece<'static> {
         At(Some(spot_of(self.text, form.span().from)))
     }
 
@@ -101,8 +101,8 @@ impl<'t> Wrong<'t> {
         let channels = self.count(Head::Channels);
         let lacking = channels.saturating_add(1);
         let args = [
-            Count(self.count(Head::Ports), "port", "ports"),
-            Count(channels, "channel", "channels"),
+            Count(self.count(Head::Ports), "port"),
+            Count(channels, "channel"),
             Number(lacking),
         ];
         self.put_mark(draft, "part % ends here", &[Name(self.name)]);

@@ -1,7 +1,7 @@
 //! Data by what they spell: names, and how a note speaks of a datum.
 
 use bz_explain_net::{Members, headed, nth};
-use bz_explain_notes::Arg::{self, Count, Name, Wide};
+use bz_view::Piece::{self, Count, Name, Wide};
 use bz_explain_notes::Draft;
 use bz_sexpr::{Form, Forms, Leaf, Shape};
 
@@ -46,16 +46,16 @@ pub(crate) fn put_datum(draft: &mut Draft, form: Option<Form<'_>>) {
     };
     let (form, arg) = match form.shape() {
         Shape::Leaf(Leaf::Num(number)) => ("the number %", Wide(number)),
-        Shape::Leaf(Leaf::Truth(true)) => ("the truth value #t", Arg::Text("")),
-        Shape::Leaf(Leaf::Truth(false)) => ("the truth value #f", Arg::Text("")),
+        Shape::Leaf(Leaf::Truth(true)) => ("the truth value #t", Piece::Text("")),
+        Shape::Leaf(Leaf::Truth(false)) => ("the truth value #f", Piece::Text("")),
         Shape::Leaf(Leaf::Symbol(symbol)) => ("the symbol %", Name(symbol)),
         Shape::Leaf(Leaf::Text(text)) => {
             let bytes = draft.gathered(text.bytes(draft.alloc()));
             return draft.put("the text %", &[Name(&bytes)]);
         }
         Shape::Items(items) => match items.len() {
-            0 => ("an empty list", Arg::Text("")),
-            count => ("a list of %", Count(count, "item", "items")),
+            0 => ("an empty list", Piece::Text("")),
+            count => ("a list of %", Count(count, "item")),
         },
     };
     draft.put(form, &[arg]);

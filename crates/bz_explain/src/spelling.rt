@@ -2,7 +2,7 @@
 
 use crate::told::MEMORY;
 use bz_explain_net::{Members, inside, put_place};
-use bz_explain_notes::Arg::At;
+use bz_view::Piece::At;
 use bz_explain_notes::{Draft, before_in_line, spot_of};
 use bz_sexpr::{Form, Forms, SexprError, read_forest};
 

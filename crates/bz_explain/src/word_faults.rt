@@ -4,7 +4,7 @@
 //! words.
 
 use crate::asked::Words;
-use bz_explain_notes::Arg::{Number, Text, Word};
+use bz_view::Piece::{Number, Text, Shown};
 use bz_explain_notes::Draft;
 
 /// The notes of a word that is no command, by its number from 1.
@@ -17,7 +17,7 @@ pub(crate) fn explain_word(draft: &mut Draft, words: Words<'_, '_>, number: usiz
         None => word,
     };
     words.put_place(draft, number);
-    let found = [Number(number), Word(word.as_bytes())];
+    let found = [Number(number), Shown(word.as_bytes())];
     draft.put("found: word % is %\nexpected: ", &found);
     match rule_of(verb) {
         _ if word == "/" && words.is_pool => draft.say("at most 16 sessions", &[]),

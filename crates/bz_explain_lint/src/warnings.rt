@@ -8,11 +8,11 @@
 use bz_breeze_records::Component;
 use bz_explain::{Gathered, Marks, marks_of};
 use bz_explain_net::{Head, Netlist};
-use bz_explain_notes::Arg::{self, Bytes, Name};
+use bz_view::Piece::{self, Bytes, Name};
 use bz_explain_notes::{Draft, Severity};
 use bz_kind_rows::{KindName, kind_named};
 use bz_model::{Param, Value};
-use bz_text::{Piece, Text};
+use bz_text::{Piece as Part, Text};
 use std::alloc::AllocError;
 
 /// What is found at a component that no request can reach.
@@ -156,7 +156,7 @@ fn warn_of(
     number: usize,
     position: usize,
     form: &str,
-    arg: Arg<'_>,
+    arg: Piece<'_>,
 ) -> Result<(), AllocError> {
     let netlist = gathered.netlist;
     let mut notes = Draft::on(netlist.alloc, netlist.file);
@@ -176,9 +176,9 @@ fn add(
 ) -> Result<(), AllocError> {
     let name = gathered.netlist.name(number);
     let pieces = [
-        Piece::Bytes(code),
-        Piece::Name(name),
-        Piece::Value(position),
+        Part::Bytes(code),
+        Part::Name(name),
+        Part::Value(position),
     ];
     let mut line = Text::new(gathered.netlist.alloc);
     line.put_pieces(&pieces);

@@ -7,7 +7,7 @@ use crate::kind_words::{
 use crate::site::Site;
 use bz_breeze_records::{Part, Parts, Slot};
 use bz_elab::{arranged, array_sizes};
-use bz_explain_notes::Arg::{self, Carried, Count, Name, Number, Port, Text, Wide, Word};
+use bz_view::Piece::{self, Carried, Count, Name, Number, Port, Text, Wide, Shown};
 use bz_explain_notes::{Draft, NEAREST, port_names};
 use bz_flat::ElabError;
 use bz_kind_rows::{PortAt, kind_names, port_at};
@@ -104,7 +104,7 @@ impl Site<'_> {
         for chan in &self.named(draft) {
             if self.channel(*chan).is_none() {
                 let part = Name(&self.part.name);
-                let channels = Count(count, "channel", "channels");
+                let channels = Count(count, "channel");
                 let args = [Number(*chan as usize), part, channels];
                 draft.say("found: channel %, and part % has %", &args);
                 break;
@@ -117,11 +117,11 @@ impl Site<'_> {
     fn explain_count(&self, draft: &mut Draft) {
         if let Some(inner) = self.inner() {
             let ports = draft.gathered(port_names(draft.alloc(), &inner.ports));
-            let entries = Count(self.named(draft).len(), "entry", "entries");
+            let entries = Count(self.named(draft).len(), "entry");
             let args = [
                 entries,
                 Name(&inner.name),
-                Count(ports.len(), "port", "ports"),
+                Count(ports.len(), "port"),
             ];
             let form = "found: %\nexpected: one for each port of part %, which has %";
             draft.put(form, &args);
@@ -144,12 +144,12 @@ impl Site<'_> {
         let mut form = ", of %";
         for entry in entries {
             if let Slot::Many(chans) = entry {
-                draft.put(form, &[Count(chans.len(), "channel", "channels")]);
+                draft.put(form, &[Count(chans.len(), "channel")]);
                 form = " and %";
             }
         }
         if let Some(count) = self.set_count(kind) {
-            draft.put("; its text has %", &[Count(count, "set", "sets")]);
+            draft.put("; its text has %", &[Count(count, "set")]);
         }
         draft.say("", &[]);
     }
@@ -192,7 +192,7 @@ impl Site<'_> {
                 self.put_carried(draft, Name(&port.name), *number);
                 let (form, asked) = match aspect {
                     Aspect::Kind => ("expected: a % channel", Text(asked.kind.word())),
-                    Aspect::Width => ("expected: %", Count(asked.width as usize, "bit", "bits")),
+                    Aspect::Width => ("expected: %", Count(asked.width as usize, "bit")),
                 };
                 draft.put(form, &[asked]);
                 draft.say(", as in part %", &[Name(&inner.name)]);
@@ -215,7 +215,7 @@ impl Site<'_> {
             let carried = (port_at(kind, sizes, number), self.channel(*chan));
             if let (Some(port), Some(found)) = carried {
                 if found.kind != port.row.kind {
-                    self.put_carried(draft, Port(port.row.name, port.member), *chan);
+                    self.put_carried(draft, Port(port), *chan);
                     return put_kind(draft, kind, port);
                 }
             }
@@ -231,7 +231,7 @@ impl Site<'_> {
                 if row.kind != ChanKind::Sync && listed < MOST_LISTED {
                     let before = Text(if listed == 0 { "found: " } else { "; " });
                     let (name, number) = (Port(row.name, member), Number(*chan as usize));
-                    let bits = Count(width as usize, "bit", "bits");
+                    let bits = Count(width as usize, "bit");
                     draft.put("%% is channel %, %", &[before, name, number, bits]);
                     listed = listed.saturating_add(1);
                 }
@@ -242,7 +242,7 @@ impl Site<'_> {
     }
 
     // Tells what a port's channel is and where it stands.
-    fn put_carried(&self, draft: &mut Draft, port: Arg<'_>, number: u32) {
+    fn put_carried(&self, draft: &mut Draft, port: Piece<'_>, number: u32) {
         if let Some(chan) = self.channel(number) {
             let place = number as usize;
             let at = self.netlist.spot_of(self.number, Head::Channels, place);
@@ -257,7 +257,7 @@ fn put_param(draft: &mut Draft, param: &Param) {
         Param::Num(number) => draft.put("%", &[Wide(*number)]),
         Param::Flag(true) => draft.put("#t", &[]),
         Param::Flag(false) => draft.put("#f", &[]),
-        Param::Word(text) => draft.put("\"%\"", &[Word(text)]),
+        Param::Word(text) => draft.put("\"%\"", &[Shown(text)]),
     }
 }
 

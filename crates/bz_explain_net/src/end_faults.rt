@@ -6,7 +6,7 @@ use crate::data::Head;
 use crate::site::{Netlist, put_place};
 use crate::wired::Wired;
 use bz_arena::Id;
-use bz_explain_notes::Arg::{Bytes, Name, Number, Path, Port, Text};
+use bz_view::Piece::{Bytes, Label, Name, Number, Path, Port, Text};
 use bz_explain_notes::Draft;
 use bz_flat::{ElabError, FlatComp};
 use bz_kind_rows::{PortAt, is_passive, kind_word, port_at};
@@ -159,7 +159,7 @@ impl Wire<'_> {
             return;
         };
         let number = Number(self.wired.shown(comp));
-        let args = [number, Bytes(kind), Port(port.row.name, port.member)];
+        let args = [number, Bytes(kind), Port(port)];
         draft.put("% % % (", &args);
         if let Some(place) = self.wired.places.comp(comp) {
             let (part, position) = (place.part, place.position);
@@ -169,7 +169,8 @@ impl Wire<'_> {
             }
             let spot = self.netlist.spot_of(part, Head::Components, position);
             draft.put("%)", &[spot]);
-            draft.put_label(self.netlist.label(part, Head::Components, position));
+            let label = self.netlist.label(part, Head::Components, position);
+            draft.put("%", &[Label(label)]);
         }
     }
 

@@ -6,7 +6,7 @@
 use crate::site::Site;
 use bz_breeze_records::{Component, Entries, Name, Slot};
 use bz_elab::first_fault;
-use bz_explain_notes::Arg::Number;
+use bz_view::Piece::Number;
 use bz_explain_notes::Draft;
 use bz_model::Param;
 use std::alloc::{AllocError, Global};

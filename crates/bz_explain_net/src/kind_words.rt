@@ -1,6 +1,6 @@
 //! What the kinds of component ask of their entries, channels and parameters.
 
-use bz_explain_notes::Arg::{self, Bytes, Count, Port, Text};
+use bz_view::Piece::{self, Bytes, Count, Port, Text};
 use bz_explain_notes::Draft;
 use bz_kind_rows::{KindName, PortAt, PortRow, kind_named, kind_word, port_table};
 use bz_model::{ChanKind, Kind};
@@ -46,7 +46,7 @@ pub(crate) fn operations_of(name: &[u8]) -> &'static [&'static [u8]] {
 }
 
 // A kind's article and word: `a Fetch`, `an Arbiter`.
-fn word_of(kind: &Kind) -> (Arg<'static>, Arg<'static>) {
+fn word_of(kind: &Kind) -> (Piece<'static>, Piece<'static>) {
     let article = match kind {
         Kind::Arbiter | Kind::Adapt { .. } => "an",
         _ => "a",
@@ -57,8 +57,8 @@ fn word_of(kind: &Kind) -> (Arg<'static>, Arg<'static>) {
 /// Goes on with the numbers of single entries and of lists.
 pub(crate) fn put_counts(draft: &mut Draft, entries: usize, lists: usize) {
     let singles = entries.saturating_sub(lists);
-    let singles = Count(singles, "single entry", "single entries");
-    draft.put("% and %", &[singles, Count(lists, "list", "lists")]);
+    let singles = Count(singles, "single entry");
+    draft.put("% and %", &[singles, Count(lists, "list")]);
 }
 
 /// Tells the entries that a kind takes: how many, and its ports in their order.
@@ -93,7 +93,7 @@ fn list_rule(kind: &Kind) -> &'static str {
 pub(crate) fn put_kind(draft: &mut Draft, kind: &Kind, port: PortAt) {
     let name = match (deed(*port.row), port.row.name, port.member) {
         ("asks for", "inp", None) => Text("its input"),
-        (_, name, member) => Port(name, member),
+        _ => Port(port),
     };
     let (article, word) = word_of(kind);
     let (carried, deed) = (Text(port.row.kind.word()), Text(deed(*port.row)));

@@ -5,7 +5,7 @@ use crate::end_faults::explain_ends;
 use crate::site::Netlist;
 use crate::wired::Wired;
 use bz_elab::ElabError;
-use bz_explain_notes::Arg::{Count, Name};
+use bz_view::Piece::{Count, Name};
 use bz_explain_notes::Draft;
 
 /// The notes of one reason why a part has no net.
@@ -55,7 +55,7 @@ fn explain_no_part(draft: &mut Draft, netlist: Netlist<'_>, asked: &[u8]) {
     if names.is_empty() {
         draft.say("the name of a part, of which the text has none", &[]);
     } else {
-        draft.say_one_of(Count(names.len(), "part", "parts"), &names, asked);
+        draft.say_one_of(Count(names.len(), "part"), &names, asked);
     }
 }
 

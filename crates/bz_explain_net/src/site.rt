@@ -3,8 +3,9 @@
 use crate::data::{Head, members_of, nth, part_form, part_items};
 use bz_breeze_records::{Component, Part, Parts};
 use bz_elab::flattened;
-use bz_explain_notes::Arg::{self, At, Name, Number, Text};
-use bz_explain_notes::{Draft, Spot, put_source, spot_of};
+use bz_view::Piece::{self, At, Name, Number, Text};
+use bz_explain_notes::{Draft, put_source, spot_of};
+use bz_view::Spot;
 use bz_kind_rows::kind_of;
 use bz_model::{Chan, Kind, KindError, Port, numbered};
 use bz_sexpr::{Forms, Span};
@@ -38,7 +39,7 @@ pub struct Site<'t> {
 
 /// Tells where a byte of the text stands: its line and column, then the line itself, and below it a caret with what stands
 /// there, by a form.
-pub fn put_place(draft: &mut Draft, text: &[u8], at: usize, mark: &str, args: &[Arg<'_>]) {
+pub fn put_place(draft: &mut Draft, text: &[u8], at: usize, mark: &str, args: &[Piece<'_>]) {
     put_source(draft, text, at, "");
     draft.say(mark, args);
 }
@@ -108,9 +109,9 @@ impl<'t> Netlist<'t> {
             let Label { name, source } = self.label(number, head, position);
             put_source(draft, self.text, byte, "");
             draft.put("% %", &mark[..2]);
-            draft.put_label(Label { name, source: None });
+            draft.put("%", &[Piece::Label(Label { name, source: None })]);
             draft.put(" of part %", &mark[2..]);
-            draft.put_label(Label { name: None, source });
+            draft.put("%", &[Piece::Label(Label { name: None, source })]);
             draft.say("", &[]);
         }
     }
@@ -147,7 +148,7 @@ impl<'t> Netlist<'t> {
     }
 
     /// The line and column of a record.
-    pub(crate) fn spot_of(&self, number: usize, head: Head, position: usize) -> Arg<'static> {
+    pub(crate) fn spot_of(&self, number: usize, head: Head, position: usize) -> Piece<'static> {
         At(match self.byte_of(number, head, position) {
             Some(byte) => Some(spot_of(self.text, byte)),
             None => None,

@@ -1,10 +1,8 @@
 //! The notes of a fault while they are gathered.
 
-use crate::arg::Arg;
 use crate::nearest::nearest_name;
-use crate::spot::Spot;
-use bz_source::Label;
 use bz_text::{Put, Text};
+use bz_view::{Piece, Spot};
 use std::alloc::{AllocError, Global};
 use std::mem;
 
@@ -94,7 +92,7 @@ impl Draft {
     }
 
     /// Goes on with a form: each `%` in it is the next argument, and each `\n` ends a note.
-    pub fn put(&mut self, form: &str, args: &[Arg<'_>]) {
+    pub fn put(&mut self, form: &str, args: &[Piece<'_>]) {
         let mut next = 0usize;
         for byte in form.as_bytes() {
             match *byte {
@@ -111,23 +109,9 @@ impl Draft {
     }
 
     /// The same, and ends the note.
-    pub fn say(&mut self, form: &str, args: &[Arg<'_>]) {
+    pub fn say(&mut self, form: &str, args: &[Piece<'_>]) {
         self.put(form, args);
         self.end();
-    }
-
-    /// Goes on with what something is called, and with the source that it comes from: ` x (two_place.balsa:7:5)`.
-    pub fn put_label(&mut self, label: Label<'_>) {
-        if let Some(name) = label.name {
-            self.put(" %", &[Arg::Name(name)]);
-        }
-        if let Some(at) = label.source {
-            let (line, column) = (
-                Arg::Number(at.line as usize),
-                Arg::Number(at.column as usize),
-            );
-            self.put(" (%:%:%)", &[Arg::Name(at.file), line, column]);
-        }
     }
 
     /// Goes on with a place in the file, or else in what `of` says.
@@ -135,30 +119,30 @@ impl Draft {
         self.spot = self.spot.or(Some(spot));
         if of.is_empty() && !self.file.is_empty() {
             let args = [
-                Arg::Bytes(&self.file),
-                Arg::Number(spot.line),
-                Arg::Number(spot.column),
+                Piece::Bytes(&self.file),
+                Piece::Number(spot.line),
+                Piece::Number(spot.column),
             ];
             self.line.say("%:%:%", &args);
         } else {
-            self.put("%%", &[Arg::At(Some(spot)), Arg::Text(of)]);
+            self.put("%%", &[Piece::At(Some(spot)), Piece::Text(of)]);
         }
     }
 
     /// Goes on with the first ten of these names, behind a colon: `: a b`.
     pub fn put_names(&mut self, names: &[&[u8]]) {
         for (place, name) in names.iter().take(MOST_LISTED).enumerate() {
-            self.put(name_form(place), &[Arg::Name(name)]);
+            self.put(name_form(place), &[Piece::Name(name)]);
         }
     }
 
     /// Goes on with so many names, of which one was to be given, ends the note, and tells which one was probably meant:
     /// `one of 2 parts: a b`.
-    pub fn say_one_of(&mut self, count: Arg<'_>, names: &[&[u8]], name: &[u8]) {
+    pub fn say_one_of(&mut self, count: Piece<'_>, names: &[&[u8]], name: &[u8]) {
         self.put("one of %", &[count]);
         self.put_names(names);
         match names.len().checked_sub(MOST_LISTED) {
-            Some(more) if more > 0 => self.say(" and % more", &[Arg::Number(more)]),
+            Some(more) if more > 0 => self.say(" and % more", &[Piece::Number(more)]),
             _ => self.end(),
         }
         self.say_nearest(NEAREST, name, names);
@@ -167,7 +151,7 @@ impl Draft {
     /// Tells by a form which of several names was probably meant, where one is near enough.
     pub fn say_nearest(&mut self, form: &str, name: &[u8], names: &[&[u8]]) {
         match nearest_name(self.alloc, name, names) {
-            Ok(Some(name)) => self.say(form, &[Arg::Name(name)]),
+            Ok(Some(name)) => self.say(form, &[Piece::Name(name)]),
             Ok(None) => {}
             Err(_) => self.fail(),
         }

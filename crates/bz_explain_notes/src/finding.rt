@@ -6,10 +6,10 @@
 
 use crate::draft::Draft;
 use crate::notes::shown;
-use crate::spot::Spot;
 use crate::telling::tell_notes;
 use bz_model::Value;
 use bz_text::{Piece, Text, WriteFault, put, put_json, put_pieces};
+use bz_view::Spot;
 use std::alloc::Global;
 use std::io::Write;
 

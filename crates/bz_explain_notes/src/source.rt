@@ -2,9 +2,9 @@
 //!
 //! Of a longer line 100 bytes are shown, always with the place that is meant.
 
-use crate::arg::Arg::{Blanks, Bytes, Number, Text};
 use crate::draft::Draft;
 use crate::spot::{before_in_line, spot_of};
+use bz_view::Piece::{Blanks, Bytes, Number, Text};
 
 /// The most bytes of a line that are shown.
 const MOST_SHOWN: usize = 100;

@@ -2,7 +2,7 @@
 
 use crate::claim::Claim;
 use crate::items::line_of;
-use bz_explain_notes::Arg::Text;
+use bz_view::Piece::Text;
 use bz_explain_notes::{Draft, put_source};
 
 /// The bytes of a line that begins a trace.

@@ -1,7 +1,7 @@
 //! Clash lines that no run has.
 
 use crate::scene::Scene;
-use bz_explain_notes::Arg::Number;
+use bz_view::Piece::Number;
 use bz_explain_notes::Draft;
 
 /// The notes of a clash line, or of the end of the trace, where the line of a component is due, or none is.

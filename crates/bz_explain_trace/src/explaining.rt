@@ -5,7 +5,7 @@ use crate::claim::Claim;
 use crate::form_faults::explain_form;
 use crate::stops::explain_stop;
 use bz_cli_trace::Checked;
-use bz_explain_notes::Arg::Text;
+use bz_view::Piece::Text;
 use bz_explain_notes::Draft;
 use bz_trace::Verdict;
 use std::alloc::Global;

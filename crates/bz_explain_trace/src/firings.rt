@@ -1,7 +1,7 @@
 //! Firings and rests that no run has.
 
-use crate::scene::{Scene, holder_at, phase_of};
-use bz_explain_notes::Arg::{self, Count, Name, Number, Spaced, Text};
+use crate::scene::{Scene, phase_of};
+use bz_view::Piece::{self, Count, Name, Number, Text};
 use bz_explain_notes::Draft;
 use bz_model::{Move, Phase, Value};
 
@@ -53,26 +53,18 @@ pub(crate) fn explain_firing(draft: &mut Draft, scene: &Scene<'_>, firing: Firin
     draft.put("\nfound: ", &[]);
     match misfire {
         Misfire::NoComp => {
-            let comps = Count(
-                scene.net.core().comp_count() as usize,
-                "component",
-                "components",
-            );
+            let comps = Count(scene.seen.net.comp_count() as usize, "component");
             put_number(draft, "component", comp, comps);
         }
         Misfire::NoChan => {
-            let chans = Count(
-                scene.net.core().chan_count() as usize,
-                "channel",
-                "channels",
-            );
+            let chans = Count(scene.seen.net.chan_count() as usize, "channel");
             put_number(draft, "channel", chan, chans);
         }
         Misfire::NoEnd => put_end(draft, scene, firing),
         Misfire::NotNow(phase) => put_move(draft, scene, firing, phase),
         Misfire::OtherValue(phase) => {
             put_move(draft, scene, firing, phase);
-            draft.put(", and the value%", &[Spaced(firing.value)]);
+            draft.put(", and the value%", &[Piece::Value(firing.value)]);
         }
     }
     put_expected(draft, scene, comp);
@@ -82,15 +74,15 @@ impl Scene<'_> {
     // What is wrong with a firing.
     fn misfire(&self, firing: Firing) -> Misfire {
         let Firing { comp, chan, mv, .. } = firing;
-        if self.net.core().comp(comp).is_none() {
+        if self.seen.net.comp(comp).is_none() {
             return Misfire::NoComp;
         }
-        let Some(phase) = phase_of(self.net.core(), chan) else {
+        let Some(phase) = phase_of(self.seen.net, chan) else {
             return Misfire::NoChan;
         };
-        match self.net.core().port_at(comp, chan, mv) {
+        match self.seen.net.port_at(comp, chan, mv) {
             None => Misfire::NoEnd,
-            Some(port) => match self.net.core().foresee(comp, port) {
+            Some(port) => match self.seen.net.foresee(comp, port) {
                 Some((_, due, _)) if due == mv => Misfire::OtherValue(phase),
                 _ => Misfire::NotNow(phase),
             },
@@ -99,23 +91,23 @@ impl Scene<'_> {
 }
 
 // Tells a number that is none of the net's.
-fn put_number<'t>(draft: &mut Draft, thing: &'t str, number: u32, count: Arg<'t>) {
+fn put_number<'t>(draft: &mut Draft, thing: &'t str, number: u32, count: Piece<'t>) {
     let args = [Text(thing), Number(number as usize), count];
     draft.put("% %, and the net has %", &args);
 }
 
 // Tells whose the end is at which such a move is made.
 fn put_end(draft: &mut Draft, scene: &Scene<'_>, firing: Firing) {
-    let sense = match firing.mv {
-        Move::Ask | Move::Got => "active",
-        Move::Take | Move::Reply => "passive",
+    let (sense, is_passive) = match firing.mv {
+        Move::Ask | Move::Got => ("active", false),
+        Move::Take | Move::Reply => ("passive", true),
     };
     draft.put("% on ", &[Text(firing.mv.word())]);
     scene.put_chan(draft, firing.chan);
     draft.put(", whose % end is that of ", &[Text(sense)]);
-    match holder_at(scene.net.core(), firing.chan, firing.mv) {
+    match scene.seen.end(firing.chan, is_passive) {
         Some(comp) => scene.put_comp(draft, comp),
-        None => draft.put("the host, at port %", &[Name(scene.port_name(firing.chan))]),
+        None => draft.put("the host, at port %", &[Name(scene.seen.port_name(firing.chan))]),
     }
 }
 
@@ -127,16 +119,16 @@ fn put_move(draft: &mut Draft, scene: &Scene<'_>, firing: Firing, phase: Phase) 
 }
 
 fn put_phase(draft: &mut Draft, phase: Phase) {
-    draft.put(", which is %", &[Arg::Phase(phase)]);
+    draft.put(", which is %", &[Piece::Phase(phase)]);
 }
 
 // Tells what the component could do, or what others could where it can't move.
 fn put_expected(draft: &mut Draft, scene: &Scene<'_>, comp: u32) {
-    if scene.net.core().is_ready(comp) {
+    if scene.seen.net.is_ready(comp) {
         let args = [scene.kind(comp), Number(comp as usize)];
         draft.put("\nexpected: what % % can do: ", &args);
         scene.put_moves_of(draft, comp, 0);
-    } else if scene.net.core().next_ready(1).is_some() {
+    } else if scene.seen.net.next_ready(1).is_some() {
         draft.put("\nexpected: what others can do: ", &[]);
         scene.put_moves(draft);
     } else {

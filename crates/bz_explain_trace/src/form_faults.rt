@@ -2,7 +2,7 @@
 
 use crate::forms::{Line, Misfit, Want};
 use crate::items::{LineAt, item_of, line_of, start_of_line};
-use bz_explain_notes::Arg::{Count, Number, Word};
+use bz_view::Piece::{Count, Number, Shown};
 use bz_explain_notes::{Draft, port_names};
 use bz_model::Names;
 use bz_trace_text::MAX_ENTRIES;
@@ -40,12 +40,12 @@ fn explain_misfit(draft: &mut Draft, line: Line<'_>, at: LineAt<'_>, misfit: Mis
     match item {
         None => draft.put("the end of the line", &[]),
         Some([]) => draft.put("no item: items are one space apart", &[]),
-        Some(word) => draft.put("%", &[Word(word)]),
+        Some(word) => draft.put("%", &[Shown(word)]),
     }
     draft.put("\nexpected: ", &[]);
     if let Want::Port(_) = misfit.want {
         let names = draft.gathered(port_names(draft.alloc(), line.names.ports()));
-        let count = Count(names.len(), "port", "ports");
+        let count = Count(names.len(), "port");
         draft.say_one_of(count, &names, item.unwrap_or(b""));
     } else {
         let (form, number) = wanted(misfit.want);

@@ -1,7 +1,7 @@
 //! The moves that can be made.
 
 use crate::scene::Scene;
-use bz_explain_notes::Arg::{Number, Spaced, Text};
+use bz_view::Piece::{self, Number, Text};
 use bz_explain_notes::Draft;
 use bz_model::{Move, Value};
 
@@ -12,7 +12,7 @@ impl Scene<'_> {
     /// Goes on with the moves that a component can make, behind so many others: how many there are then.
     pub(crate) fn put_moves_of(&self, draft: &mut Draft, comp: u32, before: usize) -> usize {
         let mut told = before;
-        if self.net.core().is_ready(comp) {
+        if self.seen.net.is_ready(comp) {
             for port in 1..=self.port_count(comp) {
                 told = self.put_move_at(draft, comp, port, told);
             }
@@ -25,7 +25,7 @@ impl Scene<'_> {
         let mut told = 0usize;
         let mut from = 1u32;
         for _ in 0..=MOST_TOLD {
-            match self.net.core().next_ready(from) {
+            match self.seen.net.next_ready(from) {
                 Some(comp) if comp >= from => {
                     told = self.put_moves_of(draft, comp, told);
                     from = comp.saturating_add(1);
@@ -37,7 +37,7 @@ impl Scene<'_> {
     }
 
     fn put_move_at(&self, draft: &mut Draft, comp: u32, port: u32, told: usize) -> usize {
-        match self.net.core().foresee(comp, port) {
+        match self.seen.net.foresee(comp, port) {
             Some((chan, mv, value)) => {
                 put_move(draft, comp, (chan, mv, value), told);
                 told.saturating_add(1)
@@ -47,7 +47,7 @@ impl Scene<'_> {
     }
 
     fn port_count(&self, comp: u32) -> u32 {
-        match self.net.core().comp(comp) {
+        match self.seen.net.comp(comp) {
             Some(site) => u32::try_from(site.chans.len()).unwrap_or(u32::MAX),
             None => 0,
         }
@@ -65,7 +65,7 @@ fn put_move(draft: &mut Draft, comp: u32, made: (u32, Move, Option<Value>), told
             Number(comp as usize),
             word,
             Number(chan as usize),
-            Spaced(value),
+            Piece::Value(value),
         ];
         draft.put("%fire % % %%", &args);
     } else if told == MOST_TOLD {

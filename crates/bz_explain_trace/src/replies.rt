@@ -1,7 +1,7 @@
 //! Commands of hosts that no run has.
 
 use crate::scene::Scene;
-use bz_explain_notes::Arg::{self, Name, Number, Spaced, Text, Wide};
+use bz_view::Piece::{self, Name, Number, Text, Wide};
 use bz_explain_notes::Draft;
 use bz_model::{NetError, Phase, Reply, Value, Verb, Who, low_bits};
 use bz_net::Play;
@@ -38,13 +38,13 @@ pub(crate) fn explain_refused(
 ) {
     let item = if error == NetError::WrongSide { 2 } else { 4 };
     put_command(draft, scene, command, item);
-    let Some(chan) = scene.net.names().chan(command.port) else {
+    let Some(chan) = scene.seen.net.names().chan(command.port) else {
         return draft.say("", &[]);
     };
     let most = Wide(low_bits(Value::MAX, chan.width));
     let kind = Text(chan.kind.word());
     let (form, first) = match error {
-        NetError::WrongSide if scene.net.names().passive(command.port) == Some(true) => (
+        NetError::WrongSide if scene.seen.net.names().passive(command.port) == Some(true) => (
             "which is passive: there the host asks and the net answers\nexpected: offer or collect",
             kind,
         ),
@@ -62,7 +62,7 @@ pub(crate) fn explain_refused(
             Number(chan.width as usize),
         ),
     };
-    let args = [first, Spaced(command.value), most];
+    let args = [first, Piece::Value(command.value), most];
     draft.say(form, &args);
 }
 
@@ -78,16 +78,16 @@ pub(crate) fn explain_reply(
     put_command(draft, scene, command, item);
     let form = "whose channel is %, and the reply %\nexpected: the reply %";
     let args = [
-        Arg::Phase(phase),
-        Arg::Reply(command.reply),
-        Arg::Reply(due),
+        Piece::Phase(phase),
+        Piece::Reply(command.reply),
+        Piece::Reply(due),
     ];
     draft.say(form, &args);
 }
 
 // Tells the line, and goes on with what was found: a command at a port.
 fn put_command(draft: &mut Draft, scene: &Scene<'_>, command: Command, item: usize) {
-    let name = Name(scene.port_name(command.port));
+    let name = Name(scene.seen.port_name(command.port));
     let args = [name, Text(command.verb.word()), name];
     scene.line.put(draft, item);
     draft.put("port %\nfound: % at port %, ", &args);

@@ -38,7 +38,7 @@ fn explain_line(draft: &mut Draft, net: &mut Play, survey: &Survey, trace: &[u8]
                 Some((found, _)) => Some(found),
                 None => None,
             };
-            explain_clash(draft, &Scene { net, survey, line }, found, due);
+            explain_clash(draft, &Scene::of(net.core(), survey, line), found, due);
         }
         Err(_) => draft.fail(),
     }
@@ -84,7 +84,7 @@ fn explain_entry(
                 mv,
                 value,
             };
-            explain_firing(draft, &Scene { net, survey, line }, firing);
+            explain_firing(draft, &Scene::of(net.core(), survey, line), firing);
         }
         Entry::Host {
             who,
@@ -101,7 +101,7 @@ fn explain_entry(
             };
             let phase = phase_of(net.core(), port)?;
             let due = reply_of(net, who, verb, port, value)?;
-            let scene = Scene { net, survey, line };
+            let scene = Scene::of(net.core(), survey, line);
             match due {
                 Ok(due) => explain_reply(draft, &scene, command, phase, due),
                 Err(NetError::Memory) => return None,
@@ -110,7 +110,7 @@ fn explain_entry(
         }
         Entry::Rested { who: _ } => {
             let comp = net.core().next_ready(1)?;
-            explain_rest(draft, &Scene { net, survey, line }, comp);
+            explain_rest(draft, &Scene::of(net.core(), survey, line), comp);
         }
     }
     Some(())

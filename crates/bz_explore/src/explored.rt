@@ -9,13 +9,13 @@ ghost use Rattle.bz_cli_input.specs.Reading.{ReadsWithin};
 ghost use Rattle.bz_explore.specs.Statuses.{status_of};
 
 use crate::answer::Answer;
-use crate::piece::Piece;
 use crate::session::Session;
 use bz_cli_input::{Fault, read_input};
 use bz_cli_source::survey_of;
 use bz_explore_net::Course;
 use bz_flat::Flat;
 use bz_text::{Piece as Part, Text, put};
+use bz_view::Piece;
 use std::alloc::Global;
 use std::io::{BufRead, Read, Write};
 

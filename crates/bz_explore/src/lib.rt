@@ -5,13 +5,11 @@ mod answer;
 mod commands;
 mod explored;
 mod looking;
-mod piece;
 mod refusals;
 mod saving;
 mod session;
 mod table;
 mod things;
-mod view;
 mod waits;
 
 pub use explored::{Ending, NoFile, Shelf, explore_cmd};

@@ -7,16 +7,16 @@
 ghost use Rattle.std.specs.Prelude.{OnOk, OnErr};
 ghost use Rattle.bz_explore.specs.Saving.{SavesSome, SavesTrace};
 
-use crate::piece::Piece;
-use crate::view::View;
-use crate::waits::put_ends;
 use bz_cli_core::write_out;
 use bz_cli_input::Fault;
 use bz_explore_net::{Course, Mark, Picker};
+use bz_flat::Flat;
 use bz_model::Entry;
 use bz_net::Net;
 use bz_page::put_page;
+use bz_source::Survey;
 use bz_text::{Text, WriteFault, put};
+use bz_view::{Piece, Seen, graph_of, put_ends};
 use std::io::Write;
 
 /// The most components of a net that a page holds.
@@ -31,22 +31,33 @@ pub fn save<W: Write>(net: &Net, out: &mut W) -> Result<(), WriteFault>
 }
 
 /// Adds a page on which the trace of a net so far plays, with who waits for whom at its end.
-pub(crate) fn put_trace_page(view: &View<'_>, part: &[u8], text: &mut Text) {
+pub(crate) fn put_trace_page(course: &Course, survey: &Survey, part: &[u8], text: &mut Text) {
     let (mut trace, mut ends) = (Text::new(text.alloc()), Text::new(text.alloc()));
-    let saved = save(view.course.net(), &mut trace);
-    put_ends(view, &mut ends);
+    let net = course.net();
+    let saved = save(net, &mut trace);
+    let seen = Seen::of(net.core(), survey);
+    if let Some(graph) = graph_of(seen, &mut ends) {
+        put_ends(seen, &graph, &mut ends);
+    }
     match (saved, trace.whole(), ends.whole()) {
-        (Ok(()), Ok(trace), Ok(ends)) => put_page_of(view, part, trace, ends, text),
+        (Ok(()), Ok(trace), Ok(ends)) => put_page_of(course.flat(), survey, part, trace, ends, text),
         _ => text.lose(),
     }
 }
 
-fn put_page_of(view: &View<'_>, part: &[u8], trace: &[u8], ends: &[u8], text: &mut Text) {
+fn put_page_of(
+    flat: &Flat,
+    survey: &Survey,
+    part: &[u8],
+    trace: &[u8],
+    ends: &[u8],
+    text: &mut Text,
+) {
     let alloc = text.alloc();
-    let paged = match view.course.flat().dup(alloc) {
+    let paged = match flat.dup(alloc) {
         Ok(flat) => {
             let net = flat.into_pieces();
-            put_page(alloc, part, &net, view.survey, trace, ends, text)
+            put_page(alloc, part, &net, survey, trace, ends, text)
         }
         Err(_) => Err(Fault::Memory),
     };
@@ -99,7 +110,7 @@ fn entries_of(course: &Course, left: usize) -> usize {
 // A line that begins the picking anew, where it doesn't go on as it would.
 fn put_seed(goes_on: Picker, picker: Picker, text: &mut Text) {
     if goes_on != picker {
-        text.say("seed %\n", &[Piece::Number(picker.seed().into())]);
+        text.say("seed %\n", &[Piece::Wide(picker.seed().into())]);
     }
 }
 

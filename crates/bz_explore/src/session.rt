@@ -4,19 +4,17 @@ use crate::answer::{Answer, count_lines, put_added};
 use crate::commands::{Call, call_of, number, words_of};
 use crate::explored::{Ending, NoFile, Shelf};
 use crate::looking::look;
-use crate::piece::Piece;
 use crate::refusals::{put_refusal, put_stuck};
 use crate::saving::{MOST_COMPS, put_script, put_trace_page, put_undone, save, save_text};
 use crate::table::{Form, put_help};
 use crate::things::place_asked;
-use crate::view::View;
-use bz_explore_moves::gathered;
 use bz_explore_net::Course;
 use bz_model::{Cmd, HostCmd, NetError, Reply};
 use bz_net::RunEnd;
 use bz_page::TooLarge;
 use bz_source::Survey;
 use bz_text::Text;
+use bz_view::{Piece, Seen, gathered};
 use std::io::Write;
 
 const NO_REPLY: &str = "there is no reply to compare: the last command was none of the host's\n";
@@ -80,11 +78,7 @@ impl<'s> Session<'s> {
             "page" => self.page(shelf, call),
             "help" => self.help(call.first),
             "moves" | "waits" | "state" => {
-                look(
-                    &View::of(&*self.course, self.survey),
-                    call,
-                    &mut self.answer,
-                );
+                look(&*self.course, self.survey, call, &mut self.answer);
             }
             "quit" => {}
             _ => self.word(call),
@@ -126,20 +120,20 @@ impl<'s> Session<'s> {
             Err(error) => {
                 if !self.is_spent(error) {
                     self.answer.begin_error();
-                    let view = View::of(&*self.course, self.survey);
-                    put_refusal(&view, error, cmd, &mut self.answer.text);
+                    let seen = Seen::of(self.course.net().core(), self.survey);
+                    put_refusal(seen, error, cmd, &mut self.answer.text);
                 }
             }
         }
     }
 
     fn fire(&mut self, call: Call<'_>) {
-        let view = View::of(&*self.course, self.survey);
+        let seen = Seen::of(self.course.net().core(), self.survey);
         let (comp, port) = (
             call.number().unwrap_or(0),
             number(call.second.unwrap_or("")),
         );
-        match place_asked(&view, comp, port, &mut self.answer) {
+        match place_asked(seen, comp, port, &mut self.answer) {
             Some((comp, port)) => self.fire_at(comp, port),
             None => {}
         }
@@ -153,8 +147,8 @@ impl<'s> Session<'s> {
             Err(error) => {
                 if !self.is_spent(error) {
                     self.answer.begin_error();
-                    let view = View::of(&*self.course, self.survey);
-                    put_stuck(&view, comp, port, &mut self.answer.text);
+                    let seen = Seen::of(self.course.net().core(), self.survey);
+                    put_stuck(seen, comp, port, &mut self.answer.text);
                 }
             }
         }
@@ -176,7 +170,7 @@ impl<'s> Session<'s> {
                     None => "% fired, at rest\n",
                     Some(_) => "% fired, not at rest\n",
                 };
-                self.answer.text.say(form, &[Piece::Number(fired.into())]);
+                self.answer.text.say(form, &[Piece::Wide(fired.into())]);
             }
             Ok(RunEnd::Refused(_, error)) => {
                 self.is_spent(error);
@@ -196,7 +190,7 @@ impl<'s> Session<'s> {
         match error {
             NetError::Memory => self.answer.text.lose(),
             NetError::JournalFull => {
-                let limit = Piece::Number(self.course.limit().into());
+                let limit = Piece::Wide(self.course.limit().into());
                 self.answer.complain(FULL, &[limit]);
             }
             _ => return false,
@@ -206,7 +200,7 @@ impl<'s> Session<'s> {
 
     fn seed(&mut self, seed: u64) {
         self.course.seed(seed);
-        let seed = Piece::Number(seed.into());
+        let seed = Piece::Wide(seed.into());
         self.answer.text.say("seed %\n", &[seed]);
     }
 
@@ -262,7 +256,7 @@ impl<'s> Session<'s> {
         let path = call.first.unwrap_or("");
         let mut made = Text::new(self.answer.text.alloc());
         match word {
-            "page" => put_trace_page(&View::of(&*self.course, self.survey), self.part, &mut made),
+            "page" => put_trace_page(&*self.course, self.survey, self.part, &mut made),
             "session" => put_script(&*self.course, &mut made),
             _ => {}
         }

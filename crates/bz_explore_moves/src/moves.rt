@@ -2,17 +2,18 @@
 
 ghost use Rattle.std.specs.Prelude.{IfSome};
 ghost use Rattle.bz_text.specs.Growing.{Grows, GrowsBy};
-ghost use Rattle.bz_explore_moves.specs.Lines.{InLine, InTurn};
+ghost use Rattle.bz_view.specs.Lines.{InLine, InTurn};
 ghost use Rattle.bz_explore_moves.specs.Moves.{IsMove, IsMoveLine, IsMoves, IsWordLine, end_line, host_word};
 
-use crate::naming::{put_host_word, put_instance, put_name, put_port, put_source};
-use crate::outside::{chan_of, phase_of, port_name};
-use crate::parts::{fill, gathered, put_in_line};
 use bz_explore_net::{Course, HostOffer, Offer, answered_words, offers_of};
 use bz_kind_rows::{kind_word, port_at};
 use bz_model::{Chan, ChanKind, Value};
 use bz_source::Survey;
 use bz_text::{Piece, Text};
+use bz_view::{
+    chan_of, fill, gathered, port_name, put_host_word, put_in_line, put_instance, put_name, put_port,
+    put_source,
+};
 
 /// Adds a line for each move that a component can make, and for each word of the host that would be answered, and last how many
 /// moves there are.
@@ -162,15 +163,17 @@ fn put_word(course: &Course, word: HostOffer, text: &mut Text)
 fn put_word_alone(course: &Course, word: HostOffer, text: &mut Text)
     ensures { Grows text.old text.new (host_word course.now.net.wiring word.verb word.port) }
 {
-    let has_value = word.verb.wants_value(chan_of(course, word.port).kind);
-    put_host_word(text, word.verb, port_name(course, word.port), has_value);
+    let net = course.net().core();
+    let has_value = word.verb.wants_value(chan_of(net, word.port).kind);
+    put_host_word(text, word.verb, port_name(net, word.port), has_value);
 }
 
 fn put_port_state(course: &Course, port: u32, text: &mut Text)
     ensures { GrowsBy InLine text.old text.new }
 {
-    let chan = chan_of(course, port);
-    let (phase, value) = phase_of(course, port).parts();
+    let net = course.net().core();
+    let chan = chan_of(net, port);
+    let (phase, value) = net.phase(port).parts();
     put_in_line(
         text,
         &[

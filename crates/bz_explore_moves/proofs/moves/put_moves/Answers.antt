@@ -6,7 +6,7 @@ use Rattle.bz_explore_net.specs.declared.host_offers.HostOffer.{HostOffer}
 use Rattle.bz_explore_net.specs.declared.offers.Offer.{Offer}
 use Rattle.bz_explore_net.specs.HostOffers.{HostOffers}
 use Rattle.bz_explore_net.specs.Offers.{Offers}
-use Rattle.bz_explore_moves.specs.Lines.{InTurn}
+use Rattle.bz_view.specs.Lines.{InTurn}
 use Rattle.bz_explore_moves.specs.Moves.{IsMoveLine, IsWordLine, end_line}
 use Rattle.bz_explore_moves.proofs.Offered.{gathered_is, moves_grow}
 use Rattle.bz_explore_moves.proofs.moves.put_moves.Goals as goal

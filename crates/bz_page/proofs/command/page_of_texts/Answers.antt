@@ -14,10 +14,10 @@ returns-in-Err g c =
 
 pub returns-in-Ok-put_net_page : goal.returns-in-Ok-put_net_page
 returns-in-Ok-put_net_page g c =
-    paged_of (Unit {0}) (blank_of c.args.template) c.both.result.0.now c.both.result.1.now c.args.texts.now.netlist c.args.texts.now.trace (option_copied c.args.asked) c.in-Ok.found.2.items _ c.in-Ok.found.0 c.in-Ok.found.1 _ _ tt
+    paged_of (Unit {0}) (blank_of c.args.template) c.both.result.0.now c.both.result.1.now c.args.texts.now.netlist c.args.texts.now.trace (option_copied c.args.asked) c.in-Ok.found.2.items _ c.in-Ok.found.0 c.in-Ok.found.1 _ _ _ tt
     c.both.ensures.netlist c.both.ensures.trace c.as_slice-part.ensures.value c.in-Ok.ensures c.in-Ok-put_net_page.ensures
 
 pub returns : goal.returns
 returns g c =
-    paged_short_of (Unit {0}) (blank_of c.args.template) c.both.result.0.now c.both.result.1.now c.args.texts.now.netlist c.args.texts.now.trace (option_copied c.args.asked) c.in-Ok.found.2.items _ c.in-Ok.found.0 c.in-Ok.found.1 _ _ c.in-Err-put_net_page.fault
+    paged_short_of (Unit {0}) (blank_of c.args.template) c.both.result.0.now c.both.result.1.now c.args.texts.now.netlist c.args.texts.now.trace (option_copied c.args.asked) c.in-Ok.found.2.items _ c.in-Ok.found.0 c.in-Ok.found.1 _ _ _ c.in-Err-put_net_page.fault
     c.both.ensures.netlist c.both.ensures.trace c.as_slice-part.ensures.value c.in-Ok.ensures c.in-Err-put_net_page.ensures

@@ -6,9 +6,9 @@ use Rattle.std.proofs.lemmas.Grind.{flat_map-append}
 use Rattle.bz_model.specs.Traces.{name_form}
 use Rattle.bz_text.specs.Growing.{Grows}
 use Rattle.bz_text.proofs.Said.{grows_then}
-use Rattle.bz_explore_moves.specs.Lines.{InLine}
-use Rattle.bz_explore_moves.specs.Naming.{typed_byte, typed_text}
-use Rattle.bz_explore_moves.proofs.Lines.{both, name_clear}
+use Rattle.bz_view.specs.Lines.{InLine}
+use Rattle.bz_view.specs.Naming.{typed_byte, typed_text}
+use Rattle.bz_view.proofs.Lines.{both, name_clear}
 
 byte_clear : (b : ℕ) (k : Bool) → InLine (cond k (codes "%23") (name_form (b ∷ [])))
 byte_clear b true = refl

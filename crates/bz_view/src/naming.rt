@@ -2,8 +2,8 @@
 
 ghost use Rattle.std.specs.List.{flat_map};
 ghost use Rattle.bz_text.specs.Growing.{Grows, GrowsBy};
-ghost use Rattle.bz_explore_moves.specs.Lines.{InLine};
-ghost use Rattle.bz_explore_moves.specs.Naming.{typed_byte, typed_text, word_text};
+ghost use Rattle.bz_view.specs.Lines.{InLine};
+ghost use Rattle.bz_view.specs.Naming.{typed_byte, typed_text, word_text};
 
 use crate::parts::put_in_line;
 use bz_kind_rows::PortAt;

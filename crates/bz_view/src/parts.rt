@@ -3,7 +3,7 @@
 ghost use Rattle.std.specs.Prelude.{◌≡◌, IfErr, IfOk, None, true};
 ghost use Rattle.std.specs.List.{list_all};
 ghost use Rattle.bz_text.specs.Growing.{GrowsBy};
-ghost use Rattle.bz_explore_moves.specs.Lines.{AreBlanks, InLine, stays_in_line};
+ghost use Rattle.bz_view.specs.Lines.{AreBlanks, InLine, stays_in_line};
 
 use bz_text::{Piece, Text};
 use std::alloc::AllocError;
@@ -22,15 +22,15 @@ pub fn gathered<T: Drop>(list: Result<Vec<T>, AllocError>, text: &mut Text) -> V
     }
 }
 
-// Adds pieces without a line feed.
-pub(crate) fn put_in_line(text: &mut Text, pieces: &[Piece<'_>])
+/// Adds pieces without a line feed.
+pub fn put_in_line(text: &mut Text, pieces: &[Piece<'_>])
     ensures { list_all stays_in_line pieces.now ≡ true → GrowsBy InLine text.old text.new }
 {
     text.put_pieces(pieces);
 }
 
-// Adds blanks up to a column.
-pub(crate) fn fill(text: &mut Text, column: usize)
+/// Adds blanks up to a column.
+pub fn fill(text: &mut Text, column: usize)
     ensures { GrowsBy AreBlanks text.old text.new }
 {
     text.fill(column);

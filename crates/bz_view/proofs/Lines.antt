@@ -13,7 +13,7 @@ use Rattle.bz_text.specs.declared.pieces.Piece.{Piece}
 use Rattle.bz_text.specs.declared.pieces.Piece.TheVariants.{Bytes, Number, Value, Name}
 use Rattle.bz_text.proofs.NameLaws.{HasForm, by_number, has_form, hex_from, itself}
 use Rattle.bz_text.proofs.Said.{grows_nothing, grows_then}
-use Rattle.bz_explore_moves.specs.Lines.{AreBlanks, InLine, InTurn, IsLine, stays_in_line}
+use Rattle.bz_view.specs.Lines.{AreBlanks, InLine, InTurn, IsLine, stays_in_line}
 
 -- ---- no line feed
 
