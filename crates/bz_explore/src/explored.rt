@@ -12,7 +12,7 @@ use crate::answer::Answer;
 use crate::session::Session;
 use bz_cli_input::{Fault, read_input};
 use bz_cli_source::survey_of;
-use bz_explore_net::Course;
+use bz_explore_net::Stepping;
 use bz_flat::Flat;
 use bz_text::{Piece as Part, Text, put};
 use bz_view::Piece;
@@ -102,11 +102,11 @@ fn explore_text<L: BufRead, W: Write, S: Shelf>(
     output: &mut W,
 ) -> Result<Ending, Fault> {
     let (flat, survey, part) = survey_of(alloc, asked, text)?;
-    let Ok(mut course) = Course::open(alloc, flat, JOURNAL) else {
+    let Ok(mut stepping) = Stepping::open(alloc, flat, JOURNAL) else {
         return Err(Fault::Memory);
     };
     let mut session = Session {
-        course: &mut course,
+        stepping: &mut stepping,
         survey: &survey,
         part: part.as_slice(),
         typed: Vec::new(alloc),
@@ -132,7 +132,7 @@ fn play<L: BufRead, W: Write, S: Shelf>(
     if prompts {
         greet(
             session.part,
-            session.course.flat(),
+            session.stepping.flat(),
             &mut session.answer.text,
         );
         tell(output, session.answer.text.whole()?)?;

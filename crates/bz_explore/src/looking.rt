@@ -5,7 +5,7 @@ use crate::commands::Call;
 use crate::things::asked;
 use crate::waits::{put_all_waits, put_chain, put_waits};
 use bz_explore_moves::put_moves;
-use bz_explore_net::{Course, busy_chans};
+use bz_explore_net::{Stepping, busy_chans};
 use bz_flat::FlatComp;
 use bz_model::{Entry, Kind, Move, Value};
 use bz_source::{Survey, put_comp, put_label};
@@ -21,34 +21,34 @@ channels: %, % not idle
 clashes:";
 
 /// Answers a command that looks at the net and moves nothing.
-pub(crate) fn look(course: &Course, survey: &Survey, call: Call<'_>, answer: &mut Answer) {
-    let seen = Seen::of(course.net().core(), survey);
+pub(crate) fn look(stepping: &Stepping, survey: &Survey, call: Call<'_>, answer: &mut Answer) {
+    let seen = Seen::of(stepping.net().core(), survey);
     match (call.form.word(), call.first) {
-        ("moves", _) => put_moves(course, survey, &mut answer.text),
+        ("moves", _) => put_moves(stepping, survey, &mut answer.text),
         ("waits", None) => put_waits(seen, &mut answer.text),
-        ("waits", Some("all")) => put_all_waits(course, seen, &mut answer.text),
-        (_, None) => put_totals(course, seen, &mut answer.text),
+        ("waits", Some("all")) => put_all_waits(stepping, seen, &mut answer.text),
+        (_, None) => put_totals(stepping, seen, &mut answer.text),
         (command, Some(word)) => {
             for thing in &asked(seen, call.form, word, answer) {
-                put_thing(course, seen, command == "waits", *thing, &mut answer.text);
+                put_thing(stepping, seen, command == "waits", *thing, &mut answer.text);
             }
         }
     }
 }
 
 // How a component or a channel stands, or on what it hangs.
-fn put_thing(course: &Course, seen: Seen<'_>, hangs: bool, thing: Thing, text: &mut Text) {
+fn put_thing(stepping: &Stepping, seen: Seen<'_>, hangs: bool, thing: Thing, text: &mut Text) {
     match thing {
         Thing::Comp(comp) if hangs => put_chain(seen, comp, text),
-        Thing::Comp(comp) => put_state(course, seen, comp, text),
+        Thing::Comp(comp) => put_state(stepping, seen, comp, text),
         Thing::Chan(chan) if hangs => put_held(seen, chan, text),
         Thing::Chan(chan) => put_chan_state(seen, chan, text),
     }
 }
 
 // Adds how far the net is.
-fn put_totals(course: &Course, seen: Seen<'_>, text: &mut Text) {
-    let (flat, net) = (course.flat(), course.net());
+fn put_totals(stepping: &Stepping, seen: Seen<'_>, text: &mut Text) {
+    let (flat, net) = (stepping.flat(), stepping.net());
     let counts = counts(net.journal());
     let busy = gathered(busy_chans(text.alloc(), flat, net), text);
     let totals = [
@@ -67,20 +67,20 @@ fn put_totals(course: &Course, seen: Seen<'_>, text: &mut Text) {
     for comp in net.clashes() {
         text.say(" %", &[Piece::Wide((*comp).into())]);
     }
-    let next = if course.next() > flat.comp_count() {
+    let next = if stepping.next() > flat.comp_count() {
         1
     } else {
-        course.next()
+        stepping.next()
     };
     let last = [
         Piece::Wide(next.into()),
-        Piece::Wide(course.picker().seed().into()),
+        Piece::Wide(stepping.picker().seed().into()),
     ];
     text.say("\nrun goes on at component %\nseed %\n", &last);
 }
 
 // Adds a component's place, the value that it keeps, and its ports with what is due there.
-fn put_state(course: &Course, seen: Seen<'_>, comp: u32, text: &mut Text) {
+fn put_state(stepping: &Stepping, seen: Seen<'_>, comp: u32, text: &mut Text) {
     let Some(site) = seen.net.comp(comp) else {
         return;
     };
@@ -90,7 +90,7 @@ fn put_state(course: &Course, seen: Seen<'_>, comp: u32, text: &mut Text) {
         text.put("\n");
     }
     if matches!(site.kind, Kind::Variable | Kind::FalseVariable) {
-        let kept = kept(course.net().journal(), comp);
+        let kept = kept(stepping.net().journal(), comp);
         text.say("keeps %\n", &[Piece::Wide(kept)]);
     }
     for port in 1..=port_count(site) {

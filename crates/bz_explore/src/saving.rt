@@ -9,7 +9,7 @@ ghost use Rattle.bz_explore.specs.Saving.{SavesSome, SavesTrace};
 
 use bz_cli_core::write_out;
 use bz_cli_input::Fault;
-use bz_explore_net::{Course, Mark, Picker};
+use bz_explore_net::{Stepping, Mark, Picker};
 use bz_flat::Flat;
 use bz_model::Entry;
 use bz_net::Net;
@@ -31,16 +31,16 @@ pub fn save<W: Write>(net: &Net, out: &mut W) -> Result<(), WriteFault>
 }
 
 /// Adds a page on which the trace of a net so far plays, with who waits for whom at its end.
-pub(crate) fn put_trace_page(course: &Course, survey: &Survey, part: &[u8], text: &mut Text) {
+pub(crate) fn put_trace_page(stepping: &Stepping, survey: &Survey, part: &[u8], text: &mut Text) {
     let (mut trace, mut ends) = (Text::new(text.alloc()), Text::new(text.alloc()));
-    let net = course.net();
+    let net = stepping.net();
     let saved = save(net, &mut trace);
     let seen = Seen::of(net.core(), survey);
     if let Some(graph) = graph_of(seen, &mut ends) {
         put_ends(seen, &graph, &mut ends);
     }
     match (saved, trace.whole(), ends.whole()) {
-        (Ok(()), Ok(trace), Ok(ends)) => put_page_of(course.flat(), survey, part, trace, ends, text),
+        (Ok(()), Ok(trace), Ok(ends)) => put_page_of(stepping.flat(), survey, part, trace, ends, text),
         _ => text.lose(),
     }
 }
@@ -74,23 +74,23 @@ pub(crate) fn save_text<W: Write>(bytes: &[u8], out: &mut W) -> Result<(), Write
 
 /// Adds the commands that stand, as lines of a session. Behind each word of the host its reply is expected, and a seed stands
 /// where the picking was begun anew.
-pub(crate) fn put_script(course: &Course, text: &mut Text) {
-    let journal = course.net().journal();
+pub(crate) fn put_script(stepping: &Stepping, text: &mut Text) {
+    let journal = stepping.net().journal();
     let mut picker = Picker::new(0);
-    for (place, mark) in course.marks().iter().enumerate() {
-        let upto = entries_of(course, place + 1);
+    for (place, mark) in stepping.marks().iter().enumerate() {
+        let upto = entries_of(stepping, place + 1);
         let added = journal.get(mark.entries..upto).unwrap_or(&[]);
         put_seed(picker, mark.picker, text);
         put_command(mark, added, text);
         picker = picker_after(mark, added);
     }
-    put_seed(picker, course.picker(), text);
+    put_seed(picker, stepping.picker(), text);
 }
 
 /// Adds the last `count` of the first `left` commands, which are to be taken back.
-pub(crate) fn put_undone(course: &Course, left: usize, count: usize, text: &mut Text) {
-    let mut upto = entries_of(course, left);
-    let marks = course.marks().get(..left).unwrap_or(&[]);
+pub(crate) fn put_undone(stepping: &Stepping, left: usize, count: usize, text: &mut Text) {
+    let mut upto = entries_of(stepping, left);
+    let marks = stepping.marks().get(..left).unwrap_or(&[]);
     for mark in marks.iter().rev().take(count) {
         let command = Piece::Bytes(mark.command.as_slice());
         let lines = Piece::Count(upto.saturating_sub(mark.entries), "line");
@@ -100,10 +100,10 @@ pub(crate) fn put_undone(course: &Course, left: usize, count: usize, text: &mut 
 }
 
 // How many entries the journal has once so many commands are left.
-fn entries_of(course: &Course, left: usize) -> usize {
-    match course.marks().get(left) {
+fn entries_of(stepping: &Stepping, left: usize) -> usize {
+    match stepping.marks().get(left) {
         Some(mark) => mark.entries,
-        None => course.net().journal().len(),
+        None => stepping.net().journal().len(),
     }
 }
 

@@ -1,7 +1,7 @@
 //! Who holds each channel, and for whom each component waits.
 
 use crate::answer::{HALF, MORE, MOST_LINES, put_cut};
-use bz_explore_net::{Course, busy_chans};
+use bz_explore_net::{Stepping, busy_chans};
 use bz_text::Text;
 use bz_view::{
     MOST_MEMBERS, Seen, gathered, graph_of, put_counts, put_cycle, put_cycles, put_each, put_held,
@@ -35,8 +35,8 @@ pub(crate) fn put_waits(seen: Seen<'_>, text: &mut Text) {
 
 /// Adds who holds each channel that is not idle, for whom each component waits, the cycles among these, and how many there
 /// are.
-pub(crate) fn put_all_waits(course: &Course, seen: Seen<'_>, text: &mut Text) {
-    let busy = busy_chans(text.alloc(), course.flat(), course.net());
+pub(crate) fn put_all_waits(stepping: &Stepping, seen: Seen<'_>, text: &mut Text) {
+    let busy = busy_chans(text.alloc(), stepping.flat(), stepping.net());
     for chan in &gathered(busy, text) {
         put_held(seen, *chan, text);
     }

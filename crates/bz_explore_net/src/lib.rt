@@ -3,14 +3,14 @@
 
 mod busy;
 mod chance;
-mod course;
+mod stepping;
 mod host_offers;
 mod offers;
 mod picker;
 mod replaying;
 
 pub use busy::busy_chans;
-pub use course::{Course, Mark, UndoError};
+pub use stepping::{Stepping, Mark, UndoError};
 pub use host_offers::{HostOffer, answered_words};
 pub use offers::{Offer, offers_of};
 pub use picker::Picker;

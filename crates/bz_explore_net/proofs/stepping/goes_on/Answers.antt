@@ -4,9 +4,9 @@ use Rattle.bz_model.specs.declared.channel.Move.TheVariants.{Ask}
 use Rattle.bz_model.specs.declared.event.Entry.{Entry}
 use Rattle.bz_model.specs.declared.event.Entry.TheVariants.{Fired}
 use Rattle.bz_model.specs.declared.event.Who.TheVariants as who
-use Rattle.bz_explore_net.specs.Courses.{goes_on}
+use Rattle.bz_explore_net.specs.Stepping.{goes_on}
 use Rattle.bz_explore_net.proofs.Going.{goes_on_more}
-use Rattle.bz_explore_net.proofs.course.goes_on.Goals as goal
+use Rattle.bz_explore_net.proofs.stepping.goes_on.Goals as goal
 
 pub loop-entry-preserved : goal.loop-entry-preserved
 loop-entry-preserved c =

@@ -1,7 +1,7 @@
 use Rattle.std.proofs.Common.{◌≡◌, ◌++◌, [], ◌∷◌, ap, refl, ◌∙◌}
-use Rattle.bz_explore_net.specs.Courses.{Played}
-use Rattle.bz_explore_net.proofs.course.Course.fire.Goals as goal
-use Rattle.bz_explore_net.proofs.course.Course.fire.Goals.{in-None+in_ok-fire-in-None, in-Some+in_ok-fire_move-in-Some}
+use Rattle.bz_explore_net.specs.Stepping.{Played}
+use Rattle.bz_explore_net.proofs.stepping.Stepping.fire.Goals as goal
+use Rattle.bz_explore_net.proofs.stepping.Stepping.fire.Goals.{in-None+in_ok-fire-in-None, in-Some+in_ok-fire_move-in-Some}
 
 pub returns-clause-marked : goal.returns-clause-marked
 returns-clause-marked c =

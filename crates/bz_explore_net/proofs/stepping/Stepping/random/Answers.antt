@@ -1,11 +1,11 @@
 use Rattle.std.proofs.Common.{◌++◌, [], ◌∷◌, length, ap, ◌∙◌, arith}
-use Rattle.bz_explore_net.specs.Courses.{Played}
-use Rattle.bz_explore_net.proofs.course.Course.run.Goals as goal
+use Rattle.bz_explore_net.specs.Stepping.{Played}
+use Rattle.bz_explore_net.proofs.stepping.Stepping.random.Goals as goal
 
 pub returns-then-journal-mark-clause-marked : goal.returns-then-journal-mark-clause-marked
 returns-then-journal-mark-clause-marked c =
     let mark = c.in_ok-mark.mark in let is = c.in_ok-mark.ensures in
-    let long = c.if-journal-mark.true in let same = ap length c.journal-2.ensures.entries in let was = is.entries in
+    let long = c.if-journal-mark.true in let same = ap length c.journal.ensures.entries in let was = is.entries in
     record {
       mark = mark;
       is = is;
@@ -16,7 +16,7 @@ returns-then-journal-mark-clause-marked c =
 pub returns-else-journal-mark-clause-marked : goal.returns-else-journal-mark-clause-marked
 returns-else-journal-mark-clause-marked c =
     let mark = c.in_ok-mark.mark in let is = c.in_ok-mark.ensures in
-    let short = c.if-journal-mark.false in let same = ap length c.journal-2.ensures.entries in let was = is.entries in
+    let short = c.if-journal-mark.false in let same = ap length c.journal.ensures.entries in let was = is.entries in
     record {
       mark = mark;
       is = is;

@@ -1,11 +1,11 @@
 use Rattle.std.proofs.Common.{rules, List, take, refl, sym, subst}
 use Rattle.bz_model.specs.declared.event.Entry.{Entry}
 use Rattle.bz_model.specs.Nets.{Wiring}
-use Rattle.bz_explore_net.specs.Courses.{Played, IsBack}
+use Rattle.bz_explore_net.specs.Stepping.{Played, IsBack}
 use Rattle.bz_explore_net.specs.Replaying.{IsRun}
 use Rattle.bz_explore_net.proofs.Going.{back}
 use Rattle.bz_explore_net.proofs.Replays.{take_runs}
-use Rattle.bz_explore_net.proofs.course.Course.undo.Goals as goal
+use Rattle.bz_explore_net.proofs.stepping.Stepping.undo.Goals as goal
 
 pub replay-requires-clause-run : goal.replay-requires-clause-run
 replay-requires-clause-run c =

@@ -1,6 +1,6 @@
 use Rattle.std.proofs.Common.{◌++◌, [], ◌∷◌, ap, ◌∙◌}
-use Rattle.bz_explore_net.specs.Courses.{Played}
-use Rattle.bz_explore_net.proofs.course.Course.command.Goals as goal
+use Rattle.bz_explore_net.specs.Stepping.{Played}
+use Rattle.bz_explore_net.proofs.stepping.Stepping.command.Goals as goal
 
 pub returns-clause-marked : goal.returns-clause-marked
 returns-clause-marked c =

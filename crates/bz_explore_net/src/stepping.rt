@@ -10,9 +10,9 @@ ghost use Rattle.bz_model.specs.declared.event.Who.TheVariants as who;
 ghost use Rattle.bz_net.specs.Running.{Ran};
 ghost use Rattle.bz_net.specs.Replies.{Replies, RefusesCommand};
 ghost use Rattle.bz_net.specs.Simulation.{Adds, IsOpened};
-ghost use Rattle.bz_explore_net.specs.Courses.{IsBack, IsFiringOf, IsMark, IsMarked, Marked, RefusesFiringOf, added, goes_on};
+ghost use Rattle.bz_explore_net.specs.Stepping.{IsBack, IsFiringOf, IsMark, IsMarked, Marked, RefusesFiringOf, added, goes_on};
 ghost use Rattle.bz_explore_net.specs.Picking.{RanByChance, begun};
-ghost use Rattle.bz_explore_net.specs.declared.course.Mark.{Mark};
+ghost use Rattle.bz_explore_net.specs.declared.stepping.Mark.{Mark};
 ghost use Rattle.bz_model.specs.declared.event.Entry.{Entry};
 
 use crate::chance::run_by_chance;
@@ -24,7 +24,7 @@ use bz_net::{Answer, Event, Net, RunEnd};
 use std::alloc::{AllocError, Global};
 use std::marker::Model;
 
-/// Who makes the firings of a course.
+/// Who makes the firings.
 const WORKER: Who = Who::Worker(1);
 
 /// Who gives the host's commands.
@@ -49,7 +49,7 @@ pub enum UndoError {
 }
 
 /// A net that is played by hand.
-pub struct Course {
+pub struct Stepping {
     flat: Flat,
     net: Net,
     next: u32,
@@ -59,9 +59,9 @@ pub struct Course {
 }
 
 // Written by hand: callers then prove one drop instead of one for each field.
-impl Drop for Course {
+impl Drop for Stepping {
     fn drop(self) {
-        let Course {
+        let Stepping {
             flat: _,
             net: _,
             next: _,
@@ -72,11 +72,11 @@ impl Drop for Course {
     }
 }
 
-impl Model for Course {
+impl Model for Stepping {
     ghost use Rattle.std.specs.Prelude.{◌≡◌, ◌<◌, ◌≤◌};
     ghost use Rattle.std.specs.Coded.{codes};
     ghost use Rattle.bz_model.specs.Codes.{term_code};
-    ghost use Rattle.bz_explore_net.specs.Courses.{Played};
+    ghost use Rattle.bz_explore_net.specs.Stepping.{Played};
 
     ghost Value = { Played };
 
@@ -87,9 +87,9 @@ impl Model for Course {
     ghost invariant = { λ c. (c.net.wiring ≡ c.flat.wiring) × (c.net.limit ≡ c.limit) × (0 < c.limit) × (c.limit ≤ 16777216) };
 }
 
-impl Course {
+impl Stepping {
     /// The net at its opening, with room for `limit` entries.
-    pub fn open(alloc: Global, flat: Flat, limit: u32) -> Result<Course, NetError>
+    pub fn open(alloc: Global, flat: Flat, limit: u32) -> Result<Stepping, NetError>
         requires least { 0 < limit }
         requires most { limit ≤ 16777216 }
         ensures opened { IfOk result (λ c. IsOpened flat.wiring limit c.net) }
@@ -102,7 +102,7 @@ impl Course {
             return Err(NetError::Memory);
         };
         let net = Net::open(alloc, same, limit)?;
-        Ok(Course {
+        Ok(Stepping {
             flat,
             net,
             next: 1,

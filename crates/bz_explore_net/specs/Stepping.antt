@@ -6,11 +6,11 @@ use Rattle.bz_model.specs.declared.event.Entry.TheVariants.{Fired, Host, Rested}
 use Rattle.bz_model.specs.declared.event.NetError.{NetError}
 use Rattle.bz_net.specs.Replies.{IsFiring, IsLowestFiring, RefusesFire, RefusesLowest}
 use Rattle.bz_net.specs.Simulation.{Simulation}
-use Rattle.bz_explore_net.specs.declared.course.Mark.{Mark}
+use Rattle.bz_explore_net.specs.declared.stepping.Mark.{Mark}
 use Rattle.bz_explore_net.specs.declared.picker.Picker.{Picker}
 use Rattle.bz_explore_net.specs.Replaying.{IsReplayed}
 
--- what contracts see of a course: the net, what the next run goes on from, how far the picking is, and the commands that
+-- what contracts see of a net that is played by hand: the net, what the next run goes on from, how far the picking is, and the commands that
 -- added entries
 pub record Played : Type 0 where
   pub net : Simulation
@@ -31,11 +31,11 @@ abbrev pub added : Played → Played → List Entry
 added old new = drop (length old.net.journal) new.net.journal
 
 -- how all was before a command
-pub record IsMark (course : Played) (command : List ℕ) (mark : Mark) : Type 0 where
+pub record IsMark (stepping : Played) (command : List ℕ) (mark : Mark) : Type 0 where
   pub command_is : mark.command.items ≡ command
-  pub entries : mark.entries ≡ length course.net.journal
-  pub next : mark.next ≡ course.next
-  pub picker : mark.picker ≡ course.picker
+  pub entries : mark.entries ≡ length stepping.net.journal
+  pub next : mark.next ≡ stepping.next
+  pub picker : mark.picker ≡ stepping.picker
 
 -- a command that added an entry left a mark of how all was before it
 abbrev pub IsMarked : Played → List ℕ → Played → Type 0
