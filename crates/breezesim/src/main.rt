@@ -1,9 +1,9 @@
 //! The program `breezesim`.
 #![tactic(auto)]
 
-mod disk;
+mod files;
 
-use crate::disk::Disk;
+use crate::files::SystemFiles;
 use bz_cli_args::{
     ArgsFault, BAD_COMMAND_LINE, CommandName, Error, Options, Request, Source, Told, request_of,
     shared_stdin, split_words, stray_word, tell_error, word_starts, words_of,
@@ -16,7 +16,7 @@ use bz_cli_program::{
 use bz_cli_trace::{Checked, check_trace};
 use bz_explain::{Asked, Explained, WordFile, Words, explain};
 use bz_explain_lint::{Lint, lint_cmd};
-use bz_explain_notes::{Draft, Keeping, tell, tell_findings, tell_notes};
+use bz_explain_notes::{Notes, Keeping, tell, tell_findings, tell_notes};
 use bz_explain_trace::{Claim, explain_trace};
 use bz_explore::explore_cmd;
 use bz_view::Piece::{Number, Text};
@@ -117,7 +117,7 @@ fn explore<R: Read + Drop>(
         rt.stdin().is_terminal() && rt.stdout().is_terminal(),
         input,
         &mut rt.reader(),
-        &mut Disk { rt, netlist },
+        &mut SystemFiles { rt, netlist },
         &mut io::writer(rt),
     )?;
     Ok(ending.status())
@@ -194,13 +194,13 @@ fn notes_on(
     part: Option<&[u8]>,
     claim: Claim<'_>,
     checked: Option<Checked>,
-) -> Draft {
+) -> Notes {
     if let Some(checked) = checked {
         return explain_trace(alloc, claim, checked);
     }
     match check_trace(alloc, part, claim.netlist, claim.trace) {
         Ok(checked) => explain_trace(alloc, claim, checked),
-        Err(_) => Draft::new(alloc),
+        Err(_) => Notes::new(alloc),
     }
 }
 
@@ -211,7 +211,7 @@ fn notes_of<'a>(
     netlist: &'a [u8],
     source: Source<'a>,
     checked: Option<Checked>,
-) -> Draft {
+) -> Notes {
     let alloc = rt.alloc();
     if let Some((path, trace)) = read_again(rt, source) {
         let claim = Claim {
@@ -221,7 +221,7 @@ fn notes_of<'a>(
         };
         return notes_on(alloc, part, claim, checked);
     }
-    let mut notes = Draft::new(alloc);
+    let mut notes = Notes::new(alloc);
     notes.say(
         "the reason is told only where the trace is a regular file of at most % bytes",
         &[Number(INPUT_LIMIT)],
@@ -292,7 +292,7 @@ fn file_of(source: Source<'_>) -> Option<&str> {
 }
 
 // Notes that a word that is none is a file.
-fn note_file(rt: &HostRuntime, fault: &Fault, words: &[&str], notes: &mut Draft) {
+fn note_file(rt: &HostRuntime, fault: &Fault, words: &[&str], notes: &mut Notes) {
     let Fault::Word(number) = fault else {
         return;
     };

@@ -9,7 +9,7 @@ use bz_breeze_records::Part;
 use bz_cli_input::{Fault, in_part};
 use bz_elab::{CompAt, ElabError, first_fault};
 use bz_explain_net::{Netlist, Wired, explain_refusal};
-use bz_explain_notes::{Draft, Finding, Findings, Severity};
+use bz_explain_notes::{Notes, Finding, Findings, Severity};
 use bz_model::Chan;
 use bz_text::Text;
 use std::alloc::{AllocError, Global};
@@ -64,7 +64,7 @@ impl<'t> Gathered<'t> {
         severity: Severity,
         line: Text,
         part: &[u8],
-        notes: Draft,
+        notes: Notes,
     ) -> Result<(), AllocError> {
         let spot = match notes.spot() {
             Some(spot) => spot,
@@ -90,7 +90,7 @@ impl<'t> Gathered<'t> {
             return Ok(());
         }
         let netlist = self.netlist;
-        let mut notes = Draft::on(netlist.alloc, netlist.file);
+        let mut notes = Notes::on(netlist.alloc, netlist.file);
         explain_refusal(&mut notes, netlist, asked, error, wired);
         let fault = in_part(netlist.alloc, netlist.parts.list(), asked, error);
         let line = line_of(netlist.alloc, &fault);

@@ -4,23 +4,23 @@ use crate::findings::Gathered;
 use crate::mended::Mended;
 use bz_elab::{ElabError, reached};
 use bz_explain_net::{Netlist, Wired, explain_refusal};
-use bz_explain_notes::{Draft, Findings};
+use bz_explain_notes::{Notes, Findings};
 use std::alloc::AllocError;
 
 /// The notes of a part that has no net; and the faults beside that one.
 pub(crate) fn explain_net(
-    draft: &mut Draft,
+    notes: &mut Notes,
     netlist: Netlist<'_>,
     asked: &[u8],
     first: ElabError,
 ) -> Result<Findings, ElabError> {
     let mut gathered = Gathered::new(netlist, Some(first));
-    gather(draft, &mut gathered, asked, first)?;
+    gather(notes, &mut gathered, asked, first)?;
     Ok(gathered.findings)
 }
 
 fn gather(
-    draft: &mut Draft,
+    notes: &mut Notes,
     gathered: &mut Gathered<'_>,
     asked: &[u8],
     first: ElabError,
@@ -28,10 +28,10 @@ fn gather(
     let netlist = gathered.netlist;
     if is_of_ends(first) {
         let wired = Wired::of(netlist.alloc, netlist.parts, asked)?;
-        explain_refusal(draft, netlist, asked, first, Some(&wired));
+        explain_refusal(notes, netlist, asked, first, Some(&wired));
         gathered.refuse_ends(asked, &wired, None)?;
     } else {
-        explain_refusal(draft, netlist, asked, first, None);
+        explain_refusal(notes, netlist, asked, first, None);
         let marks = marks_of(netlist, asked)?;
         gathered.refuse_components(marks.as_slice())?;
         if let Some(mended) = gathered.mended()? {

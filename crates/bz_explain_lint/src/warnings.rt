@@ -9,7 +9,7 @@ use bz_breeze_records::Component;
 use bz_explain::{Gathered, Marks, marks_of};
 use bz_explain_net::{Head, Netlist};
 use bz_view::Piece::{self, Bytes, Name};
-use bz_explain_notes::{Draft, Severity};
+use bz_explain_notes::{Notes, Severity};
 use bz_kind_rows::{KindName, kind_named};
 use bz_model::{Param, Value};
 use bz_text::{Piece as Part, Text};
@@ -69,7 +69,7 @@ fn warn_of_parts(gathered: &mut Gathered<'_>, asked: &[u8]) -> Result<(), AllocE
     let marks = marks_of(netlist, asked)?;
     for (number, is_reached) in marks.iter().enumerate() {
         if !*is_reached && gathered.has_room() {
-            let mut notes = Draft::on(netlist.alloc, netlist.file);
+            let mut notes = Notes::on(netlist.alloc, netlist.file);
             netlist.put_part(&mut notes, number);
             let found = "found: no instance of it in part %, nor in any part that this one uses";
             notes.say(found, &[Name(asked)]);
@@ -159,7 +159,7 @@ fn warn_of(
     arg: Piece<'_>,
 ) -> Result<(), AllocError> {
     let netlist = gathered.netlist;
-    let mut notes = Draft::on(netlist.alloc, netlist.file);
+    let mut notes = Notes::on(netlist.alloc, netlist.file);
     netlist.put_listed(&mut notes, number, warning.head(), position);
     notes.say(form, &[arg]);
     let place = Some(position as Value);
@@ -172,7 +172,7 @@ fn add(
     code: &'static [u8],
     number: usize,
     position: Option<Value>,
-    notes: Draft,
+    notes: Notes,
 ) -> Result<(), AllocError> {
     let name = gathered.netlist.name(number);
     let pieces = [

@@ -2,7 +2,7 @@
 
 use crate::scene::Scene;
 use bz_view::Piece::{self, Name, Number, Text, Wide};
-use bz_explain_notes::Draft;
+use bz_explain_notes::Notes;
 use bz_model::{NetError, Phase, Reply, Value, Verb, Who, low_bits};
 use bz_net::Play;
 
@@ -31,15 +31,15 @@ pub(crate) fn reply_of(
 
 /// The notes of a command that the port doesn't take.
 pub(crate) fn explain_refused(
-    draft: &mut Draft,
+    notes: &mut Notes,
     scene: &Scene<'_>,
     command: Command,
     error: NetError,
 ) {
     let item = if error == NetError::WrongSide { 2 } else { 4 };
-    put_command(draft, scene, command, item);
+    put_command(notes, scene, command, item);
     let Some(chan) = scene.seen.net.names().chan(command.port) else {
-        return draft.say("", &[]);
+        return notes.say("", &[]);
     };
     let most = Wide(low_bits(Value::MAX, chan.width));
     let kind = Text(chan.kind.word());
@@ -63,32 +63,32 @@ pub(crate) fn explain_refused(
         ),
     };
     let args = [first, Piece::Value(command.value), most];
-    draft.say(form, &args);
+    notes.say(form, &args);
 }
 
 /// The notes of a command whose reply is another one, by the phase of the port's channel.
 pub(crate) fn explain_reply(
-    draft: &mut Draft,
+    notes: &mut Notes,
     scene: &Scene<'_>,
     command: Command,
     phase: Phase,
     due: Reply,
 ) {
     let item = if command.value.is_some() { 5 } else { 4 };
-    put_command(draft, scene, command, item);
+    put_command(notes, scene, command, item);
     let form = "whose channel is %, and the reply %\nexpected: the reply %";
     let args = [
         Piece::Phase(phase),
         Piece::Reply(command.reply),
         Piece::Reply(due),
     ];
-    draft.say(form, &args);
+    notes.say(form, &args);
 }
 
 // Tells the line, and goes on with what was found: a command at a port.
-fn put_command(draft: &mut Draft, scene: &Scene<'_>, command: Command, item: usize) {
+fn put_command(notes: &mut Notes, scene: &Scene<'_>, command: Command, item: usize) {
     let name = Name(scene.seen.port_name(command.port));
     let args = [name, Text(command.verb.word()), name];
-    scene.line.put(draft, item);
-    draft.put("port %\nfound: % at port %, ", &args);
+    scene.line.put(notes, item);
+    notes.put("port %\nfound: % at port %, ", &args);
 }

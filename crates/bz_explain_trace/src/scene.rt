@@ -1,7 +1,7 @@
 //! A net before the line that it refuses, and how its components and channels are called.
 
 use crate::items::LineAt;
-use bz_explain_notes::Draft;
+use bz_explain_notes::Notes;
 use bz_model::Phase;
 use bz_net::Core;
 use bz_source::{Label, Survey};
@@ -30,27 +30,27 @@ impl<'t> Scene<'t> {
     }
 
     /// Goes on with a component's kind and number, and its label.
-    pub(crate) fn put_comp(&self, draft: &mut Draft, comp: u32) {
+    pub(crate) fn put_comp(&self, notes: &mut Notes, comp: u32) {
         let label = Piece::Label(self.seen.label(Thing::Comp(comp)));
-        draft.put("% %%", &[self.kind(comp), Number(comp as usize), label]);
+        notes.put("% %%", &[self.kind(comp), Number(comp as usize), label]);
     }
 
     /// Goes on with a channel's number, and what it is called.
-    pub(crate) fn put_chan(&self, draft: &mut Draft, chan: u32) {
+    pub(crate) fn put_chan(&self, notes: &mut Notes, chan: u32) {
         let name = self.seen.survey.chan_name(chan);
         let label = Piece::Label(Label { name, source: None });
-        draft.put("channel %%", &[Number(chan as usize), label]);
+        notes.put("channel %%", &[Number(chan as usize), label]);
     }
 
     /// Goes on with a component, and where it is in the netlist: ` at buffer 2 line 8`, with ` in 4/1` after it where it is in an
     /// instance.
-    pub(crate) fn put_placed(&self, draft: &mut Draft, comp: u32) {
-        self.put_comp(draft, comp);
+    pub(crate) fn put_placed(&self, notes: &mut Notes, comp: u32) {
+        self.put_comp(notes, comp);
         if let Some(at) = self.seen.survey.comp(comp) {
             let args = [Name(at.part), Number(at.position), Number(at.line)];
-            draft.put(" at % % line %", &args);
+            notes.put(" at % % line %", &args);
             if !at.path.is_empty() {
-                draft.put(" in %", &[Path(at.path)]);
+                notes.put(" in %", &[Path(at.path)]);
             }
         }
     }

@@ -12,5 +12,5 @@ mod table;
 mod things;
 mod waits;
 
-pub use explored::{Ending, NoFile, Shelf, explore_cmd};
+pub use explored::{Ending, NoFile, Files, explore_cmd};
 pub use saving::save;

@@ -2,7 +2,7 @@
 
 use crate::answer::{Answer, count_lines, put_added};
 use crate::commands::{Call, call_of, number, words_of};
-use crate::explored::{Ending, NoFile, Shelf};
+use crate::explored::{Ending, NoFile, Files};
 use crate::looking::look;
 use crate::refusals::{put_refusal, put_stuck};
 use crate::saving::{MOST_COMPS, put_script, put_trace_page, put_undone, save, save_text};
@@ -39,10 +39,10 @@ pub(crate) struct Session<'s> {
 
 impl<'s> Session<'s> {
     /// Follows a line, so that its answer is told; whether the session goes on.
-    pub fn follows<S: Shelf>(&mut self, shelf: &mut S, line: &[u8]) -> bool {
+    pub fn follows<F: Files>(&mut self, files: &mut F, line: &[u8]) -> bool {
         self.answer.text = Text::new(self.answer.text.alloc());
         match str::from_utf8(line) {
-            Ok(line) => self.follows_words(shelf, line),
+            Ok(line) => self.follows_words(files, line),
             Err(_) => {
                 self.answer.no_command("", line.trim_ascii());
                 true
@@ -50,19 +50,19 @@ impl<'s> Session<'s> {
         }
     }
 
-    fn follows_words<S: Shelf>(&mut self, shelf: &mut S, line: &str) -> bool {
+    fn follows_words<F: Files>(&mut self, files: &mut F, line: &str) -> bool {
         let alloc = self.answer.text.alloc();
         let words = gathered(words_of(alloc, line), &mut self.answer.text);
         let typed = words.as_slice().join(alloc, " ").map(String::into_bytes);
         self.typed = gathered(typed, &mut self.answer.text);
         match call_of(words.as_slice(), self.typed.as_slice(), &mut self.answer) {
-            Some(call) => self.follow(shelf, call),
+            Some(call) => self.follow(files, call),
             None => true,
         }
     }
 
     // Does what a line asks for; whether the session goes on.
-    fn follow<S: Shelf>(&mut self, shelf: &mut S, call: Call<'_>) -> bool {
+    fn follow<F: Files>(&mut self, files: &mut F, call: Call<'_>) -> bool {
         let word = call.form.word();
         if !matches!(word, "help" | "undo" | "quit") {
             self.go_back();
@@ -74,8 +74,8 @@ impl<'s> Session<'s> {
             "seed" => self.seed(call.number().unwrap_or(0)),
             "expect" => self.expect(),
             "undo" => self.undo(call.number().unwrap_or(1)),
-            "trace" | "session" => self.write(shelf, call),
-            "page" => self.page(shelf, call),
+            "trace" | "session" => self.write(files, call),
+            "page" => self.page(files, call),
             "help" => self.help(call.first),
             "moves" | "waits" | "state" => {
                 look(&*self.stepping, self.survey, call, &mut self.answer);
@@ -239,19 +239,19 @@ impl<'s> Session<'s> {
         }
     }
 
-    fn page<S: Shelf>(&mut self, shelf: &mut S, call: Call<'_>) {
+    fn page<F: Files>(&mut self, files: &mut F, call: Call<'_>) {
         let comps = self.stepping.flat().comp_count() as usize;
         if comps > MOST_COMPS {
             self.answer.begin_error();
             let _ = writeln!(self.answer.text, "{}", TooLarge { comps });
         } else {
-            self.write(shelf, call);
+            self.write(files, call);
         }
     }
 
     // Writes a file: the trace so far, a page on which it plays, or the commands that stand. What is not the trace is made whole
     // before there is a file.
-    fn write<S: Shelf>(&mut self, shelf: &mut S, call: Call<'_>) {
+    fn write<F: Files>(&mut self, files: &mut F, call: Call<'_>) {
         let (word, net) = (call.form.word(), self.stepping.net());
         let path = call.first.unwrap_or("");
         let mut made = Text::new(self.answer.text.alloc());
@@ -264,7 +264,7 @@ impl<'s> Session<'s> {
             self.answer.text.lose();
             return;
         };
-        let saved = match (shelf.create(path, call.over), word) {
+        let saved = match (files.create(path, call.over), word) {
             (Ok(mut file), "trace") => save(net, &mut file).map_err(|_| NoFile::Unwritable),
             (Ok(mut file), _) => save_text(bytes, &mut file).map_err(|_| NoFile::Unwritable),
             (Err(cause), _) => Err(cause),

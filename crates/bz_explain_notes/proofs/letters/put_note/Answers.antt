@@ -1,6 +1,6 @@
 use Rattle.std.proofs.Common.{◌++◌, ◌∙◌, codes, subst}
 use Rattle.bz_text.specs.Writing.{Writes}
-use Rattle.bz_explain_notes.proofs.notes.put_note.Goals as goal
+use Rattle.bz_explain_notes.proofs.letters.put_note.Goals as goal
 
 pub returns : goal.returns
 returns g c =

@@ -3,7 +3,7 @@
 //! A file is made anew, so that no other program's file can come between the look and the writing. With `!` it is opened
 //! first, compared with the netlist by device and number, and only then emptied.
 
-use bz_explore::{NoFile, Shelf};
+use bz_explore::{Files, NoFile};
 use std::fs;
 use std::fs::{File, Metadata, OpenOptions};
 use std::io::{BufWriter, ErrorKind};
@@ -14,12 +14,12 @@ const BUFFER_SIZE: usize = 65_536;
 
 /// The files of the system, but for the netlist.
 #[derive(Clone, Copy)]
-pub(crate) struct Disk<'a> {
+pub(crate) struct SystemFiles<'a> {
     pub rt: &'a HostRuntime,
     pub netlist: Option<&'a str>,
 }
 
-impl Shelf for Disk<'_> {
+impl Files for SystemFiles<'_> {
     type File = BufWriter<File>;
 
     fn create(&mut self, path: &str, over: bool) -> Result<BufWriter<File>, NoFile> {
@@ -35,7 +35,7 @@ impl Shelf for Disk<'_> {
     }
 }
 
-impl Disk<'_> {
+impl SystemFiles<'_> {
     // A new file.
     fn made(&self, path: &str) -> Result<File, NoFile> {
         match File::create_new(self.rt, path) {

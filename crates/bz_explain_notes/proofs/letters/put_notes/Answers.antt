@@ -2,7 +2,7 @@ use Rattle.std.proofs.Common.{arith, sym}
 use Rattle.std.proofs.lemmas.Result.{err_from_is_err_and}
 use Rattle.bz_explain_notes.proofs.Lines.{sent_at, stopped_at}
 use Rattle.bz_explain_notes.specs.Notes.{letters_of, note_line}
-use Rattle.bz_explain_notes.proofs.notes.put_notes.Goals as goal
+use Rattle.bz_explain_notes.proofs.letters.put_notes.Goals as goal
 
 pub returns-in_err-put_note : goal.returns-in_err-put_note
 returns-in_err-put_note g c =
