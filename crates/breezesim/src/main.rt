@@ -17,7 +17,7 @@ use bz_cli_trace::{Checked, check_trace};
 use bz_explain::{Asked, Explained, WordFile, Words, explain};
 use bz_explain_lint::{Lint, lint_cmd};
 use bz_explain_notes::{Notes, Keeping, tell, tell_findings, tell_notes};
-use bz_explain_trace::{Claim, explain_trace};
+use bz_explain_trace::{Suspect, explain_trace};
 use bz_explore::explore_cmd;
 use bz_view::Piece::{Number, Text};
 use std::alloc::Global;
@@ -176,7 +176,7 @@ fn note_trace<'a>(
     let notes = match given.options.trace {
         None => {
             let (_, trace) = kept.split_at(netlist.len().min(kept.len()));
-            let claim = Claim {
+            let claim = Suspect {
                 netlist,
                 trace,
                 file: None,
@@ -192,7 +192,7 @@ fn note_trace<'a>(
 fn notes_on(
     alloc: Global,
     part: Option<&[u8]>,
-    claim: Claim<'_>,
+    claim: Suspect<'_>,
     checked: Option<Checked>,
 ) -> Notes {
     if let Some(checked) = checked {
@@ -214,7 +214,7 @@ fn notes_of<'a>(
 ) -> Notes {
     let alloc = rt.alloc();
     if let Some((path, trace)) = read_again(rt, source) {
-        let claim = Claim {
+        let claim = Suspect {
             netlist,
             trace: trace.as_slice(),
             file: Some(path),

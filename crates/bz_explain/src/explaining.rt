@@ -9,8 +9,8 @@ use crate::spelling::explain_spelling;
 use crate::told::told_of;
 use crate::word_faults::explain_word;
 use bz_breeze::parts_of;
-use bz_cli_input::{Fault, Netlist as Records};
-use bz_explain_net::Netlist;
+use bz_cli_input::{Fault, NetlistText as Records};
+use bz_explain_net::NetlistText;
 use bz_explain_notes::{Notes, Findings};
 use bz_sexpr::read_forest;
 use bz_source::lines_of;
@@ -72,7 +72,7 @@ fn explain_data(notes: &mut Notes, fault: &Fault, asked: Asked<'_, '_>) -> Resul
     match (fault, parts.find(opened)) {
         (Fault::Net { error, .. }, _) => {
             let lines = lines_of(alloc, text, data)?;
-            let netlist = Netlist {
+            let netlist = NetlistText {
                 alloc,
                 file: asked.file,
                 text,

@@ -3,14 +3,14 @@
 use crate::findings::Gathered;
 use crate::mended::Mended;
 use bz_elab::{ElabError, reached};
-use bz_explain_net::{Netlist, Wired, explain_refusal};
+use bz_explain_net::{NetlistText, Wired, explain_refusal};
 use bz_explain_notes::{Notes, Findings};
 use std::alloc::AllocError;
 
 /// The notes of a part that has no net; and the faults beside that one.
 pub(crate) fn explain_net(
     notes: &mut Notes,
-    netlist: Netlist<'_>,
+    netlist: NetlistText<'_>,
     asked: &[u8],
     first: ElabError,
 ) -> Result<Findings, ElabError> {
@@ -62,7 +62,7 @@ fn is_of_ends(error: ElabError) -> bool {
 }
 
 /// A mark for each part that this one reaches, and for this one. There is none where no part has the name.
-pub fn marks_of(netlist: Netlist<'_>, part: &[u8]) -> Result<Vec<bool>, AllocError> {
+pub fn marks_of(netlist: NetlistText<'_>, part: &[u8]) -> Result<Vec<bool>, AllocError> {
     let parts = netlist.parts;
     match parts.number(part) {
         Some(number) if number < parts.list().len() => reached(netlist.alloc, parts, number),

@@ -9,7 +9,7 @@ use bz_breeze::parts_of;
 use bz_cli_input::{Fault, in_part, read_input};
 use bz_elab::ElabError;
 use bz_explain::{Asked, Words, explain, line_of, no_findings};
-use bz_explain_net::Netlist;
+use bz_explain_net::NetlistText;
 use bz_explain_notes::{Finding, Findings, Severity, tell_findings, tell_json};
 use bz_view::Spot;
 use bz_sexpr::read_forest;
@@ -101,7 +101,7 @@ fn findings_of_parts<'a>(alloc: Global, lint: Lint<'a>, text: &'a [u8]) -> Resul
     let data = forest.forms();
     let parts = parts_of(alloc, data)?;
     let lines = lines_of(alloc, text, data)?;
-    let netlist = Netlist {
+    let netlist = NetlistText {
         alloc,
         file: lint.file,
         text,

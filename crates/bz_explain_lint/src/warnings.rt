@@ -7,7 +7,7 @@
 
 use bz_breeze_records::Component;
 use bz_explain::{Gathered, Marks, marks_of};
-use bz_explain_net::{Head, Netlist};
+use bz_explain_net::{Head, NetlistText};
 use bz_view::Piece::{self, Bytes, Name};
 use bz_explain_notes::{Notes, Severity};
 use bz_kind_rows::{KindName, kind_named};
@@ -139,7 +139,7 @@ fn has_unused_flag(component: &Component) -> bool {
 }
 
 // The channels of each part that its components name.
-fn named_chans(netlist: Netlist<'_>) -> Result<Marks, AllocError> {
+fn named_chans(netlist: NetlistText<'_>) -> Result<Marks, AllocError> {
     let mut named = Marks::none(netlist.alloc, netlist.parts, Head::Channels)?;
     for (number, part) in netlist.parts.list().iter().enumerate() {
         for component in &part.components {

@@ -3,7 +3,7 @@
 //! What holds the ends of a channel is looked for among the components of the net, which are made once more for that.
 
 use crate::data::Head;
-use crate::site::{Netlist, put_place};
+use crate::site::{NetlistText, put_place};
 use crate::wired::Wired;
 use bz_arena::Id;
 use bz_view::Piece::{Bytes, Label, Name, Number, Path, Port, Text};
@@ -16,7 +16,7 @@ use bz_source::PathAt;
 /// A channel of a net that is at fault, and the components at it: the first of each sense, and the second of either.
 #[derive(Clone, Copy)]
 struct Wire<'t> {
-    netlist: Netlist<'t>,
+    netlist: NetlistText<'t>,
     wired: &'t Wired,
     number: u32,
     place: &'t PathAt,
@@ -36,7 +36,7 @@ struct End {
 /// The notes of a channel with two ends of one sense or one end alone, or of a port with a component at the host's end.
 pub(crate) fn explain_ends(
     notes: &mut Notes,
-    netlist: Netlist<'_>,
+    netlist: NetlistText<'_>,
     wired: &Wired,
     error: ElabError,
     number: u32,

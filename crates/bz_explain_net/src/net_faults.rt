@@ -2,7 +2,7 @@
 
 use crate::component_faults::part_names;
 use crate::end_faults::explain_ends;
-use crate::site::Netlist;
+use crate::site::NetlistText;
 use crate::wired::Wired;
 use bz_elab::ElabError;
 use bz_view::Piece::{Count, Name};
@@ -11,7 +11,7 @@ use bz_explain_notes::Notes;
 /// The notes of one reason why a part has no net.
 pub fn explain_refusal(
     notes: &mut Notes,
-    netlist: Netlist<'_>,
+    netlist: NetlistText<'_>,
     asked: &[u8],
     error: ElabError,
     wired: Option<&Wired>,
@@ -49,7 +49,7 @@ pub fn explain_refusal(
 }
 
 // No part has the name asked for.
-fn explain_no_part(notes: &mut Notes, netlist: Netlist<'_>, asked: &[u8]) {
+fn explain_no_part(notes: &mut Notes, netlist: NetlistText<'_>, asked: &[u8]) {
     let names = notes.gathered(part_names(notes.alloc(), netlist.parts));
     notes.put("found: part %\nexpected: ", &[Name(asked)]);
     if names.is_empty() {
@@ -60,7 +60,7 @@ fn explain_no_part(notes: &mut Notes, netlist: Netlist<'_>, asked: &[u8]) {
 }
 
 // A part that reaches itself.
-fn explain_recursive(notes: &mut Notes, netlist: Netlist<'_>, number: usize) {
+fn explain_recursive(notes: &mut Notes, netlist: NetlistText<'_>, number: usize) {
     netlist.put_part(notes, number);
     notes.say(
         "found: an instance of part % within itself\n\

@@ -12,9 +12,9 @@ use bz_sexpr::{Forms, Span};
 use bz_source::{Label, PartLines};
 use std::alloc::Global;
 
-/// A netlist: its text, the data that this spells, and the parts that these name.
+/// The text of a netlist, the data that it spells, and the parts that these name.
 #[derive(Clone, Copy)]
-pub struct Netlist<'t> {
+pub struct NetlistText<'t> {
     pub alloc: Global,
     /// The name of its file, if it is one's.
     pub file: Option<&'t str>,
@@ -28,7 +28,7 @@ pub struct Netlist<'t> {
 /// A component of a part.
 #[derive(Clone, Copy)]
 pub struct Site<'t> {
-    pub(crate) netlist: Netlist<'t>,
+    pub(crate) netlist: NetlistText<'t>,
     /// The number of its part, from 0.
     pub(crate) number: usize,
     pub(crate) part: &'t Part,
@@ -44,7 +44,7 @@ pub fn put_place(notes: &mut Notes, text: &[u8], at: usize, mark: &str, args: &[
     notes.say(mark, args);
 }
 
-impl<'t> Netlist<'t> {
+impl<'t> NetlistText<'t> {
     fn part(self, number: usize) -> Option<&'t Part> {
         self.parts.list().get(number)
     }

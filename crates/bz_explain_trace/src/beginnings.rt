@@ -1,6 +1,6 @@
 //! Texts in which no line begins a trace, and traces that have another first line.
 
-use crate::claim::Claim;
+use crate::suspect::Suspect;
 use crate::items::line_of;
 use bz_view::Piece::Text;
 use bz_explain_notes::{Notes, put_source};
@@ -22,20 +22,20 @@ enum Near {
 }
 
 /// The notes of a text in which no line begins a trace, or only its last one, which has no end.
-pub(crate) fn explain_beginning(notes: &mut Notes, claim: Claim<'_>) {
-    let line = line_of(claim.trace);
-    if is_version(line) && line.len() == claim.trace.len() {
-        put_source(notes, claim.trace, claim.trace.len(), " of the trace");
+pub(crate) fn explain_beginning(notes: &mut Notes, suspect: Suspect<'_>) {
+    let line = line_of(suspect.trace);
+    if is_version(line) && line.len() == suspect.trace.len() {
+        put_source(notes, suspect.trace, suspect.trace.len(), " of the trace");
         notes.say(
             "the end of the text\n\
             found: a last line without an end\n\
             expected: a line feed (LF) at the end of each line",
             &[],
         );
-    } else if claim.file.is_some() {
-        explain_first(notes, claim.trace, line);
+    } else if suspect.file.is_some() {
+        explain_first(notes, suspect.trace, line);
     } else {
-        explain_netlist(notes, claim.netlist);
+        explain_netlist(notes, suspect.netlist);
     }
 }
 

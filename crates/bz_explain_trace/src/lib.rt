@@ -4,7 +4,7 @@
 #![tactic(auto)]
 
 mod beginnings;
-mod claim;
+mod suspect;
 mod clashes;
 mod explaining;
 mod firings;
@@ -16,5 +16,5 @@ mod replies;
 mod scene;
 mod stops;
 
-pub use claim::Claim;
+pub use suspect::Suspect;
 pub use explaining::explain_trace;

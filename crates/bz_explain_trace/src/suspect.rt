@@ -2,7 +2,7 @@
 
 /// A text that should be the trace of a run of a net.
 #[derive(Clone, Copy)]
-pub struct Claim<'t> {
+pub struct Suspect<'t> {
     pub netlist: &'t [u8],
     /// The trace: what its file has, or else what stands after the netlist from the line that begins a trace on, which is
     /// nothing where no line does.
