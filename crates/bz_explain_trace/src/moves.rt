@@ -2,6 +2,7 @@
 
 use crate::scene::Scene;
 use bz_view::Piece::{self, Number, Text};
+use bz_view::port_count;
 use bz_explain_notes::Notes;
 use bz_model::{Move, Value};
 
@@ -48,7 +49,7 @@ impl Scene<'_> {
 
     fn port_count(&self, comp: u32) -> u32 {
         match self.seen.net.comp(comp) {
-            Some(site) => u32::try_from(site.chans.len()).unwrap_or(u32::MAX),
+            Some(site) => port_count(site),
             None => 0,
         }
     }
