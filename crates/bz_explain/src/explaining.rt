@@ -9,7 +9,7 @@ use crate::spelling::explain_spelling;
 use crate::told::told_of;
 use crate::word_faults::explain_word;
 use bz_breeze::parts_of;
-use bz_cli_input::{Fault, NetlistText as Records};
+use bz_cli_input::{Fault, Netlist};
 use bz_explain_net::NetlistText;
 use bz_explain_notes::{Notes, Findings};
 use bz_sexpr::read_forest;
@@ -64,15 +64,15 @@ fn explain_data(notes: &mut Notes, fault: &Fault, asked: Asked<'_, '_>) -> Resul
         }
         return Ok(no_findings(alloc));
     }
-    let records = Records {
+    let netlist = Netlist {
         parts: parts_of(alloc, data)?,
     };
-    let name = records.name(alloc, asked.part)?;
-    let (parts, opened) = (&records.parts, name.as_slice());
+    let name = netlist.name(alloc, asked.part)?;
+    let (parts, opened) = (&netlist.parts, name.as_slice());
     match (fault, parts.find(opened)) {
         (Fault::Net { error, .. }, _) => {
             let lines = lines_of(alloc, text, data)?;
-            let netlist = NetlistText {
+            let whole = NetlistText {
                 alloc,
                 file: asked.file,
                 text,
@@ -80,7 +80,7 @@ fn explain_data(notes: &mut Notes, fault: &Fault, asked: Asked<'_, '_>) -> Resul
                 parts,
                 lines: lines.as_slice(),
             };
-            return match explain_net(notes, netlist, opened, *error) {
+            return match explain_net(notes, whole, opened, *error) {
                 Ok(others) => Ok(others),
                 Err(_error) => Err(Fault::Memory),
             };

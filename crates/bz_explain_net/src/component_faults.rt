@@ -10,7 +10,7 @@ use bz_elab::{arranged, array_sizes};
 use bz_view::Piece::{self, Carried, Count, Name, Number, Port, Text, Wide, Shown};
 use bz_explain_notes::{Notes, NEAREST, port_names};
 use bz_flat::ElabError;
-use bz_kind_rows::{PortAt, kind_names, port_at};
+use bz_kind_rows::{kind_names, port_at};
 use bz_model::{Chan, ChanKind, Kind, Param};
 use std::alloc::{AllocError, Global};
 
@@ -227,10 +227,10 @@ impl Site<'_> {
         let mut listed = 0usize;
         for (number, chan) in (1..=u32::MAX).zip(chans.iter()) {
             let carried = (port_at(kind, sizes, number), self.channel(*chan));
-            if let (Some(PortAt { row, member }), Some(Chan { width, .. })) = carried {
-                if row.kind != ChanKind::Sync && listed < MOST_LISTED {
+            if let (Some(port), Some(Chan { width, .. })) = carried {
+                if port.row.kind != ChanKind::Sync && listed < MOST_LISTED {
                     let before = Text(if listed == 0 { "found: " } else { "; " });
-                    let (name, number) = (Port(row.name, member), Number(*chan as usize));
+                    let (name, number) = (Port(port), Number(*chan as usize));
                     let bits = Count(width as usize, "bit");
                     notes.put("%% is channel %, %", &[before, name, number, bits]);
                     listed = listed.saturating_add(1);

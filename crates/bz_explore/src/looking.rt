@@ -11,7 +11,9 @@ use bz_model::{Entry, Kind, Move, Value};
 use bz_source::{Survey, put_comp, put_label};
 use bz_text::Text;
 use bz_trace_text::counts;
-use bz_view::{Piece, Seen, Thing, chan_at, gathered, port_count, port_of, put_held};
+use bz_view::{
+    Piece, Seen, Thing, chan_at, gathered, port_count, port_of, put_held, put_phase,
+};
 
 /// How far a net is.
 const TOTALS: &str = "\
@@ -136,7 +138,7 @@ fn put_port_state(seen: Seen<'_>, site: &FlatComp, comp: u32, at: u32, text: &mu
     text.fill(18);
     put_carried(seen, chan, text);
     text.fill(40);
-    text.say("%", &[Piece::Phase(seen.phase(chan))]);
+    put_phase(text, seen.phase(chan));
     if let Some(mv) = net.due(comp, at) {
         text.fill(54);
         text.say("due: %", &[Piece::Text(mv.word())]);

@@ -13,7 +13,7 @@ mod waits;
 
 pub use naming::{put_host_word, put_instance, put_name, put_port, put_source, put_typed};
 pub use parts::{fill, gathered, put_in_line};
-pub use piece::{Piece, Spot};
+pub use piece::{Piece, Spot, put_phase};
 pub use seen::{Seen, Thing, chan_at, chan_of, port_count, port_name, port_of};
 pub use waits::{
     MOST_MEMBERS, graph_of, put_counts, put_cycle, put_cycles, put_each, put_ends, put_held, put_wait,

@@ -115,6 +115,11 @@ impl Piece<'_> {
     }
 }
 
+/// Adds the phase of a channel.
+pub fn put_phase(text: &mut Text, phase: Phase) {
+    text.say("%", &[Piece::Phase(phase)]);
+}
+
 // What is shown of bytes.
 fn front(bytes: &[u8]) -> &[u8] {
     bytes.get(..MOST_SHOWN).unwrap_or(bytes)

@@ -1,6 +1,6 @@
 //! Who holds a channel, and for whom components wait.
 
-use crate::piece::Piece;
+use crate::piece::{Piece, put_phase};
 use crate::seen::Seen;
 use bz_model::{Move, Phase, Verb};
 use bz_text::Text;
@@ -81,7 +81,7 @@ pub fn put_held(seen: Seen<'_>, chan: u32, text: &mut Text) {
     let phase = seen.phase(chan);
     text.say("channel %", &[seen.named_chan(chan)]);
     text.fill(13);
-    text.say("%", &[Piece::Phase(phase)]);
+    put_phase(text, phase);
     text.fill(COLUMN);
     let (active, passive) = (seen.holder(chan, false), seen.holder(chan, true));
     match phase {
