@@ -1,5 +1,5 @@
 -- What the command `page` answers.
-use Rattle.std.proofs.Common.{◌≡◌, ◌≤◌, ◌∙◌, ℕ, List, [], Option, length, ap, sym, subst}
+use Rattle.std.proofs.Common.{◌≡◌, ◌≤◌, ◌∙◌, ℕ, List, Option, length, ap, sym, subst}
 use Rattle.std.specs.declared.alloc.Global.{Global}
 use Rattle.std.specs.declared.vec.Vec.{Vec}
 use Rattle.std.specs.Prelude.{Result, Ok, Err}
@@ -38,7 +38,7 @@ placed_of c w source part called net s same of named_is so is parts lines places
   lines = lines ∙ ap (λ o. o.lines) of;
   places = subst (λ p. Locates p part.items s.places) (sym parts) (subst (λ n. Locates source.parts n s.places) so places);
   named = subst (λ p. FindsNamed p part.items s.places) (sym parts) (subst (λ n. FindsNamed source.parts n s.places) so named);
-  few = subst (λ n. n ≤ 100000) (ap (λ v. length v.sites) is.wiring ∙ length-map site_of net.comps) few;
+  few = subst (λ n. n ≤ 100000) (ap (λ v. length v.sites) is.wiring ∙ length-map net.comps site_of) few;
 }
 
 -- a net that was read, and was found to have this run, in its pieces
