@@ -16,7 +16,7 @@ use bz_cli_program::{
 use bz_cli_trace::{Checked, check_trace};
 use bz_explain::{Asked, Explained, WordFile, Words, explain};
 use bz_explain_lint::{Lint, lint_cmd};
-use bz_explain_notes::{Notes, Keeping, tell, tell_findings, tell_notes};
+use bz_explain_notes::{Keeping, Notes, tell, tell_findings, tell_notes};
 use bz_explain_trace::{Suspect, explain_trace};
 use bz_explore::explore_cmd;
 use bz_view::Piece::{Number, Text};

@@ -32,10 +32,7 @@ pub(crate) fn note_rest<W: Write>(alloc: Global, net: &Core, errors: &mut W) {
 }
 
 fn put_waits(net: &Core, count: usize, draft: &mut Notes) {
-    draft.put(
-        "at rest with % under way",
-        &[Count(count, "handshake")],
-    );
+    draft.put("at rest with % under way", &[Count(count, "handshake")]);
     let mut told = 0usize;
     for place in 0..net.chan_count() {
         if net.phase(place + 1) != Phase::Idle && told < MOST_TOLD {

@@ -1,7 +1,7 @@
 //! What a command was asked.
 
-use bz_view::Piece::Number;
 use bz_explain_notes::{Notes, put_source};
+use bz_view::Piece::Number;
 
 /// What a command was asked, as far as its faults speak of it.
 #[derive(Clone, Copy)]

@@ -3,9 +3,9 @@
 use crate::asked::Words;
 use crate::told::FULL;
 use bz_breeze_records::Part;
-use bz_view::Piece::{Count, Name, Number, Text, Wide, Shown};
 use bz_explain_notes::{Notes, port_names};
 use bz_model::{Chan, Cmd, HostCmd, NetError, Port, Value, Verb, low_bits};
+use bz_view::Piece::{Count, Name, Number, Shown, Text, Wide};
 use bz_words::command;
 
 /// An external port, and its channel.

@@ -11,7 +11,7 @@ use crate::word_faults::explain_word;
 use bz_breeze::parts_of;
 use bz_cli_input::{Fault, Netlist};
 use bz_explain_net::NetlistText;
-use bz_explain_notes::{Notes, Findings};
+use bz_explain_notes::{Findings, Notes};
 use bz_sexpr::read_forest;
 use bz_source::lines_of;
 use std::alloc::Global;
@@ -29,10 +29,7 @@ pub struct Explained {
 pub fn explain(alloc: Global, fault: &Fault, asked: Asked<'_, '_>) -> Explained {
     let mut notes = Notes::on(alloc, asked.file);
     let others = explain_all(&mut notes, fault, asked);
-    Explained {
-        notes,
-        others,
-    }
+    Explained { notes, others }
 }
 
 // The notes of a fault; and the faults beside it.

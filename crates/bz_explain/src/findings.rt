@@ -9,7 +9,7 @@ use bz_breeze_records::Part;
 use bz_cli_input::{Fault, in_part};
 use bz_elab::{CompAt, ElabError, first_fault};
 use bz_explain_net::{NetlistText, Wired, explain_refusal};
-use bz_explain_notes::{Notes, Finding, Findings, Severity};
+use bz_explain_notes::{Finding, Findings, Notes, Severity};
 use bz_model::Chan;
 use bz_text::Text;
 use std::alloc::{AllocError, Global};

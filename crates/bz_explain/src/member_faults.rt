@@ -3,10 +3,10 @@
 use crate::part_faults::Wrong;
 use crate::reading::{find_named, name_in, put_datum, say_found};
 use bz_explain_net::{Head, Members, headed, inside, nth};
-use bz_view::Piece::{Name, Number, Wide};
 use bz_explain_notes::Notes;
 use bz_model::MAX_WIDTH;
 use bz_sexpr::{Form, Forms, Leaf, Shape};
+use bz_view::Piece::{Name, Number, Wide};
 
 /// What belongs in a place of a member.
 #[derive(Clone, Copy, PartialEq, Eq)]

@@ -4,7 +4,7 @@ use crate::findings::Gathered;
 use crate::mended::Mended;
 use bz_elab::{ElabError, reached};
 use bz_explain_net::{NetlistText, Wired, explain_refusal};
-use bz_explain_notes::{Notes, Findings};
+use bz_explain_notes::{Findings, Notes};
 use std::alloc::AllocError;
 
 /// The notes of a part that has no net; and the faults beside that one.

@@ -4,9 +4,9 @@ use crate::member_faults::explain_member;
 use crate::reading::{find_named, name_in, say_found};
 use bz_breeze::ByteAt;
 use bz_explain_net::{Head, Which, find, headed, members_of, nth, part_items, put_place};
-use bz_view::Piece::{self, At, Count, Name, Number};
 use bz_explain_notes::{Notes, spot_of};
 use bz_sexpr::{Form, Forms};
+use bz_view::Piece::{self, At, Count, Name, Number};
 
 /// A part that is at fault.
 #[derive(Clone, Copy)]

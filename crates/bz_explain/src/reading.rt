@@ -1,9 +1,9 @@
 //! Data by what they spell: names, and how a note speaks of a datum.
 
 use bz_explain_net::{Members, headed, nth};
-use bz_view::Piece::{self, Count, Name, Wide};
 use bz_explain_notes::Notes;
 use bz_sexpr::{Form, Forms, Leaf, Shape};
+use bz_view::Piece::{self, Count, Name, Wide};
 
 /// The first list, of those with this head where one is asked for, that has this name behind its head; and its number, from 1.
 pub(crate) fn find_named<'t>(

@@ -2,9 +2,9 @@
 
 use crate::told::MEMORY;
 use bz_explain_net::{Members, inside, put_place};
-use bz_view::Piece::At;
 use bz_explain_notes::{Notes, before_in_line, spot_of};
 use bz_sexpr::{Form, Forms, SexprError, read_forest};
+use bz_view::Piece::At;
 
 /// The notes of a text that spells no data.
 pub(crate) fn explain_spelling(notes: &mut Notes, text: &[u8], error: SexprError) {

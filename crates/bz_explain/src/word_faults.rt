@@ -4,8 +4,8 @@
 //! words.
 
 use crate::asked::Words;
-use bz_view::Piece::{Number, Text, Shown};
 use bz_explain_notes::Notes;
+use bz_view::Piece::{Number, Shown, Text};
 
 /// The notes of a word that is no command, by its number from 1.
 pub(crate) fn explain_word(notes: &mut Notes, words: Words<'_, '_>, number: usize) {

@@ -11,10 +11,10 @@ use bz_elab::ElabError;
 use bz_explain::{Asked, Words, explain, line_of, no_findings};
 use bz_explain_net::NetlistText;
 use bz_explain_notes::{Finding, Findings, Severity, tell_findings, tell_json};
-use bz_view::Spot;
 use bz_sexpr::read_forest;
 use bz_source::lines_of;
 use bz_text::WriteFault;
+use bz_view::Spot;
 use std::alloc::{AllocError, Global};
 use std::io::{Read, Write};
 

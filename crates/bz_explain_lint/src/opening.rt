@@ -29,7 +29,10 @@ pub(crate) struct Linted<'t> {
 
 impl<'t> Linted<'t> {
     /// All that is found in a netlist. `part` is the one that is meant to be used, where one is named.
-    pub(crate) fn of(netlist: NetlistText<'t>, part: Option<&[u8]>) -> Result<Findings, AllocError> {
+    pub(crate) fn of(
+        netlist: NetlistText<'t>,
+        part: Option<&[u8]>,
+    ) -> Result<Findings, AllocError> {
         let (alloc, count) = (netlist.alloc, netlist.parts.list().len());
         let covered = vec![in alloc; false; count]?;
         let reached = Marks::none(alloc, netlist.parts, Head::Components)?;

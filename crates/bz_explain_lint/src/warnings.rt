@@ -8,11 +8,11 @@
 use bz_breeze_records::Component;
 use bz_explain::{Gathered, Marks, marks_of};
 use bz_explain_net::{Head, NetlistText};
-use bz_view::Piece::{self, Bytes, Name};
 use bz_explain_notes::{Notes, Severity};
 use bz_kind_rows::{KindName, kind_named};
 use bz_model::{Param, Value};
 use bz_text::{Piece as Part, Text};
+use bz_view::Piece::{self, Bytes, Name};
 use std::alloc::AllocError;
 
 /// What is found at a component that no request can reach.
@@ -175,11 +175,7 @@ fn add(
     notes: Notes,
 ) -> Result<(), AllocError> {
     let name = gathered.netlist.name(number);
-    let pieces = [
-        Part::Bytes(code),
-        Part::Name(name),
-        Part::Value(position),
-    ];
+    let pieces = [Part::Bytes(code), Part::Name(name), Part::Value(position)];
     let mut line = Text::new(gathered.netlist.alloc);
     line.put_pieces(&pieces);
     gathered.add(Severity::Warning, line, name, notes)

@@ -7,11 +7,11 @@ use crate::kind_words::{
 use crate::site::Site;
 use bz_breeze_records::{Part, Parts, Slot};
 use bz_elab::{arranged, array_sizes};
-use bz_view::Piece::{self, Carried, Count, Name, Number, Port, Text, Wide, Shown};
-use bz_explain_notes::{Notes, NEAREST, port_names};
+use bz_explain_notes::{NEAREST, Notes, port_names};
 use bz_flat::ElabError;
 use bz_kind_rows::{kind_names, port_at};
 use bz_model::{Chan, ChanKind, Kind, Param};
+use bz_view::Piece::{self, Carried, Count, Name, Number, Port, Shown, Text, Wide};
 use std::alloc::{AllocError, Global};
 
 /// The most of several things that a note lists.
@@ -118,11 +118,7 @@ impl Site<'_> {
         if let Some(inner) = self.inner() {
             let ports = notes.gathered(port_names(notes.alloc(), &inner.ports));
             let entries = Count(self.named(notes).len(), "entry");
-            let args = [
-                entries,
-                Name(&inner.name),
-                Count(ports.len(), "port"),
-            ];
+            let args = [entries, Name(&inner.name), Count(ports.len(), "port")];
             let form = "found: %\nexpected: one for each port of part %, which has %";
             notes.put(form, &args);
             notes.put_names(&ports);

@@ -6,12 +6,12 @@ use crate::data::Head;
 use crate::site::{NetlistText, put_place};
 use crate::wired::Wired;
 use bz_arena::Id;
-use bz_view::Piece::{Bytes, Label, Name, Number, Path, Port, Text};
 use bz_explain_notes::Notes;
 use bz_flat::{ElabError, FlatComp};
 use bz_kind_rows::{PortAt, is_passive, kind_word, port_at};
 use bz_model::{Chan, ChanKind, numbered};
 use bz_source::PathAt;
+use bz_view::Piece::{Bytes, Label, Name, Number, Path, Port, Text};
 
 /// A channel of a net that is at fault, and the components at it: the first of each sense, and the second of either.
 #[derive(Clone, Copy)]

@@ -6,9 +6,9 @@
 use crate::site::Site;
 use bz_breeze_records::{Component, Entries, Name, Slot};
 use bz_elab::first_fault;
-use bz_view::Piece::Number;
 use bz_explain_notes::Notes;
 use bz_model::Param;
+use bz_view::Piece::Number;
 use std::alloc::{AllocError, Global};
 
 /// The most entries of a component that is looked at.

@@ -1,9 +1,9 @@
 //! What the kinds of component ask of their entries, channels and parameters.
 
-use bz_view::Piece::{self, Bytes, Count, Port, Text};
 use bz_explain_notes::Notes;
 use bz_kind_rows::{KindName, PortAt, PortRow, kind_named, kind_word, port_table};
 use bz_model::{ChanKind, Kind};
+use bz_view::Piece::{self, Bytes, Count, Port, Text};
 
 /// Kinds of Balsa's that there are not here.
 const LEFT_OUT: &str =

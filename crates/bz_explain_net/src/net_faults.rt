@@ -5,8 +5,8 @@ use crate::end_faults::explain_ends;
 use crate::site::NetlistText;
 use crate::wired::Wired;
 use bz_elab::ElabError;
-use bz_view::Piece::{Count, Name};
 use bz_explain_notes::Notes;
+use bz_view::Piece::{Count, Name};
 
 /// The notes of one reason why a part has no net.
 pub fn explain_refusal(

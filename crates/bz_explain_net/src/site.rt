@@ -3,13 +3,13 @@
 use crate::data::{Head, members_of, nth, part_form, part_items};
 use bz_breeze_records::{Component, Part, Parts};
 use bz_elab::flattened;
-use bz_view::Piece::{self, At, Name, Number, Text};
 use bz_explain_notes::{Notes, put_source, spot_of};
-use bz_view::Spot;
 use bz_kind_rows::kind_of;
 use bz_model::{Chan, Kind, KindError, Port, numbered};
 use bz_sexpr::{Forms, Span};
 use bz_source::{Label, PartLines};
+use bz_view::Piece::{self, At, Name, Number, Text};
+use bz_view::Spot;
 use std::alloc::Global;
 
 /// The text of a netlist, the data that it spells, and the parts that these name.

@@ -1,9 +1,9 @@
 //! Texts in which no line begins a trace, and traces that have another first line.
 
-use crate::suspect::Suspect;
 use crate::items::line_of;
-use bz_view::Piece::Text;
+use crate::suspect::Suspect;
 use bz_explain_notes::{Notes, put_source};
+use bz_view::Piece::Text;
 
 /// The bytes of a line that begins a trace.
 const BEGINNING: usize = 7;

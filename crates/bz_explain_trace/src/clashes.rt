@@ -1,8 +1,8 @@
 //! Clash lines that no run has.
 
 use crate::scene::Scene;
-use bz_view::Piece::Number;
 use bz_explain_notes::Notes;
+use bz_view::Piece::Number;
 
 /// The notes of a clash line, or of the end of the trace, where the line of a component is due, or none is.
 pub(crate) fn explain_clash(

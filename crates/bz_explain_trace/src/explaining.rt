@@ -1,13 +1,13 @@
 //! What is said of a trace that is not that of a run.
 
 use crate::beginnings::explain_beginning;
-use crate::suspect::Suspect;
 use crate::form_faults::explain_form;
 use crate::stops::explain_stop;
+use crate::suspect::Suspect;
 use bz_cli_trace::Checked;
-use bz_view::Piece::Text;
 use bz_explain_notes::Notes;
 use bz_trace::Verdict;
+use bz_view::Piece::Text;
 use std::alloc::Global;
 
 /// The notes of a trace that was checked and is not that of a run: on the line that the verdict names, by the net that refused it.

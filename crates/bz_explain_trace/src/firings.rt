@@ -1,9 +1,9 @@
 //! Firings and rests that no run has.
 
 use crate::scene::{Scene, phase_of};
-use bz_view::Piece::{self, Count, Name, Number, Text};
 use bz_explain_notes::Notes;
 use bz_model::{Move, Phase, Value};
+use bz_view::Piece::{self, Count, Name, Number, Text};
 
 /// A firing, as a line has it.
 #[derive(Clone, Copy)]
@@ -107,7 +107,10 @@ fn put_end(notes: &mut Notes, scene: &Scene<'_>, firing: Firing) {
     notes.put(", whose % end is that of ", &[Text(sense)]);
     match scene.seen.end(firing.chan, is_passive) {
         Some(comp) => scene.put_comp(notes, comp),
-        None => notes.put("the host, at port %", &[Name(scene.seen.port_name(firing.chan))]),
+        None => notes.put(
+            "the host, at port %",
+            &[Name(scene.seen.port_name(firing.chan))],
+        ),
     }
 }
 

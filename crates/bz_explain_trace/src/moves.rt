@@ -1,10 +1,10 @@
 //! The moves that can be made.
 
 use crate::scene::Scene;
-use bz_view::Piece::{self, Number, Text};
-use bz_view::port_count;
 use bz_explain_notes::Notes;
 use bz_model::{Move, Value};
+use bz_view::Piece::{self, Number, Text};
+use bz_view::port_count;
 
 /// The most moves that are told.
 const MOST_TOLD: usize = 10;

@@ -1,10 +1,10 @@
 //! Commands of hosts that no run has.
 
 use crate::scene::Scene;
-use bz_view::Piece::{self, Name, Number, Text, Wide};
 use bz_explain_notes::Notes;
 use bz_model::{NetError, Phase, Reply, Value, Verb, Who, low_bits};
 use bz_net::Play;
+use bz_view::Piece::{self, Name, Number, Text, Wide};
 
 /// A host's command, as a line has it.
 #[derive(Clone, Copy)]

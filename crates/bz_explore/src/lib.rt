@@ -12,5 +12,5 @@ mod table;
 mod things;
 mod waits;
 
-pub use explored::{Ending, NoFile, Files, explore_cmd};
+pub use explored::{Ending, Files, NoFile, explore_cmd};
 pub use saving::save;

@@ -11,9 +11,7 @@ use bz_model::{Entry, Kind, Move, Value};
 use bz_source::{Survey, put_comp, put_label};
 use bz_text::Text;
 use bz_trace_text::counts;
-use bz_view::{
-    Piece, Seen, Thing, chan_at, gathered, port_count, port_of, put_held, put_phase,
-};
+use bz_view::{Piece, Seen, Thing, chan_at, gathered, port_count, port_of, put_held, put_phase};
 
 /// How far a net is.
 const TOTALS: &str = "\

@@ -9,7 +9,7 @@ ghost use Rattle.bz_explore.specs.Saving.{SavesSome, SavesTrace};
 
 use bz_cli_core::write_out;
 use bz_cli_input::Fault;
-use bz_explore_net::{Stepping, Mark, Picker};
+use bz_explore_net::{Mark, Picker, Stepping};
 use bz_flat::Flat;
 use bz_model::Entry;
 use bz_net::Net;
@@ -40,7 +40,14 @@ pub(crate) fn put_trace_page(stepping: &Stepping, survey: &Survey, part: &[u8], 
         put_ends(seen, &graph, &mut ends);
     }
     match (saved, trace.whole(), ends.whole()) {
-        (Ok(()), Ok(trace), Ok(ends)) => put_page_of(stepping.flat(), survey, part, trace, ends, text),
+        (Ok(()), Ok(trace), Ok(ends)) => put_page_of(
+            stepping.flat(),
+            survey,
+            part,
+            trace,
+            ends,
+            text,
+        ),
         _ => text.lose(),
     }
 }

@@ -2,7 +2,7 @@
 
 use crate::answer::{Answer, count_lines, put_added};
 use crate::commands::{Call, call_of, number, words_of};
-use crate::explored::{Ending, NoFile, Files};
+use crate::explored::{Ending, Files, NoFile};
 use crate::looking::look;
 use crate::refusals::{put_refusal, put_stuck};
 use crate::saving::{MOST_COMPS, put_script, put_trace_page, put_undone, save, save_text};

@@ -5,14 +5,14 @@ ghost use Rattle.bz_text.specs.Growing.{Grows, GrowsBy};
 ghost use Rattle.bz_view.specs.Lines.{InLine, InTurn};
 ghost use Rattle.bz_explore_moves.specs.Moves.{IsMove, IsMoveLine, IsMoves, IsWordLine, end_line, host_word};
 
-use bz_explore_net::{Stepping, HostOffer, Offer, answered_words, offers_of};
+use bz_explore_net::{HostOffer, Offer, Stepping, answered_words, offers_of};
 use bz_kind_rows::{kind_word, port_at};
 use bz_model::{Chan, ChanKind, Value};
 use bz_source::Survey;
 use bz_text::{Piece, Text};
 use bz_view::{
-    chan_of, fill, gathered, port_name, put_host_word, put_in_line, put_instance, put_name, put_port,
-    put_source,
+    chan_of, fill, gathered, port_name, put_host_word, put_in_line, put_instance, put_name,
+    put_port, put_source,
 };
 
 /// Adds a line for each move that a component can make, and for each word of the host that would be answered, and last how many

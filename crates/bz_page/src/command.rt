@@ -157,11 +157,7 @@ fn place(
 }
 
 // A net in its pieces, and who waits for whom in it.
-fn take_apart(
-    alloc: Global,
-    net: Play,
-    survey: &Survey,
-) -> Result<(Pieces, Vec<u8>), AllocError>
+fn take_apart(alloc: Global, net: Play, survey: &Survey) -> Result<(Pieces, Vec<u8>), AllocError>
     ensures { IfOk result (λ found. IsInPieces net.wiring found.0) }
 {
     let ends = ends_of(alloc, net.core(), survey)?;

@@ -16,5 +16,6 @@ pub use parts::{fill, gathered, put_in_line};
 pub use piece::{Piece, Spot, put_phase};
 pub use seen::{Seen, Thing, chan_at, chan_of, port_count, port_name, port_of};
 pub use waits::{
-    MOST_MEMBERS, graph_of, put_counts, put_cycle, put_cycles, put_each, put_ends, put_held, put_wait,
+    MOST_MEMBERS, graph_of, put_counts, put_cycle, put_cycles, put_each, put_ends, put_held,
+    put_wait,
 };
