@@ -76,8 +76,8 @@ def command(words, ends):
     return ":".join([words[1], words[2].replace("#", "%23")] + [words[3]] * has_value)
 
 
-def wanted_of(program, part, netlist, trace):
-    """What the page of a trace has to show. Each line is played in `explore`, which answers with it and tells where all stand."""
+def lines_of(program, part, netlist, trace):
+    """The ends of the channels, the kinds of the components, and the lines of a trace, from 1."""
     wanted = Wanted()
     for words in map(str.split, program.run(["list", *part, "--paths", "--netlist", netlist]).output.decode().splitlines()):
         if words[0] == "channel":
@@ -87,9 +87,30 @@ def wanted_of(program, part, netlist, trace):
             wanted.kinds[words[1]] = words[2]
     with open(trace, encoding="ascii") as file:
         wanted.lines = ["", *file.read().splitlines()]
+    return wanted
+
+
+def explored(program, part, netlist, lines):
+    """What `explore` answers to these lines."""
+    given = "".join(f"{line}\n" for line in lines)
+    return program.run(["explore", *part, "--netlist", netlist], given.encode()).output.decode().splitlines()
+
+
+def end_lines(program, part, netlist, trace):
+    """The lines of a page's rows that say who waits for whom at the end of its trace, by `waits all` there: the cycles first."""
+    wanted = lines_of(program, part, netlist, trace)
+    moves = filter(None, (command(line.split(), wanted.ends) for line in wanted.lines[2:]))
+    answers = explored(program, part, netlist, [*moves, "waits all"])
+    waits = [line for line in answers if re.match(r"wait |  or| *\w+ \d+.* has halted ", line)]
+    ended = ["ended " * (" has halted " in line) + line for line in waits]
+    return [f"end {line}" for line in [*filter(re.compile("cycle: ").match, answers), *ended, answers[-1]]] if waits else []
+
+
+def wanted_of(program, part, netlist, trace):
+    """What the page of a trace has to show. Each line is played in `explore`, which answers with it and tells where all stand."""
+    wanted = lines_of(program, part, netlist, trace)
     commands = [[], *([command(line.split(), wanted.ends)] for line in wanted.lines[2:])]
-    given = "".join(f"{line}\n" for lines in commands for line in [*filter(None, lines), "waits all"])
-    answers = program.run(["explore", *part, "--netlist", netlist], given.encode()).output.decode().splitlines()
+    answers = explored(program, part, netlist, [line for lines in commands for line in [*filter(None, lines), "waits all"]])
     wanted.states, state, played = [{}], {}, []
     for answer in answers:
         found = PHASE.match(answer)

@@ -12,8 +12,8 @@ TEMPLATE = f"{CRATE}/src/template.rt"
 # What the live page has beside the template's sources.
 LIVE = {"live.js", "session.js", "next.js", "start.js", "live.css", "live.html"}
 ENGINE = f"{TOP}/engine"
-# What the browser's tests saw last: the sums of the template's sources, of the pages of the examples, and of what the live page
-# has beside these.
+# What the browser's tests saw last: the sums of the template's sources, of the pages of the examples but for how their runs ended,
+# and of what the live page has beside these.
 SEEN = f"{TOP}/tests/page-seen"
 NAMES = ["HEAD", "MID1", "MID2", "TAIL"]
 BLOCKS = ["list", "rows", "trace"]
@@ -115,6 +115,18 @@ def differs(program, name):
         return "its list or its trace is another"
     rows = {line for line in texts[1].decode().splitlines() if line.startswith("row ")}
     return None if rows == rows_wanted(listed) else f"its rows are {sorted(rows ^ rows_wanted(listed))} otherwise"
+
+
+def rows_of(page):
+    """The lines of a page's rows."""
+    return texts_of(page, constants())[1].splitlines(True)
+
+
+def without_end(page):
+    """A page without the lines that say how its run ended: only the program knows these."""
+    listed, rows, trace = texts_of(page, constants())
+    kept = b"".join(line for line in rows.splitlines(True) if not line.startswith(b"end "))
+    return page_text(constants(), [listed, kept, trace])
 
 
 def sum_of(data):

@@ -1,9 +1,9 @@
 //! The program `breezesim`.
 #![tactic(auto)]
 
-mod disk;
+mod files;
 
-use crate::disk::Disk;
+use crate::files::SystemFiles;
 use bz_cli_args::{
     ArgsFault, BAD_COMMAND_LINE, Error, Request, Source, Told, request_of, shared_stdin,
     tell_error, words_of,
@@ -40,7 +40,7 @@ fn perform<P: Threads + Wait + Sync, R: Read + Drop, T: Read>(
         input,
         trace,
         &mut rt.reader(),
-        &mut Disk { rt, netlist },
+        &mut SystemFiles { rt, netlist },
         &mut output,
         &mut rt.stderr(),
     )

@@ -31,7 +31,7 @@ use bz_cli_source::{list_paths_cmd, parts_cmd};
 use bz_cli_trace::{Checked, TraceFault, check_cmd, check_trace_cmd};
 use bz_draw::{NoDrawing, View, draw_cmd};
 use bz_explain_lint::{Lint, lint_cmd};
-use bz_explore::{Shelf, explore_cmd};
+use bz_explore::{Files, explore_cmd};
 use bz_model::Reply;
 use bz_page::{page_cmd, page_trace_cmd};
 use bz_session::End;
@@ -232,12 +232,12 @@ pub(crate) fn lint<R: Read, W: Write>(
 }
 
 /// Plays a net by lines, each with its answer.
-pub(crate) fn explore<R: Read, L: BufRead, S: Shelf, W: Write>(
+pub(crate) fn explore<R: Read, L: BufRead, F: Files, W: Write>(
     alloc: Global,
     given: &Given<'_, '_>,
     input: &mut R,
     lines: &mut L,
-    shelf: &mut S,
+    files: &mut F,
     output: &mut W,
 ) -> Result<u8, Fault>
     // Whatever comes of it, it reads at most one byte past the limit.
@@ -249,7 +249,7 @@ pub(crate) fn explore<R: Read, L: BufRead, S: Shelf, W: Write>(
         given.prompts,
         input,
         lines,
-        shelf,
+        files,
         output,
     ) {
         Ok(ending) => Ok(ending.status()),

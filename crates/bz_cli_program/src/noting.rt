@@ -10,9 +10,9 @@ use bz_cli_args::{Source, word_starts};
 use bz_cli_input::{Fault, INPUT_LIMIT, read_input};
 use bz_cli_trace::{Checked, check_trace};
 use bz_explain::{Asked, Explained, WordFile, Words, explain};
-use bz_explain_notes::Arg::{Number, Text};
-use bz_explain_notes::{Draft, tell, tell_findings, tell_notes};
-use bz_explain_trace::{Claim, explain_trace};
+use bz_explain_notes::{Notes, tell, tell_findings, tell_notes};
+use bz_explain_trace::{Suspect, explain_trace};
+use bz_view::Piece::{Number, Text};
 use std::alloc::Global;
 use std::io::Write;
 use std::rt::Files;
@@ -54,12 +54,12 @@ fn note_trace<'a, F: Files, E: Write>(
     let notes = match given.command.trace_file() {
         None => {
             let (_, trace) = kept.split_at(netlist.len().min(kept.len()));
-            let claim = Claim {
+            let suspect = Suspect {
                 netlist,
                 trace,
                 file: None,
             };
-            notes_on(alloc, given.part, claim, checked)
+            notes_on(alloc, given.part, suspect, checked)
         }
         Some(source) => notes_of(files, alloc, given.part, netlist, source, checked),
     };
@@ -70,15 +70,15 @@ fn note_trace<'a, F: Files, E: Write>(
 fn notes_on(
     alloc: Global,
     part: Option<&[u8]>,
-    claim: Claim<'_>,
+    suspect: Suspect<'_>,
     checked: Option<Checked>,
-) -> Draft {
+) -> Notes {
     if let Some(checked) = checked {
-        return explain_trace(alloc, claim, checked);
+        return explain_trace(alloc, suspect, checked);
     }
-    match check_trace(alloc, part, claim.netlist, claim.trace) {
-        Ok(checked) => explain_trace(alloc, claim, checked),
-        Err(_) => Draft::new(alloc),
+    match check_trace(alloc, part, suspect.netlist, suspect.trace) {
+        Ok(checked) => explain_trace(alloc, suspect, checked),
+        Err(_) => Notes::new(alloc),
     }
 }
 
@@ -90,16 +90,16 @@ fn notes_of<'a, F: Files>(
     netlist: &'a [u8],
     source: Source<'a>,
     checked: Option<Checked>,
-) -> Draft {
+) -> Notes {
     if let Some((path, trace)) = read_again(files, alloc, source) {
-        let claim = Claim {
+        let suspect = Suspect {
             netlist,
             trace: trace.as_slice(),
             file: Some(path),
         };
-        return notes_on(alloc, part, claim, checked);
+        return notes_on(alloc, part, suspect, checked);
     }
-    let mut notes = Draft::new(alloc);
+    let mut notes = Notes::new(alloc);
     notes.say(
         "the reason is told only where the trace is a regular file of at most % bytes",
         &[Number(INPUT_LIMIT)],
@@ -165,7 +165,7 @@ fn refuse<'a, F: Files, E: Write>(
 }
 
 // Notes that a word that is none is a file.
-fn note_file<F: Files>(files: &F, fault: &Fault, words: &[&str], notes: &mut Draft) {
+fn note_file<F: Files>(files: &F, fault: &Fault, words: &[&str], notes: &mut Notes) {
     let Fault::Word(number) = fault else {
         return;
     };

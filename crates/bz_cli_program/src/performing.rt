@@ -11,21 +11,21 @@ use crate::given::Given;
 use crate::outcome::Outcome;
 use bz_cli_args::Command;
 use bz_cli_input::Fault;
-use bz_explore::Shelf;
+use bz_explore::Files;
 use std::alloc::Global;
 use std::io::{BufRead, Read, Write};
 use std::sync::Wait;
 use std::thread::Threads;
 
 /// Does what a command says: reads the netlist from `input`, the trace from `trace` or else behind the netlist, and the lines of
-/// `explore` from `lines`, whose files are made on the shelf. Results go to `output`; what is wrong, and notes at a run's end, to
+/// `explore` from `lines`, whose files are made by `files`. Results go to `output`; what is wrong, and notes at a run's end, to
 /// `errors`.
 pub fn program<
     H: Threads + Wait + Sync,
     R: Read,
     T: Read,
     L: BufRead,
-    S: Shelf,
+    F: Files,
     W: Write,
     E: Write,
 >(
@@ -35,7 +35,7 @@ pub fn program<
     input: &mut R,
     trace: Option<&mut T>,
     lines: &mut L,
-    shelf: &mut S,
+    files: &mut F,
     output: &mut W,
     errors: &mut E,
 ) -> Outcome
@@ -48,7 +48,7 @@ pub fn program<
     let part = given.part;
     match given.command {
         Command::Run(options) => of(run(alloc, given, options, input, output, errors)),
-        Command::Explore => of(explore(alloc, given, input, lines, shelf, output)),
+        Command::Explore => of(explore(alloc, given, input, lines, files, output)),
         Command::Check(_) => check(alloc, part, input, trace, output),
         Command::List(options) => of(list(alloc, part, options, input, output)),
         Command::Lint(options) => of(lint(alloc, given, options, input, output)),

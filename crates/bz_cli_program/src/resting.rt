@@ -3,12 +3,12 @@
 
 ghost use Rattle.std.specs.Prelude.{◌<◌, ◌≤◌, length};
 
-use bz_explain_notes::Arg::{Bytes, Count, Name, Number};
-use bz_explain_notes::{Draft, tell_notes};
+use bz_explain_notes::{Notes, tell_notes};
 use bz_kind_rows::kind_word;
 use bz_model::Phase;
 use bz_net::Core;
 use bz_stuck::Stuck;
+use bz_view::Piece::{Bytes, Count, Name, Number};
 use bz_waits::Graph;
 use std::alloc::Global;
 use std::io::Write;
@@ -22,7 +22,7 @@ pub(crate) fn note_rest<W: Write>(alloc: Global, net: &Core, errors: &mut W) {
     if net.next_ready(1).is_some() {
         return;
     }
-    let mut draft = Draft::new(alloc);
+    let mut draft = Notes::new(alloc);
     put_stuck(net, &mut draft);
     let count = (1..=net.chan_count())
         .filter(|chan| net.phase(*chan) != Phase::Idle)
@@ -34,7 +34,7 @@ pub(crate) fn note_rest<W: Write>(alloc: Global, net: &Core, errors: &mut W) {
     let _ = tell_notes(alloc, &draft, errors);
 }
 
-fn put_stuck(net: &Core, draft: &mut Draft) {
+fn put_stuck(net: &Core, draft: &mut Notes) {
     match Stuck::of(draft.alloc(), net) {
         Ok(set) if set.len() > 0 => draft.say(
             "stuck: % of % components can never move again, whatever the host does",
@@ -45,11 +45,8 @@ fn put_stuck(net: &Core, draft: &mut Draft) {
     }
 }
 
-fn put_waits(net: &Core, count: usize, draft: &mut Draft) {
-    draft.put(
-        "at rest with % under way",
-        &[Count(count, "handshake", "handshakes")],
-    );
+fn put_waits(net: &Core, count: usize, draft: &mut Notes) {
+    draft.put("at rest with % under way", &[Count(count, "handshake")]);
     let mut told = 0usize;
     for place in 0..net.chan_count() {
         if net.phase(place + 1) != Phase::Idle && told < MOST_TOLD {
@@ -65,7 +62,7 @@ fn put_waits(net: &Core, count: usize, draft: &mut Draft) {
 }
 
 // Who waits for whom on a channel: after a reply the passive end does, and else the active one.
-fn put_wait(net: &Core, chan: u32, draft: &mut Draft)
+fn put_wait(net: &Core, chan: u32, draft: &mut Notes)
     requires from { 0 < chan }
     requires to { chan ≤ length net.now.wiring.chans }
 {
@@ -80,7 +77,7 @@ fn put_wait(net: &Core, chan: u32, draft: &mut Draft)
 }
 
 // A line for each cycle of components that wait for one another.
-fn put_cycles(net: &Core, draft: &mut Draft) {
+fn put_cycles(net: &Core, draft: &mut Notes) {
     match Graph::of(draft.alloc(), net) {
         Ok(graph) => {
             for cycle in graph.cycles.iter().take(MOST_TOLD) {
@@ -91,7 +88,7 @@ fn put_cycles(net: &Core, draft: &mut Draft) {
     }
 }
 
-fn put_cycle(net: &Core, cycle: &[u32], draft: &mut Draft) {
+fn put_cycle(net: &Core, cycle: &[u32], draft: &mut Notes) {
     draft.put("deadlock: ", &[]);
     for comp in cycle.iter().take(MOST_TOLD) {
         put_comp(net, *comp, draft);
@@ -108,7 +105,7 @@ fn put_cycle(net: &Core, cycle: &[u32], draft: &mut Draft) {
 }
 
 // A component, or the host at the port.
-fn put_end(net: &Core, chan: u32, end: Option<u32>, draft: &mut Draft) {
+fn put_end(net: &Core, chan: u32, end: Option<u32>, draft: &mut Notes) {
     match end {
         Some(comp) => put_comp(net, comp, draft),
         None => {
@@ -118,7 +115,7 @@ fn put_end(net: &Core, chan: u32, end: Option<u32>, draft: &mut Draft) {
     }
 }
 
-fn put_comp(net: &Core, comp: u32, draft: &mut Draft) {
+fn put_comp(net: &Core, comp: u32, draft: &mut Notes) {
     let kind = match net.comp(comp) {
         Some(site) => kind_word(&site.kind),
         None => b"",

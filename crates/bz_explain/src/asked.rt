@@ -1,7 +1,7 @@
 //! What a command was asked.
 
-use bz_explain_notes::Arg::Number;
-use bz_explain_notes::{Draft, put_source};
+use bz_explain_notes::{Notes, put_source};
+use bz_view::Piece::Number;
 
 /// What a command was asked, as far as its faults speak of it.
 #[derive(Clone, Copy)]
@@ -40,11 +40,11 @@ impl<'a, 't> Words<'a, 't> {
     }
 
     /// Tells where the word of a number, from 1, stands in the file, if the words are one's.
-    pub(crate) fn put_place(self, draft: &mut Draft, number: usize) {
+    pub(crate) fn put_place(self, notes: &mut Notes, number: usize) {
         if let (Some(file), Some(before)) = (self.file, number.checked_sub(1)) {
             if let Some(at) = file.starts.get(before) {
-                put_source(draft, file.text, *at, " of the words");
-                draft.say("word %", &[Number(number)]);
+                put_source(notes, file.text, *at, " of the words");
+                notes.say("word %", &[Number(number)]);
             }
         }
     }

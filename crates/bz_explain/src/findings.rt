@@ -8,8 +8,8 @@ use crate::mended::Mended;
 use bz_breeze_records::Part;
 use bz_cli_input::{Fault, in_part};
 use bz_elab::{CompAt, ElabError, first_fault};
-use bz_explain_net::{Netlist, Wired, explain_refusal};
-use bz_explain_notes::{Draft, Finding, Findings, Severity};
+use bz_explain_net::{NetlistText, Wired, explain_refusal};
+use bz_explain_notes::{Finding, Findings, Notes, Severity};
 use bz_model::Chan;
 use bz_text::Text;
 use std::alloc::{AllocError, Global};
@@ -21,7 +21,7 @@ const MOST_TOLD: usize = 20;
 /// Findings in a netlist while they are gathered, up to the most that are told.
 #[derive(Drop)]
 pub struct Gathered<'t> {
-    pub netlist: Netlist<'t>,
+    pub netlist: NetlistText<'t>,
     pub findings: Findings,
     /// A refusal that is told elsewhere.
     told: Option<ElabError>,
@@ -31,7 +31,7 @@ pub struct Gathered<'t> {
 
 impl<'t> Gathered<'t> {
     /// No findings yet, where this refusal is told in front of them.
-    pub fn new(netlist: Netlist<'t>, told: Option<ElabError>) -> Gathered<'t> {
+    pub fn new(netlist: NetlistText<'t>, told: Option<ElabError>) -> Gathered<'t> {
         Gathered {
             netlist,
             findings: no_findings(netlist.alloc),
@@ -64,7 +64,7 @@ impl<'t> Gathered<'t> {
         severity: Severity,
         line: Text,
         part: &[u8],
-        notes: Draft,
+        notes: Notes,
     ) -> Result<(), AllocError> {
         let spot = match notes.spot() {
             Some(spot) => spot,
@@ -90,7 +90,7 @@ impl<'t> Gathered<'t> {
             return Ok(());
         }
         let netlist = self.netlist;
-        let mut notes = Draft::on(netlist.alloc, netlist.file);
+        let mut notes = Notes::on(netlist.alloc, netlist.file);
         explain_refusal(&mut notes, netlist, asked, error, wired);
         let fault = in_part(netlist.alloc, netlist.parts.list(), asked, error);
         let line = line_of(netlist.alloc, &fault);
@@ -114,7 +114,7 @@ impl<'t> Gathered<'t> {
         part: &Part,
         carried: &mut Vec<Chan>,
     ) -> Result<(), AllocError> {
-        let Netlist { alloc, parts, .. } = self.netlist;
+        let NetlistText { alloc, parts, .. } = self.netlist;
         for (place, component) in part.components.iter().enumerate() {
             let fault = first_fault(alloc, parts, &part.channels, component, carried)?;
             if let Some(fault) = fault {

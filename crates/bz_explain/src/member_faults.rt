@@ -3,10 +3,10 @@
 use crate::part_faults::Wrong;
 use crate::reading::{find_named, name_in, put_datum, say_found};
 use bz_explain_net::{Head, Members, headed, inside, nth};
-use bz_explain_notes::Arg::{Name, Number, Wide};
-use bz_explain_notes::Draft;
+use bz_explain_notes::Notes;
 use bz_model::MAX_WIDTH;
 use bz_sexpr::{Form, Forms, Leaf, Shape};
+use bz_view::Piece::{Name, Number, Wide};
 
 /// What belongs in a place of a member.
 #[derive(Clone, Copy, PartialEq, Eq)]
@@ -66,7 +66,7 @@ impl Field {
 }
 
 /// A member of a form that has none of the shapes, the name of an earlier port, or a width that is out of bounds.
-pub(crate) fn explain_member(draft: &mut Draft, part: &Wrong<'_>, head: Head, member: Form<'_>) {
+pub(crate) fn explain_member(notes: &mut Notes, part: &Wrong<'_>, head: Head, member: Form<'_>) {
     let rule = match head {
         Head::Ports => PORT,
         Head::Channels => CHANNEL,
@@ -74,20 +74,20 @@ pub(crate) fn explain_member(draft: &mut Draft, part: &Wrong<'_>, head: Head, me
     };
     let [one, other] = rule.heads;
     match (inside(member), headed(member)) {
-        (None, _) => say_found(draft, Some(member), ""),
-        (Some(items), None) => say_found(draft, nth(items, 1), " where its head belongs"),
+        (None, _) => say_found(notes, Some(member), ""),
+        (Some(items), None) => say_found(notes, nth(items, 1), " where its head belongs"),
         (_, Some((word, _))) if word != one && word != other => {
-            draft.say("found: the head %", &[Name(word)]);
+            notes.say("found: the head %", &[Name(word)]);
         }
         (_, Some((_, rest))) => match wrong_in(rule, member, rest) {
-            Some((form, place)) => say_found(draft, form, place),
+            Some((form, place)) => say_found(notes, form, place),
             None => {
                 let last = nth(rest, rule.fields.len());
-                return explain_whole(draft, part, member, last);
+                return explain_whole(notes, part, member, last);
             }
         },
     }
-    draft.say(rule.expected, &[]);
+    notes.say(rule.expected, &[]);
 }
 
 // The first thing that is not what belongs in its place, and the words for that place.
@@ -111,14 +111,14 @@ fn wrong_in<'t>(
 
 // A member that has the shape: a width that is out of bounds, entries of which one is none, or a port of a name that is taken.
 // These are last in the shape, or a sense.
-fn explain_whole(draft: &mut Draft, part: &Wrong<'_>, member: Form<'_>, last: Option<Form<'_>>) {
+fn explain_whole(notes: &mut Notes, part: &Wrong<'_>, member: Form<'_>, last: Option<Form<'_>>) {
     match shape(last) {
         Some(Shape::Leaf(Leaf::Num(width))) => {
             let args = [Wide(width), Number(MAX_WIDTH as usize)];
-            draft.say("found: width %\nexpected: a width from 1 to %", &args);
+            notes.say("found: width %\nexpected: a width from 1 to %", &args);
         }
-        Some(Shape::Items(entries)) => explain_entries(draft, entries),
-        _ => explain_taken(draft, part, member),
+        Some(Shape::Items(entries)) => explain_entries(notes, entries),
+        _ => explain_taken(notes, part, member),
     }
 }
 
@@ -127,28 +127,28 @@ fn shape(form: Option<Form<'_>>) -> Option<Shape<'_>> {
 }
 
 // A port whose name an earlier port has.
-fn explain_taken(draft: &mut Draft, part: &Wrong<'_>, member: Form<'_>) {
-    if let (Some(name), Some(ports)) = (name_in(draft, member, None), part.members(Head::Ports)) {
-        if let Some((number, earlier)) = find_named(draft, ports, None, &name) {
+fn explain_taken(notes: &mut Notes, part: &Wrong<'_>, member: Form<'_>) {
+    if let (Some(name), Some(ports)) = (name_in(notes, member, None), part.members(Head::Ports)) {
+        if let Some((number, earlier)) = find_named(notes, ports, None, &name) {
             let found = "found: the name %, which port % has too (";
-            draft.put(found, &[Name(&name), Number(number)]);
-            draft.say("%)", &[part.spot_of(earlier)]);
+            notes.put(found, &[Name(&name), Number(number)]);
+            notes.say("%)", &[part.spot_of(earlier)]);
         }
     }
-    draft.say("expected: a name of its own for each port of a part", &[]);
+    notes.say("expected: a name of its own for each port of a part", &[]);
 }
 
 // The first entry that is neither the number of a channel nor a list of such numbers.
-fn explain_entries(draft: &mut Draft, entries: Forms<'_>) {
+fn explain_entries(notes: &mut Notes, entries: Forms<'_>) {
     for (number, entry) in Members::of(entries) {
         if let Some((form, wrong)) = wrong_entry(entry) {
-            draft.put(form, &[Number(number)]);
-            put_datum(draft, Some(wrong));
-            draft.say("", &[]);
+            notes.put(form, &[Number(number)]);
+            put_datum(notes, Some(wrong));
+            notes.say("", &[]);
             break;
         }
     }
-    draft.say(
+    notes.say(
         "expected: for each entry the number of a channel, or a list of such numbers",
         &[],
     );

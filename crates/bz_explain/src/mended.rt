@@ -9,7 +9,7 @@ use bz_breeze::parts_of;
 use bz_breeze_records::Parts;
 use bz_cli_input::Fault;
 use bz_elab::{CompAt, ElabError, flattened};
-use bz_explain_net::{Head, Netlist, Wired};
+use bz_explain_net::{Head, NetlistText, Wired};
 use bz_sexpr::{Span, read_forest};
 use bz_source::Places;
 use std::alloc::{AllocError, Global};
@@ -32,7 +32,7 @@ impl Mended {
     /// A netlist without these components. There is none where a part has the name that is needed. An instance, which may bring
     /// any channels, stays at fault: so no part that reaches it has a net.
     pub(crate) fn of(
-        netlist: Netlist<'_>,
+        netlist: NetlistText<'_>,
         faulty: &[CompAt],
     ) -> Result<Option<Mended>, AllocError> {
         if netlist.parts.number(b"").is_some() {
@@ -50,7 +50,7 @@ impl Mended {
     }
 
     /// The net of a part.
-    pub fn wired(&self, netlist: Netlist<'_>, part: &[u8]) -> Result<Wired, ElabError> {
+    pub fn wired(&self, netlist: NetlistText<'_>, part: &[u8]) -> Result<Wired, ElabError> {
         let mut wired = Wired::of(netlist.alloc, &self.parts, part)?;
         wired.whole = Places::of(netlist.alloc, netlist.parts, part).ok();
         Ok(wired)
@@ -74,7 +74,7 @@ fn parts_in(alloc: Global, text: &[u8]) -> Result<Parts, Fault> {
 }
 
 // The text, with a component that adds nothing in place of each of these.
-fn text_without(netlist: Netlist<'_>, faulty: &[CompAt]) -> Result<Vec<u8>, AllocError> {
+fn text_without(netlist: NetlistText<'_>, faulty: &[CompAt]) -> Result<Vec<u8>, AllocError> {
     let mut text = Vec::from_slice(netlist.alloc, netlist.text)?;
     for at in faulty {
         if let Some(site) = netlist.site(at.part, at.position) {
@@ -100,7 +100,7 @@ fn put_nothing(text: &mut [u8], span: Option<Span>) {
 }
 
 // The channels that components at fault name, there or in copies there.
-fn doubtful_chans(netlist: Netlist<'_>, faulty: &[CompAt]) -> Result<Marks, AllocError> {
+fn doubtful_chans(netlist: NetlistText<'_>, faulty: &[CompAt]) -> Result<Marks, AllocError> {
     let mut marks = Marks::none(netlist.alloc, netlist.parts, Head::Channels)?;
     for at in faulty {
         if let Some(site) = netlist.site(at.part, at.position) {
@@ -114,7 +114,7 @@ fn doubtful_chans(netlist: Netlist<'_>, faulty: &[CompAt]) -> Result<Marks, Allo
 }
 
 // Marks what instances have at marked ports of their parts, and what those have that these are in.
-fn spread_all(netlist: Netlist<'_>, marks: &mut Marks) -> Result<(), AllocError> {
+fn spread_all(netlist: NetlistText<'_>, marks: &mut Marks) -> Result<(), AllocError> {
     // (a path has at most 64 instances)
     for _ in 0..65 {
         if !spread(netlist, marks)? {
@@ -125,7 +125,7 @@ fn spread_all(netlist: Netlist<'_>, marks: &mut Marks) -> Result<(), AllocError>
 }
 
 // Whether there was one more.
-fn spread(netlist: Netlist<'_>, marks: &mut Marks) -> Result<bool, AllocError> {
+fn spread(netlist: NetlistText<'_>, marks: &mut Marks) -> Result<bool, AllocError> {
     let mut is_more = false;
     for (number, part) in netlist.parts.list().iter().enumerate() {
         for component in &part.components {

@@ -3,24 +3,24 @@
 use crate::findings::Gathered;
 use crate::mended::Mended;
 use bz_elab::{ElabError, reached};
-use bz_explain_net::{Netlist, Wired, explain_refusal};
-use bz_explain_notes::{Draft, Findings};
+use bz_explain_net::{NetlistText, Wired, explain_refusal};
+use bz_explain_notes::{Findings, Notes};
 use std::alloc::AllocError;
 
 /// The notes of a part that has no net; and the faults beside that one.
 pub(crate) fn explain_net(
-    draft: &mut Draft,
-    netlist: Netlist<'_>,
+    notes: &mut Notes,
+    netlist: NetlistText<'_>,
     asked: &[u8],
     first: ElabError,
 ) -> Result<Findings, ElabError> {
     let mut gathered = Gathered::new(netlist, Some(first));
-    gather(draft, &mut gathered, asked, first)?;
+    gather(notes, &mut gathered, asked, first)?;
     Ok(gathered.findings)
 }
 
 fn gather(
-    draft: &mut Draft,
+    notes: &mut Notes,
     gathered: &mut Gathered<'_>,
     asked: &[u8],
     first: ElabError,
@@ -28,10 +28,10 @@ fn gather(
     let netlist = gathered.netlist;
     if is_of_ends(first) {
         let wired = Wired::of(netlist.alloc, netlist.parts, asked)?;
-        explain_refusal(draft, netlist, asked, first, Some(&wired));
+        explain_refusal(notes, netlist, asked, first, Some(&wired));
         gathered.refuse_ends(asked, &wired, None)?;
     } else {
-        explain_refusal(draft, netlist, asked, first, None);
+        explain_refusal(notes, netlist, asked, first, None);
         let marks = marks_of(netlist, asked)?;
         gathered.refuse_components(marks.as_slice())?;
         if let Some(mended) = gathered.mended()? {
@@ -62,7 +62,7 @@ fn is_of_ends(error: ElabError) -> bool {
 }
 
 /// A mark for each part that this one reaches, and for this one. There is none where no part has the name.
-pub fn marks_of(netlist: Netlist<'_>, part: &[u8]) -> Result<Vec<bool>, AllocError> {
+pub fn marks_of(netlist: NetlistText<'_>, part: &[u8]) -> Result<Vec<bool>, AllocError> {
     let parts = netlist.parts;
     match parts.number(part) {
         Some(number) if number < parts.list().len() => reached(netlist.alloc, parts, number),

@@ -4,9 +4,9 @@ use crate::member_faults::explain_member;
 use crate::reading::{find_named, name_in, say_found};
 use bz_breeze::ByteAt;
 use bz_explain_net::{Head, Which, find, headed, members_of, nth, part_items, put_place};
-use bz_explain_notes::Arg::{self, At, Count, Name, Number};
-use bz_explain_notes::{Draft, spot_of};
+use bz_explain_notes::{Notes, spot_of};
 use bz_sexpr::{Form, Forms};
+use bz_view::Piece::{self, At, Count, Name, Number};
 
 /// A part that is at fault.
 #[derive(Clone, Copy)]
@@ -20,7 +20,7 @@ pub(crate) struct Wrong<'t> {
 }
 
 /// The notes of a part that is at fault at a place.
-pub(crate) fn explain_part(draft: &mut Draft, text: &[u8], netlist: Forms<'_>, place: &ByteAt) {
+pub(crate) fn explain_part(notes: &mut Notes, text: &[u8], netlist: Forms<'_>, place: &ByteAt) {
     let name = match &place.part {
         Some(name) => name.as_slice(),
         None => &[],
@@ -34,83 +34,83 @@ pub(crate) fn explain_part(draft: &mut Draft, text: &[u8], netlist: Forms<'_>, p
                 at,
                 items,
             };
-            part.explain(draft, form, netlist);
+            part.explain(notes, form, netlist);
         }
     }
 }
 
 impl<'t> Wrong<'t> {
     // What stands at the byte, and why that is wrong.
-    fn explain(&self, draft: &mut Draft, part: Form<'_>, netlist: Forms<'_>) {
+    fn explain(&self, notes: &mut Notes, part: Form<'_>, netlist: Forms<'_>) {
         match find(self.items, Which::Holding(self.at)) {
             _ if part.span().from == self.at => {
-                self.put_mark(draft, "this part", &[]);
+                self.put_mark(notes, "this part", &[]);
                 let belongs = " where its name belongs\n\
                     expected: a name in quotes, as in (breeze-part \"p\" ..)";
-                say_found(draft, nth(self.items, 1), belongs);
+                say_found(notes, nth(self.items, 1), belongs);
             }
             Some((1, item)) if item.span().from == self.at => {
-                self.put_mark(draft, "a second part %", &[Name(self.name)]);
+                self.put_mark(notes, "a second part %", &[Name(self.name)]);
                 let head = b"breeze-part".as_slice();
-                let first = find_named(draft, netlist, Some(head), self.name);
-                self.put_first(draft, first);
-                draft.say("expected: a name of its own for each part of a text", &[]);
+                let first = find_named(notes, netlist, Some(head), self.name);
+                self.put_first(notes, first);
+                notes.say("expected: a name of its own for each part of a text", &[]);
             }
-            Some((_, item)) => self.explain_form(draft, item),
-            None => self.explain_missing(draft),
+            Some((_, item)) => self.explain_form(notes, item),
+            None => self.explain_missing(notes),
         }
     }
 
     // A form that is a second one of its head, or has a member that is at fault.
-    fn explain_form(&self, draft: &mut Draft, item: Form<'_>) {
+    fn explain_form(&self, notes: &mut Notes, item: Form<'_>) {
         let (Some(head), Some((_, members))) = (Head::of(item), headed(item)) else {
             return;
         };
-        let (word, name) = (Arg::Text(head.member()), Name(self.name));
+        let (word, name) = (Piece::Text(head.member()), Name(self.name));
         if item.span().from == self.at {
-            self.put_mark(draft, "the second %s form of part %", &[word, name]);
-            self.put_first(draft, find(self.items, Which::Headed(head)));
+            self.put_mark(notes, "the second %s form of part %", &[word, name]);
+            self.put_first(notes, find(self.items, Which::Headed(head)));
             let expected =
                 "expected: each of ports, channels and components at most once in a part";
-            draft.say(expected, &[]);
+            notes.say(expected, &[]);
         } else if let Some((number, member)) = find(members, Which::Holding(self.at)) {
-            self.put_mark(draft, "% % of part %", &[word, Number(number), name]);
-            explain_member(draft, self, head, member);
+            self.put_mark(notes, "% % of part %", &[word, Number(number), name]);
+            explain_member(notes, self, head, member);
         }
     }
 
     // Tells where it is at fault, and by a form what stands there.
-    fn put_mark(&self, draft: &mut Draft, mark: &str, args: &[Arg<'_>]) {
-        put_place(draft, self.text, self.at, mark, args);
+    fn put_mark(&self, notes: &mut Notes, mark: &str, args: &[Piece<'_>]) {
+        put_place(notes, self.text, self.at, mark, args);
     }
 
     // Tells where the first one of two stands.
-    fn put_first(&self, draft: &mut Draft, first: Option<(usize, Form<'_>)>) {
+    fn put_first(&self, notes: &mut Notes, first: Option<(usize, Form<'_>)>) {
         if let Some((_, first)) = first {
-            draft.say("found: its first one is at %", &[self.spot_of(first)]);
+            notes.say("found: its first one is at %", &[self.spot_of(first)]);
         }
     }
 
     /// The line and column of a datum.
-    pub(crate) fn spot_of(&self, form: Form<'_>) -> Arg<'static> {
+    pub(crate) fn spot_of(&self, form: Form<'_>) -> Piece<'static> {
         At(Some(spot_of(self.text, form.span().from)))
     }
 
     // Fewer channels than ports.
-    fn explain_missing(&self, draft: &mut Draft) {
+    fn explain_missing(&self, notes: &mut Notes) {
         let channels = self.count(Head::Channels);
         let lacking = channels.saturating_add(1);
         let args = [
-            Count(self.count(Head::Ports), "port", "ports"),
-            Count(channels, "channel", "channels"),
+            Count(self.count(Head::Ports), "port"),
+            Count(channels, "channel"),
             Number(lacking),
         ];
-        self.put_mark(draft, "part % ends here", &[Name(self.name)]);
-        draft.put("found: % and %: port %", &args);
-        if let Some(name) = self.name_of_port(draft, lacking) {
-            draft.put(", %,", &[Name(&name)]);
+        self.put_mark(notes, "part % ends here", &[Name(self.name)]);
+        notes.put("found: % and %: port %", &args);
+        if let Some(name) = self.name_of_port(notes, lacking) {
+            notes.put(", %,", &[Name(&name)]);
         }
-        draft.say(
+        notes.say(
             " has no channel\n\
             expected: a channel for each port: the ports are the first channels",
             &[],
@@ -118,8 +118,8 @@ impl<'t> Wrong<'t> {
     }
 
     // The name of a port by its number, where it has one.
-    fn name_of_port(&self, draft: &mut Draft, number: usize) -> Option<Vec<u8>> {
-        name_in(draft, nth(self.members(Head::Ports)?, number)?, None)
+    fn name_of_port(&self, notes: &mut Notes, number: usize) -> Option<Vec<u8>> {
+        name_in(notes, nth(self.members(Head::Ports)?, number)?, None)
     }
 
     // How many members one of its forms has.

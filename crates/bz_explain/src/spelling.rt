@@ -2,12 +2,12 @@
 
 use crate::told::MEMORY;
 use bz_explain_net::{Members, inside, put_place};
-use bz_explain_notes::Arg::At;
-use bz_explain_notes::{Draft, before_in_line, spot_of};
+use bz_explain_notes::{Notes, before_in_line, spot_of};
 use bz_sexpr::{Form, Forms, SexprError, read_forest};
+use bz_view::Piece::At;
 
 /// The notes of a text that spells no data.
-pub(crate) fn explain_spelling(draft: &mut Draft, text: &[u8], error: SexprError) {
+pub(crate) fn explain_spelling(notes: &mut Notes, text: &[u8], error: SexprError) {
     let (at, mark, told) = match error {
         SexprError::StrayClose(at) => (
             at,
@@ -33,26 +33,26 @@ pub(crate) fn explain_spelling(draft: &mut Draft, text: &[u8], error: SexprError
             "found: a list of the 257th level\n\
             expected: lists of at most 256 levels",
         ),
-        SexprError::Memory => return draft.say(MEMORY, &[]),
+        SexprError::Memory => return notes.say(MEMORY, &[]),
     };
-    put_place(draft, text, at, mark, &[]);
-    draft.say(told, &[]);
+    put_place(notes, text, at, mark, &[]);
+    notes.say(told, &[]);
     if let SexprError::StrayClose(at) = error {
-        say_closings(draft, text, at);
+        say_closings(notes, text, at);
     }
 }
 
 // Tells which list in front of a byte was probably closed too early, or else where the last one there was closed.
-fn say_closings(draft: &mut Draft, text: &[u8], at: usize) {
+fn say_closings(notes: &mut Notes, text: &[u8], at: usize) {
     let (front, _) = text.split_at(at.min(text.len()));
-    match read_forest(draft.alloc(), front) {
-        Ok(forest) => say_closings_in(draft, front, forest.forms()),
-        Err(SexprError::Memory) => draft.fail(),
+    match read_forest(notes.alloc(), front) {
+        Ok(forest) => say_closings_in(notes, front, forest.forms()),
+        Err(SexprError::Memory) => notes.fail(),
         Err(_) => {}
     }
 }
 
-fn say_closings_in(draft: &mut Draft, front: &[u8], forms: Forms<'_>) {
+fn say_closings_in(notes: &mut Notes, front: &[u8], forms: Forms<'_>) {
     let Some(last) = last_list(forms) else {
         return;
     };
@@ -66,7 +66,7 @@ fn say_closings_in(draft: &mut Draft, front: &[u8], forms: Forms<'_>) {
     };
     let (from, to) = (early.span().from, early.span().to.saturating_sub(1));
     let places = [At(Some(spot_of(front, from))), At(Some(spot_of(front, to)))];
-    draft.say(form, &places);
+    notes.say(form, &places);
 }
 
 fn last_list(forms: Forms<'_>) -> Option<Form<'_>> {

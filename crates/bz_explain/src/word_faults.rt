@@ -4,11 +4,11 @@
 //! words.
 
 use crate::asked::Words;
-use bz_explain_notes::Arg::{Number, Text, Word};
-use bz_explain_notes::Draft;
+use bz_explain_notes::Notes;
+use bz_view::Piece::{Number, Shown, Text};
 
 /// The notes of a word that is no command, by its number from 1.
-pub(crate) fn explain_word(draft: &mut Draft, words: Words<'_, '_>, number: usize) {
+pub(crate) fn explain_word(notes: &mut Notes, words: Words<'_, '_>, number: usize) {
     let Some(word) = words.word(number) else {
         return;
     };
@@ -16,13 +16,13 @@ pub(crate) fn explain_word(draft: &mut Draft, words: Words<'_, '_>, number: usiz
         Some((verb, _)) => verb,
         None => word,
     };
-    words.put_place(draft, number);
-    let found = [Number(number), Word(word.as_bytes())];
-    draft.put("found: word % is %\nexpected: ", &found);
+    words.put_place(notes, number);
+    let found = [Number(number), Shown(word.as_bytes())];
+    notes.put("found: word % is %\nexpected: ", &found);
     match rule_of(verb) {
-        _ if word == "/" && words.is_pool => draft.say("at most 16 sessions", &[]),
-        Some(rule) if verb != "run" || !words.is_pool => draft.say(rule, &[]),
-        _ => explain_verb(draft, verb, words.is_pool),
+        _ if word == "/" && words.is_pool => notes.say("at most 16 sessions", &[]),
+        Some(rule) if verb != "run" || !words.is_pool => notes.say(rule, &[]),
+        _ => explain_verb(notes, verb, words.is_pool),
     }
 }
 
@@ -40,11 +40,11 @@ fn rule_of(verb: &str) -> Option<&'static str> {
 }
 
 // The verbs that there are, and the nearest one: nothing but workers fires in a pool.
-fn explain_verb(draft: &mut Draft, verb: &str, is_pool: bool) {
+fn explain_verb(notes: &mut Notes, verb: &str, is_pool: bool) {
     let verbs: [&[u8]; 6] = [b"offer", b"collect", b"accept", b"answer", b"watch", b"run"];
     let (firing, count) = if is_pool { ("", 5) } else { (" run:N", 6) };
     let form = "one of offer:P[:V] collect:P accept:P answer:P[:V] watch:P%";
-    draft.say(form, &[Text(firing)]);
+    notes.say(form, &[Text(firing)]);
     let nearest = "help: the nearest verb is %";
-    draft.say_nearest(nearest, verb.as_bytes(), &verbs[..count]);
+    notes.say_nearest(nearest, verb.as_bytes(), &verbs[..count]);
 }

@@ -11,11 +11,12 @@ use bz_breeze::parts_of;
 use bz_cli_input::{Fault, in_part, read_input};
 use bz_elab::ElabError;
 use bz_explain::{Asked, Words, explain, line_of, no_findings};
-use bz_explain_net::Netlist;
-use bz_explain_notes::{Finding, Findings, Severity, Spot, tell_findings, tell_json};
+use bz_explain_net::NetlistText;
+use bz_explain_notes::{Finding, Findings, Severity, tell_findings, tell_json};
 use bz_sexpr::read_forest;
 use bz_source::lines_of;
 use bz_text::WriteFault;
+use bz_view::Spot;
 use std::alloc::{AllocError, Global};
 use std::io::{Read, Write};
 
@@ -105,7 +106,7 @@ fn findings_of_parts<'a>(alloc: Global, lint: Lint<'a>, text: &'a [u8]) -> Resul
     let data = forest.forms();
     let parts = parts_of(alloc, data)?;
     let lines = lines_of(alloc, text, data)?;
-    let netlist = Netlist {
+    let netlist = NetlistText {
         alloc,
         file: lint.file,
         text,

@@ -6,7 +6,7 @@ use bz_breeze_records::Part;
 use bz_cli_input::used_by_others;
 use bz_elab::ElabError;
 use bz_explain::{Gathered, Marks, Mended, marks_of, set};
-use bz_explain_net::{Head, Netlist, Wired};
+use bz_explain_net::{Head, NetlistText, Wired};
 use bz_explain_notes::Findings;
 use std::alloc::{AllocError, Global};
 
@@ -29,7 +29,10 @@ pub(crate) struct Linted<'t> {
 
 impl<'t> Linted<'t> {
     /// All that is found in a netlist. `part` is the one that is meant to be used, where one is named.
-    pub(crate) fn of(netlist: Netlist<'t>, part: Option<&[u8]>) -> Result<Findings, AllocError> {
+    pub(crate) fn of(
+        netlist: NetlistText<'t>,
+        part: Option<&[u8]>,
+    ) -> Result<Findings, AllocError> {
         let (alloc, count) = (netlist.alloc, netlist.parts.list().len());
         let covered = vec![in alloc; false; count]?;
         let reached = Marks::none(alloc, netlist.parts, Head::Components)?;

@@ -7,12 +7,12 @@
 
 use bz_breeze_records::Component;
 use bz_explain::{Gathered, Marks, marks_of};
-use bz_explain_net::{Head, Netlist};
-use bz_explain_notes::Arg::{self, Bytes, Name};
-use bz_explain_notes::{Draft, Severity};
+use bz_explain_net::{Head, NetlistText};
+use bz_explain_notes::{Notes, Severity};
 use bz_kind_rows::{KindName, kind_named};
 use bz_model::{Param, Value};
-use bz_text::{Piece, Text};
+use bz_text::{Piece as Part, Text};
+use bz_view::Piece::{self, Bytes, Name};
 use std::alloc::AllocError;
 
 /// What is found at a component that no request can reach.
@@ -69,7 +69,7 @@ fn warn_of_parts(gathered: &mut Gathered<'_>, asked: &[u8]) -> Result<(), AllocE
     let marks = marks_of(netlist, asked)?;
     for (number, is_reached) in marks.iter().enumerate() {
         if !*is_reached && gathered.has_room() {
-            let mut notes = Draft::on(netlist.alloc, netlist.file);
+            let mut notes = Notes::on(netlist.alloc, netlist.file);
             netlist.put_part(&mut notes, number);
             let found = "found: no instance of it in part %, nor in any part that this one uses";
             notes.say(found, &[Name(asked)]);
@@ -139,7 +139,7 @@ fn has_unused_flag(component: &Component) -> bool {
 }
 
 // The channels of each part that its components name.
-fn named_chans(netlist: Netlist<'_>) -> Result<Marks, AllocError> {
+fn named_chans(netlist: NetlistText<'_>) -> Result<Marks, AllocError> {
     let mut named = Marks::none(netlist.alloc, netlist.parts, Head::Channels)?;
     for (number, part) in netlist.parts.list().iter().enumerate() {
         for component in &part.components {
@@ -156,10 +156,10 @@ fn warn_of(
     number: usize,
     position: usize,
     form: &str,
-    arg: Arg<'_>,
+    arg: Piece<'_>,
 ) -> Result<(), AllocError> {
     let netlist = gathered.netlist;
-    let mut notes = Draft::on(netlist.alloc, netlist.file);
+    let mut notes = Notes::on(netlist.alloc, netlist.file);
     netlist.put_listed(&mut notes, number, warning.head(), position);
     notes.say(form, &[arg]);
     let place = Some(position as Value);
@@ -172,14 +172,10 @@ fn add(
     code: &'static [u8],
     number: usize,
     position: Option<Value>,
-    notes: Draft,
+    notes: Notes,
 ) -> Result<(), AllocError> {
     let name = gathered.netlist.name(number);
-    let pieces = [
-        Piece::Bytes(code),
-        Piece::Name(name),
-        Piece::Value(position),
-    ];
+    let pieces = [Part::Bytes(code), Part::Name(name), Part::Value(position)];
     let mut line = Text::new(gathered.netlist.alloc);
     line.put_pieces(&pieces);
     gathered.add(Severity::Warning, line, name, notes)

@@ -7,11 +7,11 @@ use crate::kind_words::{
 use crate::site::Site;
 use bz_breeze_records::{Part, Parts, Slot};
 use bz_elab::{arranged, array_sizes};
-use bz_explain_notes::Arg::{self, Carried, Count, Name, Number, Port, Text, Wide, Word};
-use bz_explain_notes::{Draft, NEAREST, port_names};
+use bz_explain_notes::{NEAREST, Notes, port_names};
 use bz_flat::ElabError;
-use bz_kind_rows::{PortAt, kind_names, port_at};
+use bz_kind_rows::{kind_names, port_at};
 use bz_model::{Chan, ChanKind, Kind, Param};
+use bz_view::Piece::{self, Carried, Count, Name, Number, Port, Shown, Text, Wide};
 use std::alloc::{AllocError, Global};
 
 /// The most of several things that a note lists.
@@ -44,114 +44,110 @@ fn known_names(alloc: Global, parts: &Parts) -> Result<Vec<&[u8]>, AllocError> {
 
 impl Site<'_> {
     /// The notes of a component that is at fault.
-    pub(crate) fn explain(&self, draft: &mut Draft, error: ElabError) {
+    pub(crate) fn explain(&self, notes: &mut Notes, error: ElabError) {
         self.netlist
-            .put_listed(draft, self.number, Head::Components, self.position);
+            .put_listed(notes, self.number, Head::Components, self.position);
         match error {
-            ElabError::UnknownComponent(_, _) => self.explain_name(draft),
-            ElabError::BadParameter(_, _) => self.explain_params(draft),
-            ElabError::BadChannel(_, _) => self.explain_channel(draft),
-            ElabError::PortCount(_, _) => self.explain_count(draft),
-            ElabError::KindMismatch(_, _) => self.explain_misfit(draft, Aspect::Kind),
-            _ => self.explain_misfit(draft, Aspect::Width),
+            ElabError::UnknownComponent(_, _) => self.explain_name(notes),
+            ElabError::BadParameter(_, _) => self.explain_params(notes),
+            ElabError::BadChannel(_, _) => self.explain_channel(notes),
+            ElabError::PortCount(_, _) => self.explain_count(notes),
+            ElabError::KindMismatch(_, _) => self.explain_misfit(notes, Aspect::Kind),
+            _ => self.explain_misfit(notes, Aspect::Width),
         }
     }
 
     // A name that is unknown.
-    fn explain_name(&self, draft: &mut Draft) {
+    fn explain_name(&self, notes: &mut Notes) {
         let name = self.component.name.as_slice();
-        draft.say(
+        notes.say(
             "found: the name %\n\
             expected: a part of this text, or a kind, whose name has $Brz in front",
             &[Name(name)],
         );
         if is_left_out(name) {
             let left_out = "help: % is a kind of Balsa's that is left out here";
-            draft.say(left_out, &[Name(name)]);
+            notes.say(left_out, &[Name(name)]);
         } else if self.netlist.parts.list().len() <= MOST_NAMES {
-            let names = draft.gathered(known_names(draft.alloc(), self.netlist.parts));
-            draft.say_nearest(NEAREST, name, &names);
+            let names = notes.gathered(known_names(notes.alloc(), self.netlist.parts));
+            notes.say_nearest(NEAREST, name, &names);
         }
     }
 
     // Parameters that the kind does not take.
-    fn explain_params(&self, draft: &mut Draft) {
+    fn explain_params(&self, notes: &mut Notes) {
         let params = self.component.params.as_slice();
         let name = self.component.name.as_slice();
-        draft.put("found: the parameters (", &[]);
+        notes.put("found: the parameters (", &[]);
         for (place, param) in params.iter().take(MOST_LISTED).enumerate() {
             if place > 0 {
-                draft.put(" ", &[]);
+                notes.put(" ", &[]);
             }
-            put_param(draft, param);
+            put_param(notes, param);
         }
         if params.len() > MOST_LISTED {
-            draft.put(" ..", &[]);
+            notes.put(" ..", &[]);
         }
         let args = [Name(name), Text(params_rule(name))];
-        draft.say(")\nexpected: for % %", &args);
+        notes.say(")\nexpected: for % %", &args);
         let operations = operations_of(name);
         if let Some(word) = first_word(params) {
             if !operations.iter().any(|operation| *operation == word) {
-                draft.say_nearest("help: the nearest operation is %", word, operations);
+                notes.say_nearest("help: the nearest operation is %", word, operations);
             }
         }
     }
 
     // An entry that is no channel of the part.
-    fn explain_channel(&self, draft: &mut Draft) {
+    fn explain_channel(&self, notes: &mut Notes) {
         let count = self.part.channels.len();
-        for chan in &self.named(draft) {
+        for chan in &self.named(notes) {
             if self.channel(*chan).is_none() {
                 let part = Name(&self.part.name);
-                let channels = Count(count, "channel", "channels");
+                let channels = Count(count, "channel");
                 let args = [Number(*chan as usize), part, channels];
-                draft.say("found: channel %, and part % has %", &args);
+                notes.say("found: channel %, and part % has %", &args);
                 break;
             }
         }
-        draft.say("expected: channels from 1 to %", &[Number(count)]);
+        notes.say("expected: channels from 1 to %", &[Number(count)]);
     }
 
     // More or fewer entries than there are ports, or lists of other lengths.
-    fn explain_count(&self, draft: &mut Draft) {
+    fn explain_count(&self, notes: &mut Notes) {
         if let Some(inner) = self.inner() {
-            let ports = draft.gathered(port_names(draft.alloc(), &inner.ports));
-            let entries = Count(self.named(draft).len(), "entry", "entries");
-            let args = [
-                entries,
-                Name(&inner.name),
-                Count(ports.len(), "port", "ports"),
-            ];
+            let ports = notes.gathered(port_names(notes.alloc(), &inner.ports));
+            let entries = Count(self.named(notes).len(), "entry");
+            let args = [entries, Name(&inner.name), Count(ports.len(), "port")];
             let form = "found: %\nexpected: one for each port of part %, which has %";
-            draft.put(form, &args);
-            draft.put_names(&ports);
-            draft.say("", &[]);
-        } else if let Some(kind) = self.kind(draft) {
-            self.put_lengths(draft, &kind);
-            put_row(draft, &kind);
+            notes.put(form, &args);
+            notes.put_names(&ports);
+            notes.say("", &[]);
+        } else if let Some(kind) = self.kind(notes) {
+            self.put_lengths(notes, &kind);
+            put_row(notes, &kind);
         }
     }
 
     // Tells the numbers of entries, the lengths of the lists, and how many sets a text gives.
-    fn put_lengths(&self, draft: &mut Draft, kind: &Kind) {
+    fn put_lengths(&self, notes: &mut Notes, kind: &Kind) {
         let entries = self.component.entries.as_slice();
         let lists = entries
             .iter()
             .filter(|entry| matches!(entry, Slot::Many(_)));
-        draft.put("found: ", &[]);
-        put_counts(draft, entries.len(), lists.count());
+        notes.put("found: ", &[]);
+        put_counts(notes, entries.len(), lists.count());
         let mut form = ", of %";
         for entry in entries {
             if let Slot::Many(chans) = entry {
-                draft.put(form, &[Count(chans.len(), "channel", "channels")]);
+                notes.put(form, &[Count(chans.len(), "channel")]);
                 form = " and %";
             }
         }
         if let Some(count) = self.set_count(kind) {
-            draft.put("; its text has %", &[Count(count, "set", "sets")]);
+            notes.put("; its text has %", &[Count(count, "set")]);
         }
-        draft.say("", &[]);
+        notes.say("", &[]);
     }
 
     // How many sets the text of a Case or a CaseFetch gives.
@@ -167,35 +163,35 @@ impl Site<'_> {
     }
 
     // A channel of another kind or width than its port asks for.
-    fn explain_misfit(&self, draft: &mut Draft, aspect: Aspect) {
+    fn explain_misfit(&self, notes: &mut Notes, aspect: Aspect) {
         if let Some(inner) = self.inner() {
-            self.explain_instance(draft, inner, aspect);
-        } else if let Some(kind) = self.kind(draft) {
+            self.explain_instance(notes, inner, aspect);
+        } else if let Some(kind) = self.kind(notes) {
             let entries = self.component.entries.as_slice();
-            let alloc = draft.alloc();
-            let chans = draft.gathered(arranged(alloc, &kind, &self.part.channels, entries));
+            let alloc = notes.alloc();
+            let chans = notes.gathered(arranged(alloc, &kind, &self.part.channels, entries));
             let sizes = array_sizes(entries).unwrap_or([0, 0]);
             match aspect {
-                Aspect::Kind => self.explain_kind(draft, &kind, sizes, &chans),
-                Aspect::Width => self.explain_widths(draft, &kind, sizes, &chans),
+                Aspect::Kind => self.explain_kind(notes, &kind, sizes, &chans),
+                Aspect::Width => self.explain_widths(notes, &kind, sizes, &chans),
             }
         }
-        self.say_exchange(draft);
+        self.say_exchange(notes);
     }
 
     // The first port of an instance whose channel is not as in its part.
-    fn explain_instance(&self, draft: &mut Draft, inner: &Part, aspect: Aspect) {
-        let named = self.named(draft);
+    fn explain_instance(&self, notes: &mut Notes, inner: &Part, aspect: Aspect) {
+        let named = self.named(notes);
         let ports = inner.ports.iter().zip(inner.channels.iter());
         for (number, (port, asked)) in named.iter().zip(ports) {
             if self.differs(*number, *asked, aspect) {
-                self.put_carried(draft, Name(&port.name), *number);
+                self.put_carried(notes, Name(&port.name), *number);
                 let (form, asked) = match aspect {
                     Aspect::Kind => ("expected: a % channel", Text(asked.kind.word())),
-                    Aspect::Width => ("expected: %", Count(asked.width as usize, "bit", "bits")),
+                    Aspect::Width => ("expected: %", Count(asked.width as usize, "bit")),
                 };
-                draft.put(form, &[asked]);
-                draft.say(", as in part %", &[Name(&inner.name)]);
+                notes.put(form, &[asked]);
+                notes.say(", as in part %", &[Name(&inner.name)]);
                 break;
             }
         }
@@ -210,54 +206,54 @@ impl Site<'_> {
     }
 
     // The first port of a component of this kind whose channel is of another one. The channels are in the order of the ports.
-    fn explain_kind(&self, draft: &mut Draft, kind: &Kind, sizes: [u32; 2], chans: &[u32]) {
+    fn explain_kind(&self, notes: &mut Notes, kind: &Kind, sizes: [u32; 2], chans: &[u32]) {
         for (number, chan) in (1..=u32::MAX).zip(chans.iter()) {
             let carried = (port_at(kind, sizes, number), self.channel(*chan));
             if let (Some(port), Some(found)) = carried {
                 if found.kind != port.row.kind {
-                    self.put_carried(draft, Port(port.row.name, port.member), *chan);
-                    return put_kind(draft, kind, port);
+                    self.put_carried(notes, Port(port), *chan);
+                    return put_kind(notes, kind, port);
                 }
             }
         }
     }
 
     // The ports that carry values, with their channels and how many bits these have.
-    fn explain_widths(&self, draft: &mut Draft, kind: &Kind, sizes: [u32; 2], chans: &[u32]) {
+    fn explain_widths(&self, notes: &mut Notes, kind: &Kind, sizes: [u32; 2], chans: &[u32]) {
         let mut listed = 0usize;
         for (number, chan) in (1..=u32::MAX).zip(chans.iter()) {
             let carried = (port_at(kind, sizes, number), self.channel(*chan));
-            if let (Some(PortAt { row, member }), Some(Chan { width, .. })) = carried {
-                if row.kind != ChanKind::Sync && listed < MOST_LISTED {
+            if let (Some(port), Some(Chan { width, .. })) = carried {
+                if port.row.kind != ChanKind::Sync && listed < MOST_LISTED {
                     let before = Text(if listed == 0 { "found: " } else { "; " });
-                    let (name, number) = (Port(row.name, member), Number(*chan as usize));
-                    let bits = Count(width as usize, "bit", "bits");
-                    draft.put("%% is channel %, %", &[before, name, number, bits]);
+                    let (name, number) = (Port(port), Number(*chan as usize));
+                    let bits = Count(width as usize, "bit");
+                    notes.put("%% is channel %, %", &[before, name, number, bits]);
                     listed = listed.saturating_add(1);
                 }
             }
         }
-        draft.say("", &[]);
-        put_widths(draft, kind);
+        notes.say("", &[]);
+        put_widths(notes, kind);
     }
 
     // Tells what a port's channel is and where it stands.
-    fn put_carried(&self, draft: &mut Draft, port: Arg<'_>, number: u32) {
+    fn put_carried(&self, notes: &mut Notes, port: Piece<'_>, number: u32) {
         if let Some(chan) = self.channel(number) {
             let place = number as usize;
             let at = self.netlist.spot_of(self.number, Head::Channels, place);
             let args = [port, Number(place), Carried(chan), at];
-            draft.say("found: port % is channel %, which is % (%)", &args);
+            notes.say("found: port % is channel %, which is % (%)", &args);
         }
     }
 }
 
-fn put_param(draft: &mut Draft, param: &Param) {
+fn put_param(notes: &mut Notes, param: &Param) {
     match param {
-        Param::Num(number) => draft.put("%", &[Wide(*number)]),
-        Param::Flag(true) => draft.put("#t", &[]),
-        Param::Flag(false) => draft.put("#f", &[]),
-        Param::Word(text) => draft.put("\"%\"", &[Word(text)]),
+        Param::Num(number) => notes.put("%", &[Wide(*number)]),
+        Param::Flag(true) => notes.put("#t", &[]),
+        Param::Flag(false) => notes.put("#f", &[]),
+        Param::Word(text) => notes.put("\"%\"", &[Shown(text)]),
     }
 }
 

@@ -3,20 +3,20 @@
 //! What holds the ends of a channel is looked for among the components of the net, which are made once more for that.
 
 use crate::data::Head;
-use crate::site::{Netlist, put_place};
+use crate::site::{NetlistText, put_place};
 use crate::wired::Wired;
 use bz_arena::Id;
-use bz_explain_notes::Arg::{Bytes, Name, Number, Path, Port, Text};
-use bz_explain_notes::Draft;
+use bz_explain_notes::Notes;
 use bz_flat::{ElabError, FlatComp};
 use bz_kind_rows::{PortAt, is_passive, kind_word, port_at};
 use bz_model::{Chan, ChanKind, numbered};
 use bz_source::PathAt;
+use bz_view::Piece::{Bytes, Label, Name, Number, Path, Port, Text};
 
 /// A channel of a net that is at fault, and the components at it: the first of each sense, and the second of either.
 #[derive(Clone, Copy)]
 struct Wire<'t> {
-    netlist: Netlist<'t>,
+    netlist: NetlistText<'t>,
     wired: &'t Wired,
     number: u32,
     place: &'t PathAt,
@@ -35,8 +35,8 @@ struct End {
 
 /// The notes of a channel with two ends of one sense or one end alone, or of a port with a component at the host's end.
 pub(crate) fn explain_ends(
-    draft: &mut Draft,
-    netlist: Netlist<'_>,
+    notes: &mut Notes,
+    netlist: NetlistText<'_>,
     wired: &Wired,
     error: ElabError,
     number: u32,
@@ -57,9 +57,9 @@ pub(crate) fn explain_ends(
             wire.meet(wired.comps.get(Id::at(place)), comp);
         }
         match (error, wire.second) {
-            (ElabError::TwoEnds(_), Some(second)) => wire.explain_two(draft, second),
-            (ElabError::LooseEnd(_), _) => wire.explain_loose(draft),
-            _ => wire.explain_sense(draft),
+            (ElabError::TwoEnds(_), Some(second)) => wire.explain_two(notes, second),
+            (ElabError::LooseEnd(_), _) => wire.explain_loose(notes),
+            _ => wire.explain_sense(notes),
         }
     }
 }
@@ -92,104 +92,105 @@ impl Wire<'_> {
     }
 
     // Two ends of one sense.
-    fn explain_two(&self, draft: &mut Draft, second: End) {
+    fn explain_two(&self, notes: &mut Notes, second: End) {
         let passive = second.port.row.passive;
         let first = self.first(passive);
-        self.put_place(draft);
-        draft.put("found: two % ends: ", &[Text(sense(passive))]);
-        self.put_end(draft, first);
-        draft.put(", ", &[]);
-        self.put_end(draft, Some(second));
-        draft.say("\nexpected: one active end and one passive end", &[]);
-        if self.say_exchange(draft, first) || self.say_exchange(draft, Some(second)) {
+        self.put_place(notes);
+        notes.put("found: two % ends: ", &[Text(sense(passive))]);
+        self.put_end(notes, first);
+        notes.put(", ", &[]);
+        self.put_end(notes, Some(second));
+        notes.say("\nexpected: one active end and one passive end", &[]);
+        if self.say_exchange(notes, first) || self.say_exchange(notes, Some(second)) {
             return;
         }
         if !passive {
             let mixer = Text(mixer(second.port.row.kind));
-            draft.say("help: a % brings several callers together to one", &[mixer]);
+            notes.say("help: a % brings several callers together to one", &[mixer]);
         }
     }
 
     // One end alone.
-    fn explain_loose(&self, draft: &mut Draft) {
+    fn explain_loose(&self, notes: &mut Notes) {
         let passive = self.active.is_none();
         let (sense, other) = (Text(sense(passive)), Text(sense(!passive)));
-        self.put_place(draft);
-        self.put_found(draft, passive);
+        self.put_place(notes);
+        self.put_found(notes, passive);
         let deed = Text(if passive { "makes" } else { "takes" });
         let told = ", and no % one\nexpected: a component that % its requests";
-        draft.put(told, &[other, deed]);
+        notes.put(told, &[other, deed]);
         let (place, ports) = (self.place, self.netlist.ports(self.place.part));
         // (a channel that would be a port, were there one port more)
         if place.path.is_empty() && place.position == ports.len().saturating_add(1) {
-            draft.put(", or port %, %", &[Number(place.position), sense]);
+            notes.put(", or port %, %", &[Number(place.position), sense]);
         }
-        draft.say("", &[]);
+        notes.say("", &[]);
     }
 
     // An external port with a component at the host's end.
-    fn explain_sense(&self, draft: &mut Draft) {
+    fn explain_sense(&self, notes: &mut Notes) {
         let (part, position) = (self.place.part, self.place.position);
         let ports = self.netlist.ports(part);
         if let Some(port) = ports.get(position.saturating_sub(1)) {
             let args = [Name(&port.name), Text(sense(port.passive))];
-            self.netlist.put_listed(draft, part, Head::Ports, position);
-            self.put_found(draft, !port.passive);
-            draft.put(", and port % is %\nexpected: ", &args);
+            self.netlist.put_listed(notes, part, Head::Ports, position);
+            self.put_found(notes, !port.passive);
+            notes.put(", and port % is %\nexpected: ", &args);
             let expected = if port.passive {
                 "a passive end alone: at a passive port the host asks"
             } else {
                 "an active end alone: at an active port the host answers"
             };
-            draft.say(expected, &[]);
+            notes.say(expected, &[]);
         }
     }
 
     // Goes on with the first end of a sense.
-    fn put_found(&self, draft: &mut Draft, passive: bool) {
+    fn put_found(&self, notes: &mut Notes, passive: bool) {
         let article = if passive { "a" } else { "an" };
         let args = [Text(article), Text(sense(passive))];
-        draft.put("found: % % end, ", &args);
-        self.put_end(draft, self.first(passive));
+        notes.put("found: % % end, ", &args);
+        self.put_end(notes, self.first(passive));
     }
 
     // Goes on with an end: the component, its port and where it stands.
-    fn put_end(&self, draft: &mut Draft, end: Option<End>) {
+    fn put_end(&self, notes: &mut Notes, end: Option<End>) {
         let Some(End { comp, kind, port }) = end else {
             return;
         };
         let number = Number(self.wired.shown(comp));
-        let args = [number, Bytes(kind), Port(port.row.name, port.member)];
-        draft.put("% % % (", &args);
+        let args = [number, Bytes(kind), Port(port)];
+        notes.put("% % % (", &args);
         if let Some(place) = self.wired.places.comp(comp) {
             let (part, position) = (place.part, place.position);
             if !place.path.is_empty() {
                 let name = Name(self.netlist.name(part));
-                draft.put("% %, ", &[Path(&place.path), name]);
+                notes.put("% %, ", &[Path(&place.path), name]);
             }
             let spot = self.netlist.spot_of(part, Head::Components, position);
-            draft.put("%)", &[spot]);
-            draft.put_label(self.netlist.label(part, Head::Components, position));
+            notes.put("%)", &[spot]);
+            let label = self.netlist.label(part, Head::Components, position);
+            notes.put("%", &[Label(label)]);
         }
     }
 
     // Tells where the channel stands, in the outermost copy that has it.
-    fn put_place(&self, draft: &mut Draft) {
+    fn put_place(&self, notes: &mut Notes) {
         let (place, part, position) = (self.place, self.place.part, self.place.position);
         if place.path.is_empty() {
             self.netlist
-                .put_listed(draft, part, Head::Channels, position);
+                .put_listed(notes, part, Head::Channels, position);
         } else if let Some(byte) = self.netlist.byte_of(part, Head::Channels, position) {
             let (name, path) = (Name(self.netlist.name(part)), Path(&place.path));
             let (number, position) = (Number(self.number as usize), Number(position));
             let form = "channel % (% %, channel % of part %)";
             let args = [number, path, name, position, name];
-            put_place(draft, self.netlist.text, byte, form, &args);
+            put_place(notes, self.netlist.text, byte, form, &args);
         }
     }
 
     // Tells the channels of the component at an end by whose exchange each of them has both ends, if there are such.
-    fn say_exchange(&self, draft: &mut Draft, end: Option<End>) -> bool {
+    fn say_exchange(&self, notes: &mut Notes, end: Option<End>) -> bool {
         let Some(End { comp, kind, port }) = end else {
             return false;
         };
@@ -204,7 +205,7 @@ impl Wire<'_> {
                 let (one, other) = (Number(self.number as usize), Number(*chan as usize));
                 let args = [one, other, Number(self.wired.shown(comp)), Bytes(kind)];
                 let form = "help: with channels % and % of % % exchanged, both have their ends";
-                draft.say(form, &args);
+                notes.say(form, &args);
                 return true;
             }
         }

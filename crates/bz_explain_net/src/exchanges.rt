@@ -6,9 +6,9 @@
 use crate::site::Site;
 use bz_breeze_records::{Component, Entries, Name, Slot};
 use bz_elab::first_fault;
-use bz_explain_notes::Arg::Number;
-use bz_explain_notes::Draft;
+use bz_explain_notes::Notes;
 use bz_model::Param;
+use bz_view::Piece::Number;
 use std::alloc::{AllocError, Global};
 
 /// The most entries of a component that is looked at.
@@ -16,7 +16,7 @@ const MOST_ENTRIES: usize = 12;
 
 impl Site<'_> {
     /// Tells two entries by whose exchange the component has no fault, if there are such.
-    pub(crate) fn say_exchange(&self, draft: &mut Draft) {
+    pub(crate) fn say_exchange(&self, notes: &mut Notes) {
         let entries = self.component.entries.as_slice();
         if entries.len() > MOST_ENTRIES {
             return;
@@ -24,9 +24,9 @@ impl Site<'_> {
         for (one, first) in entries.iter().enumerate() {
             for (other, second) in entries.iter().enumerate() {
                 if let (true, Slot::One(_), Slot::One(_)) = (one < other, first, second) {
-                    if self.fits_exchanged(draft, one, other) {
+                    if self.fits_exchanged(notes, one, other) {
                         let form = "help: it fits with entries % and % exchanged";
-                        return draft.say(form, &[Number(one + 1), Number(other + 1)]);
+                        return notes.say(form, &[Number(one + 1), Number(other + 1)]);
                     }
                 }
             }
@@ -34,24 +34,24 @@ impl Site<'_> {
     }
 
     // Whether it has no fault with these two entries exchanged.
-    fn fits_exchanged(&self, draft: &mut Draft, one: usize, other: usize) -> bool {
-        match exchanged(draft.alloc(), self.component, one, other) {
-            Ok(copy) => self.fits(draft, &copy),
+    fn fits_exchanged(&self, notes: &mut Notes, one: usize, other: usize) -> bool {
+        match exchanged(notes.alloc(), self.component, one, other) {
+            Ok(copy) => self.fits(notes, &copy),
             Err(_) => {
-                draft.fail();
+                notes.fail();
                 false
             }
         }
     }
 
     // Whether a component has no fault in its place.
-    fn fits(&self, draft: &mut Draft, component: &Component) -> bool {
-        let (alloc, channels) = (draft.alloc(), self.part.channels.as_slice());
+    fn fits(&self, notes: &mut Notes, component: &Component) -> bool {
+        let (alloc, channels) = (notes.alloc(), self.part.channels.as_slice());
         let mut carried = Vec::new(alloc);
         match first_fault(alloc, self.netlist.parts, channels, component, &mut carried) {
             Ok(fault) => fault.is_none(),
             Err(_) => {
-                draft.fail();
+                notes.fail();
                 false
             }
         }

@@ -1,9 +1,9 @@
 //! What the kinds of component ask of their entries, channels and parameters.
 
-use bz_explain_notes::Arg::{self, Bytes, Count, Port, Text};
-use bz_explain_notes::Draft;
+use bz_explain_notes::Notes;
 use bz_kind_rows::{KindName, PortAt, PortRow, kind_named, kind_word, port_table};
 use bz_model::{ChanKind, Kind};
+use bz_view::Piece::{self, Bytes, Count, Port, Text};
 
 /// Kinds of Balsa's that there are not here.
 const LEFT_OUT: &str =
@@ -46,7 +46,7 @@ pub(crate) fn operations_of(name: &[u8]) -> &'static [&'static [u8]] {
 }
 
 // A kind's article and word: `a Fetch`, `an Arbiter`.
-fn word_of(kind: &Kind) -> (Arg<'static>, Arg<'static>) {
+fn word_of(kind: &Kind) -> (Piece<'static>, Piece<'static>) {
     let article = match kind {
         Kind::Arbiter | Kind::Adapt { .. } => "an",
         _ => "a",
@@ -55,29 +55,29 @@ fn word_of(kind: &Kind) -> (Arg<'static>, Arg<'static>) {
 }
 
 /// Goes on with the numbers of single entries and of lists.
-pub(crate) fn put_counts(draft: &mut Draft, entries: usize, lists: usize) {
+pub(crate) fn put_counts(notes: &mut Notes, entries: usize, lists: usize) {
     let singles = entries.saturating_sub(lists);
-    let singles = Count(singles, "single entry", "single entries");
-    draft.put("% and %", &[singles, Count(lists, "list", "lists")]);
+    let singles = Count(singles, "single entry");
+    notes.put("% and %", &[singles, Count(lists, "list")]);
 }
 
 /// Tells the entries that a kind takes: how many, and its ports in their order.
-pub(crate) fn put_row(draft: &mut Draft, kind: &Kind) {
+pub(crate) fn put_row(notes: &mut Notes, kind: &Kind) {
     let rows = port_table(kind);
     let (article, word) = word_of(kind);
-    draft.put("expected: for % % ", &[article, word]);
+    notes.put("expected: for % % ", &[article, word]);
     put_counts(
-        draft,
+        notes,
         rows.len(),
         rows.iter().filter(|row| row.array).count(),
     );
     let mut before = ": (";
     for row in rows {
         let form = if row.array { "%(%1 ..)" } else { "%%" };
-        draft.put(form, &[Text(before), Text(row.name)]);
+        notes.put(form, &[Text(before), Text(row.name)]);
         before = " ";
     }
-    draft.say(")%", &[Text(list_rule(kind))]);
+    notes.say(")%", &[Text(list_rule(kind))]);
 }
 
 // What the lists of a kind have to be beside their number.
@@ -90,15 +90,15 @@ fn list_rule(kind: &Kind) -> &'static str {
 }
 
 /// Tells what a port's channel should carry.
-pub(crate) fn put_kind(draft: &mut Draft, kind: &Kind, port: PortAt) {
+pub(crate) fn put_kind(notes: &mut Notes, kind: &Kind, port: PortAt) {
     let name = match (deed(*port.row), port.row.name, port.member) {
         ("asks for", "inp", None) => Text("its input"),
-        (_, name, member) => Port(name, member),
+        _ => Port(port),
     };
     let (article, word) = word_of(kind);
     let (carried, deed) = (Text(port.row.kind.word()), Text(deed(*port.row)));
     let args = [carried, article, word, deed, name];
-    draft.say("expected: a % channel: % % % %", &args);
+    notes.say("expected: a % channel: % % % %", &args);
 }
 
 // What a component does at such a port.
@@ -114,7 +114,7 @@ fn deed(row: PortRow) -> &'static str {
 }
 
 /// Tells what widths a kind asks for.
-pub(crate) fn put_widths(draft: &mut Draft, kind: &Kind) {
+pub(crate) fn put_widths(notes: &mut Notes, kind: &Kind) {
     let rule = match kind {
         Kind::While => "1 bit for the guard of",
         Kind::Bar => "1 bit for the guard and each inp of",
@@ -126,7 +126,7 @@ pub(crate) fn put_widths(draft: &mut Draft, kind: &Kind) {
         _ => "one width throughout",
     };
     let (article, word) = word_of(kind);
-    draft.say("expected: % % %", &[Text(rule), article, word]);
+    notes.say("expected: % % %", &[Text(rule), article, word]);
 }
 
 /// The parameters that the kind of this name takes.

@@ -12,5 +12,5 @@ mod wired;
 
 pub use data::{Head, Members, Which, find, headed, inside, members_of, nth, part_items};
 pub use net_faults::explain_refusal;
-pub use site::{Netlist, Site, put_place};
+pub use site::{NetlistText, Site, put_place};
 pub use wired::{ChanEnds, Wired};

@@ -2,26 +2,26 @@
 
 use crate::component_faults::part_names;
 use crate::end_faults::explain_ends;
-use crate::site::Netlist;
+use crate::site::NetlistText;
 use crate::wired::Wired;
 use bz_elab::ElabError;
-use bz_explain_notes::Arg::{Count, Name};
-use bz_explain_notes::Draft;
+use bz_explain_notes::Notes;
+use bz_view::Piece::{Count, Name};
 
 /// The notes of one reason why a part has no net.
 pub fn explain_refusal(
-    draft: &mut Draft,
-    netlist: Netlist<'_>,
+    notes: &mut Notes,
+    netlist: NetlistText<'_>,
     asked: &[u8],
     error: ElabError,
     wired: Option<&Wired>,
 ) {
     match error {
-        ElabError::NoPart => explain_no_part(draft, netlist, asked),
-        ElabError::Recursive(number) => explain_recursive(draft, netlist, number),
+        ElabError::NoPart => explain_no_part(notes, netlist, asked),
+        ElabError::Recursive(number) => explain_recursive(notes, netlist, number),
         ElabError::TwoEnds(chan) | ElabError::LooseEnd(chan) | ElabError::PortSense(chan) => {
             if let Some(wired) = wired {
-                explain_ends(draft, netlist, wired, error, chan);
+                explain_ends(notes, netlist, wired, error, chan);
             }
         }
         ElabError::UnknownComponent(number, position)
@@ -31,15 +31,15 @@ pub fn explain_refusal(
         | ElabError::KindMismatch(number, position)
         | ElabError::WidthMismatch(number, position) => {
             if let Some(site) = netlist.site(number, position) {
-                site.explain(draft, error);
+                site.explain(notes, error);
             }
         }
-        ElabError::TooDeep => draft.say(
+        ElabError::TooDeep => notes.say(
             "found: a path of more than 64 instances, each within the one before\n\
             expected: at most 64 instances within one another",
             &[],
         ),
-        ElabError::TooBig => draft.say(
+        ElabError::TooBig => notes.say(
             "found: more components, channels or ends than a net may have\n\
             expected: at most 1000000 components, 2000000 channels and 4000000 ends of components",
             &[],
@@ -49,20 +49,20 @@ pub fn explain_refusal(
 }
 
 // No part has the name asked for.
-fn explain_no_part(draft: &mut Draft, netlist: Netlist<'_>, asked: &[u8]) {
-    let names = draft.gathered(part_names(draft.alloc(), netlist.parts));
-    draft.put("found: part %\nexpected: ", &[Name(asked)]);
+fn explain_no_part(notes: &mut Notes, netlist: NetlistText<'_>, asked: &[u8]) {
+    let names = notes.gathered(part_names(notes.alloc(), netlist.parts));
+    notes.put("found: part %\nexpected: ", &[Name(asked)]);
     if names.is_empty() {
-        draft.say("the name of a part, of which the text has none", &[]);
+        notes.say("the name of a part, of which the text has none", &[]);
     } else {
-        draft.say_one_of(Count(names.len(), "part", "parts"), &names, asked);
+        notes.say_one_of(Count(names.len(), "part"), &names, asked);
     }
 }
 
 // A part that reaches itself.
-fn explain_recursive(draft: &mut Draft, netlist: Netlist<'_>, number: usize) {
-    netlist.put_part(draft, number);
-    draft.say(
+fn explain_recursive(notes: &mut Notes, netlist: NetlistText<'_>, number: usize) {
+    netlist.put_part(notes, number);
+    notes.say(
         "found: an instance of part % within itself\n\
         expected: instances of other parts, which have none of this one within them",
         &[Name(netlist.name(number))],

@@ -3,17 +3,18 @@
 use crate::data::{Head, members_of, nth, part_form, part_items};
 use bz_breeze_records::{Component, Part, Parts};
 use bz_elab::flattened;
-use bz_explain_notes::Arg::{self, At, Name, Number, Text};
-use bz_explain_notes::{Draft, Spot, put_source, spot_of};
+use bz_explain_notes::{Notes, put_source, spot_of};
 use bz_kind_rows::kind_of;
 use bz_model::{Chan, Kind, KindError, Port, numbered};
 use bz_sexpr::{Forms, Span};
 use bz_source::{Label, PartLines};
+use bz_view::Piece::{self, At, Name, Number, Text};
+use bz_view::Spot;
 use std::alloc::Global;
 
-/// A netlist: its text, the data that this spells, and the parts that these name.
+/// The text of a netlist, the data that it spells, and the parts that these name.
 #[derive(Clone, Copy)]
-pub struct Netlist<'t> {
+pub struct NetlistText<'t> {
     pub alloc: Global,
     /// The name of its file, if it is one's.
     pub file: Option<&'t str>,
@@ -27,7 +28,7 @@ pub struct Netlist<'t> {
 /// A component of a part.
 #[derive(Clone, Copy)]
 pub struct Site<'t> {
-    pub(crate) netlist: Netlist<'t>,
+    pub(crate) netlist: NetlistText<'t>,
     /// The number of its part, from 0.
     pub(crate) number: usize,
     pub(crate) part: &'t Part,
@@ -38,12 +39,12 @@ pub struct Site<'t> {
 
 /// Tells where a byte of the text stands: its line and column, then the line itself, and below it a caret with what stands
 /// there, by a form.
-pub fn put_place(draft: &mut Draft, text: &[u8], at: usize, mark: &str, args: &[Arg<'_>]) {
-    put_source(draft, text, at, "");
-    draft.say(mark, args);
+pub fn put_place(notes: &mut Notes, text: &[u8], at: usize, mark: &str, args: &[Piece<'_>]) {
+    put_source(notes, text, at, "");
+    notes.say(mark, args);
 }
 
-impl<'t> Netlist<'t> {
+impl<'t> NetlistText<'t> {
     fn part(self, number: usize) -> Option<&'t Part> {
         self.parts.list().get(number)
     }
@@ -94,24 +95,24 @@ impl<'t> Netlist<'t> {
     }
 
     /// Tells where a part stands.
-    pub fn put_part(&self, draft: &mut Draft, number: usize) {
+    pub fn put_part(&self, notes: &mut Notes, number: usize) {
         if let Some(byte) = self.byte_of_part(number) {
-            put_place(draft, self.text, byte, "part %", &[Name(self.name(number))]);
+            put_place(notes, self.text, byte, "part %", &[Name(self.name(number))]);
         }
     }
 
     /// Tells where a record of a part stands, by what it is there.
-    pub fn put_listed(&self, draft: &mut Draft, number: usize, head: Head, position: usize) {
+    pub fn put_listed(&self, notes: &mut Notes, number: usize, head: Head, position: usize) {
         let part = Name(self.name(number));
         let mark = [Text(head.member()), Number(position), part];
         if let Some(byte) = self.byte_of(number, head, position) {
             let Label { name, source } = self.label(number, head, position);
-            put_source(draft, self.text, byte, "");
-            draft.put("% %", &mark[..2]);
-            draft.put_label(Label { name, source: None });
-            draft.put(" of part %", &mark[2..]);
-            draft.put_label(Label { name: None, source });
-            draft.say("", &[]);
+            put_source(notes, self.text, byte, "");
+            notes.put("% %", &mark[..2]);
+            notes.put("%", &[Piece::Label(Label { name, source: None })]);
+            notes.put(" of part %", &mark[2..]);
+            notes.put("%", &[Piece::Label(Label { name: None, source })]);
+            notes.say("", &[]);
         }
     }
 
@@ -147,7 +148,7 @@ impl<'t> Netlist<'t> {
     }
 
     /// The line and column of a record.
-    pub(crate) fn spot_of(&self, number: usize, head: Head, position: usize) -> Arg<'static> {
+    pub(crate) fn spot_of(&self, number: usize, head: Head, position: usize) -> Piece<'static> {
         At(match self.byte_of(number, head, position) {
             Some(byte) => Some(spot_of(self.text, byte)),
             None => None,
@@ -168,15 +169,15 @@ impl<'t> Site<'t> {
     }
 
     /// Its kind, where its name and parameters are those of one.
-    pub(crate) fn kind(&self, draft: &mut Draft) -> Option<Kind> {
+    pub(crate) fn kind(&self, notes: &mut Notes) -> Option<Kind> {
         match kind_of(
-            draft.alloc(),
+            notes.alloc(),
             self.component.name.as_slice(),
             &self.component.params,
         ) {
             Ok(kind) => Some(kind),
             Err(KindError::Memory) => {
-                draft.fail();
+                notes.fail();
                 None
             }
             Err(_) => None,
@@ -184,8 +185,8 @@ impl<'t> Site<'t> {
     }
 
     /// All channels that its entries name, in order.
-    pub(crate) fn named(&self, draft: &mut Draft) -> Vec<u32> {
-        draft.gathered(flattened(draft.alloc(), self.component.entries.as_slice()))
+    pub(crate) fn named(&self, notes: &mut Notes) -> Vec<u32> {
+        notes.gathered(flattened(notes.alloc(), self.component.entries.as_slice()))
     }
 
     /// The channel of its part of a number, from 1.

@@ -4,12 +4,12 @@
 //! of a command's fault has a fixed form without a place; its first note has it. JSON is written directly, by one writer
 //! whose strings have a contract: a tree of values for a few lines would cost more.
 
-use crate::draft::Draft;
-use crate::notes::shown;
-use crate::spot::Spot;
+use crate::letters::shown;
+use crate::notes::Notes;
 use crate::telling::tell_notes;
 use bz_model::Value;
 use bz_text::{Piece, Text, WriteFault, put, put_json, put_pieces};
+use bz_view::Spot;
 use std::alloc::Global;
 use std::io::Write;
 
@@ -29,7 +29,7 @@ pub struct Finding {
     /// The code, the name and what follows these, one space apart.
     pub line: Text,
     pub spot: Spot,
-    pub notes: Draft,
+    pub notes: Notes,
 }
 
 /// The first findings, and how many there are beside them.
@@ -160,10 +160,10 @@ fn json_finding<W: Write>(
     json_notes(alloc, &finding.notes, out)
 }
 
-fn json_notes<W: Write>(alloc: Global, notes: &Draft, out: &mut W) -> Result<(), WriteFault> {
+fn json_notes<W: Write>(alloc: Global, notes: &Notes, out: &mut W) -> Result<(), WriteFault> {
     put(out, b", \"notes\": [")?;
     let mut before: &[u8] = b"";
-    for note in notes.notes() {
+    for note in notes.ended() {
         put(out, before)?;
         match shown(alloc, note) {
             Ok(letters) => put_json(out, letters.as_slice())?,

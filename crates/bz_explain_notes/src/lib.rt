@@ -2,21 +2,19 @@
 //! them.
 #![tactic(auto)]
 
-mod arg;
-mod draft;
 mod finding;
 mod keeping;
+mod letters;
 mod nearest;
 mod notes;
 mod source;
 mod spot;
 mod telling;
 
-pub use arg::Arg;
-pub use draft::{Draft, NEAREST};
 pub use finding::{Finding, Findings, Severity, tell_findings, tell_json};
 pub use keeping::Keeping;
 pub use nearest::{nearest_name, port_names};
+pub use notes::{NEAREST, Notes};
 pub use source::put_source;
-pub use spot::{Spot, before_in_line, spot_of};
+pub use spot::{before_in_line, spot_of};
 pub use telling::{tell, tell_notes};

@@ -1,58 +1,171 @@
-//! Notes on their way to the writer.
+//! The notes of a fault while they are gathered.
 
-ghost use Rattle.std.specs.Prelude.{◌≡◌, map, IfOk};
-ghost use Rattle.std.specs.List.{flat_map};
-ghost use Rattle.bz_text.specs.Writing.{Writes};
-ghost use Rattle.bz_explain_notes.specs.Notes.{letters_of, note_line, shown};
-
-use bz_text::{Piece, Text, WriteFault, put_pieces};
+use crate::nearest::nearest_name;
+use bz_text::{Put, Text};
+use bz_view::{Piece, Spot};
 use std::alloc::{AllocError, Global};
-use std::io::Write;
+use std::mem;
 
-/// Writes notes, each as a line of its own. A want of memory is told as a fault of the writer.
-pub(crate) fn put_notes<W: Write>(
+/// The most names that are listed.
+const MOST_LISTED: usize = 10;
+
+/// Tells the nearest name.
+pub const NEAREST: &str = "help: the nearest name is %";
+
+/// Notes, and the text of one that goes on. Where memory was wanting for some of it there are no notes at all.
+#[derive(Drop)]
+pub struct Notes {
     alloc: Global,
-    out: &mut W,
-    notes: &[Text],
-) -> Result<(), WriteFault>
-    ensures { Writes (W.contents out.old) (W.contents out.new) result (flat_map (λ n. note_line (letters_of n)) notes.now) }
-{
-    for note in notes {
-        put_note(alloc, out, note)?;
+    list: Vec<Text>,
+    line: Text,
+    /// The name of the file that they speak of, empty where it has none.
+    file: Vec<u8>,
+    /// The first place that they tell.
+    spot: Option<Spot>,
+    is_short: bool,
+}
+
+impl Notes {
+    /// No notes yet.
+    pub fn new(alloc: Global) -> Notes {
+        Notes {
+            alloc,
+            list: Vec::new(alloc),
+            line: Text::new(alloc),
+            file: Vec::new(alloc),
+            spot: None,
+            is_short: false,
+        }
     }
-    Ok(())
-}
 
-fn put_note<W: Write>(alloc: Global, out: &mut W, note: &Text) -> Result<(), WriteFault>
-    ensures { Writes (W.contents out.old) (W.contents out.new) result (note_line (letters_of note.now)) }
-{
-    let Ok(letters) = shown(alloc, note) else {
-        return Err(WriteFault);
-    };
-    let pieces = [
-        Piece::Bytes(b"breezesim: note: "),
-        Piece::Bytes(letters.as_slice()),
-        Piece::Bytes(b"\n"),
-    ];
-    put_pieces(out, &pieces)
-}
-
-// The letters of a note as they are shown.
-pub(crate) fn shown(alloc: Global, note: &Text) -> Result<Vec<u8>, AllocError>
-    ensures { IfOk result (λ v. v.items ≡ map shown (letters_of note.now)) }
-{
-    note.whole()?
-        .iter()
-        .map(|byte| shown_byte(*byte))
-        .collect(alloc)
-}
-
-fn shown_byte(byte: u8) -> u8
-    ensures { result ≡ shown byte }
-{
-    if 32 <= byte && byte <= 126 {
-        byte
-    } else {
-        b'?'
+    /// No notes yet on the text of a file, if it is one's.
+    pub fn on(alloc: Global, file: Option<&str>) -> Notes {
+        let mut notes = Notes::new(alloc);
+        let name = file.unwrap_or("");
+        if notes.file.extend_from_slice(name.as_bytes()).is_err() {
+            notes.fail();
+        }
+        notes
     }
+
+    /// What the notes lie in.
+    pub fn alloc(&self) -> Global {
+        self.alloc
+    }
+
+    /// The notes that were ended.
+    pub(crate) fn ended(&self) -> &[Text] {
+        if self.is_short || self.line.whole().is_err() {
+            &[]
+        } else {
+            self.list.as_slice()
+        }
+    }
+
+    /// The first place that they tell, if they tell one.
+    pub fn spot(&self) -> Option<Spot> {
+        self.spot
+    }
+
+    /// How many bytes the line has so far.
+    pub(crate) fn width(&self) -> usize {
+        match self.line.whole() {
+            Ok(line) => line.len(),
+            Err(_) => 0,
+        }
+    }
+
+    /// Memory was wanting.
+    pub fn fail(&mut self) {
+        self.is_short = true;
+    }
+
+    /// What was gathered for a note, or nothing where memory was wanting for it.
+    pub fn gathered<T: Drop>(&mut self, list: Result<Vec<T>, AllocError>) -> Vec<T> {
+        match list {
+            Ok(list) => list,
+            Err(_) => {
+                self.fail();
+                Vec::new(self.alloc)
+            }
+        }
+    }
+
+    /// Goes on with a form: each `%` in it is the next argument, and each `\n` ends a note.
+    pub fn put(&mut self, form: &str, args: &[Piece<'_>]) {
+        let mut next = 0usize;
+        for byte in form.as_bytes() {
+            match *byte {
+                b'\n' => self.end(),
+                b'%' => {
+                    if let Some(arg) = args.get(next) {
+                        arg.put(&mut self.line);
+                    }
+                    next = next.saturating_add(1);
+                }
+                _ => self.line.put_bytes(&[*byte]),
+            }
+        }
+    }
+
+    /// The same, and ends the note.
+    pub fn say(&mut self, form: &str, args: &[Piece<'_>]) {
+        self.put(form, args);
+        self.end();
+    }
+
+    /// Goes on with a place in the file, or else in what `of` says.
+    pub(crate) fn put_spot(&mut self, spot: Spot, of: &str) {
+        self.spot = self.spot.or(Some(spot));
+        if of.is_empty() && !self.file.is_empty() {
+            let args = [
+                Piece::Bytes(&self.file),
+                Piece::Number(spot.line),
+                Piece::Number(spot.column),
+            ];
+            self.line.say("%:%:%", &args);
+        } else {
+            self.put("%%", &[Piece::At(Some(spot)), Piece::Text(of)]);
+        }
+    }
+
+    /// Goes on with the first ten of these names, behind a colon: `: a b`.
+    pub fn put_names(&mut self, names: &[&[u8]]) {
+        for (place, name) in names.iter().take(MOST_LISTED).enumerate() {
+            self.put(name_form(place), &[Piece::Name(name)]);
+        }
+    }
+
+    /// Goes on with so many names, of which one was to be given, ends the note, and tells which one was probably meant:
+    /// `one of 2 parts: a b`.
+    pub fn say_one_of(&mut self, count: Piece<'_>, names: &[&[u8]], name: &[u8]) {
+        self.put("one of %", &[count]);
+        self.put_names(names);
+        match names.len().checked_sub(MOST_LISTED) {
+            Some(more) if more > 0 => self.say(" and % more", &[Piece::Number(more)]),
+            _ => self.end(),
+        }
+        self.say_nearest(NEAREST, name, names);
+    }
+
+    /// Tells by a form which of several names was probably meant, where one is near enough.
+    pub fn say_nearest(&mut self, form: &str, name: &[u8], names: &[&[u8]]) {
+        match nearest_name(self.alloc, name, names) {
+            Ok(Some(name)) => self.say(form, &[Piece::Name(name)]),
+            Ok(None) => {}
+            Err(_) => self.fail(),
+        }
+    }
+
+    fn end(&mut self) {
+        let line = mem::replace(&mut self.line, Text::new(self.alloc));
+        if line.whole().is_err() || self.list.push(line).is_err() {
+            self.fail();
+        }
+    }
+}
+
+// How the name in a place of several goes on.
+fn name_form(place: usize) -> &'static str {
+    if place == 0 { ": %" } else { " %" }
 }

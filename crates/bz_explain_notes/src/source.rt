@@ -2,9 +2,9 @@
 //!
 //! Of a longer line 100 bytes are shown, always with the place that is meant.
 
-use crate::arg::Arg::{Blanks, Bytes, Number, Text};
-use crate::draft::Draft;
+use crate::notes::Notes;
 use crate::spot::{before_in_line, spot_of};
+use bz_view::Piece::{Blanks, Bytes, Number, Text};
 
 /// The most bytes of a line that are shown.
 const MOST_SHOWN: usize = 100;
@@ -27,17 +27,17 @@ struct Window<'t> {
 
 /// Tells where a byte of a text stands: its line and column, with `of` behind them or the name of the file in front, then the
 /// line itself, and goes on behind a caret below it.
-pub fn put_source(draft: &mut Draft, text: &[u8], at: usize, of: &str) {
+pub fn put_source(notes: &mut Notes, text: &[u8], at: usize, of: &str) {
     let spot = spot_of(text, at);
     let window = window_of(text, at);
     let (before, behind) = (Text(window.before), Text(window.behind));
-    draft.put("at ", &[]);
-    draft.put_spot(spot, of);
-    draft.put("\n%", &[Number(spot.line)]);
-    let digits = draft.width();
+    notes.put("at ", &[]);
+    notes.put_spot(spot, of);
+    notes.put("\n%", &[Number(spot.line)]);
+    let digits = notes.width();
     let shown = Bytes(window.shown);
     let (margin, caret) = (Blanks(digits), Blanks(window.caret));
-    draft.put(" | %%%\n% | %^ ", &[before, shown, behind, margin, caret]);
+    notes.put(" | %%%\n% | %^ ", &[before, shown, behind, margin, caret]);
 }
 
 // The piece of the line of a byte that is shown.

@@ -6,13 +6,7 @@ ghost use Rattle.bz_source.specs.Lines.{line_at};
 ghost use Rattle.bz_explain_notes.specs.Columns.{column_at, within_line};
 
 use bz_source::LineCounter;
-
-/// A place in a text, line and column counted from 1. A column is a byte.
-#[derive(Clone, Copy, Debug, PartialEq, Eq)]
-pub struct Spot {
-    pub line: usize,
-    pub column: usize,
-}
+use bz_view::Spot;
 
 /// Where a byte of the text stands, counted from 0.
 pub fn spot_of(text: &[u8], byte: usize) -> Spot

@@ -4,8 +4,8 @@ ghost use Rattle.std.specs.Prelude.{◌≡◌};
 ghost use Rattle.bz_cli_input.specs.Statuses.{status_of};
 ghost use Rattle.bz_explain_notes.specs.Notes.{HasNotes};
 
-use crate::draft::Draft;
-use crate::notes::put_notes;
+use crate::letters::put_notes;
+use crate::notes::Notes;
 use bz_cli_input::Fault;
 use bz_text::WriteFault;
 use std::alloc::Global;
@@ -13,7 +13,7 @@ use std::io::Write;
 
 /// Tells a fault by its line, and after that by the notes that were gathered, if any were asked for. Answers the exit status of
 /// the fault.
-pub fn tell<W: Write>(alloc: Global, fault: &Fault, notes: Option<&Draft>, out: &mut W) -> u8
+pub fn tell<W: Write>(alloc: Global, fault: &Fault, notes: Option<&Notes>, out: &mut W) -> u8
     ensures { result ≡ status_of fault.now }
 {
     // (a part that would have to be named is an error of the command line)
@@ -29,8 +29,8 @@ pub fn tell<W: Write>(alloc: Global, fault: &Fault, notes: Option<&Draft>, out: 
 }
 
 /// Writes the notes that were ended: lines that begin with `breezesim: note: ` and have printable letters alone.
-pub fn tell_notes<W: Write>(alloc: Global, notes: &Draft, out: &mut W) -> Result<(), WriteFault>
+pub fn tell_notes<W: Write>(alloc: Global, notes: &Notes, out: &mut W) -> Result<(), WriteFault>
     ensures { HasNotes (W.contents out.old) (W.contents out.new) result }
 {
-    put_notes(alloc, out, notes.notes())
+    put_notes(alloc, out, notes.ended())
 }

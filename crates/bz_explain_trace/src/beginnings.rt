@@ -1,9 +1,9 @@
 //! Texts in which no line begins a trace, and traces that have another first line.
 
-use crate::claim::Claim;
 use crate::items::line_of;
-use bz_explain_notes::Arg::Text;
-use bz_explain_notes::{Draft, put_source};
+use crate::suspect::Suspect;
+use bz_explain_notes::{Notes, put_source};
+use bz_view::Piece::Text;
 
 /// The bytes of a line that begins a trace.
 const BEGINNING: usize = 7;
@@ -22,29 +22,29 @@ enum Near {
 }
 
 /// The notes of a text in which no line begins a trace, or only its last one, which has no end.
-pub(crate) fn explain_beginning(draft: &mut Draft, claim: Claim<'_>) {
-    let line = line_of(claim.trace);
-    if is_version(line) && line.len() == claim.trace.len() {
-        put_source(draft, claim.trace, claim.trace.len(), " of the trace");
-        draft.say(
+pub(crate) fn explain_beginning(notes: &mut Notes, suspect: Suspect<'_>) {
+    let line = line_of(suspect.trace);
+    if is_version(line) && line.len() == suspect.trace.len() {
+        put_source(notes, suspect.trace, suspect.trace.len(), " of the trace");
+        notes.say(
             "the end of the text\n\
             found: a last line without an end\n\
             expected: a line feed (LF) at the end of each line",
             &[],
         );
-    } else if claim.file.is_some() {
-        explain_first(draft, claim.trace, line);
+    } else if suspect.file.is_some() {
+        explain_first(notes, suspect.trace, line);
     } else {
-        explain_netlist(draft, claim.netlist);
+        explain_netlist(notes, suspect.netlist);
     }
 }
 
 // The notes of a trace in a file of its own, of which this is the first line.
-fn explain_first(draft: &mut Draft, trace: &[u8], line: &[u8]) {
-    put_source(draft, trace, 0, " of the trace");
+fn explain_first(notes: &mut Notes, trace: &[u8], line: &[u8]) {
+    put_source(notes, trace, 0, " of the trace");
     match near_of(line) {
-        Some((_, near)) if !matches!(near, Near::Joined) => say_near(draft, near),
-        _ => draft.say(
+        Some((_, near)) if !matches!(near, Near::Joined) => say_near(notes, near),
+        _ => notes.say(
             "the first line\n\
             expected: a line that is exactly trace 1 or trace 2\n\
             help: the file of --trace has the trace alone",
@@ -54,18 +54,18 @@ fn explain_first(draft: &mut Draft, trace: &[u8], line: &[u8]) {
 }
 
 // The notes of a netlist behind which no line begins a trace.
-fn explain_netlist(draft: &mut Draft, netlist: &[u8]) {
-    draft.say(
+fn explain_netlist(notes: &mut Notes, netlist: &[u8]) {
+    notes.say(
         "found: no line that is exactly trace 1 or trace 2\n\
         expected: such a line behind the netlist, and then the trace",
         &[],
     );
     match nearest(netlist) {
         Some((at, near)) => {
-            put_source(draft, netlist, at, "");
-            say_near(draft, near);
+            put_source(notes, netlist, at, "");
+            say_near(notes, near);
         }
-        None => draft.say(
+        None => notes.say(
             "help: --trace FILE takes the trace from a file; or cat makes one text of a netlist and a trace",
             &[],
         ),
@@ -77,7 +77,7 @@ fn is_version(line: &[u8]) -> bool {
 }
 
 // Tells that a line almost begins a trace, and why it doesn't.
-fn say_near(draft: &mut Draft, near: Near) {
+fn say_near(notes: &mut Notes, near: Near) {
     let help = match near {
         Near::Joined =>
             "an end of line is missing in front of it: the netlist's last line has none",
@@ -85,7 +85,7 @@ fn say_near(draft: &mut Draft, near: Near) {
         Near::Blanks => "blanks stand beside it",
         Near::Version => "the versions of traces are 1 and 2",
     };
-    draft.say("this line almost begins one\nhelp: %", &[Text(help)]);
+    notes.say("this line almost begins one\nhelp: %", &[Text(help)]);
 }
 
 // The first line that almost begins a trace: the byte at which it does, and why it doesn't.

@@ -1,9 +1,9 @@
 //! Firings and rests that no run has.
 
-use crate::scene::{Scene, holder_at, phase_of};
-use bz_explain_notes::Arg::{self, Count, Name, Number, Spaced, Text};
-use bz_explain_notes::Draft;
+use crate::scene::{Scene, phase_of};
+use bz_explain_notes::Notes;
 use bz_model::{Move, Phase, Value};
+use bz_view::Piece::{self, Count, Name, Number, Text};
 
 /// A firing, as a line has it.
 #[derive(Clone, Copy)]
@@ -39,7 +39,7 @@ const CHAN: usize = 5;
 const VALUE: usize = 6;
 
 /// The notes of a firing.
-pub(crate) fn explain_firing(draft: &mut Draft, scene: &Scene<'_>, firing: Firing) {
+pub(crate) fn explain_firing(notes: &mut Notes, scene: &Scene<'_>, firing: Firing) {
     let Firing { comp, chan, .. } = firing;
     let misfire = scene.misfire(firing);
     let item = match misfire {
@@ -48,49 +48,41 @@ pub(crate) fn explain_firing(draft: &mut Draft, scene: &Scene<'_>, firing: Firin
         Misfire::NotNow(_) => MOVE,
         Misfire::OtherValue(_) => VALUE,
     };
-    scene.line.put(draft, item);
-    scene.put_placed(draft, comp);
-    draft.put("\nfound: ", &[]);
+    scene.line.put(notes, item);
+    scene.put_placed(notes, comp);
+    notes.put("\nfound: ", &[]);
     match misfire {
         Misfire::NoComp => {
-            let comps = Count(
-                scene.net.core().comp_count() as usize,
-                "component",
-                "components",
-            );
-            put_number(draft, "component", comp, comps);
+            let comps = Count(scene.seen.net.comp_count() as usize, "component");
+            put_number(notes, "component", comp, comps);
         }
         Misfire::NoChan => {
-            let chans = Count(
-                scene.net.core().chan_count() as usize,
-                "channel",
-                "channels",
-            );
-            put_number(draft, "channel", chan, chans);
+            let chans = Count(scene.seen.net.chan_count() as usize, "channel");
+            put_number(notes, "channel", chan, chans);
         }
-        Misfire::NoEnd => put_end(draft, scene, firing),
-        Misfire::NotNow(phase) => put_move(draft, scene, firing, phase),
+        Misfire::NoEnd => put_end(notes, scene, firing),
+        Misfire::NotNow(phase) => put_move(notes, scene, firing, phase),
         Misfire::OtherValue(phase) => {
-            put_move(draft, scene, firing, phase);
-            draft.put(", and the value%", &[Spaced(firing.value)]);
+            put_move(notes, scene, firing, phase);
+            notes.put(", and the value%", &[Piece::Value(firing.value)]);
         }
     }
-    put_expected(draft, scene, comp);
+    put_expected(notes, scene, comp);
 }
 
 impl Scene<'_> {
     // What is wrong with a firing.
     fn misfire(&self, firing: Firing) -> Misfire {
         let Firing { comp, chan, mv, .. } = firing;
-        if self.net.core().comp(comp).is_none() {
+        if self.seen.net.comp(comp).is_none() {
             return Misfire::NoComp;
         }
-        let Some(phase) = phase_of(self.net.core(), chan) else {
+        let Some(phase) = phase_of(self.seen.net, chan) else {
             return Misfire::NoChan;
         };
-        match self.net.core().port_at(comp, chan, mv) {
+        match self.seen.net.port_at(comp, chan, mv) {
             None => Misfire::NoEnd,
-            Some(port) => match self.net.core().foresee(comp, port) {
+            Some(port) => match self.seen.net.foresee(comp, port) {
                 Some((_, due, _)) if due == mv => Misfire::OtherValue(phase),
                 _ => Misfire::NotNow(phase),
             },
@@ -99,60 +91,63 @@ impl Scene<'_> {
 }
 
 // Tells a number that is none of the net's.
-fn put_number<'t>(draft: &mut Draft, thing: &'t str, number: u32, count: Arg<'t>) {
+fn put_number<'t>(notes: &mut Notes, thing: &'t str, number: u32, count: Piece<'t>) {
     let args = [Text(thing), Number(number as usize), count];
-    draft.put("% %, and the net has %", &args);
+    notes.put("% %, and the net has %", &args);
 }
 
 // Tells whose the end is at which such a move is made.
-fn put_end(draft: &mut Draft, scene: &Scene<'_>, firing: Firing) {
-    let sense = match firing.mv {
-        Move::Ask | Move::Got => "active",
-        Move::Take | Move::Reply => "passive",
+fn put_end(notes: &mut Notes, scene: &Scene<'_>, firing: Firing) {
+    let (sense, is_passive) = match firing.mv {
+        Move::Ask | Move::Got => ("active", false),
+        Move::Take | Move::Reply => ("passive", true),
     };
-    draft.put("% on ", &[Text(firing.mv.word())]);
-    scene.put_chan(draft, firing.chan);
-    draft.put(", whose % end is that of ", &[Text(sense)]);
-    match holder_at(scene.net.core(), firing.chan, firing.mv) {
-        Some(comp) => scene.put_comp(draft, comp),
-        None => draft.put("the host, at port %", &[Name(scene.port_name(firing.chan))]),
+    notes.put("% on ", &[Text(firing.mv.word())]);
+    scene.put_chan(notes, firing.chan);
+    notes.put(", whose % end is that of ", &[Text(sense)]);
+    match scene.seen.end(firing.chan, is_passive) {
+        Some(comp) => scene.put_comp(notes, comp),
+        None => notes.put(
+            "the host, at port %",
+            &[Name(scene.seen.port_name(firing.chan))],
+        ),
     }
 }
 
 // Tells the move, and in what phase its channel is.
-fn put_move(draft: &mut Draft, scene: &Scene<'_>, firing: Firing, phase: Phase) {
-    draft.put("% on ", &[Text(firing.mv.word())]);
-    scene.put_chan(draft, firing.chan);
-    put_phase(draft, phase);
+fn put_move(notes: &mut Notes, scene: &Scene<'_>, firing: Firing, phase: Phase) {
+    notes.put("% on ", &[Text(firing.mv.word())]);
+    scene.put_chan(notes, firing.chan);
+    put_phase(notes, phase);
 }
 
-fn put_phase(draft: &mut Draft, phase: Phase) {
-    draft.put(", which is %", &[Arg::Phase(phase)]);
+fn put_phase(notes: &mut Notes, phase: Phase) {
+    notes.put(", which is %", &[Piece::Phase(phase)]);
 }
 
 // Tells what the component could do, or what others could where it can't move.
-fn put_expected(draft: &mut Draft, scene: &Scene<'_>, comp: u32) {
-    if scene.net.core().is_ready(comp) {
+fn put_expected(notes: &mut Notes, scene: &Scene<'_>, comp: u32) {
+    if scene.seen.net.is_ready(comp) {
         let args = [scene.kind(comp), Number(comp as usize)];
-        draft.put("\nexpected: what % % can do: ", &args);
-        scene.put_moves_of(draft, comp, 0);
-    } else if scene.net.core().next_ready(1).is_some() {
-        draft.put("\nexpected: what others can do: ", &[]);
-        scene.put_moves(draft);
+        notes.put("\nexpected: what % % can do: ", &args);
+        scene.put_moves_of(notes, comp, 0);
+    } else if scene.seen.net.next_ready(1).is_some() {
+        notes.put("\nexpected: what others can do: ", &[]);
+        scene.put_moves(notes);
     } else {
-        draft.put("\nexpected: no firing: nothing can move", &[]);
+        notes.put("\nexpected: no firing: nothing can move", &[]);
     }
-    draft.say("", &[]);
+    notes.say("", &[]);
 }
 
 /// The notes of a rest while a component can move.
-pub(crate) fn explain_rest(draft: &mut Draft, scene: &Scene<'_>, comp: u32) {
-    scene.line.put(draft, 2);
-    scene.put_placed(draft, comp);
-    draft.put(
+pub(crate) fn explain_rest(notes: &mut Notes, scene: &Scene<'_>, comp: u32) {
+    scene.line.put(notes, 2);
+    scene.put_placed(notes, comp);
+    notes.put(
         " can move\nfound: a rest where a component can move\nexpected: ",
         &[],
     );
-    scene.put_moves(draft);
-    draft.say("", &[]);
+    scene.put_moves(notes);
+    notes.say("", &[]);
 }

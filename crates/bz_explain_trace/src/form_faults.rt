@@ -2,54 +2,54 @@
 
 use crate::forms::{Line, Misfit, Want};
 use crate::items::{LineAt, item_of, line_of, start_of_line};
-use bz_explain_notes::Arg::{Count, Number, Word};
-use bz_explain_notes::{Draft, port_names};
+use bz_explain_notes::{Notes, port_names};
 use bz_model::Names;
 use bz_trace_text::MAX_ENTRIES;
+use bz_view::Piece::{Count, Number, Shown};
 
 /// The notes of a line, by its number, that has none of the forms, or stands where none of its form may.
-pub(crate) fn explain_form(draft: &mut Draft, names: &Names, trace: &[u8], number: usize) {
+pub(crate) fn explain_form(notes: &mut Notes, names: &Names, trace: &[u8], number: usize) {
     let at = LineAt::of(trace, start_of_line(trace, number));
     let text = line_of(at.rest);
     let line = Line {
-        alloc: draft.alloc(),
+        alloc: notes.alloc(),
         names,
         text,
     };
     match line.misfit() {
         _ if text.last() == Some(&b'\r') => {
             let items = text.iter().filter(|byte| **byte == b' ').count();
-            at.put(draft, items.saturating_add(1));
-            draft.say(
+            at.put(notes, items.saturating_add(1));
+            notes.say(
                 "the last item\n\
                 found: a carriage return (CR) at the end of the line\n\
                 expected: a line feed (LF) alone",
                 &[],
             );
         }
-        Some(misfit) => explain_misfit(draft, line, at, misfit),
-        None => explain_place(draft, at, number),
+        Some(misfit) => explain_misfit(notes, line, at, misfit),
+        None => explain_place(notes, at, number),
     }
 }
 
 // An item that doesn't fit.
-fn explain_misfit(draft: &mut Draft, line: Line<'_>, at: LineAt<'_>, misfit: Misfit) {
-    at.put(draft, misfit.item);
-    draft.put("item %\nfound: ", &[Number(misfit.item)]);
+fn explain_misfit(notes: &mut Notes, line: Line<'_>, at: LineAt<'_>, misfit: Misfit) {
+    at.put(notes, misfit.item);
+    notes.put("item %\nfound: ", &[Number(misfit.item)]);
     let item = item_of(line.text, misfit.item);
     match item {
-        None => draft.put("the end of the line", &[]),
-        Some([]) => draft.put("no item: items are one space apart", &[]),
-        Some(word) => draft.put("%", &[Word(word)]),
+        None => notes.put("the end of the line", &[]),
+        Some([]) => notes.put("no item: items are one space apart", &[]),
+        Some(word) => notes.put("%", &[Shown(word)]),
     }
-    draft.put("\nexpected: ", &[]);
+    notes.put("\nexpected: ", &[]);
     if let Want::Port(_) = misfit.want {
-        let names = draft.gathered(port_names(draft.alloc(), line.names.ports()));
-        let count = Count(names.len(), "port", "ports");
-        draft.say_one_of(count, &names, item.unwrap_or(b""));
+        let names = notes.gathered(port_names(notes.alloc(), line.names.ports()));
+        let count = Count(names.len(), "port");
+        notes.say_one_of(count, &names, item.unwrap_or(b""));
     } else {
         let (form, number) = wanted(misfit.want);
-        draft.say(form, &[Number(number as usize)]);
+        notes.say(form, &[Number(number as usize)]);
     }
 }
 
@@ -77,10 +77,10 @@ fn wanted(want: Want) -> (&'static str, u32) {
 }
 
 // A line whose items fit, and which may not stand there.
-fn explain_place(draft: &mut Draft, line: LineAt<'_>, number: usize) {
+fn explain_place(notes: &mut Notes, line: LineAt<'_>, number: usize) {
     let text = line_of(line.rest);
     let has_end = line.rest.len() > text.len();
-    line.put(draft, if has_end { 1 } else { usize::MAX });
+    line.put(notes, if has_end { 1 } else { usize::MAX });
     let told = if !has_end {
         "the end of the text\n\
         found: a last line without an end\n\
@@ -98,5 +98,5 @@ fn explain_place(draft: &mut Draft, line: LineAt<'_>, number: usize) {
         found: an entry behind a clash line\n\
         expected: clash lines to the end of the trace"
     };
-    draft.say(told, &[]);
+    notes.say(told, &[]);
 }

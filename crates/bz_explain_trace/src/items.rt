@@ -1,6 +1,6 @@
 //! The lines of a trace, and their items, which are one space apart.
 
-use bz_explain_notes::{Draft, put_source};
+use bz_explain_notes::{Notes, put_source};
 
 /// A line of a trace.
 #[derive(Clone, Copy)]
@@ -20,9 +20,9 @@ impl<'t> LineAt<'t> {
     }
 
     /// Tells where the line stands, and goes on behind a caret below one of its items.
-    pub(crate) fn put(self, draft: &mut Draft, item: usize) {
+    pub(crate) fn put(self, notes: &mut Notes, item: usize) {
         let at = self.at.saturating_add(start_of(self.rest, item));
-        put_source(draft, self.trace, at, " of the trace");
+        put_source(notes, self.trace, at, " of the trace");
     }
 }
 

@@ -4,7 +4,6 @@
 #![tactic(auto)]
 
 mod beginnings;
-mod claim;
 mod clashes;
 mod explaining;
 mod firings;
@@ -15,6 +14,7 @@ mod moves;
 mod replies;
 mod scene;
 mod stops;
+mod suspect;
 
-pub use claim::Claim;
 pub use explaining::explain_trace;
+pub use suspect::Suspect;

@@ -1,10 +1,10 @@
 //! Commands of hosts that no run has.
 
 use crate::scene::Scene;
-use bz_explain_notes::Arg::{self, Name, Number, Spaced, Text, Wide};
-use bz_explain_notes::Draft;
+use bz_explain_notes::Notes;
 use bz_model::{NetError, Phase, Reply, Value, Verb, Who, low_bits};
 use bz_net::Play;
+use bz_view::Piece::{self, Name, Number, Text, Wide};
 
 /// A host's command, as a line has it.
 #[derive(Clone, Copy)]
@@ -31,20 +31,20 @@ pub(crate) fn reply_of(
 
 /// The notes of a command that the port doesn't take.
 pub(crate) fn explain_refused(
-    draft: &mut Draft,
+    notes: &mut Notes,
     scene: &Scene<'_>,
     command: Command,
     error: NetError,
 ) {
     let item = if error == NetError::WrongSide { 2 } else { 4 };
-    put_command(draft, scene, command, item);
-    let Some(chan) = scene.net.names().chan(command.port) else {
-        return draft.say("", &[]);
+    put_command(notes, scene, command, item);
+    let Some(chan) = scene.seen.net.names().chan(command.port) else {
+        return notes.say("", &[]);
     };
     let most = Wide(low_bits(Value::MAX, chan.width));
     let kind = Text(chan.kind.word());
     let (form, first) = match error {
-        NetError::WrongSide if scene.net.names().passive(command.port) == Some(true) => (
+        NetError::WrongSide if scene.seen.net.names().passive(command.port) == Some(true) => (
             "which is passive: there the host asks and the net answers\nexpected: offer or collect",
             kind,
         ),
@@ -62,33 +62,33 @@ pub(crate) fn explain_refused(
             Number(chan.width as usize),
         ),
     };
-    let args = [first, Spaced(command.value), most];
-    draft.say(form, &args);
+    let args = [first, Piece::Value(command.value), most];
+    notes.say(form, &args);
 }
 
 /// The notes of a command whose reply is another one, by the phase of the port's channel.
 pub(crate) fn explain_reply(
-    draft: &mut Draft,
+    notes: &mut Notes,
     scene: &Scene<'_>,
     command: Command,
     phase: Phase,
     due: Reply,
 ) {
     let item = if command.value.is_some() { 5 } else { 4 };
-    put_command(draft, scene, command, item);
+    put_command(notes, scene, command, item);
     let form = "whose channel is %, and the reply %\nexpected: the reply %";
     let args = [
-        Arg::Phase(phase),
-        Arg::Reply(command.reply),
-        Arg::Reply(due),
+        Piece::Phase(phase),
+        Piece::Reply(command.reply),
+        Piece::Reply(due),
     ];
-    draft.say(form, &args);
+    notes.say(form, &args);
 }
 
 // Tells the line, and goes on with what was found: a command at a port.
-fn put_command(draft: &mut Draft, scene: &Scene<'_>, command: Command, item: usize) {
-    let name = Name(scene.port_name(command.port));
+fn put_command(notes: &mut Notes, scene: &Scene<'_>, command: Command, item: usize) {
+    let name = Name(scene.seen.port_name(command.port));
     let args = [name, Text(command.verb.word()), name];
-    scene.line.put(draft, item);
-    draft.put("port %\nfound: % at port %, ", &args);
+    scene.line.put(notes, item);
+    notes.put("port %\nfound: % at port %, ", &args);
 }

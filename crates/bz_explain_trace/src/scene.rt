@@ -1,65 +1,57 @@
 //! A net before the line that it refuses, and how its components and channels are called.
 
 use crate::items::LineAt;
-use bz_explain_notes::Arg::{self, Bytes, Name, Number, Path};
-use bz_explain_notes::Draft;
-use bz_kind_rows::kind_word;
-use bz_model::{Move, Phase};
-use bz_net::{Core, Play};
-use bz_source::Survey;
+use bz_explain_notes::Notes;
+use bz_model::Phase;
+use bz_net::Core;
+use bz_source::{Label, Survey};
+use bz_view::Piece::{self, Bytes, Name, Number, Path};
+use bz_view::{Seen, Thing};
 
-/// A net before the line that it refuses, where its components stand in the netlist, and that line.
+/// A net before the line that it refuses, and that line.
 #[derive(Clone, Copy)]
 pub(crate) struct Scene<'t> {
-    pub(crate) net: &'t Play,
-    pub(crate) survey: &'t Survey,
+    pub(crate) seen: Seen<'t>,
     pub(crate) line: LineAt<'t>,
 }
 
-impl Scene<'_> {
-    /// The kind of a component.
-    pub(crate) fn kind(&self, comp: u32) -> Arg<'static> {
-        match self.net.core().comp(comp) {
-            Some(site) => Bytes(kind_word(&site.kind)),
-            None => Bytes(b"component"),
+impl<'t> Scene<'t> {
+    pub(crate) fn of(net: &'t Core, survey: &'t Survey, line: LineAt<'t>) -> Scene<'t> {
+        Scene {
+            seen: Seen::of(net, survey),
+            line,
         }
+    }
+
+    /// The kind of a component.
+    pub(crate) fn kind(&self, comp: u32) -> Piece<'static> {
+        let word = self.seen.kind(comp);
+        Bytes(if word.is_empty() { b"component" } else { word })
     }
 
     /// Goes on with a component's kind and number, and its label.
-    pub(crate) fn put_comp(&self, draft: &mut Draft, comp: u32) {
-        draft.put("% %", &[self.kind(comp), Number(comp as usize)]);
-        if let Some(place) = self.survey.places.comp(comp) {
-            draft.put_label(self.survey.comp_label(place));
-        }
+    pub(crate) fn put_comp(&self, notes: &mut Notes, comp: u32) {
+        let label = Piece::Label(self.seen.label(Thing::Comp(comp)));
+        notes.put("% %%", &[self.kind(comp), Number(comp as usize), label]);
     }
 
     /// Goes on with a channel's number, and what it is called.
-    pub(crate) fn put_chan(&self, draft: &mut Draft, chan: u32) {
-        draft.put("channel %", &[Number(chan as usize)]);
-        if let Some(name) = self.survey.chan_name(chan) {
-            draft.put(" %", &[Name(name)]);
-        }
+    pub(crate) fn put_chan(&self, notes: &mut Notes, chan: u32) {
+        let name = self.seen.survey.chan_name(chan);
+        let label = Piece::Label(Label { name, source: None });
+        notes.put("channel %%", &[Number(chan as usize), label]);
     }
 
-    /// Goes on with a component, and where it stands in the netlist: ` at buffer 2 line 8`, with ` in 4/1` behind it where it is
-    /// in an instance.
-    pub(crate) fn put_placed(&self, draft: &mut Draft, comp: u32) {
-        self.put_comp(draft, comp);
-        if let Some(at) = self.survey.comp(comp) {
+    /// Goes on with a component, and where it is in the netlist: ` at buffer 2 line 8`, with ` in 4/1` after it where it is in an
+    /// instance.
+    pub(crate) fn put_placed(&self, notes: &mut Notes, comp: u32) {
+        self.put_comp(notes, comp);
+        if let Some(at) = self.seen.survey.comp(comp) {
             let args = [Name(at.part), Number(at.position), Number(at.line)];
-            draft.put(" at % % line %", &args);
+            notes.put(" at % % line %", &args);
             if !at.path.is_empty() {
-                draft.put(" in %", &[Path(at.path)]);
+                notes.put(" in %", &[Path(at.path)]);
             }
-        }
-    }
-
-    /// The name of an external port.
-    pub(crate) fn port_name(&self, port: u32) -> &[u8] {
-        let names = self.net.names();
-        match names.name(port) {
-            Some(name) => name,
-            None => b"",
         }
     }
 }
@@ -69,15 +61,5 @@ pub(crate) fn phase_of(net: &Core, chan: u32) -> Option<Phase> {
     match net.names().chan(chan) {
         Some(_) => Some(net.phase(chan)),
         None => None,
-    }
-}
-
-/// The component at the end of a channel at which such a move is made, where a component stands there.
-pub(crate) fn holder_at(net: &Core, chan: u32, mv: Move) -> Option<u32> {
-    net.names().chan(chan)?;
-    let ends = net.ends(chan);
-    match mv {
-        Move::Ask | Move::Got => ends[0],
-        Move::Take | Move::Reply => ends[1],
     }
 }

@@ -6,7 +6,7 @@ use crate::items::{LineAt, start_of_line};
 use crate::replies::{Command, explain_refused, explain_reply, reply_of};
 use crate::scene::{Scene, phase_of};
 use bz_cli_trace::Checked;
-use bz_explain_notes::Draft;
+use bz_explain_notes::Notes;
 use bz_model::{Entry, NetError};
 use bz_net::Play;
 use bz_source::Survey;
@@ -14,21 +14,21 @@ use bz_trace_text::{LineNames, clash_at, line_at};
 use std::alloc::AllocError;
 
 /// Says why no run has a line, by its number, where the net that was checked has played the lines before it.
-pub(crate) fn explain_stop(draft: &mut Draft, checked: Checked, trace: &[u8], number: usize) {
+pub(crate) fn explain_stop(notes: &mut Notes, checked: Checked, trace: &[u8], number: usize) {
     let (mut net, source, part) = checked.into_parts();
-    match source.survey(draft.alloc(), part.as_slice()) {
-        Ok(survey) => explain_line(draft, &mut net, &survey, trace, number),
-        Err(_) => draft.fail(),
+    match source.survey(notes.alloc(), part.as_slice()) {
+        Ok(survey) => explain_line(notes, &mut net, &survey, trace, number),
+        Err(_) => notes.fail(),
     }
 }
 
-fn explain_line(draft: &mut Draft, net: &mut Play, survey: &Survey, trace: &[u8], number: usize) {
+fn explain_line(notes: &mut Notes, net: &mut Play, survey: &Survey, trace: &[u8], number: usize) {
     let start = start_of_line(trace, number);
     let line = LineAt::of(trace, start);
-    match line_entry(draft, net, line) {
+    match line_entry(notes, net, line) {
         Ok(Some(entry)) => {
-            if explain_entry(draft, net, survey, line, entry).is_none() {
-                draft.fail();
+            if explain_entry(notes, net, survey, line, entry).is_none() {
+                notes.fail();
             }
         }
         Ok(None) => {
@@ -38,16 +38,16 @@ fn explain_line(draft: &mut Draft, net: &mut Play, survey: &Survey, trace: &[u8]
                 Some((found, _)) => Some(found),
                 None => None,
             };
-            explain_clash(draft, &Scene { net, survey, line }, found, due);
+            explain_clash(notes, &Scene::of(net.core(), survey, line), found, due);
         }
-        Err(_) => draft.fail(),
+        Err(_) => notes.fail(),
     }
 }
 
 // The entry of a line, if it is that of one.
-fn line_entry(draft: &Draft, net: &Play, line: LineAt<'_>) -> Result<Option<Entry>, AllocError> {
-    let names = net.names().dup(draft.alloc())?;
-    match line_at(&LineNames::new(draft.alloc(), &names), line.rest) {
+fn line_entry(notes: &Notes, net: &Play, line: LineAt<'_>) -> Result<Option<Entry>, AllocError> {
+    let names = net.names().dup(notes.alloc())?;
+    match line_at(&LineNames::new(notes.alloc(), &names), line.rest) {
         Some((entry, _)) => Ok(Some(entry)),
         None => Ok(None),
     }
@@ -63,7 +63,7 @@ fn clash_count(lines: &[u8]) -> usize {
 
 // Says why no run has an entry. The net goes on by it where it is a command.
 fn explain_entry(
-    draft: &mut Draft,
+    notes: &mut Notes,
     net: &mut Play,
     survey: &Survey,
     line: LineAt<'_>,
@@ -84,7 +84,7 @@ fn explain_entry(
                 mv,
                 value,
             };
-            explain_firing(draft, &Scene { net, survey, line }, firing);
+            explain_firing(notes, &Scene::of(net.core(), survey, line), firing);
         }
         Entry::Host {
             who,
@@ -101,16 +101,16 @@ fn explain_entry(
             };
             let phase = phase_of(net.core(), port)?;
             let due = reply_of(net, who, verb, port, value)?;
-            let scene = Scene { net, survey, line };
+            let scene = Scene::of(net.core(), survey, line);
             match due {
-                Ok(due) => explain_reply(draft, &scene, command, phase, due),
+                Ok(due) => explain_reply(notes, &scene, command, phase, due),
                 Err(NetError::Memory) => return None,
-                Err(error) => explain_refused(draft, &scene, command, error),
+                Err(error) => explain_refused(notes, &scene, command, error),
             }
         }
         Entry::Rested { who: _ } => {
             let comp = net.core().next_ready(1)?;
-            explain_rest(draft, &Scene { net, survey, line }, comp);
+            explain_rest(notes, &Scene::of(net.core(), survey, line), comp);
         }
     }
     Some(())

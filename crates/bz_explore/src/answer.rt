@@ -1,13 +1,12 @@
 //! The answer of a line.
 
 use crate::explored::Ending;
-use crate::piece::Piece;
 use crate::table::{Form, words_of_commands};
 use bz_explain_notes::nearest_name;
-use bz_explore_moves::gathered;
 use bz_net::Net;
 use bz_text::Text;
 use bz_trace_text::put_entries;
+use bz_view::{Piece, gathered};
 
 /// The most lines that are told of one command, and half of them.
 pub(crate) const MOST_LINES: usize = 40;
@@ -32,7 +31,7 @@ impl Answer {
         self.ending = Ending::Bad;
         self.text.put("error: ");
         if let Some(line) = self.line {
-            self.text.say("line %: ", &[Piece::Number(line.into())]);
+            self.text.say("line %: ", &[Piece::Wide(line.into())]);
         }
     }
 
@@ -107,7 +106,7 @@ fn kept(count: usize, first: usize, last: usize) -> (usize, usize) {
 // Adds how many lines are left out, if any are.
 fn put_left_out(count: usize, form: &str, text: &mut Text) {
     if count > 0 {
-        text.say(form, &[Piece::many(count)]);
+        text.say(form, &[Piece::Number(count)]);
     }
 }
 

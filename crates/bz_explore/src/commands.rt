@@ -4,8 +4,8 @@
 //! and then that the journal is full.
 
 use crate::answer::Answer;
-use crate::piece::Piece;
 use crate::table::Form;
+use bz_view::Piece;
 use std::alloc::{AllocError, Global};
 
 /// What a line asks for: a command of this form.

@@ -9,13 +9,13 @@ ghost use Rattle.bz_cli_input.specs.Reading.{ReadsWithin};
 ghost use Rattle.bz_explore.specs.Statuses.{status_of};
 
 use crate::answer::Answer;
-use crate::piece::Piece;
 use crate::session::Session;
 use bz_cli_input::{Fault, read_input};
 use bz_cli_source::survey_of;
-use bz_explore_net::Course;
+use bz_explore_net::Stepping;
 use bz_flat::Flat;
 use bz_text::{Piece as Part, Text, put};
+use bz_view::Piece;
 use std::alloc::Global;
 use std::io::{BufRead, Read, Write};
 
@@ -23,7 +23,7 @@ use std::io::{BufRead, Read, Write};
 const JOURNAL: u32 = 1_000_000;
 
 /// Where traces, pages and sessions are written.
-pub trait Shelf {
+pub trait Files {
     type File: Write + Drop;
 
     /// An empty file of this name. One that is there is written over where that is asked for, but never the netlist.
@@ -75,38 +75,38 @@ impl Ending {
 /// Opens the net of the part that is asked for by name, or else of the only one that no other uses, in the netlist that a reader
 /// gives, and follows the lines of another, each with its answer. At a prompt a greeting and prompts are written too, else a line
 /// that can't be followed is told by its number.
-pub fn explore_cmd<R: Read, L: BufRead, W: Write, S: Shelf>(
+pub fn explore_cmd<R: Read, L: BufRead, W: Write, F: Files>(
     alloc: Global,
     asked: Option<&[u8]>,
     prompts: bool,
     netlist: &mut R,
     lines: &mut L,
-    shelf: &mut S,
+    files: &mut F,
     output: &mut W,
 ) -> Result<Ending, Fault>
     // Whatever comes of it, it reads at most one byte past the limit of a netlist.
     ensures { ReadsWithin (R.remaining netlist.old) (R.remaining netlist.new) }
 {
     let text = read_input(alloc, netlist)?;
-    explore_text(alloc, asked, text.as_slice(), prompts, lines, shelf, output)
+    explore_text(alloc, asked, text.as_slice(), prompts, lines, files, output)
 }
 
 // Opens the net of a part of the text.
-fn explore_text<L: BufRead, W: Write, S: Shelf>(
+fn explore_text<L: BufRead, W: Write, F: Files>(
     alloc: Global,
     asked: Option<&[u8]>,
     text: &[u8],
     prompts: bool,
     lines: &mut L,
-    shelf: &mut S,
+    files: &mut F,
     output: &mut W,
 ) -> Result<Ending, Fault> {
     let (flat, survey, part) = survey_of(alloc, asked, text)?;
-    let Ok(mut course) = Course::open(alloc, flat, JOURNAL) else {
+    let Ok(mut stepping) = Stepping::open(alloc, flat, JOURNAL) else {
         return Err(Fault::Memory);
     };
     let mut session = Session {
-        course: &mut course,
+        stepping: &mut stepping,
         survey: &survey,
         part: part.as_slice(),
         typed: Vec::new(alloc),
@@ -118,21 +118,21 @@ fn explore_text<L: BufRead, W: Write, S: Shelf>(
         reply: None,
         undone: 0,
     };
-    play(prompts, &mut session, lines, shelf, output)
+    play(prompts, &mut session, lines, files, output)
 }
 
 // Follows the lines, behind a greeting at a prompt.
-fn play<L: BufRead, W: Write, S: Shelf>(
+fn play<L: BufRead, W: Write, F: Files>(
     prompts: bool,
     session: &mut Session<'_>,
     lines: &mut L,
-    shelf: &mut S,
+    files: &mut F,
     output: &mut W,
 ) -> Result<Ending, Fault> {
     if prompts {
         greet(
             session.part,
-            session.course.flat(),
+            session.stepping.flat(),
             &mut session.answer.text,
         );
         tell(output, session.answer.text.whole()?)?;
@@ -140,7 +140,7 @@ fn play<L: BufRead, W: Write, S: Shelf>(
     for number in 1..u64::MAX {
         session.answer.line = if prompts { None } else { Some(number) };
         let line = read_line(session.answer.text.alloc(), prompts, lines, output)?;
-        if line.is_empty() || !session.follows(shelf, line.as_slice()) {
+        if line.is_empty() || !session.follows(files, line.as_slice()) {
             break;
         }
         tell(output, session.answer.text.whole()?)?;

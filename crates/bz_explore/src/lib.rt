@@ -5,14 +5,12 @@ mod answer;
 mod commands;
 mod explored;
 mod looking;
-mod piece;
 mod refusals;
 mod saving;
 mod session;
 mod table;
 mod things;
-mod view;
 mod waits;
 
-pub use explored::{Ending, NoFile, Shelf, explore_cmd};
+pub use explored::{Ending, Files, NoFile, explore_cmd};
 pub use saving::save;

@@ -2,17 +2,16 @@
 
 use crate::answer::Answer;
 use crate::commands::Call;
-use crate::piece::{Piece, say_number, say_phase};
 use crate::things::asked;
-use crate::view::{Thing, View, chan_at, port, port_count};
-use crate::waits::{put_all_waits, put_chain, put_held, put_waits};
-use bz_explore_moves::{gathered, put_moves};
-use bz_explore_net::busy_chans;
+use crate::waits::{put_all_waits, put_chain, put_waits};
+use bz_explore_moves::put_moves;
+use bz_explore_net::{Stepping, busy_chans};
 use bz_flat::FlatComp;
 use bz_model::{Entry, Kind, Move, Value};
-use bz_source::{put_comp, put_label};
+use bz_source::{Survey, put_comp, put_label};
 use bz_text::Text;
 use bz_trace_text::counts;
+use bz_view::{Piece, Seen, Thing, chan_at, gathered, port_count, port_of, put_held, put_phase};
 
 /// How far a net is.
 const TOTALS: &str = "\
@@ -22,76 +21,80 @@ channels: %, % not idle
 clashes:";
 
 /// Answers a command that looks at the net and moves nothing.
-pub(crate) fn look(view: &View<'_>, call: Call<'_>, answer: &mut Answer) {
+pub(crate) fn look(stepping: &Stepping, survey: &Survey, call: Call<'_>, answer: &mut Answer) {
+    let seen = Seen::of(stepping.net().core(), survey);
     match (call.form.word(), call.first) {
-        ("moves", _) => put_moves(view.course, view.survey, &mut answer.text),
-        ("waits", None) => put_waits(view, &mut answer.text),
-        ("waits", Some("all")) => put_all_waits(view, &mut answer.text),
-        (_, None) => put_totals(view, &mut answer.text),
+        ("moves", _) => put_moves(stepping, survey, &mut answer.text),
+        ("waits", None) => put_waits(seen, &mut answer.text),
+        ("waits", Some("all")) => put_all_waits(stepping, seen, &mut answer.text),
+        (_, None) => put_totals(stepping, seen, &mut answer.text),
         (command, Some(word)) => {
-            for thing in &asked(view, call.form, word, answer) {
-                put_thing(view, command == "waits", *thing, &mut answer.text);
+            for thing in &asked(seen, call.form, word, answer) {
+                put_thing(stepping, seen, command == "waits", *thing, &mut answer.text);
             }
         }
     }
 }
 
 // How a component or a channel stands, or on what it hangs.
-fn put_thing(view: &View<'_>, hangs: bool, thing: Thing, text: &mut Text) {
+fn put_thing(stepping: &Stepping, seen: Seen<'_>, hangs: bool, thing: Thing, text: &mut Text) {
     match thing {
-        Thing::Comp(comp) if hangs => put_chain(view, comp, text),
-        Thing::Comp(comp) => put_state(view, comp, text),
-        Thing::Chan(chan) if hangs => put_held(view, chan, text),
-        Thing::Chan(chan) => put_chan_state(view, chan, text),
+        Thing::Comp(comp) if hangs => put_chain(seen, comp, text),
+        Thing::Comp(comp) => put_state(stepping, seen, comp, text),
+        Thing::Chan(chan) if hangs => put_held(seen, chan, text),
+        Thing::Chan(chan) => put_chan_state(seen, chan, text),
     }
 }
 
 // Adds how far the net is.
-fn put_totals(view: &View<'_>, text: &mut Text) {
-    let (course, flat, net) = (view.course, view.course.flat(), view.course.net());
+fn put_totals(stepping: &Stepping, seen: Seen<'_>, text: &mut Text) {
+    let (flat, net) = (stepping.flat(), stepping.net());
     let counts = counts(net.journal());
     let busy = gathered(busy_chans(text.alloc(), flat, net), text);
     let totals = [
-        Piece::many(counts.fired),
-        Piece::many(counts.host),
-        Piece::many(counts.rests),
-        Piece::Number(flat.comp_count().into()),
-        Piece::many(view.count_ready()),
-        Piece::Number(flat.chan_count().into()),
-        Piece::many(busy.len()),
+        Piece::Number(counts.fired),
+        Piece::Number(counts.host),
+        Piece::Number(counts.rests),
+        Piece::Wide(flat.comp_count().into()),
+        Piece::Number(seen.count_ready()),
+        Piece::Wide(flat.chan_count().into()),
+        Piece::Number(busy.len()),
     ];
     text.say(TOTALS, &totals);
     if net.clashes().is_empty() {
         text.put(" none");
     }
     for comp in net.clashes() {
-        say_number(text, " %", (*comp).into());
+        text.say(" %", &[Piece::Wide((*comp).into())]);
     }
-    let next = if course.next() > flat.comp_count() {
+    let next = if stepping.next() > flat.comp_count() {
         1
     } else {
-        course.next()
+        stepping.next()
     };
-    say_number(text, "\nrun goes on at component %\n", next.into());
-    say_number(text, "seed %\n", course.picker().seed().into());
+    let last = [
+        Piece::Wide(next.into()),
+        Piece::Wide(stepping.picker().seed().into()),
+    ];
+    text.say("\nrun goes on at component %\nseed %\n", &last);
 }
 
 // Adds a component's place, the value that it keeps, and its ports with what is due there.
-fn put_state(view: &View<'_>, comp: u32, text: &mut Text) {
-    let Some(site) = view.course.flat().comp(comp) else {
+fn put_state(stepping: &Stepping, seen: Seen<'_>, comp: u32, text: &mut Text) {
+    let Some(site) = seen.net.comp(comp) else {
         return;
     };
-    if let Some(at) = view.survey.comp(comp) {
+    if let Some(at) = seen.survey.comp(comp) {
         let _ = put_comp(text, comp, site, at);
-        let _ = put_label(text, view.label(Thing::Comp(comp)));
+        let _ = put_label(text, seen.label(Thing::Comp(comp)));
         text.put("\n");
     }
     if matches!(site.kind, Kind::Variable | Kind::FalseVariable) {
-        let kept = kept(view.course.net().journal(), comp);
-        text.say("keeps %\n", &[Piece::Number(kept)]);
+        let kept = kept(stepping.net().journal(), comp);
+        text.say("keeps %\n", &[Piece::Wide(kept)]);
     }
     for port in 1..=port_count(site) {
-        put_port_state(view, site, comp, port, text);
+        put_port_state(seen, site, comp, port, text);
     }
 }
 
@@ -113,27 +116,27 @@ fn kept(journal: &[Entry], variable: u32) -> Value {
 }
 
 // What a channel carries.
-fn put_carried(view: &View<'_>, chan: u32, text: &mut Text) {
-    let carried = Piece::Carried(view.chan(chan));
-    text.say("channel % %", &[view.named_chan(chan), carried]);
+fn put_carried(seen: Seen<'_>, chan: u32, text: &mut Text) {
+    let carried = Piece::Carried(seen.chan(chan));
+    text.say("channel % %", &[seen.named_chan(chan), carried]);
 }
 
 // The phase of a channel, and who stands at its ends.
-fn put_chan_state(view: &View<'_>, chan: u32, text: &mut Text) {
-    put_carried(view, chan, text);
-    say_phase(text, ", %: ", view.phase(chan));
-    let ends = [view.holder(chan, false), view.holder(chan, true)];
-    text.say("% asks %\n", &ends);
+fn put_chan_state(seen: Seen<'_>, chan: u32, text: &mut Text) {
+    put_carried(seen, chan, text);
+    let phase = Piece::Phase(seen.phase(chan));
+    let (active, passive) = (seen.holder(chan, false), seen.holder(chan, true));
+    text.say(", %: % asks %\n", &[phase, active, passive]);
 }
 
-fn put_port_state(view: &View<'_>, site: &FlatComp, comp: u32, at: u32, text: &mut Text) {
-    let (net, chan) = (view.course.net(), chan_at(site, at));
-    let (number, place) = (Piece::Number(comp.into()), Piece::Number(at.into()));
-    text.say("%.% %", &[number, place, port(site, at)]);
+fn put_port_state(seen: Seen<'_>, site: &FlatComp, comp: u32, at: u32, text: &mut Text) {
+    let (net, chan) = (seen.net, chan_at(site, at));
+    let (number, place) = (Piece::Wide(comp.into()), Piece::Wide(at.into()));
+    text.say("%.% %", &[number, place, port_of(site, at)]);
     text.fill(18);
-    put_carried(view, chan, text);
+    put_carried(seen, chan, text);
     text.fill(40);
-    say_phase(text, "%", view.phase(chan));
+    put_phase(text, seen.phase(chan));
     if let Some(mv) = net.due(comp, at) {
         text.fill(54);
         text.say("due: %", &[Piece::Text(mv.word())]);

@@ -1,21 +1,20 @@
 //! Why the net doesn't follow a line.
 
-use crate::piece::Piece;
-use crate::view::{View, chan_at, port, port_count};
 use bz_model::{HostCmd, Names, NetError, Value, low_bits};
 use bz_text::Text;
+use bz_view::{Piece, Seen, chan_at, port_count, port_of};
 use std::io::Write;
 
 /// The most ports that are told by name.
 const MOST_PORTS: usize = 10;
 
 /// Adds why the net refuses a command of the host.
-pub(crate) fn put_refusal(view: &View<'_>, error: NetError, cmd: &HostCmd, text: &mut Text) {
-    let names = view.course.net().names();
+pub(crate) fn put_refusal(seen: Seen<'_>, error: NetError, cmd: &HostCmd, text: &mut Text) {
+    let names = seen.net.names();
     let name = Piece::Typed(cmd.port.as_slice());
     let verb = Piece::Text(cmd.verb.word());
     let number = names.port(cmd.port.as_slice()).unwrap_or(0);
-    let chan = view.chan(number);
+    let chan = seen.chan(number);
     let _ = write!(text, "{error}: ");
     match error {
         NetError::UnknownPort => put_unknown(names, cmd.port.as_slice(), text),
@@ -28,16 +27,16 @@ pub(crate) fn put_refusal(view: &View<'_>, error: NetError, cmd: &HostCmd, text:
         ),
         NetError::ValueMissing => text.say(
             "% needs a value below 2^%, as in %:%:0",
-            &[verb, Piece::Number(chan.width.into()), verb, name],
+            &[verb, Piece::Wide(chan.width.into()), verb, name],
         ),
         NetError::ValueUnwanted => text.say(
             "% takes no value at port %, which is a % port",
             &[verb, name, Piece::Text(chan.kind.word())],
         ),
         NetError::TooLarge => {
-            let value = Piece::Number(cmd.value.unwrap_or(0));
+            let value = Piece::Wide(cmd.value.unwrap_or(0));
             let bits = Piece::Count(chan.width as usize, "bit");
-            let greatest = Piece::Number(low_bits(Value::MAX, chan.width));
+            let greatest = Piece::Wide(low_bits(Value::MAX, chan.width));
             text.say(
                 "% is too large: port % has %, and the greatest value is %",
                 &[value, name, bits, greatest],
@@ -50,32 +49,32 @@ pub(crate) fn put_refusal(view: &View<'_>, error: NetError, cmd: &HostCmd, text:
 
 // No port has the name; the ports that there are.
 fn put_unknown(names: &Names, name: &[u8], text: &mut Text) {
-    text.say("no port is called %; the ports are", &[Piece::Name(name)]);
+    text.say("no port is called %; the ports are", &[Piece::Called(name)]);
     for port in names.ports().iter().take(MOST_PORTS) {
-        text.say(" %", &[Piece::Name(port.name.as_slice())]);
+        text.say(" %", &[Piece::Called(port.name.as_slice())]);
     }
     let more = names.ports().len().saturating_sub(MOST_PORTS);
     if more > 0 {
-        text.say(" and % more", &[Piece::many(more)]);
+        text.say(" and % more", &[Piece::Number(more)]);
     }
 }
 
 /// Adds why a component can't move at a port, or at any: what is due there, and the phase of its channel.
-pub(crate) fn put_stuck(view: &View<'_>, comp: u32, at: Option<u32>, text: &mut Text) {
-    let (net, Some(site)) = (view.course.net(), view.course.flat().comp(comp)) else {
+pub(crate) fn put_stuck(seen: Seen<'_>, comp: u32, at: Option<u32>, text: &mut Text) {
+    let Some(site) = seen.net.comp(comp) else {
         return;
     };
     let there = Piece::Text(if at.is_some() { " there" } else { "" });
-    text.say("% can't move%: ", &[view.comp(comp), there]);
-    let due = |port: &u32| net.due(comp, *port).is_some();
+    text.say("% can't move%: ", &[seen.comp(comp), there]);
+    let due = |port: &u32| seen.net.due(comp, *port).is_some();
     let Some(at) = at.or((1..=port_count(site)).find(due)) else {
         text.put("nothing is due\n");
         return;
     };
-    let (chan, name) = (chan_at(site, at), port(site, at));
-    let (number, phase) = (Piece::Number(chan.into()), Piece::Phase(view.phase(chan)));
-    let chan = view.named_chan(chan);
-    match net.due(comp, at) {
+    let (chan, name) = (chan_at(site, at), port_of(site, at));
+    let (number, phase) = (Piece::Wide(chan.into()), Piece::Phase(seen.phase(chan)));
+    let chan = seen.named_chan(chan);
+    match seen.net.due(comp, at) {
         None => text.say("nothing is due at %\n", &[name]),
         Some(mv) => text.say(
             "% % is due at %, and channel % is %\n",

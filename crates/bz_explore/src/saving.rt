@@ -7,16 +7,16 @@
 ghost use Rattle.std.specs.Prelude.{OnOk, OnErr};
 ghost use Rattle.bz_explore.specs.Saving.{SavesSome, SavesTrace};
 
-use crate::piece::Piece;
-use crate::view::View;
-use crate::waits::put_ends;
 use bz_cli_core::write_out;
 use bz_cli_input::Fault;
-use bz_explore_net::{Course, Mark, Picker};
+use bz_explore_net::{Mark, Picker, Stepping};
+use bz_flat::Flat;
 use bz_model::Entry;
 use bz_net::Net;
 use bz_page::put_page;
+use bz_source::Survey;
 use bz_text::{Text, WriteFault, put};
+use bz_view::{Piece, Seen, graph_of, put_ends};
 use std::io::Write;
 
 /// The most components of a net that a page holds.
@@ -31,22 +31,40 @@ pub fn save<W: Write>(net: &Net, out: &mut W) -> Result<(), WriteFault>
 }
 
 /// Adds a page on which the trace of a net so far plays, with who waits for whom at its end.
-pub(crate) fn put_trace_page(view: &View<'_>, part: &[u8], text: &mut Text) {
+pub(crate) fn put_trace_page(stepping: &Stepping, survey: &Survey, part: &[u8], text: &mut Text) {
     let (mut trace, mut ends) = (Text::new(text.alloc()), Text::new(text.alloc()));
-    let saved = save(view.course.net(), &mut trace);
-    put_ends(view, &mut ends);
+    let net = stepping.net();
+    let saved = save(net, &mut trace);
+    let seen = Seen::of(net.core(), survey);
+    if let Some(graph) = graph_of(seen, &mut ends) {
+        put_ends(seen, &graph, &mut ends);
+    }
     match (saved, trace.whole(), ends.whole()) {
-        (Ok(()), Ok(trace), Ok(ends)) => put_page_of(view, part, trace, ends, text),
+        (Ok(()), Ok(trace), Ok(ends)) => put_page_of(
+            stepping.flat(),
+            survey,
+            part,
+            trace,
+            ends,
+            text,
+        ),
         _ => text.lose(),
     }
 }
 
-fn put_page_of(view: &View<'_>, part: &[u8], trace: &[u8], ends: &[u8], text: &mut Text) {
+fn put_page_of(
+    flat: &Flat,
+    survey: &Survey,
+    part: &[u8],
+    trace: &[u8],
+    ends: &[u8],
+    text: &mut Text,
+) {
     let alloc = text.alloc();
-    let paged = match view.course.flat().dup(alloc) {
+    let paged = match flat.dup(alloc) {
         Ok(flat) => {
             let net = flat.into_pieces();
-            put_page(alloc, part, &net, view.survey, trace, ends, text)
+            put_page(alloc, part, &net, survey, trace, ends, text)
         }
         Err(_) => Err(Fault::Memory),
     };
@@ -63,23 +81,23 @@ pub(crate) fn save_text<W: Write>(bytes: &[u8], out: &mut W) -> Result<(), Write
 
 /// Adds the commands that stand, as lines of a session. Behind each word of the host its reply is expected, and a seed stands
 /// where the picking was begun anew.
-pub(crate) fn put_script(course: &Course, text: &mut Text) {
-    let journal = course.net().journal();
+pub(crate) fn put_script(stepping: &Stepping, text: &mut Text) {
+    let journal = stepping.net().journal();
     let mut picker = Picker::new(0);
-    for (place, mark) in course.marks().iter().enumerate() {
-        let upto = entries_of(course, place + 1);
+    for (place, mark) in stepping.marks().iter().enumerate() {
+        let upto = entries_of(stepping, place + 1);
         let added = journal.get(mark.entries..upto).unwrap_or(&[]);
         put_seed(picker, mark.picker, text);
         put_command(mark, added, text);
         picker = picker_after(mark, added);
     }
-    put_seed(picker, course.picker(), text);
+    put_seed(picker, stepping.picker(), text);
 }
 
 /// Adds the last `count` of the first `left` commands, which are to be taken back.
-pub(crate) fn put_undone(course: &Course, left: usize, count: usize, text: &mut Text) {
-    let mut upto = entries_of(course, left);
-    let marks = course.marks().get(..left).unwrap_or(&[]);
+pub(crate) fn put_undone(stepping: &Stepping, left: usize, count: usize, text: &mut Text) {
+    let mut upto = entries_of(stepping, left);
+    let marks = stepping.marks().get(..left).unwrap_or(&[]);
     for mark in marks.iter().rev().take(count) {
         let command = Piece::Bytes(mark.command.as_slice());
         let lines = Piece::Count(upto.saturating_sub(mark.entries), "line");
@@ -89,17 +107,17 @@ pub(crate) fn put_undone(course: &Course, left: usize, count: usize, text: &mut 
 }
 
 // How many entries the journal has once so many commands are left.
-fn entries_of(course: &Course, left: usize) -> usize {
-    match course.marks().get(left) {
+fn entries_of(stepping: &Stepping, left: usize) -> usize {
+    match stepping.marks().get(left) {
         Some(mark) => mark.entries,
-        None => course.net().journal().len(),
+        None => stepping.net().journal().len(),
     }
 }
 
 // A line that begins the picking anew, where it doesn't go on as it would.
 fn put_seed(goes_on: Picker, picker: Picker, text: &mut Text) {
     if goes_on != picker {
-        text.say("seed %\n", &[Piece::Number(picker.seed().into())]);
+        text.say("seed %\n", &[Piece::Wide(picker.seed().into())]);
     }
 }
 

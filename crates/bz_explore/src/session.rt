@@ -2,21 +2,19 @@
 
 use crate::answer::{Answer, count_lines, put_added};
 use crate::commands::{Call, call_of, number, words_of};
-use crate::explored::{Ending, NoFile, Shelf};
+use crate::explored::{Ending, Files, NoFile};
 use crate::looking::look;
-use crate::piece::Piece;
 use crate::refusals::{put_refusal, put_stuck};
 use crate::saving::{MOST_COMPS, put_script, put_trace_page, put_undone, save, save_text};
 use crate::table::{Form, put_help};
 use crate::things::place_asked;
-use crate::view::View;
-use bz_explore_moves::gathered;
-use bz_explore_net::Course;
+use bz_explore_net::Stepping;
 use bz_model::{Cmd, HostCmd, NetError, Reply};
 use bz_net::RunEnd;
 use bz_page::TooLarge;
 use bz_source::Survey;
 use bz_text::Text;
+use bz_view::{Piece, Seen, gathered};
 use std::io::Write;
 
 const NO_REPLY: &str = "there is no reply to compare: the last command was none of the host's\n";
@@ -26,7 +24,7 @@ const FULL: &str = "N7 JournalFull: the trace holds % lines; `undo` makes room\n
 /// A net that is played line by line.
 #[derive(Drop)]
 pub(crate) struct Session<'s> {
-    pub course: &'s mut Course,
+    pub stepping: &'s mut Stepping,
     pub survey: &'s Survey,
     /// The name of the part whose net it is.
     pub part: &'s [u8],
@@ -41,10 +39,10 @@ pub(crate) struct Session<'s> {
 
 impl<'s> Session<'s> {
     /// Follows a line, so that its answer is told; whether the session goes on.
-    pub fn follows<S: Shelf>(&mut self, shelf: &mut S, line: &[u8]) -> bool {
+    pub fn follows<F: Files>(&mut self, files: &mut F, line: &[u8]) -> bool {
         self.answer.text = Text::new(self.answer.text.alloc());
         match str::from_utf8(line) {
-            Ok(line) => self.follows_words(shelf, line),
+            Ok(line) => self.follows_words(files, line),
             Err(_) => {
                 self.answer.no_command("", line.trim_ascii());
                 true
@@ -52,19 +50,19 @@ impl<'s> Session<'s> {
         }
     }
 
-    fn follows_words<S: Shelf>(&mut self, shelf: &mut S, line: &str) -> bool {
+    fn follows_words<F: Files>(&mut self, files: &mut F, line: &str) -> bool {
         let alloc = self.answer.text.alloc();
         let words = gathered(words_of(alloc, line), &mut self.answer.text);
         let typed = words.as_slice().join(alloc, " ").map(String::into_bytes);
         self.typed = gathered(typed, &mut self.answer.text);
         match call_of(words.as_slice(), self.typed.as_slice(), &mut self.answer) {
-            Some(call) => self.follow(shelf, call),
+            Some(call) => self.follow(files, call),
             None => true,
         }
     }
 
     // Does what a line asks for; whether the session goes on.
-    fn follow<S: Shelf>(&mut self, shelf: &mut S, call: Call<'_>) -> bool {
+    fn follow<F: Files>(&mut self, files: &mut F, call: Call<'_>) -> bool {
         let word = call.form.word();
         if !matches!(word, "help" | "undo" | "quit") {
             self.go_back();
@@ -76,15 +74,11 @@ impl<'s> Session<'s> {
             "seed" => self.seed(call.number().unwrap_or(0)),
             "expect" => self.expect(),
             "undo" => self.undo(call.number().unwrap_or(1)),
-            "trace" | "session" => self.write(shelf, call),
-            "page" => self.page(shelf, call),
+            "trace" | "session" => self.write(files, call),
+            "page" => self.page(files, call),
             "help" => self.help(call.first),
             "moves" | "waits" | "state" => {
-                look(
-                    &View::of(&*self.course, self.survey),
-                    call,
-                    &mut self.answer,
-                );
+                look(&*self.stepping, self.survey, call, &mut self.answer);
             }
             "quit" => {}
             _ => self.word(call),
@@ -95,7 +89,7 @@ impl<'s> Session<'s> {
     // Takes back in the net what is undone: of several commands in a row it is played but once again.
     fn go_back(&mut self) {
         let (alloc, undone) = (self.answer.text.alloc(), self.undone);
-        if undone > 0 && self.course.undo(alloc, undone).is_err() {
+        if undone > 0 && self.stepping.undo(alloc, undone).is_err() {
             self.answer.text.lose();
         }
         self.undone = 0;
@@ -121,25 +115,25 @@ impl<'s> Session<'s> {
     fn host(&mut self, cmd: &HostCmd) {
         let before = self.entries();
         let (alloc, typed) = (self.answer.text.alloc(), self.typed.as_slice());
-        match self.course.command(alloc, typed, cmd) {
+        match self.stepping.command(alloc, typed, cmd) {
             Ok(reply) => self.played(before, Some(reply)),
             Err(error) => {
                 if !self.is_spent(error) {
                     self.answer.begin_error();
-                    let view = View::of(&*self.course, self.survey);
-                    put_refusal(&view, error, cmd, &mut self.answer.text);
+                    let seen = Seen::of(self.stepping.net().core(), self.survey);
+                    put_refusal(seen, error, cmd, &mut self.answer.text);
                 }
             }
         }
     }
 
     fn fire(&mut self, call: Call<'_>) {
-        let view = View::of(&*self.course, self.survey);
+        let seen = Seen::of(self.stepping.net().core(), self.survey);
         let (comp, port) = (
             call.number().unwrap_or(0),
             number(call.second.unwrap_or("")),
         );
-        match place_asked(&view, comp, port, &mut self.answer) {
+        match place_asked(seen, comp, port, &mut self.answer) {
             Some((comp, port)) => self.fire_at(comp, port),
             None => {}
         }
@@ -148,13 +142,13 @@ impl<'s> Session<'s> {
     fn fire_at(&mut self, comp: u32, port: Option<u32>) {
         let before = self.entries();
         let (alloc, typed) = (self.answer.text.alloc(), self.typed.as_slice());
-        match self.course.fire(alloc, typed, comp, port) {
+        match self.stepping.fire(alloc, typed, comp, port) {
             Ok(()) => self.played(before, None),
             Err(error) => {
                 if !self.is_spent(error) {
                     self.answer.begin_error();
-                    let view = View::of(&*self.course, self.survey);
-                    put_stuck(&view, comp, port, &mut self.answer.text);
+                    let seen = Seen::of(self.stepping.net().core(), self.survey);
+                    put_stuck(seen, comp, port, &mut self.answer.text);
                 }
             }
         }
@@ -165,18 +159,18 @@ impl<'s> Session<'s> {
         let before = self.entries();
         let (alloc, typed) = (self.answer.text.alloc(), self.typed.as_slice());
         let end = if by_chance {
-            self.course.random(alloc, typed, count)
+            self.stepping.random(alloc, typed, count)
         } else {
-            self.course.run(alloc, typed, count)
+            self.stepping.run(alloc, typed, count)
         };
         self.played(before, None);
         match end {
             Ok(RunEnd::Rest(fired) | RunEnd::Spent(fired)) => {
-                let form = match self.course.net().next_ready(1) {
+                let form = match self.stepping.net().next_ready(1) {
                     None => "% fired, at rest\n",
                     Some(_) => "% fired, not at rest\n",
                 };
-                self.answer.text.say(form, &[Piece::Number(fired.into())]);
+                self.answer.text.say(form, &[Piece::Wide(fired.into())]);
             }
             Ok(RunEnd::Refused(_, error)) => {
                 self.is_spent(error);
@@ -188,7 +182,7 @@ impl<'s> Session<'s> {
     // Adds what was played behind the first `before` entries, of which the host was told this.
     fn played(&mut self, before: usize, reply: Option<Reply>) {
         self.reply = reply;
-        put_added(self.course.net(), before, &mut self.answer.text);
+        put_added(self.stepping.net(), before, &mut self.answer.text);
     }
 
     // Whether there is no memory for an entry, or no room in the journal, which is told.
@@ -196,7 +190,7 @@ impl<'s> Session<'s> {
         match error {
             NetError::Memory => self.answer.text.lose(),
             NetError::JournalFull => {
-                let limit = Piece::Number(self.course.limit().into());
+                let limit = Piece::Wide(self.stepping.limit().into());
                 self.answer.complain(FULL, &[limit]);
             }
             _ => return false,
@@ -205,14 +199,14 @@ impl<'s> Session<'s> {
     }
 
     fn seed(&mut self, seed: u64) {
-        self.course.seed(seed);
-        let seed = Piece::Number(seed.into());
+        self.stepping.seed(seed);
+        let seed = Piece::Wide(seed.into());
         self.answer.text.say("seed %\n", &[seed]);
     }
 
     // Takes back the last commands of those that aren't undone already.
     fn undo(&mut self, count: u64) {
-        let left = self.course.marks().len().saturating_sub(self.undone);
+        let left = self.stepping.marks().len().saturating_sub(self.undone);
         if count > left as u64 {
             let be = Piece::Text(if left == 1 { "is" } else { "are" });
             let left = Piece::Count(left, "command");
@@ -220,7 +214,7 @@ impl<'s> Session<'s> {
             return;
         }
         let count = count as usize;
-        put_undone(&*self.course, left, count, &mut self.answer.text);
+        put_undone(&*self.stepping, left, count, &mut self.answer.text);
         self.undone = self.undone.saturating_add(count);
         self.reply = None;
     }
@@ -245,32 +239,32 @@ impl<'s> Session<'s> {
         }
     }
 
-    fn page<S: Shelf>(&mut self, shelf: &mut S, call: Call<'_>) {
-        let comps = self.course.flat().comp_count() as usize;
+    fn page<F: Files>(&mut self, files: &mut F, call: Call<'_>) {
+        let comps = self.stepping.flat().comp_count() as usize;
         if comps > MOST_COMPS {
             self.answer.begin_error();
             let _ = writeln!(self.answer.text, "{}", TooLarge { comps });
         } else {
-            self.write(shelf, call);
+            self.write(files, call);
         }
     }
 
     // Writes a file: the trace so far, a page on which it plays, or the commands that stand. What is not the trace is made whole
     // before there is a file.
-    fn write<S: Shelf>(&mut self, shelf: &mut S, call: Call<'_>) {
-        let (word, net) = (call.form.word(), self.course.net());
+    fn write<F: Files>(&mut self, files: &mut F, call: Call<'_>) {
+        let (word, net) = (call.form.word(), self.stepping.net());
         let path = call.first.unwrap_or("");
         let mut made = Text::new(self.answer.text.alloc());
         match word {
-            "page" => put_trace_page(&View::of(&*self.course, self.survey), self.part, &mut made),
-            "session" => put_script(&*self.course, &mut made),
+            "page" => put_trace_page(&*self.stepping, self.survey, self.part, &mut made),
+            "session" => put_script(&*self.stepping, &mut made),
             _ => {}
         }
         let Ok(bytes) = made.whole() else {
             self.answer.text.lose();
             return;
         };
-        let saved = match (shelf.create(path, call.over), word) {
+        let saved = match (files.create(path, call.over), word) {
             (Ok(mut file), "trace") => save(net, &mut file).map_err(|_| NoFile::Unwritable),
             (Ok(mut file), _) => save_text(bytes, &mut file).map_err(|_| NoFile::Unwritable),
             (Err(cause), _) => Err(cause),
@@ -307,6 +301,6 @@ impl<'s> Session<'s> {
 
     // How many entries the journal has.
     fn entries(&self) -> usize {
-        self.course.net().journal().len()
+        self.stepping.net().journal().len()
     }
 }

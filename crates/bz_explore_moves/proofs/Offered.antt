@@ -12,9 +12,9 @@ use Rattle.bz_explore_net.specs.declared.host_offers.HostOffer.{HostOffer}
 use Rattle.bz_explore_net.specs.declared.offers.Offer.{Offer}
 use Rattle.bz_explore_net.specs.HostOffers.{HostOffers}
 use Rattle.bz_explore_net.specs.Offers.{Offers}
-use Rattle.bz_explore_moves.specs.Lines.{AreBlanks, InLine, InTurn}
+use Rattle.bz_view.specs.Lines.{AreBlanks, InLine, InTurn}
 use Rattle.bz_explore_moves.specs.Moves.{IsMove, IsMoveLine, IsMoves, IsWordLine, end_line}
-use Rattle.bz_explore_moves.proofs.Lines.{line_grows}
+use Rattle.bz_view.proofs.Lines.{line_grows}
 
 -- the words of a move, blanks, and the move
 pub move_grows : (o : Offer) (comp port chan : ℕ) (word : List ℕ) (a b c d : Option (List ℕ)) → comp ≡ o.comp → port ≡ o.port → chan ≡ o.chan → word ≡ move_text o.mv

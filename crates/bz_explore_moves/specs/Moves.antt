@@ -1,12 +1,8 @@
 -- What `moves` writes: what can come next in a state of a net.
 use Rattle.std.specs.Prelude.{◌≡◌, ℕ, zero, suc, List, [], ◌++◌, length, codes, decimal, unwrap_or}
-use Rattle.std.specs.Option.{option_map}
-use Rattle.bz_model.specs.declared.channel.Chan.{Chan}
-use Rattle.bz_model.specs.declared.channel.ChanKind.{ChanKind}
-use Rattle.bz_model.specs.declared.channel.ChanKind.TheVariants.{Sync}
 use Rattle.bz_model.specs.declared.event.Verb.{Verb}
 use Rattle.bz_model.specs.Hosts.{wants_value}
-use Rattle.bz_model.specs.Names.{channel, port_name}
+use Rattle.bz_model.specs.Names.{port_name}
 use Rattle.bz_model.specs.Nets.{State, Wiring}
 use Rattle.bz_model.specs.Traces.{move_text, value_text}
 use Rattle.bz_text.specs.Saying.{count_text}
@@ -14,8 +10,9 @@ use Rattle.bz_explore_net.specs.declared.host_offers.HostOffer.{HostOffer}
 use Rattle.bz_explore_net.specs.declared.offers.Offer.{Offer}
 use Rattle.bz_explore_net.specs.HostOffers.{HostOffers}
 use Rattle.bz_explore_net.specs.Offers.{Offers}
-use Rattle.bz_explore_moves.specs.Lines.{AreBlanks, InTurn, IsLine}
-use Rattle.bz_explore_moves.specs.Naming.{word_text}
+use Rattle.bz_view.specs.Lines.{AreBlanks, InTurn, IsLine}
+use Rattle.bz_view.specs.Naming.{word_text}
+use Rattle.bz_view.specs.Outside.{kind_at}
 
 -- the words that fire a component at a port, and behind blanks the move, its channel and its value as a trace tells them
 abbrev pub IsMove : Offer → List ℕ → Type 0
@@ -24,10 +21,6 @@ IsMove o text = (blanks : List ℕ) × AreBlanks blanks
 
 abbrev pub IsMoveLine : Offer → List ℕ → Type 0
 IsMoveLine o line = (front : List ℕ) × IsMove o front × IsLine front line
-
--- what a channel carries, nothing where there is none of this number
-abbrev pub kind_at : List Chan → ℕ → ChanKind
-kind_at chans k = unwrap_or (option_map (λ c. c.kind) (channel chans k)) Sync
 
 -- a word at an external port, as the host types it
 abbrev pub host_word : Wiring → Verb → ℕ → List ℕ

@@ -8,7 +8,7 @@ use Rattle.bz_model.specs.declared.event.Entry.TheVariants.{Fired, Host, Rested}
 use Rattle.bz_model.specs.Names.{numbered}
 use Rattle.bz_model.specs.Nets.{Site, Wiring, no_site, site_at}
 use Rattle.bz_net.specs.Simulation.{Simulation}
-use Rattle.bz_explore_net.specs.Courses.{goes_on}
+use Rattle.bz_explore_net.specs.Stepping.{goes_on}
 use Rattle.bz_explore_net.specs.Replaying.{IsReplayed}
 
 pub goes_on_more : (from : ℕ) (xs : List Entry) (e : Entry) → goes_on from (xs ++ e ∷ []) ≡ goes_on (goes_on from xs) (e ∷ [])

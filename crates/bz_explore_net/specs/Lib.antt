@@ -3,4 +3,4 @@ pub mod HostOffers
 pub mod Waiting
 pub mod Replaying
 pub mod Picking
-pub mod Courses
+pub mod Stepping

@@ -3,15 +3,15 @@
 
 mod busy;
 mod chance;
-mod course;
 mod host_offers;
 mod offers;
 mod picker;
 mod replaying;
+mod stepping;
 
 pub use busy::busy_chans;
-pub use course::{Course, Mark, UndoError};
 pub use host_offers::{HostOffer, answered_words};
 pub use offers::{Offer, offers_of};
 pub use picker::Picker;
 pub use replaying::replay;
+pub use stepping::{Mark, Stepping, UndoError};

@@ -1,5 +1,5 @@
 -- What the command `page` reads and writes: a netlist, a trace, and a page.
-use Rattle.std.specs.Prelude.{◌≡◌, ◌<◌, ◌≤◌, ℕ, List, [], length, map, Option, Result, Ok, Err}
+use Rattle.std.specs.Prelude.{◌≡◌, ◌<◌, ◌≤◌, ℕ, List, length, map, Option, Result, Ok, Err}
 use Rattle.std.specs.declared.alloc.Global.{Global}
 use Rattle.std.specs.declared.vec.Vec.{Vec}
 use Rattle.bz_model.specs.Nets.{Wiring}
@@ -36,15 +36,19 @@ pub record HasPage (netlist trace : List ℕ) (asked : Option (List ℕ)) (name 
   pub judged : Judges (wiring_in net) trace verdict.Run
   pub few : length net.comps ≤ 100000
 
-abbrev pub Finds : List ℕ → List ℕ → Option (List ℕ) → Result (Pieces × Survey × Vec ℕ Global) (TraceFault TooLarge) → Type 0
+abbrev pub Finds : List ℕ → List ℕ → Option (List ℕ) → Result (Pieces × Survey × Vec ℕ Global × Vec ℕ Global) (TraceFault TooLarge) → Type 0
 Finds netlist trace asked (Ok found) = HasPage netlist trace asked found.2.items found.0 found.1
 Finds netlist trace asked (Err fault) = MakesNone IsTooLarge netlist trace asked fault
 
--- These are the pieces of the net that was checked, and the places in it, by the name of its part.
-pub record IsPlacedOf (c : Checked) (name : List ℕ) (net : Pieces) (s : Survey) : Type 0 where
-  pub wiring : c.net.wiring ≡ wiring_in net
+-- These are the pieces of a net of this wiring.
+pub record IsInPieces (w : Wiring) (net : Pieces) : Type 0 where
+  pub wiring : w ≡ wiring_in net
   pub wired : WellWired (wiring_in net)
   pub ends : EndsOf (wiring_in net) net.ends.items
+
+-- These are the pieces of the net that was checked, and the places in it, by the name of its part.
+pub record IsPlacedOf (c : Checked) (name : List ℕ) (net : Pieces) (s : Survey) : Type 0 where
+  pub pieces : IsInPieces c.net.wiring net
   pub named_is : name ≡ c.part.items
   pub parts : s.parts ≡ c.source.parts
   pub lines : s.lines ≡ c.source.lines
@@ -53,7 +57,7 @@ pub record IsPlacedOf (c : Checked) (name : List ℕ) (net : Pieces) (s : Survey
   pub few : length net.comps ≤ 100000
 
 -- There are such pieces and places, or the net has more components than a page holds, or memory was refused.
-abbrev pub Places : Checked → Result (Pieces × Survey × Vec ℕ Global) (TraceFault TooLarge) → Type 0
+abbrev pub Places : Checked → Result (Pieces × Survey × Vec ℕ Global × Vec ℕ Global) (TraceFault TooLarge) → Type 0
 Places c (Ok found) = IsPlacedOf c found.2.items found.0 found.1
 Places c (Err fault) = RefusesMaking (IsTooLarge c.net.wiring) fault
 
@@ -65,10 +69,11 @@ net_page b part net s trace ends = page_text b (paths_text net s part) (rows_tex
 abbrev pub PagesNet : {A : Type 0} → Blank → List ℕ → Pieces → Survey → List ℕ → List ℕ → Option (List ℕ) → Option (List ℕ) → Result A Fault → Type 0
 PagesNet b part net s trace ends old new answer = Answers Write (λ u page. page ≡ net_page b part net s trace ends) (λ fault. fault ≡ Memory) old new answer
 
--- the page of the net that a netlist denotes, with a trace that is that of a run of it
+-- the page of the net that a netlist denotes, with a trace that is that of a run of it; which lines tell how the run ended is not
+-- said
 abbrev pub IsPage : Blank → List ℕ → List ℕ → Option (List ℕ) → List ℕ → Type 0
 IsPage b netlist trace asked page =
-    (name : List ℕ) × (net : Pieces) × (s : Survey) × HasPage netlist trace asked name net s × (page ≡ net_page b name net s trace [])
+    (name : List ℕ) × (net : Pieces) × (s : Survey) × (ends : List ℕ) × HasPage netlist trace asked name net s × (page ≡ net_page b name net s trace ends)
 
 -- Only the trace of a run is played.
 abbrev pub PagesTrace : {A : Type 0} → Blank → List ℕ → List ℕ → Option (List ℕ) → Option (List ℕ) → Option (List ℕ) → Result A (TraceFault TooLarge) → Type 0

@@ -5,21 +5,23 @@
 //! text of `list --paths` has some 200 bytes for each, and a browser reads all of it as it opens. A trace has no limit but
 //! that of the input.
 
-ghost use Rattle.std.specs.Prelude.{◌≡◌, IfSome};
+ghost use Rattle.std.specs.Prelude.{◌≡◌, IfOk, IfSome};
 ghost use Rattle.std.specs.Option.{option_copied};
 ghost use Rattle.bz_cli_input.specs.Reading.{ReadsWithin};
 ghost use Rattle.bz_page.specs.Pages.{blank, blank_of};
-ghost use Rattle.bz_page.specs.Paging.{Finds, Pages, PagesApart, PagesTrace, Places};
+ghost use Rattle.bz_page.specs.Paging.{Finds, IsInPieces, Pages, PagesApart, PagesTrace, Places};
 
 use crate::around::Template;
+use crate::ends::ends_of;
 use crate::fault::TooLarge;
 use crate::net_page::{put_net_page, template};
 use crate::template::{HEAD, MID1, MID2, TAIL};
 use bz_cli_input::Fault;
 use bz_cli_trace::{Checked, Texts, TraceFault, run_of};
 use bz_flat::Pieces;
+use bz_net::Play;
 use bz_source::Survey;
-use std::alloc::Global;
+use std::alloc::{AllocError, Global};
 use std::io::{Read, Write};
 
 /// The most components of a net that a page holds.
@@ -105,24 +107,24 @@ fn page_of_texts<W: Write>(
     ensures { PagesTrace (blank_of template.entry) texts.now.netlist texts.now.trace (option_copied asked.entry) (W.contents output.old) (W.contents output.new) result }
 {
     let (netlist, trace) = texts.both();
-    let (net, survey, part) = match run_net(alloc, asked, netlist, trace) {
+    let (net, survey, part, ends) = match run_net(alloc, asked, netlist, trace) {
         Ok(found) => found,
         Err(fault) => return Err(fault),
     };
     let part = part.as_slice();
-    match put_net_page(alloc, template, part, &net, &survey, trace, &[], output) {
+    match put_net_page(alloc, template, part, &net, &survey, trace, &ends, output) {
         Ok(()) => Ok(()),
         Err(fault) => Err(TraceFault::Command(fault)),
     }
 }
 
-// The net of a part, of which the trace is that of a run, where everything in it stands, and the name of the part.
+// The net of a part, of which the trace is that of a run, where everything in it is, the name of the part, and how the run ended.
 fn run_net(
     alloc: Global,
     asked: Option<&[u8]>,
     netlist: &[u8],
     trace: &[u8],
-) -> Result<(Pieces, Survey, Vec<u8>), TraceFault<TooLarge>>
+) -> Result<(Pieces, Survey, Vec<u8>, Vec<u8>), TraceFault<TooLarge>>
     ensures { Finds netlist.now trace.now (option_copied asked.entry) result }
 {
     match run_of(alloc, asked, netlist, trace) {
@@ -131,22 +133,34 @@ fn run_net(
     }
 }
 
-// A net in its pieces, where everything in it stands, and the name of its part, unless it is too large for a page.
-fn place(alloc: Global, checked: Checked) -> Result<(Pieces, Survey, Vec<u8>), TraceFault<TooLarge>>
+// A net in its pieces, where everything in it is, the name of its part, and who waits for whom, unless it is too large for a page.
+fn place(
+    alloc: Global,
+    checked: Checked,
+) -> Result<(Pieces, Survey, Vec<u8>, Vec<u8>), TraceFault<TooLarge>>
     ensures { Places checked result }
 {
-    let (flat, source, part) = match checked.into_flat(alloc) {
-        Ok(parts) => parts,
-        Err(_) => return Err(TraceFault::Command(Fault::Memory)),
-    };
-    let net = flat.into_pieces();
-    let comps = net.comps.len();
+    let (net, source, part) = checked.into_parts();
+    let comps = net.core().comp_count() as usize;
     if comps > MOST_COMPS {
         return Err(TraceFault::Other(TooLarge { comps }));
     }
     // a part that has a net has places, so nothing but memory can be wanting
-    match source.survey(alloc, part.as_slice()) {
-        Ok(survey) => Ok((net, survey, part)),
-        Err(_) => Err(TraceFault::Command(Fault::Memory)),
+    let survey = match source.survey(alloc, part.as_slice()) {
+        Ok(survey) => survey,
+        Err(_) => return Err(TraceFault::Command(Fault::Memory)),
+    };
+    match take_apart(alloc, net, &survey) {
+        Ok((net, ends)) => Ok((net, survey, part, ends)),
+        Err(AllocError) => Err(TraceFault::Command(Fault::Memory)),
     }
+}
+
+// A net in its pieces, and who waits for whom in it.
+fn take_apart(alloc: Global, net: Play, survey: &Survey) -> Result<(Pieces, Vec<u8>), AllocError>
+    ensures { IfOk result (λ found. IsInPieces net.wiring found.0) }
+{
+    let ends = ends_of(alloc, net.core(), survey)?;
+    let flat = net.into_flat(alloc)?;
+    Ok((flat.into_pieces(), ends))
 }

@@ -3,6 +3,7 @@
 
 mod around;
 mod command;
+mod ends;
 mod escaping;
 mod fault;
 mod net_page;

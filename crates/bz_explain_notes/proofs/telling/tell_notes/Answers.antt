@@ -6,6 +6,6 @@ use Rattle.bz_explain_notes.proofs.telling.tell_notes.Goals as goal
 
 pub returns : goal.returns
 returns g c = (
-  map letters_of c.notes.result.now,
-  subst (λ t. Writes (g.W.Write.contents c.args.out.now) (g.W.Write.contents c.put_notes.new.out) c.put_notes.result t) (lines_are c.notes.result.now) c.put_notes.ensures,
+  map letters_of c.ended.result.now,
+  subst (λ t. Writes (g.W.Write.contents c.args.out.now) (g.W.Write.contents c.put_notes.new.out) c.put_notes.result t) (lines_are c.ended.result.now) c.put_notes.ensures,
 )

@@ -1,4 +1,4 @@
-use Rattle.bz_explore_moves.proofs.Lines.{within_blanks}
+use Rattle.bz_view.proofs.Lines.{within_blanks}
 use Rattle.bz_explore_moves.proofs.moves.go_on.Goals as goal
 
 pub returns : goal.returns

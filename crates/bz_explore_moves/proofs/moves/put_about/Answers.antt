@@ -1,4 +1,4 @@
-use Rattle.bz_explore_moves.proofs.Lines.{within_then}
+use Rattle.bz_view.proofs.Lines.{within_then}
 use Rattle.bz_explore_moves.proofs.moves.put_about.Goals as goal
 
 pub returns : goal.returns

@@ -1,5 +1,5 @@
 use Rattle.std.proofs.Common.{refl}
-use Rattle.bz_explore_moves.proofs.Lines.{within_then}
+use Rattle.bz_view.proofs.Lines.{within_then}
 use Rattle.bz_explore_moves.proofs.moves.put_comp_port.Goals as goal
 
 pub returns-in-Some-port_at : goal.returns-in-Some-port_at

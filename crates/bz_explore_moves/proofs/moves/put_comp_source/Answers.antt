@@ -1,5 +1,5 @@
 use Rattle.std.proofs.Common.{codes, refl}
-use Rattle.bz_explore_moves.proofs.Lines.{within, within_then}
+use Rattle.bz_view.proofs.Lines.{within, within_then}
 use Rattle.bz_explore_moves.proofs.moves.put_comp_source.Goals as goal
 
 pub returns-in-Some : goal.returns-in-Some

@@ -6,15 +6,15 @@ use Rattle.bz_explore_net.specs.declared.host_offers.HostOffer.{HostOffer}
 use Rattle.bz_explore_net.specs.declared.offers.Offer.{Offer}
 use Rattle.bz_explore_net.specs.HostOffers.{HostOffers}
 use Rattle.bz_explore_net.specs.Offers.{Offers}
-use Rattle.bz_explore_moves.specs.Lines.{InTurn}
+use Rattle.bz_view.specs.Lines.{InTurn}
 use Rattle.bz_explore_moves.specs.Moves.{IsMoveLine, IsWordLine, end_line}
 use Rattle.bz_explore_moves.proofs.Offered.{gathered_is, moves_grow}
 use Rattle.bz_explore_moves.proofs.moves.put_moves.Goals as goal
 
 pub returns : goal.returns
 returns c =
-    let w = c.args.course.now.net.wiring in
-    let s = c.args.course.now.net.state in
+    let w = c.args.stepping.now.net.wiring in
+    let s = c.args.stepping.now.net.state in
     let listed = subst (λ (net : Simulation). IfOk c.offers_of.result (λ v. Offers net.wiring.sites net.state v.items)) c.net-net.ensures c.offers_of.ensures in
     let told = subst (λ (net : Simulation). IfOk c.answered_words.result (λ v. HostOffers net.wiring net.state v.items)) c.net-net.ensures c.answered_words.ensures in
     let offers = gathered_is c.offers_of.result c.gathered-moves.result (λ v. Offers w.sites s v.items) _ _ listed c.gathered-moves.ensures.ok c.gathered-moves.ensures.err in

@@ -1,6 +1,6 @@
 use Rattle.std.proofs.Common.{arith}
 use Rattle.bz_explore_moves.specs.Moves.{IsMoveLine}
-use Rattle.bz_explore_moves.proofs.Lines.{turn_all, turn_more, turn_none}
+use Rattle.bz_view.proofs.Lines.{turn_all, turn_more, turn_none}
 use Rattle.bz_explore_moves.proofs.moves.put_offers.Goals as goal
 
 pub loop-offer-init : goal.loop-offer-init

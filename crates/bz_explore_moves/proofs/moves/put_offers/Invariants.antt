@@ -1,6 +1,6 @@
 use Rattle.std.proofs.Common.{take}
 use Rattle.bz_text.specs.Growing.{GrowsBy}
-use Rattle.bz_explore_moves.specs.Lines.{InTurn}
+use Rattle.bz_view.specs.Lines.{InTurn}
 use Rattle.bz_explore_moves.specs.Moves.{IsMoveLine}
 use Rattle.bz_explore_moves.proofs.moves.put_offers.Given as goal
 

@@ -1,4 +1,4 @@
-use Rattle.bz_explore_moves.proofs.Lines.{line_grows}
+use Rattle.bz_view.proofs.Lines.{line_grows}
 use Rattle.bz_explore_moves.proofs.moves.put_word.Goals as goal
 
 pub returns : goal.returns

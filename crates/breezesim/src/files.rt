@@ -1,0 +1,88 @@
+//! Files in which traces and sessions are kept.
+//!
+//! A file is made anew, so that no other program's file can come between the look and the writing. With `!` it is opened
+//! first, compared with the netlist by device and number, and only then emptied.
+
+use bz_explore::{Files, NoFile};
+use std::fs;
+use std::fs::{File, Metadata, OpenOptions};
+use std::io::{BufWriter, ErrorKind};
+use std::os::unix::fs::MetadataExt;
+
+/// How many bytes are gathered before they go out.
+const BUFFER_SIZE: usize = 65_536;
+
+/// The files of the system, but for the netlist.
+#[derive(Clone, Copy)]
+pub(crate) struct SystemFiles<'a> {
+    pub rt: &'a HostRuntime,
+    pub netlist: Option<&'a str>,
+}
+
+impl Files for SystemFiles<'_> {
+    type File = BufWriter<File>;
+
+    fn create(&mut self, path: &str, over: bool) -> Result<BufWriter<File>, NoFile> {
+        let file = if over {
+            self.emptied(path)
+        } else {
+            self.made(path)
+        };
+        match file {
+            Ok(file) => buffered(self.rt, file),
+            Err(cause) => Err(cause),
+        }
+    }
+}
+
+impl SystemFiles<'_> {
+    // A new file.
+    fn made(&self, path: &str) -> Result<File, NoFile> {
+        match File::create_new(self.rt, path) {
+            Ok(file) => Ok(file),
+            Err(error) if error.kind() == ErrorKind::AlreadyExists => Err(NoFile::Exists),
+            Err(_) => Err(NoFile::Unwritable),
+        }
+    }
+
+    // A file without what it had. The netlist keeps what it has.
+    fn emptied(&self, path: &str) -> Result<File, NoFile> {
+        let opened = OpenOptions::new()
+            .write(true)
+            .create(true)
+            .open(self.rt, path);
+        match opened {
+            Ok(file) => self.emptied_file(file),
+            Err(_) => Err(NoFile::Unwritable),
+        }
+    }
+
+    fn emptied_file(&self, file: File) -> Result<File, NoFile> {
+        match file.metadata() {
+            Ok(metadata) if self.is_netlist(&metadata) => Err(NoFile::Netlist),
+            Ok(metadata) if metadata.is_file() && file.set_len(0).is_err() => {
+                Err(NoFile::Unwritable)
+            }
+            Ok(_) => Ok(file),
+            Err(_) => Err(NoFile::Unwritable),
+        }
+    }
+
+    // Whether a file is the netlist, by whatever name.
+    fn is_netlist(&self, file: &Metadata) -> bool {
+        let Some(path) = self.netlist else {
+            return false;
+        };
+        match fs::metadata(self.rt, path) {
+            Ok(netlist) => netlist.dev() == file.dev() && netlist.ino() == file.ino(),
+            Err(_) => false,
+        }
+    }
+}
+
+fn buffered(rt: &HostRuntime, file: File) -> Result<BufWriter<File>, NoFile> {
+    match BufWriter::with_capacity(rt.alloc(), BUFFER_SIZE, file) {
+        Ok(file) => Ok(file),
+        Err(_) => Err(NoFile::Unwritable),
+    }
+}

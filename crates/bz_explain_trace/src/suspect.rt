@@ -1,0 +1,12 @@
+//! What a trace is looked at for.
+
+/// A text that should be the trace of a run of a net.
+#[derive(Clone, Copy)]
+pub struct Suspect<'t> {
+    pub netlist: &'t [u8],
+    /// The trace: what its file has, or else what stands after the netlist from the line that begins a trace on, which is
+    /// nothing where no line does.
+    pub trace: &'t [u8],
+    /// The name of its file, where it has one of its own.
+    pub file: Option<&'t str>,
+}

@@ -1,5 +1,0 @@
-use Rattle.bz_explore_moves.proofs.Lines.{blanks_grow}
-use Rattle.bz_explore_moves.proofs.parts.fill.Goals as goal
-
-pub returns : goal.returns
-returns c = blanks_grow c.args.column _ _ c.fill.ensures

@@ -1,6 +1,0 @@
-use Rattle.std.proofs.Common.{◌≡◌, take}
-use Rattle.bz_explore_net.specs.Courses.{goes_on}
-use Rattle.bz_explore_net.proofs.course.goes_on.Given as goal
-
-abbrev pub invariant-loop-entry : goal.invariant-loop-entry
-invariant-loop-entry l = l.next ≡ goes_on l.fn.from (take l.entry-index l.entries)

@@ -1,0 +1,316 @@
+//! A net that is played by hand, and how to go back in it.
+//!
+//! `undo` only notes how far to go back: the net is opened anew, and the journal's front made again, where it is next looked
+//! at. So several `undo` are one replay. Where the picking was goes back too. Room for a mark is taken before a command is
+//! carried out: without memory for it nothing changes. Where the journal is full before all moves are made, those that were
+//! made stay, with their mark.
+
+ghost use Rattle.std.specs.Prelude.{◌≡◌, ◌≢◌, ◌<◌, ◌≤◌, [], ◌∷◌, length, IfOk, IfErr, OnOk, OnErr};
+ghost use Rattle.bz_model.specs.declared.event.Who.TheVariants as who;
+ghost use Rattle.bz_net.specs.Running.{Ran};
+ghost use Rattle.bz_net.specs.Replies.{Replies, RefusesCommand};
+ghost use Rattle.bz_net.specs.Simulation.{Adds, IsOpened};
+ghost use Rattle.bz_explore_net.specs.Stepping.{IsBack, IsFiringOf, IsMark, IsMarked, Marked, RefusesFiringOf, added, goes_on};
+ghost use Rattle.bz_explore_net.specs.Picking.{RanByChance, begun};
+ghost use Rattle.bz_explore_net.specs.declared.stepping.Mark.{Mark};
+ghost use Rattle.bz_model.specs.declared.event.Entry.{Entry};
+
+use crate::chance::run_by_chance;
+use crate::picker::Picker;
+use crate::replaying::replay;
+use bz_flat::Flat;
+use bz_model::{Entry, HostCmd, NetError, Reply, Who};
+use bz_net::{Answer, Event, Net, RunEnd};
+use std::alloc::{AllocError, Global};
+use std::marker::Model;
+
+/// Who makes the firings.
+const WORKER: Who = Who::Worker(1);
+
+/// Who gives the host's commands.
+const HOST: Who = Who::Host(1);
+
+/// A command that added entries, and how all was before it.
+#[derive(Debug, Drop)]
+pub struct Mark {
+    pub command: Vec<u8>,
+    /// How many entries the journal had.
+    pub entries: usize,
+    pub next: u32,
+    pub picker: Picker,
+}
+
+/// Why nothing is taken back.
+#[derive(Clone, Copy, Debug, PartialEq, Eq)]
+pub enum UndoError {
+    /// There are fewer commands.
+    TooFew,
+    Memory,
+}
+
+/// A net that is played by hand.
+pub struct Stepping {
+    flat: Flat,
+    net: Net,
+    next: u32,
+    picker: Picker,
+    marks: Vec<Mark>,
+    limit: u32,
+}
+
+// Written by hand: callers then prove one drop instead of one for each field.
+impl Drop for Stepping {
+    fn drop(self) {
+        let Stepping {
+            flat: _,
+            net: _,
+            next: _,
+            picker: _,
+            marks: _,
+            limit: _,
+        } = self;
+    }
+}
+
+impl Model for Stepping {
+    ghost use Rattle.std.specs.Prelude.{◌≡◌, ◌<◌, ◌≤◌};
+    ghost use Rattle.std.specs.Coded.{codes};
+    ghost use Rattle.bz_model.specs.Codes.{term_code};
+    ghost use Rattle.bz_explore_net.specs.Stepping.{Played};
+
+    ghost Value = { Played };
+
+    ghost coded = { Prim.hlevel (codes, term_code) };
+
+    ghost view = { λ c. record { net = c.net; next = c.next; picker = c.picker; marks = c.marks.items } };
+
+    ghost invariant = { λ c. (c.net.wiring ≡ c.flat.wiring) × (c.net.limit ≡ c.limit) × (0 < c.limit) × (c.limit ≤ 16777216) };
+}
+
+impl Stepping {
+    /// The net at its opening, with room for `limit` entries.
+    pub fn open(alloc: Global, flat: Flat, limit: u32) -> Result<Stepping, NetError>
+        requires least { 0 < limit }
+        requires most { limit ≤ 16777216 }
+        ensures opened { IfOk result (λ c. IsOpened flat.wiring limit c.net) }
+        ensures next { IfOk result (λ c. c.next ≡ 1) }
+        ensures picker { IfOk result (λ c. (c.picker.seed ≡ 0) × (c.picker.state ≡ begun 0)) }
+        ensures marks { IfOk result (λ c. c.marks ≡ []) }
+        ensures err { IfErr result (λ e. e ≡ NetError.Memory) }
+    {
+        let Ok(same) = flat.dup(alloc) else {
+            return Err(NetError::Memory);
+        };
+        let net = Net::open(alloc, same, limit)?;
+        Ok(Stepping {
+            flat,
+            net,
+            next: 1,
+            picker: Picker::new(0),
+            marks: Vec::new(alloc),
+            limit,
+        })
+    }
+
+    /// The flat net that it is one of.
+    pub fn flat(&self) -> &Flat
+        ensures { result.now.wiring ≡ self.now.net.wiring }
+    {
+        &self.flat
+    }
+
+    pub fn net(&self) -> &Net
+        ensures { result.now ≡ self.now.net }
+    {
+        &self.net
+    }
+
+    /// The component from which on the next run looks for one that can move.
+    pub fn next(&self) -> u32
+        ensures { result ≡ self.now.next }
+    {
+        self.next
+    }
+
+    pub fn picker(&self) -> Picker
+        ensures { result ≡ self.now.picker }
+    {
+        self.picker
+    }
+
+    /// The most entries that the journal may have.
+    pub fn limit(&self) -> u32
+        ensures { result ≡ self.now.net.limit }
+    {
+        self.limit
+    }
+
+    /// The commands that added entries.
+    pub fn marks(&self) -> &[Mark]
+        ensures { result.now ≡ self.now.marks }
+    {
+        self.marks.as_slice()
+    }
+
+    // How all is before a command.
+    fn mark(&self, alloc: Global, command: &[u8]) -> Result<Mark, AllocError>
+        ensures { IfOk result (IsMark self.now command.now) }
+    {
+        Ok(Mark {
+            command: Vec::from_slice(alloc, command)?,
+            entries: self.net.journal().len(),
+            next: self.next,
+            picker: self.picker,
+        })
+    }
+
+    /// Takes back the last `count` commands that added entries.
+    pub fn undo(&mut self, alloc: Global, count: usize) -> Result<(), UndoError>
+        requires { 0 < count }
+        ensures back { OnOk result ((mark : Mark) × IsBack self.old count mark self.new) }
+        ensures few { IfErr result (λ e. e ≡ UndoError.TooFew → length self.old.marks < count) }
+        ensures err { OnErr result (self.new ≡ self.old) }
+    {
+        let Some(left) = self.marks.len().checked_sub(count) else {
+            return Err(UndoError::TooFew);
+        };
+        let (entries, next, picker) = {
+            let mark = &self.marks[left];
+            (mark.entries, mark.next, mark.picker)
+        };
+        let journal = self.net.journal();
+        let front = &journal[..entries.min(journal.len())];
+        let Ok(net) = replay(alloc, &self.flat, front, self.limit) else {
+            return Err(UndoError::Memory);
+        };
+        self.net = net;
+        self.next = next;
+        self.picker = picker;
+        self.marks.truncate(left);
+        Ok(())
+    }
+
+    /// Fires up to `fuel` times, going on where the last run ended.
+    pub fn run(&mut self, alloc: Global, command: &[u8], fuel: u64) -> Result<RunEnd, AllocError>
+        ensures ran { IfOk result (Ran self.old.net self.new.net (who.Worker 1) self.old.next fuel) }
+        ensures next { IfOk result (λ end. self.new.next ≡ goes_on self.old.next (added self.old self.new)) }
+        ensures marked { IfOk result (λ end. Marked self.old command.now self.new) }
+        ensures picker { self.new.picker ≡ self.old.picker }
+        ensures err { OnErr result (self.new ≡ self.old) }
+    {
+        let mark = self.mark(alloc, command)?;
+        self.marks.reserve(1)?;
+        let end = self.net.run(WORKER, self.next, fuel);
+        self.next = goes_on(self.next, &self.net.journal()[mark.entries..]);
+        if self.net.journal().len() > mark.entries {
+            self.marks.push(mark).unwrap();
+        }
+        Ok(end)
+    }
+
+    /// Fires a component at a port, or at the lowest at which it can move.
+    pub fn fire(
+        &mut self,
+        alloc: Global,
+        command: &[u8],
+        comp: u32,
+        port: Option<u32>,
+    ) -> Result<(), NetError>
+        ensures fired { OnOk result ((entry : Entry) × Adds self.old.net entry self.new.net × IsFiringOf self.old.net comp port entry) }
+        ensures marked { OnOk result (IsMarked self.old command.now self.new) }
+        ensures next { self.new.next ≡ self.old.next }
+        ensures picker { self.new.picker ≡ self.old.picker }
+        ensures cause { IfErr result (λ e. e ≢ NetError.Memory → RefusesFiringOf self.old.net comp port e) }
+        ensures err { OnErr result (self.new ≡ self.old) }
+    {
+        let (Ok(mark), Ok(())) = (self.mark(alloc, command), self.marks.reserve(1)) else {
+            return Err(NetError::Memory);
+        };
+        match port {
+            None => self.net.fire(WORKER, comp)?,
+            Some(port) => self.net.fire_move(WORKER, comp, port)?,
+        };
+        self.marks.push(mark).unwrap();
+        Ok(())
+    }
+
+    /// Makes a command of the host.
+    pub fn command(
+        &mut self,
+        alloc: Global,
+        command: &[u8],
+        cmd: &HostCmd,
+    ) -> Result<Reply, NetError>
+        ensures replies { IfOk result (Replies self.old.net self.new.net (who.Host 1) cmd.now.verb cmd.now.port.items cmd.now.value) }
+        ensures marked { OnOk result (IsMarked self.old command.now self.new) }
+        ensures next { self.new.next ≡ self.old.next }
+        ensures picker { self.new.picker ≡ self.old.picker }
+        ensures cause { IfErr result (λ e. e ≢ NetError.Memory
+            → RefusesCommand self.old.net cmd.now.verb cmd.now.port.items cmd.now.value e) }
+        ensures err { OnErr result (self.new ≡ self.old) }
+    {
+        let (Ok(mark), Ok(())) = (self.mark(alloc, command), self.marks.reserve(1)) else {
+            return Err(NetError::Memory);
+        };
+        let reply = match self.net.serve(HOST, Event::Host(cmd)) {
+            Ok(Answer::Host(reply)) => reply,
+            Ok(_) => unreachable!(),
+            Err(error) => return Err(error),
+        };
+        self.marks.push(mark).unwrap();
+        Ok(reply)
+    }
+
+    /// Begins the picking anew.
+    pub fn seed(&mut self, seed: u64)
+        ensures net { self.new.net ≡ self.old.net }
+        ensures next { self.new.next ≡ self.old.next }
+        ensures seed { self.new.picker.seed ≡ seed }
+        ensures picker { self.new.picker.state ≡ begun seed }
+        ensures marks { self.new.marks ≡ self.old.marks }
+    {
+        self.picker = Picker::new(seed);
+    }
+
+    /// Fires up to `count` moves that are picked by chance: a component that can move, and one of its moves.
+    pub fn random(
+        &mut self,
+        alloc: Global,
+        command: &[u8],
+        count: u64,
+    ) -> Result<RunEnd, AllocError>
+        ensures ran { IfOk result (RanByChance self.old.net self.new.net (who.Worker 1) count self.old.picker.state self.new.picker.state) }
+        ensures marked { IfOk result (λ end. Marked self.old command.now self.new) }
+        ensures next { self.new.next ≡ self.old.next }
+        ensures seed { self.new.picker.seed ≡ self.old.picker.seed }
+        ensures err { OnErr result (self.new ≡ self.old) }
+    {
+        let mark = self.mark(alloc, command)?;
+        self.marks.reserve(1)?;
+        let end = run_by_chance(&self.flat, &mut self.net, WORKER, &mut self.picker, count);
+        if self.net.journal().len() > mark.entries {
+            self.marks.push(mark).unwrap();
+        }
+        Ok(end)
+    }
+}
+
+// From which component on a run looks next, after these entries of one that looked from `from` on.
+fn goes_on(from: u32, entries: &[Entry]) -> u32
+    ensures { result ≡ goes_on from entries.now }
+{
+    let mut next = from;
+    for entry in entries {
+        next = after_entry(next, *entry);
+    }
+    next
+}
+
+fn after_entry(from: u32, entry: Entry) -> u32
+    ensures { result ≡ goes_on from (entry ∷ []) }
+{
+    match entry {
+        Entry::Fired { comp, .. } => comp.saturating_add(1),
+        _ => from,
+    }
+}

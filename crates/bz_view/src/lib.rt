@@ -1,0 +1,21 @@
+//! A net as people are shown it: what its components, channels and ports are called and where they come from, the pieces of such
+//! texts, and who waits for whom in it.
+//!
+//! What `moves` writes has a contract, so how names, places and ports are written within a line has one too. That goes by
+//! `put_pieces` and not by `say`: the text of an array of pieces is known at the call, without a lemma for each form.
+#![tactic(auto)]
+
+mod naming;
+mod parts;
+mod piece;
+mod seen;
+mod waits;
+
+pub use naming::{put_host_word, put_instance, put_name, put_port, put_source, put_typed};
+pub use parts::{fill, gathered, put_in_line};
+pub use piece::{Piece, Spot, put_phase};
+pub use seen::{Seen, Thing, chan_at, chan_of, port_count, port_name, port_of};
+pub use waits::{
+    MOST_MEMBERS, graph_of, put_counts, put_cycle, put_cycles, put_each, put_ends, put_held,
+    put_wait,
+};

@@ -1,0 +1,207 @@
+//! What stands for a mark in a form.
+
+use crate::naming::{put_host_word, put_instance, put_name, put_port, put_source, put_typed};
+use bz_kind_rows::PortAt;
+use bz_model::{Chan, Phase, Reply, Value, Verb};
+use bz_source::{Label, LineAt, SourceAt, put_path};
+use bz_text::{Piece as Part, Put, Text};
+use std::io::Write;
+
+/// The most bytes that are shown of a name, and of what was given.
+const MOST_SHOWN: usize = 100;
+
+/// Enough blanks to come below a line that is shown.
+static BLANKS: [u8; 128] = [b' '; 128];
+
+/// A place in a text, line and column counted from 1. A column is a byte.
+#[derive(Clone, Copy, Debug, PartialEq, Eq)]
+pub struct Spot {
+    pub line: usize,
+    pub column: usize,
+}
+
+/// What stands for a `%` of a form that people read.
+#[derive(Clone, Copy)]
+pub enum Piece<'a> {
+    Text(&'a str),
+    Bytes(&'a [u8]),
+    /// What was given: of more than 100 bytes the first 100, and two dots; a `?` for each byte that is not printable.
+    Shown(&'a [u8]),
+    /// A name in name form, shortened like that.
+    Name(&'a [u8]),
+    /// A name as it is typed in a session: in name form, and a `#`, which would begin a comment, by its number.
+    Typed(&'a [u8]),
+    /// The same, shortened.
+    Called(&'a [u8]),
+    Number(usize),
+    Wide(Value),
+    /// A blank and a value, where there is one.
+    Value(Option<Value>),
+    /// A number of things, by the noun for one: `1 line`, `2 lines`, `2 entries`.
+    Count(usize, &'a str),
+    /// This many blanks, 128 at most.
+    Blanks(usize),
+    /// A component's port: its name, and its place where it is one of an array.
+    Port(PortAt),
+    /// What a channel carries, with its width where it has one.
+    Carried(Chan),
+    /// The phase of a channel, with its value where it has one.
+    Phase(Phase),
+    /// The reply of a net, with what it brings.
+    Reply(Reply),
+    /// Positions, with a slash between.
+    Path(&'a [usize]),
+    /// A place, where there is one: `line 3, column 14`.
+    At(Option<Spot>),
+    /// A place in a source.
+    Source(SourceAt<'a>),
+    /// What something is called in the source and where it comes from, its name in name form: ` x (two_place.balsa:7:5)`.
+    Label(Label<'a>),
+    /// The instance in which a component is, and the part that it is one of.
+    Instance(LineAt<'a>),
+    /// A component: its kind and its number, and what the source has of it, as that is typed.
+    Comp(&'static [u8], u32, Label<'a>),
+    /// A channel: its number, and its name in the source, as that is typed.
+    Chan(u32, Option<&'a [u8]>),
+    /// The host, at the external port of this name.
+    Host(&'a [u8]),
+    /// A word of the host at a port, and whether a value belongs to it.
+    Word(Verb, &'a [u8], bool),
+}
+
+impl Put for Piece<'_> {
+    fn put(&self, text: &mut Text) {
+        match *self {
+            Piece::Text(words) => text.put(words),
+            Piece::Bytes(bytes) => text.put_bytes(bytes),
+            Piece::Shown(bytes) => put_shown(text, bytes),
+            Piece::Name(name) => put_short(text, name),
+            Piece::Typed(name) => put_typed(text, name),
+            Piece::Called(name) => put_name(text, name),
+            Piece::Number(number) => text.put_pieces(&[Part::Number(number as Value)]),
+            Piece::Wide(number) => text.put_pieces(&[Part::Number(number)]),
+            Piece::Value(value) => text.put_pieces(&[Part::Value(value)]),
+            Piece::Count(count, thing) => put_count(text, count, thing),
+            Piece::Blanks(count) => text.put_bytes(BLANKS.get(..count).unwrap_or(&BLANKS)),
+            Piece::Port(at) => put_port(text, at),
+            Piece::Carried(_) | Piece::Phase(_) | Piece::Reply(_) => self.put_state(text),
+            Piece::Path(path) => {
+                let _ = put_path(text, path);
+            }
+            Piece::At(spot) => put_spot(text, spot),
+            Piece::Source(at) => put_source(text, at),
+            Piece::Label(label) => put_label(text, label),
+            Piece::Instance(at) => put_instance(text, at),
+            Piece::Comp(kind, number, label) => put_comp(text, kind, number, label),
+            Piece::Chan(number, name) => put_chan(text, number, name),
+            Piece::Host(name) => {
+                text.put("the host at ");
+                put_typed(text, name);
+            }
+            Piece::Word(verb, name, has_value) => put_host_word(text, verb, name, has_value),
+        }
+    }
+}
+
+impl Piece<'_> {
+    // Adds what a net answers: what a channel carries, a phase, or a reply.
+    fn put_state(&self, text: &mut Text) {
+        let _ = match self {
+            Piece::Carried(chan) => write!(text, "{chan}"),
+            Piece::Phase(phase) => write!(text, "{phase}"),
+            Piece::Reply(reply) => write!(text, "{reply}"),
+            _ => Ok(()),
+        };
+    }
+}
+
+/// Adds the phase of a channel.
+pub fn put_phase(text: &mut Text, phase: Phase) {
+    text.say("%", &[Piece::Phase(phase)]);
+}
+
+// What is shown of bytes.
+fn front(bytes: &[u8]) -> &[u8] {
+    bytes.get(..MOST_SHOWN).unwrap_or(bytes)
+}
+
+// What comes for the rest of them.
+fn rest_of(bytes: &[u8]) -> Part<'static> {
+    Part::Bytes(if bytes.len() > MOST_SHOWN { b".." } else { b"" })
+}
+
+fn put_short(text: &mut Text, name: &[u8]) {
+    text.put_pieces(&[Part::Name(front(name)), rest_of(name)]);
+}
+
+fn put_shown(text: &mut Text, bytes: &[u8]) {
+    for byte in front(bytes) {
+        let is_shown = (32..=126).contains(byte);
+        text.put_bytes(&[if is_shown { *byte } else { b'?' }]);
+    }
+    text.put_pieces(&[rest_of(bytes)]);
+}
+
+fn put_count(text: &mut Text, count: usize, thing: &str) {
+    match thing.strip_suffix("y") {
+        Some(stem) if count != 1 => text.put_pieces(&[
+            Part::Number(count as Value),
+            Part::Bytes(b" "),
+            Part::Bytes(stem.as_bytes()),
+            Part::Bytes(b"ies"),
+        ]),
+        _ => text.put_count(count, thing),
+    }
+}
+
+fn put_spot(text: &mut Text, spot: Option<Spot>) {
+    if let Some(Spot { line, column }) = spot {
+        text.put_pieces(&[
+            Part::Bytes(b"line "),
+            Part::Number(line as Value),
+            Part::Bytes(b", column "),
+            Part::Number(column as Value),
+        ]);
+    }
+}
+
+fn put_label(text: &mut Text, label: Label<'_>) {
+    if let Some(name) = label.name {
+        text.put(" ");
+        put_short(text, name);
+    }
+    if let Some(at) = label.source {
+        text.put(" (");
+        put_short(text, at.file);
+        text.put_pieces(&[
+            Part::Bytes(b":"),
+            Part::Number(at.line.into()),
+            Part::Bytes(b":"),
+            Part::Number(at.column.into()),
+            Part::Bytes(b")"),
+        ]);
+    }
+}
+
+fn put_comp(text: &mut Text, kind: &[u8], number: u32, label: Label<'_>) {
+    text.put_pieces(&[Part::Bytes(kind), Part::Value(Some(number.into()))]);
+    put_typed_name(text, label.name);
+    if let Some(at) = label.source {
+        text.put(" (");
+        put_source(text, at);
+        text.put(")");
+    }
+}
+
+fn put_chan(text: &mut Text, number: u32, name: Option<&[u8]>) {
+    text.put_pieces(&[Part::Number(number.into())]);
+    put_typed_name(text, name);
+}
+
+// Adds a blank and a name as it is typed, where there is one.
+fn put_typed_name(text: &mut Text, name: Option<&[u8]>) {
+    if let Some(name) = name {
+        text.put(" ");
+        put_name(text, name);
+    }
+}

@@ -1,0 +1,126 @@
+//! Who holds a channel, and for whom components wait.
+
+use crate::piece::{Piece, put_phase};
+use crate::seen::Seen;
+use bz_model::{Move, Phase, Verb};
+use bz_text::Text;
+use bz_waits::{Graph, Place, Wait, Whom};
+
+/// The column of what holds a channel, and of what is waited for.
+const COLUMN: usize = 26;
+
+/// The most members of a cycle that are shown, where not all is asked for.
+pub const MOST_MEMBERS: usize = 20;
+
+/// The most cycles, and the most waits, that a page shows at its end.
+const MOST_AT_END: usize = 1000;
+
+/// Who waits for whom in a net; where memory is refused for it the text is lost.
+pub fn graph_of(seen: Seen<'_>, text: &mut Text) -> Option<Graph> {
+    match Graph::of(text.alloc(), seen.net) {
+        Ok(graph) => Some(graph),
+        Err(_) => {
+            text.lose();
+            None
+        }
+    }
+}
+
+/// Adds lines of a page, each after `end`: the cycles, for whom each component waits, or after `ended` that it has halted, and
+/// how many there are.
+pub fn put_ends(seen: Seen<'_>, graph: &Graph, text: &mut Text) {
+    for cycle in graph.cycles.iter().take(MOST_AT_END) {
+        text.put("end ");
+        put_cycle(seen, cycle.as_slice(), MOST_MEMBERS, text);
+    }
+    for wait in graph.waits.iter().take(MOST_AT_END) {
+        let has_halted = wait.whom == Whom::Nobody;
+        text.put(if has_halted { "end ended " } else { "end " });
+        put_wait(seen, *wait, text);
+    }
+    text.put("end ");
+    put_counts(seen, graph, text);
+}
+
+/// Adds how many components wait, can move, and are idle.
+pub fn put_counts(seen: Seen<'_>, graph: &Graph, text: &mut Text) {
+    let (waiting, ready) = (graph.waiting, seen.count_ready());
+    let comps = seen.net.comp_count() as usize;
+    let idle = comps.saturating_sub(waiting).saturating_sub(ready);
+    let counts = [
+        Piece::Number(waiting),
+        Piece::Number(ready),
+        Piece::Number(idle),
+    ];
+    text.say("% wait, % can move, % idle\n", &counts);
+}
+
+/// Adds a line for each cycle, with at most this many members.
+pub fn put_cycles(seen: Seen<'_>, graph: &Graph, most: usize, text: &mut Text) {
+    for cycle in &graph.cycles {
+        put_cycle(seen, cycle.as_slice(), most, text);
+    }
+}
+
+/// Adds the line of a cycle, with at most this many members.
+pub fn put_cycle(seen: Seen<'_>, cycle: &[u32], most: usize, text: &mut Text) {
+    text.put("cycle: ");
+    for member in cycle.iter().take(most) {
+        text.say("% -> ", &[seen.comp(*member)]);
+    }
+    let more = cycle.len().saturating_sub(most);
+    if more > 0 {
+        text.say(".. % more -> ", &[Piece::Number(more)]);
+    }
+    let first = cycle.first().copied().unwrap_or(0);
+    text.say("%\n", &[seen.comp(first)]);
+}
+
+/// Adds the phase of a channel, and who holds it.
+pub fn put_held(seen: Seen<'_>, chan: u32, text: &mut Text) {
+    let phase = seen.phase(chan);
+    text.say("channel %", &[seen.named_chan(chan)]);
+    text.fill(13);
+    put_phase(text, phase);
+    text.fill(COLUMN);
+    let (active, passive) = (seen.holder(chan, false), seen.holder(chan, true));
+    match phase {
+        Phase::Idle => text.say("between % and %\n", &[active, passive]),
+        Phase::Asked(_) => text.say("% has not taken the request of %\n", &[passive, active]),
+        Phase::Replied(_) => text.say("% has not got the reply of %\n", &[active, passive]),
+        _ => text.say("% has not replied to %\n", &[passive, active]),
+    }
+}
+
+/// Adds a line for each of these.
+pub fn put_each(seen: Seen<'_>, waits: &[Wait], text: &mut Text) {
+    for wait in waits {
+        put_wait(seen, *wait, text);
+    }
+}
+
+/// Adds what a component waits for.
+pub fn put_wait(seen: Seen<'_>, wait: Wait, text: &mut Text) {
+    let (comp, other) = (seen.comp(wait.comp), seen.comp(wait.other));
+    let chan = seen.named_chan(wait.chan);
+    if wait.whom == Whom::Nobody {
+        text.say("% has halted and will never reply on %\n", &[comp, chan]);
+        return;
+    }
+    match wait.place {
+        Place::Other => text.put("  or"),
+        _ => text.say("wait %", &[comp]),
+    }
+    text.fill(COLUMN);
+    let (deed, verb) = match wait.mv {
+        Move::Take => ("take", Verb::Accept),
+        Move::Ask => ("ask on", Verb::Offer),
+        _ => ("reply on", Verb::Answer),
+    };
+    let whom = [other, Piece::Text(deed), chan];
+    match wait.whom {
+        Whom::Host => text.say("for the host: %\n", &[seen.host_word(verb, wait.chan)]),
+        Whom::Idle => text.say("for % to % %, which is idle\n", &whom),
+        _ => text.say("for % to % %\n", &whom),
+    }
+}
