@@ -5,8 +5,8 @@ use bz_explore_net::{Stepping, busy_chans};
 use bz_stuck::{Link, Stuck};
 use bz_text::Text;
 use bz_view::{
-    MOST_MEMBERS, Piece, Seen, gathered, graph_of, put_counts, put_cycle, put_cycles, put_each, put_held,
-    put_wait,
+    MOST_MEMBERS, Piece, Seen, gathered, graph_of, put_counts, put_cycle, put_cycles, put_each,
+    put_held, put_wait,
 };
 use bz_waits::{Graph, Place, Table, Wait, Whom, first_move};
 use std::alloc::AllocError;
