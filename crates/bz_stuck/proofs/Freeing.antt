@@ -1,16 +1,15 @@
 -- Components are taken out that are in no stuck set, so that every one that is in such a set is left.
-use Rattle.std.proofs.Common.{◌≡◌, ℕ, ◌+◌, ◌<◌, ◌≤◌, ◌⊎◌, inl, inr, Bool, true, false, List, [], ◌∷◌, ◌++◌, length, get_or, set, refl, sym, ap, subst, ◌∙◌, arith}
+use Rattle.std.proofs.Common.{◌≡◌, ℕ, ◌<◌, ◌≤◌, ◌⊎◌, inl, inr, Bool, true, false, List, [], ◌∷◌, ◌++◌, length, get_or, set, sym, ap, subst, ◌∙◌, arith}
 use Rattle.std.proofs.lemmas.List.{length-set, get_or-set_other, get_or_past}
-use Rattle.std.specs.List.{All, sum_by}
+use Rattle.std.specs.List.{sum_by}
 use Rattle.std.proofs.lemmas.Bool.{cases_lt, false≢true}
 use Rattle.std.proofs.lemmas.List.Elements.{All-push}
 use Rattle.std.proofs.lemmas.List.Sums.{sum_by-set}
-use Rattle.bz_model.specs.declared.channel.Move.{Move}
-use Rattle.bz_model.specs.Nets.{Wiring, State, IsPort, StepsAt, chan_at}
+use Rattle.bz_model.specs.Nets.{Wiring, State, IsPort, chan_at}
 use Rattle.bz_model.specs.Runs.{CanStep}
 use Rattle.bz_stuck.specs.Freeing.{Covers, Frees, HasDueOn, HasHost, IsFree}
 use Rattle.bz_stuck.specs.Holding.{IsLoose}
-use Rattle.bz_stuck.specs.Stuck.{AreStuck, IsGreatest, StuckAt, is_member}
+use Rattle.bz_stuck.specs.Stuck.{is_member}
 
 same_or_not : (a b : ℕ) → (a ≡ b) ⊎ (a ≡ b → ⊥)
 same_or_not a b = elim (cases_lt a b) [

@@ -1,4 +1,4 @@
-use Rattle.std.proofs.Common.{◌+◌, length, arith, refl}
+use Rattle.std.proofs.Common.{◌+◌, arith, refl}
 use Rattle.bz_stuck.specs.Stuck.{is_member}
 use Rattle.bz_stuck.proofs.Holding.{at_port, ports_all, ports_more, ports_start}
 use Rattle.bz_stuck.proofs.looking.comp_holds.Goals as goal

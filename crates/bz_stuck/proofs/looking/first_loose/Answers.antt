@@ -1,4 +1,4 @@
-use Rattle.std.proofs.Common.{◌+◌, length, arith}
+use Rattle.std.proofs.Common.{arith}
 use Rattle.bz_stuck.specs.Stuck.{is_member}
 use Rattle.bz_stuck.proofs.Holding.{comps_all, comps_more}
 use Rattle.bz_stuck.proofs.looking.first_loose.Goals as goal

@@ -1,4 +1,4 @@
-use Rattle.std.proofs.Common.{◌+◌, refl}
+use Rattle.std.proofs.Common.{◌+◌}
 use Rattle.bz_stuck.proofs.Freeing.{free_host, free_ready}
 use Rattle.bz_stuck.proofs.searching.goes_on.Goals as goal
 
