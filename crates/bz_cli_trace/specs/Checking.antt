@@ -35,7 +35,7 @@ pub record IsChecked (netlist trace : List ℕ) (asked : Option (List ℕ)) (c :
   pub counted : c.verdict ≡ verdict.Run → CountsRun c.net.wiring trace c.counts
   pub leaves : Leaves c.net.wiring trace c.net c.verdict
 
--- it is told, where memory was not refused
+-- its text, where memory was not refused
 abbrev pub SaysVerdict : Verdict → Counts → List ℕ → Type 0
 SaysVerdict v counts text = (v ≢ verdict.Memory) × (text ≡ verdict_text v counts)
 
