@@ -33,7 +33,7 @@ pub struct RunOptions<'a> {
 /// The options of a command that reads a trace.
 #[derive(Clone, Copy)]
 pub struct TraceOptions<'a> {
-    /// Where the trace comes from, if it doesn't stand behind the netlist.
+    /// Where the trace comes from, if it doesn't come after the netlist.
     pub trace: Option<Source<'a>>,
 }
 
@@ -65,7 +65,7 @@ pub struct DrawOptions {
 /// The options of `chart`.
 #[derive(Clone, Copy)]
 pub struct ChartOptions<'a> {
-    /// Where the trace comes from, if it doesn't stand behind the netlist.
+    /// Where the trace comes from, if it doesn't come after the netlist.
     pub trace: Option<Source<'a>>,
     /// The first line of the trace that is drawn.
     pub from: Option<u64>,
@@ -112,7 +112,7 @@ impl<'a> Command<'a> {
         }
     }
 
-    /// Where the trace comes from, if the command reads one and it doesn't stand behind the netlist.
+    /// Where the trace comes from, if the command reads one and it doesn't come after the netlist.
     pub fn trace_file(self) -> Option<Source<'a>> {
         match self {
             Command::Check(options) => options.trace,
@@ -141,7 +141,7 @@ impl<'a> Command<'a> {
     }
 }
 
-/// The command of a name, with the options that stand behind it.
+/// The command of a name, with the options that follow it.
 pub(crate) fn command_in<'a>(name: &str, matches: &ArgMatches<'a>) -> Option<Command<'a>> {
     Some(match name {
         "run" => Command::Run(run_options(matches)),

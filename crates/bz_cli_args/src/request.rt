@@ -29,7 +29,7 @@ pub struct Request<'a> {
     pub command: Command<'a>,
     pub part: PartName<'a>,
     pub netlist: Source<'a>,
-    /// Whether notes are asked for behind a fault.
+    /// Whether notes are asked for after a fault.
     pub explains: bool,
     /// The words that stand on the command line.
     pub words: Vec<&'a str>,

@@ -44,8 +44,8 @@ use std::thread::Threads;
 /// The status of a strict run that met a host command that was not done.
 const REFUSED: u8 = 3;
 
-/// Plays the words on a net, and writes the trace. A strict run halts at the first host command that is not done, and reports it to
-/// `errors`. So are the handshakes under way where a run ends at rest, if notes are asked for.
+/// Plays the words on a net, and writes the trace. A strict run halts at the first host command that is not done, and reports it
+/// to `errors`. So are the handshakes under way where a run ends at rest, if notes are asked for.
 pub(crate) fn run<R: Read, W: Write, E: Write>(
     alloc: Global,
     given: &Given<'_, '_>,
@@ -257,7 +257,7 @@ pub(crate) fn explore<R: Read, L: BufRead, F: Files, W: Write>(
     }
 }
 
-/// Draws a net. Why there is no drawing is told on `errors`, but for a fault that other commands have too.
+/// Draws a net. Why there is no drawing is printed on `errors`, but for a fault that other commands have too.
 pub(crate) fn draw<R: Read, W: Write, E: Write>(
     alloc: Global,
     part: Option<&[u8]>,
@@ -290,7 +290,7 @@ fn view_of(options: DrawOptions) -> View {
     }
 }
 
-// The status of a drawing. Why there is none is told.
+// The status of a drawing. Why there is none is printed.
 fn drawn_or_told<E: Write>(
     drawn: Result<Option<NoDrawing>, Fault>,
     errors: &mut E,
@@ -307,7 +307,7 @@ fn drawn_or_told<E: Write>(
     }
 }
 
-/// Draws a trace: the one that is given, or the one behind the netlist. Why there is no chart is told on `errors`, but for a
+/// Draws a trace: the one that is given, or the one after the netlist. Why there is no chart goes to `errors`, but for a
 /// fault that other commands have too.
 pub(crate) fn chart<R: Read, T: Read, W: Write, E: Write>(
     alloc: Global,
@@ -363,7 +363,7 @@ fn made<C: Display + Drop, E: Write>(
     }
 }
 
-/// Writes a page on which a trace plays: the one that is given, or the one behind the netlist. Why there is no page is told on
+/// Writes a page on which a trace plays: the one that is given, or the one after the netlist. Why there is no page is printed on
 /// `errors`, but for a fault that other commands have too.
 pub(crate) fn page<R: Read, T: Read, W: Write, E: Write>(
     alloc: Global,

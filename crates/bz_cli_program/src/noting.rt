@@ -124,7 +124,7 @@ fn read_again<'a, F: Files>(
     Some((path, trace))
 }
 
-// Reports a fault by its line, with notes behind it where the input was kept for them.
+// Reports a fault by its line, with notes after it where the input was kept for them.
 fn refuse<'a, F: Files, E: Write>(
     files: &F,
     alloc: Global,
@@ -139,7 +139,7 @@ fn refuse<'a, F: Files, E: Write>(
         (None, Fault::Memory) if given.explains => &[],
         (None, _) => return tell(alloc, fault, None, errors),
     };
-    // (where memory is wanting for them, the places of words are not told)
+    // (where memory is wanting for them, the places of words are not shown)
     let starts = match given.word_text {
         Some(text) => word_starts(alloc, text).unwrap_or_else(|_| Vec::new(alloc)),
         None => Vec::new(alloc),

@@ -17,7 +17,7 @@ use std::io::{BufRead, Read, Write};
 use std::sync::Wait;
 use std::thread::Threads;
 
-/// Does what a command says: reads the netlist from `input`, the trace from `trace` or else behind the netlist, and the lines of
+/// Does what a command says: reads the netlist from `input`, the trace from `trace` or else after the netlist, and the lines of
 /// `explore` from `lines`, whose files are made by `files`. Results go to `output`; what is wrong, and notes at a run's end, to
 /// `errors`.
 pub fn program<
