@@ -10,7 +10,7 @@ use Rattle.bz_source.specs.declared.survey.Survey.{Survey}
 use Rattle.bz_cli_source.specs.Surveys.{IsPlaced}
 use Rattle.bz_cli_source.specs.Listing.{paths_text}
 
--- the list of the net that a text denotes, with where everything in it stands, under the name of its part
+-- the list of the net that a text denotes, with the place of everything in it, under the name of its part
 abbrev pub IsPathList : List ℕ → Option (List ℕ) → List ℕ → Type 0
 IsPathList text asked list = (name : List ℕ) × (net : Pieces) × (s : Survey) × IsPlaced text asked name net s × (list ≡ paths_text net s name)
 

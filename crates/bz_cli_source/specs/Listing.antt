@@ -31,7 +31,7 @@ end_text (Some c) p host = decimal c ++ (codes "." ++ decimal p)
 end_text None p true = codes "host"
 end_text None p false = codes "-"
 
--- channel k: what it carries, its active end and its passive end, where it stands, what it is called and where it comes from
+-- channel k: what it carries, its active end and its passive end, its place, what it is called and where it comes from
 abbrev pub placed_chan : Pieces → Survey → ℕ → Chan → Ends → PathAt → List ℕ
 placed_chan net s k chan ends at =
     codes "channel " ++ (decimal k ++ (codes " " ++ (carried_text chan.kind chan.width
@@ -46,13 +46,13 @@ chan_line net s k at = placed_chan net s k (chan_in net.chans k) (ends_in net.en
 abbrev pub comp_name : List Part → PathAt → List ℕ
 comp_name parts at = elim (option_and_then (λ p. component p at.position) (slice_get parts at.part)) [ None ↦ [] | Some c ↦ c.name.items ]
 
--- the path of an instance, the name of its part, and where it stands
+-- the path of an instance, the name of its part, and its place
 abbrev pub instance_line : Survey → ℕ → PathAt → List ℕ
 instance_line s k at =
     codes "instance " ++ (flat_map stepped at.path ++ (decimal at.position ++ (codes " " ++ (name_form (comp_name s.parts at)
     ++ (at_text (comp_line_at s.parts s.lines.items at) ++ codes "\n")))))
 
--- component k, where it stands, what it is called and where it comes from
+-- component k, its place, what it is called and where it comes from
 abbrev pub placed_comp : Survey → ℕ → Site → PathAt → List ℕ
 placed_comp s k site at = placed_comp_text k site (comp_line_at s.parts s.lines.items at) ++ (label_text (comp_label s.parts s.lines.items at) ++ codes "\n")
 

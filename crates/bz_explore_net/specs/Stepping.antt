@@ -10,8 +10,8 @@ use Rattle.bz_explore_net.specs.declared.stepping.Mark.{Mark}
 use Rattle.bz_explore_net.specs.declared.picker.Picker.{Picker}
 use Rattle.bz_explore_net.specs.Replaying.{IsReplayed}
 
--- what contracts see of a net that is played by hand: the net, what the next run goes on from, how far the picking is, and the commands that
--- added entries
+-- what contracts see of a net that is played by hand: the net, what the next run goes on from, how far the picking is, and the
+-- commands that added entries
 pub record Played : Type 0 where
   pub net : Simulation
   pub next : ℕ

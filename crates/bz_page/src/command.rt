@@ -133,7 +133,8 @@ fn run_net(
     }
 }
 
-// A net in its pieces, where everything in it is, the name of its part, and who waits for whom, unless it is too large for a page.
+// A net in its pieces, where everything in it is, the name of its part, and who waits for whom, unless it is too large for a
+// page.
 fn place(
     alloc: Global,
     checked: Checked,

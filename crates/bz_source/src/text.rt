@@ -71,7 +71,7 @@ pub fn put_comp<'a, W: Write>(
     put_pieces(out, &pieces)
 }
 
-/// Where a record stands, as a piece of a line.
+/// The place of a record, as a piece of a line.
 pub fn at_piece(at: LineAt<'_>) -> Piece<'_>
     ensures { piece_text result ≡ at_text (line_at_of at.entry) }
 {

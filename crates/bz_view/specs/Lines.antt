@@ -21,9 +21,10 @@ abbrev pub InTurn : {X : Type 0} → (X → List ℕ → Type 0) → List X → 
 InTurn may_be [] text = text ≡ []
 InTurn may_be (x ∷ xs) text = (first rest : List ℕ) × may_be x first × InTurn may_be xs rest × (text ≡ first ++ rest)
 
--- whether a piece has no line feed: one that isn't bytes has none
+-- whether a piece is bytes without a line feed, a number, a value or a name, of which none has one
 abbrev pub stays_in_line : Piece → Bool
 stays_in_line (Bytes bytes) = not (list_any (λ b. b == 10) bytes.now)
 stays_in_line (Number n) = true
 stays_in_line (Value value) = true
 stays_in_line (Name name) = true
+stays_in_line other = false
