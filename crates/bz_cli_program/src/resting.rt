@@ -17,17 +17,17 @@ use std::io::Write;
 const MOST_TOLD: usize = 10;
 
 /// Notes how many components of a net at rest can never move again, who waits for whom, and in what cycles. There is no note where
-/// some component can move, and none of who waits where no handshake is under way.
+/// no handshake is under way, or some component can move.
 pub(crate) fn note_rest<W: Write>(alloc: Global, net: &Core, errors: &mut W) {
     if net.next_ready(1).is_some() {
         return;
     }
     let mut draft = Notes::new(alloc);
-    put_stuck(net, &mut draft);
     let count = (1..=net.chan_count())
         .filter(|chan| net.phase(*chan) != Phase::Idle)
         .count();
     if count > 0 {
+        put_stuck(net, &mut draft);
         put_waits(net, count, &mut draft);
         put_cycles(net, &mut draft);
     }
