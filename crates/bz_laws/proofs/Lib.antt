@@ -1,0 +1,5 @@
+pub mod Past
+pub mod Cells
+pub mod Turns
+pub mod Choices
+pub mod Together

@@ -1,0 +1,5 @@
+use Rattle.bz_laws.proofs.Choices as choices
+use Rattle.bz_laws.proofs.kinds.call_serves_one_at_a_time.Goals as goal
+
+pub returns : goal.returns
+returns c = choices.one_caller
