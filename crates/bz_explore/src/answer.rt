@@ -6,7 +6,7 @@ use bz_explain_notes::nearest_name;
 use bz_net::Net;
 use bz_text::Text;
 use bz_trace_text::put_entries;
-use bz_view::{HALF, MORE, Piece, gathered, kept, put_left_out};
+use bz_view::{HALVES, MORE, Piece, gathered, put_left_out};
 
 /// What is told of a line, and how the session went up to it.
 #[derive(Drop)]
@@ -63,7 +63,7 @@ pub(crate) fn add<T: Drop>(list: &mut Vec<T>, item: T, text: &mut Text) {
 /// Adds the lines of the entries behind the first `before`; of more than forty the first and the last twenty.
 pub(crate) fn put_added(net: &Net, before: usize, text: &mut Text) {
     let entries = net.journal().get(before..).unwrap_or(&[]);
-    let (first, end) = kept(entries.len(), HALF, HALF);
+    let (first, end) = HALVES.left_out(entries.len());
     let _ = put_entries(text, net.names(), entries.get(..first).unwrap_or(&[]));
     put_left_out(end.saturating_sub(first), MORE, text);
     let _ = put_entries(text, net.names(), entries.get(end..).unwrap_or(&[]));

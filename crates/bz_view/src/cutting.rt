@@ -11,29 +11,55 @@ pub const HALF: usize = MOST_LINES / 2;
 /// How many lines are left out.
 pub const MORE: &str = ".. % lines more\n";
 
-/// Adds lines; of more than forty so many of the first, how many are left out, and so many of the last.
-pub fn put_cut(lines: &Text, first: usize, last: usize, more: &str, text: &mut Text) {
-    let Ok(lines) = lines.whole() else {
-        text.lose();
-        return;
-    };
-    let (first, end) = kept(count_lines(lines), first, last);
-    for (place, line) in lines.split_inclusive(|byte| *byte == b'\n').enumerate() {
-        if place == first {
-            put_left_out(end.saturating_sub(first), more, text);
+/// Which lines are left out of more than `most`: all but the first `first` and the last `last`.
+#[derive(Clone, Copy)]
+pub struct Cut {
+    pub most: usize,
+    pub first: usize,
+    pub last: usize,
+}
+
+/// The first half and the last half of what is told of one command.
+pub const HALVES: Cut = Cut {
+    most: MOST_LINES,
+    first: HALF,
+    last: HALF,
+};
+
+impl Cut {
+    /// The front of the lines, with the line that says how many are left out at most this many.
+    pub(crate) fn front(most: usize) -> Cut {
+        Cut {
+            most,
+            first: most.saturating_sub(1),
+            last: 0,
         }
-        if place < first || place >= end {
-            text.put_bytes(line);
+    }
+
+    /// Of this many lines: where those that are left out begin, and where they end.
+    pub fn left_out(self, count: usize) -> (usize, usize) {
+        if count > self.most {
+            (self.first, count.saturating_sub(self.last))
+        } else {
+            (count, count)
         }
     }
 }
 
-/// Of so many lines: where those that are left out begin, and where they end.
-pub fn kept(count: usize, first: usize, last: usize) -> (usize, usize) {
-    if count > MOST_LINES {
-        (first, count.saturating_sub(last))
-    } else {
-        (count, count)
+/// Adds lines but for those that are left out, which are counted by a form.
+pub(crate) fn put_cut(lines: &Text, cut: Cut, more: &str, text: &mut Text) {
+    let Ok(lines) = lines.whole() else {
+        text.lose();
+        return;
+    };
+    let (first, end) = cut.left_out(count_lines(lines));
+    for (place, line) in lines.split_inclusive(|byte| *byte == b'\n').enumerate() {
+        if place < first || place >= end {
+            text.put_bytes(line);
+        }
+        if place + 1 == first {
+            put_left_out(end.saturating_sub(first), more, text);
+        }
     }
 }
 

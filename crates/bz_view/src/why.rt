@@ -1,39 +1,73 @@
-//! Why nothing moves: who holds each channel, and for whom each component waits.
+//! Why nothing moves.
 
-use crate::cutting::{HALF, MORE, MOST_LINES, put_cut};
+use crate::cutting::{Cut, MORE, MOST_LINES, put_cut};
 use crate::piece::Piece;
+use crate::roots::{put_halted, put_words};
 use crate::seen::Seen;
-use crate::stuck::put_stuck;
-use crate::waits::{
-    MOST_MEMBERS, graph_of, put_counts, put_cycle, put_cycles, put_each, put_held, put_wait,
-};
+use crate::stuck::{MOST_LINKS, put_set};
+use crate::waiting::Waiting;
+use crate::waits::{MOST_MEMBERS, put_counts, put_cycles, put_each, put_held};
 use bz_model::Phase;
 use bz_text::Text;
-use bz_waits::{Graph, Table, Whom};
-use std::alloc::AllocError;
 
-/// Adds why nothing moves: what can never move again, the cycles of waiting, then who waits for nobody, for the host or for one
-/// that is idle, and how many wait.
+/// The most lines of each kind that are told at rest.
+const MOST_AT_REST: usize = 10;
+
+/// How many lines are left out that `waits all` has.
+const MORE_WAITS: &str = ".. % lines more: `waits all` tells them\n";
+
+/// Adds why nothing moves: what can never move again, with a ring; the cycles of waiting, who has halted, and the words of the host
+/// that are waited for; and how many wait. Of the lines behind a ring at most 40 are told.
 pub fn put_waits(seen: Seen<'_>, text: &mut Text) {
-    put_stuck(seen, text);
-    let Some(graph) = graph_of(seen, text) else {
-        return;
-    };
-    let mut lines = Text::new(text.alloc());
-    put_cycles(seen, &graph, MOST_MEMBERS, &mut lines);
-    for root in [Whom::Nobody, Whom::Host, Whom::Idle] {
-        for wait in graph.waits.iter().filter(|wait| wait.whom == root) {
-            put_wait(seen, *wait, &mut lines);
-        }
+    match Waiting::of(text.alloc(), seen) {
+        Ok(waiting) => put_reasons(seen, &waiting, text),
+        Err(_) => text.lose(),
     }
-    put_counts(seen, &graph, &mut lines);
-    put_cut(
-        &lines,
-        MOST_LINES - 2,
-        1,
-        ".. % lines more: `waits all` tells them\n",
-        text,
-    );
+}
+
+fn put_reasons(seen: Seen<'_>, waiting: &Waiting, text: &mut Text) {
+    put_set(seen, &waiting.stuck, MOST_LINKS, text);
+    let mut lines = Text::new(text.alloc());
+    put_cycles(seen, &waiting.graph, MOST_MEMBERS, &mut lines);
+    put_halted(seen, &waiting.graph, &mut lines);
+    put_words(seen, &waiting.graph, &mut lines);
+    put_cut(&lines, Cut::front(MOST_LINES - 1), MORE_WAITS, text);
+    put_counts(seen, &waiting.graph, waiting.stuck.len(), text);
+}
+
+/// Adds the same of a net at rest, of each kind of lines at most ten, and how many handshakes are under way.
+pub fn put_rest(seen: Seen<'_>, text: &mut Text) {
+    match Waiting::of(text.alloc(), seen) {
+        Ok(waiting) => put_few_reasons(seen, &waiting, text),
+        Err(_) => text.lose(),
+    }
+}
+
+fn put_few_reasons(seen: Seen<'_>, waiting: &Waiting, text: &mut Text) {
+    put_set(seen, &waiting.stuck, MOST_AT_REST, text);
+    let mut lines = Text::new(text.alloc());
+    put_cycles(seen, &waiting.graph, MOST_AT_REST, &mut lines);
+    put_few(&lines, text);
+    let mut lines = Text::new(text.alloc());
+    put_halted(seen, &waiting.graph, &mut lines);
+    put_few(&lines, text);
+    let mut lines = Text::new(text.alloc());
+    put_words(seen, &waiting.graph, &mut lines);
+    put_few(&lines, text);
+    let count = Piece::Count(count_busy(seen), "handshake");
+    text.say("at rest with % under way: ", &[count]);
+    put_counts(seen, &waiting.graph, waiting.stuck.len(), text);
+}
+
+fn put_few(lines: &Text, text: &mut Text) {
+    put_cut(lines, Cut::front(MOST_AT_REST), MORE, text);
+}
+
+/// How many channels are not idle.
+pub fn count_busy(seen: Seen<'_>) -> usize {
+    (1..=seen.net.chan_count())
+        .filter(|chan| seen.phase(*chan) != Phase::Idle)
+        .count()
 }
 
 /// Adds who holds each channel that is not idle, for whom each component waits, the cycles among these, and how many there
@@ -44,45 +78,14 @@ pub fn put_all_waits(seen: Seen<'_>, text: &mut Text) {
             put_held(seen, chan, text);
         }
     }
-    let Some(graph) = graph_of(seen, text) else {
-        return;
-    };
-    put_each(seen, graph.waits.as_slice(), text);
-    put_cycles(seen, &graph, usize::MAX, text);
-    put_counts(seen, &graph, text);
-}
-
-/// Adds on what a component hangs: for whom each waits, or that it can move or is idle; then the cycles among these, each of
-/// which is met with all of its members or with none.
-pub fn put_chain(seen: Seen<'_>, comp: u32, text: &mut Text) {
-    let mut lines = Text::new(text.alloc());
-    match put_hung(seen, comp, &mut lines) {
-        Ok(()) => put_cut(&lines, HALF, HALF, MORE, text),
+    match Waiting::of(text.alloc(), seen) {
+        Ok(waiting) => put_all(seen, &waiting, text),
         Err(_) => text.lose(),
     }
 }
 
-fn put_hung(seen: Seen<'_>, comp: u32, lines: &mut Text) -> Result<(), AllocError> {
-    let (alloc, net) = (lines.alloc(), seen.net);
-    let graph = Graph::of(alloc, net)?;
-    let mut met = Table::new(alloc, net.comp_count())?;
-    for number in &graph.hung(alloc, comp, &mut met)? {
-        put_standing(seen, &graph, *number, lines);
-    }
-    for cycle in &graph.cycles {
-        let first = cycle.first().copied().unwrap_or(0);
-        if met.at(first) > 0 {
-            put_cycle(seen, cycle.as_slice(), MOST_MEMBERS, lines);
-        }
-    }
-    Ok(())
-}
-
-fn put_standing(seen: Seen<'_>, graph: &Graph, number: u32, text: &mut Text) {
-    let comp = seen.comp(number);
-    match graph.waits_of(number) {
-        [] if seen.net.is_ready(number) => text.say("% can move\n", &[comp]),
-        [] => text.say("% is idle\n", &[comp]),
-        waits => put_each(seen, waits, text),
-    }
+fn put_all(seen: Seen<'_>, waiting: &Waiting, text: &mut Text) {
+    put_each(seen, waiting.graph.waits.as_slice(), text);
+    put_cycles(seen, &waiting.graph, usize::MAX, text);
+    put_counts(seen, &waiting.graph, waiting.stuck.len(), text);
 }
