@@ -123,12 +123,13 @@ def explored(case, program):
     nothing is compared."""
     lines, answers = [], []
     for line in case.item.body:
-        typed, told = case.item.halves(line)
-        if typed:
-            lines.append(typed)
+        # (blanks count behind the `|` and one more)
+        typed, _, told = line.partition("|")
+        if typed.strip():
+            lines.append(typed.strip())
             answers.append([])
         if told:
-            answers[-1].append(told)
+            answers[-1].append(told[1:])
     for part in case.parts:
         yield partial(explored_differs, case, program, part, lines, answers)
 

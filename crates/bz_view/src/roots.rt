@@ -18,8 +18,8 @@ pub(crate) fn put_halted(seen: Seen<'_>, graph: &Graph, text: &mut Text) {
     }
 }
 
-/// Adds the words of the host for which components wait: those that wait for a reply or owe one; and for the idle ones on which
-/// these hang, where they end at one that can move, this one.
+/// Adds the words of the host for which components wait: those that wait for a reply or owe one, and idle ones on which these hang;
+/// and who of those on which they hang can move.
 pub(crate) fn put_words(seen: Seen<'_>, graph: &Graph, text: &mut Text) {
     put_replied(seen, text);
     let mut last = 0;
@@ -29,8 +29,8 @@ pub(crate) fn put_words(seen: Seen<'_>, graph: &Graph, text: &mut Text) {
             last = wait.comp;
         }
     }
-    match idle_behind(text.alloc(), seen, graph) {
-        Ok(comps) => put_idle(seen, comps.as_slice(), text),
+    match others_behind(text.alloc(), seen, graph) {
+        Ok(comps) => put_others(seen, comps.as_slice(), text),
         Err(_) => text.lose(),
     }
 }
@@ -71,16 +71,14 @@ fn first_of(wait: Wait, last: u32) -> Wait {
     }
 }
 
-// The components that don't wait for a reply or owe one, and on which those hang that do, by their numbers.
-fn idle_behind(alloc: Global, seen: Seen<'_>, graph: &Graph) -> Result<Vec<u32>, AllocError> {
+// The components on which those hang that wait for a reply or owe one, but for these, by their numbers.
+fn others_behind(alloc: Global, seen: Seen<'_>, graph: &Graph) -> Result<Vec<u32>, AllocError> {
     let mut hung = Hung::new(alloc, seen)?;
     for wait in &graph.waits {
         hung.leave_out(wait.comp);
     }
     for wait in &graph.waits {
-        if wait.whom == Whom::Idle {
-            hung.meet(wait.other, wait.other)?;
-        }
+        hung.meet(wait.other, wait.other)?;
     }
     hung.spread(seen)?;
     let mut order = hung.into_order();
@@ -88,18 +86,18 @@ fn idle_behind(alloc: Global, seen: Seen<'_>, graph: &Graph) -> Result<Vec<u32>,
     Ok(order)
 }
 
-fn put_idle(seen: Seen<'_>, comps: &[u32], text: &mut Text) {
+fn put_others(seen: Seen<'_>, comps: &[u32], text: &mut Text) {
     for comp in comps {
         if seen.net.is_ready(*comp) {
             text.say("% can move\n", &[seen.comp(*comp)]);
         } else {
-            put_idle_comp(seen, *comp, text);
+            put_idle(seen, *comp, text);
         }
     }
 }
 
 // The words of the host that would let an idle component move.
-fn put_idle_comp(seen: Seen<'_>, comp: u32, text: &mut Text) {
+fn put_idle(seen: Seen<'_>, comp: u32, text: &mut Text) {
     let mut place = Place::First;
     for port in 1..=seen.port_count(comp) {
         if let Some(wait) = due_at(seen, comp, port) {
