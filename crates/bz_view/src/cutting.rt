@@ -54,11 +54,11 @@ pub(crate) fn put_cut(lines: &Text, cut: Cut, more: &str, text: &mut Text) {
     };
     let (first, end) = cut.left_out(count_lines(lines));
     for (place, line) in lines.split_inclusive(|byte| *byte == b'\n').enumerate() {
+        if place == first {
+            put_left_out(end.saturating_sub(first), more, text);
+        }
         if place < first || place >= end {
             text.put_bytes(line);
-        }
-        if place + 1 == first {
-            put_left_out(end.saturating_sub(first), more, text);
         }
     }
 }
