@@ -119,8 +119,8 @@ def records_of(trace):
 
 
 def explored(case, program):
-    """Lines of `explore`, each with a `|` and the first line of its answer, and below it the others; of an answer that is left out
-    nothing is compared."""
+    """Lines of `explore`, each with a `|` and the first line of its answer, and below it the others; of an answer that is left
+    out nothing is compared."""
     lines, answers = [], []
     for line in case.item.body:
         # (blanks count behind the `|` and one more)

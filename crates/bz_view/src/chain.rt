@@ -12,9 +12,9 @@ use bz_text::Text;
 use bz_waits::{Graph, Place, Table, Wait};
 use std::alloc::{AllocError, Global};
 
-/// Adds on what a component hangs: the shortest way along which components wait, each with whatever else it waits for. Of one that
-/// can never move again it leads to a ring of waiting, which follows from there on, or else to one that has halted; of any other
-/// to the host or to a component that can move.
+/// Adds on what a component hangs: the shortest way along which components wait, each with whatever else it waits for. Of one
+/// that can never move again it leads to a ring of waiting, which follows from there on, or else to one that has halted; of any
+/// other to the host or to a component that can move.
 pub fn put_chain(seen: Seen<'_>, comp: u32, text: &mut Text) {
     match Chain::of(text.alloc(), seen, comp) {
         Ok(chain) => put_whole(seen, &chain, text),
@@ -108,8 +108,8 @@ fn end_of(seen: Seen<'_>, hung: &Hung, is_stuck: bool) -> u32 {
     first.or(hung.order.first()).copied().unwrap_or(0)
 }
 
-// Whether a way ends at a component: where it can move or the host has to come, and of one that can never move again where nothing
-// is due.
+// Whether a way ends at a component: where it can move or the host has to come, and of one that can never move again where
+// nothing is due.
 fn ends(seen: Seen<'_>, comp: u32, is_stuck: bool) -> bool {
     let (mut has_due, mut has_host) = (false, false);
     for port in 1..=seen.port_count(comp) {
