@@ -420,8 +420,8 @@ pub(crate) fn pool<T: Threads + Wait + Sync, R: Read, W: Write, E: Write>(
     closed(given.explains, pooled, errors)
 }
 
-// The status of a pool. Which sessions still waited is noted; where one of them was at rest, the net goes with the status if notes
-// are asked for.
+// The status of a pool. Which sessions still waited is noted; where one of them was at rest, the net goes with the status if
+// notes are asked for.
 fn closed<E: Write>(explains: bool, pooled: Result<Pooled, Fault>, errors: &mut E) -> Outcome
     ensures { result.status ≡ of_done pooled }
 {

@@ -22,8 +22,8 @@ pub(crate) fn due_at(seen: Seen<'_>, comp: u32, port: u32) -> Option<Wait> {
     })
 }
 
-/// Components on which others hang: whoever has the other end of a channel at which a move is due, and so on, up to those that can
-/// move.
+/// Components on which others hang: whoever has the other end of a channel at which a move is due, and so on, up to those that
+/// can move.
 #[derive(Drop)]
 pub(crate) struct Hung {
     /// All that were met, the nearest first.

@@ -18,8 +18,8 @@ pub(crate) fn put_halted(seen: Seen<'_>, graph: &Graph, text: &mut Text) {
     }
 }
 
-/// Adds the words of the host for which components wait: those that wait for a reply or owe one, and idle ones on which these hang;
-/// and who of those on which they hang can move.
+/// Adds the words of the host for which components wait: those that wait for a reply or owe one, and idle ones on which these
+/// hang; and who of those on which they hang can move.
 pub(crate) fn put_words(seen: Seen<'_>, graph: &Graph, text: &mut Text) {
     put_replied(seen, text);
     let mut last = 0;

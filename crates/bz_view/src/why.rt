@@ -16,8 +16,8 @@ const MOST_AT_REST: usize = 10;
 /// How many lines are left out that `waits all` has.
 const MORE_WAITS: &str = ".. % lines more: `waits all` tells them\n";
 
-/// Adds why nothing moves: what can never move again, with a ring; the cycles of waiting, who has halted, and the words of the host
-/// that are waited for; and how many wait. Of the lines behind a ring at most 40 are told.
+/// Adds why nothing moves: what can never move again, with a ring; the cycles of waiting, who has halted, and the words of the
+/// host that are waited for; and how many wait. Of the lines behind a ring at most 40 are told.
 pub fn put_waits(seen: Seen<'_>, text: &mut Text) {
     match Waiting::of(text.alloc(), seen) {
         Ok(waiting) => put_reasons(seen, &waiting, text),
