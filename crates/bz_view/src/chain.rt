@@ -88,12 +88,7 @@ fn ring_behind(
 }
 
 // The first in a ring.
-fn first_in(
-    alloc: Global,
-    seen: Seen<'_>,
-    ring: &[Link],
-    hung: &Hung,
-) -> Result<u32, AllocError> {
+fn first_in(alloc: Global, seen: Seen<'_>, ring: &[Link], hung: &Hung) -> Result<u32, AllocError> {
     let mut members = Table::new(alloc, seen.net.comp_count())?;
     for link in ring {
         members.set(link.comp, 1);

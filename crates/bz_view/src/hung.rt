@@ -15,7 +15,11 @@ pub(crate) fn due_at(seen: Seen<'_>, comp: u32, port: u32) -> Option<Wait> {
     Some(Wait {
         comp,
         chan,
-        whom: if other.is_none() { Whom::Host } else { Whom::Busy },
+        whom: if other.is_none() {
+            Whom::Host
+        } else {
+            Whom::Busy
+        },
         other: other.unwrap_or(0),
         mv: first_move(due, seen.phase(chan)),
         place: Place::First,

@@ -184,13 +184,7 @@ fn put_label(text: &mut Text, label: Label<'_>) {
     }
 }
 
-fn put_comp(
-    text: &mut Text,
-    kind: &[u8],
-    number: u32,
-    copy: Option<LineAt<'_>>,
-    label: Label<'_>,
-) {
+fn put_comp(text: &mut Text, kind: &[u8], number: u32, copy: Option<LineAt<'_>>, label: Label<'_>) {
     text.put_pieces(&[Part::Bytes(kind), Part::Value(Some(number.into()))]);
     put_typed_name(text, label.name);
     if let Some(at) = copy {

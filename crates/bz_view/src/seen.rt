@@ -77,7 +77,12 @@ impl<'v> Seen<'v> {
             Some(at) if !at.path.is_empty() => Some(at),
             _ => None,
         };
-        Piece::Comp(self.kind(number), number, at, self.label(Thing::Comp(number)))
+        Piece::Comp(
+            self.kind(number),
+            number,
+            at,
+            self.label(Thing::Comp(number)),
+        )
     }
 
     /// How many ports a component has, 0 where there is none of this number.
