@@ -103,7 +103,8 @@ def end_lines(program, part, netlist, trace):
     answers = explored(program, part, netlist, [*moves, "waits all"])
     waits = [line for line in answers if re.match(r"wait |  or| *\w+ \d+.* has halted ", line)]
     ended = ["ended " * (" has halted " in line) + line for line in waits]
-    return [f"end {line}" for line in [*filter(re.compile("cycle: ").match, answers), *ended, answers[-1]]] if waits else []
+    counts = re.sub(r", \d+ stuck$", "", answers[-1])
+    return [f"end {line}" for line in [*filter(re.compile("cycle: ").match, answers), *ended, counts]] if waits else []
 
 
 def wanted_of(program, part, netlist, trace):

@@ -1,10 +1,12 @@
 """Items whose words are played by `run` or `pool`. Each maker yields an item's cases: functions that answer what differs."""
 
 import re
+import tempfile
 from functools import partial
 
 from .cases import Want
 from .program import part_words
+from .tests import differ
 
 
 def plays(case, program):
@@ -114,3 +116,31 @@ def records_of(trace):
     """The lines of each session, those of the first session first."""
     lines = trace.splitlines(True)
     return b"".join(line for session in range(1, 17) for line in lines if line.startswith(b"h%d " % session))
+
+
+def explored(case, program):
+    """Lines of `explore`, each with a `|` and the first line of its answer, and below it the others; of an answer that is left
+    out nothing is compared."""
+    lines, answers = [], []
+    for line in case.item.body:
+        # (blanks count behind the `|` and one more)
+        typed, _, told = line.partition("|")
+        if typed.strip():
+            lines.append(typed.strip())
+            answers.append([])
+        if told:
+            answers[-1].append(told[1:])
+    for part in case.parts:
+        yield partial(explored_differs, case, program, part, lines, answers)
+
+
+def explored_differs(case, program, part, lines, answers):
+    # (a line behind each tells where its answer ends)
+    typed = "".join(f"{line}\nseed 0\n" for line in lines)
+    with tempfile.NamedTemporaryFile(suffix=".breeze") as file:
+        file.write(case.netlist)
+        file.flush()
+        ran = program.run(["explore", *part_words(part), "--netlist", file.name], typed.encode())
+    told = [answer.splitlines() for answer in ran.output.decode().split("seed 0\n")]
+    wanted = [answer or had for answer, had in zip(answers, told)]
+    return differ((0, b"", [*wanted, []]), (ran.status, ran.errors, told))

@@ -16,8 +16,7 @@ ghost use Rattle.bz_draw.specs.declared.fault.NoDrawing.{NoDrawing};
 ghost use Rattle.bz_words.specs.Words.{texts};
 
 use crate::given::Given;
-use crate::outcome::{DONE, NO_RUN, Outcome};
-use crate::resting::note_rest;
+use crate::outcome::{DONE, Ended, NO_RUN, Outcome};
 use bz_chart::{LineRange, chart_cmd, chart_trace_cmd};
 use bz_cli::{Pooled, pool_cmd};
 use bz_cli_args::{
@@ -45,7 +44,7 @@ use std::thread::Threads;
 const REFUSED: u8 = 3;
 
 /// Plays the words on a net, and writes the trace. A strict run halts at the first host command that is not done, and reports it
-/// to `errors`. So are the handshakes under way where a run ends at rest, if notes are asked for.
+/// to `errors`. Where notes are asked for, the net goes with the status.
 pub(crate) fn run<R: Read, W: Write, E: Write>(
     alloc: Global,
     given: &Given<'_, '_>,
@@ -53,21 +52,21 @@ pub(crate) fn run<R: Read, W: Write, E: Write>(
     input: &mut R,
     output: &mut W,
     errors: &mut E,
-) -> Result<u8, Fault>
+) -> Outcome
     ensures refused { (IsJournal options.entry.journal → ⊥)
-        → IsRefused (W.contents output.old) (W.contents output.new) result }
+        → IsRefused (W.contents output.old) (W.contents output.new) result.status }
     ensures runs { IsJournal options.entry.journal → IfSome (R.remaining input.old)
         (λ text. Does of_run
         (Runs text (texts given.now.words.now) (option_copied given.now.part) options.entry.journal options.entry.strict
         (W.contents output.old) (W.contents output.new))
-        result) }
+        result.status) }
 
     // Whatever comes of it, it reads at most one byte past the limit.
     ensures bounded { ReadsWithin (R.remaining input.old) (R.remaining input.new) }
 {
     let journal = options.journal;
     if journal == 0 || journal > MAX_JOURNAL {
-        return Ok(BAD_COMMAND_LINE);
+        return Outcome::of(Ok(BAD_COMMAND_LINE));
     }
     let played = run_cmd(
         alloc,
@@ -78,33 +77,23 @@ pub(crate) fn run<R: Read, W: Write, E: Write>(
         input,
         output,
     );
-    ended(alloc, given.explains, played, errors)
+    ended(given.explains, played, errors)
 }
 
-// The status of a run. Where it halted is reported; where it ended at rest, the handshakes under way.
-fn ended<E: Write>(
-    alloc: Global,
-    explains: bool,
-    played: Result<Played, Fault>,
-    errors: &mut E,
-) -> Result<u8, Fault>
-    ensures { result ≡ of_run played }
+// The status of a run. Where it halted is reported; else it goes with the status where notes are asked for.
+fn ended<E: Write>(explains: bool, played: Result<Played, Fault>, errors: &mut E) -> Outcome
+    ensures { result.status ≡ of_run played }
 {
     let played = match played {
         Ok(played) => played,
-        Err(unplayed) => return Err(unplayed),
+        Err(unplayed) => return Outcome::of(Err(unplayed)),
     };
     match played.halt {
         Some(halt) => {
             tell_halt(halt, errors);
-            Ok(REFUSED)
+            Outcome::of(Ok(REFUSED))
         }
-        None => {
-            if explains {
-                note_rest(alloc, played.net.core(), errors);
-            }
-            Ok(DONE)
-        }
+        None => Outcome::played(Ended::Run(played), explains),
     }
 }
 
@@ -153,12 +142,10 @@ fn judged(checked: Result<Checked, Fault>) -> Outcome
             Outcome {
                 status: Ok(status),
                 checked: Some(checked),
+                ended: None,
             }
         }
-        Err(unchecked) => Outcome {
-            status: Err(unchecked),
-            checked: None,
-        },
+        Err(unchecked) => Outcome::of(Err(unchecked)),
     }
 }
 
@@ -389,7 +376,7 @@ pub(crate) fn page<R: Read, T: Read, W: Write, E: Write>(
 }
 
 /// Plays sessions beside workers, writes the trace, and notes on `errors` which sessions still waited. If notes are asked for and
-/// a session still waited at rest, the handshakes under way are reported too.
+/// a session still waited at rest, the net goes with the status.
 pub(crate) fn pool<T: Threads + Wait + Sync, R: Read, W: Write, E: Write>(
     threads: &T,
     alloc: Global,
@@ -398,14 +385,14 @@ pub(crate) fn pool<T: Threads + Wait + Sync, R: Read, W: Write, E: Write>(
     input: &mut R,
     output: &mut W,
     errors: &mut E,
-) -> Result<u8, Fault>
+) -> Outcome
     ensures refused { (AreWorkers options.entry.workers × IsJournal options.entry.journal → ⊥)
-        → IsRefused (W.contents output.old) (W.contents output.new) result }
+        → IsRefused (W.contents output.old) (W.contents output.new) result.status }
     ensures pools { AreWorkers options.entry.workers → IsJournal options.entry.journal
         → IfSome (R.remaining input.old) (λ text. Does of_done
         (Pools text (texts given.now.words.now) (option_copied given.now.part) options.entry.workers options.entry.fuel
         options.entry.journal (W.contents output.old) (W.contents output.new))
-        result) }
+        result.status) }
 
     // Whatever comes of it, it reads at most one byte past the limit.
     ensures bounded { ReadsWithin (R.remaining input.old) (R.remaining input.new) }
@@ -416,10 +403,10 @@ pub(crate) fn pool<T: Threads + Wait + Sync, R: Read, W: Write, E: Write>(
         journal: options.journal,
     };
     if options.workers == 0 || options.workers > MAX_WORKERS {
-        return Ok(BAD_COMMAND_LINE);
+        return Outcome::of(Ok(BAD_COMMAND_LINE));
     }
     if options.journal == 0 || options.journal > MAX_JOURNAL {
-        return Ok(BAD_COMMAND_LINE);
+        return Outcome::of(Ok(BAD_COMMAND_LINE));
     }
     let pooled = pool_cmd(
         threads,
@@ -430,26 +417,20 @@ pub(crate) fn pool<T: Threads + Wait + Sync, R: Read, W: Write, E: Write>(
         input,
         output,
     );
-    closed(alloc, given.explains, pooled, errors)
+    closed(given.explains, pooled, errors)
 }
 
-// The status of a pool. Which sessions still waited is noted, and the handshakes under way where one of them was at rest.
-fn closed<E: Write>(
-    alloc: Global,
-    explains: bool,
-    pooled: Result<Pooled, Fault>,
-    errors: &mut E,
-) -> Result<u8, Fault>
-    ensures { result ≡ of_done pooled }
+// The status of a pool. Which sessions still waited is noted; where one of them was at rest, the net goes with the status if
+// notes are asked for.
+fn closed<E: Write>(explains: bool, pooled: Result<Pooled, Fault>, errors: &mut E) -> Outcome
+    ensures { result.status ≡ of_done pooled }
 {
     match pooled {
         Ok(pooled) => {
-            if note_ends(pooled.ends.as_slice(), errors) && explains {
-                note_rest(alloc, pooled.net.core(), errors);
-            }
-            Ok(DONE)
+            let rests = note_ends(pooled.ends.as_slice(), errors) && explains;
+            Outcome::played(Ended::Pool(pooled), rests)
         }
-        Err(fault) => Err(fault),
+        Err(fault) => Outcome::of(Err(fault)),
     }
 }
 

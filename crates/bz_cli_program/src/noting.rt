@@ -5,7 +5,8 @@
 
 use crate::files::{is_file, open_file};
 use crate::given::{Given, netlist_in};
-use crate::outcome::{NO_RUN, Outcome};
+use crate::outcome::{Ended, NO_RUN, Outcome};
+use crate::resting::note_rest;
 use bz_cli_args::{Source, word_starts};
 use bz_cli_input::{Fault, INPUT_LIMIT, read_input};
 use bz_cli_trace::{Checked, check_trace};
@@ -26,15 +27,32 @@ pub fn end<F: Files, E: Write>(
     outcome: Outcome,
     errors: &mut E,
 ) -> u8 {
-    let (status, checked) = outcome.into_parts();
+    let (status, checked, ended) = outcome.into_parts();
     match status {
         Ok(status) => {
             if status == NO_RUN && given.command.reads_trace() {
                 note_trace(files, alloc, given, kept, checked, errors);
             }
+            if let Some(ended) = ended {
+                note_ended(alloc, given, kept, &ended, errors);
+            }
             status
         }
         Err(fault) => refuse(files, alloc, &fault, given, kept, errors),
+    }
+}
+
+// Notes why what was played goes no further, where it rests.
+fn note_ended<E: Write>(
+    alloc: Global,
+    given: &Given<'_, '_>,
+    kept: Option<&[u8]>,
+    ended: &Ended,
+    errors: &mut E,
+) {
+    if let Some(kept) = kept {
+        let netlist = netlist_in(given.command, kept);
+        note_rest(alloc, given.part, netlist, ended.net(), errors);
     }
 }
 

@@ -47,7 +47,7 @@ pub fn program<
 {
     let part = given.part;
     match given.command {
-        Command::Run(options) => of(run(alloc, given, options, input, output, errors)),
+        Command::Run(options) => run(alloc, given, options, input, output, errors),
         Command::Explore => of(explore(alloc, given, input, lines, files, output)),
         Command::Check(_) => check(alloc, part, input, trace, output),
         Command::List(options) => of(list(alloc, part, options, input, output)),
@@ -57,7 +57,7 @@ pub fn program<
         Command::Draw(options) => of(draw(alloc, part, options, input, output, errors)),
         Command::Chart(options) => of(chart(alloc, part, options, input, trace, output, errors)),
         Command::Page(_) => of(page(alloc, part, input, trace, output, errors)),
-        Command::Pool(options) => of(pool(threads, alloc, given, options, input, output, errors)),
+        Command::Pool(options) => pool(threads, alloc, given, options, input, output, errors),
     }
 }
 
@@ -65,8 +65,5 @@ pub fn program<
 fn of(status: Result<u8, Fault>) -> Outcome
     ensures { result.status ≡ status }
 {
-    Outcome {
-        status,
-        checked: None,
-    }
+    Outcome::of(status)
 }

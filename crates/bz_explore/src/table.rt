@@ -17,7 +17,7 @@ accept:P          take the request at a port P declared active, with its value a
 answer:P[:V]      reply to it, with a value V at a pull port
 watch:P           read the phase of a port P
 expect REPLY      compare the host's last reply; a difference makes the status 1
-waits [C]         why nothing moves: cycles, what has halted, and where the host is waited for; what C hangs on
+waits [C]         why nothing moves: what is stuck, what has halted, and where the host is waited for; what C hangs on
 waits all         who holds each channel that is not idle, and for whom each component waits
 state [C]         how far it is; of component C its place, its ports and what is due there
 undo [N]          take back the last N commands that moved something; without N one

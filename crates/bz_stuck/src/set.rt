@@ -76,7 +76,19 @@ impl Stuck {
     pub fn ring(&self, alloc: Global, core: &Core) -> Result<Vec<Link>, AllocError>
         ensures { IfOk result (λ links. IsRing core.now.wiring core.now.state (is_member self.now) links.items) }
     {
-        ring(alloc, core, &self.members, &self.numbers)
+        self.ring_from(alloc, core, &self.numbers)
+    }
+
+    /// A short ring on which some of these components hang, their numbers rising; it is as `ring` tells.
+    pub fn ring_from(
+        &self,
+        alloc: Global,
+        core: &Core,
+        starts: &[u32],
+    ) -> Result<Vec<Link>, AllocError>
+        ensures { IfOk result (λ links. IsRing core.now.wiring core.now.state (is_member self.now) links.items) }
+    {
+        ring(alloc, core, &self.members, starts)
     }
 }
 

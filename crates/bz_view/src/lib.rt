@@ -5,17 +5,25 @@
 //! `put_pieces` and not by `say`: the text of an array of pieces is known at the call, without a lemma for each form.
 #![tactic(auto)]
 
+mod chain;
+mod cutting;
+mod hung;
 mod naming;
 mod parts;
 mod piece;
+mod roots;
 mod seen;
+mod stuck;
+mod waiting;
 mod waits;
+mod why;
 
+pub use chain::put_chain;
+pub use cutting::{HALVES, MORE, count_lines, put_left_out};
 pub use naming::{put_host_word, put_instance, put_name, put_port, put_source, put_typed};
 pub use parts::{fill, gathered, put_in_line};
 pub use piece::{Piece, Spot, put_phase};
 pub use seen::{Seen, Thing, chan_at, chan_of, port_count, port_name, port_of};
-pub use waits::{
-    MOST_MEMBERS, graph_of, put_counts, put_cycle, put_cycles, put_each, put_ends, put_held,
-    put_wait,
-};
+pub use stuck::{put_link, put_set, put_stuck};
+pub use waits::{graph_of, put_ends, put_held};
+pub use why::{count_busy, put_all_waits, put_rest, put_waits};

@@ -59,8 +59,9 @@ pub enum Piece<'a> {
     Label(Label<'a>),
     /// The instance in which a component is, and the part that it is one of.
     Instance(LineAt<'a>),
-    /// A component: its kind and its number, and what the source has of it, as that is typed.
-    Comp(&'static [u8], u32, Label<'a>),
+    /// A component: its kind and its number, the copy in which it is, if it is in one, and what the source has of it, as that is
+    /// typed.
+    Comp(&'static [u8], u32, Option<LineAt<'a>>, Label<'a>),
     /// A channel: its number, and its name in the source, as that is typed.
     Chan(u32, Option<&'a [u8]>),
     /// The host, at the external port of this name.
@@ -92,7 +93,7 @@ impl Put for Piece<'_> {
             Piece::Source(at) => put_source(text, at),
             Piece::Label(label) => put_label(text, label),
             Piece::Instance(at) => put_instance(text, at),
-            Piece::Comp(kind, number, label) => put_comp(text, kind, number, label),
+            Piece::Comp(kind, number, copy, label) => put_comp(text, kind, number, copy, label),
             Piece::Chan(number, name) => put_chan(text, number, name),
             Piece::Host(name) => {
                 text.put("the host at ");
@@ -183,9 +184,13 @@ fn put_label(text: &mut Text, label: Label<'_>) {
     }
 }
 
-fn put_comp(text: &mut Text, kind: &[u8], number: u32, label: Label<'_>) {
+fn put_comp(text: &mut Text, kind: &[u8], number: u32, copy: Option<LineAt<'_>>, label: Label<'_>) {
     text.put_pieces(&[Part::Bytes(kind), Part::Value(Some(number.into()))]);
     put_typed_name(text, label.name);
+    if let Some(at) = copy {
+        text.put(" ");
+        put_instance(text, at);
+    }
     if let Some(at) = label.source {
         text.put(" (");
         put_source(text, at);

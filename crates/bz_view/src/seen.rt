@@ -71,9 +71,26 @@ impl<'v> Seen<'v> {
         }
     }
 
-    /// A component, as it is called.
+    /// A component, as it is called, with the copy in which it is.
     pub fn comp(self, number: u32) -> Piece<'v> {
-        Piece::Comp(self.kind(number), number, self.label(Thing::Comp(number)))
+        let at = match self.survey.comp(number) {
+            Some(at) if !at.path.is_empty() => Some(at),
+            _ => None,
+        };
+        Piece::Comp(
+            self.kind(number),
+            number,
+            at,
+            self.label(Thing::Comp(number)),
+        )
+    }
+
+    /// How many ports a component has, 0 where there is none of this number.
+    pub fn port_count(self, comp: u32) -> u32 {
+        match self.net.comp(comp) {
+            Some(site) => port_count(site),
+            None => 0,
+        }
     }
 
     /// A channel, as it is called.

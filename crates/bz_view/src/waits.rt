@@ -10,7 +10,7 @@ use bz_waits::{Graph, Place, Wait, Whom};
 const COLUMN: usize = 26;
 
 /// The most members of a cycle that are shown, where not all is asked for.
-pub const MOST_MEMBERS: usize = 20;
+pub(crate) const MOST_MEMBERS: usize = 20;
 
 /// The most cycles, and the most waits, that a page shows at its end.
 const MOST_AT_END: usize = 1000;
@@ -39,11 +39,11 @@ pub fn put_ends(seen: Seen<'_>, graph: &Graph, text: &mut Text) {
         put_wait(seen, *wait, text);
     }
     text.put("end ");
-    put_counts(seen, graph, text);
+    put_counts(seen, graph, 0, text);
 }
 
-/// Adds how many components wait, can move, and are idle.
-pub fn put_counts(seen: Seen<'_>, graph: &Graph, text: &mut Text) {
+/// Adds how many components wait, can move, and are idle, and how many can never move again, where there are any.
+pub(crate) fn put_counts(seen: Seen<'_>, graph: &Graph, stuck: usize, text: &mut Text) {
     let (waiting, ready) = (graph.waiting, seen.count_ready());
     let comps = seen.net.comp_count() as usize;
     let idle = comps.saturating_sub(waiting).saturating_sub(ready);
@@ -52,18 +52,22 @@ pub fn put_counts(seen: Seen<'_>, graph: &Graph, text: &mut Text) {
         Piece::Number(ready),
         Piece::Number(idle),
     ];
-    text.say("% wait, % can move, % idle\n", &counts);
+    text.say("% wait, % can move, % idle", &counts);
+    if stuck > 0 {
+        text.say(", % stuck", &[Piece::Number(stuck)]);
+    }
+    text.put("\n");
 }
 
 /// Adds a line for each cycle, with at most this many members.
-pub fn put_cycles(seen: Seen<'_>, graph: &Graph, most: usize, text: &mut Text) {
+pub(crate) fn put_cycles(seen: Seen<'_>, graph: &Graph, most: usize, text: &mut Text) {
     for cycle in &graph.cycles {
         put_cycle(seen, cycle.as_slice(), most, text);
     }
 }
 
 /// Adds the line of a cycle, with at most this many members.
-pub fn put_cycle(seen: Seen<'_>, cycle: &[u32], most: usize, text: &mut Text) {
+pub(crate) fn put_cycle(seen: Seen<'_>, cycle: &[u32], most: usize, text: &mut Text) {
     text.put("cycle: ");
     for member in cycle.iter().take(most) {
         text.say("% -> ", &[seen.comp(*member)]);
@@ -93,14 +97,19 @@ pub fn put_held(seen: Seen<'_>, chan: u32, text: &mut Text) {
 }
 
 /// Adds a line for each of these.
-pub fn put_each(seen: Seen<'_>, waits: &[Wait], text: &mut Text) {
+pub(crate) fn put_each(seen: Seen<'_>, waits: &[Wait], text: &mut Text) {
     for wait in waits {
         put_wait(seen, *wait, text);
     }
 }
 
 /// Adds what a component waits for.
-pub fn put_wait(seen: Seen<'_>, wait: Wait, text: &mut Text) {
+pub(crate) fn put_wait(seen: Seen<'_>, wait: Wait, text: &mut Text) {
+    put_standing(seen, "wait", wait, text);
+}
+
+/// Adds what a component waits for, behind a word that says how it stands.
+pub(crate) fn put_standing(seen: Seen<'_>, standing: &str, wait: Wait, text: &mut Text) {
     let (comp, other) = (seen.comp(wait.comp), seen.comp(wait.other));
     let chan = seen.named_chan(wait.chan);
     if wait.whom == Whom::Nobody {
@@ -109,18 +118,31 @@ pub fn put_wait(seen: Seen<'_>, wait: Wait, text: &mut Text) {
     }
     match wait.place {
         Place::Other => text.put("  or"),
-        _ => text.say("wait %", &[comp]),
+        _ => text.say("% %", &[Piece::Text(standing), comp]),
     }
     text.fill(COLUMN);
-    let (deed, verb) = match wait.mv {
-        Move::Take => ("take", Verb::Accept),
-        Move::Ask => ("ask on", Verb::Offer),
-        _ => ("reply on", Verb::Answer),
+    let deed = match wait.mv {
+        Move::Take => "take",
+        Move::Ask => "ask on",
+        _ => "reply on",
     };
     let whom = [other, Piece::Text(deed), chan];
     match wait.whom {
-        Whom::Host => text.say("for the host: %\n", &[seen.host_word(verb, wait.chan)]),
+        Whom::Host => {
+            let word = seen.host_word(verb_of(seen, wait), wait.chan);
+            text.say("for the host: %\n", &[word]);
+        }
         Whom::Idle => text.say("for % to % %, which is idle\n", &whom),
         _ => text.say("for % to % %\n", &whom),
+    }
+}
+
+// The word of the host that comes next where it is waited for: a reply that it has not got comes before another request.
+fn verb_of(seen: Seen<'_>, wait: Wait) -> Verb {
+    match (wait.mv, seen.phase(wait.chan)) {
+        (Move::Got, _) | (Move::Ask, Phase::Replied(_)) => Verb::Collect,
+        (Move::Ask, _) => Verb::Offer,
+        (Move::Take, _) => Verb::Accept,
+        (Move::Reply, _) => Verb::Answer,
     }
 }

@@ -1,7 +1,7 @@
 use Rattle.bz_cli_program.proofs.performing.program.Goals as goal
 
 pub returns-in-Run-clause-does : goal.returns-in-Run-clause-does
-returns-in-Run-clause-does g c = rw (c.in-Run.is, c.of.ensures) (c.run.ensures.refused, c.run.ensures.runs)
+returns-in-Run-clause-does g c = rw c.in-Run.is (c.run.ensures.refused, c.run.ensures.runs)
 
 pub returns-in-Explore-clause-does : goal.returns-in-Explore-clause-does
 returns-in-Explore-clause-does g c = rw c.in-Explore.is tt
@@ -31,4 +31,4 @@ pub returns-in-Page-clause-does : goal.returns-in-Page-clause-does
 returns-in-Page-clause-does g c = rw (c.in-Page.is, c.of-in-Page.ensures) c.page.ensures.pages
 
 pub returns-in-Pool-clause-does : goal.returns-in-Pool-clause-does
-returns-in-Pool-clause-does g c = rw (c.in-Pool.is, c.of-in-Pool.ensures) (c.pool.ensures.refused, c.pool.ensures.pools)
+returns-in-Pool-clause-does g c = rw c.in-Pool.is (c.pool.ensures.refused, c.pool.ensures.pools)
