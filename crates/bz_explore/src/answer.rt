@@ -6,15 +6,7 @@ use bz_explain_notes::nearest_name;
 use bz_net::Net;
 use bz_text::Text;
 use bz_trace_text::put_entries;
-use bz_view::{Piece, gathered};
-
-/// The most lines that are told of one command, and half of them.
-pub(crate) const MOST_LINES: usize = 40;
-
-pub(crate) const HALF: usize = MOST_LINES / 2;
-
-/// How many lines are left out.
-pub(crate) const MORE: &str = ".. % lines more\n";
+use bz_view::{HALF, MORE, Piece, gathered, kept, put_left_out};
 
 /// What is told of a line, and how the session went up to it.
 #[derive(Drop)]
@@ -68,23 +60,6 @@ pub(crate) fn add<T: Drop>(list: &mut Vec<T>, item: T, text: &mut Text) {
     }
 }
 
-/// Adds lines; of more than forty so many of the first, how many are left out, and so many of the last.
-pub(crate) fn put_cut(lines: &Text, first: usize, last: usize, more: &str, text: &mut Text) {
-    let Ok(lines) = lines.whole() else {
-        text.lose();
-        return;
-    };
-    let (first, end) = kept(count_lines(lines), first, last);
-    for (place, line) in lines.split_inclusive(|byte| *byte == b'\n').enumerate() {
-        if place == first {
-            put_left_out(end.saturating_sub(first), more, text);
-        }
-        if place < first || place >= end {
-            text.put_bytes(line);
-        }
-    }
-}
-
 /// Adds the lines of the entries behind the first `before`; of more than forty the first and the last twenty.
 pub(crate) fn put_added(net: &Net, before: usize, text: &mut Text) {
     let entries = net.journal().get(before..).unwrap_or(&[]);
@@ -92,25 +67,4 @@ pub(crate) fn put_added(net: &Net, before: usize, text: &mut Text) {
     let _ = put_entries(text, net.names(), entries.get(..first).unwrap_or(&[]));
     put_left_out(end.saturating_sub(first), MORE, text);
     let _ = put_entries(text, net.names(), entries.get(end..).unwrap_or(&[]));
-}
-
-// Of so many lines: where those that are left out begin, and where they end.
-fn kept(count: usize, first: usize, last: usize) -> (usize, usize) {
-    if count > MOST_LINES {
-        (first, count.saturating_sub(last))
-    } else {
-        (count, count)
-    }
-}
-
-// Adds how many lines are left out, if any are.
-fn put_left_out(count: usize, form: &str, text: &mut Text) {
-    if count > 0 {
-        text.say(form, &[Piece::Number(count)]);
-    }
-}
-
-/// How many lines end in a text.
-pub(crate) fn count_lines(text: &[u8]) -> usize {
-    text.iter().filter(|byte| **byte == b'\n').count()
 }

@@ -10,7 +10,6 @@ mod saving;
 mod session;
 mod table;
 mod things;
-mod waits;
 
 pub use explored::{Ending, Files, NoFile, explore_cmd};
 pub use saving::save;

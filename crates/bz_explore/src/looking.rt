@@ -3,7 +3,6 @@
 use crate::answer::Answer;
 use crate::commands::Call;
 use crate::things::asked;
-use crate::waits::{put_all_waits, put_chain, put_waits};
 use bz_explore_moves::put_moves;
 use bz_explore_net::{Stepping, busy_chans};
 use bz_flat::FlatComp;
@@ -11,7 +10,10 @@ use bz_model::{Entry, Kind, Move, Value};
 use bz_source::{Survey, put_comp, put_label};
 use bz_text::Text;
 use bz_trace_text::counts;
-use bz_view::{Piece, Seen, Thing, chan_at, gathered, port_count, port_of, put_held, put_phase};
+use bz_view::{
+    Piece, Seen, Thing, chan_at, gathered, port_count, port_of, put_all_waits, put_chain,
+    put_held, put_phase, put_waits,
+};
 
 /// How far a net is.
 const TOTALS: &str = "\
@@ -26,7 +28,7 @@ pub(crate) fn look(stepping: &Stepping, survey: &Survey, call: Call<'_>, answer:
     match (call.form.word(), call.first) {
         ("moves", _) => put_moves(stepping, survey, &mut answer.text),
         ("waits", None) => put_waits(seen, &mut answer.text),
-        ("waits", Some("all")) => put_all_waits(stepping, seen, &mut answer.text),
+        ("waits", Some("all")) => put_all_waits(seen, &mut answer.text),
         (_, None) => put_totals(stepping, seen, &mut answer.text),
         (command, Some(word)) => {
             for thing in &asked(seen, call.form, word, answer) {

@@ -1,6 +1,6 @@
 //! A session: a net that is played line by line.
 
-use crate::answer::{Answer, count_lines, put_added};
+use crate::answer::{Answer, put_added};
 use crate::commands::{Call, call_of, number, words_of};
 use crate::explored::{Ending, Files, NoFile};
 use crate::looking::look;
@@ -14,7 +14,7 @@ use bz_net::RunEnd;
 use bz_page::TooLarge;
 use bz_source::Survey;
 use bz_text::Text;
-use bz_view::{Piece, Seen, gathered};
+use bz_view::{Piece, Seen, count_lines, gathered};
 use std::io::Write;
 
 const NO_REPLY: &str = "there is no reply to compare: the last command was none of the host's\n";

@@ -5,17 +5,20 @@
 //! `put_pieces` and not by `say`: the text of an array of pieces is known at the call, without a lemma for each form.
 #![tactic(auto)]
 
+mod cutting;
 mod naming;
 mod parts;
 mod piece;
 mod seen;
+mod stuck;
 mod waits;
+mod why;
 
+pub use cutting::{HALF, MORE, count_lines, kept, put_left_out};
 pub use naming::{put_host_word, put_instance, put_name, put_port, put_source, put_typed};
 pub use parts::{fill, gathered, put_in_line};
 pub use piece::{Piece, Spot, put_phase};
 pub use seen::{Seen, Thing, chan_at, chan_of, port_count, port_name, port_of};
-pub use waits::{
-    MOST_MEMBERS, graph_of, put_counts, put_cycle, put_cycles, put_each, put_ends, put_held,
-    put_wait,
-};
+pub use stuck::put_stuck;
+pub use waits::{graph_of, put_ends, put_held};
+pub use why::{put_all_waits, put_chain, put_waits};

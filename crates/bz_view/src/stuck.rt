@@ -1,0 +1,64 @@
+//! What can never move again.
+
+use crate::cutting::MORE;
+use crate::piece::Piece;
+use crate::seen::Seen;
+use crate::waits::put_wait;
+use bz_stuck::{Link, Stuck};
+use bz_text::Text;
+use bz_waits::{Place, Wait, Whom, first_move};
+
+/// The most links of a ring that are shown.
+const MOST_LINKS: usize = 40;
+
+/// Adds how many components can never move again, and a ring of them, where there are any.
+pub fn put_stuck(seen: Seen<'_>, text: &mut Text) {
+    match Stuck::of(text.alloc(), seen.net) {
+        Ok(set) if set.len() > 0 => put_set(seen, &set, text),
+        Ok(_) => {}
+        Err(_) => text.lose(),
+    }
+}
+
+fn put_set(seen: Seen<'_>, set: &Stuck, text: &mut Text) {
+    let core = seen.net;
+    let counts = [
+        Piece::Number(set.len()),
+        Piece::Number(core.comp_count() as usize),
+    ];
+    text.say(
+        "stuck: % of % components can never move again, whatever the host does\n",
+        &counts,
+    );
+    match set.ring(text.alloc(), core) {
+        Ok(ring) => put_ring(seen, ring.as_slice(), text),
+        Err(_) => text.lose(),
+    }
+}
+
+// A ring, with a line for each of its members, of which at most so many are told.
+fn put_ring(seen: Seen<'_>, ring: &[Link], text: &mut Text) {
+    match ring.len() {
+        0 => return,
+        1 => text.put("ring: 1 waits for itself\n"),
+        count => text.say("ring: % wait for one another\n", &[Piece::Number(count)]),
+    }
+    for link in ring.iter().take(MOST_LINKS) {
+        put_wait(seen, wait_of(seen, *link), text);
+    }
+    let more = ring.len().saturating_sub(MOST_LINKS);
+    if more > 0 {
+        text.say(MORE, &[Piece::Number(more)]);
+    }
+}
+
+fn wait_of(seen: Seen<'_>, link: Link) -> Wait {
+    Wait {
+        comp: link.comp,
+        chan: link.chan,
+        whom: Whom::Busy,
+        other: link.other,
+        mv: first_move(link.due, seen.phase(link.chan)),
+        place: Place::Each,
+    }
+}
