@@ -31,6 +31,7 @@ impl Behind {
     /// The net behind this line of a trace's text, counted from 1. Behind a line of a clash it is where all entries lead.
     pub fn of(alloc: Global, flat: Flat, text: &[u8], line: usize) -> Result<Behind, NoSince>
         ensures wiring { IfOk result (λ behind. behind.net.wiring ≡ flat.wiring) }
+        ensures limit { IfOk result (λ behind. behind.net.limit ≡ 16777216) }
         ensures behind { IfOk result (λ behind. (run : IsRunText flat.wiring text.now)
             → IsBehind flat.wiring run.entries run.last (line - 1) behind.net.state) }
     {
@@ -40,6 +41,14 @@ impl Behind {
         play(&mut net, &entries, 0, count)?;
         entries.truncate(count);
         Ok(Behind { net, entries })
+    }
+
+    /// The net.
+    pub fn into_net(self) -> Net
+        ensures { result ≡ self.net }
+    {
+        let Behind { net, entries: _ } = self;
+        net
     }
 
     /// Whether something can never move again there.

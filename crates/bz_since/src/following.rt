@@ -57,6 +57,9 @@ fn follow(net: &mut Net, entry: Entry) -> Result<(), NetError>
                 Err(error) => Err(error),
             }
         }
-        Entry::Rested { .. } => Ok(()),
+        Entry::Rested { who } => match net.rest(who) {
+            Ok(_) => Ok(()),
+            Err(error) => Err(error),
+        },
     }
 }
