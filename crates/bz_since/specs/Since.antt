@@ -26,4 +26,4 @@ pub record IsFirst (w : Wiring) (es : List Entry) (last : State) (n : ℕ) (foun
 -- so it is of the line that is found, and where none is, nothing is stuck behind any
 abbrev pub IsSince : Wiring → List Entry → State → Option Since → Type 0
 IsSince w es last (Some found) = (n : ℕ) × IsFirst w es last n found
-IsSince w es last None = (n : ℕ) (s : State) → IsBehind w es last n s → HasStuck w s → ⊥
+IsSince w es last None = (n : ℕ) (s : State) → n ≤ length es → IsBehind w es last n s → HasStuck w s → ⊥

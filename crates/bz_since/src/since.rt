@@ -71,6 +71,8 @@ pub fn stuck_since(alloc: Global, net: Net, entries: &[Entry]) -> Result<Option<
     ensures { IfOk result (λ found. (es : List Entry) (last : State) → map told es ≡ map told entries.now
         → Run net.wiring (opening net.wiring) es last → IsSince net.wiring es last found) }
 {
+    // what is stuck stays so where the net is wired well, as its names tell
+    let _ = net.names();
     if has_stuck(alloc, net.core())? {
         return Ok(Some(Since { line: 1, net }));
     }
