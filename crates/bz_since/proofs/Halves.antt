@@ -16,6 +16,7 @@ use Rattle.bz_since.specs.declared.since.Since.{Since}
 use Rattle.bz_since.specs.declared.halving.Bounds.{Bounds}
 use Rattle.bz_since.specs.Since.{HasStuck, IsBehind, IsFirst, IsSince}
 use Rattle.bz_since.specs.Halving.{EndsIn, IsBetween, IsFound, LeadsOn}
+use Rattle.bz_since.proofs.Playing.{ends_start}
 
 -- ---- whether there is a stuck set
 
@@ -111,3 +112,54 @@ within entries b between = go b.found between.found
     go : (found : Option Since) → MatchOption found (b.to ≡ length entries + 1) (IsFound b.low.wiring entries b.to) → b.to ≤ length entries + 1
     go None end = omega (arith, end)
     go (Some found) has = let in_range = has.within in omega (arith, in_range)
+
+module _ (entries : List Entry) (b : Bounds) (half : ℕ) (net : Simulation) (between : IsBetween entries b) (more : b.from < half) (less : half < b.to) (led : LeadsOn entries b.from half b.low net) where
+  ends : EndsIn b.low.wiring (take half entries) net.state
+  ends = led.ends between.ends
+
+  -- where something is stuck half-way, that is the bound above
+  pub found_half : HasStuck net.wiring net.state → IsBetween entries (record { low = b.low; from = b.from; found = Some (record { line = half + 1; net = net }); to = half })
+  found_half stuck = record {
+    wired = between.wired;
+    ordered = more;
+    ends = between.ends;
+    free = between.free;
+    found = record {
+      line_is = refl;
+      within = let most = within entries b between in omega (arith, less, most);
+      wiring = led.wiring;
+      ends = ends;
+      stuck = subst (λ (w : Wiring). HasStuck w net.state) led.wiring stuck;
+    };
+  }
+
+  -- and where nothing is, that below
+  pub free_half : (HasStuck net.wiring net.state → ⊥) → IsBetween entries (record { low = net; from = half; found = b.found; to = b.to })
+  free_half free = record {
+    wired = subst WellWired (sym led.wiring) between.wired;
+    ordered = less;
+    ends = subst (λ (w : Wiring). EndsIn w (take half entries) net.state) (sym led.wiring) ends;
+    free = free;
+    found = subst (λ (w : Wiring). MatchOption b.found (b.to ≡ length entries + 1) (IsFound w entries b.to)) (sym led.wiring) between.found;
+  }
+
+-- at first there are all entries between them
+pub begun : (entries : List Entry) (net : Simulation) (b : Bounds) → b.low ≡ net → b.from ≡ 0 → b.found ≡ None → b.to ≡ length entries + 1 → WellWired net.wiring → net.state ≡ opening net.wiring → (HasStuck net.wiring net.state → ⊥) → IsBetween entries b
+begun entries net b low from found to wired at free = record {
+  wired = subst (λ (n : Simulation). WellWired n.wiring) (sym low) wired;
+  ordered = omega (arith, from, to);
+  ends = subst (λ (n : Simulation). EndsIn n.wiring (take b.from entries) n.state) (sym low) (subst (λ (k : ℕ). EndsIn net.wiring (take k entries) net.state) (sym from) (ends_start net.wiring net.state at));
+  free = subst (λ (n : Simulation). HasStuck n.wiring n.state → ⊥) (sym low) free;
+  found = subst (λ (o : Option Since). MatchOption o (b.to ≡ length entries + 1) (IsFound b.low.wiring entries b.to)) (sym found) to;
+}
+
+-- what is stuck at the opening is so since line 1
+pub at_opening : (w : Wiring) (net : Simulation) (found : Since) (es : List Entry) (last : State) → found.line ≡ 1 → found.net ≡ net → net.wiring ≡ w → net.state ≡ opening w → HasStuck w net.state → IsSince w es last (Some found)
+at_opening w net found es last line is wiring at stuck = (0, record {
+  line_is = line;
+  within = omega arith;
+  wiring = ap (λ (n : Simulation). n.wiring) is ∙ wiring;
+  state = λ s behind. behind.0 ∙ sym at ∙ sym (ap (λ (n : Simulation). n.state) is);
+  stuck = subst (λ (n : Simulation). HasStuck w n.state) (sym is) stuck;
+  before = λ m s less. absurd (omega (arith, less));
+})

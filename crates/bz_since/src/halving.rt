@@ -1,8 +1,7 @@
 //! The search by halving, between two places of a list of entries.
 
-ghost use Rattle.std.specs.Prelude.{◌≡◌, ◌+◌, ◌-◌, ◌<◌, IfOk, MatchBool, OnOk, length};
-ghost use Rattle.bz_model.specs.Nets.{Wiring};
-ghost use Rattle.bz_since.specs.Halving.{IsBetween, IsPlayed};
+ghost use Rattle.std.specs.Prelude.{◌≡◌, ◌+◌, ◌-◌, ◌<◌, ◌≤◌, IfOk, MatchBool, OnOk, length};
+ghost use Rattle.bz_since.specs.Halving.{IsBetween, LeadsOn};
 ghost use Rattle.bz_since.specs.Since.{HasStuck};
 
 use crate::following::play;
