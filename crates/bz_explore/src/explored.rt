@@ -79,9 +79,9 @@ impl Ending {
     }
 }
 
-/// There is nothing else for which a session doesn't begin.
+/// What else there is for which a session doesn't begin behind a trace: nothing.
 #[derive(Clone, Copy, Debug, PartialEq, Eq)]
-pub enum NoOther {}
+pub struct NoOther;
 
 impl fmt::Display for NoOther {
     fn fmt<W: fmt::Write>(&self, _f: &mut fmt::Formatter<W>) -> fmt::Result {

@@ -124,7 +124,7 @@ pub(crate) fn put_undone(stepping: &Stepping, left: usize, count: usize, text: &
     let marks = stepping.marks().get(..left).unwrap_or(&[]);
     for mark in marks.iter().rev().take(count) {
         let command = match mark.command.as_slice() {
-            b"" => Piece::Text("--trace"),
+            [] => Piece::Text("--trace"),
             command => Piece::Bytes(command),
         };
         let lines = Piece::Count(upto.saturating_sub(mark.entries), "line");
@@ -178,7 +178,7 @@ fn put_entry(names: &Names, entry: &Entry, text: &mut Text) {
             reply,
             ..
         } => {
-            let name = Piece::Typed(names.name(*port).unwrap_or(b""));
+            let name = Piece::Typed(names.name(*port).unwrap_or(&[]));
             text.say("%:%", &[Piece::Text(verb.word()), name]);
             if let Some(value) = value {
                 text.say(":%", &[Piece::Wide(*value)]);

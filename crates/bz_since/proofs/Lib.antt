@@ -1,3 +1,3 @@
 pub mod Playing
 pub mod Halves
-pub mod Reads
+pub mod OfRuns

@@ -65,10 +65,10 @@ pub(crate) fn halve(alloc: Global, entries: &[Entry], bounds: &mut Bounds) -> Re
             net,
         });
         bounds.to = half;
-    } else {
-        bounds.low = net;
-        bounds.from = half;
+        return Ok(());
     }
+    bounds.low = net;
+    bounds.from = half;
     Ok(())
 }
 
