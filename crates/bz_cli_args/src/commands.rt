@@ -47,7 +47,13 @@ const SUBS: [Sub; 12] = [
         about: "Tell who waits for whom behind a line of a trace, and since when something is stuck",
         after: WAITS,
         options: &[
-            PART, PART_FORM, NETLIST, TRACE, LINE, STRICT_WAITS, COMPONENT,
+            PART,
+            PART_FORM,
+            NETLIST,
+            TRACE,
+            LINE,
+            STRICT_WAITS,
+            COMPONENT,
         ],
     },
     Sub {

@@ -368,10 +368,7 @@ fn made<C: Display + Drop, E: Write>(
 }
 
 // The status where nothing is made of a trace.
-fn unmade<C: Display + Drop, E: Write>(
-    why: TraceFault<C>,
-    errors: &mut E,
-) -> Result<u8, Fault>
+fn unmade<C: Display + Drop, E: Write>(why: TraceFault<C>, errors: &mut E) -> Result<u8, Fault>
     ensures { result ≡ of_unmade why }
 {
     match why {

@@ -13,8 +13,8 @@ use bz_source::{Survey, put_comp, put_label};
 use bz_text::Text;
 use bz_trace_text::counts;
 use bz_view::{
-    Piece, Seen, Thing, chan_at, gathered, port_count, port_of, put_all_waits, put_chain,
-    put_held, put_phase, put_stuck, put_waits,
+    Piece, Seen, Thing, chan_at, gathered, port_count, port_of, put_all_waits, put_chain, put_held,
+    put_phase, put_stuck, put_waits,
 };
 
 /// How far a net is.

@@ -155,11 +155,14 @@ begun entries net b low from found to wired at free = record {
 
 -- what is stuck at the opening is so since line 1
 pub at_opening : (w : Wiring) (net : Simulation) (found : Since) (es : List Entry) (last : State) → found.line ≡ 1 → found.net ≡ net → net.wiring ≡ w → net.state ≡ opening w → HasStuck w net.state → IsSince w es last (Some found)
-at_opening w net found es last line is wiring at stuck = (0, record {
-  line_is = line;
-  within = omega arith;
-  wiring = ap (λ (n : Simulation). n.wiring) is ∙ wiring;
-  state = λ s behind. behind.0 ∙ sym at ∙ sym (ap (λ (n : Simulation). n.state) is);
-  stuck = subst (λ (n : Simulation). HasStuck w n.state) (sym is) stuck;
-  before = λ m s less. absurd (omega (arith, less));
-})
+at_opening w net found es last line is wiring at stuck = (
+  0,
+  record {
+    line_is = line;
+    within = omega arith;
+    wiring = ap (λ (n : Simulation). n.wiring) is ∙ wiring;
+    state = λ s behind. behind.0 ∙ sym at ∙ sym (ap (λ (n : Simulation). n.state) is);
+    stuck = subst (λ (n : Simulation). HasStuck w n.state) (sym is) stuck;
+    before = λ m s less. absurd (omega (arith, less));
+  },
+)

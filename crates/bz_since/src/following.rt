@@ -8,12 +8,7 @@ use bz_model::{Entry, NetError};
 use bz_net::Net;
 
 /// Plays the entries from one place of a list to another.
-pub(crate) fn play(
-    net: &mut Net,
-    entries: &[Entry],
-    from: usize,
-    to: usize,
-) -> Result<(), NetError>
+pub(crate) fn play(net: &mut Net, entries: &[Entry], from: usize, to: usize) -> Result<(), NetError>
     requires ordered { from ≤ to }
     requires within { to ≤ length entries.now }
     ensures { OnOk result (LeadsOn entries.now from to net.old net.new) }
