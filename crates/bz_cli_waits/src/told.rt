@@ -51,7 +51,9 @@ fn told_in(
 ) -> Result<Told, AllocError>
     ensures { IfOk result (λ told. IsTold flat.wiring trace.now line told.is_stuck) }
 {
-    let opened = flat.dup(alloc)?;
+    let Ok(opened) = flat.dup(alloc) else {
+        return Err(AllocError);
+    };
     // of a run nothing but memory can be wanting
     let Ok(behind) = Behind::of(alloc, flat, trace, line) else {
         return Err(AllocError);

@@ -191,7 +191,10 @@ fn opened(alloc: Global, flat: Flat) -> Result<Stepping, AllocError> {
 
 // The net behind a trace, which is that of a run: so nothing but memory can be wanting.
 fn behind(alloc: Global, flat: Flat, trace: &[u8]) -> Result<Stepping, AllocError> {
-    let Ok(behind) = Behind::of(alloc, flat.dup(alloc)?, trace, usize::MAX) else {
+    let Ok(same) = flat.dup(alloc) else {
+        return Err(AllocError);
+    };
+    let Ok(behind) = Behind::of(alloc, same, trace, usize::MAX) else {
         return Err(AllocError);
     };
     let net = behind.into_net();

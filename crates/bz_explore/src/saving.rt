@@ -71,7 +71,9 @@ fn put_stuck_rows(stepping: &Stepping, seen: Seen<'_>, text: &mut Text) {
 
 /// Since which line of the trace so far something can never move again.
 pub(crate) fn since_of(alloc: Global, stepping: &Stepping) -> Result<Option<Since>, NoSince> {
-    let flat = stepping.flat().dup(alloc)?;
+    let Ok(flat) = stepping.flat().dup(alloc) else {
+        return Err(NoSince::Memory);
+    };
     let net = Net::open(alloc, flat, MAX_ENTRIES as u32)?;
     stuck_since(alloc, net, stepping.net().journal())
 }

@@ -44,11 +44,18 @@ impl Ended {
     pub fn lines(&self, alloc: Global, flat: &Flat, trace: &[u8]) -> Result<Vec<u8>, AllocError> {
         let mut text = Text::new(alloc);
         if self.stuck.len() > 0 {
-            let since = stuck_since_in(alloc, flat.dup(alloc)?, trace);
-            put_stuck_row(&self.stuck, since, &mut text);
+            put_stuck_row(&self.stuck, since_in(alloc, flat, trace), &mut text);
         }
         text.put_bytes(&self.lines);
         Vec::from_slice(alloc, text.whole()?)
+    }
+}
+
+// Since which line of a trace something can never move again.
+fn since_in(alloc: Global, flat: &Flat, trace: &[u8]) -> Result<Option<Since>, NoSince> {
+    match flat.dup(alloc) {
+        Ok(flat) => stuck_since_in(alloc, flat, trace),
+        Err(_) => Err(NoSince::Memory),
     }
 }
 

@@ -50,11 +50,17 @@ take_none : {X : Type 0} (k : ℕ) → take k ([] {A = X}) ≡ []
 take_none zero = refl
 take_none (suc k) = refl
 
+zero_add : (k : ℕ) → k ≡ 0 + k
+zero_add k = omega arith
+
+suc_add : (m k : ℕ) → suc (m + k) ≡ suc m + k
+suc_add m k = omega arith
+
 -- so many of a list, and then so many more of it
 take_on : {X : Type 0} (m k : ℕ) (xs : List X) → take m xs ++ take k (drop m xs) ≡ take (m + k) xs
-take_on zero k xs = refl
-take_on (suc m) k [] = take_none k
-take_on (suc m) k (x ∷ xs) = ap (λ ys. x ∷ ys) (take_on m k xs)
+take_on zero k xs = ap (λ n. take n xs) (zero_add k)
+take_on (suc m) k [] = take_none k ∙ sym (take_none (suc m + k))
+take_on (suc m) k (x ∷ xs) = ap (λ ys. x ∷ ys) (take_on m k xs) ∙ ap (λ n. take n (x ∷ xs)) (suc_add m k)
 
 pub told_take : (n : ℕ) (xs ys : List Entry) → map told xs ≡ map told ys → map told (take n xs) ≡ map told (take n ys)
 told_take zero xs ys e = refl

@@ -7,11 +7,6 @@ returns-in-Err g c =
     let none = rw c.both.ensures.netlist at c.in-Err.ensures in
     inl (rw c.both.ensures.trace at none, Keeps-refl _)
 
-pub returns-in-Ok-Ok : goal.returns-in-Ok-Ok
-returns-in-Ok-Ok g c =
-    let has = rw c.both.ensures.netlist at c.in-Ok.ensures in
-    inr (c.as_slice.result.now, (rw c.both.ensures.trace at has, c.in-Ok-write_out.ensures.ok))
-
 pub returns : goal.returns
 returns g c =
     let has = rw c.both.ensures.netlist at c.in-Ok.ensures in
