@@ -1,6 +1,7 @@
 -- The bounds of the search, and what is found once they have met.
 use Rattle.std.proofs.Common.{◌≡◌, ℕ, zero, suc, ◌+◌, ◌-◌, ◌<◌, ◌≤◌, Bool, true, Option, Some, None, List, [], ◌∷◌, ◌++◌, length, map, take, drop, refl, sym, ap, ap₂, subst, ◌∙◌, arith}
-use Rattle.std.specs.Prelude.{MatchOption}
+use Rattle.std.proofs.lemmas.Bool.{lt-ltb}
+use Rattle.std.specs.Prelude.{MatchBool, MatchOption, nat_lt}
 use Rattle.std.proofs.Math.ListN.{length-map}
 use Rattle.std.proofs.lemmas.List.{take-append-drop}
 use Rattle.bz_model.specs.declared.event.Entry.{Entry}
@@ -34,6 +35,11 @@ has_none w s row n greatest (numbers, are, is) none (member, stuck, (c, from, to
     let (k, less, at) = are.whole c from (greatest member stuck c from to in_it) in
     none (omega (arith, is, less))
 
+pub counted : (w : Wiring) (s : State) (row : List Bool) (n : ℕ) → AreComps w (is_member row) → AreStuck w s (is_member row) → IsGreatest w s (is_member row) → HasCount row n → MatchBool (nat_lt 0 n) (HasStuck w s) (HasStuck w s → ⊥)
+counted w s row zero comps stuck greatest count = has_none w s row 0 greatest count (λ less. absurd (omega (arith, less)))
+counted w s row (suc n) comps stuck greatest count =
+    subst (λ (b : Bool). MatchBool b (HasStuck w s) (HasStuck w s → ⊥)) (sym (lt-ltb 0 (suc n) (omega arith))) (has_some w s row (suc n) comps stuck count (omega arith))
+
 -- ---- runs in parts
 
 run_apart : (w : Wiring) (s : State) (xs ys : List Entry) (t : State) → Run w s (xs ++ ys) t → (m : State) × Run w s xs m × Run w m ys t
@@ -46,10 +52,6 @@ run_join : (w : Wiring) (s : State) (xs ys : List Entry) (m t : State) → Run w
 run_join w s [] ys m t at run = subst (λ (o : State). Run w o ys t) at run
 run_join w s (x ∷ xs) ys m t run then = (run.0, run.1, run_join w run.0 xs ys m t run.2 then)
 
-take_none : {X : Type 0} (k : ℕ) → take k ([] {A = X}) ≡ []
-take_none zero = refl
-take_none (suc k) = refl
-
 zero_add : (k : ℕ) → k ≡ 0 + k
 zero_add k = omega arith
 
@@ -59,7 +61,8 @@ suc_add m k = omega arith
 -- so many of a list, and then so many more of it
 take_on : {X : Type 0} (m k : ℕ) (xs : List X) → take m xs ++ take k (drop m xs) ≡ take (m + k) xs
 take_on zero k xs = ap (λ n. take n xs) (zero_add k)
-take_on (suc m) k [] = take_none k ∙ sym (take_none (suc m + k))
+take_on (suc m) zero [] = ap (λ n. take n []) (suc_add m zero)
+take_on (suc m) (suc k) [] = ap (λ n. take n []) (suc_add m (suc k))
 take_on (suc m) k (x ∷ xs) = ap (λ ys. x ∷ ys) (take_on m k xs) ∙ ap (λ n. take n (x ∷ xs)) (suc_add m k)
 
 pub told_take : (n : ℕ) (xs ys : List Entry) → map told xs ≡ map told ys → map told (take n xs) ≡ map told (take n ys)
@@ -70,6 +73,18 @@ told_take (suc n) (x ∷ xs) [] e = absurd (no_nil _ _ (sym e))
 told_take (suc n) (x ∷ xs) (y ∷ ys) e =
     let both = cons_same e in
     ap₂ (λ u us. u ∷ us) both.0 (told_take n xs ys both.1)
+
+take_whole : {X : Type 0} (xs : List X) → take (length xs) xs ≡ xs
+take_whole [] = refl
+take_whole (x ∷ xs) = ap (λ ys. x ∷ ys) (take_whole xs)
+
+-- where the first n of some entries lead, a run that is told so is behind n of its own
+pub behind_run : (w : Wiring) (entries es kept : List Entry) (last : State) (n : ℕ) (s : State) → map told es ≡ map told entries → Run w (opening w) es last → kept ≡ take n entries → EndsIn w (take (length kept) kept) s → IsBehind w es last n s
+behind_run w entries es kept last n s alike run cut ends =
+    let (m, before, after) = run_apart w (opening w) (take n es) (drop n es) last (subst (λ xs. Run w (opening w) xs last) (sym (take-append-drop n es)) run) in
+    let told_so : map told (take n es) ≡ map told (take (length kept) kept) = told_take n es entries alike ∙ ap (map told) (sym cut) ∙ ap (map told) (sym (take_whole kept)) in
+    let same : m ≡ s = ends (take n es) m told_so before in
+    (subst (λ (o : State). Run w (opening w) (take n es) o) same before, subst (λ (o : State). Run w o (drop n es) last) same after)
 
 -- ---- what the bounds tell once they have met
 

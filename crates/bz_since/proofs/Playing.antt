@@ -24,11 +24,12 @@ ends_more w old new before entry is ends goes es t alike run =
     goes.sole l.last t l.last_alike (subst (λ (v : Wiring). Follows v old.state l.last t) (sym is) (subst (λ (o : State). Follows w o l.last t) same after))
 
 pub leads_start : (entries : List Entry) (from : ℕ) (net : Simulation) → LeadsOn entries from from net net
-leads_start entries from net = record { wiring = refl; ends = λ ends. ends }
+leads_start entries from net = record { wiring = refl; limit = refl; ends = λ ends. ends }
 
 pub leads_more : (entries : List Entry) (from place : ℕ) (d : Entry) (old mid new : Simulation) → place < length entries → LeadsOn entries from place old mid → Goes mid (get_or entries place d) new → LeadsOn entries from (place + 1) old new
 leads_more entries from place d old mid new in_range led goes = record {
   wiring = goes.wiring ∙ led.wiring;
+  limit = goes.limit ∙ led.limit;
   ends = λ before.
       subst (λ (es : List Entry). EndsIn old.wiring es new.state) (sym (take_more entries place d in_range))
       (ends_more old.wiring mid new (take place entries) (get_or entries place d) led.wiring (led.ends before) goes);

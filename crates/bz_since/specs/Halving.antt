@@ -13,6 +13,7 @@ use Rattle.bz_since.specs.Since.{HasStuck}
 -- Whatever entry is told as this one leads from the one state to the other.
 pub record Goes (old : Simulation) (entry : Entry) (new : Simulation) : Type 0 where
   pub wiring : new.wiring ≡ old.wiring
+  pub limit : new.limit ≡ old.limit
   pub sole : (other : Entry) (next : State) → told other ≡ told entry → Follows old.wiring old.state other next → next ≡ new.state
 
 -- each run that is told as these entries ends in this state
@@ -22,6 +23,7 @@ EndsIn w entries s = (es : List Entry) (t : State) → map told es ≡ map told 
 -- a net where the first entries of a list, so many, lead to goes to where more of them lead to
 pub record LeadsOn (entries : List Entry) (from to : ℕ) (old new : Simulation) : Type 0 where
   pub wiring : new.wiring ≡ old.wiring
+  pub limit : new.limit ≡ old.limit
   pub ends : EndsIn old.wiring (take from entries) old.state → EndsIn old.wiring (take to entries) new.state
 
 -- what was found is the net behind the first n entries, where something is stuck

@@ -37,9 +37,9 @@ impl Behind {
     {
         let mut net = Net::open(alloc, flat, MAX_ENTRIES as u32)?;
         let mut entries = read_trace(alloc, net.names(), text)?;
-        let count = entries.len().min(line.saturating_sub(1));
-        play(&mut net, &entries, 0, count)?;
-        entries.truncate(count);
+        entries.truncate(line.saturating_sub(1));
+        let kept = entries.as_slice();
+        play(&mut net, kept, 0, kept.len())?;
         Ok(Behind { net, entries })
     }
 

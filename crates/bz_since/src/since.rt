@@ -94,5 +94,8 @@ pub fn stuck_since_in(alloc: Global, flat: Flat, text: &[u8]) -> Result<Option<S
 {
     let net = Net::open(alloc, flat, MAX_ENTRIES as u32)?;
     let entries = read_trace(alloc, net.names(), text)?;
-    stuck_since(alloc, net, &entries)
+    match stuck_since(alloc, net, &entries) {
+        Ok(found) => Ok(found),
+        Err(fault) => Err(fault),
+    }
 }

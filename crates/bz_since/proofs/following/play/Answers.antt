@@ -1,4 +1,4 @@
-use Rattle.std.proofs.Common.{◌+◌, ◌<◌, ◌≤◌, ◌≡◌, arith, length, subst, ℕ}
+use Rattle.std.proofs.Common.{◌≡◌, arith, subst, ℕ}
 use Rattle.bz_since.specs.Halving.{LeadsOn}
 use Rattle.bz_since.proofs.Playing.{leads_more, leads_start}
 use Rattle.bz_since.proofs.following.play.Goals as goal
