@@ -95,6 +95,10 @@ fn play_request<P: Threads + Wait + Sync>(
     if request.command.is_by_hand() && rt.stdin().as_fd().try_clone_to_owned().is_err() {
         return refuse(rt, Refusal::Read);
     }
+    if request.command.is_by_hand() && matches!(request.command.trace_file(), Some(Source::Stdin)) {
+        let why = "standard input cannot have both the lines and the trace";
+        return refuse(rt, Refusal::Line(why));
+    }
     if let Some(other) = shared_stdin(request) {
         return refuse(rt, Refusal::Shared(other));
     }

@@ -7,8 +7,9 @@ use clap::ArgMatches;
 #[derive(Clone, Copy)]
 pub enum Command<'a> {
     Run(RunOptions<'a>),
-    Explore,
+    Explore(TraceOptions<'a>),
     Check(TraceOptions<'a>),
+    Waits(WaitsOptions<'a>),
     List(ListOptions),
     Lint(FormatOptions),
     Parts,
@@ -35,6 +36,19 @@ pub struct RunOptions<'a> {
 pub struct TraceOptions<'a> {
     /// Where the trace comes from, if it doesn't come after the netlist.
     pub trace: Option<Source<'a>>,
+}
+
+/// The options of `waits`.
+#[derive(Clone, Copy)]
+pub struct WaitsOptions<'a> {
+    /// Where the trace comes from, if it doesn't come after the netlist.
+    pub trace: Option<Source<'a>>,
+    /// The line of the trace behind which it is asked for.
+    pub line: Option<u64>,
+    /// Whether the status tells that something can never move again.
+    pub strict: bool,
+    /// The component on which it is asked what it hangs.
+    pub comp: Option<u32>,
 }
 
 /// The options of `list`.
@@ -115,18 +129,20 @@ impl<'a> Command<'a> {
     /// Where the trace comes from, if the command reads one and it doesn't come after the netlist.
     pub fn trace_file(self) -> Option<Source<'a>> {
         match self {
+            Command::Explore(options) => options.trace,
             Command::Check(options) => options.trace,
+            Command::Waits(options) => options.trace,
             Command::Chart(options) => options.trace,
             Command::Page(options) => options.trace,
             _ => None,
         }
     }
 
-    /// Whether the command reads a trace.
+    /// Whether the command reads a trace, after the netlist where it has none of its own.
     pub fn reads_trace(self) -> bool {
         matches!(
             self,
-            Command::Check(_) | Command::Chart(_) | Command::Page(_)
+            Command::Check(_) | Command::Waits(_) | Command::Chart(_) | Command::Page(_)
         )
     }
 
@@ -137,7 +153,7 @@ impl<'a> Command<'a> {
 
     /// Whether a net is played by the lines of standard input.
     pub fn is_by_hand(self) -> bool {
-        matches!(self, Command::Explore)
+        matches!(self, Command::Explore(_))
     }
 }
 
@@ -145,8 +161,9 @@ impl<'a> Command<'a> {
 pub(crate) fn command_in<'a>(name: &str, matches: &ArgMatches<'a>) -> Option<Command<'a>> {
     Some(match name {
         "run" => Command::Run(run_options(matches)),
-        "explore" => Command::Explore,
+        "explore" => Command::Explore(trace_options(matches)),
         "check" => Command::Check(trace_options(matches)),
+        "waits" => Command::Waits(waits_options(matches)),
         "list" => Command::List(ListOptions {
             paths: matches.get_flag("paths"),
         }),
@@ -172,6 +189,15 @@ fn run_options<'a>(matches: &ArgMatches<'a>) -> RunOptions<'a> {
 fn trace_options<'a>(matches: &ArgMatches<'a>) -> TraceOptions<'a> {
     TraceOptions {
         trace: source_named(matches, "trace"),
+    }
+}
+
+fn waits_options<'a>(matches: &ArgMatches<'a>) -> WaitsOptions<'a> {
+    WaitsOptions {
+        trace: source_named(matches, "trace"),
+        line: matches.get_one("line"),
+        strict: matches.get_flag("strict"),
+        comp: matches.get_one("component"),
     }
 }
 

@@ -2,12 +2,12 @@
 
 use crate::help::{
     ALL_COMMANDS, CHART, CHECK, DRAW, EXPLORE, KINDS, LINT, LIST, PAGE, PARTS, POOL, PROGRAM, RUN,
-    VERSION,
+    VERSION, WAITS,
 };
 use crate::options::{
-    AROUND, DEPTH, EXPLAIN, FORMAT, FROM, FUEL, HOPS, JOURNAL, MEANT_PART, NETLIST, Opt, PART,
-    PART_FORM, PATHS, REQUIRED_NETLIST, SESSIONS, STRICT, TO, TRACE, WORD_FILE, WORDS, WORKERS,
-    arg_of,
+    AROUND, BEGUN_TRACE, COMPONENT, DEPTH, EXPLAIN, FORMAT, FROM, FUEL, HOPS, JOURNAL, LINE,
+    MEANT_PART, NETLIST, Opt, PART, PART_FORM, PATHS, REQUIRED_NETLIST, SESSIONS, STRICT,
+    STRICT_WAITS, TO, TRACE, WORD_FILE, WORDS, WORKERS, arg_of,
 };
 use clap::{Arg, Command};
 use std::alloc::{AllocError, Global};
@@ -23,7 +23,7 @@ struct Sub {
 }
 
 /// The commands, in the order of the help.
-const SUBS: [Sub; 11] = [
+const SUBS: [Sub; 12] = [
     Sub {
         name: "run",
         about: "Play words on a part's net, and write the trace",
@@ -34,13 +34,27 @@ const SUBS: [Sub; 11] = [
         name: "explore",
         about: "Play a part's net by hand: each line of standard input has its answer",
         after: EXPLORE,
-        options: &[PART, PART_FORM, REQUIRED_NETLIST],
+        options: &[PART, PART_FORM, REQUIRED_NETLIST, BEGUN_TRACE],
     },
     Sub {
         name: "check",
         about: "Tell whether a trace is that of a run of a part's net",
         after: CHECK,
         options: &[PART, PART_FORM, NETLIST, TRACE],
+    },
+    Sub {
+        name: "waits",
+        about: "Tell who waits for whom behind a line of a trace, and since when something is stuck",
+        after: WAITS,
+        options: &[
+            PART,
+            PART_FORM,
+            NETLIST,
+            TRACE,
+            LINE,
+            STRICT_WAITS,
+            COMPONENT,
+        ],
     },
     Sub {
         name: "list",

@@ -42,7 +42,7 @@ Standard input has a command on each line. The line `help` lists them. On a term
 
 Statuses:
   0  each line was followed, and each reply was as expected
-  1  a reply was not as expected, or the netlist is refused (S, B and E faults)
+  1  a reply was not as expected, the trace is not that of a run, or the netlist is refused (S, B and E faults)
   2  a line could not be followed, the command line is bad, or a file cannot be opened
   3  input or output failed (F1, F2), or memory ran out (F3)
 
@@ -66,6 +66,21 @@ Statuses:
 Examples:
   breezesim check --part buffer --netlist examples/buffer.breeze --trace examples/buffer.trace
   cat examples/buffer.breeze examples/buffer.trace | breezesim check --part buffer";
+
+/// What stands behind the options of `waits`.
+pub(crate) const WAITS: &str = "\
+The netlist comes from --netlist or from standard input. The trace comes from --trace, or else stands behind the netlist, as
+cat makes one text of two files. What is told is what `waits` of explore tells behind that line, with C `waits C`. Where
+something can never move again, the first line of the trace behind which that is so is told before.
+
+Statuses:
+  0  it was told
+  1  the trace is not that of a run, or the netlist is refused (S, B and E faults)
+  2  the command line is bad, a file cannot be opened, or the line or the component asked for is not there
+  3  with --strict something can never move again, input or output failed (F1, F2), or memory ran out (F3)
+
+Example:
+  breezesim waits --part cross --netlist examples/cross.breeze --trace examples/cross.trace";
 
 /// What stands behind the options of `list`.
 pub(crate) const LIST: &str = "\

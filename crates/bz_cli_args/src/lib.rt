@@ -10,7 +10,7 @@ mod words;
 
 pub use asked::{
     ChartOptions, Command, DrawOptions, FormatOptions, ListOptions, PoolOptions, RunOptions,
-    Source, TraceOptions,
+    Source, TraceOptions, WaitsOptions,
 };
 pub use commands::command_line;
 pub use options::{MAX_JOURNAL, MAX_WORKERS};

@@ -29,6 +29,8 @@ enum Name {
     Long(&'static str),
     /// By a long name and a letter, as `--part` and `-p`.
     Short(&'static str, char),
+    /// By its place alone.
+    Place,
     /// By its place alone, and any number of times.
     Words,
 }
@@ -132,6 +134,11 @@ pub(crate) const TRACE: Opt = Opt {
     ..TEXT
 };
 
+pub(crate) const BEGUN_TRACE: Opt = Opt {
+    help: "Begin behind the trace in FILE; `undo` takes it back",
+    ..TRACE
+};
+
 pub(crate) const WORD_FILE: Opt = Opt {
     id: "word-file",
     name: Name::Short("words", 'w'),
@@ -207,6 +214,11 @@ pub(crate) const STRICT: Opt = Opt {
     ..FLAG
 };
 
+pub(crate) const STRICT_WAITS: Opt = Opt {
+    help: "End with status 3 where something can never move again",
+    ..STRICT
+};
+
 pub(crate) const WORKERS: Opt = Opt {
     id: "workers",
     name: Name::Long("workers"),
@@ -241,6 +253,22 @@ pub(crate) const TO: Opt = Opt {
     ..FROM
 };
 
+pub(crate) const LINE: Opt = Opt {
+    id: "line",
+    name: Name::Long("line"),
+    help: "The line of the trace behind which it is told; by default the last",
+    ..FROM
+};
+
+pub(crate) const COMPONENT: Opt = Opt {
+    id: "component",
+    name: Name::Place,
+    value: &["C"],
+    help: "Tell on what component C hangs, by its number",
+    parser: ValueParser::Signed(0, 4_294_967_295),
+    ..NUMBER
+};
+
 pub(crate) const WORDS: Opt = Opt {
     id: "words",
     name: Name::Words,
@@ -262,6 +290,7 @@ fn begun<'a>(alloc: Global, option: &Opt) -> Arg<'a> {
     match option.name {
         Name::Long(long) => arg.long(long),
         Name::Short(long, short) => arg.long(long).short(short),
+        Name::Place => arg,
         Name::Words => arg.num_args(0..),
     }
 }

@@ -1,5 +1,5 @@
 -- How the program ends: with a status, or with the fault of its command, which it tells.
-use Rattle.std.specs.Prelude.{◌≡◌, ℕ, ◌<◌, ◌≤◌, ⊤, if◌then◌else◌, Option, None, Some, Result, Ok, Err, List}
+use Rattle.std.specs.Prelude.{◌≡◌, ℕ, ◌<◌, ◌≤◌, ◌&&◌, ⊤, Bool, if◌then◌else◌, Option, None, Some, Result, Ok, Err, List}
 use Rattle.std.specs.Io.KnownBytes.{Keeps}
 use Rattle.bz_cli_input.specs.declared.fault.Fault.{Fault}
 use Rattle.bz_cli_core.specs.declared.playing.Halt.{Halt}
@@ -10,6 +10,8 @@ use Rattle.bz_cli_trace.specs.Making.{status_of}
 use Rattle.bz_cli_trace.specs.Checking.{is_run}
 use Rattle.bz_cli_trace.specs.declared.checked.Checked.{Checked}
 use Rattle.bz_cli_args.specs.declared.asked.ChartOptions.{ChartOptions}
+use Rattle.bz_cli_args.specs.declared.asked.WaitsOptions.{WaitsOptions}
+use Rattle.bz_cli_waits.specs.declared.asked.WaitsAsked.{WaitsAsked}
 use Rattle.bz_chart.specs.declared.range.LineRange.{LineRange}
 
 -- The command has answered something of which this is said, and the program ends so of that answer.
@@ -44,15 +46,28 @@ of_drawing (Ok None) = Ok 0
 of_drawing (Ok (Some why)) = Ok 2
 of_drawing (Err fault) = Err fault
 
+-- the status that says why nothing is made of a trace
+abbrev pub of_unmade : {C : Type 0} → TraceFault C → Result ℕ Fault
+of_unmade (Command fault) = Err fault
+of_unmade fault = Ok (status_of fault)
+
 -- 0 where a chart or a page is made of a trace, and else the status that says why none is
 abbrev pub of_made : {A C : Type 0} → Result A (TraceFault C) → Result ℕ Fault
 of_made (Ok u) = Ok 0
-of_made (Err (Command fault)) = Err fault
-of_made (Err fault) = Ok (status_of fault)
+of_made (Err fault) = of_unmade fault
+
+-- 0 where it is told of a trace who waits, or 3 where something can never move again and that is asked for
+abbrev pub of_told : {C : Type 0} → Bool → Result Bool (TraceFault C) → Result ℕ Fault
+of_told strict (Ok is) = Ok (if (is && strict) then 3 else 0)
+of_told strict (Err fault) = of_unmade fault
 
 -- the lines of a trace that are asked for
 abbrev pub lines_asked : ChartOptions → LineRange
 lines_asked options = record { from = options.from; to = options.to }
+
+-- the line and the component that are asked for
+abbrev pub waits_asked : WaitsOptions → WaitsAsked
+waits_asked options = record { line = options.line; comp = options.comp }
 
 -- the most entries of a journal, and the number of workers, that a command line may name
 abbrev pub IsJournal : ℕ → Type 0

@@ -8,17 +8,19 @@ use Rattle.bz_cli_args.specs.declared.asked.Command.TheVariants as asked
 use Rattle.bz_cli_args.specs.declared.asked.ListOptions.{ListOptions}
 use Rattle.bz_cli_args.specs.declared.asked.PoolOptions.{PoolOptions}
 use Rattle.bz_cli_args.specs.declared.asked.RunOptions.{RunOptions}
+use Rattle.bz_cli_args.specs.declared.asked.WaitsOptions.{WaitsOptions}
 use Rattle.bz_cli_core.specs.Running.{Runs}
 use Rattle.bz_cli_input.specs.Listed.{Lists}
 use Rattle.bz_cli_input.specs.declared.fault.Fault.{Fault}
 use Rattle.bz_cli_source.specs.Listed as placed
 use Rattle.bz_cli_source.specs.PartLists.{ListsParts}
 use Rattle.bz_cli_trace.specs.Checking.{Checks, ChecksApart}
+use Rattle.bz_cli_waits.specs.Telling.{Waits, WaitsApart}
 use Rattle.bz_draw.specs.Drawing.{Draws}
 use Rattle.bz_draw.specs.declared.fault.NoDrawing.{NoDrawing}
 use Rattle.bz_page.specs.Pages.{Blank}
 use Rattle.bz_page.specs.Paging.{Pages, PagesApart}
-use Rattle.bz_cli_program.specs.Endings.{AreWorkers, Does, IsDone, IsJournal, IsRefused, lines_asked, of_check, of_done, of_drawing, of_made, of_run}
+use Rattle.bz_cli_program.specs.Endings.{AreWorkers, Does, IsDone, IsJournal, IsRefused, lines_asked, of_check, of_done, of_drawing, of_made, of_run, of_told, waits_asked}
 
 -- `run`, where the journal may be as long as is asked for
 abbrev pub RunEnds : RunOptions → List (List ℕ) → Option (List ℕ) → Option (List ℕ) → Option (List ℕ) → Option (List ℕ) → Result ℕ Fault → Type 0
@@ -31,6 +33,13 @@ abbrev pub CheckEnds : Option (List ℕ) → Option (List ℕ) → Option (Optio
 CheckEnds part known None old new result = IfSome known (λ text. Does of_check (Checks text part old new) result)
 CheckEnds part known (Some apart) old new result =
     IfSome known (λ netlist. IfSome apart (λ text. Does of_check (ChecksApart netlist text part old new) result))
+
+-- `waits`, of the line and the component that are asked for
+abbrev pub WaitsEnds : WaitsOptions → Option (List ℕ) → Option (List ℕ) → Option (Option (List ℕ)) → Option (List ℕ) → Option (List ℕ) → Result ℕ Fault → Type 0
+WaitsEnds options part known None old new result =
+    IfSome known (λ text. Does (of_told options.strict) (Waits text part (waits_asked options) old new) result)
+WaitsEnds options part known (Some apart) old new result =
+    IfSome known (λ netlist. IfSome apart (λ text. Does (of_told options.strict) (WaitsApart netlist text part (waits_asked options) old new) result))
 
 -- `list`, with places where they are asked for
 abbrev pub ListEnds : ListOptions → Option (List ℕ) → Option (List ℕ) → Option (List ℕ) → Option (List ℕ) → Result ℕ Fault → Type 0
@@ -63,8 +72,9 @@ PoolEnds options words part known old new result =
 -- apart where there is one. Of `explore`, `lint` and `kinds` nothing is said.
 abbrev pub ProgramDoes : Command → List (List ℕ) → Option (List ℕ) → Option (List ℕ) → Option (Option (List ℕ)) → Option (List ℕ) → Option (List ℕ) → Result ℕ Fault → Type 0
 ProgramDoes (asked.Run options) words part known trace old new result = RunEnds options words part known old new result
-ProgramDoes asked.Explore words part known trace old new result = ⊤
+ProgramDoes (asked.Explore options) words part known trace old new result = ⊤
 ProgramDoes (asked.Check options) words part known trace old new result = CheckEnds part known trace old new result
+ProgramDoes (asked.Waits options) words part known trace old new result = WaitsEnds options part known trace old new result
 ProgramDoes (asked.List options) words part known trace old new result = ListEnds options part known old new result
 ProgramDoes (asked.Lint options) words part known trace old new result = ⊤
 ProgramDoes asked.Parts words part known trace old new result = IfSome known (λ text. IsDone (ListsParts text old new) result)

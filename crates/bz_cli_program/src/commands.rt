@@ -7,8 +7,8 @@ ghost use Rattle.bz_cli_core.specs.Running.{Runs};
 ghost use Rattle.bz_cli_input.specs.Listed.{Lists};
 ghost use Rattle.bz_cli_input.specs.Reading.{ReadsWithin};
 ghost use Rattle.bz_cli_program.specs.Endings.{AreWorkers, Does, IsDone, IsJournal, IsRefused};
-ghost use Rattle.bz_cli_program.specs.Endings.{of_check, of_done, of_drawing, of_made, of_run};
-ghost use Rattle.bz_cli_program.specs.Programs.{ChartEnds, CheckEnds, PageEnds};
+ghost use Rattle.bz_cli_program.specs.Endings.{of_check, of_done, of_drawing, of_made, of_run, of_told, of_unmade};
+ghost use Rattle.bz_cli_program.specs.Programs.{ChartEnds, CheckEnds, PageEnds, WaitsEnds};
 ghost use Rattle.bz_cli_source.specs.Listed as placed;
 ghost use Rattle.bz_cli_source.specs.PartLists.{ListsParts};
 ghost use Rattle.bz_draw.specs.Drawing.{Draws};
@@ -21,13 +21,14 @@ use bz_chart::{LineRange, chart_cmd, chart_trace_cmd};
 use bz_cli::{Pooled, pool_cmd};
 use bz_cli_args::{
     BAD_COMMAND_LINE, ChartOptions, DrawOptions, FormatOptions, ListOptions, MAX_JOURNAL,
-    MAX_WORKERS, PoolOptions, RunOptions,
+    MAX_WORKERS, PoolOptions, RunOptions, WaitsOptions,
 };
 use bz_cli_core::{Halt, Played, run_cmd};
 use bz_cli_input::{Fault, list_cmd};
 use bz_cli_kinds::kinds_cmd;
 use bz_cli_source::{list_paths_cmd, parts_cmd};
 use bz_cli_trace::{Checked, TraceFault, check_cmd, check_trace_cmd};
+use bz_cli_waits::{WaitsAsked, waits_cmd, waits_trace_cmd};
 use bz_draw::{NoDrawing, View, draw_cmd};
 use bz_explain_lint::{Lint, lint_cmd};
 use bz_explore::{Files, explore_cmd};
@@ -42,6 +43,9 @@ use std::thread::Threads;
 
 /// The status of a strict run that met a host command that was not done.
 const REFUSED: u8 = 3;
+
+/// The status of a strict look at a trace behind which something can never move again.
+const STUCK: u8 = 3;
 
 /// Plays the words on a net, and writes the trace. A strict run halts at the first host command that is not done, and reports it
 /// to `errors`. Where notes are asked for, the net goes with the status.
@@ -218,29 +222,33 @@ pub(crate) fn lint<R: Read, W: Write>(
     }
 }
 
-/// Plays a net by lines, each with its answer.
-pub(crate) fn explore<R: Read, L: BufRead, F: Files, W: Write>(
+/// Plays a net by lines, each with its answer, behind a trace where one is given. That this is none of a run goes to `errors`.
+pub(crate) fn explore<R: Read, T: Read, L: BufRead, F: Files, W: Write, E: Write>(
     alloc: Global,
     given: &Given<'_, '_>,
     input: &mut R,
+    trace: Option<&mut T>,
     lines: &mut L,
     files: &mut F,
     output: &mut W,
+    errors: &mut E,
 ) -> Result<u8, Fault>
     // Whatever comes of it, it reads at most one byte past the limit.
     ensures bounded { ReadsWithin (R.remaining input.old) (R.remaining input.new) }
 {
-    match explore_cmd(
+    let explored = explore_cmd(
         alloc,
         given.part,
         given.prompts,
         input,
+        trace,
         lines,
         files,
         output,
-    ) {
+    );
+    match explored {
         Ok(ending) => Ok(ending.status()),
-        Err(fault) => Err(fault),
+        Err(fault) => unmade(fault, errors),
     }
 }
 
@@ -342,11 +350,69 @@ fn made<C: Display + Drop, E: Write>(
 {
     match made {
         Ok(()) => Ok(DONE),
-        Err(TraceFault::Command(fault)) => Err(fault),
-        Err(why) => {
+        Err(why) => unmade(why, errors),
+    }
+}
+
+// The status where nothing is made of a trace.
+fn unmade<C: Display + Drop, E: Write>(why: TraceFault<C>, errors: &mut E) -> Result<u8, Fault>
+    ensures { result ≡ of_unmade why }
+{
+    match why {
+        TraceFault::Command(fault) => Err(fault),
+        why => {
             let _ = writeln!(errors, "error: {why}");
             Ok(why.status())
         }
+    }
+}
+
+/// Tells who waits for whom behind a line of a trace: of the one that is given, or of the one after the netlist. Why that isn't
+/// told goes to `errors`, but for a fault that other commands have too.
+pub(crate) fn waits<R: Read, T: Read, W: Write, E: Write>(
+    alloc: Global,
+    part: Option<&[u8]>,
+    options: WaitsOptions<'_>,
+    input: &mut R,
+    trace: Option<&mut T>,
+    output: &mut W,
+    errors: &mut E,
+) -> Result<u8, Fault>
+    ensures waits { WaitsEnds options.entry (option_copied part.entry) (R.remaining input.old)
+        (option_map (λ apart. T.remaining apart.now) trace.entry) (W.contents output.old) (W.contents output.new) result }
+
+    // Whatever comes of it, it reads at most one byte past the limit.
+    ensures bounded { ReadsWithin (R.remaining input.old) (R.remaining input.new) }
+{
+    let asked = WaitsAsked {
+        line: place_of(options.line),
+        comp: options.comp,
+    };
+    match trace {
+        Some(trace) => {
+            let told = waits_trace_cmd(alloc, part, asked, input, trace, output);
+            told_or_not(told, options.strict, errors)
+        }
+        None => told_or_not(
+            waits_cmd(alloc, part, asked, input, output),
+            options.strict,
+            errors,
+        ),
+    }
+}
+
+// The status of what was told. Where that is asked for, it says that something can never move again.
+fn told_or_not<C: Display + Drop, E: Write>(
+    told: Result<bool, TraceFault<C>>,
+    strict: bool,
+    errors: &mut E,
+) -> Result<u8, Fault>
+    ensures { result ≡ of_told strict told }
+{
+    match told {
+        Ok(is_stuck) if is_stuck && strict => Ok(STUCK),
+        Ok(_) => Ok(DONE),
+        Err(why) => unmade(why, errors),
     }
 }
 

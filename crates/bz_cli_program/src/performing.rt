@@ -6,7 +6,9 @@ ghost use Rattle.bz_cli_input.specs.Reading.{ReadsWithin};
 ghost use Rattle.bz_cli_program.specs.Programs.{ProgramDoes};
 ghost use Rattle.bz_words.specs.Words.{texts};
 
-use crate::commands::{chart, check, draw, explore, kinds, lint, list, page, parts, pool, run};
+use crate::commands::{
+    chart, check, draw, explore, kinds, lint, list, page, parts, pool, run, waits,
+};
 use crate::given::Given;
 use crate::outcome::Outcome;
 use bz_cli_args::Command;
@@ -48,8 +50,11 @@ pub fn program<
     let part = given.part;
     match given.command {
         Command::Run(options) => run(alloc, given, options, input, output, errors),
-        Command::Explore => of(explore(alloc, given, input, lines, files, output)),
+        Command::Explore(_) => of(explore(
+            alloc, given, input, trace, lines, files, output, errors,
+        )),
         Command::Check(_) => check(alloc, part, input, trace, output),
+        Command::Waits(options) => of(waits(alloc, part, options, input, trace, output, errors)),
         Command::List(options) => of(list(alloc, part, options, input, output)),
         Command::Lint(options) => of(lint(alloc, given, options, input, output)),
         Command::Parts => of(parts(alloc, input, output)),

@@ -1,6 +1,9 @@
 //! The command `explore`, over any readers and writers.
 //!
 //! Prompts are written only where standard input and output are both a terminal: else a log would have them, or a pipe.
+//! A trace behind which a session begins is refused as `check` refuses it. It stands as one command, so that one `undo` takes it
+//! back.
+//!
 //! Ctrl-C ends it there and can't take the line back, since the toolchain's library has no handler of signals and no call
 //! that changes how a terminal is read.
 
@@ -12,11 +15,15 @@ use crate::answer::Answer;
 use crate::session::Session;
 use bz_cli_input::{Fault, read_input};
 use bz_cli_source::survey_of;
+use bz_cli_trace::{TraceFault, run_of};
 use bz_explore_net::Stepping;
 use bz_flat::Flat;
+use bz_since::Behind;
 use bz_text::{Piece as Part, Text, put};
+use bz_trace_text::MAX_ENTRIES;
 use bz_view::Piece;
-use std::alloc::Global;
+use std::alloc::{AllocError, Global};
+use std::fmt;
 use std::io::{BufRead, Read, Write};
 
 /// The most entries of the journal.
@@ -72,23 +79,65 @@ impl Ending {
     }
 }
 
+/// What else there is for which a session doesn't begin behind a trace: nothing.
+#[derive(Clone, Copy, Debug, PartialEq, Eq)]
+pub struct NoOther;
+
+impl fmt::Display for NoOther {
+    fn fmt<W: fmt::Write>(&self, _f: &mut fmt::Formatter<W>) -> fmt::Result {
+        Ok(())
+    }
+}
+
 /// Opens the net of the part that is asked for by name, or else of the only one that no other uses, in the netlist that a reader
-/// gives, and follows the lines of another, each with its answer. At a prompt a greeting and prompts are written too, else a line
-/// that can't be followed is told by its number.
-pub fn explore_cmd<R: Read, L: BufRead, W: Write, F: Files>(
+/// gives, behind a trace where one is given, and follows the lines of another, each with its answer. At a prompt a greeting and
+/// prompts are written too, else a line that can't be followed is told by its number.
+pub fn explore_cmd<R: Read, T: Read, L: BufRead, W: Write, F: Files>(
     alloc: Global,
     asked: Option<&[u8]>,
     prompts: bool,
     netlist: &mut R,
+    trace: Option<&mut T>,
     lines: &mut L,
     files: &mut F,
     output: &mut W,
-) -> Result<Ending, Fault>
+) -> Result<Ending, TraceFault<NoOther>>
     // Whatever comes of it, it reads at most one byte past the limit of a netlist.
     ensures { ReadsWithin (R.remaining netlist.old) (R.remaining netlist.new) }
 {
-    let text = read_input(alloc, netlist)?;
-    explore_text(alloc, asked, text.as_slice(), prompts, lines, files, output)
+    let text = match read_input(alloc, netlist) {
+        Ok(text) => text,
+        Err(fault) => return Err(TraceFault::Command(Fault::from(fault))),
+    };
+    let trace = match trace {
+        Some(trace) => match run_text(alloc, asked, text.as_slice(), trace) {
+            Ok(trace) => Some(trace),
+            Err(fault) => return Err(fault),
+        },
+        None => None,
+    };
+    let text = text.as_slice();
+    match explore_text(alloc, asked, text, trace, prompts, lines, files, output) {
+        Ok(ending) => Ok(ending),
+        Err(fault) => Err(TraceFault::Command(fault)),
+    }
+}
+
+// The text of a trace that is that of a run.
+fn run_text<T: Read>(
+    alloc: Global,
+    asked: Option<&[u8]>,
+    netlist: &[u8],
+    trace: &mut T,
+) -> Result<Vec<u8>, TraceFault<NoOther>> {
+    let text = match read_input(alloc, trace) {
+        Ok(text) => text,
+        Err(fault) => return Err(TraceFault::Command(Fault::from(fault))),
+    };
+    match run_of(alloc, asked, netlist, text.as_slice()) {
+        Ok(_) => Ok(text),
+        Err(fault) => Err(fault),
+    }
 }
 
 // Opens the net of a part of the text.
@@ -96,15 +145,14 @@ fn explore_text<L: BufRead, W: Write, F: Files>(
     alloc: Global,
     asked: Option<&[u8]>,
     text: &[u8],
+    trace: Option<Vec<u8>>,
     prompts: bool,
     lines: &mut L,
     files: &mut F,
     output: &mut W,
 ) -> Result<Ending, Fault> {
     let (flat, survey, part) = survey_of(alloc, asked, text)?;
-    let Ok(mut stepping) = Stepping::open(alloc, flat, JOURNAL) else {
-        return Err(Fault::Memory);
-    };
+    let mut stepping = begun(alloc, flat, trace)?;
     let mut session = Session {
         stepping: &mut stepping,
         survey: &survey,
@@ -119,6 +167,41 @@ fn explore_text<L: BufRead, W: Write, F: Files>(
         undone: 0,
     };
     play(prompts, &mut session, lines, files, output)
+}
+
+// The net at its opening, or behind a trace.
+fn begun(alloc: Global, flat: Flat, trace: Option<Vec<u8>>) -> Result<Stepping, Fault> {
+    let stepping = match trace {
+        Some(trace) => behind(alloc, flat, trace.as_slice()),
+        None => opened(alloc, flat),
+    };
+    match stepping {
+        Ok(stepping) => Ok(stepping),
+        Err(AllocError) => Err(Fault::Memory),
+    }
+}
+
+fn opened(alloc: Global, flat: Flat) -> Result<Stepping, AllocError> {
+    match Stepping::open(alloc, flat, JOURNAL) {
+        Ok(stepping) => Ok(stepping),
+        // a net is refused for memory alone
+        Err(_) => Err(AllocError),
+    }
+}
+
+// The net behind a trace, which is that of a run: so nothing but memory can be wanting.
+fn behind(alloc: Global, flat: Flat, trace: &[u8]) -> Result<Stepping, AllocError> {
+    let Ok(same) = flat.dup(alloc) else {
+        return Err(AllocError);
+    };
+    let Ok(behind) = Behind::of(alloc, same, trace, usize::MAX) else {
+        return Err(AllocError);
+    };
+    let net = behind.into_net();
+    if net.journal().is_empty() {
+        return opened(alloc, flat);
+    }
+    Stepping::behind(alloc, flat, net, MAX_ENTRIES as u32, b"")
 }
 
 // Follows the lines, behind a greeting at a prompt.

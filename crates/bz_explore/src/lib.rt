@@ -11,5 +11,5 @@ mod session;
 mod table;
 mod things;
 
-pub use explored::{Ending, Files, NoFile, explore_cmd};
+pub use explored::{Ending, Files, NoFile, NoOther, explore_cmd};
 pub use saving::save;

@@ -2,17 +2,19 @@
 
 use crate::answer::Answer;
 use crate::commands::Call;
+use crate::saving::since_of;
 use crate::things::asked;
 use bz_explore_moves::put_moves;
 use bz_explore_net::{Stepping, busy_chans};
 use bz_flat::FlatComp;
 use bz_model::{Entry, Kind, Move, Value};
+use bz_since::{NoSince, put_since};
 use bz_source::{Survey, put_comp, put_label};
 use bz_text::Text;
 use bz_trace_text::counts;
 use bz_view::{
     Piece, Seen, Thing, chan_at, gathered, port_count, port_of, put_all_waits, put_chain, put_held,
-    put_phase, put_waits,
+    put_phase, put_stuck, put_waits,
 };
 
 /// How far a net is.
@@ -28,6 +30,7 @@ pub(crate) fn look(stepping: &Stepping, survey: &Survey, call: Call<'_>, answer:
     match (call.form.word(), call.first) {
         ("moves", _) => put_moves(stepping, survey, &mut answer.text),
         ("waits", None) => put_waits(seen, &mut answer.text),
+        ("waits", Some("since")) => put_first(stepping, survey, &mut answer.text),
         ("waits", Some("all")) => put_all_waits(seen, &mut answer.text),
         (_, None) => put_totals(stepping, seen, &mut answer.text),
         (command, Some(word)) => {
@@ -35,6 +38,21 @@ pub(crate) fn look(stepping: &Stepping, survey: &Survey, call: Call<'_>, answer:
                 put_thing(stepping, seen, command == "waits", *thing, &mut answer.text);
             }
         }
+    }
+}
+
+// Adds since which line something can never move again, and what it is there.
+fn put_first(stepping: &Stepping, survey: &Survey, text: &mut Text) {
+    let net = stepping.net();
+    let lines = net.journal().len().saturating_add(1);
+    match since_of(text.alloc(), stepping) {
+        Ok(Some(since)) => {
+            let lines = lines.saturating_add(net.clashes().len());
+            put_since(&since, net.journal(), lines, text);
+            put_stuck(Seen::of(since.net.core(), survey), text);
+        }
+        Ok(None) | Err(NoSince::NotRun) => text.put("nothing is stuck\n"),
+        Err(NoSince::Memory) => text.lose(),
     }
 }
 

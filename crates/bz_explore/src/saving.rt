@@ -11,12 +11,16 @@ use bz_cli_core::write_out;
 use bz_cli_input::Fault;
 use bz_explore_net::{Mark, Picker, Stepping};
 use bz_flat::Flat;
-use bz_model::Entry;
+use bz_model::{Entry, Names};
 use bz_net::Net;
-use bz_page::put_page;
+use bz_page::{put_page, put_stuck_row};
+use bz_since::{NoSince, Since, stuck_since};
 use bz_source::Survey;
+use bz_stuck::Stuck;
 use bz_text::{Text, WriteFault, put};
-use bz_view::{Piece, Seen, graph_of, put_ends};
+use bz_trace_text::MAX_ENTRIES;
+use bz_view::{Piece, Seen, graph_of, put_ends, put_ring_rows};
+use std::alloc::Global;
 use std::io::Write;
 
 /// The most components of a net that a page holds.
@@ -36,6 +40,7 @@ pub(crate) fn put_trace_page(stepping: &Stepping, survey: &Survey, part: &[u8], 
     let net = stepping.net();
     let saved = save(net, &mut trace);
     let seen = Seen::of(net.core(), survey);
+    put_stuck_rows(stepping, seen, &mut ends);
     if let Some(graph) = graph_of(seen, &mut ends) {
         put_ends(seen, &graph, &mut ends);
     }
@@ -50,6 +55,27 @@ pub(crate) fn put_trace_page(stepping: &Stepping, survey: &Survey, part: &[u8], 
         ),
         _ => text.lose(),
     }
+}
+
+// Adds the lines of a page that say what can never move again, and since when.
+fn put_stuck_rows(stepping: &Stepping, seen: Seen<'_>, text: &mut Text) {
+    match Stuck::of(text.alloc(), seen.net) {
+        Ok(set) if set.len() > 0 => {
+            put_stuck_row(&set, since_of(text.alloc(), stepping), text);
+            put_ring_rows(seen, &set, text);
+        }
+        Ok(_) => {}
+        Err(_) => text.lose(),
+    }
+}
+
+/// Since which line of the trace so far something can never move again.
+pub(crate) fn since_of(alloc: Global, stepping: &Stepping) -> Result<Option<Since>, NoSince> {
+    let Ok(flat) = stepping.flat().dup(alloc) else {
+        return Err(NoSince::Memory);
+    };
+    let net = Net::open(alloc, flat, MAX_ENTRIES as u32)?;
+    stuck_since(alloc, net, stepping.net().journal())
 }
 
 fn put_page_of(
@@ -88,7 +114,7 @@ pub(crate) fn put_script(stepping: &Stepping, text: &mut Text) {
         let upto = entries_of(stepping, place + 1);
         let added = journal.get(mark.entries..upto).unwrap_or(&[]);
         put_seed(picker, mark.picker, text);
-        put_command(mark, added, text);
+        put_command(stepping.net().names(), mark, added, text);
         picker = picker_after(mark, added);
     }
     put_seed(picker, stepping.picker(), text);
@@ -99,7 +125,10 @@ pub(crate) fn put_undone(stepping: &Stepping, left: usize, count: usize, text: &
     let mut upto = entries_of(stepping, left);
     let marks = stepping.marks().get(..left).unwrap_or(&[]);
     for mark in marks.iter().rev().take(count) {
-        let command = Piece::Bytes(mark.command.as_slice());
+        let command = match mark.command.as_slice() {
+            [] => Piece::Text("--trace"),
+            command => Piece::Bytes(command),
+        };
         let lines = Piece::Count(upto.saturating_sub(mark.entries), "line");
         text.say("undone: % (%)\n", &[command, lines]);
         upto = mark.entries;
@@ -121,12 +150,44 @@ fn put_seed(goes_on: Picker, picker: Picker, text: &mut Text) {
     }
 }
 
-// The line of a command that added entries, and what the host was answered.
-fn put_command(mark: &Mark, added: &[Entry], text: &mut Text) {
+// The line of a command that added entries, and what the host was answered. The trace behind which a session began has no
+// command of its own: it is written out.
+fn put_command(names: &Names, mark: &Mark, added: &[Entry], text: &mut Text) {
+    if mark.command.is_empty() {
+        for entry in added {
+            put_entry(names, entry, text);
+        }
+        return;
+    }
     text.put_bytes(mark.command.as_slice());
     text.put("\n");
     if let Some(Entry::Host { reply, .. }) = added.first() {
         let _ = writeln!(text, "expect {reply}");
+    }
+}
+
+// The line of a command that adds this entry, and what the host is to be answered.
+fn put_entry(names: &Names, entry: &Entry, text: &mut Text) {
+    match entry {
+        Entry::Fired { comp, port, .. } => {
+            let place = [Piece::Wide((*comp).into()), Piece::Wide((*port).into())];
+            text.say("fire % %\n", &place);
+        }
+        Entry::Host {
+            verb,
+            port,
+            value,
+            reply,
+            ..
+        } => {
+            let name = Piece::Typed(names.name(*port).unwrap_or(&[]));
+            text.say("%:%", &[Piece::Text(verb.word()), name]);
+            if let Some(value) = value {
+                text.say(":%", &[Piece::Wide(*value)]);
+            }
+            text.say("\nexpect %\n", &[Piece::Reply(*reply)]);
+        }
+        Entry::Rested { .. } => text.put("run 1\n"),
     }
 }
 

@@ -19,6 +19,7 @@ watch:P           read the phase of a port P
 expect REPLY      compare the host's last reply; a difference makes the status 1
 waits [C]         why nothing moves: what is stuck, what has halted, and where the host is waited for; what C hangs on
 waits all         who holds each channel that is not idle, and for whom each component waits
+waits since       the first line of the trace behind which something can never move again
 state [C]         how far it is; of component C its place, its ports and what is due there
 undo [N]          take back the last N commands that moved something; without N one
 trace[!] FILE     write the trace so far; only with the `!` over a file that is there

@@ -41,6 +41,10 @@ pub record IsMark (stepping : Played) (command : List ℕ) (mark : Mark) : Type 
 abbrev pub IsMarked : Played → List ℕ → Played → Type 0
 IsMarked old command new = (mark : Mark) × IsMark old command mark × (new.marks ≡ old.marks ++ mark ∷ [])
 
+-- one command alone left a mark, of a net at its opening
+abbrev pub IsBegun : List ℕ → List Mark → Type 0
+IsBegun command marks = (mark : Mark) × (marks ≡ mark ∷ []) × (mark.command.items ≡ command) × (mark.entries ≡ 0) × (mark.next ≡ 1)
+
 -- a command that added entries left a mark of how all was before it, and any other one none
 pub record Marked (old : Played) (command : List ℕ) (new : Played) : Type 0 where
   pub mark : Mark

@@ -10,7 +10,7 @@ ghost use Rattle.bz_model.specs.declared.event.Who.TheVariants as who;
 ghost use Rattle.bz_net.specs.Running.{Ran};
 ghost use Rattle.bz_net.specs.Replies.{Replies, RefusesCommand};
 ghost use Rattle.bz_net.specs.Simulation.{Adds, IsOpened};
-ghost use Rattle.bz_explore_net.specs.Stepping.{IsBack, IsFiringOf, IsMark, IsMarked, Marked, RefusesFiringOf, added, goes_on};
+ghost use Rattle.bz_explore_net.specs.Stepping.{IsBack, IsBegun, IsFiringOf, IsMark, IsMarked, Marked, RefusesFiringOf, added, goes_on};
 ghost use Rattle.bz_explore_net.specs.Picking.{RanByChance, begun};
 ghost use Rattle.bz_explore_net.specs.declared.stepping.Mark.{Mark};
 ghost use Rattle.bz_model.specs.declared.event.Entry.{Entry};
@@ -108,6 +108,41 @@ impl Stepping {
             next: 1,
             picker: Picker::new(0),
             marks: Vec::new(alloc),
+            limit,
+        })
+    }
+
+    /// A net that was played already, all of whose entries are those of one command. The limit is that of its journal.
+    pub fn behind(
+        alloc: Global,
+        flat: Flat,
+        net: Net,
+        limit: u32,
+        command: &[u8],
+    ) -> Result<Stepping, AllocError>
+        requires wiring { net.wiring ≡ flat.wiring }
+        requires limit { net.limit ≡ limit }
+        requires least { 0 < limit }
+        requires most { limit ≤ 16777216 }
+        ensures net { IfOk result (λ c. c.net ≡ net) }
+        ensures next { IfOk result (λ c. c.next ≡ 1) }
+        ensures picker { IfOk result (λ c. (c.picker.seed ≡ 0) × (c.picker.state ≡ begun 0)) }
+        ensures marks { IfOk result (λ c. IsBegun command.now c.marks) }
+    {
+        let picker = Picker::new(0);
+        let mut marks = Vec::new(alloc);
+        marks.push(Mark {
+            command: Vec::from_slice(alloc, command)?,
+            entries: 0,
+            next: 1,
+            picker,
+        })?;
+        Ok(Stepping {
+            flat,
+            net,
+            next: 1,
+            picker,
+            marks,
             limit,
         })
     }

@@ -12,7 +12,7 @@ ghost use Rattle.bz_page.specs.Pages.{blank, blank_of};
 ghost use Rattle.bz_page.specs.Paging.{Finds, IsInPieces, Pages, PagesApart, PagesTrace, Places};
 
 use crate::around::Template;
-use crate::ends::ends_of;
+use crate::ends::Ended;
 use crate::fault::TooLarge;
 use crate::net_page::{put_net_page, template};
 use crate::template::{HEAD, MID1, MID2, TAIL};
@@ -128,16 +128,17 @@ fn run_net(
     ensures { Finds netlist.now trace.now (option_copied asked.entry) result }
 {
     match run_of(alloc, asked, netlist, trace) {
-        Ok(checked) => place(alloc, checked),
+        Ok(checked) => place(alloc, checked, trace),
         Err(fault) => Err(fault),
     }
 }
 
-// A net in its pieces, where everything in it is, the name of its part, and who waits for whom, unless it is too large for a
+// A net in its pieces, where everything in it is, the name of its part, and how the run ended, unless it is too large for a
 // page.
 fn place(
     alloc: Global,
     checked: Checked,
+    trace: &[u8],
 ) -> Result<(Pieces, Survey, Vec<u8>, Vec<u8>), TraceFault<TooLarge>>
     ensures { Places checked result }
 {
@@ -151,17 +152,23 @@ fn place(
         Ok(survey) => survey,
         Err(_) => return Err(TraceFault::Command(Fault::Memory)),
     };
-    match take_apart(alloc, net, &survey) {
+    match take_apart(alloc, net, &survey, trace) {
         Ok((net, ends)) => Ok((net, survey, part, ends)),
         Err(AllocError) => Err(TraceFault::Command(Fault::Memory)),
     }
 }
 
-// A net in its pieces, and who waits for whom in it.
-fn take_apart(alloc: Global, net: Play, survey: &Survey) -> Result<(Pieces, Vec<u8>), AllocError>
+// A net in its pieces, and how the run ended.
+fn take_apart(
+    alloc: Global,
+    net: Play,
+    survey: &Survey,
+    trace: &[u8],
+) -> Result<(Pieces, Vec<u8>), AllocError>
     ensures { IfOk result (λ found. IsInPieces net.wiring found.0) }
 {
-    let ends = ends_of(alloc, net.core(), survey)?;
+    let ended = Ended::of(alloc, net.core(), survey)?;
     let flat = net.into_flat(alloc)?;
+    let ends = ended.lines(alloc, &flat, trace)?;
     Ok((flat.into_pieces(), ends))
 }

@@ -12,6 +12,7 @@ mod template;
 
 pub use around::Template;
 pub use command::{page_cmd, page_trace_cmd};
+pub use ends::put_stuck_row;
 pub use escaping::put_escaped;
 pub use fault::TooLarge;
 pub use net_page::put_page;

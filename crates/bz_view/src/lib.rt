@@ -24,6 +24,6 @@ pub use naming::{put_host_word, put_instance, put_name, put_port, put_source, pu
 pub use parts::{fill, gathered, put_in_line};
 pub use piece::{Piece, Spot, put_phase};
 pub use seen::{Seen, Thing, chan_at, chan_of, port_count, port_name, port_of};
-pub use stuck::{put_link, put_set, put_stuck};
+pub use stuck::{put_link, put_ring_rows, put_set, put_stuck};
 pub use waits::{graph_of, put_ends, put_held};
 pub use why::{count_busy, put_all_waits, put_rest, put_waits};

@@ -1,6 +1,7 @@
 //! What can never move again.
 
 use crate::cutting::MORE;
+use crate::parts::gathered;
 use crate::piece::Piece;
 use crate::seen::Seen;
 use crate::waits::put_wait;
@@ -10,6 +11,9 @@ use bz_waits::{Place, Wait, Whom, first_move};
 
 /// The most links of a ring that are shown.
 pub(crate) const MOST_LINKS: usize = 40;
+
+/// The most links of a ring that a page shows.
+const MOST_ROWS: usize = 1000;
 
 /// Adds how many components can never move again, and a ring of them, where there are any.
 pub fn put_stuck(seen: Seen<'_>, text: &mut Text) {
@@ -36,6 +40,15 @@ pub fn put_set(seen: Seen<'_>, set: &Stuck, most: usize, text: &mut Text) {
     match set.ring(text.alloc(), seen.net) {
         Ok(ring) => put_ring(seen, ring.as_slice(), most, text),
         Err(_) => text.lose(),
+    }
+}
+
+/// Adds lines of a page, one for each member of a ring of these: its number, and for whom it waits.
+pub fn put_ring_rows(seen: Seen<'_>, set: &Stuck, text: &mut Text) {
+    let ring = gathered(set.ring(text.alloc(), seen.net), text);
+    for link in ring.iter().take(MOST_ROWS) {
+        text.say("ring % ", &[Piece::Wide(link.comp.into())]);
+        put_link(seen, *link, text);
     }
 }
 

@@ -9,6 +9,9 @@ returns-in-Explore-clause-does g c = rw c.in-Explore.is tt
 pub returns-in-Check-clause-does : goal.returns-in-Check-clause-does
 returns-in-Check-clause-does g c = rw c.in-Check.is c.check.ensures.checks
 
+pub returns-in-Waits-clause-does : goal.returns-in-Waits-clause-does
+returns-in-Waits-clause-does g c = rw (c.in-Waits.is, c.of-in-Waits.ensures) c.waits.ensures.waits
+
 pub returns-in-List-clause-does : goal.returns-in-List-clause-does
 returns-in-List-clause-does g c = rw (c.in-List.is, c.of-in-List.ensures) (c.list.ensures.plainly, c.list.ensures.places)
 

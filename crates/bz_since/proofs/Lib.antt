@@ -1,0 +1,3 @@
+pub mod Playing
+pub mod Halves
+pub mod OfRuns

@@ -1,0 +1,67 @@
+//! A net behind a line of a trace.
+
+ghost use Rattle.std.specs.Prelude.{◌≡◌, ◌-◌, IfOk, MatchBool};
+ghost use Rattle.bz_trace.specs.Verdicts.{IsRunText};
+ghost use Rattle.bz_since.specs.Since.{HasStuck, IsBehind};
+
+use crate::following::play;
+use crate::halving::has_stuck;
+use crate::since::{NoSince, Since, stuck_since};
+use bz_flat::Flat;
+use bz_model::Entry;
+use bz_net::Net;
+use bz_trace_text::{MAX_ENTRIES, read_trace};
+use std::alloc::{AllocError, Global};
+
+/// A net behind a line of a trace.
+pub struct Behind {
+    pub net: Net,
+    /// The entries of the trace up to that line. The port of each firing is 0.
+    pub entries: Vec<Entry>,
+}
+
+// By hand, so that who lets one go has one call to show and not all its parts.
+impl Drop for Behind {
+    fn drop(self) {
+        let Behind { net: _, entries: _ } = self;
+    }
+}
+
+impl Behind {
+    /// The net behind this line of a trace's text, counted from 1. Behind a line of a clash it is where all entries lead.
+    pub fn of(alloc: Global, flat: Flat, text: &[u8], line: usize) -> Result<Behind, NoSince>
+        ensures wiring { IfOk result (λ behind. behind.net.wiring ≡ flat.wiring) }
+        ensures limit { IfOk result (λ behind. behind.net.limit ≡ 16777216) }
+        ensures behind { IfOk result (λ behind. (run : IsRunText flat.wiring text.now)
+            → IsBehind flat.wiring run.entries run.last (line - 1) behind.net.state) }
+    {
+        let mut net = Net::open(alloc, flat, MAX_ENTRIES as u32)?;
+        let mut entries = read_trace(alloc, net.names(), text)?;
+        entries.truncate(line.saturating_sub(1));
+        let kept = entries.as_slice();
+        play(&mut net, kept, 0, kept.len())?;
+        Ok(Behind { net, entries })
+    }
+
+    /// The net.
+    pub fn into_net(self) -> Net
+        ensures { result ≡ self.net }
+    {
+        let Behind { net, entries: _ } = self;
+        net
+    }
+
+    /// Whether something can never move again there.
+    pub fn is_stuck(&self, alloc: Global) -> Result<bool, AllocError>
+        ensures { IfOk result (λ is. MatchBool is (HasStuck self.now.net.wiring self.now.net.state)
+            (HasStuck self.now.net.wiring self.now.net.state → ⊥)) }
+    {
+        has_stuck(alloc, self.net.core())
+    }
+
+    /// Since which line something can never move again, where that is so behind this one. The flat net is that of the trace.
+    pub fn since(&self, alloc: Global, flat: Flat) -> Result<Option<Since>, NoSince> {
+        let net = Net::open(alloc, flat, MAX_ENTRIES as u32)?;
+        stuck_since(alloc, net, &self.entries)
+    }
+}

@@ -1,0 +1,12 @@
+//! Since which line of a trace something in a net can never move again.
+#![tactic(auto)]
+
+mod behind;
+mod following;
+mod halving;
+mod since;
+mod telling;
+
+pub use behind::Behind;
+pub use since::{NoSince, Since, stuck_since, stuck_since_in};
+pub use telling::put_since;
