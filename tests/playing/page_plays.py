@@ -278,6 +278,142 @@ def pages_of_sessions(browser, ground):
     return run.ended()
 
 
+# What the rows of a page say of the net `late`, of which a part is stuck behind line 12 of 20, and all at the end.
+LATE_RING = {
+    2: "wait Sequence 2           for Passivator 4 to reply on 5",
+    4: "wait Passivator 4         for Sequence 3 to ask on 9",
+    3: "wait Sequence 3           for Passivator 5 to reply on 8",
+    5: "wait Passivator 5         for Sequence 2 to ask on 6",
+}
+LATE_STUCK = ["stuck 12 4 1 2 3 4 5 6 7 8", *(f"ring {number} {text}" for number, text in LATE_RING.items())]
+STUCK_SEEN = """(() => {
+  const numbers = style => [...document.querySelectorAll('.component' + style)].map(it => Number(it.dataset.component)).sort();
+  return [numbers('.stuck'), numbers('.in-ring'), document.querySelectorAll('.title.stuck').length];
+})()"""
+RING_SEEN = "[...document.querySelectorAll('#details .wait')].map(it => [it.className, it.dataset.select, it.textContent])"
+STUCK_TOLD = "['.title', '.under'].map(it => document.querySelector(`#details ${it}`).textContent)"
+
+
+def put_rows(ground, name, source, lines):
+    """A page with the texts of another one, and with these rows of what is stuck."""
+    listed, rows, trace = ground.texts(source)
+    kept = b"".join(line for line in rows.splitlines(True) if not line.startswith((b"stuck ", b"ring ", b"end ")))
+    added = "".join(f"{line}\n" for line in lines).encode()
+    return ground.put(name, pages.page_text(ground.template, [listed, kept + added, trace]))
+
+
+class Stuck:
+    """What a page of `late` has to show of what is stuck, by these rows: each component from its own last move on."""
+
+    def __init__(self, ground, rows):
+        self.since, _, *self.members = map(int, rows[0].split()[1:])
+        self.ring = [int(line.split()[1]) for line in rows[1:]]
+        self.fired = [line.split() for line in ground.texts("late")[2].decode().splitlines()]
+
+    def last(self, number):
+        """The last line that moves a component."""
+        return max((n for n, words in enumerate(self.fired, 1) if words[1:3] == ["fire", str(number)]), default=0)
+
+    def at(self, line):
+        """The components with a mark, those of them in the ring, and how many panels there are."""
+        members = [it for it in self.members if line >= max(self.since, self.last(it))]
+        return [members, sorted(set(members) & set(self.ring)), int(line >= self.since)]
+
+
+def marks_of_the_stuck(browser, ground):
+    """What never moves again has its mark from its last move on, and none before the first line, however one comes to a line."""
+    put_rows(ground, "stuck_marks", "late", LATE_STUCK)
+    run, wanted = Run(browser, ground, "stuck_marks"), Stuck(ground, LATE_STUCK)
+    run.found("the opening", STUCK_SEEN, wanted.at(1))
+    for line in range(2, 21):
+        run.page.key("ArrowRight")
+        run.found(f"going on, line {line}", STUCK_SEEN, wanted.at(line))
+    for line in range(19, 8, -1):
+        run.page.key("ArrowLeft")
+        run.found(f"going back, line {line}", STUCK_SEEN, wanted.at(line))
+    for line in (12, 20, 11, 18, 1, 17):
+        scrub(run.page, line)
+        run.found(f"by the scrubber, line {line}", STUCK_SEEN, wanted.at(line))
+    run.page.open(ground.path("stuck_marks"), "#line=13")
+    run.found("by a link", STUCK_SEEN, wanted.at(13))
+    put_rows(ground, "stuck_marks", "late", [])
+    run.page.open(ground.path("stuck_marks"), "#line=20")
+    run.found("a page that says nothing", STUCK_SEEN, [[], [], 0])
+    return run.ended()
+
+
+def panel_of_the_stuck(browser, ground):
+    """From the first line on it is told what is stuck: how many there and at the end, and the ring, a click on each of it."""
+    put_rows(ground, "stuck_panel", "late", LATE_STUCK)
+    run = Run(browser, ground, "stuck_panel", "#line=12")
+    ring = [["wait cycle", f"c{number}", " ".join(text.split())] for number, text in LATE_RING.items()]
+    told = ["Since line 12, 4 components can never move again",
+            "Whatever the host does. At the end it is 8 of 8, and 4 of them wait for one another."]
+    told_at_end = "[...document.querySelectorAll('#details .title, #details .under')].map(it => it.textContent)"
+    run.found("what is told", told_at_end, told)
+    run.found("the ring", RING_SEEN, ring)
+    said = "document.getElementById('says').textContent"
+    run.found("the line in words", said, "Passivator 5 takes the request of Sequence 3 on channel 8 (from here on something is stuck)")
+    run.page.key("End")
+    run.found("at the end", told_at_end, told)
+    run.page.key("Home")
+    run.found("at the opening", RING_SEEN, [])
+    scrub(run.page, 16)
+    run.page.click(*run.page.do(middle("#details [data-line=\"12\"]")))
+    run.line("the title", 12)
+    for number in LATE_RING:
+        run.page.click(*run.page.do(middle(f"#details [data-select=\"c{number}\"]")))
+        run.found("a line of the ring", SELECTED, f"c{number}")
+        run.found("the ring is still told", f"{RING_SEEN}.length", 4)
+        run.found("and what it is", "document.querySelectorAll('.under.stuck').length", 1)
+    run.page.key("Home")
+    run.found("not at the opening", "document.querySelectorAll('.under.stuck').length", 0)
+    return run.ended()
+
+
+def rings_that_close_later(browser, ground):
+    """A member of the ring that still moves says until when, and is marked from there on."""
+    rows = ["stuck 12 4 1 2 3 4 5 6 7 8", "ring 6 wait Sequence 6  for Passivator 8 to reply on 11", "ring 2 wait Sequence 2 for me"]
+    put_rows(ground, "stuck_later", "late", rows)
+    run, wanted = Run(browser, ground, "stuck_later", "#line=17"), Stuck(ground, rows)
+    late = ["wait", "c6", "wait Sequence 6 for Passivator 8 to reply on 11 (from line 18 on)"]
+    run.found("before its last move", RING_SEEN, [late, ["wait cycle", "c2", "wait Sequence 2 for me"]])
+    run.found("its marks", STUCK_SEEN, wanted.at(17))
+    run.page.key("ArrowRight")
+    run.found("from it on", f"{RING_SEEN}.map(it => it[0])", ["wait cycle", "wait cycle"])
+    run.found("its marks then", STUCK_SEEN, wanted.at(18))
+    put_rows(ground, "stuck_later", "late", ["stuck 12 1 3"])
+    run.page.open(ground.path("stuck_later"), "#line=12")
+    run.found("no ring", STUCK_TOLD, ["Since line 12, 1 component can never move again",
+                                      "Whatever the host does. At the end it is 1 of 8."])
+    return run.ended()
+
+
+def rings_in_focus(browser, ground):
+    """In focus the ring is in sight from the first line on, wherever it lies in the net."""
+    far = [int(it) for it in list(wanted_of(ground.program, *ground.made["large"]).kinds)[::60]]
+    put_rows(ground, "stuck_ring", "large", [f"stuck 700 {len(far)} {' '.join(map(str, far))}", *(f"ring {it} it waits" for it in far)])
+    run = Run(browser, ground, "stuck_ring", "#line=699")
+    seen = f"(shown => [{far}.every(it => shown.includes(String(it))), shown.length <= 90])({COMPONENTS})"
+    run.found("before it", seen, [False, True])
+    for key, wanted in (("ArrowRight", True), ("ArrowLeft", False), ("End", True)):
+        run.page.key(key)
+        run.found(key, seen, [wanted, True])
+    return run.ended()
+
+
+def flag_of_strip(browser, ground):
+    """Above the scrubber a red flag stands at the first line behind which something is stuck."""
+    put_rows(ground, "stuck_flag", "late", LATE_STUCK)
+    run = Run(browser, ground, "stuck_flag")
+    column = """(line => { const strip = document.getElementById('strip'), width = strip.clientWidth;
+        const x = Math.round((line - 1) / (breezesim.trace.count - 1) * (width - 1));
+        return [...strip.getContext('2d').getImageData(x, 18, 1, 1).data]; })"""
+    run.found("at line 12", f"{column}(12)", [200, 16, 46, 255])
+    run.found("at line 9", f"{column}(9)", [0, 0, 0, 0])
+    return run.ended()
+
+
 def names_and_sources(browser, ground):
     """Names of channels and variables, and places in the source, where the list has them."""
     listed, rows, trace = ground.texts("pipeline")
@@ -573,6 +709,11 @@ PLAYS = [
     searches,
     callers,
     pages_of_sessions,
+    marks_of_the_stuck,
+    panel_of_the_stuck,
+    rings_that_close_later,
+    rings_in_focus,
+    flag_of_strip,
     names_and_sources,
     large_nets,
     long_chains,
@@ -588,3 +729,6 @@ PLAYS = [
     marks_of_strip,
     a_step_looks_at_little,
 ]
+# Those that look at the picture, or at what a browser alone has: Node can't play them.
+DRAWN = {keys_of_looks, clicks, drag_and_wheel, pages_of_sessions, flag_of_strip, wide_charts, hostile_names, policy, narrow_screens}
+DRAWN.update({on_paper, marks_of_strip, a_step_looks_at_little})

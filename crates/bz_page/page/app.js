@@ -2,13 +2,14 @@
 
 // Shows the current line in all panels.
 function show() {
-  if (view.isFocused && Math.abs(view.line - view.focusLine) > REFOCUS) {
+  const isFar = Math.abs(view.line - view.focusLine) > REFOCUS || view.hasRing !== isStuckBehind(net, view.line);
+  if (view.isFocused && isFar) {
     draw();
     fit();
   }
   markPicture();
   if (view.isFollowing) follow();
-  $('says').textContent = tell(view.line);
+  $('says').textContent = tell(view.line) + (view.line === net.stuck.line ? ' (from here on something is stuck)' : '');
   $('position').textContent = `line ${view.line} of ${trace.count}`;
   $('scrubber').value = view.line;
   showJournal();

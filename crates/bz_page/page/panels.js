@@ -45,10 +45,27 @@ const selectedLines = () => [view.selected[0] === 'c' ? trace.linesOfComponent :
 function showDetails() {
   const {selected} = view;
   document.body.classList.toggle('chosen', selected !== null);
-  document.body.classList.toggle('ended', selected === null && isEndTold());
-  if (!selected) return $('details').replaceChildren(...endDetails());
+  document.body.classList.toggle('told', selected === null && (isStuckBehind(net, view.line) || isEndTold()));
+  const hint = html('div', 'hint', 'Click a component or a channel to see its history.');
+  if (!selected) return $('details').replaceChildren(hint, ...stuckDetails(), ...endDetails());
   const shown = selected[0] === 'c' ? componentDetails(numberOf(selected)) : channelDetails(numberOf(selected));
-  return $('details').replaceChildren(...shown, eventButtons(), history());
+  return $('details').replaceChildren(...shown, eventButtons(), history(), ...stuckDetails());
+}
+
+// What can never move again, since which line, and the ring.
+function stuckDetails() {
+  const {line, first, members, ring} = net.stuck;
+  if (!isStuckBehind(net, view.line)) return [];
+  const title = html('div', 'title stuck', `Since line ${line}, ${counted(first, 'component')} can never move again`);
+  title.dataset.line = line;
+  const now = added.isLive ? 'Now' : 'At the end', round = ring.size ? `, and ${ring.size} of them wait for one another` : '';
+  const told = `Whatever the host does. ${now} it is ${members.size} of ${all.components.length}${round}.`;
+  return [title, html('div', 'under', told), ...[...ring].map(([number, text]) => {
+    const isNow = isStill(net, trace, number, view.line);
+    const row = html('div', isNow ? 'wait cycle' : 'wait', isNow ? text : `${text} (from line ${lastMoveOf(trace, number)} on)`);
+    row.dataset.select = `c${number}`;
+    return row;
+  })];
 }
 
 // Whether the current line is behind the last move, and it is told who waits for whom then.
@@ -58,11 +75,10 @@ function isEndTold() {
   return net.end.length > 0 && view.line >= last;
 }
 
-// Nothing is selected: at the end who waits for whom.
+// At the end who waits for whom.
 function endDetails() {
-  const shown = [html('div', 'hint', 'Click a component or a channel to see its history.')];
-  if (!isEndTold()) return shown;
-  shown.push(html('div', 'title end', `Who waits for whom ${added.isLive ? 'now' : 'at the end'}`));
+  if (!isEndTold()) return [];
+  const shown = [html('div', 'title end', `Who waits for whom ${added.isLive ? 'now' : 'at the end'}`)];
   for (const line of net.end) {
     const names = /^(?:wait|or|ended) \S+ (\d+)/.exec(line), isCycle = /^(circle|cycle)/.test(line);
     const row = html('div', isCycle ? 'wait cycle' : 'wait', line.replace(/ +/g, ' '));
@@ -81,6 +97,7 @@ function phaseText(number) {
 function componentDetails(number) {
   const component = net.components[number], more = component.channels.length - 1 - MOST_PORTS;
   const shown = [html('div', 'title', component.title), html('div', 'under', placeOf(component))];
+  if (isStill(net, trace, number, view.line)) shown.push(html('div', 'under stuck', 'never moves again'));
   if (isVariable(component)) shown.push(html('div', 'under', `holds ${heldBy(trace, component, view.line)}`));
   const ports = html('div', 'ports');
   for (let p = 1; p < component.channels.length && p <= MOST_PORTS; p++) ports.append(portRow(component, p));
@@ -160,7 +177,7 @@ function eventLine(direction) {
   return nthOf(lines, key, direction > 0 ? seen : seen - (isHere ? 2 : 1));
 }
 
-// ---- the strip above the scrubber: hosts, rests, clashes, the events of what is selected, what the search found -----
+// ---- the strip above the scrubber: hosts, rests, clashes, events of what is selected, what was found, a flag where it is stuck
 
 const STRIP_HEIGHT = 22;
 const strip = {key: ''};
@@ -176,10 +193,11 @@ function showStrip() {
   canvas.height = STRIP_HEIGHT * ratio;
   const pen = canvas.getContext('2d'), colours = getComputedStyle(document.documentElement);
   pen.scale(ratio, ratio);
+  const placeOfLine = line => (trace.count < 2 ? 0 : Math.round((line - 1) / (trace.count - 1) * (width - 1)));
   const marks = (lines, from, to, top, bottom, colour) => {
     pen.fillStyle = colours.getPropertyValue(colour).trim();
     for (let i = from, last = -1; i < to; i++) {
-      const x = trace.count < 2 ? 0 : Math.round((lines[i] - 1) / (trace.count - 1) * (width - 1));
+      const x = placeOfLine(lines[i]);
       if (x !== last) pen.fillRect(x, top, 1.5, bottom - top);
       last = x;
     }
@@ -192,6 +210,10 @@ function showStrip() {
     marks(linesOf(lines, number), 0, countOf(lines, number), 9, 15, '--selected');
   }
   if (search.hits) marks(search.hits, 0, search.hits.length, 16, STRIP_HEIGHT, '--found');
+  if (net.stuck.line) {
+    marks([net.stuck.line], 0, 1, 0, STRIP_HEIGHT, '--clash');
+    pen.fillRect(placeOfLine(net.stuck.line) - 5, 0, 11, 7);
+  }
 }
 
 // ---- search ---------------------------------------------------------------------------------------------------------

@@ -6,7 +6,7 @@ pub(crate) const HEAD: &str = r##"<!doctype html>
 <head>
 <meta charset="utf-8">
 <meta name="viewport" content="width=device-width">
-<meta http-equiv="Content-Security-Policy" content="default-src 'none'; style-src 'unsafe-inline'; script-src 'sha256-EzOtzecNPeRPBSsIb/AQyKgkDME9N/dTVXm7dzoGQ4w='">
+<meta http-equiv="Content-Security-Policy" content="default-src 'none'; style-src 'unsafe-inline'; script-src 'sha256-B+iBNcQMSMOuLPHEYssA65PKHOW9FAJoJFtqhx/dnks='">
 <title>breezesim</title>
 <style>
 /* Colours: light, and dark where the reader's system or the reader says so. Phases are told by dashes and marks too. */
@@ -94,7 +94,9 @@ div.row.now, div.row.now .line { background: var(--moved); color: var(--on-moved
 #details { padding: 8px 0; overflow: auto; }
 .title, .under, .hint, .ports { margin: 0 10px; }
 .title { font-weight: 700; font-size: 14px; overflow-wrap: anywhere; }
-.title.end { margin-top: 8px; }
+.title.end, .title.stuck { margin-top: 8px; }
+.title.stuck { color: var(--clash); cursor: pointer; }
+.under.stuck { color: var(--clash); font-weight: 700; }
 .under, .hint { color: var(--dim); font-size: 12px; overflow-wrap: anywhere; }
 .ports { margin-top: 6px; border-top: 1px solid var(--rule); }
 div.port {
@@ -188,6 +190,9 @@ svg .number { font-size: 9px; pointer-events: none; }
 .component { cursor: pointer; }
 .component .body { fill: var(--body); stroke: var(--ink); stroke-width: 1.5; }
 .component .ring { fill: none; stroke: none; }
+.component.stuck .body { stroke: var(--clash); stroke-width: 2.5; stroke-dasharray: 4 3; }
+.component.in-ring .body { stroke-width: 4; stroke-dasharray: none; }
+.component.in-ring .ring, .folded.in-ring .front { stroke: var(--clash); stroke-width: 5; }
 .component.busy .body { fill: var(--busy); }
 .component.moved .ring { stroke: var(--moved); stroke-width: 5; }
 .component.selected .body { stroke: var(--selected); stroke-width: 3; }
@@ -256,8 +261,8 @@ g.row.now rect { fill: var(--moved); fill-opacity: .5; }
   #details, .chosen #journal, .chosen h2 { display: none; }
   .chosen #details { display: block; }
   .chosen aside { grid-template-rows: minmax(0, 1fr); }
-  .ended #details { display: block; }
-  .ended aside { grid-template-rows: auto minmax(0, 1fr) minmax(0, 1fr); }
+  .told #details { display: block; }
+  .told aside { grid-template-rows: auto minmax(0, 1fr) minmax(0, 1fr); }
   header { flex-wrap: wrap; }
   #says { order: 9; flex-basis: 100%; white-space: normal; }
   footer { grid-template-columns: 1fr; }
@@ -361,13 +366,22 @@ const CALLS = new Set(['Call', 'CallMux', 'CallDemux']);
 const IDLE = 0, ASKED = 1, TAKEN = 2, REPLIED = 3;
 const PHASES = ['idle', 'asked', 'taken', 'replied'];
 
-// The rows of ports of each kind, the details of components and who waits for whom at the end.
+// What can never move again: the first line behind which something is stuck (0: there is none), how many components are stuck
+// there, the stuck ones at the end, and the members of a ring with their lines.
+const nothingStuck = () => ({line: 0, first: 0, members: new Set(), ring: new Map()});
+
+// The rows of ports of each kind, the details of components, what is stuck, and who waits for whom at the end.
 function readRows(text) {
-  const found = {ports: new Map(), details: new Map(), end: []};
+  const found = {ports: new Map(), details: new Map(), stuck: nothingStuck(), end: []};
   for (const line of text.split('\n')) {
     const words = line.split(' ');
     if (words[0] === 'row') found.ports.set(words[1], words.slice(2).map(readPort));
     if (words[0] === 'detail') found.details.set(Number(words[1]), words.slice(2).join(' '));
+    if (words[0] === 'stuck') {
+      const [line, first, ...members] = words.slice(1).map(Number);
+      Object.assign(found.stuck, {line, first, members: new Set(members)});
+    }
+    if (words[0] === 'ring') found.stuck.ring.set(Number(words[1]), words.slice(2).filter(word => word).join(' '));
     if (words[0] === 'end') found.end.push(line.slice(4));
   }
   return found;
@@ -430,7 +444,8 @@ function namePorts(component, row) {
 // The net of the list. Channels and components stand at their numbers, so the rows of both begin with null.
 function readNet(list, rowText) {
   const rows = readRows(rowText);
-  const net = {part: '', ports: [], channels: [null], components: [null], instances: new Map(), end: rows.end};
+  const net = {part: '', ports: [], channels: [null], components: [null], instances: new Map(), stuck: rows.stuck,
+    end: rows.end};
   for (const line of list.split('\n')) {
     const words = line.split(' '), number = Number(words[1]);
     if (words[0] === 'part') net.part = words[1];
@@ -569,6 +584,13 @@ function valueIn(trace, line) {
   if (words[1] === 'offer' || words[1] === 'answer') return words[4] ? words[3] : '';
   return words[words.length - 2] === 'value' ? words[words.length - 1] : '';
 }
+
+// Whether something is stuck behind a line; and whether a component never moves again from there on. (What is stuck at the end may
+// have moved after that: so each counts from its own last move on.)
+const isStuckBehind = (net, line) => net.stuck.line > 0 && line >= net.stuck.line;
+const lastMoveOf = (trace, number) => nthOf(trace.linesOfComponent, number, countOf(trace.linesOfComponent, number) - 1);
+const isStill = (net, trace, number, line) => isStuckBehind(net, line) && net.stuck.members.has(number)
+  && line >= lastMoveOf(trace, number);
 
 // What a variable holds: the value of the last write that it took, at first 0.
 function heldBy(trace, component, line) {
@@ -1472,7 +1494,7 @@ const MANY = 300, IN_FOCUS = 90, NEAR = 40, REFOCUS = 25;
 
 // What the reader chose. `selected` is `c5` for a component, `k7` for a channel, or null.
 const view = {line: 1, selected: null, isFocused: false, focusLine: 0, folded: new Set(), foldedInFocus: new Set(),
-  isStubbed: null, picture: null, box: null, isFollowing: false, isCharted: false, layoutTime: 0};
+  isStubbed: null, picture: null, box: null, isFollowing: false, isCharted: false, hasRing: false, layoutTime: 0};
 
 // What is drawn, by number or path, and the line that it shows (0: nothing yet).
 const drawn = {channels: new Map(), components: new Map(), boxes: new Map(), ports: new Map(), line: 0, here: 0};
@@ -1506,7 +1528,7 @@ function showOnly(components, channels) {
   Object.assign(net, {shownComponents: components, shownChannels: channels});
 }
 
-// In focus: what moves in the lines around this one, with who called it.
+// In focus: what moves in the lines around this one, with who called it, and the ring where something is stuck.
 function showNear(line) {
   const kept = new Set(), keep = number => { if (kept.size < IN_FOCUS) kept.add(number); };
   const keepEnd = (end, at) => {
@@ -1514,9 +1536,13 @@ function showNear(line) {
     keep(end.component);
     for (const caller of callersOf(net, trace, net.components[end.component], at)) if (typeof caller === 'number') keep(caller);
   };
-  for (let distance = 0; distance <= NEAR; distance++) for (const at of new Set([line - distance, line + distance])) {
-    const channel = at > 1 && at <= trace.count && net.channels[trace.channel[at]];
-    if (channel) for (const end of [channel.active, channel.passive]) keepEnd(end, at);
+  view.hasRing = isStuckBehind(net, line);
+  for (let distance = 0; distance <= NEAR; distance++) {
+    for (const at of new Set([line - distance, line + distance])) {
+      const channel = at > 1 && at <= trace.count && net.channels[trace.channel[at]];
+      if (channel) for (const end of [channel.active, channel.passive]) keepEnd(end, at);
+    }
+    if (distance === 0 && view.hasRing) [...net.stuck.ring.keys()].forEach(keep);
   }
   for (const end of added.endsInFocus()) keepEnd(end, line);
   view.focusLine = line;
@@ -1595,11 +1621,16 @@ function drawStub(channel, pieces, layers) {
   drawn.channels.set(channel.number, {group, walk, length: walk[walk.length - 1].way, value, token: null});
 }
 
+// The folded copy that hides a component, if one does.
+function boxOf({path}) {
+  const steps = path.split('/');
+  return steps.map((step, i) => steps.slice(0, i + 1).join('/')).find(outer => foldedNow().has(outer));
+}
+
 // How the other end of a stub is called: a folded copy by its path, a variable by its name, what answers by its sign and number,
 // who asks by its number.
 function stubName(end, isAnswering) {
-  const component = net.components[end.component], steps = component.path.split('/');
-  const box = steps.map((step, i) => steps.slice(0, i + 1).join('/')).find(path => foldedNow().has(path));
+  const component = net.components[end.component], box = boxOf(component);
   if (box) return `▸${box}`;
   if (!isAnswering) return String(component.number);
   return isVariable(component) && component.detail ? signOf(component) : signOf(component) + component.number;
@@ -1654,6 +1685,7 @@ function markPicture() {
     if (trace.channel[at]) channels.add(trace.channel[at]);
     if (trace.component[at]) components.add(trace.component[at]);
   }
+  if (isStuckBehind(net, line) !== isStuckBehind(net, drawn.line)) for (const number of net.stuck.members) components.add(number);
   for (const number of isAll ? [] : channels) for (const end of [net.channels[number].active, net.channels[number].passive])
     if (end && end !== 'host') components.add(end.component);
   for (const number of channels) markChannel(number);
@@ -1697,8 +1729,8 @@ function tokenOf({walk, length}, phase) {
 // The component that a line moves, or 0.
 const moverAt = line => (isMove(trace.what[line]) ? trace.component[line] : 0);
 
-// The marks of a component: filled where it holds a request that it took, ringed where it moved, red where requests meet; and
-// what a variable holds.
+// The marks of a component: filled where it holds a request that it took, ringed where it moved, red where requests meet; an edge
+// of red dashes from where it never moves again, and thick red ones in the ring; and what a variable holds.
 function markComponent(number) {
   const mark = drawn.components.get(number);
   if (!mark) return;
@@ -1707,15 +1739,19 @@ function markComponent(number) {
   const open = phases.filter(phase => phase !== IDLE).length;
   const isClash = CALLS.has(component.kind) && open > 1 || trace.what[line] === CLASH && trace.component[line] === number;
   const isSelected = view.selected === `c${number}`;
-  const styles = {busy: phases.includes(TAKEN), moved: moverAt(line) === number, selected: isSelected, clash: isClash};
+  const stuck = isStill(net, trace, number, line);
+  const styles = {stuck, 'in-ring': stuck && net.stuck.ring.has(number), busy: phases.includes(TAKEN),
+    moved: moverAt(line) === number, selected: isSelected, clash: isClash};
   mark.group.setAttribute('class', ['component', ...Object.keys(styles).filter(style => styles[style])].join(' '));
   if (isVariable(component)) mark.caption.textContent = `${number} ${component.kind} = ${cut(heldBy(trace, component, line), 9)}`;
 }
 
-// A folded copy is ringed where something in it moved.
+// A folded copy is ringed where something in it moved, and red where something in it is in the ring.
 function markBoxes() {
   const mover = moverAt(view.line), path = mover ? `${net.components[mover].path}/` : '';
   for (const [box, group] of drawn.boxes) group.setAttribute('class', path.startsWith(`${box}/`) ? 'folded moved' : 'folded');
+  for (const number of drawn.boxes.size ? net.stuck.ring.keys() : []) if (isStill(net, trace, number, view.line))
+    drawn.boxes.get(boxOf(net.components[number]))?.classList.add('in-ring');
 }
 
 // Whether a host was told no.
@@ -1858,10 +1894,27 @@ const selectedLines = () => [view.selected[0] === 'c' ? trace.linesOfComponent :
 function showDetails() {
   const {selected} = view;
   document.body.classList.toggle('chosen', selected !== null);
-  document.body.classList.toggle('ended', selected === null && isEndTold());
-  if (!selected) return $('details').replaceChildren(...endDetails());
+  document.body.classList.toggle('told', selected === null && (isStuckBehind(net, view.line) || isEndTold()));
+  const hint = html('div', 'hint', 'Click a component or a channel to see its history.');
+  if (!selected) return $('details').replaceChildren(hint, ...stuckDetails(), ...endDetails());
   const shown = selected[0] === 'c' ? componentDetails(numberOf(selected)) : channelDetails(numberOf(selected));
-  return $('details').replaceChildren(...shown, eventButtons(), history());
+  return $('details').replaceChildren(...shown, eventButtons(), history(), ...stuckDetails());
+}
+
+// What can never move again, since which line, and the ring.
+function stuckDetails() {
+  const {line, first, members, ring} = net.stuck;
+  if (!isStuckBehind(net, view.line)) return [];
+  const title = html('div', 'title stuck', `Since line ${line}, ${counted(first, 'component')} can never move again`);
+  title.dataset.line = line;
+  const now = added.isLive ? 'Now' : 'At the end', round = ring.size ? `, and ${ring.size} of them wait for one another` : '';
+  const told = `Whatever the host does. ${now} it is ${members.size} of ${all.components.length}${round}.`;
+  return [title, html('div', 'under', told), ...[...ring].map(([number, text]) => {
+    const isNow = isStill(net, trace, number, view.line);
+    const row = html('div', isNow ? 'wait cycle' : 'wait', isNow ? text : `${text} (from line ${lastMoveOf(trace, number)} on)`);
+    row.dataset.select = `c${number}`;
+    return row;
+  })];
 }
 
 // Whether the current line is behind the last move, and it is told who waits for whom then.
@@ -1871,11 +1924,10 @@ function isEndTold() {
   return net.end.length > 0 && view.line >= last;
 }
 
-// Nothing is selected: at the end who waits for whom.
+// At the end who waits for whom.
 function endDetails() {
-  const shown = [html('div', 'hint', 'Click a component or a channel to see its history.')];
-  if (!isEndTold()) return shown;
-  shown.push(html('div', 'title end', `Who waits for whom ${added.isLive ? 'now' : 'at the end'}`));
+  if (!isEndTold()) return [];
+  const shown = [html('div', 'title end', `Who waits for whom ${added.isLive ? 'now' : 'at the end'}`)];
   for (const line of net.end) {
     const names = /^(?:wait|or|ended) \S+ (\d+)/.exec(line), isCycle = /^(circle|cycle)/.test(line);
     const row = html('div', isCycle ? 'wait cycle' : 'wait', line.replace(/ +/g, ' '));
@@ -1894,6 +1946,7 @@ function phaseText(number) {
 function componentDetails(number) {
   const component = net.components[number], more = component.channels.length - 1 - MOST_PORTS;
   const shown = [html('div', 'title', component.title), html('div', 'under', placeOf(component))];
+  if (isStill(net, trace, number, view.line)) shown.push(html('div', 'under stuck', 'never moves again'));
   if (isVariable(component)) shown.push(html('div', 'under', `holds ${heldBy(trace, component, view.line)}`));
   const ports = html('div', 'ports');
   for (let p = 1; p < component.channels.length && p <= MOST_PORTS; p++) ports.append(portRow(component, p));
@@ -1973,7 +2026,7 @@ function eventLine(direction) {
   return nthOf(lines, key, direction > 0 ? seen : seen - (isHere ? 2 : 1));
 }
 
-// ---- the strip above the scrubber: hosts, rests, clashes, the events of what is selected, what the search found -----
+// ---- the strip above the scrubber: hosts, rests, clashes, events of what is selected, what was found, a flag where it is stuck
 
 const STRIP_HEIGHT = 22;
 const strip = {key: ''};
@@ -1989,10 +2042,11 @@ function showStrip() {
   canvas.height = STRIP_HEIGHT * ratio;
   const pen = canvas.getContext('2d'), colours = getComputedStyle(document.documentElement);
   pen.scale(ratio, ratio);
+  const placeOfLine = line => (trace.count < 2 ? 0 : Math.round((line - 1) / (trace.count - 1) * (width - 1)));
   const marks = (lines, from, to, top, bottom, colour) => {
     pen.fillStyle = colours.getPropertyValue(colour).trim();
     for (let i = from, last = -1; i < to; i++) {
-      const x = trace.count < 2 ? 0 : Math.round((lines[i] - 1) / (trace.count - 1) * (width - 1));
+      const x = placeOfLine(lines[i]);
       if (x !== last) pen.fillRect(x, top, 1.5, bottom - top);
       last = x;
     }
@@ -2005,6 +2059,10 @@ function showStrip() {
     marks(linesOf(lines, number), 0, countOf(lines, number), 9, 15, '--selected');
   }
   if (search.hits) marks(search.hits, 0, search.hits.length, 16, STRIP_HEIGHT, '--found');
+  if (net.stuck.line) {
+    marks([net.stuck.line], 0, 1, 0, STRIP_HEIGHT, '--clash');
+    pen.fillRect(placeOfLine(net.stuck.line) - 5, 0, 11, 7);
+  }
 }
 
 // ---- search ---------------------------------------------------------------------------------------------------------
@@ -2200,13 +2258,14 @@ function drawStrokes({first, last, y, column}, strokes) {
 
 // Shows the current line in all panels.
 function show() {
-  if (view.isFocused && Math.abs(view.line - view.focusLine) > REFOCUS) {
+  const isFar = Math.abs(view.line - view.focusLine) > REFOCUS || view.hasRing !== isStuckBehind(net, view.line);
+  if (view.isFocused && isFar) {
     draw();
     fit();
   }
   markPicture();
   if (view.isFollowing) follow();
-  $('says').textContent = tell(view.line);
+  $('says').textContent = tell(view.line) + (view.line === net.stuck.line ? ' (from here on something is stuck)' : '');
   $('position').textContent = `line ${view.line} of ${trace.count}`;
   $('scrubber').value = view.line;
   showJournal();
