@@ -302,13 +302,18 @@ def put_rows(ground, name, source, lines):
     return ground.put(name, pages.page_text(ground.template, [listed, kept + added, trace]))
 
 
-class Stuck:
-    """What a page of `late` has to show of what is stuck, by these rows: each component from its own last move on."""
+def stuck_rows(page):
+    """The rows of a page that say what is stuck."""
+    return [line for line in page.splitlines() if line.startswith(("stuck ", "ring "))]
 
-    def __init__(self, ground, rows):
-        self.since, _, *self.members = map(int, rows[0].split()[1:])
+
+class Stuck:
+    """What a page has to show of what is stuck, by these rows, if there are any: each component from its own last move on."""
+
+    def __init__(self, rows, trace):
+        self.since, _, *self.members = map(int, rows[0].split()[1:]) if rows else (float("inf"), 0)
         self.ring = [int(line.split()[1]) for line in rows[1:]]
-        self.fired = [line.split() for line in ground.texts("late")[2].decode().splitlines()]
+        self.fired = [line.split() for line in trace.splitlines()]
 
     def last(self, number):
         """The last line that moves a component."""
@@ -323,7 +328,7 @@ class Stuck:
 def marks_of_the_stuck(browser, ground):
     """What never moves again has its mark from its last move on, and none before the first line, however one comes to a line."""
     put_rows(ground, "stuck_marks", "late", LATE_STUCK)
-    run, wanted = Run(browser, ground, "stuck_marks"), Stuck(ground, LATE_STUCK)
+    run, wanted = Run(browser, ground, "stuck_marks"), Stuck(LATE_STUCK, ground.texts("late")[2].decode())
     run.found("the opening", STUCK_SEEN, wanted.at(1))
     for line in range(2, 21):
         run.page.key("ArrowRight")
@@ -375,7 +380,7 @@ def rings_that_close_later(browser, ground):
     """A member of the ring that still moves says until when, and is marked from there on."""
     rows = ["stuck 12 4 1 2 3 4 5 6 7 8", "ring 6 wait Sequence 6  for Passivator 8 to reply on 11", "ring 2 wait Sequence 2 for me"]
     put_rows(ground, "stuck_later", "late", rows)
-    run, wanted = Run(browser, ground, "stuck_later", "#line=17"), Stuck(ground, rows)
+    run, wanted = Run(browser, ground, "stuck_later", "#line=17"), Stuck(rows, ground.texts("late")[2].decode())
     late = ["wait", "c6", "wait Sequence 6 for Passivator 8 to reply on 11 (from line 18 on)"]
     run.found("before its last move", RING_SEEN, [late, ["wait cycle", "c2", "wait Sequence 2 for me"]])
     run.found("its marks", STUCK_SEEN, wanted.at(17))

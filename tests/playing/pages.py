@@ -125,7 +125,7 @@ def rows_of(page):
 def without_end(page):
     """A page without the lines that say how its run ended: only the program knows these."""
     listed, rows, trace = texts_of(page, constants())
-    kept = b"".join(line for line in rows.splitlines(True) if not line.startswith(b"end "))
+    kept = b"".join(line for line in rows.splitlines(True) if not line.startswith((b"stuck ", b"ring ", b"end ")))
     return page_text(constants(), [listed, kept, trace])
 
 
