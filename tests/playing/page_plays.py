@@ -147,7 +147,7 @@ def clicks(browser, ground):
     page.key("]")
     run.line("the channel's next line", 26)
     page.click(*page.do(middle('.events button:first-child')))
-    run.line("the button for the last event", 11)
+    run.line("the button for the previous event", 11)
     page.key("Escape")
     run.found("Escape", SELECTED, None)
     page.click(*page.do(middle("#journal .row:nth-child(5)")))
@@ -164,6 +164,19 @@ def clicks(browser, ground):
     for name, wanted in [("first", 1), ("forward", 2), ("last", 66), ("back", 65)]:
         page.click(*page.do(middle(f"#{name}")))
         run.line(f"the button {name}", wanted)
+    return run.ended()
+
+
+def details_are_whole(browser, ground):
+    """Numbers and phases of ports aren't cut, whatever stands beside them, and nothing says `last` for `previous`."""
+    run = Run(browser, ground, "flat", "#line=900")
+    far = run.page.do("breezesim.net.components.findIndex(it => it && it.channels.some(number => number > 99))")
+    run.page.do(f"location.hash = '#line=900&at=c{far}'")
+    run.found("what is selected", SELECTED, f"c{far}")
+    cut = "[...document.querySelectorAll('#details .port .channel')].filter(it => it.scrollWidth > it.clientWidth).length"
+    run.found("numbers of channels that are cut", cut, 0)
+    run.found("the buttons", "[...document.querySelectorAll('.events button')].map(it => it.textContent)",
+              ["◂ previous event", "next event ▸", "×"])
     return run.ended()
 
 
@@ -352,15 +365,18 @@ def panel_of_the_stuck(browser, ground):
     put_rows(ground, "stuck_panel", "late", LATE_STUCK)
     run = Run(browser, ground, "stuck_panel", "#line=12")
     ring = [["wait cycle", f"c{number}", " ".join(text.split())] for number, text in LATE_RING.items()]
-    told = ["Since line 12, 4 components can never move again",
-            "Whatever the host does. At the end it is 8 of 8, and 4 of them wait for one another."]
-    told_at_end = "[...document.querySelectorAll('#details .title, #details .under')].map(it => it.textContent)"
-    run.found("what is told", told_at_end, told)
+    told = [
+        "Since line 12, 4 components can never move again",
+        "Whatever the host does. At the end it is 8 of 8, and 4 of them wait for one another.",
+    ]
+    texts = "[...document.querySelectorAll('#details .title, #details .under')].map(it => it.textContent)"
+    run.found("what is told", texts, told)
     run.found("the ring", RING_SEEN, ring)
     said = "document.getElementById('says').textContent"
-    run.found("the line in words", said, "Passivator 5 takes the request of Sequence 3 on channel 8 (from here on something is stuck)")
+    words = "Passivator 5 takes the request of Sequence 3 on channel 8 (from here on something is stuck)"
+    run.found("the line in words", said, words)
     run.page.key("End")
-    run.found("at the end", told_at_end, told)
+    run.found("at the end", texts, told)
     run.page.key("Home")
     run.found("at the opening", RING_SEEN, [])
     scrub(run.page, 16)
@@ -378,10 +394,11 @@ def panel_of_the_stuck(browser, ground):
 
 def rings_that_close_later(browser, ground):
     """A member of the ring that still moves says until when, and is marked from there on."""
-    rows = ["stuck 12 4 1 2 3 4 5 6 7 8", "ring 6 wait Sequence 6  for Passivator 8 to reply on 11", "ring 2 wait Sequence 2 for me"]
+    of_6 = "wait Sequence 6 for Passivator 8 to reply on 11"
+    rows = ["stuck 12 4 1 2 3 4 5 6 7 8", f"ring 6 {of_6}", "ring 2 wait Sequence 2 for me"]
     put_rows(ground, "stuck_later", "late", rows)
     run, wanted = Run(browser, ground, "stuck_later", "#line=17"), Stuck(rows, ground.texts("late")[2].decode())
-    late = ["wait", "c6", "wait Sequence 6 for Passivator 8 to reply on 11 (from line 18 on)"]
+    late = ["wait", "c6", f"{of_6} (from line 18 on)"]
     run.found("before its last move", RING_SEEN, [late, ["wait cycle", "c2", "wait Sequence 2 for me"]])
     run.found("its marks", STUCK_SEEN, wanted.at(17))
     run.page.key("ArrowRight")
@@ -397,7 +414,8 @@ def rings_that_close_later(browser, ground):
 def rings_in_focus(browser, ground):
     """In focus the ring is in sight from the first line on, wherever it lies in the net."""
     far = [int(it) for it in list(wanted_of(ground.program, *ground.made["large"]).kinds)[::60]]
-    put_rows(ground, "stuck_ring", "large", [f"stuck 700 {len(far)} {' '.join(map(str, far))}", *(f"ring {it} it waits" for it in far)])
+    stuck = f"stuck 700 {len(far)} {' '.join(map(str, far))}"
+    put_rows(ground, "stuck_ring", "large", [stuck, *(f"ring {it} it waits" for it in far)])
     run = Run(browser, ground, "stuck_ring", "#line=699")
     seen = f"(shown => [{far}.every(it => shown.includes(String(it))), shown.length <= 90])({COMPONENTS})"
     run.found("before it", seen, [False, True])
@@ -709,6 +727,7 @@ PLAYS = [
     keys_of_looks,
     play_and_speed,
     clicks,
+    details_are_whole,
     drag_and_wheel,
     links,
     searches,
@@ -735,5 +754,5 @@ PLAYS = [
     a_step_looks_at_little,
 ]
 # Those that look at the picture, or at what a browser alone has: Node can't play them.
-DRAWN = {keys_of_looks, clicks, drag_and_wheel, pages_of_sessions, flag_of_strip, wide_charts, hostile_names, policy, narrow_screens}
-DRAWN.update({on_paper, marks_of_strip, a_step_looks_at_little})
+DRAWN = {keys_of_looks, clicks, details_are_whole, drag_and_wheel, pages_of_sessions, flag_of_strip, wide_charts, hostile_names}
+DRAWN.update({policy, narrow_screens, on_paper, marks_of_strip, a_step_looks_at_little})

@@ -137,10 +137,10 @@ function channelDetails(number) {
   return [html('div', 'title', title), html('div', 'under', endsOf(channel)), html('div', 'under', placeOf(channel)), ports];
 }
 
-// Buttons to the last and the next line of what is selected, how many there are, and a button that leaves it.
+// Buttons to the previous and the next line of what is selected, how many there are, and a button that leaves it.
 function eventButtons() {
   const [lines, key] = selectedLines(), row = html('div', 'events');
-  for (const [text, direction] of [['◂ last event', -1], ['next event ▸', 1]]) {
+  for (const [text, direction] of [['◂ previous event', -1], ['next event ▸', 1]]) {
     const button = html('button', '', text), line = eventLine(direction);
     button.title = direction > 0 ? ']' : '[';
     button.disabled = !line;
@@ -169,7 +169,7 @@ function history() {
   return list;
 }
 
-// The next or last line of what is selected, or of the hosts where nothing is; 0 where there is none.
+// The next or previous line of what is selected, or of the hosts where nothing is; 0 where there is none.
 function eventLine(direction) {
   const {hostLines} = trace, ofHosts = [[hostLines], 0];
   const [lines, key] = view.selected ? selectedLines() : ofHosts;
@@ -268,7 +268,7 @@ function namesWith(text) {
   return names;
 }
 
-// Goes to the next or last line found, and from the ends to the other end.
+// Goes to the next or previous line found, and from the ends to the other end.
 function goToHit(direction) {
   const {hits} = search;
   if (!hits || hits.length === 0) return;

@@ -6,7 +6,7 @@ pub(crate) const HEAD: &str = r##"<!doctype html>
 <head>
 <meta charset="utf-8">
 <meta name="viewport" content="width=device-width">
-<meta http-equiv="Content-Security-Policy" content="default-src 'none'; style-src 'unsafe-inline'; script-src 'sha256-B+iBNcQMSMOuLPHEYssA65PKHOW9FAJoJFtqhx/dnks='">
+<meta http-equiv="Content-Security-Policy" content="default-src 'none'; style-src 'unsafe-inline'; script-src 'sha256-y2PhWvGu7k/pM1RYcQZooL1nar/rIfOhU3P4fU861ng='">
 <title>breezesim</title>
 <style>
 /* Colours: light, and dark where the reader's system or the reader says so. Phases are told by dashes and marks too. */
@@ -100,7 +100,8 @@ div.row.now, div.row.now .line { background: var(--moved); color: var(--on-moved
 .under, .hint { color: var(--dim); font-size: 12px; overflow-wrap: anywhere; }
 .ports { margin-top: 6px; border-top: 1px solid var(--rule); }
 div.port {
-  display: grid; grid-template-columns: 14px 1fr 84px 116px; align-items: center;
+  display: grid; grid-template-columns: 14px minmax(54px, 1fr) minmax(84px, auto) minmax(96px, auto); column-gap: 5px;
+  align-items: center;
   border-bottom: 1px solid var(--rule); padding: 1px 0; cursor: pointer;
 }
 div.port > span { overflow: hidden; text-overflow: ellipsis; white-space: nowrap; }
@@ -321,9 +322,9 @@ autocomplete="off" spellcheck="false">
 <tr><td><kbd>→</kbd> <kbd>←</kbd></td>
 <td>a line on, a line back (with Shift 10; <kbd>PgDn</kbd> <kbd>PgUp</kbd> 100; <kbd>Home</kbd> <kbd>End</kbd>)</td></tr>
 <tr><td><kbd>space</kbd> <kbd>&lt;</kbd> <kbd>&gt;</kbd></td><td>play or pause, slower, faster</td></tr>
-<tr><td><kbd>]</kbd> <kbd>[</kbd></td><td>next, last event of what is selected; with nothing selected of the host</td></tr>
-<tr><td><kbd>r</kbd> <kbd>R</kbd> <kbd>x</kbd></td><td>next rest, last rest, next clash</td></tr>
-<tr><td><kbd>/</kbd> <kbd>Enter</kbd> <kbd>n</kbd> <kbd>N</kbd></td><td>search, next, next, last line found</td></tr>
+<tr><td><kbd>]</kbd> <kbd>[</kbd></td><td>next, previous event of what is selected; with nothing selected of the host</td></tr>
+<tr><td><kbd>r</kbd> <kbd>R</kbd> <kbd>x</kbd></td><td>next rest, previous rest, next clash</td></tr>
+<tr><td><kbd>/</kbd> <kbd>Enter</kbd> <kbd>n</kbd> <kbd>N</kbd></td><td>search, next, next, previous line found</td></tr>
 <tr><td><kbd>g</kbd></td><td>go to a line by its number</td></tr>
 <tr><td><kbd>+</kbd> <kbd>-</kbd> <kbd>f</kbd> <kbd>w</kbd></td><td>nearer, farther, whole net, follow what moves</td></tr>
 <tr><td><kbd>o</kbd> <kbd>s</kbd></td><td>only what moves around this line; channels to hubs as stubs</td></tr>
@@ -1986,10 +1987,10 @@ function channelDetails(number) {
   return [html('div', 'title', title), html('div', 'under', endsOf(channel)), html('div', 'under', placeOf(channel)), ports];
 }
 
-// Buttons to the last and the next line of what is selected, how many there are, and a button that leaves it.
+// Buttons to the previous and the next line of what is selected, how many there are, and a button that leaves it.
 function eventButtons() {
   const [lines, key] = selectedLines(), row = html('div', 'events');
-  for (const [text, direction] of [['◂ last event', -1], ['next event ▸', 1]]) {
+  for (const [text, direction] of [['◂ previous event', -1], ['next event ▸', 1]]) {
     const button = html('button', '', text), line = eventLine(direction);
     button.title = direction > 0 ? ']' : '[';
     button.disabled = !line;
@@ -2018,7 +2019,7 @@ function history() {
   return list;
 }
 
-// The next or last line of what is selected, or of the hosts where nothing is; 0 where there is none.
+// The next or previous line of what is selected, or of the hosts where nothing is; 0 where there is none.
 function eventLine(direction) {
   const {hostLines} = trace, ofHosts = [[hostLines], 0];
   const [lines, key] = view.selected ? selectedLines() : ofHosts;
@@ -2117,7 +2118,7 @@ function namesWith(text) {
   return names;
 }
 
-// Goes to the next or last line found, and from the ends to the other end.
+// Goes to the next or previous line found, and from the ends to the other end.
 function goToHit(direction) {
   const {hits} = search;
   if (!hits || hits.length === 0) return;
