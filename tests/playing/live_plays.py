@@ -399,7 +399,8 @@ def narrow(stage):
 
 # The plays, and whether each is played in all ways of calling.
 PLAYS = {both_outcomes: True, values: True, deadlock: True, stuck: True, clashes: True, saved_pages: True, sessions: True}
-PLAYS.update({traces: True, long_runs: True, refusals: False, parts: False, pasted: False, hostile_names: False, stopped: False, narrow: False})
+PLAYS.update({traces: True, long_runs: True, refusals: False, parts: False, pasted: False, hostile_names: False})
+PLAYS.update({stopped: False, narrow: False})
 # Those that look at the picture.
 DRAWN = {narrow}
 

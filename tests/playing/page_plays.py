@@ -205,7 +205,18 @@ def links(browser, ground):
     run.found("its copies", "[...document.querySelectorAll('.folded')].map(it => it.dataset.copy).sort()", ["1", "3"])
     run.found("its search", "document.getElementById('count').textContent", "12 lines")
     page.key("ArrowRight")
-    run.found("the address follows", "location.hash", "#line=31&at=k7&view=chart")
+    members = ["line=31", "at=k7", "view=chart", "find=fire%205", "fold=1,3", "stubs=1", "theme=dark"]
+    run.found("the address follows", "location.hash", "#" + "&".join(it for it in members if it != "stubs=1"))
+    page.key("s")
+    run.found("stubs", "location.hash", "#" + "&".join(members))
+    page.open(ground.path("arbiter_tree"), "#" + "&".join(members))
+    seen = f"[{LINE}, {SELECTED}, breezesim.view.isCharted, breezesim.view.isStubbed, document.documentElement.dataset.theme]"
+    run.found("all of it, anew", seen, [31, "k7", True, True, "dark"])
+    page.do("location.hash = '#line=30'")
+    run.found("what a link doesn't say", f"[...{seen}, breezesim.view.folded.size, document.getElementById('search').value]",
+              [30, None, False, None, None, 0, ""])
+    page.key("d")
+    run.found("the theme alone", "location.hash", "#line=30&theme=dark")
     odd = [("#line=99999", [66, None]), ("#line=-4&at=c99", [1, None]), ("#line=x&at=k7", [1, "k7"])]
     for link, wanted in [*odd, ("#at=%3Cb%3E&line=9", [9, None]), ("", [1, None])]:
         page.do(f"location.hash = '{link}'")

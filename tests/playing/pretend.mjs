@@ -17,6 +17,7 @@ class Element {
     this.dataset = new Proxy({}, {
       get: (_, name) => (typeof name === 'string' ? this.attributes.get(dataName(name)) : undefined),
       set: (_, name, value) => Boolean(this.attributes.set(dataName(name), String(value))),
+      deleteProperty: (_, name) => this.attributes.delete(dataName(name)) || true,
     });
     this.value = attributes.value || '';
     points.push(this);

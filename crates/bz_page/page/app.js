@@ -17,7 +17,7 @@ function show() {
   showStrip();
   if (view.isCharted) showChart();
   added.afterShow();
-  if (!added.isLive) writeLink();
+  writeLink();
 }
 
 // Goes to a line, or to the nearest that there is.
@@ -77,9 +77,12 @@ function setChart(isCharted) {
   show();
 }
 
+// Light or dark; of a page that says neither the reader's system decides.
 function setTheme(theme) {
-  document.documentElement.dataset.theme = theme;
+  if (theme) document.documentElement.dataset.theme = theme;
+  else delete document.documentElement.dataset.theme;
   showStrip();
+  writeLink();
 }
 
 // Light where it is dark, and dark where it is light.
@@ -126,12 +129,20 @@ function changeSpeed(by) {
 
 const link = {timer: 0};
 
+// The copies that begin folded, in focus and else.
+const foldedAtFirst = () => (view.isFocused ? [] : view.foldedAtFirst);
+
 // Writes what is seen into the address, without a step in the browser's history.
 function writeLink() {
-  const parts = [`line=${view.line}`];
+  if (added.isLive) return;
+  const parts = [`line=${view.line}`], folded = [...foldedNow()].join(), {theme} = document.documentElement.dataset;
   if (view.selected) parts.push(`at=${view.selected}`);
   if (view.isCharted) parts.push('view=chart');
   if (view.isFocused !== isLarge) parts.push(`focus=${Number(view.isFocused)}`);
+  if (search.text) parts.push(`find=${encodeURIComponent(search.text)}`);
+  if (folded !== foldedAtFirst().join()) parts.push(`fold=${folded}`);
+  if (view.isStubbed !== null) parts.push(`stubs=${Number(view.isStubbed)}`);
+  if (theme) parts.push(`theme=${theme}`);
   const hash = `#${parts.join('&')}`;
   clearTimeout(link.timer);
   link.timer = setTimeout(() => {
@@ -143,24 +154,22 @@ function writeLink() {
 const thatIs = selected => (selected[0] === 'c' ? net.components : net.channels)[numberOf(selected)];
 const isThere = selected => /^[ck][0-9]+$/.test(selected) && Boolean(thatIs(selected));
 
-// Shows what an address says.
+// Shows what an address says; what it doesn't say is as at first.
 function readLink(address) {
   const said = new URLSearchParams(new URL(address).hash.slice(1)), at = said.get('at');
   view.line = Math.max(1, Math.min(trace.count, Math.trunc(Number(said.get('line'))) || 1));
   view.selected = at && isThere(at) ? at : null;
   view.isFocused = said.has('focus') ? said.get('focus') === '1' : isLarge;
-  if (said.has('stubs')) view.isStubbed = said.get('stubs') === '1';
-  if (said.has('fold')) Object.assign(view, {folded: foldedBy(said), foldedInFocus: foldedBy(said)});
-  if (said.has('theme')) setTheme(said.get('theme') === 'dark' ? 'dark' : 'light');
-  if (said.has('find')) {
-    $('search').value = said.get('find');
-    find(said.get('find'));
-  }
+  view.isStubbed = said.has('stubs') ? said.get('stubs') === '1' : null;
+  view[view.isFocused ? 'foldedInFocus' : 'folded'] = new Set(said.has('fold') ? foldedBy(said) : foldedAtFirst());
+  setTheme(said.has('theme') && (said.get('theme') === 'dark' ? 'dark' : 'light'));
+  $('search').value = said.get('find') || '';
+  find($('search').value);
   $('focus').classList.toggle('on', view.isFocused);
   draw();
   setChart(said.get('view') === 'chart');
 }
-const foldedBy = said => new Set(said.get('fold').split(',').filter(path => net.instances.has(path)));
+const foldedBy = said => said.get('fold').split(',').filter(path => net.instances.has(path));
 
 // ---- keys and the mouse ---------------------------------------------------------------------------------------------
 
@@ -306,9 +315,10 @@ function load(list, rows, text) {
   net = readNet(list, rows);
   all = {components: net.components.slice(1), channels: net.channels.slice(1)};
   isLarge = all.components.length > MANY;
-  Object.assign(view, {line: 1, selected: null, isFocused: isLarge, focusLine: 0, folded: new Set(), foldedInFocus: new Set(),
+  Object.assign(view, {line: 1, selected: null, isFocused: isLarge, focusLine: 0, foldedInFocus: new Set(),
     isStubbed: null});
-  if (all.components.length > MANY / 2) for (const path of net.instances.keys()) if (!path.includes('/')) view.folded.add(path);
+  view.foldedAtFirst = all.components.length > MANY / 2 ? [...net.instances.keys()].filter(path => !path.includes('/')) : [];
+  view.folded = new Set(view.foldedAtFirst);
   document.title = `${net.part} · breezesim`;
   $('part').textContent = net.part;
   takeTrace(readTrace(text, net));

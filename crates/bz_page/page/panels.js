@@ -232,6 +232,7 @@ function find(text) {
     return row;
   })));
   showStrip();
+  writeLink();
 }
 
 // The lines that hold a text, rising.

@@ -27,7 +27,7 @@ const added = {isLive: false, afterShow() {}, takesClick() { return false; }, en
 const MANY = 300, IN_FOCUS = 90, NEAR = 40, REFOCUS = 25;
 
 // What the reader chose. `selected` is `c5` for a component, `k7` for a channel, or null.
-const view = {line: 1, selected: null, isFocused: false, focusLine: 0, folded: new Set(), foldedInFocus: new Set(),
+const view = {line: 1, selected: null, isFocused: false, focusLine: 0, folded: new Set(), foldedInFocus: new Set(), foldedAtFirst: [],
   isStubbed: null, picture: null, box: null, isFollowing: false, isCharted: false, hasRing: false, layoutTime: 0};
 
 // What is drawn, by number or path, and the line that it shows (0: nothing yet).
