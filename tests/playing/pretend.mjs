@@ -195,8 +195,8 @@ const address = {
   get hash() { return hash; },
   set hash(written) {
     hash = written;
-    const tell = act => act({newURL: address.href});
-    setTimeout(() => (outer.window.listeners.get('hashchange') || []).forEach(tell));
+    const newURL = address.href;
+    setTimeout(() => (outer.window.listeners.get('hashchange') || []).forEach(act => act({newURL})));
   },
 };
 Object.assign(globalThis, {
