@@ -259,6 +259,69 @@ def searches(browser, ground):
     return run.ended()
 
 
+def found_is_seen(browser, ground):
+    """What is chosen in a list is drawn with all that is beside it, in focus, and else the picture goes there to read it."""
+    run = Run(browser, ground, "large", "#line=9")
+    page = run.page
+    far = page.do("breezesim.net.components.length - 9")
+    own = f"breezesim.net.components[{far}].channels.slice(1)"
+    drawn = "channel => document.querySelector(`.channel[data-channel=\"${channel}\"]`)"
+    run.found("it isn't there", f"document.querySelectorAll('[data-component=\"{far}\"]').length", 0)
+    page.key("/")
+    page.type(f"c{far}")
+    page.key("ArrowDown", "Enter", "Escape")
+    run.found("what is selected", SELECTED, f"c{far}")
+    run.found("it is drawn", f"document.querySelectorAll('.component.selected[data-component=\"{far}\"]').length", 1)
+    run.found("with its channels", f"{own}.every({drawn})", True)
+    run.found("and who moves", "document.querySelectorAll('.component.moved').length", 1)
+    page.open(ground.path("large"), "#line=9&focus=0")
+    channel = page.do(f"{own}[0]")
+    near = f"""(({{x, y, width, height}}, node) => node.x > x && node.x < x + width && node.y > y && node.y < y + height
+        && width < 2 * document.getElementById('svg').getBoundingClientRect().width)(breezesim.view.box,
+        breezesim.view.picture.nodes.find(it => it.component && it.component.number === {far}))"""
+    page.key("/")
+    page.type(f"c{far}")
+    page.key("ArrowDown", "Enter", "Escape")
+    run.found("it is near", near, True)
+    page.do("document.getElementById('search').value = ''")
+    page.key("f", "/")
+    page.type(f"k{channel}")
+    page.key("ArrowDown", "Enter", "Escape")
+    run.found("a channel", SELECTED, f"k{channel}")
+    run.found("it is near", "breezesim.view.box.width < 2 * document.getElementById('svg').getBoundingClientRect().width", True)
+    return run.ended()
+
+
+def names_are_chosen(browser, ground):
+    """Components and channels are found in each way that they are told; arrows choose a name, and Enter one where no line is found."""
+    run = Run(browser, ground, "pipeline", "#line=60")
+    page = run.page
+    chosen = "[...document.querySelectorAll('#found .chosen')].map(it => it.dataset.select)"
+    for text in ("Fetch 5", "fetch 5", "5 Fetch", "c5", "Fetch5"):
+        page.do("document.getElementById('search').value = ''")
+        page.key("/")
+        page.type(text)
+        run.found(f"the search for {text}", "document.querySelector('#found .name')?.dataset.select", "c5")
+        page.key("Escape")
+    page.do("document.getElementById('search').value = ''")
+    page.key("/")
+    page.type("fetch")
+    names = page.until("[...document.querySelectorAll('#found .name')].map(it => it.dataset.select)", None, 0.3)
+    for key, wanted in (("ArrowDown", names[:1]), ("ArrowDown", names[1:2]), ("ArrowUp", names[:1]), ("ArrowUp", [])):
+        page.key(key)
+        run.found(key, chosen, wanted)
+    page.key("Enter")
+    run.found("no line is found, so the first", SELECTED, names[0])
+    page.key("ArrowDown", "ArrowDown", "Enter", "Escape", "Escape")
+    run.found("nothing selected", SELECTED, None)
+    page.do("document.getElementById('search').value = ''")
+    page.key("/")
+    page.type("fire 5")
+    page.key("Enter")
+    run.found("lines come before names", f"{SELECTED} === null && {LINE} !== 60", True)
+    return run.ended()
+
+
 def callers(browser, ground):
     """Who called a component, up to the host; and at the end who waits for whom, where the page is told."""
     run = Run(browser, ground, "countdown", "#line=44&at=c1")
@@ -742,6 +805,8 @@ PLAYS = [
     drag_and_wheel,
     links,
     searches,
+    found_is_seen,
+    names_are_chosen,
     callers,
     pages_of_sessions,
     marks_of_the_stuck,

@@ -30,12 +30,22 @@ function go(line) {
 const step = lines => go(view.line + lines);
 const goTo = line => { if (line) go(line); };
 
-// Selects a component, a channel, or nothing.
+// Selects a component, a channel, or nothing. In focus a component is drawn with all that is beside it.
 function select(selected) {
   const before = view.selected;
   view.selected = selected;
+  if (view.isFocused && selected && !isDrawnWhole(selected)) {
+    draw();
+    fit();
+  }
   markSelection(before);
   show();
+}
+
+// Selects what was chosen in a list, and moves the picture there, near enough to read it.
+function goToSelected(selected) {
+  select(selected);
+  bringIntoSight(nodeOfSelected(selected), true);
 }
 
 // Draws anew, and shows all of it.
@@ -193,15 +203,23 @@ const KEYS = {
 function typed(event) {
   const field = event.target;
   if (event.key === 'Escape') field.blur();
+  if (field.id === 'search') return typedInSearch(event);
   if (event.key !== 'Enter') return;
   event.preventDefault();
-  if (field.id === 'search') {
-    if (search.text !== field.value) find(field.value);
-    goToHit(event.shiftKey ? -1 : 1);
-  } else {
-    go(Number(field.value));
-    field.blur();
-  }
+  go(Number(field.value));
+  field.blur();
+}
+
+// Arrows choose a name that was found, and Enter goes there; else to the next line found, or to the first name where there is none.
+function typedInSearch(event) {
+  const by = {Enter: 0, ArrowDown: 1, ArrowUp: -1}[event.key], text = $('search').value;
+  if (by === undefined) return;
+  event.preventDefault();
+  if (search.text !== text) find(text);
+  if (by) return chooseName(by);
+  const {hits, chosen} = search, name = $('found').children[hits && hits.length === 0 ? Math.max(0, chosen) : chosen];
+  if (name) goToSelected(name.dataset.select);
+  else goToHit(event.shiftKey ? -1 : 1);
 }
 
 function pressed(event) {
@@ -219,7 +237,7 @@ function clicked(event) {
   if (!target) return false;
   const {line, select: selected, component, channel, copy} = target.dataset;
   if (line) go(Number(line));
-  else if (selected) select(selected);
+  else if (selected) goToSelected(selected);
   else if (component) select(`c${component}`);
   else if (channel) select(`k${channel}`);
   else fold(copy);

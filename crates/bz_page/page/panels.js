@@ -219,12 +219,12 @@ function showStrip() {
 // ---- search ---------------------------------------------------------------------------------------------------------
 
 const MOST_HITS = 200000, MOST_NAMES = 12;
-const search = {text: '', hits: null, timer: 0};
+const search = {text: '', hits: null, chosen: -1, timer: 0};
 const countedHits = count => (count === MOST_HITS ? `${count}+ lines` : counted(count, 'line'));
 
 // Finds the lines that hold a text, and components, channels and ports by what they are called.
 function find(text) {
-  Object.assign(search, {text, hits: text === '' ? null : linesWith(text)});
+  Object.assign(search, {text, hits: text === '' ? null : linesWith(text), chosen: -1});
   $('count').textContent = text === '' ? '' : countedHits(search.hits.length);
   $('found').replaceChildren(...(text === '' ? [] : namesWith(text.toLowerCase()).map(([select, name]) => {
     const row = html('div', 'name', name);
@@ -233,6 +233,13 @@ function find(text) {
   })));
   showStrip();
   writeLink();
+}
+
+// Chooses the next or the previous of the names that were found; before the first one none is chosen.
+function chooseName(by) {
+  const names = $('found').children;
+  search.chosen = Math.max(-1, Math.min(names.length - 1, search.chosen + by));
+  [...names].forEach((row, i) => row.classList.toggle('chosen', i === search.chosen));
 }
 
 // The lines that hold a text, rising.
@@ -247,11 +254,14 @@ function linesWith(text) {
   return hits;
 }
 
-// What is called so: by number, kind, name, copy, or place in the source.
+// What is called so: by number, kind, name, copy, or place in the source. (`c12` and `fetch 12` are component 12, whose title begins
+// with its number.)
 function namesWith(text) {
   const names = [], holds = words => words.some(word => word && word.toLowerCase().includes(text));
   const number = /^(?:ch|channel|k) ?(\d+)$/.exec(text);
   if (number && net.channels[Number(number[1])]) names.push([`k${number[1]}`, channelName(net.channels[Number(number[1])])]);
+  const [, kind, of] = /^([a-z]\w*?) ?(\d+)$/.exec(text) || [], named = net.components[Number(of)];
+  if (named && (kind === 'c' || named.kind.toLowerCase() === kind)) names.push([`c${of}`, named.title]);
   for (const port of net.ports) if (port && names.length < MOST_NAMES && holds([port.name]))
     names.push([`k${port.number}`, `port ${port.name}`]);
   const most = names.length + MOST_NAMES;

@@ -76,7 +76,9 @@ function showNear(line) {
       const channel = at > 1 && at <= trace.count && net.channels[trace.channel[at]];
       if (channel) for (const end of [channel.active, channel.passive]) keepEnd(end, at);
     }
-    if (distance === 0 && view.hasRing) [...net.stuck.ring.keys()].forEach(keep);
+    if (distance > 0) continue;
+    if (view.hasRing) [...net.stuck.ring.keys()].forEach(keep);
+    endsBeside(view.selected).forEach(keep);
   }
   for (const end of added.endsInFocus()) keepEnd(end, line);
   view.focusLine = line;
@@ -85,6 +87,21 @@ function showNear(line) {
   const numbers = new Set(components.flatMap(component => component.channels.slice(1)));
   const channels = [...numbers].sort((a, b) => a - b).map(number => net.channels[number]);
   showOnly(components, channels.filter(it => it && isKept(it.active) && isKept(it.passive)));
+}
+
+// The components at the ends of a channel, or a component and those at the other ends of its channels.
+function endsBeside(selected) {
+  if (!selected) return [];
+  const number = numberOf(selected), isChannel = selected[0] === 'k';
+  const beside = (isChannel ? [number] : net.components[number].channels.slice(1)).map(one => net.channels[one]);
+  const ends = beside.flatMap(({active, passive}) => [active, passive]).filter(end => end && end !== 'host');
+  return [...(isChannel ? [] : [number]), ...ends.map(end => end.component)];
+}
+
+// Whether what is selected is drawn, and a component with all of its channels that have two ends.
+function isDrawnWhole(selected) {
+  const channels = selected[0] === 'k' ? [numberOf(selected)] : net.components[numberOf(selected)].channels.slice(1);
+  return channels.every(number => drawn.channels.has(number) || !net.channels[number].active || !net.channels[number].passive);
 }
 
 // The frame of a copy that is unfolded.
@@ -374,10 +391,25 @@ function zoom(factor, point) {
 function follow() {
   const mover = moverAt(view.line);
   if (!mover) return;
-  const path = `${net.components[mover].path}/`, {box} = view;
-  const isMover = node => (node.component ? node.component.number === mover : node.box && path.startsWith(`${node.box}/`));
-  const node = view.picture.nodes.find(isMover);
+  bringIntoSight(nodeOfComponent(mover), false);
+}
+
+// What is drawn of a component: itself, or the folded copy that hides it. And of what is selected, if anything is.
+function nodeOfComponent(number) {
+  const path = `${net.components[number].path}/`;
+  return view.picture.nodes.find(({component, box}) => (component ? component.number === number : box && path.startsWith(`${box}/`)));
+}
+function nodeOfSelected(selected) {
+  const number = numberOf(selected);
+  if (selected[0] === 'c') return nodeOfComponent(number);
+  const [end] = endsBeside(selected);
+  return view.picture.nodes.find(({port}) => port && port.number === number) || end && nodeOfComponent(end);
+}
+
+// Moves the picture so that a node is in sight, and as near as it has to be read where that is wanted.
+function bringIntoSight(node, isToBeRead) {
+  const {box} = view, isFar = isToBeRead && sizes.svg.width / box.width < FAR_SCALE, {width, height} = isFar ? sizes.svg : box;
   const isIn = (at, from, size) => at > from + 0.08 * size && at < from + 0.92 * size;
-  if (!node || isIn(node.x, box.x, box.width) && isIn(node.y, box.y, box.height)) return;
-  setBox({...box, x: node.x - box.width / 2, y: node.y - box.height / 2});
+  if (!node || !isFar && isIn(node.x, box.x, box.width) && isIn(node.y, box.y, box.height)) return;
+  setBox({x: node.x - width / 2, y: node.y - height / 2, width, height});
 }

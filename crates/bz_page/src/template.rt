@@ -6,7 +6,7 @@ pub(crate) const HEAD: &str = r##"<!doctype html>
 <head>
 <meta charset="utf-8">
 <meta name="viewport" content="width=device-width">
-<meta http-equiv="Content-Security-Policy" content="default-src 'none'; style-src 'unsafe-inline'; script-src 'sha256-WfDtkYUNmAYA+LjaC3N9fyGzM4ZCwrC0lnwiTzAAzD0='">
+<meta http-equiv="Content-Security-Policy" content="default-src 'none'; style-src 'unsafe-inline'; script-src 'sha256-k+9Vnn/XpEGZxNKVclRldPC2kHSHKepikebF5aND7/g='">
 <title>breezesim</title>
 <style>
 /* Colours: light, and dark where the reader's system or the reader says so. Phases are told by dashes and marks too. */
@@ -68,7 +68,8 @@ button.on { border-color: var(--selected); color: var(--selected); }
 }
 .find:focus-within #found:not(:empty) { display: block; }
 #found .name { padding: 3px 8px; cursor: pointer; }
-#found .name:hover { background: var(--busy); }
+#found .name:hover, #found .chosen { background: var(--busy); }
+#found .chosen { outline: 2px solid var(--selected); outline-offset: -2px; }
 
 /* The journal and the details */
 #svg {
@@ -1543,7 +1544,9 @@ function showNear(line) {
       const channel = at > 1 && at <= trace.count && net.channels[trace.channel[at]];
       if (channel) for (const end of [channel.active, channel.passive]) keepEnd(end, at);
     }
-    if (distance === 0 && view.hasRing) [...net.stuck.ring.keys()].forEach(keep);
+    if (distance > 0) continue;
+    if (view.hasRing) [...net.stuck.ring.keys()].forEach(keep);
+    endsBeside(view.selected).forEach(keep);
   }
   for (const end of added.endsInFocus()) keepEnd(end, line);
   view.focusLine = line;
@@ -1552,6 +1555,21 @@ function showNear(line) {
   const numbers = new Set(components.flatMap(component => component.channels.slice(1)));
   const channels = [...numbers].sort((a, b) => a - b).map(number => net.channels[number]);
   showOnly(components, channels.filter(it => it && isKept(it.active) && isKept(it.passive)));
+}
+
+// The components at the ends of a channel, or a component and those at the other ends of its channels.
+function endsBeside(selected) {
+  if (!selected) return [];
+  const number = numberOf(selected), isChannel = selected[0] === 'k';
+  const beside = (isChannel ? [number] : net.components[number].channels.slice(1)).map(one => net.channels[one]);
+  const ends = beside.flatMap(({active, passive}) => [active, passive]).filter(end => end && end !== 'host');
+  return [...(isChannel ? [] : [number]), ...ends.map(end => end.component)];
+}
+
+// Whether what is selected is drawn, and a component with all of its channels that have two ends.
+function isDrawnWhole(selected) {
+  const channels = selected[0] === 'k' ? [numberOf(selected)] : net.components[numberOf(selected)].channels.slice(1);
+  return channels.every(number => drawn.channels.has(number) || !net.channels[number].active || !net.channels[number].passive);
 }
 
 // The frame of a copy that is unfolded.
@@ -1841,12 +1859,27 @@ function zoom(factor, point) {
 function follow() {
   const mover = moverAt(view.line);
   if (!mover) return;
-  const path = `${net.components[mover].path}/`, {box} = view;
-  const isMover = node => (node.component ? node.component.number === mover : node.box && path.startsWith(`${node.box}/`));
-  const node = view.picture.nodes.find(isMover);
+  bringIntoSight(nodeOfComponent(mover), false);
+}
+
+// What is drawn of a component: itself, or the folded copy that hides it. And of what is selected, if anything is.
+function nodeOfComponent(number) {
+  const path = `${net.components[number].path}/`;
+  return view.picture.nodes.find(({component, box}) => (component ? component.number === number : box && path.startsWith(`${box}/`)));
+}
+function nodeOfSelected(selected) {
+  const number = numberOf(selected);
+  if (selected[0] === 'c') return nodeOfComponent(number);
+  const [end] = endsBeside(selected);
+  return view.picture.nodes.find(({port}) => port && port.number === number) || end && nodeOfComponent(end);
+}
+
+// Moves the picture so that a node is in sight, and as near as it has to be read where that is wanted.
+function bringIntoSight(node, isToBeRead) {
+  const {box} = view, isFar = isToBeRead && sizes.svg.width / box.width < FAR_SCALE, {width, height} = isFar ? sizes.svg : box;
   const isIn = (at, from, size) => at > from + 0.08 * size && at < from + 0.92 * size;
-  if (!node || isIn(node.x, box.x, box.width) && isIn(node.y, box.y, box.height)) return;
-  setBox({...box, x: node.x - box.width / 2, y: node.y - box.height / 2});
+  if (!node || !isFar && isIn(node.x, box.x, box.width) && isIn(node.y, box.y, box.height)) return;
+  setBox({x: node.x - width / 2, y: node.y - height / 2, width, height});
 }
 // ---- the journal: of the lines of the trace those around the current one --------------------------------------------
 
@@ -2069,12 +2102,12 @@ function showStrip() {
 // ---- search ---------------------------------------------------------------------------------------------------------
 
 const MOST_HITS = 200000, MOST_NAMES = 12;
-const search = {text: '', hits: null, timer: 0};
+const search = {text: '', hits: null, chosen: -1, timer: 0};
 const countedHits = count => (count === MOST_HITS ? `${count}+ lines` : counted(count, 'line'));
 
 // Finds the lines that hold a text, and components, channels and ports by what they are called.
 function find(text) {
-  Object.assign(search, {text, hits: text === '' ? null : linesWith(text)});
+  Object.assign(search, {text, hits: text === '' ? null : linesWith(text), chosen: -1});
   $('count').textContent = text === '' ? '' : countedHits(search.hits.length);
   $('found').replaceChildren(...(text === '' ? [] : namesWith(text.toLowerCase()).map(([select, name]) => {
     const row = html('div', 'name', name);
@@ -2083,6 +2116,13 @@ function find(text) {
   })));
   showStrip();
   writeLink();
+}
+
+// Chooses the next or the previous of the names that were found; before the first one none is chosen.
+function chooseName(by) {
+  const names = $('found').children;
+  search.chosen = Math.max(-1, Math.min(names.length - 1, search.chosen + by));
+  [...names].forEach((row, i) => row.classList.toggle('chosen', i === search.chosen));
 }
 
 // The lines that hold a text, rising.
@@ -2097,11 +2137,14 @@ function linesWith(text) {
   return hits;
 }
 
-// What is called so: by number, kind, name, copy, or place in the source.
+// What is called so: by number, kind, name, copy, or place in the source. (`c12` and `fetch 12` are component 12, whose title begins
+// with its number.)
 function namesWith(text) {
   const names = [], holds = words => words.some(word => word && word.toLowerCase().includes(text));
   const number = /^(?:ch|channel|k) ?(\d+)$/.exec(text);
   if (number && net.channels[Number(number[1])]) names.push([`k${number[1]}`, channelName(net.channels[Number(number[1])])]);
+  const [, kind, of] = /^([a-z]\w*?) ?(\d+)$/.exec(text) || [], named = net.components[Number(of)];
+  if (named && (kind === 'c' || named.kind.toLowerCase() === kind)) names.push([`c${of}`, named.title]);
   for (const port of net.ports) if (port && names.length < MOST_NAMES && holds([port.name]))
     names.push([`k${port.number}`, `port ${port.name}`]);
   const most = names.length + MOST_NAMES;
@@ -2288,12 +2331,22 @@ function go(line) {
 const step = lines => go(view.line + lines);
 const goTo = line => { if (line) go(line); };
 
-// Selects a component, a channel, or nothing.
+// Selects a component, a channel, or nothing. In focus a component is drawn with all that is beside it.
 function select(selected) {
   const before = view.selected;
   view.selected = selected;
+  if (view.isFocused && selected && !isDrawnWhole(selected)) {
+    draw();
+    fit();
+  }
   markSelection(before);
   show();
+}
+
+// Selects what was chosen in a list, and moves the picture there, near enough to read it.
+function goToSelected(selected) {
+  select(selected);
+  bringIntoSight(nodeOfSelected(selected), true);
 }
 
 // Draws anew, and shows all of it.
@@ -2451,15 +2504,23 @@ const KEYS = {
 function typed(event) {
   const field = event.target;
   if (event.key === 'Escape') field.blur();
+  if (field.id === 'search') return typedInSearch(event);
   if (event.key !== 'Enter') return;
   event.preventDefault();
-  if (field.id === 'search') {
-    if (search.text !== field.value) find(field.value);
-    goToHit(event.shiftKey ? -1 : 1);
-  } else {
-    go(Number(field.value));
-    field.blur();
-  }
+  go(Number(field.value));
+  field.blur();
+}
+
+// Arrows choose a name that was found, and Enter goes there; else to the next line found, or to the first name where there is none.
+function typedInSearch(event) {
+  const by = {Enter: 0, ArrowDown: 1, ArrowUp: -1}[event.key], text = $('search').value;
+  if (by === undefined) return;
+  event.preventDefault();
+  if (search.text !== text) find(text);
+  if (by) return chooseName(by);
+  const {hits, chosen} = search, name = $('found').children[hits && hits.length === 0 ? Math.max(0, chosen) : chosen];
+  if (name) goToSelected(name.dataset.select);
+  else goToHit(event.shiftKey ? -1 : 1);
 }
 
 function pressed(event) {
@@ -2477,7 +2538,7 @@ function clicked(event) {
   if (!target) return false;
   const {line, select: selected, component, channel, copy} = target.dataset;
   if (line) go(Number(line));
-  else if (selected) select(selected);
+  else if (selected) goToSelected(selected);
   else if (component) select(`c${component}`);
   else if (channel) select(`k${channel}`);
   else fold(copy);
