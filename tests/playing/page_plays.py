@@ -293,7 +293,7 @@ def found_is_seen(browser, ground):
 
 
 def names_are_chosen(browser, ground):
-    """Components and channels are found in each way that they are told; arrows choose a name, and Enter one where no line is found."""
+    """Components are found in each way that they are told; arrows choose a name, and Enter takes one where no line is found."""
     run = Run(browser, ground, "pipeline", "#line=60")
     page = run.page
     chosen = "[...document.querySelectorAll('#found .chosen')].map(it => it.dataset.select)"
