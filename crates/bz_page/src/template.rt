@@ -325,7 +325,8 @@ autocomplete="off" spellcheck="false">
 <tr><td><kbd>space</kbd> <kbd>&lt;</kbd> <kbd>&gt;</kbd></td><td>play or pause, slower, faster</td></tr>
 <tr><td><kbd>]</kbd> <kbd>[</kbd></td><td>next, previous event of what is selected; with nothing selected of the host</td></tr>
 <tr><td><kbd>r</kbd> <kbd>R</kbd> <kbd>x</kbd></td><td>next rest, previous rest, next clash</td></tr>
-<tr><td><kbd>/</kbd> <kbd>Enter</kbd> <kbd>n</kbd> <kbd>N</kbd></td><td>search, next, next, previous line found</td></tr>
+<tr><td><kbd>/</kbd> <kbd>Enter</kbd> <kbd>n</kbd> <kbd>N</kbd> <kbd>↓</kbd> <kbd>↑</kbd></td>
+<td>search, next, next, previous line found; choose a name found</td></tr>
 <tr><td><kbd>g</kbd></td><td>go to a line by its number</td></tr>
 <tr><td><kbd>+</kbd> <kbd>-</kbd> <kbd>f</kbd> <kbd>w</kbd></td><td>nearer, farther, whole net, follow what moves</td></tr>
 <tr><td><kbd>o</kbd> <kbd>s</kbd></td><td>only what moves around this line; channels to hubs as stubs</td></tr>
@@ -334,7 +335,7 @@ autocomplete="off" spellcheck="false">
 <p><b>Signs.</b> A circle is a component. A channel goes from a filled dot (the end that asks) to an open one (the end that
 answers). Its arrow says where a value goes.<br>
 Grey: idle. Orange, dashes, ▶: asked. Blue, ■: taken. Green, dots, ◀: replied. Blue circle: holds a request that it took.
-Yellow ring: what moved in this line. Red: requests met here. A click on a copy's name folds it, and on a box unfolds it.</p>
+Yellow ring: what moved in this line. Red: requests met here. Red dashes: never moves again; thick red: waits in a ring. A click on a copy's name folds it, and on a box unfolds it.</p>
 <button id="close">close</button>
 </div>
 </div>
