@@ -335,7 +335,8 @@ autocomplete="off" spellcheck="false">
 <p><b>Signs.</b> A circle is a component. A channel goes from a filled dot (the end that asks) to an open one (the end that
 answers). Its arrow says where a value goes.<br>
 Grey: idle. Orange, dashes, ▶: asked. Blue, ■: taken. Green, dots, ◀: replied. Blue circle: holds a request that it took.
-Yellow ring: what moved in this line. Red: requests met here. Red dashes: never moves again; thick red: waits in a ring. A click on a copy's name folds it, and on a box unfolds it.</p>
+Yellow ring: what moved in this line. Red: requests met here. Red dashes: never moves again; thick red: waits in a ring. A
+click on a copy's name folds it, and on a box unfolds it.</p>
 <button id="close">close</button>
 </div>
 </div>
