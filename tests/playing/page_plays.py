@@ -33,7 +33,14 @@ class Run:
     """A page that is played on, with what was wrong so far."""
 
     def __init__(self, browser, ground, name, link="", **how):
-        self.page, self.faults = browser.page(**how).open(ground.path(name), link), []
+        self.browser, self.ground, self.how, self.faults = browser, ground, how, []
+        self.page = browser.page(**how).open(ground.path(name), link)
+
+    def anew(self, name, link=""):
+        """A page in place of the one that is open, also where it is of the same file."""
+        self.ended()
+        self.page = self.browser.page(**self.how).open(self.ground.path(name), link)
+        return self.page
 
     def found(self, what, script, wanted):
         """A script has to have this value; it may need some time to get it."""
@@ -209,7 +216,7 @@ def links(browser, ground):
     run.found("the address follows", "location.hash", "#" + "&".join(it for it in members if it != "stubs=1"))
     page.key("s")
     run.found("stubs", "location.hash", "#" + "&".join(members))
-    page.open(ground.path("arbiter_tree"), "#" + "&".join(members))
+    page = run.anew("arbiter_tree", "#" + "&".join(members))
     seen = f"[{LINE}, {SELECTED}, breezesim.view.isCharted, breezesim.view.isStubbed, document.documentElement.dataset.theme]"
     run.found("all of it, anew", seen, [31, "k7", True, True, "dark"])
     page.do("location.hash = '#line=30'")
@@ -274,7 +281,7 @@ def found_is_seen(browser, ground):
     run.found("it is drawn", f"document.querySelectorAll('.component.selected[data-component=\"{far}\"]').length", 1)
     run.found("with its channels", f"{own}.every({drawn})", True)
     run.found("and who moves", "document.querySelectorAll('.component.moved').length", 1)
-    page.open(ground.path("large"), "#line=9&focus=0")
+    page = run.anew("large", "#line=9&focus=0")
     channel = page.do(f"{own}[0]")
     near = f"""(({{x, y, width, height}}, node) => node.x > x && node.x < x + width && node.y > y && node.y < y + height
         && width < 2 * document.getElementById('svg').getBoundingClientRect().width)(breezesim.view.box,
@@ -426,10 +433,10 @@ def marks_of_the_stuck(browser, ground):
     for line in (12, 20, 11, 18, 1, 17):
         scrub(run.page, line)
         run.found(f"by the scrubber, line {line}", STUCK_SEEN, wanted.at(line))
-    run.page.open(ground.path("stuck_marks"), "#line=13")
+    run.anew("stuck_marks", "#line=13")
     run.found("by a link", STUCK_SEEN, wanted.at(13))
     put_rows(ground, "stuck_marks", "late", [])
-    run.page.open(ground.path("stuck_marks"), "#line=20")
+    run.anew("stuck_marks", "#line=20")
     run.found("a page that says nothing", STUCK_SEEN, [[], [], 0])
     return run.ended()
 
@@ -479,7 +486,7 @@ def rings_that_close_later(browser, ground):
     run.found("from it on", f"{RING_SEEN}.map(it => it[0])", ["wait cycle", "wait cycle"])
     run.found("its marks then", STUCK_SEEN, wanted.at(18))
     put_rows(ground, "stuck_later", "late", ["stuck 12 1 3"])
-    run.page.open(ground.path("stuck_later"), "#line=12")
+    run.anew("stuck_later", "#line=12")
     run.found("no ring", STUCK_TOLD, ["Since line 12, 1 component can never move again",
                                       "Whatever the host does. At the end it is 1 of 8."])
     return run.ended()
