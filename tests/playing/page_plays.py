@@ -335,11 +335,8 @@ def callers(browser, ground):
     due = "called by BinaryFuncConstR 9 ‹ Fetch 8 ‹ Sequence 7 ‹ While 5 ‹ Sequence 3 ‹ the host at activate"
     run.page.do("location.hash = '#line=43&at=c1'")
     run.found("callers", "document.querySelector('.callers').textContent", due)
-    listed, rows, trace = ground.texts("cross")
-    rows = b"".join(line for line in rows.splitlines(True) if not line.startswith(b"end "))
-    rows += b"end wait Sequence 2 for Passivator 4 to reply on 4\nend cycle: Sequence 2 -> Passivator 4\n"
-    ground.put("ended", pages.page_text(ground.template, [listed, rows, trace]))
-    run.page.open(ground.path("ended"), "#line=12")
+    lines = ["end wait Sequence 2 for Passivator 4 to reply on 4", "end cycle: Sequence 2 -> Passivator 4"]
+    run.page.open(put_rows(ground, "called", "cross", lines), "#line=12")
     told = "[...document.querySelectorAll('#details .wait')].map(it => [it.className, it.dataset.select || ''])"
     run.found("the end", told, [["wait", "c2"], ["wait cycle", ""]])
     run.page.key("Home")
@@ -352,7 +349,8 @@ def pages_of_sessions(browser, ground):
     lines = f"offer:go\nrun\npage {ground.path('stuck')}\n".encode()
     ground.program.run(["explore", "--part", "cross", "--netlist", pages.paths_of("cross")[0]], lines)
     run = Run(browser, ground, "stuck", "#line=12")
-    told = "[...document.querySelectorAll('#details .wait')].map(it => [it.className, it.dataset.select || '', it.textContent])"
+    rows = "[...document.querySelectorAll('#details .wait')].filter(it => !it.classList.contains('ring'))"
+    told = f"{rows}.map(it => [it.className, it.dataset.select || '', it.textContent])"
     wanted = [
         ["wait cycle", "", "cycle: Sequence 2 -> Passivator 4 -> Sequence 3 -> Passivator 5 -> Sequence 2"],
         ["wait", "c1", "wait Concur 1 for Sequence 2 to reply on 2"],
@@ -384,7 +382,7 @@ STUCK_SEEN = """(() => {
   const numbers = style => [...document.querySelectorAll('.component' + style)].map(it => Number(it.dataset.component)).sort();
   return [numbers('.stuck'), numbers('.in-ring'), document.querySelectorAll('.title.stuck').length];
 })()"""
-RING_SEEN = "[...document.querySelectorAll('#details .wait')].map(it => [it.className, it.dataset.select, it.textContent])"
+RING_SEEN = "[...document.querySelectorAll('#details .ring')].map(it => [it.className, it.dataset.select, it.textContent])"
 STUCK_TOLD = "['.title', '.under'].map(it => document.querySelector(`#details ${it}`).textContent)"
 
 
@@ -445,7 +443,7 @@ def panel_of_the_stuck(browser, ground):
     """From the first line on it is told what is stuck: how many there and at the end, and the ring, a click on each of it."""
     put_rows(ground, "stuck_panel", "late", LATE_STUCK)
     run = Run(browser, ground, "stuck_panel", "#line=12")
-    ring = [["wait cycle", f"c{number}", " ".join(text.split())] for number, text in LATE_RING.items()]
+    ring = [["wait ring cycle", f"c{number}", " ".join(text.split())] for number, text in LATE_RING.items()]
     told = [
         "Since line 12, 4 components can never move again",
         "Whatever the host does. At the end it is 8 of 8, and 4 of them wait for one another.",
@@ -479,11 +477,11 @@ def rings_that_close_later(browser, ground):
     rows = ["stuck 12 4 1 2 3 4 5 6 7 8", f"ring 6 {of_6}", "ring 2 wait Sequence 2 for me"]
     put_rows(ground, "stuck_later", "late", rows)
     run, wanted = Run(browser, ground, "stuck_later", "#line=17"), Stuck(rows, ground.texts("late")[2].decode())
-    late = ["wait", "c6", f"{of_6} (from line 18 on)"]
-    run.found("before its last move", RING_SEEN, [late, ["wait cycle", "c2", "wait Sequence 2 for me"]])
+    late = ["wait ring", "c6", f"{of_6} (from line 18 on)"]
+    run.found("before its last move", RING_SEEN, [late, ["wait ring cycle", "c2", "wait Sequence 2 for me"]])
     run.found("its marks", STUCK_SEEN, wanted.at(17))
     run.page.key("ArrowRight")
-    run.found("from it on", f"{RING_SEEN}.map(it => it[0])", ["wait cycle", "wait cycle"])
+    run.found("from it on", f"{RING_SEEN}.map(it => it[0])", ["wait ring cycle", "wait ring cycle"])
     run.found("its marks then", STUCK_SEEN, wanted.at(18))
     put_rows(ground, "stuck_later", "late", ["stuck 12 1 3"])
     run.anew("stuck_later", "#line=12")

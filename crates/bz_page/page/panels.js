@@ -62,7 +62,8 @@ function stuckDetails() {
   const told = `Whatever the host does. ${now} it is ${members.size} of ${all.components.length}${round}.`;
   return [title, html('div', 'under', told), ...[...ring].map(([number, text]) => {
     const isNow = isStill(net, trace, number, view.line);
-    const row = html('div', isNow ? 'wait cycle' : 'wait', isNow ? text : `${text} (from line ${lastMoveOf(trace, number)} on)`);
+    const row = html('div', 'wait ring', isNow ? text : `${text} (from line ${lastMoveOf(trace, number)} on)`);
+    row.classList.toggle('cycle', isNow);
     row.dataset.select = `c${number}`;
     return row;
   })];

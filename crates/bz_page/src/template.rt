@@ -6,7 +6,7 @@ pub(crate) const HEAD: &str = r##"<!doctype html>
 <head>
 <meta charset="utf-8">
 <meta name="viewport" content="width=device-width">
-<meta http-equiv="Content-Security-Policy" content="default-src 'none'; style-src 'unsafe-inline'; script-src 'sha256-k+9Vnn/XpEGZxNKVclRldPC2kHSHKepikebF5aND7/g='">
+<meta http-equiv="Content-Security-Policy" content="default-src 'none'; style-src 'unsafe-inline'; script-src 'sha256-MBeMe2tJKVrqWYGwoU69URjdJQbBUb3i9yV8nvW1lFU='">
 <title>breezesim</title>
 <style>
 /* Colours: light, and dark where the reader's system or the reader says so. Phases are told by dashes and marks too. */
@@ -1947,7 +1947,8 @@ function stuckDetails() {
   const told = `Whatever the host does. ${now} it is ${members.size} of ${all.components.length}${round}.`;
   return [title, html('div', 'under', told), ...[...ring].map(([number, text]) => {
     const isNow = isStill(net, trace, number, view.line);
-    const row = html('div', isNow ? 'wait cycle' : 'wait', isNow ? text : `${text} (from line ${lastMoveOf(trace, number)} on)`);
+    const row = html('div', 'wait ring', isNow ? text : `${text} (from line ${lastMoveOf(trace, number)} on)`);
+    row.classList.toggle('cycle', isNow);
     row.dataset.select = `c${number}`;
     return row;
   })];
