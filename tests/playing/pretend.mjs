@@ -196,7 +196,7 @@ const address = {
   set hash(written) {
     hash = written;
     const newURL = address.href;
-    setTimeout(() => (outer.window.listeners.get('hashchange') || []).forEach(act => act({newURL})));
+    setImmediate(() => (outer.window.listeners.get('hashchange') || []).forEach(act => act({newURL})));
   },
 };
 Object.assign(globalThis, {
@@ -218,7 +218,12 @@ for (const type of ['uncaughtException', 'unhandledRejection']) process.on(type,
 // ---- what is asked -------------------------------------------------------------------------------------------------------
 
 const acts = {
-  do: ({script}) => (0, eval)(script),
+  // (what is written to the address is followed before anything else is asked)
+  async do({script}) {
+    const value = await (0, eval)(script);
+    await new Promise(setImmediate);
+    return value;
+  },
   click({x}) {
     const element = points[Math.floor(x / 10) - 41];
     if (!element || !root.contains(element) || !isShown(element)) throw new Error('nothing is there to be clicked');
