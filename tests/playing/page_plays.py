@@ -504,6 +504,19 @@ def rings_in_focus(browser, ground):
     return run.ended()
 
 
+def rings_in_folded_copies(browser, ground):
+    """A folded copy is marked where a member of the ring is in it, from that member's last move on."""
+    put_rows(ground, "stuck_box", "arbiter_tree", ["stuck 20 2 1 5", "ring 1 it waits", "ring 5 it waits"])
+    moves = [line.split() for line in ground.texts("arbiter_tree")[2].decode().splitlines()]
+    last = max(n for n, words in enumerate(moves, 1) if words[1:3] == ["fire", "1"])
+    run = Run(browser, ground, "stuck_box", "#line=66&fold=1,2")
+    boxes = "[...document.querySelectorAll('.folded.in-ring')].map(it => it.dataset.copy)"
+    for line, wanted in ((66, ["1"]), (last - 1, []), (last, ["1"]), (1, [])):
+        scrub(run.page, line)
+        run.found(f"at line {line}", boxes, wanted)
+    return run.ended()
+
+
 def flag_of_strip(browser, ground):
     """Above the scrubber a red flag stands at the first line behind which something is stuck."""
     put_rows(ground, "stuck_flag", "late", LATE_STUCK)
@@ -818,6 +831,7 @@ PLAYS = [
     panel_of_the_stuck,
     rings_that_close_later,
     rings_in_focus,
+    rings_in_folded_copies,
     flag_of_strip,
     names_and_sources,
     large_nets,
