@@ -213,6 +213,11 @@ def stuck(stage):
         stage.found("undone", STUCK_SEEN, [[], [], 0])
         stage.page.key("U")
         stage.settle()
+    stage.page.key("u")
+    stage.settle()
+    for _ in range(10):
+        stage.command("watch:go")
+    stage.found("at line 12, where all can still move", f"[breezesim.view.line, {STUCK_SEEN}]", [12, [[], [], 0]])
 
 
 def clashes(stage):
