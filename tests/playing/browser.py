@@ -15,7 +15,7 @@ FLAGS = """--headless=new --no-sandbox --disable-gpu --hide-scrollbars --remote-
 --disable-background-networking --disable-dev-shm-usage --force-prefers-reduced-motion --font-render-hinting=none""".split()
 # The codes of keys that are no letters, and what they type.
 KEY_CODES = {
-    **{"ArrowRight": 39, "ArrowLeft": 37, "Home": 36, "End": 35, "PageDown": 34, "PageUp": 33},
+    **{"ArrowRight": 39, "ArrowLeft": 37, "Home": 36, "End": 35, "PageDown": 34, "PageUp": 33, "ArrowDown": 40, "ArrowUp": 38},
     **{"Enter": 13, "Escape": 27, " ": 32},
 }
 TYPED = {"Enter": "\r"}

@@ -14,7 +14,7 @@ from .browser import SECONDS, Fault
 # The keys that are no letters, as WebDriver has them.
 KEYS = {
     **{"ArrowRight": "\ue014", "ArrowLeft": "\ue012", "Home": "\ue011", "End": "\ue010", "PageDown": "\ue00f", "PageUp": "\ue00e"},
-    **{"Enter": "\ue007", "Escape": "\ue00c"},
+    **{"ArrowDown": "\ue015", "ArrowUp": "\ue013", "Enter": "\ue007", "Escape": "\ue00c"},
 }
 SHIFT = "\ue008"
 # Nobody is asked anything, nothing moves by itself, and a proxy that isn't there keeps all but files from being fetched.

@@ -7,7 +7,7 @@ import time
 
 from .page_looks import is_same
 from .page_nets import NETS
-from .page_plays import hostile_netlist, shown
+from .page_plays import RING_SEEN, STUCK_SEEN, Stuck, hostile_netlist, shown, stuck_rows
 from .tests import EXAMPLES
 
 READY = "document.body.classList.contains('ready')"
@@ -184,14 +184,40 @@ def deadlock(stage):
     stage.start("cross")
     stage.sign("offer:go")
     stage.page.key("m")
-    red = "[...document.querySelectorAll('.component.stuck')].map(it => Number(it.dataset.component)).sort()"
+    red = "[...document.querySelectorAll('.component.circle')].map(it => Number(it.dataset.component)).sort()"
     stage.found("red components", red, [2, 3, 4, 5])
-    red = "[...document.querySelectorAll('.channel.stuck')].map(it => Number(it.dataset.channel)).sort()"
+    red = "[...document.querySelectorAll('.channel.circle')].map(it => Number(it.dataset.channel)).sort()"
     stage.found("red channels", red, [4, 5, 6, 7])
-    told = "document.querySelector('.wait.cycle').textContent"
-    stage.found("in words", told, "cycle: Sequence 2 -> Passivator 4 -> Sequence 3 -> Passivator 5 -> Sequence 2")
+    told = "[...document.querySelectorAll('.wait.cycle')].map(it => it.textContent).filter(it => it.startsWith('cycle: '))"
+    stage.found("in words", told, ["cycle: Sequence 2 -> Passivator 4 -> Sequence 3 -> Passivator 5 -> Sequence 2"])
     stage.page.key("u")
-    stage.found("none before", "document.querySelectorAll('.stuck').length", 0)
+    stage.found("none before", "document.querySelectorAll('.circle').length", 0)
+
+
+def stuck(stage):
+    """What can never move again is marked and told as a page of the same session has it, and no more when it is undone."""
+    stage.start("cross")
+    stage.sign("offer:go")
+    stage.page.key("m")
+    rows = stuck_rows(stage.explored("cross", ["offer:go", "run"], "page"))
+    wanted = Stuck(rows, stage.explored("cross", ["offer:go", "run"]))
+    for _ in range(2):
+        stage.found("at rest", STUCK_SEEN, wanted.at(12))
+        ring = [" ".join(row.split()[2:]) for row in rows[1:]]
+        stage.found("the ring", f"{RING_SEEN}.map(it => it[2])", ring)
+        for line in (9, 11, 10):
+            stage.scrub(line)
+            stage.found(f"at line {line}", STUCK_SEEN, wanted.at(line))
+        stage.page.key("u")
+        stage.settle()
+        stage.found("undone", STUCK_SEEN, [[], [], 0])
+        stage.page.key("U")
+        stage.settle()
+    stage.page.key("u")
+    stage.settle()
+    for _ in range(10):
+        stage.command("watch:go")
+    stage.found("at line 12, where all can still move", f"[breezesim.view.line, {STUCK_SEEN}]", [12, [[], [], 0]])
 
 
 def clashes(stage):
@@ -377,8 +403,9 @@ def narrow(stage):
 
 
 # The plays, and whether each is played in all ways of calling.
-PLAYS = {both_outcomes: True, values: True, deadlock: True, clashes: True, saved_pages: True, sessions: True, traces: True}
-PLAYS.update({long_runs: True, refusals: False, parts: False, pasted: False, hostile_names: False, stopped: False, narrow: False})
+PLAYS = {both_outcomes: True, values: True, deadlock: True, stuck: True, clashes: True, saved_pages: True, sessions: True}
+PLAYS.update({traces: True, long_runs: True, refusals: False, parts: False, pasted: False, hostile_names: False})
+PLAYS.update({stopped: False, narrow: False})
 # Those that look at the picture.
 DRAWN = {narrow}
 

@@ -125,11 +125,32 @@ class Flat:
         return f"{head}\n (channels\n  {channels})\n (components\n  {components}))\n".encode()
 
 
+LATE = b"""(breeze-part "late"
+ (ports (sync-port "go" passive))
+ (channels (sync) (sync) (sync) (sync) (sync) (sync) (sync) (sync) (sync) (sync) (sync))
+ (components
+  (component "$BrzConcur" (3) (1 (2 3 4)))
+  (component "$BrzSequence" (3) (2 (5 6 7)))
+  (component "$BrzSequence" (2) (3 (8 9)))
+  (component "$BrzPassivator" (2) ((5 9)))
+  (component "$BrzPassivator" (2) ((6 8)))
+  (component "$BrzSequence" (2) (4 (10 11)))
+  (component "$BrzContinue" () (10))
+  (component "$BrzPassivator" (2) ((7 11)))))
+"""
+
+
+def late():
+    """Two Sequences each wait at a Passivator for the other. A third one goes on for some lines, and then waits for the first."""
+    return LATE
+
+
 RUN = "run:100000"
 FEED = ("offer:activate", RUN, "accept:i", "answer:i:7", RUN, "accept:i", "answer:i:8", RUN, "accept:o", "answer:o", RUN)
 NETS = {
     "chain": Net("chain", lambda: chain(8), FEED),
     "long": Net("chain", lambda: chain(50), (*FEED[:4], "run:300"), False),
+    "late": Net("late", late, ("offer:go", RUN)),
     "flat": Net("flat", lambda: Flat(60, 7).text(), ("offer:go", "run:1200")),
     "large": Net("flat", lambda: Flat(400, 3).text(), ("offer:go", "run:1500"), False),
 }

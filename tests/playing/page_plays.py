@@ -33,7 +33,14 @@ class Run:
     """A page that is played on, with what was wrong so far."""
 
     def __init__(self, browser, ground, name, link="", **how):
-        self.page, self.faults = browser.page(**how).open(ground.path(name), link), []
+        self.browser, self.ground, self.how, self.faults = browser, ground, how, []
+        self.page = browser.page(**how).open(ground.path(name), link)
+
+    def anew(self, name, link=""):
+        """A page in place of the one that is open, also where it is of the same file."""
+        self.ended()
+        self.page = self.browser.page(**self.how).open(self.ground.path(name), link)
+        return self.page
 
     def found(self, what, script, wanted):
         """A script has to have this value; it may need some time to get it."""
@@ -147,7 +154,7 @@ def clicks(browser, ground):
     page.key("]")
     run.line("the channel's next line", 26)
     page.click(*page.do(middle('.events button:first-child')))
-    run.line("the button for the last event", 11)
+    run.line("the button for the previous event", 11)
     page.key("Escape")
     run.found("Escape", SELECTED, None)
     page.click(*page.do(middle("#journal .row:nth-child(5)")))
@@ -164,6 +171,19 @@ def clicks(browser, ground):
     for name, wanted in [("first", 1), ("forward", 2), ("last", 66), ("back", 65)]:
         page.click(*page.do(middle(f"#{name}")))
         run.line(f"the button {name}", wanted)
+    return run.ended()
+
+
+def details_are_whole(browser, ground):
+    """Numbers and phases of ports aren't cut, whatever stands beside them, and nothing says `last` for `previous`."""
+    run = Run(browser, ground, "flat", "#line=900")
+    far = run.page.do("breezesim.net.components.findIndex(it => it && it.channels.some(number => number > 99))")
+    run.page.do(f"location.hash = '#line=900&at=c{far}'")
+    run.found("what is selected", SELECTED, f"c{far}")
+    cut = "[...document.querySelectorAll('#details .port .channel')].filter(it => it.scrollWidth > it.clientWidth).length"
+    run.found("numbers of channels that are cut", cut, 0)
+    run.found("the buttons", "[...document.querySelectorAll('.events button')].map(it => it.textContent)",
+              ["◂ previous event", "next event ▸", "×"])
     return run.ended()
 
 
@@ -192,7 +212,18 @@ def links(browser, ground):
     run.found("its copies", "[...document.querySelectorAll('.folded')].map(it => it.dataset.copy).sort()", ["1", "3"])
     run.found("its search", "document.getElementById('count').textContent", "12 lines")
     page.key("ArrowRight")
-    run.found("the address follows", "location.hash", "#line=31&at=k7&view=chart")
+    members = ["line=31", "at=k7", "view=chart", "find=fire%205", "fold=1,3", "stubs=1", "theme=dark"]
+    run.found("the address follows", "location.hash", "#" + "&".join(it for it in members if it != "stubs=1"))
+    page.key("s")
+    run.found("stubs", "location.hash", "#" + "&".join(members))
+    page = run.anew("arbiter_tree", "#" + "&".join(members))
+    seen = f"[{LINE}, {SELECTED}, breezesim.view.isCharted, breezesim.view.isStubbed, document.documentElement.dataset.theme]"
+    run.found("all of it, anew", seen, [31, "k7", True, True, "dark"])
+    page.do("location.hash = '#line=30'")
+    run.found("what a link doesn't say", f"[...{seen}, breezesim.view.folded.size, document.getElementById('search').value]",
+              [30, None, False, None, None, 0, ""])
+    page.key("d")
+    run.found("the theme alone", "location.hash", "#line=30&theme=dark")
     odd = [("#line=99999", [66, None]), ("#line=-4&at=c99", [1, None]), ("#line=x&at=k7", [1, "k7"])]
     for link, wanted in [*odd, ("#at=%3Cb%3E&line=9", [9, None]), ("", [1, None])]:
         page.do(f"location.hash = '{link}'")
@@ -235,17 +266,77 @@ def searches(browser, ground):
     return run.ended()
 
 
+def found_is_seen(browser, ground):
+    """What is chosen in a list is drawn with all that is beside it, in focus, and else the picture goes there to read it."""
+    run = Run(browser, ground, "large", "#line=9")
+    page = run.page
+    far = page.do("breezesim.net.components.length - 9")
+    own = f"breezesim.net.components[{far}].channels.slice(1)"
+    drawn = "channel => document.querySelector(`.channel[data-channel=\"${channel}\"]`)"
+    run.found("it isn't there", f"document.querySelectorAll('[data-component=\"{far}\"]').length", 0)
+    page.key("/")
+    page.type(f"c{far}")
+    page.key("ArrowDown", "Enter", "Escape")
+    run.found("what is selected", SELECTED, f"c{far}")
+    run.found("it is drawn", f"document.querySelectorAll('.component.selected[data-component=\"{far}\"]').length", 1)
+    run.found("with its channels", f"{own}.every({drawn})", True)
+    run.found("and who moves", "document.querySelectorAll('.component.moved').length", 1)
+    page = run.anew("large", "#line=9&focus=0")
+    channel = page.do(f"{own}[0]")
+    near = f"""(({{x, y, width, height}}, node) => node.x > x && node.x < x + width && node.y > y && node.y < y + height
+        && width < 2 * document.getElementById('svg').getBoundingClientRect().width)(breezesim.view.box,
+        breezesim.view.picture.nodes.find(it => it.component && it.component.number === {far}))"""
+    page.key("/")
+    page.type(f"c{far}")
+    page.key("ArrowDown", "Enter", "Escape")
+    run.found("it is near", near, True)
+    page.do("document.getElementById('search').value = ''")
+    page.key("f", "/")
+    page.type(f"k{channel}")
+    page.key("ArrowDown", "Enter", "Escape")
+    run.found("a channel", SELECTED, f"k{channel}")
+    run.found("it is near", "breezesim.view.box.width < 2 * document.getElementById('svg').getBoundingClientRect().width", True)
+    return run.ended()
+
+
+def names_are_chosen(browser, ground):
+    """Components are found in each way that they are told; arrows choose a name, and Enter takes one where no line is found."""
+    run = Run(browser, ground, "pipeline", "#line=60")
+    page = run.page
+    chosen = "[...document.querySelectorAll('#found .chosen')].map(it => it.dataset.select)"
+    for text in ("Fetch 5", "fetch 5", "5 Fetch", "c5", "Fetch5"):
+        page.do("document.getElementById('search').value = ''")
+        page.key("/")
+        page.type(text)
+        run.found(f"the search for {text}", "document.querySelector('#found .name')?.dataset.select", "c5")
+        page.key("Escape")
+    page.do("document.getElementById('search').value = ''")
+    page.key("/")
+    page.type("fetch")
+    names = page.until("[...document.querySelectorAll('#found .name')].map(it => it.dataset.select)", None, 0.3)
+    for key, wanted in (("ArrowDown", names[:1]), ("ArrowDown", names[1:2]), ("ArrowUp", names[:1]), ("ArrowUp", [])):
+        page.key(key)
+        run.found(key, chosen, wanted)
+    page.key("Enter")
+    run.found("no line is found, so the first", SELECTED, names[0])
+    page.key("ArrowDown", "ArrowDown", "Enter", "Escape", "Escape")
+    run.found("nothing selected", SELECTED, None)
+    page.do("document.getElementById('search').value = ''")
+    page.key("/")
+    page.type("fire 5")
+    page.key("Enter")
+    run.found("lines come before names", f"{SELECTED} === null && {LINE} !== 60", True)
+    return run.ended()
+
+
 def callers(browser, ground):
     """Who called a component, up to the host; and at the end who waits for whom, where the page is told."""
     run = Run(browser, ground, "countdown", "#line=44&at=c1")
     due = "called by BinaryFuncConstR 9 ‹ Fetch 8 ‹ Sequence 7 ‹ While 5 ‹ Sequence 3 ‹ the host at activate"
     run.page.do("location.hash = '#line=43&at=c1'")
     run.found("callers", "document.querySelector('.callers').textContent", due)
-    listed, rows, trace = ground.texts("cross")
-    rows = b"".join(line for line in rows.splitlines(True) if not line.startswith(b"end "))
-    rows += b"end wait Sequence 2 for Passivator 4 to reply on 4\nend cycle: Sequence 2 -> Passivator 4\n"
-    ground.put("ended", pages.page_text(ground.template, [listed, rows, trace]))
-    run.page.open(ground.path("ended"), "#line=12")
+    lines = ["end wait Sequence 2 for Passivator 4 to reply on 4", "end cycle: Sequence 2 -> Passivator 4"]
+    run.page.open(put_rows(ground, "called", "cross", lines), "#line=12")
     told = "[...document.querySelectorAll('#details .wait')].map(it => [it.className, it.dataset.select || ''])"
     run.found("the end", told, [["wait", "c2"], ["wait cycle", ""]])
     run.page.key("Home")
@@ -258,7 +349,8 @@ def pages_of_sessions(browser, ground):
     lines = f"offer:go\nrun\npage {ground.path('stuck')}\n".encode()
     ground.program.run(["explore", "--part", "cross", "--netlist", pages.paths_of("cross")[0]], lines)
     run = Run(browser, ground, "stuck", "#line=12")
-    told = "[...document.querySelectorAll('#details .wait')].map(it => [it.className, it.dataset.select || '', it.textContent])"
+    rows = "[...document.querySelectorAll('#details .wait')].filter(it => !it.classList.contains('ring'))"
+    told = f"{rows}.map(it => [it.className, it.dataset.select || '', it.textContent])"
     wanted = [
         ["wait cycle", "", "cycle: Sequence 2 -> Passivator 4 -> Sequence 3 -> Passivator 5 -> Sequence 2"],
         ["wait", "c1", "wait Concur 1 for Sequence 2 to reply on 2"],
@@ -275,6 +367,165 @@ def pages_of_sessions(browser, ground):
     run.found("before the end", told, wanted)
     run.page.key("Home")
     run.found("the beginning", told, [])
+    return run.ended()
+
+
+# What the rows of a page say of the net `late`, of which a part is stuck behind line 12 of 20, and all at the end.
+LATE_RING = {
+    2: "wait Sequence 2           for Passivator 4 to reply on 5",
+    4: "wait Passivator 4         for Sequence 3 to ask on 9",
+    3: "wait Sequence 3           for Passivator 5 to reply on 8",
+    5: "wait Passivator 5         for Sequence 2 to ask on 6",
+}
+LATE_STUCK = ["stuck 12 4 1 2 3 4 5 6 7 8", *(f"ring {number} {text}" for number, text in LATE_RING.items())]
+STUCK_SEEN = """(() => {
+  const numbers = style => [...document.querySelectorAll('.component' + style)].map(it => Number(it.dataset.component)).sort();
+  return [numbers('.stuck'), numbers('.in-ring'), document.querySelectorAll('.title.stuck').length];
+})()"""
+RING_SEEN = "[...document.querySelectorAll('#details .ring')].map(it => [it.className, it.dataset.select, it.textContent])"
+STUCK_TOLD = "['.title', '.under'].map(it => document.querySelector(`#details ${it}`).textContent)"
+
+
+def put_rows(ground, name, source, lines):
+    """A page with the texts of another one, and with these rows of what is stuck."""
+    listed, rows, trace = ground.texts(source)
+    kept = b"".join(line for line in rows.splitlines(True) if not line.startswith((b"stuck ", b"ring ", b"end ")))
+    added = "".join(f"{line}\n" for line in lines).encode()
+    return ground.put(name, pages.page_text(ground.template, [listed, kept + added, trace]))
+
+
+def stuck_rows(page):
+    """The rows of a page that say what is stuck."""
+    return [line for line in page.splitlines() if line.startswith(("stuck ", "ring "))]
+
+
+class Stuck:
+    """What a page has to show of what is stuck, by these rows, if there are any: each component from its own last move on."""
+
+    def __init__(self, rows, trace):
+        self.since, _, *self.members = map(int, rows[0].split()[1:]) if rows else (float("inf"), 0)
+        self.ring = [int(line.split()[1]) for line in rows[1:]]
+        self.fired = [line.split() for line in trace.splitlines()]
+
+    def last(self, number):
+        """The last line that moves a component."""
+        return max((n for n, words in enumerate(self.fired, 1) if words[1:3] == ["fire", str(number)]), default=0)
+
+    def at(self, line):
+        """The components with a mark, those of them in the ring, and how many panels there are."""
+        members = [it for it in self.members if line >= max(self.since, self.last(it))]
+        return [members, sorted(set(members) & set(self.ring)), int(line >= self.since)]
+
+
+def marks_of_the_stuck(browser, ground):
+    """What never moves again has its mark from its last move on, and none before the first line, however one comes to a line."""
+    put_rows(ground, "stuck_marks", "late", LATE_STUCK)
+    run, wanted = Run(browser, ground, "stuck_marks"), Stuck(LATE_STUCK, ground.texts("late")[2].decode())
+    run.found("the opening", STUCK_SEEN, wanted.at(1))
+    for line in range(2, 21):
+        run.page.key("ArrowRight")
+        run.found(f"going on, line {line}", STUCK_SEEN, wanted.at(line))
+    for line in range(19, 8, -1):
+        run.page.key("ArrowLeft")
+        run.found(f"going back, line {line}", STUCK_SEEN, wanted.at(line))
+    for line in (12, 20, 11, 18, 1, 17):
+        scrub(run.page, line)
+        run.found(f"by the scrubber, line {line}", STUCK_SEEN, wanted.at(line))
+    run.anew("stuck_marks", "#line=13")
+    run.found("by a link", STUCK_SEEN, wanted.at(13))
+    put_rows(ground, "stuck_marks", "late", [])
+    run.anew("stuck_marks", "#line=20")
+    run.found("a page that says nothing", STUCK_SEEN, [[], [], 0])
+    return run.ended()
+
+
+def panel_of_the_stuck(browser, ground):
+    """From the first line on it is told what is stuck: how many there and at the end, and the ring, a click on each of it."""
+    put_rows(ground, "stuck_panel", "late", LATE_STUCK)
+    run = Run(browser, ground, "stuck_panel", "#line=12")
+    ring = [["wait ring cycle", f"c{number}", " ".join(text.split())] for number, text in LATE_RING.items()]
+    told = [
+        "Since line 12, 4 components can never move again",
+        "Whatever the host does. At the end it is 8 of 8, and 4 of them wait for one another.",
+    ]
+    texts = "[...document.querySelectorAll('#details .title, #details .under')].map(it => it.textContent)"
+    run.found("what is told", texts, told)
+    run.found("the ring", RING_SEEN, ring)
+    said = "document.getElementById('says').textContent"
+    words = "Passivator 5 takes the request of Sequence 3 on channel 8 (from here on something is stuck)"
+    run.found("the line in words", said, words)
+    run.page.key("End")
+    run.found("at the end", texts, told)
+    run.page.key("Home")
+    run.found("at the opening", RING_SEEN, [])
+    scrub(run.page, 16)
+    run.page.click(*run.page.do(middle("#details [data-line=\"12\"]")))
+    run.line("the title", 12)
+    for number in LATE_RING:
+        run.page.click(*run.page.do(middle(f"#details [data-select=\"c{number}\"]")))
+        run.found("a line of the ring", SELECTED, f"c{number}")
+        run.found("the ring is still told", f"{RING_SEEN}.length", 4)
+        run.found("and what it is", "document.querySelectorAll('.under.stuck').length", 1)
+    run.page.key("Home")
+    run.found("not at the opening", "document.querySelectorAll('.under.stuck').length", 0)
+    return run.ended()
+
+
+def rings_that_close_later(browser, ground):
+    """A member of the ring that still moves says until when, and is marked from there on."""
+    of_6 = "wait Sequence 6 for Passivator 8 to reply on 11"
+    rows = ["stuck 12 4 1 2 3 4 5 6 7 8", f"ring 6 {of_6}", "ring 2 wait Sequence 2 for me"]
+    put_rows(ground, "stuck_later", "late", rows)
+    run, wanted = Run(browser, ground, "stuck_later", "#line=17"), Stuck(rows, ground.texts("late")[2].decode())
+    late = ["wait ring", "c6", f"{of_6} (from line 18 on)"]
+    run.found("before its last move", RING_SEEN, [late, ["wait ring cycle", "c2", "wait Sequence 2 for me"]])
+    run.found("its marks", STUCK_SEEN, wanted.at(17))
+    run.page.key("ArrowRight")
+    run.found("from it on", f"{RING_SEEN}.map(it => it[0])", ["wait ring cycle", "wait ring cycle"])
+    run.found("its marks then", STUCK_SEEN, wanted.at(18))
+    put_rows(ground, "stuck_later", "late", ["stuck 12 1 3"])
+    run.anew("stuck_later", "#line=12")
+    run.found("no ring", STUCK_TOLD, ["Since line 12, 1 component can never move again",
+                                      "Whatever the host does. At the end it is 1 of 8."])
+    return run.ended()
+
+
+def rings_in_focus(browser, ground):
+    """In focus the ring is in sight from the first line on, wherever it lies in the net."""
+    far = [int(it) for it in list(wanted_of(ground.program, *ground.made["large"]).kinds)[::60]]
+    stuck = f"stuck 700 {len(far)} {' '.join(map(str, far))}"
+    put_rows(ground, "stuck_ring", "large", [stuck, *(f"ring {it} it waits" for it in far)])
+    run = Run(browser, ground, "stuck_ring", "#line=699")
+    seen = f"(shown => [{far}.every(it => shown.includes(String(it))), shown.length <= 90])({COMPONENTS})"
+    run.found("before it", seen, [False, True])
+    for key, wanted in (("ArrowRight", True), ("ArrowLeft", False), ("End", True)):
+        run.page.key(key)
+        run.found(key, seen, [wanted, True])
+    return run.ended()
+
+
+def rings_in_folded_copies(browser, ground):
+    """A folded copy is marked where a member of the ring is in it, from that member's last move on."""
+    put_rows(ground, "stuck_box", "arbiter_tree", ["stuck 20 2 1 5", "ring 1 it waits", "ring 5 it waits"])
+    moves = [line.split() for line in ground.texts("arbiter_tree")[2].decode().splitlines()]
+    last = max(n for n, words in enumerate(moves, 1) if words[1:3] == ["fire", "1"])
+    run = Run(browser, ground, "stuck_box", "#line=66&fold=1,2")
+    boxes = "[...document.querySelectorAll('.folded.in-ring')].map(it => it.dataset.copy)"
+    for line, wanted in ((66, ["1"]), (last - 1, []), (last, ["1"]), (1, [])):
+        scrub(run.page, line)
+        run.found(f"at line {line}", boxes, wanted)
+    return run.ended()
+
+
+def flag_of_strip(browser, ground):
+    """Above the scrubber a red flag stands at the first line behind which something is stuck."""
+    put_rows(ground, "stuck_flag", "late", LATE_STUCK)
+    run = Run(browser, ground, "stuck_flag")
+    column = """(line => { const strip = document.getElementById('strip'), width = strip.clientWidth;
+        const x = Math.round((line - 1) / (breezesim.trace.count - 1) * (width - 1));
+        return [...strip.getContext('2d').getImageData(x, 18, 1, 1).data]; })"""
+    run.found("at line 12", f"{column}(12)", [200, 16, 46, 255])
+    run.found("at line 9", f"{column}(9)", [0, 0, 0, 0])
     return run.ended()
 
 
@@ -568,11 +819,20 @@ PLAYS = [
     keys_of_looks,
     play_and_speed,
     clicks,
+    details_are_whole,
     drag_and_wheel,
     links,
     searches,
+    found_is_seen,
+    names_are_chosen,
     callers,
     pages_of_sessions,
+    marks_of_the_stuck,
+    panel_of_the_stuck,
+    rings_that_close_later,
+    rings_in_focus,
+    rings_in_folded_copies,
+    flag_of_strip,
     names_and_sources,
     large_nets,
     long_chains,
@@ -588,3 +848,6 @@ PLAYS = [
     marks_of_strip,
     a_step_looks_at_little,
 ]
+# Those that look at the picture, or at what a browser alone has: Node can't play them.
+DRAWN = {keys_of_looks, clicks, details_are_whole, drag_and_wheel, pages_of_sessions, flag_of_strip, wide_charts, hostile_names}
+DRAWN.update({policy, narrow_screens, on_paper, marks_of_strip, a_step_looks_at_little})

@@ -1,5 +1,5 @@
 // pretend.mjs PAGE.html [#LINK]: for tests, a page in Node, without a browser: its script runs, on elements that nobody draws.
-// Elements have no sizes: each has a point of its own, where a click finds it. What a line of standard input asks, {act, ..} as
+// Elements have no sizes, styles hide nothing, and each element has a point of its own, where a click finds it. What a line of standard input asks, {act, ..} as
 // JSON, is done, and answered by a line {value} or {fault}.
 import fs from 'node:fs';
 import path from 'node:path';
@@ -17,6 +17,7 @@ class Element {
     this.dataset = new Proxy({}, {
       get: (_, name) => (typeof name === 'string' ? this.attributes.get(dataName(name)) : undefined),
       set: (_, name, value) => Boolean(this.attributes.set(dataName(name), String(value))),
+      deleteProperty: (_, name) => this.attributes.delete(dataName(name)) || true,
     });
     this.value = attributes.value || '';
     points.push(this);
@@ -36,6 +37,7 @@ class Element {
   }
   put(classes) { this.className = [...new Set(classes)].join(' '); }
   setAttribute(name, value) { this.attributes.set(name, String(value)); }
+  getAttribute(name) { return this.attributes.has(name) ? this.attributes.get(name) : null; }
   get children() { return this.kids.filter(it => it instanceof Element); }
   get options() { return this.children; }
   get firstChild() { return this.kids[0] || null; }
@@ -177,7 +179,7 @@ function PageOption(name, value) {
   return Object.assign(option, {value});
 }
 const document = {
-  getElementById: byId, createElement: tag => new Element(tag), createElementNS: (_, tag) => new Element(tag),
+  getElementById: byId, createElement: tag => new Element(tag), createElementNS: (_, tag) => Object.assign(new Element(tag), {tagName: tag}),
   querySelector: selector => root.querySelector(selector), querySelectorAll: selector => root.querySelectorAll(selector),
   addEventListener: (type, act) => outer.document.addEventListener(type, act),
   documentElement: head, body: root.querySelector('body'), title: '',
@@ -186,9 +188,20 @@ document.activeElement = document.body;
 // (of what styles hide, the start alone)
 const isShown = it => !it.hidden && !(it.id === 'start' && document.body.classList.contains('living'))
   && (!it.parent || isShown(it.parent));
+// The address. What is written to it is followed a little later.
+let hash = link;
+const address = {
+  get href() { return `file://${file}${hash}`; },
+  get hash() { return hash; },
+  set hash(written) {
+    hash = written;
+    const newURL = address.href;
+    setImmediate(() => (outer.window.listeners.get('hashchange') || []).forEach(act => act({newURL})));
+  },
+};
 Object.assign(globalThis, {
-  document, window: globalThis, Blob: PageBlob, Option: PageOption,
-  location: {hash: link, href: `file://${file}${link}`}, history: {replaceState() {}}, matchMedia: () => ({matches: false}),
+  document, window: globalThis, Blob: PageBlob, Option: PageOption, location: address,
+  history: {replaceState(_, title, written) { hash = written; }}, matchMedia: () => ({matches: false}),
   getComputedStyle: it => ({display: isShown(it) ? 'block' : 'none', getPropertyValue: () => ''}),
   addEventListener: (type, act) => outer.window.addEventListener(type, act),
   ResizeObserver: class { observe() {} },
@@ -205,7 +218,12 @@ for (const type of ['uncaughtException', 'unhandledRejection']) process.on(type,
 // ---- what is asked -------------------------------------------------------------------------------------------------------
 
 const acts = {
-  do: ({script}) => (0, eval)(script),
+  // (what is written to the address is followed before anything else is asked)
+  async do({script}) {
+    const value = await (0, eval)(script);
+    await new Promise(setImmediate);
+    return value;
+  },
   click({x}) {
     const element = points[Math.floor(x / 10) - 41];
     if (!element || !root.contains(element) || !isShown(element)) throw new Error('nothing is there to be clicked');
@@ -213,7 +231,11 @@ const acts = {
     for (const type of ['pointerdown', 'pointerup']) dispatch(element, type);
     element.click();
   },
-  key: ({key}) => dispatch(document.activeElement, 'keydown', {key}),
+  key({key, shift}) {
+    const element = document.activeElement;
+    if (element.tag === 'input' && key.length === 1) element.value += key;
+    dispatch(element, 'keydown', {key, shiftKey: shift});
+  },
   type({text: typed}) {
     document.activeElement.value += typed;
     dispatch(document.activeElement, 'input');

@@ -32,6 +32,8 @@ class Page:
 
     def open(self, path, link=""):
         """Opens a file."""
+        if self._node:
+            self.close()
         words = ["node", SCRIPT, os.path.abspath(path), *([link] if link else [])]
         self._node = subprocess.Popen(words, stdin=subprocess.PIPE, stdout=subprocess.PIPE)
         return self
@@ -63,10 +65,10 @@ class Page:
             time.sleep(0.02)
         return found
 
-    def key(self, *keys):
+    def key(self, *keys, shift=False):
         """Presses keys, one after another."""
         for key in keys:
-            self._ask("key", key=key)
+            self._ask("key", key=key, shift=shift)
 
     def type(self, text):
         """Types a text where the cursor is."""

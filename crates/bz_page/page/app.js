@@ -2,13 +2,14 @@
 
 // Shows the current line in all panels.
 function show() {
-  if (view.isFocused && Math.abs(view.line - view.focusLine) > REFOCUS) {
+  const isFar = Math.abs(view.line - view.focusLine) > REFOCUS || view.hasRing !== isStuckBehind(net, view.line);
+  if (view.isFocused && isFar) {
     draw();
     fit();
   }
   markPicture();
   if (view.isFollowing) follow();
-  $('says').textContent = tell(view.line);
+  $('says').textContent = tell(view.line) + (view.line === net.stuck.line ? ' (from here on something is stuck)' : '');
   $('position').textContent = `line ${view.line} of ${trace.count}`;
   $('scrubber').value = view.line;
   showJournal();
@@ -16,7 +17,7 @@ function show() {
   showStrip();
   if (view.isCharted) showChart();
   added.afterShow();
-  if (!added.isLive) writeLink();
+  writeLink();
 }
 
 // Goes to a line, or to the nearest that there is.
@@ -29,12 +30,22 @@ function go(line) {
 const step = lines => go(view.line + lines);
 const goTo = line => { if (line) go(line); };
 
-// Selects a component, a channel, or nothing.
+// Selects a component, a channel, or nothing. In focus a component is drawn with all that is beside it.
 function select(selected) {
   const before = view.selected;
   view.selected = selected;
+  if (view.isFocused && selected && !isDrawnWhole(selected)) {
+    draw();
+    fit();
+  }
   markSelection(before);
   show();
+}
+
+// Selects what was chosen in a list, and moves the picture there, near enough to read it.
+function goToSelected(selected) {
+  select(selected);
+  bringIntoSight(nodeOfSelected(selected), true);
 }
 
 // Draws anew, and shows all of it.
@@ -76,9 +87,12 @@ function setChart(isCharted) {
   show();
 }
 
+// Light or dark; of a page that says neither the reader's system decides.
 function setTheme(theme) {
-  document.documentElement.dataset.theme = theme;
+  if (theme) document.documentElement.dataset.theme = theme;
+  else delete document.documentElement.dataset.theme;
   showStrip();
+  writeLink();
 }
 
 // Light where it is dark, and dark where it is light.
@@ -125,12 +139,20 @@ function changeSpeed(by) {
 
 const link = {timer: 0};
 
+// The copies that begin folded, in focus and else.
+const foldedAtFirst = () => (view.isFocused ? [] : view.foldedAtFirst);
+
 // Writes what is seen into the address, without a step in the browser's history.
 function writeLink() {
-  const parts = [`line=${view.line}`];
+  if (added.isLive) return;
+  const parts = [`line=${view.line}`], folded = [...foldedNow()].join(), {theme} = document.documentElement.dataset;
   if (view.selected) parts.push(`at=${view.selected}`);
   if (view.isCharted) parts.push('view=chart');
   if (view.isFocused !== isLarge) parts.push(`focus=${Number(view.isFocused)}`);
+  if (search.text) parts.push(`find=${encodeURIComponent(search.text)}`);
+  if (folded !== foldedAtFirst().join()) parts.push(`fold=${folded}`);
+  if (view.isStubbed !== null) parts.push(`stubs=${Number(view.isStubbed)}`);
+  if (theme) parts.push(`theme=${theme}`);
   const hash = `#${parts.join('&')}`;
   clearTimeout(link.timer);
   link.timer = setTimeout(() => {
@@ -142,24 +164,22 @@ function writeLink() {
 const thatIs = selected => (selected[0] === 'c' ? net.components : net.channels)[numberOf(selected)];
 const isThere = selected => /^[ck][0-9]+$/.test(selected) && Boolean(thatIs(selected));
 
-// Shows what an address says.
+// Shows what an address says; what it doesn't say is as at first.
 function readLink(address) {
   const said = new URLSearchParams(new URL(address).hash.slice(1)), at = said.get('at');
   view.line = Math.max(1, Math.min(trace.count, Math.trunc(Number(said.get('line'))) || 1));
   view.selected = at && isThere(at) ? at : null;
   view.isFocused = said.has('focus') ? said.get('focus') === '1' : isLarge;
-  if (said.has('stubs')) view.isStubbed = said.get('stubs') === '1';
-  if (said.has('fold')) Object.assign(view, {folded: foldedBy(said), foldedInFocus: foldedBy(said)});
-  if (said.has('theme')) setTheme(said.get('theme') === 'dark' ? 'dark' : 'light');
-  if (said.has('find')) {
-    $('search').value = said.get('find');
-    find(said.get('find'));
-  }
+  view.isStubbed = said.has('stubs') ? said.get('stubs') === '1' : null;
+  view[view.isFocused ? 'foldedInFocus' : 'folded'] = new Set(said.has('fold') ? foldedBy(said) : foldedAtFirst());
+  setTheme(said.has('theme') && (said.get('theme') === 'dark' ? 'dark' : 'light'));
+  $('search').value = said.get('find') || '';
+  find($('search').value);
   $('focus').classList.toggle('on', view.isFocused);
   draw();
   setChart(said.get('view') === 'chart');
 }
-const foldedBy = said => new Set(said.get('fold').split(',').filter(path => net.instances.has(path)));
+const foldedBy = said => said.get('fold').split(',').filter(path => net.instances.has(path));
 
 // ---- keys and the mouse ---------------------------------------------------------------------------------------------
 
@@ -183,15 +203,23 @@ const KEYS = {
 function typed(event) {
   const field = event.target;
   if (event.key === 'Escape') field.blur();
+  if (field.id === 'search') return typedInSearch(event);
   if (event.key !== 'Enter') return;
   event.preventDefault();
-  if (field.id === 'search') {
-    if (search.text !== field.value) find(field.value);
-    goToHit(event.shiftKey ? -1 : 1);
-  } else {
-    go(Number(field.value));
-    field.blur();
-  }
+  go(Number(field.value));
+  field.blur();
+}
+
+// Arrows choose a name that was found, and Enter goes there; else to the next line found, or to the first name where there is none.
+function typedInSearch(event) {
+  const by = {Enter: 0, ArrowDown: 1, ArrowUp: -1}[event.key], text = $('search').value;
+  if (by === undefined) return;
+  event.preventDefault();
+  if (search.text !== text) find(text);
+  if (by) return chooseName(by);
+  const {hits, chosen} = search, name = $('found').children[hits && hits.length === 0 ? Math.max(0, chosen) : chosen];
+  if (name) goToSelected(name.dataset.select);
+  else goToHit(event.shiftKey ? -1 : 1);
 }
 
 function pressed(event) {
@@ -209,7 +237,7 @@ function clicked(event) {
   if (!target) return false;
   const {line, select: selected, component, channel, copy} = target.dataset;
   if (line) go(Number(line));
-  else if (selected) select(selected);
+  else if (selected) goToSelected(selected);
   else if (component) select(`c${component}`);
   else if (channel) select(`k${channel}`);
   else fold(copy);
@@ -305,9 +333,10 @@ function load(list, rows, text) {
   net = readNet(list, rows);
   all = {components: net.components.slice(1), channels: net.channels.slice(1)};
   isLarge = all.components.length > MANY;
-  Object.assign(view, {line: 1, selected: null, isFocused: isLarge, focusLine: 0, folded: new Set(), foldedInFocus: new Set(),
+  Object.assign(view, {line: 1, selected: null, isFocused: isLarge, focusLine: 0, foldedInFocus: new Set(),
     isStubbed: null});
-  if (all.components.length > MANY / 2) for (const path of net.instances.keys()) if (!path.includes('/')) view.folded.add(path);
+  view.foldedAtFirst = all.components.length > MANY / 2 ? [...net.instances.keys()].filter(path => !path.includes('/')) : [];
+  view.folded = new Set(view.foldedAtFirst);
   document.title = `${net.part} · breezesim`;
   $('part').textContent = net.part;
   takeTrace(readTrace(text, net));

@@ -2,9 +2,9 @@
 
 // What is open. `steps` are the commands that stand, each with how many lines the trace had before it; `undone` those that were
 // taken back, the last one first; `log` all lines that the session was told and that moved something. `moves` is what can come
-// next, `circle` who waits in one, and `stuck` the channels between those.
+// next, `circle` who waits in one, and `links` the channels between those.
 const live = {worker: null, waiting: new Map(), calls: 0, bytes: null, how: {}, name: '', netlist: null, part: '', isOpen: false,
-  isBusy: false, isStopped: false, end: 1, steps: [], undone: [], log: [], moves: [], circle: new Set(), stuck: new Set(),
+  isBusy: false, isStopped: false, end: 1, steps: [], undone: [], log: [], moves: [], circle: new Set(), links: new Set(),
   values: new Map(), times: {}};
 
 // The module that the page carries.

@@ -14,13 +14,22 @@ const CALLS = new Set(['Call', 'CallMux', 'CallDemux']);
 const IDLE = 0, ASKED = 1, TAKEN = 2, REPLIED = 3;
 const PHASES = ['idle', 'asked', 'taken', 'replied'];
 
-// The rows of ports of each kind, the details of components and who waits for whom at the end.
+// What can never move again: the first line behind which something is stuck (0: there is none), how many components are stuck
+// there, the stuck ones at the end, and the members of a ring with their lines.
+const nothingStuck = () => ({line: 0, first: 0, members: new Set(), ring: new Map()});
+
+// The rows of ports of each kind, the details of components, what is stuck, and who waits for whom at the end.
 function readRows(text) {
-  const found = {ports: new Map(), details: new Map(), end: []};
+  const found = {ports: new Map(), details: new Map(), stuck: nothingStuck(), end: []};
   for (const line of text.split('\n')) {
     const words = line.split(' ');
     if (words[0] === 'row') found.ports.set(words[1], words.slice(2).map(readPort));
     if (words[0] === 'detail') found.details.set(Number(words[1]), words.slice(2).join(' '));
+    if (words[0] === 'stuck') {
+      const [line, first, ...members] = words.slice(1).map(Number);
+      Object.assign(found.stuck, {line, first, members: new Set(members)});
+    }
+    if (words[0] === 'ring') found.stuck.ring.set(Number(words[1]), words.slice(2).filter(word => word).join(' '));
     if (words[0] === 'end') found.end.push(line.slice(4));
   }
   return found;
@@ -83,7 +92,8 @@ function namePorts(component, row) {
 // The net of the list. Channels and components stand at their numbers, so the rows of both begin with null.
 function readNet(list, rowText) {
   const rows = readRows(rowText);
-  const net = {part: '', ports: [], channels: [null], components: [null], instances: new Map(), end: rows.end};
+  const net = {part: '', ports: [], channels: [null], components: [null], instances: new Map(), stuck: rows.stuck,
+    end: rows.end};
   for (const line of list.split('\n')) {
     const words = line.split(' '), number = Number(words[1]);
     if (words[0] === 'part') net.part = words[1];
@@ -222,6 +232,13 @@ function valueIn(trace, line) {
   if (words[1] === 'offer' || words[1] === 'answer') return words[4] ? words[3] : '';
   return words[words.length - 2] === 'value' ? words[words.length - 1] : '';
 }
+
+// Whether something is stuck behind a line; and whether a component never moves again from there on. (What is stuck at the end may
+// have moved after that: so each counts from its own last move on.)
+const isStuckBehind = (net, line) => net.stuck.line > 0 && line >= net.stuck.line;
+const lastMoveOf = (trace, number) => nthOf(trace.linesOfComponent, number, countOf(trace.linesOfComponent, number) - 1);
+const isStill = (net, trace, number, line) => isStuckBehind(net, line) && net.stuck.members.has(number)
+  && line >= lastMoveOf(trace, number);
 
 // What a variable holds: the value of the last write that it took, at first 0.
 function heldBy(trace, component, line) {

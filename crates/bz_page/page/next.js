@@ -93,15 +93,15 @@ function choose(move) {
 function markNext() {
   const layer = svg('g', {id: 'can'}), taken = [];
   $('can')?.remove();
-  for (const {group} of [...drawn.components.values(), ...drawn.channels.values()]) group.classList.remove('can', 'stuck');
+  for (const {group} of [...drawn.components.values(), ...drawn.channels.values()]) group.classList.remove('can', 'circle');
   if (isNow()) {
     for (const move of live.moves.slice(0, MOST_SIGNS)) {
       drawn.components.get(move.component)?.group.classList.add('can');
       const mark = drawn.channels.get(move.channel);
       if (mark) layer.append(signOfMove(move, placeOfSign(move, mark, taken)));
     }
-    for (const number of live.circle) drawn.components.get(number)?.group.classList.add('stuck');
-    for (const number of live.stuck) drawn.channels.get(number)?.group.classList.add('stuck');
+    for (const number of live.circle) drawn.components.get(number)?.group.classList.add('circle');
+    for (const number of live.links) drawn.channels.get(number)?.group.classList.add('circle');
   }
   $('root').append(layer);
 }

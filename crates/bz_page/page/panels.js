@@ -45,10 +45,28 @@ const selectedLines = () => [view.selected[0] === 'c' ? trace.linesOfComponent :
 function showDetails() {
   const {selected} = view;
   document.body.classList.toggle('chosen', selected !== null);
-  document.body.classList.toggle('ended', selected === null && isEndTold());
-  if (!selected) return $('details').replaceChildren(...endDetails());
+  document.body.classList.toggle('told', selected === null && (isStuckBehind(net, view.line) || isEndTold()));
+  const hint = html('div', 'hint', 'Click a component or a channel to see its history.');
+  if (!selected) return $('details').replaceChildren(hint, ...stuckDetails(), ...endDetails());
   const shown = selected[0] === 'c' ? componentDetails(numberOf(selected)) : channelDetails(numberOf(selected));
-  return $('details').replaceChildren(...shown, eventButtons(), history());
+  return $('details').replaceChildren(...shown, eventButtons(), history(), ...stuckDetails());
+}
+
+// What can never move again, since which line, and the ring.
+function stuckDetails() {
+  const {line, first, members, ring} = net.stuck;
+  if (!isStuckBehind(net, view.line)) return [];
+  const title = html('div', 'title stuck', `Since line ${line}, ${counted(first, 'component')} can never move again`);
+  title.dataset.line = line;
+  const now = added.isLive ? 'Now' : 'At the end', round = ring.size ? `, and ${ring.size} of them wait for one another` : '';
+  const told = `Whatever the host does. ${now} it is ${members.size} of ${all.components.length}${round}.`;
+  return [title, html('div', 'under', told), ...[...ring].map(([number, text]) => {
+    const isNow = isStill(net, trace, number, view.line);
+    const row = html('div', 'wait ring', isNow ? text : `${text} (from line ${lastMoveOf(trace, number)} on)`);
+    row.classList.toggle('cycle', isNow);
+    row.dataset.select = `c${number}`;
+    return row;
+  })];
 }
 
 // Whether the current line is behind the last move, and it is told who waits for whom then.
@@ -58,11 +76,10 @@ function isEndTold() {
   return net.end.length > 0 && view.line >= last;
 }
 
-// Nothing is selected: at the end who waits for whom.
+// At the end who waits for whom.
 function endDetails() {
-  const shown = [html('div', 'hint', 'Click a component or a channel to see its history.')];
-  if (!isEndTold()) return shown;
-  shown.push(html('div', 'title end', `Who waits for whom ${added.isLive ? 'now' : 'at the end'}`));
+  if (!isEndTold()) return [];
+  const shown = [html('div', 'title end', `Who waits for whom ${added.isLive ? 'now' : 'at the end'}`)];
   for (const line of net.end) {
     const names = /^(?:wait|or|ended) \S+ (\d+)/.exec(line), isCycle = /^(circle|cycle)/.test(line);
     const row = html('div', isCycle ? 'wait cycle' : 'wait', line.replace(/ +/g, ' '));
@@ -81,6 +98,7 @@ function phaseText(number) {
 function componentDetails(number) {
   const component = net.components[number], more = component.channels.length - 1 - MOST_PORTS;
   const shown = [html('div', 'title', component.title), html('div', 'under', placeOf(component))];
+  if (isStill(net, trace, number, view.line)) shown.push(html('div', 'under stuck', 'never moves again'));
   if (isVariable(component)) shown.push(html('div', 'under', `holds ${heldBy(trace, component, view.line)}`));
   const ports = html('div', 'ports');
   for (let p = 1; p < component.channels.length && p <= MOST_PORTS; p++) ports.append(portRow(component, p));
@@ -120,10 +138,10 @@ function channelDetails(number) {
   return [html('div', 'title', title), html('div', 'under', endsOf(channel)), html('div', 'under', placeOf(channel)), ports];
 }
 
-// Buttons to the last and the next line of what is selected, how many there are, and a button that leaves it.
+// Buttons to the previous and the next line of what is selected, how many there are, and a button that leaves it.
 function eventButtons() {
   const [lines, key] = selectedLines(), row = html('div', 'events');
-  for (const [text, direction] of [['◂ last event', -1], ['next event ▸', 1]]) {
+  for (const [text, direction] of [['◂ previous event', -1], ['next event ▸', 1]]) {
     const button = html('button', '', text), line = eventLine(direction);
     button.title = direction > 0 ? ']' : '[';
     button.disabled = !line;
@@ -152,7 +170,7 @@ function history() {
   return list;
 }
 
-// The next or last line of what is selected, or of the hosts where nothing is; 0 where there is none.
+// The next or previous line of what is selected, or of the hosts where nothing is; 0 where there is none.
 function eventLine(direction) {
   const {hostLines} = trace, ofHosts = [[hostLines], 0];
   const [lines, key] = view.selected ? selectedLines() : ofHosts;
@@ -160,7 +178,7 @@ function eventLine(direction) {
   return nthOf(lines, key, direction > 0 ? seen : seen - (isHere ? 2 : 1));
 }
 
-// ---- the strip above the scrubber: hosts, rests, clashes, the events of what is selected, what the search found -----
+// ---- the strip above the scrubber: hosts, rests, clashes, events of what is selected, what was found, a flag where it is stuck
 
 const STRIP_HEIGHT = 22;
 const strip = {key: ''};
@@ -176,10 +194,11 @@ function showStrip() {
   canvas.height = STRIP_HEIGHT * ratio;
   const pen = canvas.getContext('2d'), colours = getComputedStyle(document.documentElement);
   pen.scale(ratio, ratio);
+  const placeOfLine = line => (trace.count < 2 ? 0 : Math.round((line - 1) / (trace.count - 1) * (width - 1)));
   const marks = (lines, from, to, top, bottom, colour) => {
     pen.fillStyle = colours.getPropertyValue(colour).trim();
     for (let i = from, last = -1; i < to; i++) {
-      const x = trace.count < 2 ? 0 : Math.round((lines[i] - 1) / (trace.count - 1) * (width - 1));
+      const x = placeOfLine(lines[i]);
       if (x !== last) pen.fillRect(x, top, 1.5, bottom - top);
       last = x;
     }
@@ -192,17 +211,21 @@ function showStrip() {
     marks(linesOf(lines, number), 0, countOf(lines, number), 9, 15, '--selected');
   }
   if (search.hits) marks(search.hits, 0, search.hits.length, 16, STRIP_HEIGHT, '--found');
+  if (net.stuck.line) {
+    marks([net.stuck.line], 0, 1, 0, STRIP_HEIGHT, '--clash');
+    pen.fillRect(placeOfLine(net.stuck.line) - 5, 0, 11, 7);
+  }
 }
 
 // ---- search ---------------------------------------------------------------------------------------------------------
 
 const MOST_HITS = 200000, MOST_NAMES = 12;
-const search = {text: '', hits: null, timer: 0};
+const search = {text: '', hits: null, chosen: -1, timer: 0};
 const countedHits = count => (count === MOST_HITS ? `${count}+ lines` : counted(count, 'line'));
 
 // Finds the lines that hold a text, and components, channels and ports by what they are called.
 function find(text) {
-  Object.assign(search, {text, hits: text === '' ? null : linesWith(text)});
+  Object.assign(search, {text, hits: text === '' ? null : linesWith(text), chosen: -1});
   $('count').textContent = text === '' ? '' : countedHits(search.hits.length);
   $('found').replaceChildren(...(text === '' ? [] : namesWith(text.toLowerCase()).map(([select, name]) => {
     const row = html('div', 'name', name);
@@ -210,6 +233,14 @@ function find(text) {
     return row;
   })));
   showStrip();
+  writeLink();
+}
+
+// Chooses the next or the previous of the names that were found; before the first one none is chosen.
+function chooseName(by) {
+  const names = $('found').children;
+  search.chosen = Math.max(-1, Math.min(names.length - 1, search.chosen + by));
+  [...names].forEach((row, i) => row.classList.toggle('chosen', i === search.chosen));
 }
 
 // The lines that hold a text, rising.
@@ -224,11 +255,14 @@ function linesWith(text) {
   return hits;
 }
 
-// What is called so: by number, kind, name, copy, or place in the source.
+// What is called so: by number, kind, name, copy, or place in the source. (`c12` and `fetch 12` are component 12, whose title begins
+// with its number.)
 function namesWith(text) {
   const names = [], holds = words => words.some(word => word && word.toLowerCase().includes(text));
   const number = /^(?:ch|channel|k) ?(\d+)$/.exec(text);
   if (number && net.channels[Number(number[1])]) names.push([`k${number[1]}`, channelName(net.channels[Number(number[1])])]);
+  const [, kind, of] = /^([a-z]\w*?) ?(\d+)$/.exec(text) || [], named = net.components[Number(of)];
+  if (named && (kind === 'c' || named.kind.toLowerCase() === kind)) names.push([`c${of}`, named.title]);
   for (const port of net.ports) if (port && names.length < MOST_NAMES && holds([port.name]))
     names.push([`k${port.number}`, `port ${port.name}`]);
   const most = names.length + MOST_NAMES;
@@ -246,7 +280,7 @@ function namesWith(text) {
   return names;
 }
 
-// Goes to the next or last line found, and from the ends to the other end.
+// Goes to the next or previous line found, and from the ends to the other end.
 function goToHit(direction) {
   const {hits} = search;
   if (!hits || hits.length === 0) return;

@@ -27,8 +27,8 @@ const added = {isLive: false, afterShow() {}, takesClick() { return false; }, en
 const MANY = 300, IN_FOCUS = 90, NEAR = 40, REFOCUS = 25;
 
 // What the reader chose. `selected` is `c5` for a component, `k7` for a channel, or null.
-const view = {line: 1, selected: null, isFocused: false, focusLine: 0, folded: new Set(), foldedInFocus: new Set(),
-  isStubbed: null, picture: null, box: null, isFollowing: false, isCharted: false, layoutTime: 0};
+const view = {line: 1, selected: null, isFocused: false, focusLine: 0, folded: new Set(), foldedInFocus: new Set(), foldedAtFirst: [],
+  isStubbed: null, picture: null, box: null, isFollowing: false, isCharted: false, hasRing: false, layoutTime: 0};
 
 // What is drawn, by number or path, and the line that it shows (0: nothing yet).
 const drawn = {channels: new Map(), components: new Map(), boxes: new Map(), ports: new Map(), line: 0, here: 0};
@@ -62,7 +62,7 @@ function showOnly(components, channels) {
   Object.assign(net, {shownComponents: components, shownChannels: channels});
 }
 
-// In focus: what moves in the lines around this one, with who called it.
+// In focus: what moves in the lines around this one, with who called it, and the ring where something is stuck.
 function showNear(line) {
   const kept = new Set(), keep = number => { if (kept.size < IN_FOCUS) kept.add(number); };
   const keepEnd = (end, at) => {
@@ -70,9 +70,15 @@ function showNear(line) {
     keep(end.component);
     for (const caller of callersOf(net, trace, net.components[end.component], at)) if (typeof caller === 'number') keep(caller);
   };
-  for (let distance = 0; distance <= NEAR; distance++) for (const at of new Set([line - distance, line + distance])) {
-    const channel = at > 1 && at <= trace.count && net.channels[trace.channel[at]];
-    if (channel) for (const end of [channel.active, channel.passive]) keepEnd(end, at);
+  view.hasRing = isStuckBehind(net, line);
+  for (let distance = 0; distance <= NEAR; distance++) {
+    for (const at of new Set([line - distance, line + distance])) {
+      const channel = at > 1 && at <= trace.count && net.channels[trace.channel[at]];
+      if (channel) for (const end of [channel.active, channel.passive]) keepEnd(end, at);
+    }
+    if (distance > 0) continue;
+    if (view.hasRing) [...net.stuck.ring.keys()].forEach(keep);
+    endsBeside(view.selected).forEach(keep);
   }
   for (const end of added.endsInFocus()) keepEnd(end, line);
   view.focusLine = line;
@@ -81,6 +87,21 @@ function showNear(line) {
   const numbers = new Set(components.flatMap(component => component.channels.slice(1)));
   const channels = [...numbers].sort((a, b) => a - b).map(number => net.channels[number]);
   showOnly(components, channels.filter(it => it && isKept(it.active) && isKept(it.passive)));
+}
+
+// The components at the ends of a channel, or a component and those at the other ends of its channels.
+function endsBeside(selected) {
+  if (!selected) return [];
+  const number = numberOf(selected), isChannel = selected[0] === 'k';
+  const beside = (isChannel ? [number] : net.components[number].channels.slice(1)).map(one => net.channels[one]);
+  const ends = beside.flatMap(({active, passive}) => [active, passive]).filter(end => end && end !== 'host');
+  return [...(isChannel ? [] : [number]), ...ends.map(end => end.component)];
+}
+
+// Whether what is selected is drawn, and a component with all of its channels that have two ends.
+function isDrawnWhole(selected) {
+  const channels = selected[0] === 'k' ? [numberOf(selected)] : net.components[numberOf(selected)].channels.slice(1);
+  return channels.every(number => drawn.channels.has(number) || !net.channels[number].active || !net.channels[number].passive);
 }
 
 // The frame of a copy that is unfolded.
@@ -151,11 +172,16 @@ function drawStub(channel, pieces, layers) {
   drawn.channels.set(channel.number, {group, walk, length: walk[walk.length - 1].way, value, token: null});
 }
 
+// The folded copy that hides a component, if one does.
+function boxOf({path}) {
+  const steps = path.split('/');
+  return steps.map((step, i) => steps.slice(0, i + 1).join('/')).find(outer => foldedNow().has(outer));
+}
+
 // How the other end of a stub is called: a folded copy by its path, a variable by its name, what answers by its sign and number,
 // who asks by its number.
 function stubName(end, isAnswering) {
-  const component = net.components[end.component], steps = component.path.split('/');
-  const box = steps.map((step, i) => steps.slice(0, i + 1).join('/')).find(path => foldedNow().has(path));
+  const component = net.components[end.component], box = boxOf(component);
   if (box) return `▸${box}`;
   if (!isAnswering) return String(component.number);
   return isVariable(component) && component.detail ? signOf(component) : signOf(component) + component.number;
@@ -210,6 +236,7 @@ function markPicture() {
     if (trace.channel[at]) channels.add(trace.channel[at]);
     if (trace.component[at]) components.add(trace.component[at]);
   }
+  if (isStuckBehind(net, line) !== isStuckBehind(net, drawn.line)) for (const number of net.stuck.members) components.add(number);
   for (const number of isAll ? [] : channels) for (const end of [net.channels[number].active, net.channels[number].passive])
     if (end && end !== 'host') components.add(end.component);
   for (const number of channels) markChannel(number);
@@ -253,8 +280,8 @@ function tokenOf({walk, length}, phase) {
 // The component that a line moves, or 0.
 const moverAt = line => (isMove(trace.what[line]) ? trace.component[line] : 0);
 
-// The marks of a component: filled where it holds a request that it took, ringed where it moved, red where requests meet; and
-// what a variable holds.
+// The marks of a component: filled where it holds a request that it took, ringed where it moved, red where requests meet; an edge
+// of red dashes from where it never moves again, and thick red ones in the ring; and what a variable holds.
 function markComponent(number) {
   const mark = drawn.components.get(number);
   if (!mark) return;
@@ -263,15 +290,19 @@ function markComponent(number) {
   const open = phases.filter(phase => phase !== IDLE).length;
   const isClash = CALLS.has(component.kind) && open > 1 || trace.what[line] === CLASH && trace.component[line] === number;
   const isSelected = view.selected === `c${number}`;
-  const styles = {busy: phases.includes(TAKEN), moved: moverAt(line) === number, selected: isSelected, clash: isClash};
+  const stuck = isStill(net, trace, number, line);
+  const styles = {stuck, 'in-ring': stuck && net.stuck.ring.has(number), busy: phases.includes(TAKEN),
+    moved: moverAt(line) === number, selected: isSelected, clash: isClash};
   mark.group.setAttribute('class', ['component', ...Object.keys(styles).filter(style => styles[style])].join(' '));
   if (isVariable(component)) mark.caption.textContent = `${number} ${component.kind} = ${cut(heldBy(trace, component, line), 9)}`;
 }
 
-// A folded copy is ringed where something in it moved.
+// A folded copy is ringed where something in it moved, and red where something in it is in the ring.
 function markBoxes() {
   const mover = moverAt(view.line), path = mover ? `${net.components[mover].path}/` : '';
   for (const [box, group] of drawn.boxes) group.setAttribute('class', path.startsWith(`${box}/`) ? 'folded moved' : 'folded');
+  for (const number of drawn.boxes.size ? net.stuck.ring.keys() : []) if (isStill(net, trace, number, view.line))
+    drawn.boxes.get(boxOf(net.components[number]))?.classList.add('in-ring');
 }
 
 // Whether a host was told no.
@@ -360,10 +391,25 @@ function zoom(factor, point) {
 function follow() {
   const mover = moverAt(view.line);
   if (!mover) return;
-  const path = `${net.components[mover].path}/`, {box} = view;
-  const isMover = node => (node.component ? node.component.number === mover : node.box && path.startsWith(`${node.box}/`));
-  const node = view.picture.nodes.find(isMover);
+  bringIntoSight(nodeOfComponent(mover), false);
+}
+
+// What is drawn of a component: itself, or the folded copy that hides it. And of what is selected, if anything is.
+function nodeOfComponent(number) {
+  const path = `${net.components[number].path}/`;
+  return view.picture.nodes.find(({component, box}) => (component ? component.number === number : box && path.startsWith(`${box}/`)));
+}
+function nodeOfSelected(selected) {
+  const number = numberOf(selected);
+  if (selected[0] === 'c') return nodeOfComponent(number);
+  const [end] = endsBeside(selected);
+  return view.picture.nodes.find(({port}) => port && port.number === number) || end && nodeOfComponent(end);
+}
+
+// Moves the picture so that a node is in sight, and as near as it has to be read where that is wanted.
+function bringIntoSight(node, isToBeRead) {
+  const {box} = view, isFar = isToBeRead && sizes.svg.width / box.width < FAR_SCALE, {width, height} = isFar ? sizes.svg : box;
   const isIn = (at, from, size) => at > from + 0.08 * size && at < from + 0.92 * size;
-  if (!node || isIn(node.x, box.x, box.width) && isIn(node.y, box.y, box.height)) return;
-  setBox({...box, x: node.x - box.width / 2, y: node.y - box.height / 2});
+  if (!node || !isFar && isIn(node.x, box.x, box.width) && isIn(node.y, box.y, box.height)) return;
+  setBox({x: node.x - width / 2, y: node.y - height / 2, width, height});
 }

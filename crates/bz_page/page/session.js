@@ -47,7 +47,8 @@ async function refuse(name, netlist, {errors}) {
 
 // ---- lines, and what they change --------------------------------------------------------------------------------------
 
-// Up to so many components who waits for whom is asked after each move; of more where none can move. So many lines are shown.
+// Up to so many components who waits for whom, and what is stuck, is asked after each move; of more where none can move. So many
+// lines are shown.
 const MOST_WAITS = 300, MOST_TOLD = 1000;
 
 // Says lines, and then asks for what the page shows. Answers the answers to the lines.
@@ -57,10 +58,13 @@ async function sayLines(lines) {
   live.moves = movesIn(moves);
   const isAsked = all.components.length <= MOST_WAITS || !live.moves.some(it => !it.isHost);
   const isWhole = lines.every((line, i) => isWholly(line, told[i]));
-  const questions = [...(isAsked ? ['waits all'] : []), ...(isWhole ? [] : [`trace! ${TRACE}`])];
+  const questions = [...(isAsked ? ['waits all', 'waits'] : []), ...(isWhole ? [] : [`trace! ${TRACE}`])];
   const more = questions.length ? await sayPlainly(questions, isWhole ? [] : [TRACE]) : {answers: [], files: {}};
+  const [waits = '', briefly = ''] = isAsked ? more.answers.map(it => it.output) : [];
+  const stuck = /^stuck: /m.test(briefly) ? await askStuck() : nothingStuck();
   Object.assign(live.times, {memory, engine: performance.now() - began});
-  takeWaits(isAsked ? more.answers[0].output : '');
+  takeWaits(waits);
+  takeStuck(stuck);
   lines.forEach((line, i) => noteLine(line, told[i]));
   if (isWhole) growTrace(told.map(output => entriesIn(output).map(line => `${line}\n`).join('')).join(''), clashesIn(state));
   else renewTrace(more.files[TRACE]);
@@ -143,13 +147,29 @@ function takeWaits(text) {
   const lines = text.split('\n').filter(line => line), isCircle = line => /^c(ycle|ircle): /.test(line);
   net.end = [...lines.filter(isCircle), ...lines.filter(line => !isCircle(line))].slice(0, MOST_TOLD);
   live.circle = new Set();
-  live.stuck = new Set();
+  live.links = new Set();
   for (const line of lines.filter(isCircle))
     for (const name of line.slice(line.indexOf(': ') + 2).split(' -> ')) live.circle.add(Number(/^\S+ (\d+)/.exec(name)[1]));
   for (const line of lines) {
     const wait = /^(?:wait|or) \S+ +(\d+).* for \S+ (\d+).* to (?:reply|ask) on (\d+)/.exec(line);
-    if (wait && live.circle.has(Number(wait[1])) && live.circle.has(Number(wait[2]))) live.stuck.add(Number(wait[3]));
+    if (wait && live.circle.has(Number(wait[1])) && live.circle.has(Number(wait[2]))) live.links.add(Number(wait[3]));
   }
+}
+
+// What can never move again, as a page of what was played has it: nothing else tells all of it.
+async function askStuck() {
+  const {files} = await sayPlainly([`page! ${WRITTEN.page}`], [WRITTEN.page]), page = files[WRITTEN.page];
+  return page ? readRows(blockIn(page, 'rows')).stuck : nothingStuck();
+}
+
+// Takes it. Where it is another than before all is marked anew, and what is in focus drawn anew.
+function takeStuck(stuck) {
+  const said = ({line, members, ring}) => [line, ...members, ...ring.keys()].join();
+  if (said(stuck) !== said(net.stuck)) {
+    drawn.line = 0;
+    view.hasRing = null;
+  }
+  net.stuck = stuck;
 }
 
 // ---- what the reader does ---------------------------------------------------------------------------------------------

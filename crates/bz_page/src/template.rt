@@ -6,7 +6,7 @@ pub(crate) const HEAD: &str = r##"<!doctype html>
 <head>
 <meta charset="utf-8">
 <meta name="viewport" content="width=device-width">
-<meta http-equiv="Content-Security-Policy" content="default-src 'none'; style-src 'unsafe-inline'; script-src 'sha256-EzOtzecNPeRPBSsIb/AQyKgkDME9N/dTVXm7dzoGQ4w='">
+<meta http-equiv="Content-Security-Policy" content="default-src 'none'; style-src 'unsafe-inline'; script-src 'sha256-MBeMe2tJKVrqWYGwoU69URjdJQbBUb3i9yV8nvW1lFU='">
 <title>breezesim</title>
 <style>
 /* Colours: light, and dark where the reader's system or the reader says so. Phases are told by dashes and marks too. */
@@ -68,7 +68,8 @@ button.on { border-color: var(--selected); color: var(--selected); }
 }
 .find:focus-within #found:not(:empty) { display: block; }
 #found .name { padding: 3px 8px; cursor: pointer; }
-#found .name:hover { background: var(--busy); }
+#found .name:hover, #found .chosen { background: var(--busy); }
+#found .chosen { outline: 2px solid var(--selected); outline-offset: -2px; }
 
 /* The journal and the details */
 #svg {
@@ -94,11 +95,14 @@ div.row.now, div.row.now .line { background: var(--moved); color: var(--on-moved
 #details { padding: 8px 0; overflow: auto; }
 .title, .under, .hint, .ports { margin: 0 10px; }
 .title { font-weight: 700; font-size: 14px; overflow-wrap: anywhere; }
-.title.end { margin-top: 8px; }
+.title.end, .title.stuck { margin-top: 8px; }
+.title.stuck { color: var(--clash); cursor: pointer; }
+.under.stuck { color: var(--clash); font-weight: 700; }
 .under, .hint { color: var(--dim); font-size: 12px; overflow-wrap: anywhere; }
 .ports { margin-top: 6px; border-top: 1px solid var(--rule); }
 div.port {
-  display: grid; grid-template-columns: 14px 1fr 84px 116px; align-items: center;
+  display: grid; grid-template-columns: 14px minmax(54px, 1fr) minmax(84px, auto) minmax(96px, auto); column-gap: 5px;
+  align-items: center;
   border-bottom: 1px solid var(--rule); padding: 1px 0; cursor: pointer;
 }
 div.port > span { overflow: hidden; text-overflow: ellipsis; white-space: nowrap; }
@@ -188,6 +192,9 @@ svg .number { font-size: 9px; pointer-events: none; }
 .component { cursor: pointer; }
 .component .body { fill: var(--body); stroke: var(--ink); stroke-width: 1.5; }
 .component .ring { fill: none; stroke: none; }
+.component.stuck .body { stroke: var(--clash); stroke-width: 2.5; stroke-dasharray: 4 3; }
+.component.in-ring .body { stroke-width: 4; stroke-dasharray: none; }
+.component.in-ring .ring, .folded.in-ring .front { stroke: var(--clash); stroke-width: 5; }
 .component.busy .body { fill: var(--busy); }
 .component.moved .ring { stroke: var(--moved); stroke-width: 5; }
 .component.selected .body { stroke: var(--selected); stroke-width: 3; }
@@ -256,8 +263,8 @@ g.row.now rect { fill: var(--moved); fill-opacity: .5; }
   #details, .chosen #journal, .chosen h2 { display: none; }
   .chosen #details { display: block; }
   .chosen aside { grid-template-rows: minmax(0, 1fr); }
-  .ended #details { display: block; }
-  .ended aside { grid-template-rows: auto minmax(0, 1fr) minmax(0, 1fr); }
+  .told #details { display: block; }
+  .told aside { grid-template-rows: auto minmax(0, 1fr) minmax(0, 1fr); }
   header { flex-wrap: wrap; }
   #says { order: 9; flex-basis: 100%; white-space: normal; }
   footer { grid-template-columns: 1fr; }
@@ -316,9 +323,10 @@ autocomplete="off" spellcheck="false">
 <tr><td><kbd>→</kbd> <kbd>←</kbd></td>
 <td>a line on, a line back (with Shift 10; <kbd>PgDn</kbd> <kbd>PgUp</kbd> 100; <kbd>Home</kbd> <kbd>End</kbd>)</td></tr>
 <tr><td><kbd>space</kbd> <kbd>&lt;</kbd> <kbd>&gt;</kbd></td><td>play or pause, slower, faster</td></tr>
-<tr><td><kbd>]</kbd> <kbd>[</kbd></td><td>next, last event of what is selected; with nothing selected of the host</td></tr>
-<tr><td><kbd>r</kbd> <kbd>R</kbd> <kbd>x</kbd></td><td>next rest, last rest, next clash</td></tr>
-<tr><td><kbd>/</kbd> <kbd>Enter</kbd> <kbd>n</kbd> <kbd>N</kbd></td><td>search, next, next, last line found</td></tr>
+<tr><td><kbd>]</kbd> <kbd>[</kbd></td><td>next, previous event of what is selected; with nothing selected of the host</td></tr>
+<tr><td><kbd>r</kbd> <kbd>R</kbd> <kbd>x</kbd></td><td>next rest, previous rest, next clash</td></tr>
+<tr><td><kbd>/</kbd> <kbd>Enter</kbd> <kbd>n</kbd> <kbd>N</kbd> <kbd>↓</kbd> <kbd>↑</kbd></td>
+<td>search, next, next, previous line found; choose a name found</td></tr>
 <tr><td><kbd>g</kbd></td><td>go to a line by its number</td></tr>
 <tr><td><kbd>+</kbd> <kbd>-</kbd> <kbd>f</kbd> <kbd>w</kbd></td><td>nearer, farther, whole net, follow what moves</td></tr>
 <tr><td><kbd>o</kbd> <kbd>s</kbd></td><td>only what moves around this line; channels to hubs as stubs</td></tr>
@@ -327,7 +335,8 @@ autocomplete="off" spellcheck="false">
 <p><b>Signs.</b> A circle is a component. A channel goes from a filled dot (the end that asks) to an open one (the end that
 answers). Its arrow says where a value goes.<br>
 Grey: idle. Orange, dashes, ▶: asked. Blue, ■: taken. Green, dots, ◀: replied. Blue circle: holds a request that it took.
-Yellow ring: what moved in this line. Red: requests met here. A click on a copy's name folds it, and on a box unfolds it.</p>
+Yellow ring: what moved in this line. Red: requests met here. Red dashes: never moves again; thick red: waits in a ring. A
+click on a copy's name folds it, and on a box unfolds it.</p>
 <button id="close">close</button>
 </div>
 </div>
@@ -361,13 +370,22 @@ const CALLS = new Set(['Call', 'CallMux', 'CallDemux']);
 const IDLE = 0, ASKED = 1, TAKEN = 2, REPLIED = 3;
 const PHASES = ['idle', 'asked', 'taken', 'replied'];
 
-// The rows of ports of each kind, the details of components and who waits for whom at the end.
+// What can never move again: the first line behind which something is stuck (0: there is none), how many components are stuck
+// there, the stuck ones at the end, and the members of a ring with their lines.
+const nothingStuck = () => ({line: 0, first: 0, members: new Set(), ring: new Map()});
+
+// The rows of ports of each kind, the details of components, what is stuck, and who waits for whom at the end.
 function readRows(text) {
-  const found = {ports: new Map(), details: new Map(), end: []};
+  const found = {ports: new Map(), details: new Map(), stuck: nothingStuck(), end: []};
   for (const line of text.split('\n')) {
     const words = line.split(' ');
     if (words[0] === 'row') found.ports.set(words[1], words.slice(2).map(readPort));
     if (words[0] === 'detail') found.details.set(Number(words[1]), words.slice(2).join(' '));
+    if (words[0] === 'stuck') {
+      const [line, first, ...members] = words.slice(1).map(Number);
+      Object.assign(found.stuck, {line, first, members: new Set(members)});
+    }
+    if (words[0] === 'ring') found.stuck.ring.set(Number(words[1]), words.slice(2).filter(word => word).join(' '));
     if (words[0] === 'end') found.end.push(line.slice(4));
   }
   return found;
@@ -430,7 +448,8 @@ function namePorts(component, row) {
 // The net of the list. Channels and components stand at their numbers, so the rows of both begin with null.
 function readNet(list, rowText) {
   const rows = readRows(rowText);
-  const net = {part: '', ports: [], channels: [null], components: [null], instances: new Map(), end: rows.end};
+  const net = {part: '', ports: [], channels: [null], components: [null], instances: new Map(), stuck: rows.stuck,
+    end: rows.end};
   for (const line of list.split('\n')) {
     const words = line.split(' '), number = Number(words[1]);
     if (words[0] === 'part') net.part = words[1];
@@ -569,6 +588,13 @@ function valueIn(trace, line) {
   if (words[1] === 'offer' || words[1] === 'answer') return words[4] ? words[3] : '';
   return words[words.length - 2] === 'value' ? words[words.length - 1] : '';
 }
+
+// Whether something is stuck behind a line; and whether a component never moves again from there on. (What is stuck at the end may
+// have moved after that: so each counts from its own last move on.)
+const isStuckBehind = (net, line) => net.stuck.line > 0 && line >= net.stuck.line;
+const lastMoveOf = (trace, number) => nthOf(trace.linesOfComponent, number, countOf(trace.linesOfComponent, number) - 1);
+const isStill = (net, trace, number, line) => isStuckBehind(net, line) && net.stuck.members.has(number)
+  && line >= lastMoveOf(trace, number);
 
 // What a variable holds: the value of the last write that it took, at first 0.
 function heldBy(trace, component, line) {
@@ -1471,8 +1497,8 @@ const added = {isLive: false, afterShow() {}, takesClick() { return false; }, en
 const MANY = 300, IN_FOCUS = 90, NEAR = 40, REFOCUS = 25;
 
 // What the reader chose. `selected` is `c5` for a component, `k7` for a channel, or null.
-const view = {line: 1, selected: null, isFocused: false, focusLine: 0, folded: new Set(), foldedInFocus: new Set(),
-  isStubbed: null, picture: null, box: null, isFollowing: false, isCharted: false, layoutTime: 0};
+const view = {line: 1, selected: null, isFocused: false, focusLine: 0, folded: new Set(), foldedInFocus: new Set(), foldedAtFirst: [],
+  isStubbed: null, picture: null, box: null, isFollowing: false, isCharted: false, hasRing: false, layoutTime: 0};
 
 // What is drawn, by number or path, and the line that it shows (0: nothing yet).
 const drawn = {channels: new Map(), components: new Map(), boxes: new Map(), ports: new Map(), line: 0, here: 0};
@@ -1506,7 +1532,7 @@ function showOnly(components, channels) {
   Object.assign(net, {shownComponents: components, shownChannels: channels});
 }
 
-// In focus: what moves in the lines around this one, with who called it.
+// In focus: what moves in the lines around this one, with who called it, and the ring where something is stuck.
 function showNear(line) {
   const kept = new Set(), keep = number => { if (kept.size < IN_FOCUS) kept.add(number); };
   const keepEnd = (end, at) => {
@@ -1514,9 +1540,15 @@ function showNear(line) {
     keep(end.component);
     for (const caller of callersOf(net, trace, net.components[end.component], at)) if (typeof caller === 'number') keep(caller);
   };
-  for (let distance = 0; distance <= NEAR; distance++) for (const at of new Set([line - distance, line + distance])) {
-    const channel = at > 1 && at <= trace.count && net.channels[trace.channel[at]];
-    if (channel) for (const end of [channel.active, channel.passive]) keepEnd(end, at);
+  view.hasRing = isStuckBehind(net, line);
+  for (let distance = 0; distance <= NEAR; distance++) {
+    for (const at of new Set([line - distance, line + distance])) {
+      const channel = at > 1 && at <= trace.count && net.channels[trace.channel[at]];
+      if (channel) for (const end of [channel.active, channel.passive]) keepEnd(end, at);
+    }
+    if (distance > 0) continue;
+    if (view.hasRing) [...net.stuck.ring.keys()].forEach(keep);
+    endsBeside(view.selected).forEach(keep);
   }
   for (const end of added.endsInFocus()) keepEnd(end, line);
   view.focusLine = line;
@@ -1525,6 +1557,21 @@ function showNear(line) {
   const numbers = new Set(components.flatMap(component => component.channels.slice(1)));
   const channels = [...numbers].sort((a, b) => a - b).map(number => net.channels[number]);
   showOnly(components, channels.filter(it => it && isKept(it.active) && isKept(it.passive)));
+}
+
+// The components at the ends of a channel, or a component and those at the other ends of its channels.
+function endsBeside(selected) {
+  if (!selected) return [];
+  const number = numberOf(selected), isChannel = selected[0] === 'k';
+  const beside = (isChannel ? [number] : net.components[number].channels.slice(1)).map(one => net.channels[one]);
+  const ends = beside.flatMap(({active, passive}) => [active, passive]).filter(end => end && end !== 'host');
+  return [...(isChannel ? [] : [number]), ...ends.map(end => end.component)];
+}
+
+// Whether what is selected is drawn, and a component with all of its channels that have two ends.
+function isDrawnWhole(selected) {
+  const channels = selected[0] === 'k' ? [numberOf(selected)] : net.components[numberOf(selected)].channels.slice(1);
+  return channels.every(number => drawn.channels.has(number) || !net.channels[number].active || !net.channels[number].passive);
 }
 
 // The frame of a copy that is unfolded.
@@ -1595,11 +1642,16 @@ function drawStub(channel, pieces, layers) {
   drawn.channels.set(channel.number, {group, walk, length: walk[walk.length - 1].way, value, token: null});
 }
 
+// The folded copy that hides a component, if one does.
+function boxOf({path}) {
+  const steps = path.split('/');
+  return steps.map((step, i) => steps.slice(0, i + 1).join('/')).find(outer => foldedNow().has(outer));
+}
+
 // How the other end of a stub is called: a folded copy by its path, a variable by its name, what answers by its sign and number,
 // who asks by its number.
 function stubName(end, isAnswering) {
-  const component = net.components[end.component], steps = component.path.split('/');
-  const box = steps.map((step, i) => steps.slice(0, i + 1).join('/')).find(path => foldedNow().has(path));
+  const component = net.components[end.component], box = boxOf(component);
   if (box) return `▸${box}`;
   if (!isAnswering) return String(component.number);
   return isVariable(component) && component.detail ? signOf(component) : signOf(component) + component.number;
@@ -1654,6 +1706,7 @@ function markPicture() {
     if (trace.channel[at]) channels.add(trace.channel[at]);
     if (trace.component[at]) components.add(trace.component[at]);
   }
+  if (isStuckBehind(net, line) !== isStuckBehind(net, drawn.line)) for (const number of net.stuck.members) components.add(number);
   for (const number of isAll ? [] : channels) for (const end of [net.channels[number].active, net.channels[number].passive])
     if (end && end !== 'host') components.add(end.component);
   for (const number of channels) markChannel(number);
@@ -1697,8 +1750,8 @@ function tokenOf({walk, length}, phase) {
 // The component that a line moves, or 0.
 const moverAt = line => (isMove(trace.what[line]) ? trace.component[line] : 0);
 
-// The marks of a component: filled where it holds a request that it took, ringed where it moved, red where requests meet; and
-// what a variable holds.
+// The marks of a component: filled where it holds a request that it took, ringed where it moved, red where requests meet; an edge
+// of red dashes from where it never moves again, and thick red ones in the ring; and what a variable holds.
 function markComponent(number) {
   const mark = drawn.components.get(number);
   if (!mark) return;
@@ -1707,15 +1760,19 @@ function markComponent(number) {
   const open = phases.filter(phase => phase !== IDLE).length;
   const isClash = CALLS.has(component.kind) && open > 1 || trace.what[line] === CLASH && trace.component[line] === number;
   const isSelected = view.selected === `c${number}`;
-  const styles = {busy: phases.includes(TAKEN), moved: moverAt(line) === number, selected: isSelected, clash: isClash};
+  const stuck = isStill(net, trace, number, line);
+  const styles = {stuck, 'in-ring': stuck && net.stuck.ring.has(number), busy: phases.includes(TAKEN),
+    moved: moverAt(line) === number, selected: isSelected, clash: isClash};
   mark.group.setAttribute('class', ['component', ...Object.keys(styles).filter(style => styles[style])].join(' '));
   if (isVariable(component)) mark.caption.textContent = `${number} ${component.kind} = ${cut(heldBy(trace, component, line), 9)}`;
 }
 
-// A folded copy is ringed where something in it moved.
+// A folded copy is ringed where something in it moved, and red where something in it is in the ring.
 function markBoxes() {
   const mover = moverAt(view.line), path = mover ? `${net.components[mover].path}/` : '';
   for (const [box, group] of drawn.boxes) group.setAttribute('class', path.startsWith(`${box}/`) ? 'folded moved' : 'folded');
+  for (const number of drawn.boxes.size ? net.stuck.ring.keys() : []) if (isStill(net, trace, number, view.line))
+    drawn.boxes.get(boxOf(net.components[number]))?.classList.add('in-ring');
 }
 
 // Whether a host was told no.
@@ -1804,12 +1861,27 @@ function zoom(factor, point) {
 function follow() {
   const mover = moverAt(view.line);
   if (!mover) return;
-  const path = `${net.components[mover].path}/`, {box} = view;
-  const isMover = node => (node.component ? node.component.number === mover : node.box && path.startsWith(`${node.box}/`));
-  const node = view.picture.nodes.find(isMover);
+  bringIntoSight(nodeOfComponent(mover), false);
+}
+
+// What is drawn of a component: itself, or the folded copy that hides it. And of what is selected, if anything is.
+function nodeOfComponent(number) {
+  const path = `${net.components[number].path}/`;
+  return view.picture.nodes.find(({component, box}) => (component ? component.number === number : box && path.startsWith(`${box}/`)));
+}
+function nodeOfSelected(selected) {
+  const number = numberOf(selected);
+  if (selected[0] === 'c') return nodeOfComponent(number);
+  const [end] = endsBeside(selected);
+  return view.picture.nodes.find(({port}) => port && port.number === number) || end && nodeOfComponent(end);
+}
+
+// Moves the picture so that a node is in sight, and as near as it has to be read where that is wanted.
+function bringIntoSight(node, isToBeRead) {
+  const {box} = view, isFar = isToBeRead && sizes.svg.width / box.width < FAR_SCALE, {width, height} = isFar ? sizes.svg : box;
   const isIn = (at, from, size) => at > from + 0.08 * size && at < from + 0.92 * size;
-  if (!node || isIn(node.x, box.x, box.width) && isIn(node.y, box.y, box.height)) return;
-  setBox({...box, x: node.x - box.width / 2, y: node.y - box.height / 2});
+  if (!node || !isFar && isIn(node.x, box.x, box.width) && isIn(node.y, box.y, box.height)) return;
+  setBox({x: node.x - width / 2, y: node.y - height / 2, width, height});
 }
 // ---- the journal: of the lines of the trace those around the current one --------------------------------------------
 
@@ -1858,10 +1930,28 @@ const selectedLines = () => [view.selected[0] === 'c' ? trace.linesOfComponent :
 function showDetails() {
   const {selected} = view;
   document.body.classList.toggle('chosen', selected !== null);
-  document.body.classList.toggle('ended', selected === null && isEndTold());
-  if (!selected) return $('details').replaceChildren(...endDetails());
+  document.body.classList.toggle('told', selected === null && (isStuckBehind(net, view.line) || isEndTold()));
+  const hint = html('div', 'hint', 'Click a component or a channel to see its history.');
+  if (!selected) return $('details').replaceChildren(hint, ...stuckDetails(), ...endDetails());
   const shown = selected[0] === 'c' ? componentDetails(numberOf(selected)) : channelDetails(numberOf(selected));
-  return $('details').replaceChildren(...shown, eventButtons(), history());
+  return $('details').replaceChildren(...shown, eventButtons(), history(), ...stuckDetails());
+}
+
+// What can never move again, since which line, and the ring.
+function stuckDetails() {
+  const {line, first, members, ring} = net.stuck;
+  if (!isStuckBehind(net, view.line)) return [];
+  const title = html('div', 'title stuck', `Since line ${line}, ${counted(first, 'component')} can never move again`);
+  title.dataset.line = line;
+  const now = added.isLive ? 'Now' : 'At the end', round = ring.size ? `, and ${ring.size} of them wait for one another` : '';
+  const told = `Whatever the host does. ${now} it is ${members.size} of ${all.components.length}${round}.`;
+  return [title, html('div', 'under', told), ...[...ring].map(([number, text]) => {
+    const isNow = isStill(net, trace, number, view.line);
+    const row = html('div', 'wait ring', isNow ? text : `${text} (from line ${lastMoveOf(trace, number)} on)`);
+    row.classList.toggle('cycle', isNow);
+    row.dataset.select = `c${number}`;
+    return row;
+  })];
 }
 
 // Whether the current line is behind the last move, and it is told who waits for whom then.
@@ -1871,11 +1961,10 @@ function isEndTold() {
   return net.end.length > 0 && view.line >= last;
 }
 
-// Nothing is selected: at the end who waits for whom.
+// At the end who waits for whom.
 function endDetails() {
-  const shown = [html('div', 'hint', 'Click a component or a channel to see its history.')];
-  if (!isEndTold()) return shown;
-  shown.push(html('div', 'title end', `Who waits for whom ${added.isLive ? 'now' : 'at the end'}`));
+  if (!isEndTold()) return [];
+  const shown = [html('div', 'title end', `Who waits for whom ${added.isLive ? 'now' : 'at the end'}`)];
   for (const line of net.end) {
     const names = /^(?:wait|or|ended) \S+ (\d+)/.exec(line), isCycle = /^(circle|cycle)/.test(line);
     const row = html('div', isCycle ? 'wait cycle' : 'wait', line.replace(/ +/g, ' '));
@@ -1894,6 +1983,7 @@ function phaseText(number) {
 function componentDetails(number) {
   const component = net.components[number], more = component.channels.length - 1 - MOST_PORTS;
   const shown = [html('div', 'title', component.title), html('div', 'under', placeOf(component))];
+  if (isStill(net, trace, number, view.line)) shown.push(html('div', 'under stuck', 'never moves again'));
   if (isVariable(component)) shown.push(html('div', 'under', `holds ${heldBy(trace, component, view.line)}`));
   const ports = html('div', 'ports');
   for (let p = 1; p < component.channels.length && p <= MOST_PORTS; p++) ports.append(portRow(component, p));
@@ -1933,10 +2023,10 @@ function channelDetails(number) {
   return [html('div', 'title', title), html('div', 'under', endsOf(channel)), html('div', 'under', placeOf(channel)), ports];
 }
 
-// Buttons to the last and the next line of what is selected, how many there are, and a button that leaves it.
+// Buttons to the previous and the next line of what is selected, how many there are, and a button that leaves it.
 function eventButtons() {
   const [lines, key] = selectedLines(), row = html('div', 'events');
-  for (const [text, direction] of [['◂ last event', -1], ['next event ▸', 1]]) {
+  for (const [text, direction] of [['◂ previous event', -1], ['next event ▸', 1]]) {
     const button = html('button', '', text), line = eventLine(direction);
     button.title = direction > 0 ? ']' : '[';
     button.disabled = !line;
@@ -1965,7 +2055,7 @@ function history() {
   return list;
 }
 
-// The next or last line of what is selected, or of the hosts where nothing is; 0 where there is none.
+// The next or previous line of what is selected, or of the hosts where nothing is; 0 where there is none.
 function eventLine(direction) {
   const {hostLines} = trace, ofHosts = [[hostLines], 0];
   const [lines, key] = view.selected ? selectedLines() : ofHosts;
@@ -1973,7 +2063,7 @@ function eventLine(direction) {
   return nthOf(lines, key, direction > 0 ? seen : seen - (isHere ? 2 : 1));
 }
 
-// ---- the strip above the scrubber: hosts, rests, clashes, the events of what is selected, what the search found -----
+// ---- the strip above the scrubber: hosts, rests, clashes, events of what is selected, what was found, a flag where it is stuck
 
 const STRIP_HEIGHT = 22;
 const strip = {key: ''};
@@ -1989,10 +2079,11 @@ function showStrip() {
   canvas.height = STRIP_HEIGHT * ratio;
   const pen = canvas.getContext('2d'), colours = getComputedStyle(document.documentElement);
   pen.scale(ratio, ratio);
+  const placeOfLine = line => (trace.count < 2 ? 0 : Math.round((line - 1) / (trace.count - 1) * (width - 1)));
   const marks = (lines, from, to, top, bottom, colour) => {
     pen.fillStyle = colours.getPropertyValue(colour).trim();
     for (let i = from, last = -1; i < to; i++) {
-      const x = trace.count < 2 ? 0 : Math.round((lines[i] - 1) / (trace.count - 1) * (width - 1));
+      const x = placeOfLine(lines[i]);
       if (x !== last) pen.fillRect(x, top, 1.5, bottom - top);
       last = x;
     }
@@ -2005,17 +2096,21 @@ function showStrip() {
     marks(linesOf(lines, number), 0, countOf(lines, number), 9, 15, '--selected');
   }
   if (search.hits) marks(search.hits, 0, search.hits.length, 16, STRIP_HEIGHT, '--found');
+  if (net.stuck.line) {
+    marks([net.stuck.line], 0, 1, 0, STRIP_HEIGHT, '--clash');
+    pen.fillRect(placeOfLine(net.stuck.line) - 5, 0, 11, 7);
+  }
 }
 
 // ---- search ---------------------------------------------------------------------------------------------------------
 
 const MOST_HITS = 200000, MOST_NAMES = 12;
-const search = {text: '', hits: null, timer: 0};
+const search = {text: '', hits: null, chosen: -1, timer: 0};
 const countedHits = count => (count === MOST_HITS ? `${count}+ lines` : counted(count, 'line'));
 
 // Finds the lines that hold a text, and components, channels and ports by what they are called.
 function find(text) {
-  Object.assign(search, {text, hits: text === '' ? null : linesWith(text)});
+  Object.assign(search, {text, hits: text === '' ? null : linesWith(text), chosen: -1});
   $('count').textContent = text === '' ? '' : countedHits(search.hits.length);
   $('found').replaceChildren(...(text === '' ? [] : namesWith(text.toLowerCase()).map(([select, name]) => {
     const row = html('div', 'name', name);
@@ -2023,6 +2118,14 @@ function find(text) {
     return row;
   })));
   showStrip();
+  writeLink();
+}
+
+// Chooses the next or the previous of the names that were found; before the first one none is chosen.
+function chooseName(by) {
+  const names = $('found').children;
+  search.chosen = Math.max(-1, Math.min(names.length - 1, search.chosen + by));
+  [...names].forEach((row, i) => row.classList.toggle('chosen', i === search.chosen));
 }
 
 // The lines that hold a text, rising.
@@ -2037,11 +2140,14 @@ function linesWith(text) {
   return hits;
 }
 
-// What is called so: by number, kind, name, copy, or place in the source.
+// What is called so: by number, kind, name, copy, or place in the source. (`c12` and `fetch 12` are component 12, whose title begins
+// with its number.)
 function namesWith(text) {
   const names = [], holds = words => words.some(word => word && word.toLowerCase().includes(text));
   const number = /^(?:ch|channel|k) ?(\d+)$/.exec(text);
   if (number && net.channels[Number(number[1])]) names.push([`k${number[1]}`, channelName(net.channels[Number(number[1])])]);
+  const [, kind, of] = /^([a-z]\w*?) ?(\d+)$/.exec(text) || [], named = net.components[Number(of)];
+  if (named && (kind === 'c' || named.kind.toLowerCase() === kind)) names.push([`c${of}`, named.title]);
   for (const port of net.ports) if (port && names.length < MOST_NAMES && holds([port.name]))
     names.push([`k${port.number}`, `port ${port.name}`]);
   const most = names.length + MOST_NAMES;
@@ -2059,7 +2165,7 @@ function namesWith(text) {
   return names;
 }
 
-// Goes to the next or last line found, and from the ends to the other end.
+// Goes to the next or previous line found, and from the ends to the other end.
 function goToHit(direction) {
   const {hits} = search;
   if (!hits || hits.length === 0) return;
@@ -2200,13 +2306,14 @@ function drawStrokes({first, last, y, column}, strokes) {
 
 // Shows the current line in all panels.
 function show() {
-  if (view.isFocused && Math.abs(view.line - view.focusLine) > REFOCUS) {
+  const isFar = Math.abs(view.line - view.focusLine) > REFOCUS || view.hasRing !== isStuckBehind(net, view.line);
+  if (view.isFocused && isFar) {
     draw();
     fit();
   }
   markPicture();
   if (view.isFollowing) follow();
-  $('says').textContent = tell(view.line);
+  $('says').textContent = tell(view.line) + (view.line === net.stuck.line ? ' (from here on something is stuck)' : '');
   $('position').textContent = `line ${view.line} of ${trace.count}`;
   $('scrubber').value = view.line;
   showJournal();
@@ -2214,7 +2321,7 @@ function show() {
   showStrip();
   if (view.isCharted) showChart();
   added.afterShow();
-  if (!added.isLive) writeLink();
+  writeLink();
 }
 
 // Goes to a line, or to the nearest that there is.
@@ -2227,12 +2334,22 @@ function go(line) {
 const step = lines => go(view.line + lines);
 const goTo = line => { if (line) go(line); };
 
-// Selects a component, a channel, or nothing.
+// Selects a component, a channel, or nothing. In focus a component is drawn with all that is beside it.
 function select(selected) {
   const before = view.selected;
   view.selected = selected;
+  if (view.isFocused && selected && !isDrawnWhole(selected)) {
+    draw();
+    fit();
+  }
   markSelection(before);
   show();
+}
+
+// Selects what was chosen in a list, and moves the picture there, near enough to read it.
+function goToSelected(selected) {
+  select(selected);
+  bringIntoSight(nodeOfSelected(selected), true);
 }
 
 // Draws anew, and shows all of it.
@@ -2274,9 +2391,12 @@ function setChart(isCharted) {
   show();
 }
 
+// Light or dark; of a page that says neither the reader's system decides.
 function setTheme(theme) {
-  document.documentElement.dataset.theme = theme;
+  if (theme) document.documentElement.dataset.theme = theme;
+  else delete document.documentElement.dataset.theme;
   showStrip();
+  writeLink();
 }
 
 // Light where it is dark, and dark where it is light.
@@ -2323,12 +2443,20 @@ function changeSpeed(by) {
 
 const link = {timer: 0};
 
+// The copies that begin folded, in focus and else.
+const foldedAtFirst = () => (view.isFocused ? [] : view.foldedAtFirst);
+
 // Writes what is seen into the address, without a step in the browser's history.
 function writeLink() {
-  const parts = [`line=${view.line}`];
+  if (added.isLive) return;
+  const parts = [`line=${view.line}`], folded = [...foldedNow()].join(), {theme} = document.documentElement.dataset;
   if (view.selected) parts.push(`at=${view.selected}`);
   if (view.isCharted) parts.push('view=chart');
   if (view.isFocused !== isLarge) parts.push(`focus=${Number(view.isFocused)}`);
+  if (search.text) parts.push(`find=${encodeURIComponent(search.text)}`);
+  if (folded !== foldedAtFirst().join()) parts.push(`fold=${folded}`);
+  if (view.isStubbed !== null) parts.push(`stubs=${Number(view.isStubbed)}`);
+  if (theme) parts.push(`theme=${theme}`);
   const hash = `#${parts.join('&')}`;
   clearTimeout(link.timer);
   link.timer = setTimeout(() => {
@@ -2340,24 +2468,22 @@ function writeLink() {
 const thatIs = selected => (selected[0] === 'c' ? net.components : net.channels)[numberOf(selected)];
 const isThere = selected => /^[ck][0-9]+$/.test(selected) && Boolean(thatIs(selected));
 
-// Shows what an address says.
+// Shows what an address says; what it doesn't say is as at first.
 function readLink(address) {
   const said = new URLSearchParams(new URL(address).hash.slice(1)), at = said.get('at');
   view.line = Math.max(1, Math.min(trace.count, Math.trunc(Number(said.get('line'))) || 1));
   view.selected = at && isThere(at) ? at : null;
   view.isFocused = said.has('focus') ? said.get('focus') === '1' : isLarge;
-  if (said.has('stubs')) view.isStubbed = said.get('stubs') === '1';
-  if (said.has('fold')) Object.assign(view, {folded: foldedBy(said), foldedInFocus: foldedBy(said)});
-  if (said.has('theme')) setTheme(said.get('theme') === 'dark' ? 'dark' : 'light');
-  if (said.has('find')) {
-    $('search').value = said.get('find');
-    find(said.get('find'));
-  }
+  view.isStubbed = said.has('stubs') ? said.get('stubs') === '1' : null;
+  view[view.isFocused ? 'foldedInFocus' : 'folded'] = new Set(said.has('fold') ? foldedBy(said) : foldedAtFirst());
+  setTheme(said.has('theme') && (said.get('theme') === 'dark' ? 'dark' : 'light'));
+  $('search').value = said.get('find') || '';
+  find($('search').value);
   $('focus').classList.toggle('on', view.isFocused);
   draw();
   setChart(said.get('view') === 'chart');
 }
-const foldedBy = said => new Set(said.get('fold').split(',').filter(path => net.instances.has(path)));
+const foldedBy = said => said.get('fold').split(',').filter(path => net.instances.has(path));
 
 // ---- keys and the mouse ---------------------------------------------------------------------------------------------
 
@@ -2381,15 +2507,23 @@ const KEYS = {
 function typed(event) {
   const field = event.target;
   if (event.key === 'Escape') field.blur();
+  if (field.id === 'search') return typedInSearch(event);
   if (event.key !== 'Enter') return;
   event.preventDefault();
-  if (field.id === 'search') {
-    if (search.text !== field.value) find(field.value);
-    goToHit(event.shiftKey ? -1 : 1);
-  } else {
-    go(Number(field.value));
-    field.blur();
-  }
+  go(Number(field.value));
+  field.blur();
+}
+
+// Arrows choose a name that was found, and Enter goes there; else to the next line found, or to the first name where there is none.
+function typedInSearch(event) {
+  const by = {Enter: 0, ArrowDown: 1, ArrowUp: -1}[event.key], text = $('search').value;
+  if (by === undefined) return;
+  event.preventDefault();
+  if (search.text !== text) find(text);
+  if (by) return chooseName(by);
+  const {hits, chosen} = search, name = $('found').children[hits && hits.length === 0 ? Math.max(0, chosen) : chosen];
+  if (name) goToSelected(name.dataset.select);
+  else goToHit(event.shiftKey ? -1 : 1);
 }
 
 function pressed(event) {
@@ -2407,7 +2541,7 @@ function clicked(event) {
   if (!target) return false;
   const {line, select: selected, component, channel, copy} = target.dataset;
   if (line) go(Number(line));
-  else if (selected) select(selected);
+  else if (selected) goToSelected(selected);
   else if (component) select(`c${component}`);
   else if (channel) select(`k${channel}`);
   else fold(copy);
@@ -2503,9 +2637,10 @@ function load(list, rows, text) {
   net = readNet(list, rows);
   all = {components: net.components.slice(1), channels: net.channels.slice(1)};
   isLarge = all.components.length > MANY;
-  Object.assign(view, {line: 1, selected: null, isFocused: isLarge, focusLine: 0, folded: new Set(), foldedInFocus: new Set(),
+  Object.assign(view, {line: 1, selected: null, isFocused: isLarge, focusLine: 0, foldedInFocus: new Set(),
     isStubbed: null});
-  if (all.components.length > MANY / 2) for (const path of net.instances.keys()) if (!path.includes('/')) view.folded.add(path);
+  view.foldedAtFirst = all.components.length > MANY / 2 ? [...net.instances.keys()].filter(path => !path.includes('/')) : [];
+  view.folded = new Set(view.foldedAtFirst);
   document.title = `${net.part} · breezesim`;
   $('part').textContent = net.part;
   takeTrace(readTrace(text, net));
