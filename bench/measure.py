@@ -10,7 +10,8 @@ so as at a terminal. They are the same each time. What a program refuses, as one
 greatest in MB, and its page faults. A row of moves leaves out the time of the same command without any. No figure of memory is
 below that of Python itself, some 15 MB, out of which the programs are started. The largest netlists
 are opened a second time with what the launcher tells the C library of memory, as ./breezesim opens them. --counts shows the
-instructions alone, --times the times alone. The netlists are made by netlists.py, in a folder that goes away.
+instructions alone, --times the times alone. The netlists are made by netlists.py,
+hostnets.py (one large component) and kindnets.py (one family of kinds), in a folder that goes away.
 """
 import os
 import re
@@ -21,11 +22,16 @@ import tempfile
 import time
 from typing import NamedTuple
 
+sys.dont_write_bytecode = True
+import kindnets
+
 HERE = os.path.dirname(os.path.abspath(__file__))
 MOVES = int(os.environ.get("MOVES", "1000000"))
 ROUNDS = int(os.environ.get("ROUNDS", "3"))
 FIRST, COUNTED = 20_000, 200_000
 MOVING = [("pipeline", 10), ("pipeline", 1000), ("loops", 64), ("loops", 4096), ("array", 16), ("array", 4096)]
+# Nets of bench/hostnets.py, one large component each.
+MEMBERS = [(shape, size) for shape in ("call", "case", "concur", "sequence", "passivator") for size in (8, 64, 512, 4096)]
 OPENED = [("large", 100000), ("pipeline", 10000), ("tree", 100000)]
 # Calls: a command, the netlist, and of how many moves the trace is, where it reads one.
 CALLS = [("list", "large", 20000, 0), ("draw", "pipeline", 800, 0), ("lint", "pipeline", 1000, 0)]
@@ -50,10 +56,14 @@ class Netlists:
         self.folder = folder
 
     def path(self, shape, size):
-        path = os.path.join(self.folder, f"{shape}{size}")
+        return self.made("netlists.py", shape, str(size))
+
+    def made(self, script, *words):
+        """A netlist that a script of this folder writes."""
+        path = os.path.join(self.folder, "".join(words))
         if not os.path.exists(path):
             with open(path, "wb") as text:
-                subprocess.run([sys.executable, os.path.join(HERE, "netlists.py"), shape, str(size)], stdout=text, check=True)
+                subprocess.run([sys.executable, os.path.join(HERE, script), *words], stdout=text, check=True)
         return path
 
     def with_trace(self, program, shape, size, moves):
@@ -112,6 +122,12 @@ def counts(programs, netlists):
     for shape, size in MOVING:
         netlist = netlists.path(shape, size)
         show_each(f"{shape} {size}: a move", programs, lambda p, n: counted(p, moving(n), netlist))
+    for shape, size in MEMBERS:
+        netlist = netlists.made("hostnets.py", shape, str(size))
+        show_each(f"{shape} of {size}: a move", programs, lambda p, n: counted(p, moving(n), netlist))
+    for kind in kindnets.NETS:
+        netlist = netlists.made("kindnets.py", kind)
+        show_each(f"{kind}: a move", programs, lambda p, n: counted(p, moving(n), netlist))
     for shape, size in [("pipeline", 1000), ("loops", 64)]:
         show_each(f"{shape} {size}: a line checked", programs, lambda p, n: counted(
             p, ["check", "--part", "bench"], netlists.with_trace(programs[0], shape, size, n)))
