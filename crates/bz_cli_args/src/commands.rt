@@ -5,9 +5,9 @@ use crate::help::{
     VERSION,
 };
 use crate::options::{
-    AROUND, DEPTH, EXPLAIN, FORMAT, FROM, FUEL, HOPS, JOURNAL, MEANT_PART, NETLIST, Opt, PART,
-    PART_FORM, PATHS, REQUIRED_NETLIST, SESSIONS, STRICT, TO, TRACE, WORD_FILE, WORDS, WORKERS,
-    arg_of,
+    AROUND, DEPTH, EXPLAIN, FILES, FORMAT, FROM, FUEL, HOPS, JOURNAL, MEANT_PART, MOST, NETLIST,
+    Opt, PART, PART_FORM, PATHS, REQUIRED_NETLIST, SESSIONS, STRICT, TO, TRACE, WORD_FILE, WORDS,
+    WORKERS, arg_of,
 };
 use clap::{Arg, Command};
 use std::alloc::{AllocError, Global};
@@ -52,7 +52,7 @@ const SUBS: [Sub; 11] = [
         name: "lint",
         about: "Tell all faults of a netlist at once, and what is likely to be a mistake",
         after: LINT,
-        options: &[MEANT_PART, PART_FORM, NETLIST, FORMAT],
+        options: &[MEANT_PART, PART_FORM, NETLIST, FORMAT, MOST, FILES],
     },
     Sub {
         name: "parts",
