@@ -9,7 +9,7 @@ use bz_cli_args::{
     tell_error, words_of,
 };
 use bz_cli_input::Fault;
-use bz_cli_program::{Given, Outcome, Refusal, Texts, end, open_file, program, tip};
+use bz_cli_program::{Given, Outcome, Refusal, Texts, end, open_file, program, tell_unread, tip};
 use bz_explain_notes::Keeping;
 use std::io::{BufWriter, IsTerminal, Read};
 use std::os::fd::AsFd;
@@ -85,11 +85,11 @@ fn play_on<P: Threads + Wait + Sync, R: Read + Drop>(
     play(rt, threads, &given, input)
 }
 
-// The same on the netlist of the file that is named, or of standard input.
+// The same on the netlist of the file that is named, or of standard input; or on several.
 fn play_request<P: Threads + Wait + Sync>(
     rt: &HostRuntime,
     threads: &P,
-    request: &Request<'_>,
+    request: &mut Request<'_>,
 ) -> u8 {
     // (where standard input is closed, a file that is opened would take its place)
     if request.command.is_by_hand() && rt.stdin().as_fd().try_clone_to_owned().is_err() {
@@ -102,11 +102,44 @@ fn play_request<P: Threads + Wait + Sync>(
     if let Some(other) = shared_stdin(request) {
         return refuse(rt, Refusal::Shared(other));
     }
+    if request.files.is_empty() {
+        play_source(rt, threads, request)
+    } else {
+        play_each(rt, threads, request)
+    }
+}
+
+// The same on each of several netlists. The greatest status of them.
+fn play_each<P: Threads + Wait + Sync>(
+    rt: &HostRuntime,
+    threads: &P,
+    request: &mut Request<'_>,
+) -> u8 {
+    let mut worst = 0;
+    for place in 0..request.files.len() {
+        if let Some(file) = request.files.get(place).copied() {
+            request.netlist = Source::named(file);
+            worst = worst.max(play_source(rt, threads, request));
+        }
+    }
+    worst
+}
+
+fn play_source<P: Threads + Wait + Sync>(
+    rt: &HostRuntime,
+    threads: &P,
+    request: &Request<'_>,
+) -> u8 {
     match request.netlist {
         Source::Stdin => play_on(rt, threads, request, rt.reader()),
         Source::File(path) => match open_file(rt, path) {
             Ok(file) => play_on(rt, threads, request, file),
-            Err(cause) => refuse(rt, Refusal::File(path, cause)),
+            Err(cause) => {
+                if request.command.answers_objects() {
+                    tell_unread(rt.alloc(), path, cause, &mut io::writer(rt));
+                }
+                refuse(rt, Refusal::File(path, cause))
+            }
         },
     }
 }
@@ -138,7 +171,7 @@ fn main(rt: HostRuntime) -> ExitCode {
         Err(ArgsFault::Memory) => return ExitCode::from(refuse(&rt, Refusal::Memory)),
     };
     let status = match request_of(rt.alloc(), words.as_slice()) {
-        Ok(Some(request)) => play_request(&rt, &rt, &request),
+        Ok(Some(mut request)) => play_request(&rt, &rt, &mut request),
         Ok(None) => BAD_COMMAND_LINE,
         Err(error) => tell_no_request(&rt, &error),
     };

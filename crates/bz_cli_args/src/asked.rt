@@ -1,6 +1,8 @@
 //! A command that was asked for, with the options of it.
 
-use crate::options::{FUEL_BY_DEFAULT, HOPS_BY_DEFAULT, JOURNAL_BY_DEFAULT, WORKERS_BY_DEFAULT};
+use crate::options::{
+    FUEL_BY_DEFAULT, HOPS_BY_DEFAULT, JOURNAL_BY_DEFAULT, MOST_BY_DEFAULT, WORKERS_BY_DEFAULT,
+};
 use clap::ArgMatches;
 
 /// A command of the program, with its options.
@@ -11,7 +13,7 @@ pub enum Command<'a> {
     Check(TraceOptions<'a>),
     Waits(WaitsOptions<'a>),
     List(ListOptions),
-    Lint(FormatOptions),
+    Lint(LintOptions),
     Parts,
     Kinds(FormatOptions),
     Draw(DrawOptions),
@@ -58,7 +60,16 @@ pub struct ListOptions {
     pub paths: bool,
 }
 
-/// The options of `lint` and `kinds`.
+/// The options of `lint`.
+#[derive(Clone, Copy)]
+pub struct LintOptions {
+    /// Whether JSON is asked for.
+    pub json: bool,
+    /// The most findings that are told.
+    pub most: u32,
+}
+
+/// The options of `kinds`.
 #[derive(Clone, Copy)]
 pub struct FormatOptions {
     /// Whether JSON is asked for.
@@ -107,6 +118,14 @@ pub enum Source<'a> {
 }
 
 impl<'a> Source<'a> {
+    /// The text that a value names: a file, or standard input by `-`.
+    pub fn named(value: &'a str) -> Source<'a> {
+        match value {
+            "-" => Source::Stdin,
+            path => Source::File(path),
+        }
+    }
+
     /// The name of the file that is read from.
     pub fn file(self) -> Option<&'a str> {
         match self {
@@ -151,6 +170,11 @@ impl<'a> Command<'a> {
         matches!(self, Command::Pool(_))
     }
 
+    /// Whether it answers objects of JSON, one for each netlist.
+    pub fn answers_objects(self) -> bool {
+        matches!(self, Command::Lint(options) if options.json)
+    }
+
     /// Whether a net is played by the lines of standard input.
     pub fn is_by_hand(self) -> bool {
         matches!(self, Command::Explore(_))
@@ -167,7 +191,7 @@ pub(crate) fn command_in<'a>(name: &str, matches: &ArgMatches<'a>) -> Option<Com
         "list" => Command::List(ListOptions {
             paths: matches.get_flag("paths"),
         }),
-        "lint" => Command::Lint(format_options(matches)),
+        "lint" => Command::Lint(lint_options(matches)),
         "parts" => Command::Parts,
         "kinds" => Command::Kinds(format_options(matches)),
         "draw" => Command::Draw(draw_options(matches)),
@@ -207,6 +231,13 @@ fn format_options(matches: &ArgMatches<'_>) -> FormatOptions {
     }
 }
 
+fn lint_options(matches: &ArgMatches<'_>) -> LintOptions {
+    LintOptions {
+        json: format_options(matches).json,
+        most: matches.get_one("most").unwrap_or(MOST_BY_DEFAULT),
+    }
+}
+
 fn draw_options(matches: &ArgMatches<'_>) -> DrawOptions {
     DrawOptions {
         depth: matches.get_one("depth"),
@@ -234,9 +265,5 @@ fn pool_options<'a>(matches: &ArgMatches<'a>) -> PoolOptions<'a> {
 
 /// Where the text of an option comes from, if it is given.
 pub(crate) fn source_named<'a>(matches: &ArgMatches<'a>, option: &str) -> Option<Source<'a>> {
-    match matches.get_str(option) {
-        Some("-") => Some(Source::Stdin),
-        Some(path) => Some(Source::File(path)),
-        None => None,
-    }
+    matches.get_str(option).map(|value| Source::named(value))
 }

@@ -5,8 +5,8 @@ use crate::help::{
     VERSION, WAITS,
 };
 use crate::options::{
-    AROUND, BEGUN_TRACE, COMPONENT, DEPTH, EXPLAIN, FORMAT, FROM, FUEL, HOPS, JOURNAL, LINE,
-    MEANT_PART, NETLIST, Opt, PART, PART_FORM, PATHS, REQUIRED_NETLIST, SESSIONS, STRICT,
+    AROUND, BEGUN_TRACE, COMPONENT, DEPTH, EXPLAIN, FILES, FORMAT, FROM, FUEL, HOPS, JOURNAL, LINE,
+    MEANT_PART, MOST, NETLIST, Opt, PART, PART_FORM, PATHS, REQUIRED_NETLIST, SESSIONS, STRICT,
     STRICT_WAITS, TO, TRACE, WORD_FILE, WORDS, WORKERS, arg_of,
 };
 use clap::{Arg, Command};
@@ -66,7 +66,7 @@ const SUBS: [Sub; 12] = [
         name: "lint",
         about: "Tell all faults of a netlist at once, and what is likely to be a mistake",
         after: LINT,
-        options: &[MEANT_PART, PART_FORM, NETLIST, FORMAT],
+        options: &[MEANT_PART, PART_FORM, NETLIST, FORMAT, MOST, FILES],
     },
     Sub {
         name: "parts",

@@ -97,17 +97,19 @@ Example:
 
 /// What stands behind the options of `lint`.
 pub(crate) const LINT: &str = "\
-The netlist comes from FILE or from standard input. The faults of all its parts are told, each with its place and its notes,
-and where there is none, warnings. At most 20 are told, and then how many more there are.
+The netlists come from FILES, from --netlist or from standard input. Of each one the faults of all its parts are told, each
+with its place and its notes, and where there is none, warnings; of the rest how many there are. JSON is one object for each
+netlist, on a line of its own.
 
-Statuses:
+Statuses, of several netlists the greatest:
   0  there is no fault
   1  there is a fault (S, B and E faults)
   2  the command line is bad, or a file cannot be opened
   3  input or output failed (F1, F2), or memory ran out (F3)
 
-Example:
-  breezesim lint --netlist examples/pipeline.breeze";
+Examples:
+  breezesim lint examples/pipeline.breeze examples/buffer.breeze
+  breezesim lint --netlist examples/pipeline.breeze --format json";
 
 /// What stands behind the options of `parts`.
 pub(crate) const PARTS: &str = "\

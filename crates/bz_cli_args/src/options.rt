@@ -19,6 +19,9 @@ pub(crate) const WORKERS_BY_DEFAULT: u8 = 2;
 /// The most firings of a pool where none is asked for: what `FUEL` has as its default.
 pub(crate) const FUEL_BY_DEFAULT: u64 = 1_000_000;
 
+/// The most findings that `lint` tells where no number is asked for: what `MOST` has as its default.
+pub(crate) const MOST_BY_DEFAULT: u32 = 20;
+
 /// How many channels away from a component what is drawn may be where no number is asked for: what `HOPS` has as its default.
 pub(crate) const HOPS_BY_DEFAULT: u32 = 2;
 
@@ -196,6 +199,26 @@ pub(crate) const FORMAT: Opt = Opt {
 pub(crate) const MEANT_PART: Opt = Opt {
     help: "The part that is meant to be used: warn of parts that it does not use",
     ..PART
+};
+
+pub(crate) const MOST: Opt = Opt {
+    id: "most",
+    name: Name::Long("most"),
+    help: "The most findings that are told, from 1 to 1000",
+    parser: ValueParser::Signed(1, 1000),
+    default: &["20"],
+    ..NUMBER
+};
+
+pub(crate) const FILES: Opt = Opt {
+    id: "files",
+    name: Name::Words,
+    value: &["FILES"],
+    help: "The netlists, each looked at by itself; - is standard input",
+    action: ArgAction::Append,
+    takes_hyphens: false,
+    conflicts: &["netlist"],
+    ..TEXT
 };
 
 pub(crate) const JOURNAL: Opt = Opt {

@@ -33,6 +33,8 @@ pub struct Request<'a> {
     pub explains: bool,
     /// The words that stand on the command line.
     pub words: Vec<&'a str>,
+    /// The netlists that are looked at one after another, in place of `netlist`.
+    pub files: Vec<&'a str>,
 }
 
 /// What the words of the command line ask for, the first of which is the program's name; `None` where they name no command. An
@@ -53,12 +55,14 @@ fn request_in<'a>(
         return Ok(None);
     };
     let words = Vec::from_slice(alloc, matches.get_strs("words").unwrap_or(&[]))?;
+    let files = Vec::from_slice(alloc, matches.get_strs("files").unwrap_or(&[]))?;
     Ok(Some(Request {
         command,
         part: part_in(matches),
         netlist: source_named(matches, "netlist").unwrap_or(Source::Stdin),
         explains: matches.get_flag("explain"),
         words,
+        files,
     }))
 }
 
@@ -109,6 +113,9 @@ pub fn stray_word(alloc: Global, error: &Error) -> Option<String> {
 
 /// What would have to be read from standard input twice, if there is such: the words, the lines or the trace beside the netlist.
 pub fn shared_stdin(request: &Request<'_>) -> Option<&'static str> {
+    if request.files.iter().filter(|file| **file == "-").count() > 1 {
+        return Some("next one");
+    }
     let Source::Stdin = request.netlist else {
         return None;
     };

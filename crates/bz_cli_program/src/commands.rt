@@ -20,8 +20,8 @@ use crate::outcome::{DONE, Ended, NO_RUN, Outcome};
 use bz_chart::{LineRange, chart_cmd, chart_trace_cmd};
 use bz_cli::{Pooled, pool_cmd};
 use bz_cli_args::{
-    BAD_COMMAND_LINE, ChartOptions, DrawOptions, FormatOptions, ListOptions, MAX_JOURNAL,
-    MAX_WORKERS, PoolOptions, RunOptions, WaitsOptions,
+    BAD_COMMAND_LINE, ChartOptions, DrawOptions, FormatOptions, LintOptions, ListOptions,
+    MAX_JOURNAL, MAX_WORKERS, PoolOptions, RunOptions, WaitsOptions,
 };
 use bz_cli_core::{Halt, Played, run_cmd};
 use bz_cli_input::{Fault, list_cmd};
@@ -204,7 +204,7 @@ pub(crate) fn kinds<W: Write>(
 pub(crate) fn lint<R: Read, W: Write>(
     alloc: Global,
     given: &Given<'_, '_>,
-    options: FormatOptions,
+    options: LintOptions,
     input: &mut R,
     output: &mut W,
 ) -> Result<u8, Fault>
@@ -215,6 +215,7 @@ pub(crate) fn lint<R: Read, W: Write>(
         part: given.part,
         file: given.file,
         is_json: options.json,
+        most: options.most as usize,
     };
     match lint_cmd(alloc, lint, input, output) {
         Ok(is_sound) => Ok(u8::from(!is_sound)),

@@ -18,4 +18,4 @@ pub use given::{Given, Texts};
 pub use noting::end;
 pub use outcome::Outcome;
 pub use performing::program;
-pub use refusal::{Refusal, tip};
+pub use refusal::{Refusal, tell_unread, tip};

@@ -3,7 +3,9 @@
 use crate::files::{Cause, is_file};
 use bz_cli_args::{BAD_COMMAND_LINE, Error, stray_word};
 use bz_cli_input::Fault;
+use bz_explain_lint::refuse_lint;
 use bz_explain_notes::tell;
+use bz_text::Text;
 use std::alloc::Global;
 use std::io::Write;
 use std::rt::Files;
@@ -48,6 +50,15 @@ impl Refusal<'_> {
             _ => Ok(()),
         };
         BAD_COMMAND_LINE
+    }
+}
+
+/// Tells as an object of JSON that a netlist can't be read.
+pub fn tell_unread<W: Write>(alloc: Global, path: &str, cause: Cause, output: &mut W) {
+    let mut why = Text::new(alloc);
+    let _ = write!(why, "cannot read {path}: {cause}");
+    if let Ok(why) = why.whole() {
+        let _ = refuse_lint(path, why, output);
     }
 }
 

@@ -1,22 +1,25 @@
 //! Findings in a netlist, which are told beside one another.
 //!
-//! At most 20 are written, as compilers do: who mends these sees the others change. They are asked of the same functions that
-//! refuse: of each component its own first fault, and of a net all ends that are wrong. Another fault of a component shows
-//! once the first is mended.
+//! At most 20 are written where no other number is asked for, as compilers do: who mends these sees the others change. They are
+//! asked of the same functions that refuse: of each component its own first fault, and of a net all ends that are wrong. Another
+//! fault of a component shows once the first is mended.
 
 use crate::mended::Mended;
 use bz_breeze_records::Part;
 use bz_cli_input::{Fault, in_part};
 use bz_elab::{CompAt, ElabError, first_fault};
 use bz_explain_net::{NetlistText, Wired, explain_refusal};
-use bz_explain_notes::{Finding, Findings, Notes, Severity};
+use bz_explain_notes::{Detail, Finding, Findings, Notes, Severity};
 use bz_model::Chan;
 use bz_text::Text;
 use std::alloc::{AllocError, Global};
 use std::io::Write;
 
-/// The most findings that are told.
-const MOST_TOLD: usize = 20;
+/// The most findings that are told where no other number is asked for.
+pub const MOST_TOLD: usize = 20;
+
+/// The most components at fault without which ends are looked at.
+const MOST_MENDED: usize = 20;
 
 /// Findings in a netlist while they are gathered, up to the most that are told.
 #[derive(Drop)]
@@ -25,17 +28,29 @@ pub struct Gathered<'t> {
     pub findings: Findings,
     /// A refusal that is told elsewhere.
     told: Option<ElabError>,
-    /// The components at fault, one more than are told at most.
+    /// The most findings that are told.
+    most: usize,
+    /// The components at fault, one more than can be mended at most.
     faulty: Vec<CompAt>,
 }
 
 impl<'t> Gathered<'t> {
-    /// No findings yet, where this refusal is told in front of them.
-    pub fn new(netlist: NetlistText<'t>, told: Option<ElabError>) -> Gathered<'t> {
+    /// No findings yet, of which so many are told.
+    pub fn new(netlist: NetlistText<'t>, most: usize) -> Gathered<'t> {
+        Gathered::beside(netlist, None, most)
+    }
+
+    /// The same, where this refusal is told in front of them.
+    pub(crate) fn beside(
+        netlist: NetlistText<'t>,
+        told: Option<ElabError>,
+        most: usize,
+    ) -> Gathered<'t> {
         Gathered {
             netlist,
             findings: no_findings(netlist.alloc),
             told,
+            most,
             faulty: Vec::new(netlist.alloc),
         }
     }
@@ -47,11 +62,7 @@ impl<'t> Gathered<'t> {
 
     /// Whether there is room for one finding more. What is found from then on is counted alone.
     pub fn has_room(&mut self) -> bool {
-        let most = match self.told {
-            Some(_) => MOST_TOLD - 1,
-            None => MOST_TOLD,
-        };
-        let has_room = self.findings.list.len() < most;
+        let has_room = self.findings.list.len() < self.most;
         if !has_room {
             self.findings.more = self.findings.more.saturating_add(1);
         }
@@ -64,16 +75,19 @@ impl<'t> Gathered<'t> {
         severity: Severity,
         line: Text,
         part: &[u8],
-        notes: Notes,
+        mut notes: Notes,
     ) -> Result<(), AllocError> {
-        let spot = match notes.spot() {
-            Some(spot) => spot,
-            None => self.netlist.spot_of_part(part),
+        let place = match notes.place() {
+            Some(place) => place,
+            None => {
+                notes.add_detail(Detail::Part(part));
+                self.netlist.place_of_part(part)
+            }
         };
         self.findings.list.push(Finding {
             severity,
             line,
-            spot,
+            place,
             notes,
         })?;
         Ok(())
@@ -122,7 +136,7 @@ impl<'t> Gathered<'t> {
                     part: number,
                     position: place + 1,
                 };
-                if self.faulty.len() <= MOST_TOLD {
+                if self.faulty.len() <= MOST_MENDED {
                     self.faulty.push(at)?;
                 }
                 self.refuse(&part.name, fault.at(at), None)?;
@@ -133,7 +147,7 @@ impl<'t> Gathered<'t> {
 
     /// The netlist without the components that were found to be at fault; none where nothing would be left to tell of it.
     pub fn mended(&self) -> Result<Option<Mended>, AllocError> {
-        if self.faulty.is_empty() || self.faulty.len() > MOST_TOLD {
+        if self.faulty.is_empty() || self.faulty.len() > MOST_MENDED {
             return Ok(None);
         }
         Mended::of(self.netlist, &self.faulty)

@@ -18,7 +18,7 @@ mod word_faults;
 
 pub use asked::{Asked, WordFile, Words};
 pub use explaining::{Explained, explain};
-pub use findings::{Gathered, line_of, no_findings};
+pub use findings::{Gathered, MOST_TOLD, line_of, no_findings};
 pub use marks::{Marks, set};
 pub use mended::Mended;
 pub use net_faults::marks_of;

@@ -1,6 +1,6 @@
 //! All that is wrong with a part that has no net.
 
-use crate::findings::Gathered;
+use crate::findings::{Gathered, MOST_TOLD};
 use crate::mended::Mended;
 use bz_elab::{ElabError, reached};
 use bz_explain_net::{NetlistText, Wired, explain_refusal};
@@ -14,7 +14,8 @@ pub(crate) fn explain_net(
     asked: &[u8],
     first: ElabError,
 ) -> Result<Findings, ElabError> {
-    let mut gathered = Gathered::new(netlist, Some(first));
+    // (the first one is told in front of the others)
+    let mut gathered = Gathered::beside(netlist, Some(first), MOST_TOLD - 1);
     gather(notes, &mut gathered, asked, first)?;
     Ok(gathered.findings)
 }
@@ -34,14 +35,17 @@ fn gather(
         explain_refusal(notes, netlist, asked, first, None);
         let marks = marks_of(netlist, asked)?;
         gathered.refuse_components(marks.as_slice())?;
-        if let Some(mended) = gathered.mended()? {
-            refuse_mended(gathered, asked, &mended)?;
+        // (of a net that is too large, what is left without the components at fault says nothing of ends)
+        if first != ElabError::TooBig {
+            if let Some(mended) = gathered.mended()? {
+                refuse_mended(gathered, asked, &mended)?;
+            }
         }
     }
     Ok(())
 }
 
-// What is wrong with the ends of channels, beside components at fault. Where there is more, there is no net to look at.
+// What is wrong beside components at fault: that the net is too large, or else the ends of channels.
 fn refuse_mended(
     gathered: &mut Gathered<'_>,
     asked: &[u8],
@@ -50,6 +54,7 @@ fn refuse_mended(
     match mended.wired(gathered.netlist, asked) {
         Ok(wired) => gathered.refuse_ends(asked, &wired, Some(mended)),
         Err(ElabError::Memory) => Err(AllocError),
+        Err(ElabError::TooBig) => gathered.refuse(asked, ElabError::TooBig, None),
         Err(_) => Ok(()),
     }
 }

@@ -4,7 +4,7 @@ use crate::member_faults::explain_member;
 use crate::reading::{find_named, name_in, say_found};
 use bz_breeze::ByteAt;
 use bz_explain_net::{Head, Which, find, headed, members_of, nth, part_items, put_place};
-use bz_explain_notes::{Notes, spot_of};
+use bz_explain_notes::{Detail, Notes, spot_of};
 use bz_sexpr::{Form, Forms};
 use bz_view::Piece::{self, At, Count, Name, Number};
 
@@ -25,6 +25,9 @@ pub(crate) fn explain_part(notes: &mut Notes, text: &[u8], netlist: Forms<'_>, p
         Some(name) => name.as_slice(),
         None => &[],
     };
+    if place.part.is_some() {
+        notes.add_detail(Detail::Part(name));
+    }
     let at = place.at;
     if let Some((_, form)) = find(netlist, Which::Holding(at)) {
         if let Some(items) = part_items(form) {

@@ -5,7 +5,9 @@
 
 mod lint;
 mod opening;
+mod partless;
+mod skipped;
 mod unreached;
 mod warnings;
 
-pub use lint::{Lint, lint_cmd};
+pub use lint::{Lint, lint_cmd, refuse_lint};

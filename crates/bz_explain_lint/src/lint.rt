@@ -12,13 +12,21 @@ use bz_cli_input::{Fault, in_part, read_input};
 use bz_elab::ElabError;
 use bz_explain::{Asked, Words, explain, line_of, no_findings};
 use bz_explain_net::NetlistText;
-use bz_explain_notes::{Finding, Findings, Severity, tell_findings, tell_json};
+use bz_explain_notes::{
+    Finding, Findings, Place, Severity, tell_findings, tell_json, tell_refusal,
+};
 use bz_sexpr::read_forest;
 use bz_source::lines_of;
 use bz_text::WriteFault;
 use bz_view::Spot;
 use std::alloc::{AllocError, Global};
 use std::io::{Read, Write};
+
+/// Where a text begins.
+const START: Place = Place {
+    byte: 0,
+    spot: Spot { line: 1, column: 1 },
+};
 
 /// What `lint` is asked.
 #[derive(Clone, Copy)]
@@ -29,6 +37,8 @@ pub struct Lint<'a> {
     pub file: Option<&'a str>,
     /// Whether findings are told as JSON.
     pub is_json: bool,
+    /// The most findings that are told.
+    pub most: usize,
 }
 
 /// Tells all findings in the netlist that the reader gives. Whether no fault is among them.
@@ -41,9 +51,37 @@ pub fn lint_cmd<R: Read, W: Write>(
     // Whatever comes of it, it reads at most one byte past the limit.
     ensures { ReadsWithin (R.remaining input.old) (R.remaining input.new) }
 {
+    match findings_of(alloc, lint, input) {
+        Ok(findings) => tell(alloc, lint, &findings, output),
+        Err(fault) => {
+            if lint.is_json {
+                let why = line_of(alloc, &fault);
+                refuse(lint.file, why.whole().unwrap_or(b""), output)?;
+            }
+            Err(fault)
+        }
+    }
+}
+
+// All findings in the netlist that the reader gives.
+fn findings_of<R: Read>(alloc: Global, lint: Lint<'_>, input: &mut R) -> Result<Findings, Fault>
+    ensures { ReadsWithin (R.remaining input.old) (R.remaining input.new) }
+{
     let text = read_input(alloc, input)?;
-    let findings = findings_in(alloc, lint, text.as_slice())?;
-    tell(alloc, lint, &findings, output)
+    findings_in(alloc, lint, text.as_slice())
+}
+
+/// Tells as JSON why nothing can be said of a file.
+pub fn refuse_lint<W: Write>(file: &str, why: &[u8], output: &mut W) -> Result<(), Fault> {
+    refuse(Some(file), why, output)
+}
+
+fn refuse<W: Write>(file: Option<&str>, why: &[u8], output: &mut W) -> Result<(), Fault> {
+    tell_refusal(file.unwrap_or("-"), why, output)?;
+    match output.flush() {
+        Ok(()) => Ok(()),
+        Err(_) => Err(Fault::from(WriteFault)),
+    }
 }
 
 fn tell<W: Write>(
@@ -95,7 +133,7 @@ fn finding_of_text<'a>(
     findings.list.push(Finding {
         severity: Severity::Fault,
         line: line_of(alloc, fault),
-        spot: notes.spot().unwrap_or(Spot { line: 1, column: 1 }),
+        place: notes.place().unwrap_or(START),
         notes,
     })?;
     Ok(findings)
@@ -118,6 +156,6 @@ fn findings_of_parts<'a>(alloc: Global, lint: Lint<'a>, text: &'a [u8]) -> Resul
         Some(part) if parts.number(part).is_none() => {
             Err(in_part(alloc, parts.list(), part, ElabError::NoPart))
         }
-        _ => Ok(Linted::of(netlist, lint.part)?),
+        _ => Ok(Linted::of(netlist, lint.part, lint.most)?),
     }
 }

@@ -28,16 +28,18 @@ pub(crate) struct Linted<'t> {
 }
 
 impl<'t> Linted<'t> {
-    /// All that is found in a netlist. `part` is the one that is meant to be used, where one is named.
+    /// All that is found in a netlist. `part` is the one that is meant to be used, where one is
+    /// named, and `most` how many findings are told.
     pub(crate) fn of(
         netlist: NetlistText<'t>,
         part: Option<&[u8]>,
+        most: usize,
     ) -> Result<Findings, AllocError> {
         let (alloc, count) = (netlist.alloc, netlist.parts.list().len());
         let covered = vec![in alloc; false; count]?;
         let reached = Marks::none(alloc, netlist.parts, Head::Components)?;
         let mut linted = Linted {
-            gathered: Gathered::new(netlist, None),
+            gathered: Gathered::new(netlist, most),
             mended: None,
             covered,
             reached,
@@ -98,16 +100,24 @@ impl<'t> Linted<'t> {
         }
         self.cover(&part.name)?;
         let netlist = self.gathered.netlist;
+        match Wired::of(netlist.alloc, netlist.parts, &part.name) {
+            Ok(wired) => self.wire(part, &wired),
+            Err(ElabError::Memory) => Err(AllocError),
+            Err(error) if is_of_copies(error) => self.gathered.refuse(&part.name, error, None),
+            Err(error) => self.open_mended(part, error),
+        }
+    }
+
+    // Opens a part that has no net, without the components that are at fault.
+    fn open_mended(&mut self, part: &Part, error: ElabError) -> Result<(), AllocError> {
         let wired = match &self.mended {
-            Some(mended) => mended.wired(netlist, &part.name),
-            None => Wired::of(netlist.alloc, netlist.parts, &part.name),
+            Some(mended) => mended.wired(self.gathered.netlist, &part.name),
+            None => Err(error),
         };
         match wired {
             Ok(wired) => self.wire(part, &wired),
             Err(ElabError::Memory) => Err(AllocError),
-            Err(error @ (ElabError::Recursive(_) | ElabError::TooDeep | ElabError::TooBig)) => {
-                self.gathered.refuse(&part.name, error, None)
-            }
+            Err(error) if is_of_copies(error) => self.gathered.refuse(&part.name, error, None),
             // (the faults of components were told before)
             Err(_) => Ok(()),
         }
@@ -137,4 +147,12 @@ impl<'t> Linted<'t> {
             &mut self.reached,
         )
     }
+}
+
+// Whether copies are at fault: that there is one within itself, or too many.
+fn is_of_copies(error: ElabError) -> bool {
+    matches!(
+        error,
+        ElabError::Recursive(_) | ElabError::TooDeep | ElabError::TooBig
+    )
 }

@@ -5,10 +5,12 @@
 //! channel that no entry names is unused also where it is a port; where an instance has it at a port that nothing is at, the
 //! port is reported in its place.
 
+use crate::partless::warn_of_no_part;
+use crate::skipped::warn_of_skipped;
 use bz_breeze_records::Component;
 use bz_explain::{Gathered, Marks, marks_of};
 use bz_explain_net::{Head, NetlistText};
-use bz_explain_notes::{Notes, Severity};
+use bz_explain_notes::{Detail, Notes, Severity};
 use bz_kind_rows::{KindName, kind_named};
 use bz_model::{Param, Value};
 use bz_text::{Piece as Part, Text};
@@ -55,6 +57,10 @@ pub(crate) fn warn(
     part: Option<&[u8]>,
     reached: &Marks,
 ) -> Result<(), AllocError> {
+    if gathered.netlist.parts.list().is_empty() {
+        return warn_of_no_part(gathered);
+    }
+    warn_of_skipped(gathered)?;
     if let Some(part) = part {
         warn_of_parts(gathered, part)?;
     }
@@ -162,6 +168,9 @@ fn warn_of(
     let mut notes = Notes::on(netlist.alloc, netlist.file);
     netlist.put_listed(&mut notes, number, warning.head(), position);
     notes.say(form, &[arg]);
+    if let Warning::UnusedChannel = warning {
+        notes.add_detail(Detail::Channel(position));
+    }
     let place = Some(position as Value);
     add(gathered, warning.code(), number, place, notes)
 }

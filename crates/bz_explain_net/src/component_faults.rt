@@ -1,16 +1,18 @@
 //! Components that are at fault.
 
-use crate::data::Head;
+use crate::data::{Head, Which, find, letters_of};
 use crate::kind_words::{
     is_left_out, operations_of, params_rule, put_counts, put_kind, put_row, put_widths,
 };
 use crate::site::Site;
 use bz_breeze_records::{Part, Parts, Slot};
 use bz_elab::{arranged, array_sizes};
-use bz_explain_notes::{NEAREST, Notes, port_names};
+use bz_explain_notes::{Detail, NEAREST, Notes, port_names};
 use bz_flat::ElabError;
 use bz_kind_rows::{kind_names, port_at};
-use bz_model::{Chan, ChanKind, Kind, Param};
+use bz_model::{Chan, ChanKind, Kind, MAX_MEMBERS, Param};
+use bz_sexpr::Form;
+use bz_text::Text as Letters;
 use bz_view::Piece::{self, Carried, Count, Name, Number, Port, Shown, Text, Wide};
 use std::alloc::{AllocError, Global};
 
@@ -70,14 +72,14 @@ impl Site<'_> {
             notes.say(left_out, &[Name(name)]);
         } else if self.netlist.parts.list().len() <= MOST_NAMES {
             let names = notes.gathered(known_names(notes.alloc(), self.netlist.parts));
-            notes.say_nearest(NEAREST, name, &names);
+            let nearest = notes.say_nearest(NEAREST, name, &names);
+            add_replacement(notes, self.name_form(), nearest);
         }
     }
 
     // Parameters that the kind does not take.
     fn explain_params(&self, notes: &mut Notes) {
         let params = self.component.params.as_slice();
-        let name = self.component.name.as_slice();
         notes.put("found: the parameters (", &[]);
         for (place, param) in params.iter().take(MOST_LISTED).enumerate() {
             if place > 0 {
@@ -88,14 +90,40 @@ impl Site<'_> {
         if params.len() > MOST_LISTED {
             notes.put(" ..", &[]);
         }
+        notes.put(")", &[]);
+        self.put_skipped(notes);
+        let name = self.component.name.as_slice();
         let args = [Name(name), Text(params_rule(name))];
-        notes.say(")\nexpected: for % %", &args);
+        notes.say("\nexpected: for % %", &args);
+        self.say_operation(notes, name, params);
+    }
+
+    // Goes on with the first of what is skipped among the parameters.
+    fn put_skipped(&self, notes: &mut Notes) {
+        if let Some(forms) = self.param_forms() {
+            if let Some((_, form)) = find(forms, Which::Skipped) {
+                let letters = letters_of(self.netlist.text, form);
+                notes.put(", and % is skipped", &[Shown(letters)]);
+            }
+        }
+    }
+
+    // Tells the operation that was probably meant.
+    fn say_operation(&self, notes: &mut Notes, name: &[u8], params: &[Param]) {
         let operations = operations_of(name);
         if let Some(word) = first_word(params) {
             if !operations.iter().any(|operation| *operation == word) {
-                notes.say_nearest("help: the nearest operation is %", word, operations);
+                let form = "help: the nearest operation is %";
+                let nearest = notes.say_nearest(form, word, operations);
+                add_replacement(notes, self.word_form(word), nearest);
             }
         }
+    }
+
+    // The parameter that is this text.
+    fn word_form(&self, word: &[u8]) -> Option<Form<'_>> {
+        let (_, form) = find(self.param_forms()?, Which::Text(word))?;
+        Some(form)
     }
 
     // An entry that is no channel of the part.
@@ -106,6 +134,7 @@ impl Site<'_> {
                 let part = Name(&self.part.name);
                 let channels = Count(count, "channel");
                 let args = [Number(*chan as usize), part, channels];
+                notes.add_detail(Detail::Channel(*chan as usize));
                 notes.say("found: channel %, and part % has %", &args);
                 break;
             }
@@ -125,7 +154,7 @@ impl Site<'_> {
             notes.say("", &[]);
         } else if let Some(kind) = self.kind(notes) {
             self.put_lengths(notes, &kind);
-            put_row(notes, &kind);
+            put_row(notes, &kind, self.length_rule());
         }
     }
 
@@ -148,6 +177,20 @@ impl Site<'_> {
             notes.put("; its text has %", &[Count(count, "set")]);
         }
         notes.say("", &[]);
+    }
+
+    // How long a list may be, where one is not.
+    fn length_rule(&self) -> &'static str {
+        let mut entries = self.component.entries.as_slice().iter();
+        let is_odd = entries.any(|entry| match entry {
+            Slot::Many(chans) => chans.is_empty() || chans.len() > MAX_MEMBERS as usize,
+            Slot::One(_) => false,
+        });
+        if is_odd {
+            ", and 1 to 4096 channels in each list"
+        } else {
+            ""
+        }
     }
 
     // How many sets the text of a Case or a CaseFetch gives.
@@ -241,11 +284,32 @@ impl Site<'_> {
     fn put_carried(&self, notes: &mut Notes, port: Piece<'_>, number: u32) {
         if let Some(chan) = self.channel(number) {
             let place = number as usize;
+            notes.add_port(port);
+            notes.add_detail(Detail::Channel(place));
             let at = self.netlist.spot_of(self.number, Head::Channels, place);
             let args = [port, Number(place), Carried(chan), at];
             notes.say("found: port % is channel %, which is % (%)", &args);
         }
     }
+}
+
+// Adds which name was probably meant in place of a text. One that would need an escape between quotes is left out.
+fn add_replacement(notes: &mut Notes, form: Option<Form<'_>>, nearest: Option<&[u8]>) {
+    if let (Some(form), Some(name)) = (form, nearest) {
+        let mut quoted = Letters::new(notes.alloc());
+        quoted.put_bytes(b"\"");
+        quoted.put_bytes(name);
+        quoted.put_bytes(b"\"");
+        match quoted.whole() {
+            Ok(meant) if is_plain(name) => notes.add_detail(Detail::Replace(form.span(), meant)),
+            Ok(_) => {}
+            Err(_) => notes.fail(),
+        }
+    }
+}
+
+fn is_plain(name: &[u8]) -> bool {
+    name.iter().all(|byte| (32..=126).contains(byte) && *byte != b'"' && *byte != b'\\')
 }
 
 fn put_param(notes: &mut Notes, param: &Param) {

@@ -12,13 +12,17 @@ pub enum Head {
 
 /// Which of several data is looked for.
 #[derive(Clone, Copy)]
-pub enum Which {
+pub enum Which<'a> {
     /// The one of this number, from 1.
     Number(usize),
     /// The one that holds this byte of the text.
     Holding(usize),
     /// The list of this head.
     Headed(Head),
+    /// What is skipped among parameters: a symbol or a list.
+    Skipped,
+    /// This text.
+    Text(&'a [u8]),
 }
 
 /// Data in a row, each with its number, from 1.
@@ -81,18 +85,38 @@ pub(crate) fn part_form(netlist: Forms<'_>, number: usize) -> Option<Form<'_>> {
 }
 
 /// The first of several data that is looked for, and its number, from 1.
-pub fn find(data: Forms<'_>, which: Which) -> Option<(usize, Form<'_>)> {
+pub fn find<'t>(data: Forms<'t>, which: Which<'_>) -> Option<(usize, Form<'t>)> {
     for (number, form) in Members::of(data) {
         let is_sought = match which {
             Which::Number(sought) => number == sought,
             Which::Holding(at) => form.span().from <= at && at < form.span().to,
             Which::Headed(head) => Head::of(form) == Some(head),
+            Which::Skipped => is_skipped(form),
+            Which::Text(text) => is_text(form, text),
         };
         if is_sought {
             return Some((number, form));
         }
     }
     None
+}
+
+/// Whether a datum is skipped among parameters: a symbol or a list.
+pub fn is_skipped(form: Form<'_>) -> bool {
+    matches!(form.shape(), Shape::Items(_) | Shape::Leaf(Leaf::Symbol(_)))
+}
+
+fn is_text(form: Form<'_>, text: &[u8]) -> bool {
+    match form.shape() {
+        Shape::Leaf(Leaf::Text(found)) => found.plain() == Some(text),
+        _ => false,
+    }
+}
+
+/// The letters of a text that spell a datum.
+pub fn letters_of<'t>(text: &'t [u8], form: Form<'_>) -> &'t [u8] {
+    let span = form.span();
+    text.get(span.from..span.to).unwrap_or(b"")
 }
 
 /// A datum by its number, from 1.

@@ -6,7 +6,7 @@ use crate::data::Head;
 use crate::site::{NetlistText, put_place};
 use crate::wired::Wired;
 use bz_arena::Id;
-use bz_explain_notes::Notes;
+use bz_explain_notes::{Detail, Notes};
 use bz_flat::{ElabError, FlatComp};
 use bz_kind_rows::{PortAt, is_passive, kind_word, port_at};
 use bz_model::{Chan, ChanKind, numbered};
@@ -56,6 +56,7 @@ pub(crate) fn explain_ends(
             comp = comp.saturating_add(1);
             wire.meet(wired.comps.get(Id::at(place)), comp);
         }
+        notes.add_detail(Detail::Channel(number as usize));
         match (error, wire.second) {
             (ElabError::TwoEnds(_), Some(second)) => wire.explain_two(notes, second),
             (ElabError::LooseEnd(_), _) => wire.explain_loose(notes),
@@ -134,6 +135,7 @@ impl Wire<'_> {
         if let Some(port) = ports.get(position.saturating_sub(1)) {
             let args = [Name(&port.name), Text(sense(port.passive))];
             self.netlist.put_listed(notes, part, Head::Ports, position);
+            notes.add_port(args[0]);
             self.put_found(notes, !port.passive);
             notes.put(", and port % is %\nexpected: ", &args);
             let expected = if port.passive {
@@ -182,6 +184,8 @@ impl Wire<'_> {
                 .put_listed(notes, part, Head::Channels, position);
         } else if let Some(byte) = self.netlist.byte_of(part, Head::Channels, position) {
             let (name, path) = (Name(self.netlist.name(part)), Path(&place.path));
+            self.netlist
+                .add_record(notes, part, Head::Channels, position);
             let (number, position) = (Number(self.number as usize), Number(position));
             let form = "channel % (% %, channel % of part %)";
             let args = [number, path, name, position, name];

@@ -61,8 +61,8 @@ pub(crate) fn put_counts(notes: &mut Notes, entries: usize, lists: usize) {
     notes.put("% and %", &[singles, Count(lists, "list")]);
 }
 
-/// Tells the entries that a kind takes: how many, and its ports in their order.
-pub(crate) fn put_row(notes: &mut Notes, kind: &Kind) {
+/// Tells the entries that a kind takes: how many, and its ports in their order; and behind that what else they have to be.
+pub(crate) fn put_row(notes: &mut Notes, kind: &Kind, behind: &str) {
     let rows = port_table(kind);
     let (article, word) = word_of(kind);
     notes.put("expected: for % % ", &[article, word]);
@@ -77,7 +77,7 @@ pub(crate) fn put_row(notes: &mut Notes, kind: &Kind) {
         notes.put(form, &[Text(before), Text(row.name)]);
         before = " ";
     }
-    notes.say(")%", &[Text(list_rule(kind))]);
+    notes.say(")%%", &[Text(list_rule(kind)), Text(behind)]);
 }
 
 // What the lists of a kind have to be beside their number.
@@ -130,7 +130,7 @@ pub(crate) fn put_widths(notes: &mut Notes, kind: &Kind) {
 }
 
 /// The parameters that the kind of this name takes.
-pub(crate) fn params_rule(name: &[u8]) -> &'static str {
+pub fn params_rule(name: &[u8]) -> &'static str {
     match kind_named(name) {
         Some(KindName::Variable) => {
             "no second text, or an empty one: each read is of the whole value"

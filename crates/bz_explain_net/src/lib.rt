@@ -10,7 +10,10 @@ mod net_faults;
 mod site;
 mod wired;
 
-pub use data::{Head, Members, Which, find, headed, inside, members_of, nth, part_items};
+pub use data::{
+    Head, Members, Which, find, headed, inside, is_skipped, letters_of, members_of, nth, part_items,
+};
+pub use kind_words::params_rule;
 pub use net_faults::explain_refusal;
 pub use site::{NetlistText, Site, put_place};
 pub use wired::{ChanEnds, Wired};

@@ -1,15 +1,14 @@
 //! A netlist that was read, and where its records stand.
 
-use crate::data::{Head, members_of, nth, part_form, part_items};
+use crate::data::{Head, inside, members_of, nth, part_form, part_items};
 use bz_breeze_records::{Component, Part, Parts};
 use bz_elab::flattened;
-use bz_explain_notes::{Notes, put_source, spot_of};
+use bz_explain_notes::{Detail, Notes, Place, put_source, spot_of};
 use bz_kind_rows::kind_of;
 use bz_model::{Chan, Kind, KindError, Port, numbered};
-use bz_sexpr::{Forms, Span};
+use bz_sexpr::{Form, Forms, Span};
 use bz_source::{Label, PartLines};
 use bz_view::Piece::{self, At, Name, Number, Text};
-use bz_view::Spot;
 use std::alloc::Global;
 
 /// The text of a netlist, the data that it spells, and the parts that these name.
@@ -83,19 +82,20 @@ impl<'t> NetlistText<'t> {
         Some(part_form(self.data, number)?.span().from)
     }
 
-    // The bytes of a record of a part.
-    fn span_of(&self, number: usize, head: Head, position: usize) -> Option<Span> {
+    // A record of a part.
+    fn form_of(&self, number: usize, head: Head, position: usize) -> Option<Form<'t>> {
         let part = part_items(part_form(self.data, number)?)?;
-        Some(nth(members_of(part, head)?, position)?.span())
+        nth(members_of(part, head)?, position)
     }
 
     /// The byte at which a record of a part begins.
     pub(crate) fn byte_of(&self, number: usize, head: Head, position: usize) -> Option<usize> {
-        Some(self.span_of(number, head, position)?.from)
+        Some(self.form_of(number, head, position)?.span().from)
     }
 
     /// Tells where a part stands.
     pub fn put_part(&self, notes: &mut Notes, number: usize) {
+        notes.add_detail(Detail::Part(self.name(number)));
         if let Some(byte) = self.byte_of_part(number) {
             put_place(notes, self.text, byte, "part %", &[Name(self.name(number))]);
         }
@@ -105,6 +105,7 @@ impl<'t> NetlistText<'t> {
     pub fn put_listed(&self, notes: &mut Notes, number: usize, head: Head, position: usize) {
         let part = Name(self.name(number));
         let mark = [Text(head.member()), Number(position), part];
+        self.add_record(notes, number, head, position);
         if let Some(byte) = self.byte_of(number, head, position) {
             let Label { name, source } = self.label(number, head, position);
             put_source(notes, self.text, byte, "");
@@ -113,6 +114,15 @@ impl<'t> NetlistText<'t> {
             notes.put(" of part %", &mark[2..]);
             notes.put("%", &[Piece::Label(Label { name: None, source })]);
             notes.say("", &[]);
+        }
+    }
+
+    /// Adds which record of a part the notes are about.
+    pub fn add_record(&self, notes: &mut Notes, number: usize, head: Head, position: usize) {
+        notes.add_detail(Detail::Part(self.name(number)));
+        notes.add_detail(Detail::Position(position));
+        if let (Head::Components, Some(site)) = (head, self.site(number, position)) {
+            notes.add_detail(Detail::Component(site.component.name.as_slice()));
         }
     }
 
@@ -139,12 +149,14 @@ impl<'t> NetlistText<'t> {
     }
 
     /// Where the part of a name begins, or else the netlist.
-    pub fn spot_of_part(&self, name: &[u8]) -> Spot {
+    pub fn place_of_part(&self, name: &[u8]) -> Place {
         let byte = match self.parts.number(name) {
             Some(number) => self.byte_of_part(number),
             None => None,
         };
-        spot_of(self.text, byte.unwrap_or(0))
+        let byte = byte.unwrap_or(0);
+        let spot = spot_of(self.text, byte);
+        Place { byte, spot }
     }
 
     /// The line and column of a record.
@@ -159,8 +171,23 @@ impl<'t> NetlistText<'t> {
 impl<'t> Site<'t> {
     /// The bytes of its record.
     pub fn span(self) -> Option<Span> {
+        Some(self.form()?.span())
+    }
+
+    // Its record.
+    fn form(self) -> Option<Form<'t>> {
         self.netlist
-            .span_of(self.number, Head::Components, self.position)
+            .form_of(self.number, Head::Components, self.position)
+    }
+
+    /// The name in its record.
+    pub(crate) fn name_form(self) -> Option<Form<'t>> {
+        nth(inside(self.form()?)?, 2)
+    }
+
+    /// The parameters in its record.
+    pub(crate) fn param_forms(self) -> Option<Forms<'t>> {
+        inside(nth(inside(self.form()?)?, 3)?)
     }
 
     /// The part that it is an instance of.

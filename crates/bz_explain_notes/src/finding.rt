@@ -5,11 +5,10 @@
 //! whose strings have a contract: a tree of values for a few lines would cost more.
 
 use crate::letters::shown;
-use crate::notes::Notes;
+use crate::notes::{Notes, Place};
 use crate::telling::tell_notes;
 use bz_model::Value;
 use bz_text::{Piece, Text, WriteFault, put, put_json, put_pieces};
-use bz_view::Spot;
 use std::alloc::Global;
 use std::io::Write;
 
@@ -28,7 +27,7 @@ pub struct Finding {
     pub severity: Severity,
     /// The code, the name and what follows these, one space apart.
     pub line: Text,
-    pub spot: Spot,
+    pub place: Place,
     pub notes: Notes,
 }
 
@@ -86,9 +85,9 @@ fn tell_finding<'a, W: Write>(
     let pieces = [
         Piece::Bytes(file.as_bytes()),
         Piece::Bytes(b":"),
-        Piece::Number(finding.spot.line as Value),
+        Piece::Number(finding.place.spot.line as Value),
         Piece::Bytes(b":"),
-        Piece::Number(finding.spot.column as Value),
+        Piece::Number(finding.place.spot.column as Value),
         Piece::Bytes(b": "),
         Piece::Bytes(line_of(finding)),
         Piece::Bytes(b"\n"),
@@ -105,22 +104,23 @@ fn line_of(finding: &Finding) -> &[u8] {
     }
 }
 
-/// Writes findings in a file as one object of JSON, each finding on a line of its own.
+/// Writes findings in a file as one object of JSON, on a line of its own.
 pub fn tell_json<W: Write>(
     alloc: Global,
     file: &str,
     findings: &Findings,
     out: &mut W,
 ) -> Result<(), WriteFault> {
-    put(out, b"{\"version\": 1, \"findings\": [")?;
-    let mut before: &[u8] = b"\n";
+    begin_object(file, out)?;
+    put(out, b", \"findings\": [")?;
+    let mut before: &[u8] = b"";
     for finding in &findings.list {
         put(out, before)?;
         json_finding(alloc, file, finding, out)?;
-        before = b",\n";
+        before = b", ";
     }
     let pieces = [
-        Piece::Bytes(b"\n], \"more\": "),
+        Piece::Bytes(b"], \"more\": "),
         Piece::Number(findings.more as Value),
         Piece::Bytes(b", \"unopened\": "),
         Piece::Number(findings.unopened as Value),
@@ -129,24 +129,48 @@ pub fn tell_json<W: Write>(
     put_pieces(out, &pieces)
 }
 
+/// Writes why nothing can be said of a file, as one object of JSON on a line of its own.
+pub fn tell_refusal<W: Write>(file: &str, why: &[u8], out: &mut W) -> Result<(), WriteFault> {
+    begin_object(file, out)?;
+    put(out, b", \"error\": ")?;
+    put_json(out, why)?;
+    put(out, b", \"findings\": [], \"more\": 0, \"unopened\": 0}\n")
+}
+
+fn begin_object<W: Write>(file: &str, out: &mut W) -> Result<(), WriteFault> {
+    put(out, b"{\"version\": 1, \"file\": ")?;
+    put_json(out, file.as_bytes())
+}
+
 fn json_finding<W: Write>(
     alloc: Global,
     file: &str,
     finding: &Finding,
     out: &mut W,
 ) -> Result<(), WriteFault> {
+    put(out, b"{\"file\": ")?;
+    put_json(out, file.as_bytes())?;
+    json_place(finding, out)?;
+    put_json(out, line_of(finding))?;
+    put(out, finding.notes.details())?;
+    json_notes(alloc, &finding.notes, out)
+}
+
+// Where a finding is and what it is called, up to the front of its line.
+fn json_place<W: Write>(finding: &Finding, out: &mut W) -> Result<(), WriteFault> {
     let severity: &[u8] = match finding.severity {
         Severity::Fault => b"fault",
         Severity::Warning => b"warning",
     };
     let (code, name) = code_of(line_of(finding));
-    put(out, b"{\"file\": ")?;
-    put_json(out, file.as_bytes())?;
+    let place = finding.place;
     let pieces = [
         Piece::Bytes(b", \"line\": "),
-        Piece::Number(finding.spot.line as Value),
+        Piece::Number(place.spot.line as Value),
         Piece::Bytes(b", \"column\": "),
-        Piece::Number(finding.spot.column as Value),
+        Piece::Number(place.spot.column as Value),
+        Piece::Bytes(b", \"byte\": "),
+        Piece::Number(place.byte as Value),
         Piece::Bytes(b", \"severity\": \""),
         Piece::Bytes(severity),
         Piece::Bytes(b"\", \"code\": \""),
@@ -155,9 +179,7 @@ fn json_finding<W: Write>(
         Piece::Bytes(name),
         Piece::Bytes(b"\", \"text\": "),
     ];
-    put_pieces(out, &pieces)?;
-    put_json(out, line_of(finding))?;
-    json_notes(alloc, &finding.notes, out)
+    put_pieces(out, &pieces)
 }
 
 fn json_notes<W: Write>(alloc: Global, notes: &Notes, out: &mut W) -> Result<(), WriteFault> {

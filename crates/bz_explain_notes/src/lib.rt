@@ -2,6 +2,7 @@
 //! them.
 #![tactic(auto)]
 
+mod detail;
 mod finding;
 mod keeping;
 mod letters;
@@ -11,10 +12,11 @@ mod source;
 mod spot;
 mod telling;
 
-pub use finding::{Finding, Findings, Severity, tell_findings, tell_json};
+pub use detail::Detail;
+pub use finding::{Finding, Findings, Severity, tell_findings, tell_json, tell_refusal};
 pub use keeping::Keeping;
 pub use nearest::{nearest_name, port_names};
-pub use notes::{NEAREST, Notes};
+pub use notes::{NEAREST, Notes, Place};
 pub use source::put_source;
 pub use spot::{before_in_line, spot_of};
 pub use telling::{tell, tell_notes};

@@ -1,5 +1,6 @@
 //! The notes of a fault while they are gathered.
 
+use crate::detail::Detail;
 use crate::nearest::nearest_name;
 use bz_text::{Put, Text};
 use bz_view::{Piece, Spot};
@@ -12,6 +13,14 @@ const MOST_LISTED: usize = 10;
 /// Tells the nearest name.
 pub const NEAREST: &str = "help: the nearest name is %";
 
+/// A place in a netlist.
+#[derive(Clone, Copy)]
+pub struct Place {
+    /// The byte, counted from 0.
+    pub byte: usize,
+    pub spot: Spot,
+}
+
 /// Notes, and the text of one that goes on. Where memory was wanting for some of it there are no notes at all.
 #[derive(Drop)]
 pub struct Notes {
@@ -21,7 +30,9 @@ pub struct Notes {
     /// The name of the file that they speak of, empty where it has none.
     file: Vec<u8>,
     /// The first place that they tell.
-    spot: Option<Spot>,
+    place: Option<Place>,
+    /// What they are about, as members of an object of JSON.
+    details: Text,
     is_short: bool,
 }
 
@@ -33,7 +44,8 @@ impl Notes {
             list: Vec::new(alloc),
             line: Text::new(alloc),
             file: Vec::new(alloc),
-            spot: None,
+            place: None,
+            details: Text::new(alloc),
             is_short: false,
         }
     }
@@ -53,6 +65,16 @@ impl Notes {
         self.alloc
     }
 
+    /// Adds that they are about a port, by what shows it.
+    pub fn add_port(&mut self, port: Piece<'_>) {
+        let mut shown = Text::new(self.alloc);
+        shown.say("%", &[port]);
+        match shown.whole() {
+            Ok(letters) => self.add_detail(Detail::Port(letters)),
+            Err(_) => self.fail(),
+        }
+    }
+
     /// The notes that were ended.
     pub(crate) fn ended(&self) -> &[Text] {
         if self.is_short || self.line.whole().is_err() {
@@ -63,8 +85,21 @@ impl Notes {
     }
 
     /// The first place that they tell, if they tell one.
-    pub fn spot(&self) -> Option<Spot> {
-        self.spot
+    pub fn place(&self) -> Option<Place> {
+        self.place
+    }
+
+    /// What they are about, as members of an object of JSON, each with a comma in front.
+    pub(crate) fn details(&self) -> &[u8] {
+        match self.details.whole() {
+            Ok(details) => details,
+            Err(_) => b"",
+        }
+    }
+
+    /// Adds what they are about, for programs. Each is to be added once.
+    pub fn add_detail(&mut self, detail: Detail<'_>) {
+        detail.put(&mut self.details);
     }
 
     /// How many bytes the line has so far.
@@ -115,8 +150,9 @@ impl Notes {
     }
 
     /// Goes on with a place in the file, or else in what `of` says.
-    pub(crate) fn put_spot(&mut self, spot: Spot, of: &str) {
-        self.spot = self.spot.or(Some(spot));
+    pub(crate) fn put_spot(&mut self, place: Place, of: &str) {
+        self.place = self.place.or(Some(place));
+        let spot = place.spot;
         if of.is_empty() && !self.file.is_empty() {
             let args = [
                 Piece::Bytes(&self.file),
@@ -148,13 +184,24 @@ impl Notes {
         self.say_nearest(NEAREST, name, names);
     }
 
-    /// Tells by a form which of several names was probably meant, where one is near enough.
-    pub fn say_nearest(&mut self, form: &str, name: &[u8], names: &[&[u8]]) {
-        match nearest_name(self.alloc, name, names) {
-            Ok(Some(name)) => self.say(form, &[Piece::Name(name)]),
-            Ok(None) => {}
-            Err(_) => self.fail(),
+    /// Tells by a form which of several names was probably meant, where one is near enough, and answers it.
+    pub fn say_nearest<'c>(
+        &mut self,
+        form: &str,
+        name: &[u8],
+        names: &[&'c [u8]],
+    ) -> Option<&'c [u8]> {
+        let nearest = match nearest_name(self.alloc, name, names) {
+            Ok(nearest) => nearest,
+            Err(_) => {
+                self.fail();
+                None
+            }
+        };
+        if let Some(name) = nearest {
+            self.say(form, &[Piece::Name(name)]);
         }
+        nearest
     }
 
     fn end(&mut self) {

@@ -2,7 +2,7 @@
 //!
 //! Of a longer line 100 bytes are shown, always with the place that is meant.
 
-use crate::notes::Notes;
+use crate::notes::{Notes, Place};
 use crate::spot::{before_in_line, spot_of};
 use bz_view::Piece::{Blanks, Bytes, Number, Text};
 
@@ -29,10 +29,11 @@ struct Window<'t> {
 /// line itself, and goes on behind a caret below it.
 pub fn put_source(notes: &mut Notes, text: &[u8], at: usize, of: &str) {
     let spot = spot_of(text, at);
+    let place = Place { byte: at, spot };
     let window = window_of(text, at);
     let (before, behind) = (Text(window.before), Text(window.behind));
     notes.put("at ", &[]);
-    notes.put_spot(spot, of);
+    notes.put_spot(place, of);
     notes.put("\n%", &[Number(spot.line)]);
     let digits = notes.width();
     let shown = Bytes(window.shown);
