@@ -10,6 +10,9 @@ PART = ["-p", "cell"]
 WAITS = ["waits", *PART, "--netlist", "cell.breeze", "--trace"]
 CROSS = ["-p", "cross", "--netlist", f"{EXAMPLES}/cross.breeze"]
 IDLE = b"0 wait, 0 can move, 1 idle\n"
+# The cell at the end of its trace: the host has not got the reply.
+DONE = b"wait Variable 1 v         for the host: collect:w\n" + IDLE
+HUNG = b"idle Variable 1 v         for the host: collect:w\n  or                      for the host: offer:r\n"
 READ = b"breezesim: F1 Read\n"
 SHARED = b"error: standard input cannot have both the netlist and the trace\n"
 LINES = b"error: standard input cannot have both the lines and the trace\n"
@@ -30,13 +33,13 @@ def cross_trace():
 def add_waited(cases):
     """What is refused and in which order, each status, and each line of a trace that ends stuck."""
     for name, words, given, wanted in [
-        ("of a run", [*WAITS, "cell.trace"], b"", Ran(0, IDLE, b"")),
-        ("behind the netlist", ["waits", *PART], CELL + b"\n" + CELL_TRACE, Ran(0, IDLE, b"")),
-        ("of standard input", [*WAITS, "-"], CELL_TRACE, Ran(0, IDLE, b"")),
-        ("of a component", [*WAITS, "cell.trace", "1"], b"", Ran(0, b"Variable 1 v is idle\n", b"")),
+        ("of a run", [*WAITS, "cell.trace"], b"", Ran(0, DONE, b"")),
+        ("behind the netlist", ["waits", *PART], CELL + b"\n" + CELL_TRACE, Ran(0, DONE, b"")),
+        ("of standard input", [*WAITS, "-"], CELL_TRACE, Ran(0, DONE, b"")),
+        ("of a component", [*WAITS, "cell.trace", "1"], b"", Ran(0, HUNG, b"")),
         ("behind a line", [*WAITS, "cell.trace", "--line", "2", "1"], b"", Ran(0, b"Variable 1 v can move\n", b"")),
         ("behind the first line", [*WAITS, "cell.trace", "--line", "1"], b"", Ran(0, IDLE, b"")),
-        ("strict, where nothing is stuck", [*WAITS, "cell.trace", "--strict"], b"", Ran(0, IDLE, b"")),
+        ("strict, where nothing is stuck", [*WAITS, "cell.trace", "--strict"], b"", Ran(0, DONE, b"")),
         ("of no run", [*WAITS, "spoilt.trace"], b"", Ran(1, b"", b"error: not a run: line 3\n")),
         ("of no run, before its line", [*WAITS, "spoilt.trace", "--line", "90"], b"", Ran(1, b"", b"error: not a run: line 3\n")),
         ("of no trace", [*WAITS, "-"], b"", Ran(1, b"", b"error: not a trace: line 1\n")),
@@ -110,7 +113,7 @@ def opening_differs(cases):
     """What is stuck from the opening on is so since line 1."""
     told = b"stuck since line 1 of 1: the opening\nstuck: 2 of 2 components can never move again, whatever the host does\n"
     ran = cases.run(["waits", "-p", "round", "--strict"], ROUND + b"trace 2\n")
-    return differ((3, told, b"0 wait, 0 can move, 2 idle"), (ran.status, ran.output[: len(told)], ran.output.splitlines()[-1]))
+    return differ((3, told, b"0 wait, 0 can move, 2 idle, 2 stuck"), (ran.status, ran.output[: len(told)], ran.output.splitlines()[-1]))
 
 
 def begun_differs(cases, begun):
