@@ -11,3 +11,8 @@ pub returns : goal.returns
 returns g c =
     let has = rw c.both.ensures.netlist at c.in-Ok.ensures in
     inr (refl, (c.in-Ok.told.is_stuck, c.as_slice.result.now, rw c.both.ensures.trace at has, c.in-Err-write_out.ensures.err))
+
+pub returns-in-Ok-write_out : goal.returns-in-Ok-write_out
+returns-in-Ok-write_out g c =
+    let has = rw c.both.ensures.netlist at c.in-Ok.ensures in
+    inr (c.as_slice.result.now, rw c.both.ensures.trace at has, c.in-Ok-write_out.ensures.ok)
