@@ -4,11 +4,15 @@ use Rattle.std.specs.List.{All}
 use Rattle.bz_model.specs.declared.event.Entry.{Entry}
 use Rattle.bz_model.specs.declared.event.Entry.TheVariants.{Fired, Host, Rested}
 use Rattle.bz_model.specs.Nets.{State}
+use Rattle.bz_model.specs.Runs.{Rest}
 use Rattle.bz_net.specs.Simulation.{Simulation}
 use Rattle.bz_net.specs.Answering.{would_answer}
 use Rattle.bz_locked.specs.declared.standing.Standing.{Standing}
 use Rattle.bz_locked.specs.declared.standing.Standing.TheVariants.{Running, Waiting, Ended}
-use Rattle.bz_locked.specs.declared.locked.Work.TheVariants.{Stopped, Ready, Resting, Spent}
+use Rattle.bz_locked.specs.declared.locked.Work.TheVariants.{Stopped, Resting, Spent}
+use Rattle.bz_locked.specs.declared.locked.Polled.{Polled}
+use Rattle.bz_locked.specs.declared.locked.Polled.TheVariants as told
+use Rattle.bz_locked.specs.declared.audience.Audience.{Audience}
 use Rattle.bz_locked.specs.Working.{WorkIs}
 
 -- all who wait are told that all was stopped, or that the net rests or is spent
@@ -33,7 +37,23 @@ LeavesSessions net standings (Host who verb port value reply) = LeavesAt net sta
 LeavesSessions net standings (Rested who) = Unit {0}
 
 -- it gives no worker anything to fire: what can move after a firing, its own worker goes on with
-abbrev pub LeavesWorkers : Simulation → ℕ → Bool → List Standing → Entry → Type 0
-LeavesWorkers net fuel stopped standings (Fired who c p k mv value) = Unit {0}
-LeavesWorkers net fuel stopped standings (Host who verb port value reply) = WorkIs net fuel stopped standings Ready → ⊥
-LeavesWorkers net fuel stopped standings (Rested who) = Unit {0}
+abbrev pub LeavesWorkers : Simulation → Entry → Type 0
+LeavesWorkers net (Fired who c p k mv value) = Unit {0}
+LeavesWorkers net (Host who verb port value reply) = Rest net.wiring.sites net.state
+LeavesWorkers net (Rested who) = Unit {0}
+
+abbrev pub WakesAll : Audience → Type 0
+WakesAll a = (a.sessions ≡ true) × (a.workers ≡ true)
+
+-- Who is not woken after this entry is given nothing by it: that it is over is told to all, an answer to sessions, work to workers.
+abbrev pub Suffices : Simulation → ℕ → Bool → List Standing → Entry → Audience → Type 0
+Suffices net fuel stopped standings entry a =
+    (IsOver net fuel stopped standings → WakesAll a) × (a.sessions ≡ false → LeavesSessions net standings entry) × (a.workers ≡ false → LeavesWorkers net entry)
+
+-- of an answer its entry
+abbrev pub IfAnswered : Polled → (Entry → Type 0) → Type 0
+IfAnswered (told.Answered entry reply len) P = P entry
+IfAnswered told.Resting P = Unit {0}
+IfAnswered told.Spent P = Unit {0}
+IfAnswered told.Stopped P = Unit {0}
+IfAnswered told.Wait P = Unit {0}

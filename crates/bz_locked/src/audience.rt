@@ -1,8 +1,8 @@
 //! Whom of those that wait a call concerns.
 
-ghost use Rattle.std.specs.Prelude.{◌≡◌, ◌↔◌, true, false, IsTrue};
+ghost use Rattle.std.specs.Prelude.{◌≡◌, ◌↔◌, true, false, IfOk, IsTrue, MatchBool, MatchResult};
 ghost use Rattle.std.specs.List.{All};
-ghost use Rattle.bz_locked.specs.Audiences.{is_left, IsOver, LeavesAt, LeavesSessions, LeavesWorkers};
+ghost use Rattle.bz_locked.specs.Audiences.{is_left, IfAnswered, IsOver, LeavesAt, LeavesSessions, LeavesWorkers, Suffices, WakesAll};
 
 use crate::ledger::NetLedger;
 use crate::locked::{FireError, Fired, Locked, Polled, Work};
@@ -55,65 +55,91 @@ fn may_answer(net: &Net, sessions: &[Standing], chan: u32) -> bool
     chan as usize <= net.names().ports().len() && !are_left(net, sessions, chan)
 }
 
+/// Whether an entry may give a session its answer.
+fn gives_answer(net: &Net, sessions: &[Standing], entry: &Entry) -> bool
+    ensures { result ≡ false → LeavesSessions net.now sessions.now entry.now }
+{
+    match entry {
+        Entry::Fired { chan, .. } => may_answer(net, sessions, *chan),
+        Entry::Host { port, .. } => may_answer(net, sessions, *port),
+        Entry::Rested { .. } => false,
+    }
+}
+
+/// Whether an entry gives workers something to fire. What can move after a firing, its own worker goes on with.
+fn gives_work(net: &Net, entry: &Entry) -> bool
+    ensures { result ≡ false → LeavesWorkers net.now entry.now }
+{
+    match entry {
+        Entry::Host { .. } => net.next_ready(1).is_some(),
+        Entry::Fired { .. } | Entry::Rested { .. } => false,
+    }
+}
+
 impl<L: NetLedger> Locked<L> {
-    /// Whether an entry may give a session its answer.
-    fn gives_answer(&self, entry: &Entry) -> bool
-        ensures { result ≡ false → LeavesSessions self.now.net self.now.sessions.items entry.now }
+    /// Whether those who wait are told that all was stopped, or that the net rests or is spent.
+    fn is_over(&self) -> bool
+        ensures { MatchBool result
+            (IsOver self.now.net self.now.fuel self.now.stopped self.now.sessions.items)
+            (IsOver self.now.net self.now.fuel self.now.stopped self.now.sessions.items → ⊥) }
     {
-        match entry {
-            Entry::Fired { chan, .. } => may_answer(&self.net, &self.sessions, *chan),
-            Entry::Host { port, .. } => may_answer(&self.net, &self.sessions, *port),
-            Entry::Rested { .. } => false,
+        match self.work() {
+            Some(Work::Stopped | Work::Resting | Work::Spent) => true,
+            Some(Work::Ready) | None => false,
         }
     }
 
-    /// All where those who wait are told that all was stopped, or that the net rests or is spent; else nobody.
+    /// All where it is over for those who wait, else nobody.
     pub fn audience_at_end(&self) -> Audience
-        ensures { IsOver self.now.net self.now.fuel self.now.stopped self.now.sessions.items → (result.sessions ≡ true) × (result.workers ≡ true) }
+        ensures { IsOver self.now.net self.now.fuel self.now.stopped self.now.sessions.items → WakesAll result }
     {
-        match self.work() {
-            Some(Work::Stopped | Work::Resting | Work::Spent) => Audience::ALL,
-            Some(Work::Ready) | None => Audience::NOBODY,
+        if self.is_over() {
+            Audience::ALL
+        } else {
+            Audience::NOBODY
         }
     }
 
-    /// Whom an entry concerns that was just made. A firing leaves what can move to its own worker.
+    /// Whom an entry concerns that was just made.
     pub fn audience_of(&self, entry: &Entry) -> Audience
-        ensures over { IsOver self.now.net self.now.fuel self.now.stopped self.now.sessions.items → (result.sessions ≡ true) × (result.workers ≡ true) }
-        ensures sessions { result.sessions ≡ false → LeavesSessions self.now.net self.now.sessions.items entry.now }
-        ensures workers { result.workers ≡ false → LeavesWorkers self.now.net self.now.fuel self.now.stopped self.now.sessions.items entry.now }
+        ensures { Suffices self.now.net self.now.fuel self.now.stopped self.now.sessions.items entry.now result }
     {
-        match self.work() {
-            Some(Work::Stopped | Work::Resting | Work::Spent) => Audience::ALL,
-            Some(Work::Ready) => Audience {
-                sessions: self.gives_answer(entry),
-                workers: matches!(entry, Entry::Host { .. }),
-            },
-            None => Audience {
-                sessions: self.gives_answer(entry),
-                workers: false,
-            },
+        let sessions = gives_answer(&self.net, &self.sessions, entry);
+        let workers = gives_work(&self.net, entry);
+        let audience = Audience { sessions, workers };
+        if self.is_over() {
+            Audience::ALL
+        } else {
+            audience
         }
     }
 
-    /// Whom a firing concerns, or what refused it.
-    pub fn audience_of_firing(&self, fired: &Result<(Fired, u64), FireError>) -> Audience {
+    /// Whom a firing concerns, or what refused it: a firing that finds no place in the journal stops all.
+    pub fn audience_of_firing(&self, fired: &Result<(Fired, u64), FireError>) -> Audience
+        ensures { MatchResult fired.now
+            (λ f. Suffices self.now.net self.now.fuel self.now.stopped self.now.sessions.items f.0.entry result)
+            (λ _. IsOver self.now.net self.now.fuel self.now.stopped self.now.sessions.items → WakesAll result) }
+    {
         match fired {
             Ok((fired, _)) => self.audience_of(&fired.entry),
             Err(_) => self.audience_at_end(),
         }
     }
 
-    /// Whom a command concerns. A refused one changes nothing that others are told.
-    pub fn audience_of_command(&self, answered: &Result<(Entry, Reply, u64), NetError>) -> Audience {
+    /// Whom a command concerns. A refused one gives nobody anything.
+    pub fn audience_of_command(&self, answered: &Result<(Entry, Reply, u64), NetError>) -> Audience
+        ensures { IfOk answered.now (λ r. Suffices self.now.net self.now.fuel self.now.stopped self.now.sessions.items r.0 result) }
+    {
         match answered {
             Ok((entry, _, _)) => self.audience_of(entry),
             Err(_) => Audience::NOBODY,
         }
     }
 
-    /// The same of a command that was waited for.
-    pub fn audience_of_answer(&self, told: &Result<Polled, NetError>) -> Audience {
+    /// Whom a command concerns that was waited for. One that is told another thing than its answer gives nobody anything.
+    pub fn audience_of_answer(&self, told: &Result<Polled, NetError>) -> Audience
+        ensures { IfOk told.now (λ p. IfAnswered p (λ entry. Suffices self.now.net self.now.fuel self.now.stopped self.now.sessions.items entry result)) }
+    {
         match told {
             Ok(Polled::Answered(entry, _, _)) => self.audience_of(entry),
             _ => Audience::NOBODY,
