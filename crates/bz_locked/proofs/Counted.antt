@@ -110,3 +110,14 @@ fired_within read fired n inside have =
     let h = have n inside in
     let few = count_by-le-length (λ x. same_who (who_of x) (Worker n) && is_fired x) read in
     omega (arith, h, few)
+
+-- nothing was read, and nothing is counted
+pub met_none : (sessions : List SessionView) (met : List ℕ) → ((k : ℕ) → k < length met → get_or met k 0 ≡ 0) → HaveMet sessions [] met
+met_none sessions met none k s within is =
+    let zero_is = none (k + 1) within in (
+      ap (λ m. take m s.own) zero_is,
+      omega (arith, zero_is),
+    )
+
+pub fired_none : (fired : List ℕ) → ((k : ℕ) → k < length fired → get_or fired k 0 ≡ 0) → HaveFired [] fired
+fired_none fired none k within = none k within

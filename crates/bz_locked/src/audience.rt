@@ -12,7 +12,7 @@ use bz_net::Net;
 use std::sync::ledger::Ledger;
 
 /// Who is woken: the sessions that wait, and the workers.
-#[derive(Clone, Copy, Debug, PartialEq, Eq)]
+#[derive(Clone, Copy)]
 pub struct Audience {
     pub sessions: bool,
     pub workers: bool,
@@ -93,10 +93,10 @@ impl<L: NetLedger> Locked<L> {
     pub fn audience_at_end(&self) -> Audience
         ensures { IsOver self.now.net self.now.fuel self.now.stopped self.now.sessions.items → WakesAll result }
     {
-        if self.is_over() {
-            Audience::ALL
-        } else {
-            Audience::NOBODY
+        let over = self.is_over();
+        Audience {
+            sessions: over,
+            workers: over,
         }
     }
 
@@ -104,19 +104,18 @@ impl<L: NetLedger> Locked<L> {
     pub fn audience_of(&self, entry: &Entry) -> Audience
         ensures { Suffices self.now.net self.now.fuel self.now.stopped self.now.sessions.items entry.now result }
     {
-        let sessions = gives_answer(&self.net, &self.sessions, entry);
-        let workers = gives_work(&self.net, entry);
-        let audience = Audience { sessions, workers };
         if self.is_over() {
-            Audience::ALL
-        } else {
-            audience
+            return Audience::ALL;
+        }
+        Audience {
+            sessions: gives_answer(&self.net, &self.sessions, entry),
+            workers: gives_work(&self.net, entry),
         }
     }
 
     /// Whom a firing concerns, or what refused it: a firing that finds no place in the journal stops all.
-    pub fn audience_of_firing(&self, fired: &Result<(Fired, u64), FireError>) -> Audience
-        ensures { MatchResult fired.now
+    pub fn audience_of_firing(&self, fired: Result<(Fired, u64), FireError>) -> Audience
+        ensures { MatchResult fired
             (λ f. Suffices self.now.net self.now.fuel self.now.stopped self.now.sessions.items f.0.entry result)
             (λ _. IsOver self.now.net self.now.fuel self.now.stopped self.now.sessions.items → WakesAll result) }
     {
@@ -127,21 +126,21 @@ impl<L: NetLedger> Locked<L> {
     }
 
     /// Whom a command concerns. A refused one gives nobody anything.
-    pub fn audience_of_command(&self, answered: &Result<(Entry, Reply, u64), NetError>) -> Audience
-        ensures { IfOk answered.now (λ r. Suffices self.now.net self.now.fuel self.now.stopped self.now.sessions.items r.0 result) }
+    pub fn audience_of_command(&self, answered: Result<(Entry, Reply, u64), NetError>) -> Audience
+        ensures { IfOk answered (λ r. Suffices self.now.net self.now.fuel self.now.stopped self.now.sessions.items r.0 result) }
     {
         match answered {
-            Ok((entry, _, _)) => self.audience_of(entry),
+            Ok((entry, _, _)) => self.audience_of(&entry),
             Err(_) => Audience::NOBODY,
         }
     }
 
     /// Whom a command concerns that was waited for. One that is told another thing than its answer gives nobody anything.
-    pub fn audience_of_answer(&self, told: &Result<Polled, NetError>) -> Audience
-        ensures { IfOk told.now (λ p. IfAnswered p (λ entry. Suffices self.now.net self.now.fuel self.now.stopped self.now.sessions.items entry result)) }
+    pub fn audience_of_answer(&self, told: Result<Polled, NetError>) -> Audience
+        ensures { IfOk told (λ p. IfAnswered p (λ entry. Suffices self.now.net self.now.fuel self.now.stopped self.now.sessions.items entry result)) }
     {
         match told {
-            Ok(Polled::Answered(entry, _, _)) => self.audience_of(entry),
+            Ok(Polled::Answered(entry, _, _)) => self.audience_of(&entry),
             _ => Audience::NOBODY,
         }
     }

@@ -26,11 +26,12 @@ fn goes_on(sessions: &[Session], met: &mut Counts, entry: &Entry) -> bool
     if number == 0 || number > sessions.len() {
         return true;
     }
+    let session = &sessions[number - 1];
     let at = met[number];
-    if !is_at(&sessions[number - 1].own, at, entry) {
+    if !is_at(&session.own, at, entry) {
         return false;
     }
-    met[number] = at.saturating_add(1);
+    met[number] = at + 1;
     true
 }
 

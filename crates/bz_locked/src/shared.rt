@@ -315,7 +315,7 @@ impl<L: NetLedger> SharedNet<L> {
     {
         let mut kept = self.locked.lock(rt);
         let answered = kept.host(&self.past, witness, who, cmd);
-        let audience = kept.locked.audience_of_command(&answered);
+        let audience = kept.locked.audience_of_command(answered);
         drop(kept);
         self.wake(audience);
         answered
@@ -371,7 +371,7 @@ impl<L: NetLedger> SharedNet<L> {
             match kept.turn(&self.past, witness, who, cmd) {
                 Ok(Polled::Wait) => kept = self.answers.wait(rt, kept),
                 told => {
-                    let audience = kept.locked.audience_of_answer(&told);
+                    let audience = kept.locked.audience_of_answer(told);
                     drop(kept);
                     self.wake(audience);
                     return told;
@@ -405,7 +405,7 @@ impl<L: NetLedger> SharedNet<L> {
             &mut worker.share,
             comp,
         );
-        let audience = kept.locked.audience_of_firing(&answered);
+        let audience = kept.locked.audience_of_firing(answered);
         drop(kept);
         self.wake(audience);
         let (fired, len) = answered?;
@@ -433,7 +433,7 @@ impl<L: NetLedger> SharedNet<L> {
             .locked
             .lock(rt)
             .first_ready(&self.past, &mut worker.witness, worker.who, from);
-        if answered.is_err() {
+        if matches!(answered, Err(_)) {
             self.wake(Audience::ALL);
         }
         let (reply, len) = answered?;
