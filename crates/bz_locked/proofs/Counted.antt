@@ -1,5 +1,5 @@
 -- Records and firings counted entry by entry.
-use Rattle.std.proofs.Common.{cond, ◌≡◌, ◌≢◌, ◌⊎◌, inl, inr, ℕ, ◌+◌, ◌<◌, ◌≤◌, ◌&&◌, ◌==◌, Bool, true, false, List, [], ◌∷◌, ◌++◌, length, take, get_or, set, slice_get, Some, None, refl, sym, ap, subst, ◌∙◌, arith}
+use Rattle.std.proofs.Common.{cond, ◌≡◌, ◌≢◌, ◌⊎◌, inl, inr, ℕ, ◌+◌, ◌-◌, ◌<◌, ◌≤◌, ◌&&◌, ◌==◌, Bool, true, false, List, [], ◌∷◌, ◌++◌, length, take, get_or, set, slice_get, Some, None, refl, sym, ap, subst, ◌∙◌, arith}
 use Rattle.std.specs.List.{filter, count_by}
 use Rattle.std.proofs.lemmas.Bool.{cases_eq, eq-eqb, ne_eqb, and_left, and_right}
 use Rattle.std.proofs.lemmas.Option.{slice_get_within, get_or_from_slice_get}
@@ -63,6 +63,14 @@ met_more sessions read met e n s of here inside has have k t within is =
           let fits : Fits t.own k (get_or met (k + 1) 0) = (h.0 ∙ sym (part_still (Host (k + 1)) read e (not_host e (n + 1) (k + 1) of (λ e2. differs (omega (arith, e2))))), h.1) in
           subst (λ m. Fits t.own k m) (sym other) fits
     ]
+
+-- the same, by the session's number
+pub met_next : (sessions : List SessionView) (read : List Entry) (met : List ℕ) (e : Entry) (m : ℕ) (s : SessionView) → 0 < m → who_of e ≡ Host m → slice_get sessions (m - 1) ≡ Some s → m < length met
+    → slice_get s.own (get_or met m 0) ≡ Some e → HaveMet sessions read met → HaveMet sessions (read ++ e ∷ []) (set met m (get_or met m 0 + 1))
+met_next sessions read met e m s more of here inside has have =
+    let same : (m - 1) + 1 ≡ m = omega (arith, more) in
+    let Next : ℕ → Type 0 = λ j. who_of e ≡ Host j → j < length met → slice_get s.own (get_or met j 0) ≡ Some e → HaveMet sessions (read ++ e ∷ []) (set met j (get_or met j 0 + 1)) in
+    subst Next same (λ of2 inside2 has2. met_more sessions read met e (m - 1) s of2 here inside2 has2 have) of inside has
 
 -- a firing more of this one, or of another
 firings_more : (who : Who) (read : List Entry) (e : Entry) → firings who (read ++ e ∷ []) ≡ firings who read + cond (same_who (who_of e) who && is_fired e) 1 0

@@ -1,6 +1,6 @@
 //! Whom of those that wait a call concerns.
 
-ghost use Rattle.std.specs.Prelude.{◌≡◌, ◌↔◌, true, false, IfOk, IsTrue, MatchBool, MatchResult};
+ghost use Rattle.std.specs.Prelude.{◌≡◌, ◌↔◌, true, false, IfOk, IsTrue, MatchBool, MatchResult, OnErr};
 ghost use Rattle.std.specs.List.{All};
 ghost use Rattle.bz_locked.specs.Audiences.{is_left, IfAnswered, IsOver, LeavesAt, LeavesSessions, LeavesWorkers, Suffices, WakesAll};
 
@@ -8,7 +8,7 @@ use crate::ledger::NetLedger;
 use crate::locked::{FireError, Fired, Locked, Polled, Work};
 use crate::standing::Standing;
 use bz_model::{Entry, NetError, Reply};
-use bz_net::Net;
+use bz_net::{Net, RestReply};
 use std::sync::ledger::Ledger;
 
 /// Who is woken: the sessions that wait, and the workers.
@@ -28,6 +28,16 @@ impl Audience {
         sessions: false,
         workers: false,
     };
+
+    /// Whom it concerns that a worker asked for the next component: where rest has no place in the journal, all was stopped.
+    pub fn of_rest(answered: Result<(RestReply, u64), NetError>) -> Audience
+        ensures { OnErr answered (WakesAll result) }
+    {
+        match answered {
+            Ok(_) => Audience::NOBODY,
+            Err(_) => Audience::ALL,
+        }
+    }
 }
 
 /// Whether a session gets no answer at this channel.
@@ -78,6 +88,7 @@ fn gives_work(net: &Net, entry: &Entry) -> bool
 
 impl<L: NetLedger> Locked<L> {
     /// Whether those who wait are told that all was stopped, or that the net rests or is spent.
+    #[tactic(auto, using(crate::proofs::Audiences::not_while_ready, crate::proofs::Audiences::not_while_waiting))]
     fn is_over(&self) -> bool
         ensures { MatchBool result
             (IsOver self.now.net self.now.fuel self.now.stopped self.now.sessions.items)
@@ -85,7 +96,8 @@ impl<L: NetLedger> Locked<L> {
     {
         match self.work() {
             Some(Work::Stopped | Work::Resting | Work::Spent) => true,
-            Some(Work::Ready) | None => false,
+            Some(Work::Ready) => false,
+            None => false,
         }
     }
 

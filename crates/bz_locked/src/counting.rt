@@ -23,11 +23,17 @@ fn goes_on(sessions: &[Session], met: &mut Counts, entry: &Entry) -> bool
         return true;
     };
     let number = number as usize;
-    if number == 0 || number > sessions.len() {
+    if number == 0 {
+        return true;
+    }
+    if number > sessions.len() {
         return true;
     }
     let session = &sessions[number - 1];
     let at = met[number];
+    if at >= session.own.len() {
+        return false;
+    }
     if !is_at(&session.own, at, entry) {
         return false;
     }

@@ -433,9 +433,7 @@ impl<L: NetLedger> SharedNet<L> {
             .locked
             .lock(rt)
             .first_ready(&self.past, &mut worker.witness, worker.who, from);
-        if matches!(answered, Err(_)) {
-            self.wake(Audience::ALL);
-        }
+        self.wake(Audience::of_rest(answered));
         let (reply, len) = answered?;
         match reply {
             RestReply::Rest => {
