@@ -54,8 +54,9 @@ met_more sessions read met e n s of here inside has have k t within is =
           let counted : get_or (set met (n + 1) (at + 1)) (n + 1) 0 ≡ at + 1 = get_or-set_same met (n + 1) (at + 1) 0 inside in
           let one : slice_get sessions n ≡ Some t = ap (λ j. slice_get sessions j) (sym same) ∙ is in
           let who : Some s ≡ Some t = sym here ∙ one in
+          let equal : s ≡ t = cc who in
           let fits2 : Fits s.own n (get_or (set met (n + 1) (at + 1)) (n + 1) 0) = subst (λ m. Fits s.own n m) (sym counted) fits in
-          let fits3 : Fits t.own n (get_or (set met (n + 1) (at + 1)) (n + 1) 0) = subst (λ (x : SessionView). Fits x.own n (get_or (set met (n + 1) (at + 1)) (n + 1) 0)) (cc who) fits2 in
+          let fits3 : Fits t.own n (get_or (set met (n + 1) (at + 1)) (n + 1) 0) = subst (λ (x : SessionView). Fits x.own n (get_or (set met (n + 1) (at + 1)) (n + 1) 0)) equal fits2 in
           subst (λ j. Fits t.own j (get_or (set met (n + 1) (at + 1)) (j + 1) 0)) (sym same) fits3
       | inr differs ↦
           let h = have k t (omega (arith, within, length-set met (n + 1) (at + 1))) is in
@@ -90,7 +91,7 @@ pub no_worker : (e : Entry) (j k : ℕ) → who_of e ≡ Host j → same_who (wh
 no_worker e j k of = ap (λ w. same_who w (Worker k) && is_fired e) of
 
 pub no_firing : (e : Entry) (k : ℕ) → is_fired e ≡ false → same_who (who_of e) (Worker k) && is_fired e ≡ false
-no_firing e k no = and_right (same_who (who_of e) (Worker k)) (is_fired e) no
+no_firing e k lacks = and_right (same_who (who_of e) (Worker k)) (is_fired e) lacks
 
 -- a firing of worker n
 pub fired_more : (read : List Entry) (fired : List ℕ) (e : Entry) (n m : ℕ) → who_of e ≡ Worker n → is_fired e ≡ true → n < length fired → m ≡ get_or fired n 0 + 1

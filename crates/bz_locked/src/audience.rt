@@ -88,7 +88,6 @@ fn gives_work(net: &Net, entry: &Entry) -> bool
 
 impl<L: NetLedger> Locked<L> {
     /// Whether those who wait are told that all was stopped, or that the net rests or is spent.
-    #[tactic(auto, using(crate::proofs::Audiences::not_while_ready, crate::proofs::Audiences::not_while_waiting))]
     fn is_over(&self) -> bool
         ensures { MatchBool result
             (IsOver self.now.net self.now.fuel self.now.stopped self.now.sessions.items)

@@ -1,4 +1,4 @@
-use Rattle.std.proofs.Common.{List, take, arith, sym, subst}
+use Rattle.std.proofs.Common.{List, take, replicate, arith, sym, subst}
 use Rattle.std.proofs.lemmas.List.{take_all, take_more, length-take, get_or-replicate}
 use Rattle.bz_model.specs.declared.event.Entry.{Entry}
 use Rattle.bz_locked.specs.Counting.{HaveMet, HaveFired}
@@ -7,8 +7,8 @@ use Rattle.bz_locked.proofs.counting.all_agree.Goals as goal
 
 pub loop-entry-init : goal.loop-entry-init
 loop-entry-init g c = record {
-  met = met_none c.args.sessions.now _ (λ k within. get_or-replicate 256 k 0 0 (omega (arith, within)));
-  fired = fired_none _ (λ k within. get_or-replicate 256 k 0 0 (omega (arith, within)));
+  met = met_none c.args.sessions.now (replicate 256 0) (λ k within. get_or-replicate 256 k 0 0 (omega (arith, within)));
+  fired = fired_none (replicate 256 0) (λ k within. get_or-replicate 256 k 0 0 (omega (arith, within)));
 }
 
 pub loop-entry-preserved : goal.loop-entry-preserved
