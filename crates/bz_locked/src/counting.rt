@@ -62,7 +62,8 @@ fn have_ended(sessions: &[Session], met: &Counts) -> bool
             return false;
         };
         let number = number as usize;
-        if number != place + 1 || met[number] != session.own.len() {
+        let own: &[Entry] = &session.own;
+        if number != place + 1 || met[number] != own.len() {
             return false;
         }
     }

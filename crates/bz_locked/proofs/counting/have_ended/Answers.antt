@@ -1,4 +1,4 @@
-use Rattle.std.proofs.Common.{◌≡◌, ◌+◌, arith, refl, sym, ap, ◌∙◌, subst, length, get_or, vec_len}
+use Rattle.std.proofs.Common.{◌≡◌, ◌+◌, arith, refl, sym, ap, ◌∙◌, subst, length, get_or}
 use Rattle.std.proofs.lemmas.Option.{slice_get_read}
 use Rattle.std.proofs.lemmas.List.Elements.{All-more, All-same}
 use Rattle.std.proofs.lemmas.List.{take_all}
@@ -17,9 +17,9 @@ loop-place-preserved c journal have =
     let number = c.if-number-place.false in
     let here = slice_get_read c.args.sessions.now _ place s refl c.loop-place-test.true c.index-sessions-place.is in
     let met = have place s (omega (arith, number, c.type_inv.met)) here in
-    let long : vec_len c.session.inside.own ≡ length s.own = ap length own in
+    let long : length c.deref-own.result.now ≡ length s.own = ap length (c.deref-own.ensures.value ∙ own) in
     let counted : get_or c.args.met.now (place + 1) 0 ≡ get_or c.args.met.now c.in-Host.number 0 = ap (λ n. get_or c.args.met.now n 0) (sym number) in
-    let all : get_or c.args.met.now (place + 1) 0 ≡ length s.own = omega (arith, counted, c.if-met-number.false, c.len.ensures, long) in
+    let all : get_or c.args.met.now (place + 1) 0 ≡ length s.own = omega (arith, counted, c.if-met-number.false, long) in
     let whole = take_all (get_or c.args.met.now (place + 1) 0) s.own (omega (arith, all)) in
     let is : RecordAgrees journal s = sym whole ∙ met.0 ∙ ap (λ n. part_of (Host n) journal) (sym number) ∙ ap (λ w. part_of w journal) (sym c.in-Host.is ∙ who) in
     let at = subst (RecordAgrees journal) c.index-sessions-place.is is in
