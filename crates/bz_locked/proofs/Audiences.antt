@@ -1,5 +1,5 @@
 -- Where it is not over for those who wait.
-use Rattle.std.proofs.Common.{◌≡◌, ◌⊎◌, inl, inr, ℕ, Bool, true, false, List, true≢false, sym, ◌∙◌, arith}
+use Rattle.std.proofs.Common.{inl, inr, ℕ, Bool, List, true≢false, sym, ◌∙◌, arith}
 use Rattle.bz_net.specs.Simulation.{Simulation}
 use Rattle.bz_locked.specs.declared.standing.Standing.{Standing}
 use Rattle.bz_locked.specs.declared.locked.Work.TheVariants.{Ready}
