@@ -32,11 +32,12 @@ use std::sync::{Condvar, Mutex, Wait};
 ///
 /// Nobody sleeps who would be told something. What one who waits is told hangs on the net, the fuel, whether all was stopped, and
 /// how the sessions stand; and each call that changes these wakes those to whom it gives something (`Audience`):
-/// - an entry of a host or a firing: sessions that wait at its channel, workers where a component can move for a host, all at an end;
-/// - a firing gives workers nothing but an end: its own worker goes on, and no other fell asleep while a component could move;
-/// - rest adds to the journal alone; a refusal of the journal stops all, and a stop wakes all;
-/// - a session that begins to wait is told an end itself before it sleeps, and runs on then;
-/// - a session that runs on gives nothing to others; one that ends wakes all, since the net may be quiet.
+/// - a host's entry or a firing wakes sessions where one that waits at its channel would be answered, and all where it is over;
+/// - a host's entry wakes workers where a component can move. A firing leaves these to its own worker, which looks again before it
+///   sleeps; and no other fell asleep while a component could move;
+/// - rest adds to the journal alone; a full journal and want of memory stop all, and a stop wakes all;
+/// - a session that begins to wait is told itself, before it sleeps, that it is over, and then runs on; one that runs on gives
+///   nothing to others; one that ends wakes all where it is over.
 #[derive(Drop)]
 pub struct SharedNet<L: NetLedger> {
     pub(crate) locked: Mutex<Kept<L>>,
