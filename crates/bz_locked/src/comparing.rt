@@ -5,11 +5,12 @@ ghost use Rattle.std.specs.List.{All};
 ghost use Rattle.bz_locked.specs.Journal.{part_of, firings, who_of, same_who, is_fired};
 ghost use Rattle.bz_locked.specs.Closing.{RecordAgrees, ShareAgrees, DiffersAt, RecordFault, ShareFault, PartFault};
 
+use crate::counting::all_agree;
 use crate::ledger::NetLedger;
 use crate::parts::{Session, Worker};
 use bz_model::{Entry, Move, Phase, Reply, Value, Verb, Who};
 
-fn who_of(entry: &Entry) -> Who
+pub fn who_of(entry: &Entry) -> Who
     ensures { result ≡ who_of entry.now }
 {
     match entry {
@@ -17,7 +18,7 @@ fn who_of(entry: &Entry) -> Who
     }
 }
 
-fn is_fired(entry: &Entry) -> bool
+pub fn is_fired(entry: &Entry) -> bool
     ensures { result ≡ is_fired entry.now }
 {
     match entry {
@@ -133,7 +134,7 @@ fn same_entry(one: Entry, other: Entry) -> bool
 }
 
 // Whether a record has this entry at a place.
-fn is_at(own: &[Entry], at: usize, entry: &Entry) -> bool
+pub fn is_at(own: &[Entry], at: usize, entry: &Entry) -> bool
     ensures { IsTrue result ↔ (slice_get own.now at ≡ Some entry.now) }
 {
     at < own.len() && same_entry(own[at], *entry)
@@ -196,7 +197,8 @@ fn share_fault<L: NetLedger>(workers: &[Worker<L>], journal: &[Entry]) -> Option
     None
 }
 
-/// The first record that is not its part of the journal, else the first share that is not its number of firings.
+/// The first record that is not its part of the journal, else the first share that is not its number of firings. It is looked for
+/// only where they don't all agree, which takes one pass over the journal, whatever the sessions and workers.
 pub fn first_fault<L: NetLedger>(
     sessions: &[Session],
     workers: &[Worker<L>],
@@ -204,6 +206,9 @@ pub fn first_fault<L: NetLedger>(
 ) -> Option<(Who, u64)>
     ensures { MatchOption result (All (RecordAgrees journal.now) sessions.now × All (ShareAgrees journal.now) workers.now) (λ f. PartFault journal.now sessions.now workers.now f.0 f.1) }
 {
+    if all_agree(sessions, workers, journal) {
+        return None;
+    }
     if let Some(fault) = record_fault(sessions, journal) {
         return Some(fault);
     }

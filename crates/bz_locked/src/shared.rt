@@ -11,6 +11,7 @@ ghost use Rattle.bz_net.specs.Simulation.{Simulation};
 ghost use Rattle.bz_net.specs.Replies.{RefusesCommand};
 ghost use Rattle.bz_locked.specs.Working.{MatchWait, MatchRest, IsLast, Once, HasFired, Notes, WasAdded, WasFirst, WasRefused, WorkIs, RefusesFiring, RefusesRest};
 
+use crate::audience::Audience;
 use crate::closing::CloseError;
 use crate::kept::Kept;
 use crate::ledger::NetLedger;
@@ -26,12 +27,22 @@ use std::marker::Model;
 use std::sync::ledger::{Blank, Book, Ledger, Share};
 use std::sync::{Condvar, Mutex, Wait};
 
-/// A net that host sessions and workers share. Its one lock is held for one event at a time; a call that waits waits for
-/// the condition variable alone, which lets the lock go.
+/// A net that host sessions and workers share. Its one lock is held for one event at a time; a call that waits waits for a
+/// condition variable alone, which lets the lock go: sessions for `answers`, workers for `work`.
+///
+/// Nobody sleeps who would be told something. What one who waits is told hangs on the net, the fuel, whether all was stopped, and
+/// how the sessions stand; and each call that changes these wakes those to whom it gives something (`Audience`):
+/// - a host's entry or a firing wakes sessions where one that waits at its channel would be answered, and all where it is over;
+/// - a host's entry wakes workers where a component can move. A firing leaves these to its own worker, which looks again before it
+///   sleeps; and no other fell asleep while a component could move;
+/// - rest adds to the journal alone; a full journal and want of memory stop all, and a stop wakes all;
+/// - a session that begins to wait is told itself, before it sleeps, that it is over, and then runs on; one that runs on gives
+///   nothing to others; one that ends wakes all where it is over.
 #[derive(Drop)]
 pub struct SharedNet<L: NetLedger> {
     pub(crate) locked: Mutex<Kept<L>>,
-    pub(crate) changed: Condvar,
+    pub(crate) answers: Condvar,
+    pub(crate) work: Condvar,
     pub(crate) front: Front,
     pub(crate) past: Past,
     pub(crate) sessions: usize,
@@ -245,7 +256,8 @@ impl<L: NetLedger> SharedNet<L> {
         };
         let shared = SharedNet {
             locked: Mutex::new(Kept { locked, keeper }),
-            changed: Condvar::new(),
+            answers: Condvar::new(),
+            work: Condvar::new(),
             front: made.front,
             past,
             sessions: sessions as usize,
@@ -256,7 +268,17 @@ impl<L: NetLedger> SharedNet<L> {
         Ok((shared, made.hosts, made.crew))
     }
 
-    /// Carries a command out at once, and wakes all who wait.
+    /// Wakes those of an audience who wait.
+    fn wake(&self, audience: Audience) {
+        if audience.sessions {
+            self.answers.notify_all();
+        }
+        if audience.workers {
+            self.work.notify_all();
+        }
+    }
+
+    /// Carries a command out at once, and wakes whom it concerns.
     pub fn host<R: Wait>(
         &self,
         rt: &R,
@@ -294,12 +316,13 @@ impl<L: NetLedger> SharedNet<L> {
     {
         let mut kept = self.locked.lock(rt);
         let answered = kept.host(&self.past, witness, who, cmd);
-        self.changed.notify_all();
+        let audience = kept.locked.audience_of_command(answered);
+        drop(kept);
+        self.wake(audience);
         answered
     }
 
-    /// Waits until the command would be answered and carries it out, or until it won't be. All who wait are woken as it
-    /// begins, since the net may be quiet from then on, and as it ends.
+    /// Waits until the command would be answered and carries it out, or until it won't be. Whom an answer concerns is woken.
     pub fn wait_host<R: Wait>(
         &self,
         rt: &R,
@@ -345,12 +368,13 @@ impl<L: NetLedger> SharedNet<L> {
     {
         let mut kept = self.locked.lock(rt);
         kept.locked.begin(who, cmd);
-        self.changed.notify_all();
         for _ in rt.forever() {
             match kept.turn(&self.past, witness, who, cmd) {
-                Ok(Polled::Wait) => kept = self.changed.wait(rt, kept),
+                Ok(Polled::Wait) => kept = self.answers.wait(rt, kept),
                 told => {
-                    self.changed.notify_all();
+                    let audience = kept.locked.audience_of_answer(told);
+                    drop(kept);
+                    self.wake(audience);
                     return told;
                 }
             }
@@ -358,7 +382,7 @@ impl<L: NetLedger> SharedNet<L> {
         unreachable!()
     }
 
-    /// Fires a component at its lowest port that can move, and wakes all who wait.
+    /// Fires a component at its lowest port that can move, and wakes whom it concerns.
     pub fn fire<R: Wait>(
         &self,
         rt: &R,
@@ -374,21 +398,25 @@ impl<L: NetLedger> SharedNet<L> {
         ensures ok { OnOk result (worker.new.fired ≡ worker.old.fired + 1) }
         ensures err { OnErr result ((worker.new.fired ≡ worker.old.fired) × IsSilent worker.old.seat worker.new.seat) }
     {
-        let answered = self.locked.lock(rt).fire(
+        let mut kept = self.locked.lock(rt);
+        let answered = kept.fire(
             &self.past,
             &mut worker.witness,
             worker.who,
             &mut worker.share,
             comp,
         );
-        self.changed.notify_all();
+        let audience = kept.locked.audience_of_firing(answered);
+        drop(kept);
+        self.wake(audience);
         let (fired, len) = answered?;
         worker.fired += 1;
         self.front.publish(&mut worker.seat, len);
         Ok(fired)
     }
 
-    /// The component that is next from a number on; or rest, which is an event. All who wait are woken.
+    /// The component that is next from a number on; or rest, which is an event. All who wait are woken where it is refused,
+    /// since that stops all.
     pub fn first_ready<R: Wait>(
         &self,
         rt: &R,
@@ -406,7 +434,7 @@ impl<L: NetLedger> SharedNet<L> {
             .locked
             .lock(rt)
             .first_ready(&self.past, &mut worker.witness, worker.who, from);
-        self.changed.notify_all();
+        self.wake(Audience::of_rest(answered));
         let (reply, len) = answered?;
         match reply {
             RestReply::Rest => {
@@ -437,7 +465,7 @@ impl<L: NetLedger> SharedNet<L> {
             if let Some(work) = kept.work(&self.past, witness) {
                 return work;
             }
-            kept = self.changed.wait(rt, kept);
+            kept = self.work.wait(rt, kept);
         }
         unreachable!()
     }
@@ -445,18 +473,18 @@ impl<L: NetLedger> SharedNet<L> {
     /// Stops all workers, and the sessions that wait, which are woken.
     pub fn stop<R: Wait>(&self, rt: &R) {
         self.locked.lock(rt).stop(&self.past);
-        self.changed.notify_all();
+        self.wake(Audience::ALL);
     }
 
-    /// The session runs no more, until its next command. All who wait are woken, since the net may be quiet now.
+    /// The session runs no more, until its next command. All who wait are woken where the net is quiet now.
     pub fn end<R: Wait>(&self, rt: &R, session: &mut Session)
         ensures { session.new ≡ session.old }
     {
-        self.locked
-            .lock(rt)
-            .locked
-            .set_standing(session.who, Standing::Ended);
-        self.changed.notify_all();
+        let mut kept = self.locked.lock(rt);
+        kept.locked.set_standing(session.who, Standing::Ended);
+        let audience = kept.locked.audience_at_end();
+        drop(kept);
+        self.wake(audience);
     }
 
     /// A published length of the journal. It waits for nobody.

@@ -1,0 +1,158 @@
+//! Whom of those that wait a call concerns.
+
+ghost use Rattle.std.specs.Prelude.{◌≡◌, ◌↔◌, true, false, IfOk, IsTrue, MatchBool, MatchResult, OnErr};
+ghost use Rattle.std.specs.List.{All};
+ghost use Rattle.bz_locked.specs.Audiences.{is_left, IfAnswered, IsOver, LeavesAt, LeavesSessions, LeavesWorkers, Suffices, WakesAll};
+
+use crate::ledger::NetLedger;
+use crate::locked::{FireError, Fired, Locked, Polled, Work};
+use crate::standing::Standing;
+use bz_model::{Entry, NetError, Reply};
+use bz_net::{Net, RestReply};
+use std::sync::ledger::Ledger;
+
+/// Who is woken: the sessions that wait, and the workers.
+#[derive(Clone, Copy)]
+pub struct Audience {
+    pub sessions: bool,
+    pub workers: bool,
+}
+
+impl Audience {
+    pub const ALL: Audience = Audience {
+        sessions: true,
+        workers: true,
+    };
+
+    pub const NOBODY: Audience = Audience {
+        sessions: false,
+        workers: false,
+    };
+
+    /// Whom it concerns that a worker asked for the next component: where rest has no place in the journal, all was stopped.
+    pub fn of_rest(answered: Result<(RestReply, u64), NetError>) -> Audience
+        ensures { OnErr answered (WakesAll result) }
+    {
+        match answered {
+            Ok(_) => Audience::NOBODY,
+            Err(_) => Audience::ALL,
+        }
+    }
+}
+
+/// Whether a session gets no answer at this channel.
+fn is_left(net: &Net, standing: Standing, chan: u32) -> bool
+    ensures { result ≡ is_left net.now.state chan standing }
+{
+    match standing {
+        Standing::Waiting(verb, port) => port != chan || !net.would_answer(verb, port),
+        Standing::Running | Standing::Ended => true,
+    }
+}
+
+fn are_left(net: &Net, sessions: &[Standing], chan: u32) -> bool
+    ensures { IsTrue result ↔ All (λ standing. is_left net.now.state chan standing ≡ true) sessions.now }
+{
+    sessions
+        .iter()
+        .all(|standing| is_left(net, *standing, chan))
+}
+
+/// Whether a session may get an answer at this channel: it is an external one, and one that waits there would.
+fn may_answer(net: &Net, sessions: &[Standing], chan: u32) -> bool
+    ensures { result ≡ false → LeavesAt net.now sessions.now chan }
+{
+    chan as usize <= net.names().ports().len() && !are_left(net, sessions, chan)
+}
+
+/// Whether an entry may give a session its answer.
+fn gives_answer(net: &Net, sessions: &[Standing], entry: &Entry) -> bool
+    ensures { result ≡ false → LeavesSessions net.now sessions.now entry.now }
+{
+    match entry {
+        Entry::Fired { chan, .. } => may_answer(net, sessions, *chan),
+        Entry::Host { port, .. } => may_answer(net, sessions, *port),
+        Entry::Rested { .. } => false,
+    }
+}
+
+/// Whether an entry gives workers something to fire. What can move after a firing, its own worker goes on with.
+fn gives_work(net: &Net, entry: &Entry) -> bool
+    ensures { result ≡ false → LeavesWorkers net.now entry.now }
+{
+    match entry {
+        Entry::Host { .. } => net.next_ready(1).is_some(),
+        Entry::Fired { .. } | Entry::Rested { .. } => false,
+    }
+}
+
+impl<L: NetLedger> Locked<L> {
+    /// Whether those who wait are told that all was stopped, or that the net rests or is spent.
+    fn is_over(&self) -> bool
+        ensures { MatchBool result
+            (IsOver self.now.net self.now.fuel self.now.stopped self.now.sessions.items)
+            (IsOver self.now.net self.now.fuel self.now.stopped self.now.sessions.items → ⊥) }
+    {
+        match self.work() {
+            Some(Work::Stopped | Work::Resting | Work::Spent) => true,
+            Some(Work::Ready) => false,
+            None => false,
+        }
+    }
+
+    /// All where it is over for those who wait, else nobody.
+    pub fn audience_at_end(&self) -> Audience
+        ensures { IsOver self.now.net self.now.fuel self.now.stopped self.now.sessions.items → WakesAll result }
+    {
+        let over = self.is_over();
+        Audience {
+            sessions: over,
+            workers: over,
+        }
+    }
+
+    /// Whom an entry concerns that was just made.
+    pub fn audience_of(&self, entry: &Entry) -> Audience
+        ensures { Suffices self.now.net self.now.fuel self.now.stopped self.now.sessions.items entry.now result }
+    {
+        if self.is_over() {
+            return Audience::ALL;
+        }
+        Audience {
+            sessions: gives_answer(&self.net, &self.sessions, entry),
+            workers: gives_work(&self.net, entry),
+        }
+    }
+
+    /// Whom a firing concerns, or what refused it: a firing that finds no place in the journal stops all.
+    pub fn audience_of_firing(&self, fired: Result<(Fired, u64), FireError>) -> Audience
+        ensures { MatchResult fired
+            (λ f. Suffices self.now.net self.now.fuel self.now.stopped self.now.sessions.items f.0.entry result)
+            (λ _. IsOver self.now.net self.now.fuel self.now.stopped self.now.sessions.items → WakesAll result) }
+    {
+        match fired {
+            Ok((fired, _)) => self.audience_of(&fired.entry),
+            Err(_) => self.audience_at_end(),
+        }
+    }
+
+    /// Whom a command concerns. A refused one gives nobody anything.
+    pub fn audience_of_command(&self, answered: Result<(Entry, Reply, u64), NetError>) -> Audience
+        ensures { IfOk answered (λ r. Suffices self.now.net self.now.fuel self.now.stopped self.now.sessions.items r.0 result) }
+    {
+        match answered {
+            Ok((entry, _, _)) => self.audience_of(&entry),
+            Err(_) => Audience::NOBODY,
+        }
+    }
+
+    /// Whom a command concerns that was waited for. One that is told another thing than its answer gives nobody anything.
+    pub fn audience_of_answer(&self, told: Result<Polled, NetError>) -> Audience
+        ensures { IfOk told (λ p. IfAnswered p (λ entry. Suffices self.now.net self.now.fuel self.now.stopped self.now.sessions.items entry result)) }
+    {
+        match told {
+            Ok(Polled::Answered(entry, _, _)) => self.audience_of(&entry),
+            _ => Audience::NOBODY,
+        }
+    }
+}
