@@ -1,0 +1,182 @@
+//! A report as JSON.
+
+use crate::report::{Report, Share};
+use bz_flat::FlatComp;
+use bz_kind_rows::{PortAt, kind_names, kind_word, port_at};
+use bz_source::SourceAt;
+use bz_text::{Piece, Text, put_json};
+use std::alloc::{AllocError, Global};
+
+/// Of a kind of component its name, and how many components of it there are.
+struct KindShare {
+    name: &'static str,
+    share: Share,
+}
+
+/// Adds one object: how much was exercised, which kinds there are, what was never used, and the counts, one component a line.
+pub fn put_report(alloc: Global, text: &mut Text, report: Report<'_>) -> Result<(), AllocError> {
+    let (comps, ports) = (report.comps(), report.ports());
+    put_number(text, "{\"version\":1,\"traces\":", report.traces as u64);
+    put_number(text, ",\"components\":", comps.all as u64);
+    put_number(text, ",\"moved\":", comps.exercised as u64);
+    put_number(text, ",\"ports\":", ports.all as u64);
+    put_number(text, ",\"ports_used\":", ports.exercised as u64);
+    put_kinds(text, shares(alloc, report)?.as_slice());
+    text.put(",\n\"missed\":[");
+    put_missed(text, report);
+    text.put("],\n\"counts\":[");
+    put_counts(text, report);
+    text.put("]}\n");
+    Ok(())
+}
+
+// Of each kind, in the order of the kinds.
+fn shares(alloc: Global, report: Report<'_>) -> Result<Vec<KindShare>, AllocError> {
+    let mut kinds = Vec::new(alloc);
+    for (name, _) in kind_names() {
+        kinds.push(KindShare {
+            name: name.strip_prefix("$Brz").unwrap_or(name),
+            share: Share::NONE,
+        })?;
+    }
+    for place in 0..report.flat.comp_count() {
+        let comp = place.saturating_add(1);
+        if let Some(site) = report.flat.comp(comp) {
+            count_kind(kinds.as_mut_slice(), site, report.coverage.of(comp));
+        }
+    }
+    Ok(kinds)
+}
+
+fn count_kind(kinds: &mut [KindShare], site: &FlatComp, count: u64) {
+    let word = kind_word(&site.kind);
+    for kind in kinds {
+        if kind.name.as_bytes() == word {
+            kind.share.add(count);
+        }
+    }
+}
+
+fn put_kinds(text: &mut Text, kinds: &[KindShare]) {
+    text.put(",\n\"kinds\":{");
+    let mut before = "\"";
+    for kind in kinds {
+        if kind.share.all > 0 {
+            text.put(before);
+            text.put(kind.name);
+            put_number(text, "\":{\"components\":", kind.share.all as u64);
+            put_number(text, ",\"moved\":", kind.share.exercised as u64);
+            text.put("}");
+            before = ",\"";
+        }
+    }
+    text.put("},\n\"kinds_absent\":[");
+    let mut before = "\"";
+    for kind in kinds {
+        if kind.share.all == 0 {
+            text.put(before);
+            text.put(kind.name);
+            text.put("\"");
+            before = ",\"";
+        }
+    }
+    text.put("]");
+}
+
+// What was never used: each port of each component.
+fn put_missed(text: &mut Text, report: Report<'_>) {
+    let mut before = "\n";
+    for place in 0..report.flat.comp_count() {
+        let comp = place.saturating_add(1);
+        for port in 0..report.port_count(comp) {
+            if report.uses(comp, port.saturating_add(1)) == 0 {
+                text.put(before);
+                put_comp(text, report, comp);
+                put_port(text, ",\"port\":\"", report, comp, port.saturating_add(1));
+                put_label(text, report, comp);
+                text.put("}");
+                before = ",\n";
+            }
+        }
+    }
+}
+
+// The counts of each component and of its ports.
+fn put_counts(text: &mut Text, report: Report<'_>) {
+    let mut before = "\n";
+    for place in 0..report.flat.comp_count() {
+        let comp = place.saturating_add(1);
+        text.put(before);
+        put_comp(text, report, comp);
+        put_number(text, ",\"moves\":", report.coverage.of(comp));
+        put_label(text, report, comp);
+        text.put(",\"ports\":[");
+        put_ports(text, report, comp);
+        text.put("]}");
+        before = ",\n";
+    }
+}
+
+fn put_ports(text: &mut Text, report: Report<'_>, comp: u32) {
+    let mut before = "{\"port\":\"";
+    for place in 0..report.port_count(comp) {
+        let port = place.saturating_add(1);
+        put_port(text, before, report, comp, port);
+        put_number(text, ",\"uses\":", report.uses(comp, port));
+        text.put("}");
+        before = ",{\"port\":\"";
+    }
+}
+
+// Begins an object with a component and its kind.
+fn put_comp(text: &mut Text, report: Report<'_>, comp: u32) {
+    put_number(text, "{\"component\":", comp.into());
+    if let Some(site) = report.flat.comp(comp) {
+        text.put(",\"kind\":\"");
+        text.put_bytes(kind_word(&site.kind));
+        text.put("\"");
+    }
+}
+
+// Adds what a component is called and where it comes from, where that is known.
+fn put_label(text: &mut Text, report: Report<'_>, comp: u32) {
+    if let Some(name) = report.survey.comp_name(comp) {
+        text.put(",\"name\":");
+        put_string(text, name);
+    }
+    if let Some(at) = report.survey.comp_source(comp) {
+        put_source(text, at);
+    }
+}
+
+fn put_source(text: &mut Text, at: SourceAt<'_>) {
+    text.put(",\"source\":{\"file\":");
+    put_string(text, at.file);
+    put_number(text, ",\"line\":", at.line.into());
+    put_number(text, ",\"column\":", at.column.into());
+    text.put("}");
+}
+
+// Adds the name of a port, and its place where it is one of an array.
+fn put_port(text: &mut Text, before: &str, report: Report<'_>, comp: u32, port: u32) {
+    text.put(before);
+    if let Some(site) = report.flat.comp(comp) {
+        if let Some(PortAt { row, member }) = port_at(&site.kind, site.sizes, port) {
+            text.put(row.name);
+            if let Some(member) = member {
+                put_number(text, "", member.into());
+            }
+        }
+    }
+    text.put("\"");
+}
+
+fn put_string(text: &mut Text, bytes: &[u8]) {
+    // (a text is refused for memory alone, which it keeps)
+    let _ = put_json(text, bytes);
+}
+
+fn put_number(text: &mut Text, before: &str, number: u64) {
+    text.put(before);
+    text.put_pieces(&[Piece::Number(number.into())]);
+}
