@@ -5,7 +5,7 @@ use crate::help::{
     VERSION,
 };
 use crate::options::{
-    AROUND, DEPTH, EXPLAIN, FORMAT, FROM, FUEL, HOPS, JOURNAL, MEANT_PART, NETLIST, Opt, PART,
+    AROUND, COVER, DEPTH, EXPLAIN, FORMAT, FROM, FUEL, HOPS, JOURNAL, MEANT_PART, NETLIST, Opt, PART,
     PART_FORM, PATHS, REQUIRED_NETLIST, SESSIONS, STRICT, TO, TRACE, WORD_FILE, WORDS, WORKERS,
     arg_of,
 };
@@ -28,7 +28,9 @@ const SUBS: [Sub; 11] = [
         name: "run",
         about: "Play words on a part's net, and write the trace",
         after: RUN,
-        options: &[PART, PART_FORM, NETLIST, JOURNAL, STRICT, WORD_FILE, WORDS],
+        options: &[
+            PART, PART_FORM, NETLIST, JOURNAL, STRICT, COVER, WORD_FILE, WORDS,
+        ],
     },
     Sub {
         name: "explore",
@@ -40,7 +42,7 @@ const SUBS: [Sub; 11] = [
         name: "check",
         about: "Tell whether a trace is that of a run of a part's net",
         after: CHECK,
-        options: &[PART, PART_FORM, NETLIST, TRACE],
+        options: &[PART, PART_FORM, NETLIST, TRACE, COVER],
     },
     Sub {
         name: "list",

@@ -9,7 +9,7 @@ mod request;
 mod words;
 
 pub use asked::{
-    ChartOptions, Command, DrawOptions, FormatOptions, ListOptions, PoolOptions, RunOptions,
+    ChartOptions, CheckOptions, Command, DrawOptions, FormatOptions, ListOptions, PoolOptions, RunOptions,
     Source, TraceOptions,
 };
 pub use commands::command_line;

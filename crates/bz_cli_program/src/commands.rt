@@ -42,7 +42,7 @@ use std::sync::Wait;
 use std::thread::Threads;
 
 /// The status of a strict run that met a host command that was not done.
-const REFUSED: u8 = 3;
+pub(crate) const REFUSED: u8 = 3;
 
 /// Plays the words on a net, and writes the trace. A strict run halts at the first host command that is not done, and reports it
 /// to `errors`. So are the handshakes under way where a run ends at rest, if notes are asked for.

@@ -4,12 +4,13 @@
 //! and no port is looked for.
 
 ghost use Rattle.std.specs.Prelude.{◌≡◌, ◌∷◌, [], ◌+◌, min, length, IfOk};
+ghost use Rattle.bz_model.specs.Names.{numbered};
 ghost use Rattle.bz_model.specs.Nets.{IsPort};
 ghost use Rattle.bz_cover.specs.Counts.{AreCounts, CountsOn, HasPlaces, Raises, port_tally, tally};
 
-use bz_flat::Flat;
 use bz_kind_rows::is_passive;
 use bz_model::{Entry, Move, numbered};
+use bz_net::Core;
 use std::alloc::{AllocError, Global};
 use std::marker::Model;
 
@@ -42,12 +43,12 @@ impl Model for Coverage {
 
 impl Coverage {
     /// That of a net of which nothing was counted yet.
-    pub fn new(alloc: Global, flat: &Flat) -> Result<Coverage, AllocError>
-        ensures places { IfOk result (HasPlaces flat.now.wiring) }
+    pub fn new(alloc: Global, core: &Core) -> Result<Coverage, AllocError>
+        ensures places { IfOk result (HasPlaces core.now.wiring) }
         ensures none { IfOk result (λ coverage. AreCounts coverage []) }
     {
-        let comps = vec![in alloc; 0u64; flat.comp_count() as usize + 1]?;
-        let chans = flat.chan_count() as usize + 1;
+        let comps = vec![in alloc; 0u64; core.comp_count() as usize + 1]?;
+        let chans = core.chan_count() as usize + 1;
         let asks = vec![in alloc; 0u64; chans]?;
         let takes = vec![in alloc; 0u64; chans]?;
         Ok(Coverage { comps, asks, takes })
@@ -75,21 +76,30 @@ impl Coverage {
         at(&self.comps, comp)
     }
 
-    /// How often a port of a component was used.
-    pub fn of_port(&self, flat: &Flat, comp: u32, port: u32) -> u64
-        requires { IsPort flat.now.wiring.sites comp port }
-        ensures { result ≡ port_tally flat.now.wiring self.now comp port }
+    /// How often a port of a component was used; 0 where there is no such port.
+    pub fn of_port(&self, core: &Core, comp: u32, port: u32) -> u64
+        ensures { IsPort core.now.wiring.sites comp port
+            → result ≡ port_tally core.now.wiring self.now comp port }
     {
-        let Some(site) = flat.comp(comp) else {
-            unreachable!();
+        let Some(site) = core.comp(comp) else {
+            return 0;
         };
-        let chan = site.chans[port as usize - 1];
+        let Some(chan) = chan_at(&site.chans, port) else {
+            return 0;
+        };
         if is_passive(&site.kind, site.sizes, port) {
             at(&self.takes, chan)
         } else {
             at(&self.asks, chan)
         }
     }
+}
+
+// The channel at a port, if there is one.
+fn chan_at(chans: &[u32], port: u32) -> Option<u32>
+    ensures { result ≡ numbered chans.now port }
+{
+    numbered(chans, port).copied()
 }
 
 // The count at a place, 0 where there is none.

@@ -39,9 +39,9 @@ fn shares(alloc: Global, report: Report<'_>) -> Result<Vec<KindShare>, AllocErro
             share: Share::NONE,
         })?;
     }
-    for place in 0..report.flat.comp_count() {
+    for place in 0..report.core().comp_count() {
         let comp = place.saturating_add(1);
-        if let Some(site) = report.flat.comp(comp) {
+        if let Some(site) = report.core().comp(comp) {
             count_kind(kinds.as_mut_slice(), site, report.coverage.of(comp));
         }
     }
@@ -86,7 +86,7 @@ fn put_kinds(text: &mut Text, kinds: &[KindShare]) {
 // What was never used: each port of each component.
 fn put_missed(text: &mut Text, report: Report<'_>) {
     let mut before = "\n";
-    for place in 0..report.flat.comp_count() {
+    for place in 0..report.core().comp_count() {
         let comp = place.saturating_add(1);
         for port in 0..report.port_count(comp) {
             if report.uses(comp, port.saturating_add(1)) == 0 {
@@ -104,7 +104,7 @@ fn put_missed(text: &mut Text, report: Report<'_>) {
 // The counts of each component and of its ports.
 fn put_counts(text: &mut Text, report: Report<'_>) {
     let mut before = "\n";
-    for place in 0..report.flat.comp_count() {
+    for place in 0..report.core().comp_count() {
         let comp = place.saturating_add(1);
         text.put(before);
         put_comp(text, report, comp);
@@ -131,7 +131,7 @@ fn put_ports(text: &mut Text, report: Report<'_>, comp: u32) {
 // Begins an object with a component and its kind.
 fn put_comp(text: &mut Text, report: Report<'_>, comp: u32) {
     put_number(text, "{\"component\":", comp.into());
-    if let Some(site) = report.flat.comp(comp) {
+    if let Some(site) = report.core().comp(comp) {
         text.put(",\"kind\":\"");
         text.put_bytes(kind_word(&site.kind));
         text.put("\"");
@@ -140,27 +140,32 @@ fn put_comp(text: &mut Text, report: Report<'_>, comp: u32) {
 
 // Adds what a component is called and where it comes from, where that is known.
 fn put_label(text: &mut Text, report: Report<'_>, comp: u32) {
-    if let Some(name) = report.survey.comp_name(comp) {
+    if let Some(name) = report.seen.survey.comp_name(comp) {
         text.put(",\"name\":");
         put_string(text, name);
     }
-    if let Some(at) = report.survey.comp_source(comp) {
+    if let Some(at) = report.seen.survey.comp_source(comp) {
         put_source(text, at);
     }
 }
 
+// Adds a place in a source: the name of its file, the line and the column, with a colon between.
 fn put_source(text: &mut Text, at: SourceAt<'_>) {
-    text.put(",\"source\":{\"file\":");
-    put_string(text, at.file);
-    put_number(text, ",\"line\":", at.line.into());
-    put_number(text, ",\"column\":", at.column.into());
-    text.put("}");
+    let mut place = Text::new(text.alloc());
+    place.put_bytes(at.file);
+    put_number(&mut place, ":", at.line.into());
+    put_number(&mut place, ":", at.column.into());
+    text.put(",\"source\":");
+    match place.whole() {
+        Ok(bytes) => put_string(text, bytes),
+        Err(_) => text.lose(),
+    }
 }
 
 // Adds the name of a port, and its place where it is one of an array.
 fn put_port(text: &mut Text, before: &str, report: Report<'_>, comp: u32, port: u32) {
     text.put(before);
-    if let Some(site) = report.flat.comp(comp) {
+    if let Some(site) = report.core().comp(comp) {
         if let Some(PortAt { row, member }) = port_at(&site.kind, site.sizes, port) {
             text.put(row.name);
             if let Some(member) = member {

@@ -50,9 +50,9 @@ pub fn put_lcov(alloc: Global, text: &mut Text, report: Report<'_>) -> Result<()
 // The lines from which components come, in order, each by the greatest number of times that it was run.
 fn lines_of<'r>(alloc: Global, report: Report<'r>) -> Result<Vec<Line<'r>>, AllocError> {
     let mut lines = Vec::new(alloc);
-    for place in 0..report.flat.comp_count() {
+    for place in 0..report.core().comp_count() {
         let comp = place.saturating_add(1);
-        if let (Some(at), Some(site)) = (report.survey.comp_source(comp), report.flat.comp(comp)) {
+        if let (Some(at), Some(site)) = (report.seen.survey.comp_source(comp), report.core().comp(comp)) {
             lines.push(Line {
                 file: at.file,
                 line: at.line,
@@ -67,9 +67,9 @@ fn lines_of<'r>(alloc: Global, report: Report<'r>) -> Result<Vec<Line<'r>>, Allo
 // The branches of components, in order.
 fn branches_of<'r>(alloc: Global, report: Report<'r>) -> Result<Vec<Branch<'r>>, AllocError> {
     let mut found = Vec::new(alloc);
-    for place in 0..report.flat.comp_count() {
+    for place in 0..report.core().comp_count() {
         let comp = place.saturating_add(1);
-        if let (Some(at), Some(site)) = (report.survey.comp_source(comp), report.flat.comp(comp)) {
+        if let (Some(at), Some(site)) = (report.seen.survey.comp_source(comp), report.core().comp(comp)) {
             add_branches(report, comp, site, at, &mut found)?;
         }
     }

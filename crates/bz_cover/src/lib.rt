@@ -3,6 +3,15 @@
 
 mod counting;
 mod coverage;
+mod json;
+mod lcov;
+mod report;
+mod roles;
+mod text;
 
 pub use counting::count_trace;
 pub use coverage::Coverage;
+pub use json::put_report;
+pub use lcov::put_lcov;
+pub use report::Report;
+pub use text::put_summary;

@@ -2,14 +2,14 @@
 
 use crate::coverage::Coverage;
 use crate::roles::activation;
-use bz_flat::{Flat, FlatComp};
-use bz_source::Survey;
+use bz_flat::FlatComp;
+use bz_net::Core;
+use bz_view::Seen;
 
 /// A net, where it is from, and what so many traces have exercised of it.
 #[derive(Clone, Copy)]
 pub struct Report<'r> {
-    pub flat: &'r Flat,
-    pub survey: &'r Survey,
+    pub seen: Seen<'r>,
     pub coverage: &'r Coverage,
     pub traces: usize,
 }
@@ -37,10 +37,15 @@ impl Share {
 }
 
 impl<'r> Report<'r> {
+    /// The net.
+    pub(crate) fn core(self) -> &'r Core {
+        self.seen.net
+    }
+
     /// How many of the components moved.
     pub(crate) fn comps(self) -> Share {
         let mut share = Share::NONE;
-        for place in 0..self.flat.comp_count() {
+        for place in 0..self.core().comp_count() {
             share.add(self.coverage.of(place.saturating_add(1)));
         }
         share
@@ -49,7 +54,7 @@ impl<'r> Report<'r> {
     /// How many of the ports were used.
     pub(crate) fn ports(self) -> Share {
         let mut share = Share::NONE;
-        for place in 0..self.flat.comp_count() {
+        for place in 0..self.core().comp_count() {
             let comp = place.saturating_add(1);
             self.add_ports(comp, &mut share);
         }
@@ -64,7 +69,7 @@ impl<'r> Report<'r> {
 
     /// How many ports a component has.
     pub(crate) fn port_count(self, comp: u32) -> u32 {
-        match self.flat.comp(comp) {
+        match self.core().comp(comp) {
             Some(site) => u32::try_from(site.chans.len()).unwrap_or(u32::MAX),
             None => 0,
         }
@@ -72,7 +77,7 @@ impl<'r> Report<'r> {
 
     /// How often a port was used.
     pub(crate) fn uses(self, comp: u32, port: u32) -> u64 {
-        self.coverage.of_port(self.flat, comp, port)
+        self.coverage.of_port(self.core(), comp, port)
     }
 
     /// How often a component was activated.

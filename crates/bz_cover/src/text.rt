@@ -1,9 +1,7 @@
 //! A report as a few lines.
 
 use crate::report::Report;
-use bz_flat::FlatComp;
-use bz_kind_rows::{kind_word, port_at};
-use bz_source::Label;
+use bz_kind_rows::port_at;
 use bz_text::Text;
 use bz_view::Piece;
 
@@ -40,7 +38,7 @@ pub fn put_summary(text: &mut Text, report: Report<'_>) {
         ],
     );
     let mut lines = Lines { text, count: 0 };
-    for place in 0..report.flat.comp_count() {
+    for place in 0..report.core().comp_count() {
         put_comp(&mut lines, report, place.saturating_add(1));
     }
     let more = lines.count.saturating_sub(MOST_TOLD);
@@ -50,10 +48,10 @@ pub fn put_summary(text: &mut Text, report: Report<'_>) {
 }
 
 fn put_comp(lines: &mut Lines<'_>, report: Report<'_>, comp: u32) {
-    let Some(site) = report.flat.comp(comp) else {
+    let Some(site) = report.core().comp(comp) else {
         return;
     };
-    let named = called(report, site, comp);
+    let named = report.seen.comp(comp);
     if report.coverage.of(comp) == 0 {
         lines.add("never moved: %\n", &[named]);
         return;
@@ -66,13 +64,4 @@ fn put_comp(lines: &mut Lines<'_>, report: Report<'_>, comp: u32) {
             }
         }
     }
-}
-
-// A component, as it is called.
-fn called<'r>(report: Report<'r>, site: &FlatComp, comp: u32) -> Piece<'r> {
-    let label = Label {
-        name: report.survey.comp_name(comp),
-        source: report.survey.comp_source(comp),
-    };
-    Piece::Comp(kind_word(&site.kind), comp, label)
 }
