@@ -37,7 +37,10 @@ fn perform<P: Threads + Wait + Sync, R: Read + Drop, T: Read + Drop>(
     let (alloc, netlist) = (rt.alloc(), given.file);
     let covers = given.command.cover_file().is_some();
     let mut output = Copying::new(alloc, output, covers);
-    let mut trace = trace.map(|trace| Keeping::new(alloc, trace, covers));
+    let mut trace = match trace {
+        Some(trace) => Some(Keeping::new(alloc, trace, covers)),
+        None => None,
+    };
     let mut files = SystemFiles { rt, netlist };
     let outcome = program(
         threads,

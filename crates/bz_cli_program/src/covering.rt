@@ -17,7 +17,7 @@ use bz_source::Source;
 use bz_text::{Text, put};
 use bz_trace_text::{LineNames, MAX_ENTRIES};
 use bz_view::Seen;
-use std::alloc::{AllocError, Global};
+use std::alloc::Global;
 use std::io::Write;
 
 /// What was read and written, where it was kept: the input, a trace with a reader of its own, and the output.
@@ -121,8 +121,10 @@ fn report_of(
     trace: &[u8],
     is_lcov: bool,
 ) -> Result<Covered, Fault> {
-    let (Ok(survey), Ok(mut coverage)) =
-        (source.survey(alloc, part), Coverage::new(alloc, net.core())) else {
+    let Ok(survey) = source.survey(alloc, part) else {
+        return Err(Fault::Memory);
+    };
+    let Ok(mut coverage) = Coverage::new(alloc, net.core()) else {
         return Err(Fault::Memory);
     };
     count_trace(&mut coverage, &LineNames::new(alloc, net.names()), trace);
@@ -143,7 +145,7 @@ fn report_of(
     };
     match put {
         Ok(()) => Ok(covered),
-        Err(AllocError) => Err(Fault::Memory),
+        Err(_) => Err(Fault::Memory),
     }
 }
 
@@ -155,7 +157,10 @@ fn told<F: Files, E: Write>(
     files: &mut F,
     errors: &mut E,
 ) -> Result<u8, Fault> {
-    let (Ok(report), Ok(summary)) = (covered.report.whole(), covered.summary.whole()) else {
+    let Ok(report) = covered.report.whole() else {
+        return Err(Fault::Memory);
+    };
+    let Ok(summary) = covered.summary.whole() else {
         return Err(Fault::Memory);
     };
     let written = match files.create(path, false) {

@@ -8,6 +8,7 @@ use bz_text::{Piece, Text, put_json};
 use std::alloc::{AllocError, Global};
 
 /// Of a kind of component its name, and how many components of it there are.
+#[derive(Clone, Copy)]
 struct KindShare {
     name: &'static str,
     share: Share,
@@ -35,7 +36,7 @@ fn shares(alloc: Global, report: Report<'_>) -> Result<Vec<KindShare>, AllocErro
     let mut kinds = Vec::new(alloc);
     for (name, _) in kind_names() {
         kinds.push(KindShare {
-            name: name.strip_prefix("$Brz").unwrap_or(name),
+            name: (*name).strip_prefix("$Brz").unwrap_or(*name),
             share: Share::NONE,
         })?;
     }

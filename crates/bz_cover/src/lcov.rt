@@ -32,19 +32,26 @@ struct Branch<'s> {
 pub fn put_lcov(alloc: Global, text: &mut Text, report: Report<'_>) -> Result<(), AllocError> {
     let lines = lines_of(alloc, report)?;
     let branches = branches_of(alloc, report)?;
-    let (mut lines, mut branches) = (lines.as_slice(), branches.as_slice());
-    while let Some(first) = lines.first() {
-        let file = first.file;
-        let (here, behind) = lines.split_at(lines.partition_point(|it| it.file <= file));
-        let (taken, later) = branches.split_at(branches.partition_point(|it| it.file <= file));
-        put_file(text, file, here, taken);
-        if behind.len() == lines.len() {
-            break;
-        }
-        lines = behind;
-        branches = later;
-    }
+    put_files(text, lines.as_slice(), branches.as_slice());
     Ok(())
+}
+
+// Adds the records of lines and branches, which are in order.
+fn put_files(text: &mut Text, lines: &[Line<'_>], branches: &[Branch<'_>]) {
+    for (place, line) in lines.iter().enumerate() {
+        let file = line.file;
+        let end = lines.partition_point(|it| it.file <= file);
+        if lines.partition_point(|it| it.file < file) == place {
+            let first = branches.partition_point(|it| it.file < file);
+            let last = branches.partition_point(|it| it.file <= file);
+            put_file(
+                text,
+                file,
+                lines.get(place..end).unwrap_or(&[]),
+                branches.get(first..last).unwrap_or(&[]),
+            );
+        }
+    }
 }
 
 // The lines from which components come, in order, each by the greatest number of times that it was run.
@@ -158,8 +165,11 @@ fn put_numbers(text: &mut Text, head: &str, numbers: &[u32]) {
 
 // Adds how many there are, and how many of these were exercised.
 fn put_share(text: &mut Text, found: &str, hit: &str, share: Share) {
-    for (head, count) in [(found, share.all), (hit, share.exercised)] {
-        text.put(head);
-        text.put_pieces(&[Piece::Number(count as u128), Piece::Bytes(b"\n")]);
-    }
+    put_count(text, found, share.all);
+    put_count(text, hit, share.exercised);
+}
+
+fn put_count(text: &mut Text, head: &str, count: usize) {
+    text.put(head);
+    text.put_pieces(&[Piece::Number(count as u128), Piece::Bytes(b"\n")]);
 }
