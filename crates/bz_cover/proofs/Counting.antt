@@ -12,7 +12,7 @@ use Rattle.bz_model.specs.declared.event.Verb.{Verb}
 use Rattle.bz_model.specs.declared.event.Reply as reply
 use Rattle.bz_cover.specs.Counts.{AreCounts, CountEach, CountsOn, HasPlaces, Raises, Tallies, counted, is_move_of, is_request_at, most_counted, tally}
 
-decided : (b : Bool) → (b ≡ true) ⊎ (b ≡ false)
+pub decided : (b : Bool) → (b ≡ true) ⊎ (b ≡ false)
 decided true = inl refl
 decided false = inr refl
 

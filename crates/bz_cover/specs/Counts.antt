@@ -71,3 +71,14 @@ pub record Raises (old : List ℕ) (place : ℕ) (new : List ℕ) : Type 0 where
   pub long : length new ≡ length old
   pub here : place < length old → tally new place ≡ min (tally old place + 1) most_counted
   pub others : (k : ℕ) → k ≢ place → tally new k ≡ tally old k
+
+abbrev pub asks_or_takes : Move → Bool
+asks_or_takes Ask = true
+asks_or_takes Take = true
+asks_or_takes mv = false
+
+-- an entry is a request that component c makes or takes at its port p
+abbrev pub is_request_of : ℕ → ℕ → Entry → Bool
+is_request_of c p (Fired who comp port chan mv value) = asks_or_takes mv && ((comp == c) && (port == p))
+is_request_of c p (Host who verb port value reply) = false
+is_request_of c p (Rested who) = false

@@ -38,18 +38,17 @@ pub fn put_lcov(alloc: Global, text: &mut Text, report: Report<'_>) -> Result<()
 
 // Adds the records of lines and branches, which are in order.
 fn put_files(text: &mut Text, lines: &[Line<'_>], branches: &[Branch<'_>]) {
+    let mut told = None;
     for (place, line) in lines.iter().enumerate() {
         let file = line.file;
-        let end = lines.partition_point(|it| it.file <= file);
-        if lines.partition_point(|it| it.file < file) == place {
+        if told != Some(file) {
+            told = Some(file);
+            let end = lines.partition_point(|it| it.file <= file);
             let first = branches.partition_point(|it| it.file < file);
             let last = branches.partition_point(|it| it.file <= file);
-            put_file(
-                text,
-                file,
-                lines.get(place..end).unwrap_or(&[]),
-                branches.get(first..last).unwrap_or(&[]),
-            );
+            let here = lines.get(place..end).unwrap_or(&[]);
+            let taken = branches.get(first..last).unwrap_or(&[]);
+            put_file(text, file, here, taken);
         }
     }
 }

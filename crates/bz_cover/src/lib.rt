@@ -4,6 +4,7 @@
 mod counting;
 mod coverage;
 mod json;
+mod laws;
 mod lcov;
 mod report;
 mod roles;
@@ -12,6 +13,7 @@ mod text;
 pub use counting::count_trace;
 pub use coverage::Coverage;
 pub use json::put_report;
+pub use laws::ports_count_their_own;
 pub use lcov::put_lcov;
 pub use report::Report;
 pub use text::put_summary;
