@@ -61,14 +61,7 @@ fn perform<P: Threads + Wait + Sync, R: Read + Drop, T: Read + Drop>(
         },
         output: output.copy(),
     };
-    cover(
-        alloc,
-        given,
-        texts,
-        outcome,
-        &mut files,
-        &mut rt.stderr(),
-    )
+    cover(alloc, given, texts, outcome, &mut files, &mut rt.stderr())
 }
 
 // The same with the trace of the file that is named, or of standard input. The status of the program.
@@ -87,11 +80,7 @@ fn play<P: Threads + Wait + Sync, R: Read + Drop>(
         },
     };
     // (what is kept for another use is none for notes)
-    let kept = if given.explains {
-        input.kept()
-    } else {
-        None
-    };
+    let kept = if given.explains { input.kept() } else { None };
     end(rt, rt.alloc(), given, kept, outcome, &mut rt.stderr())
 }
 

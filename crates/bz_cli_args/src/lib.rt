@@ -9,8 +9,8 @@ mod request;
 mod words;
 
 pub use asked::{
-    ChartOptions, CheckOptions, Command, DrawOptions, FormatOptions, ListOptions, PoolOptions, RunOptions,
-    Source, TraceOptions,
+    ChartOptions, CheckOptions, Command, DrawOptions, FormatOptions, ListOptions, PoolOptions,
+    RunOptions, Source, TraceOptions,
 };
 pub use commands::command_line;
 pub use options::{MAX_JOURNAL, MAX_WORKERS};

@@ -56,12 +56,15 @@ one_side true Got x y to from = refl
 one_side false Got x y to from = refl
 
 sided_opening : (w : Wiring) → AreSided w (opening w)
-sided_opening w = (length-map w.sites (start_at w.chans), λ c from to.
-    let site = site_at w.sites c in
-    let chans = map (chan_in w.chans) site.chans in
-    let here : proc_at (opening w) c ≡ start_at w.chans site = get_or-map (start_at w.chans) w.sites (c - 1) no_site no_proc in
-    subst (λ (o : Proc). Sided (passive_at w.sites c) o.todo) (sym here)
-        (sided-tidy (is_passive site.kind site.sizes) (replicate (slots site.kind site.sizes) 0) (process site.kind site.sizes chans) (starts site.kind site.sizes chans)))
+sided_opening w = (
+  length-map w.sites (start_at w.chans),
+  λ c from to.
+      let site = site_at w.sites c in
+      let chans = map (chan_in w.chans) site.chans in
+      let here : proc_at (opening w) c ≡ start_at w.chans site = get_or-map (start_at w.chans) w.sites (c - 1) no_site no_proc in
+      subst (λ (o : Proc). Sided (passive_at w.sites c) o.todo) (sym here)
+      (sided-tidy (is_passive site.kind site.sizes) (replicate (slots site.kind site.sizes) 0) (process site.kind site.sizes chans) (starts site.kind site.sizes chans)),
+)
 
 module _ (w : Wiring) (wired : WellWired w) where
   side_of : (s next : State) (c p k : ℕ) (mv : Move) (value : Option ℕ) → AreSided w s → Step w.sites s c p k mv value next → answers mv ≡ passive_at w.sites c p
@@ -79,15 +82,18 @@ module _ (w : Wiring) (wired : WellWired w) where
       let v = incoming (phase_at s k) head.move in
       let long = sided.0 in
       let after : Sided (passive_at w.sites c) step.rest.todo = subst (λ (o : Proc). Sided (passive_at w.sites c) o.todo) (sym step.moves.leaves) (sided-tidy (passive_at w.sites c) (stored head.into v (proc_at s c).store) head.rest here.1) in
-      subst (AreSided w) (sym step.next_is) (length-set s.procs (c - 1) step.rest ∙ long, λ d from to. elim (decided (d == c)) [
-        | inl yes ↦
-            (let same = eqb-true d c yes in
-            let there : proc_at (moved s k (phase_after (phase_at s k) mv value) c step.rest) c ≡ step.rest = at_same s.procs c step.rest no_proc at.comp_from (let most = at.comp_to in omega (arith, most, long)) in
-            subst (λ e. Sided (passive_at w.sites e) (proc_at (moved s k (phase_after (phase_at s k) mv value) c step.rest) e).todo) (sym same) (subst (λ (o : Proc). Sided (passive_at w.sites c) o.todo) (sym there) after))
-        | inr no ↦
-            (let there : proc_at (moved s k (phase_after (phase_at s k) mv value) c step.rest) d ≡ proc_at s d = at_other s.procs c d step.rest no_proc at.comp_from from (eqb-false d c no) in
-            subst (λ (o : Proc). Sided (passive_at w.sites d) o.todo) (sym there) (sided.1 d from to))
-      ])
+      subst (AreSided w) (sym step.next_is) (
+        length-set s.procs (c - 1) step.rest ∙ long,
+        λ d from to. elim (decided (d == c)) [
+          | inl yes ↦
+              (let same = eqb-true d c yes in
+              let there : proc_at (moved s k (phase_after (phase_at s k) mv value) c step.rest) c ≡ step.rest = at_same s.procs c step.rest no_proc at.comp_from (let most = at.comp_to in omega (arith, most, long)) in
+              subst (λ e. Sided (passive_at w.sites e) (proc_at (moved s k (phase_after (phase_at s k) mv value) c step.rest) e).todo) (sym same) (subst (λ (o : Proc). Sided (passive_at w.sites c) o.todo) (sym there) after))
+          | inr no ↦
+              (let there : proc_at (moved s k (phase_after (phase_at s k) mv value) c step.rest) d ≡ proc_at s d = at_other s.procs c d step.rest no_proc at.comp_from from (eqb-false d c no) in
+              subst (λ (o : Proc). Sided (passive_at w.sites d) o.todo) (sym there) (sided.1 d from to))
+        ],
+      )
 
   follows_sided : (s next : State) (e : Entry) → AreSided w s → Follows w s e next → AreSided w next
   follows_sided s next (Fired who c p k mv value) sided step = stays_sided s next c p k mv value sided step
@@ -95,20 +101,19 @@ module _ (w : Wiring) (wired : WellWired w) where
   follows_sided s next (Rested who) sided step = subst (AreSided w) (sym step.1) sided
 
   module _ (c p : ℕ) (here : IsPort w.sites c p) where
-
     same_fired : (s next : State) (d q k : ℕ) (mv : Move) (value : Option ℕ) → AreSided w s → Step w.sites s d q k mv value next
         → (is_request (passive_at w.sites c p) mv && (k == chan_at w.sites c p)) ≡ (asks_or_takes mv && ((d == c) && (q == p)))
     same_fired s next d q k mv value sided step =
         let its = side_of s next d q k mv value sided step in
         one_side (passive_at w.sites c p) mv (k == chan_at w.sites c p) ((d == c) && (q == p))
-            (λ end on.
-                let one = wired.one_end d q c p step.steps_at.is_port here (sym step.chan_is ∙ eqb-true k (chan_at w.sites c p) on) (sym its ∙ end) in
-                ap₂ (λ x y. x && y) (eq-eqb d c one.0) (eq-eqb q p one.1))
-            (λ so.
-                let are = both (d == c) (q == p) so in
-                let comp = eqb-true d c are.0 in
-                let port = eqb-true q p are.1 in
-                (eq-eqb k (chan_at w.sites c p) (step.chan_is ∙ ap₂ (chan_at w.sites) comp port), its ∙ ap₂ (passive_at w.sites) comp port))
+        (λ end on.
+        let one = wired.one_end d q c p step.steps_at.is_port here (sym step.chan_is ∙ eqb-true k (chan_at w.sites c p) on) (sym its ∙ end) in
+        ap₂ (λ x y. x && y) (eq-eqb d c one.0) (eq-eqb q p one.1))
+        (λ so.
+        let are = both (d == c) (q == p) so in
+        let comp = eqb-true d c are.0 in
+        let port = eqb-true q p are.1 in
+        (eq-eqb k (chan_at w.sites c p) (step.chan_is ∙ ap₂ (chan_at w.sites) comp port), its ∙ ap₂ (passive_at w.sites) comp port))
 
     same_entry : (s next : State) (e : Entry) → AreSided w s → Follows w s e next → is_request_at (chan_at w.sites c p) (passive_at w.sites c p) e ≡ is_request_of c p e
     same_entry s next (Fired who d q k mv value) sided step = same_fired s next d q k mv value sided step

@@ -58,7 +58,10 @@ fn lines_of<'r>(alloc: Global, report: Report<'r>) -> Result<Vec<Line<'r>>, Allo
     let mut lines = Vec::new(alloc);
     for place in 0..report.core().comp_count() {
         let comp = place.saturating_add(1);
-        if let (Some(at), Some(site)) = (report.seen.survey.comp_source(comp), report.core().comp(comp)) {
+        if let (Some(at), Some(site)) = (
+            report.seen.survey.comp_source(comp),
+            report.core().comp(comp),
+        ) {
             lines.push(Line {
                 file: at.file,
                 line: at.line,
@@ -75,7 +78,10 @@ fn branches_of<'r>(alloc: Global, report: Report<'r>) -> Result<Vec<Branch<'r>>,
     let mut found = Vec::new(alloc);
     for place in 0..report.core().comp_count() {
         let comp = place.saturating_add(1);
-        if let (Some(at), Some(site)) = (report.seen.survey.comp_source(comp), report.core().comp(comp)) {
+        if let (Some(at), Some(site)) = (
+            report.seen.survey.comp_source(comp),
+            report.core().comp(comp),
+        ) {
             add_branches(report, comp, site, at, &mut found)?;
         }
     }

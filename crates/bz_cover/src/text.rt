@@ -46,7 +46,12 @@ fn put_comp(text: &mut Text, report: Report<'_>, comp: u32, found: &mut usize) {
         let port = place.saturating_add(1);
         if report.uses(comp, port) == 0 {
             if let Some(at) = port_at(&site.kind, site.sizes, port) {
-                tell(text, "never used: % of %\n", &[Piece::Port(at), named], found);
+                tell(
+                    text,
+                    "never used: % of %\n",
+                    &[Piece::Port(at), named],
+                    found,
+                );
             }
         }
     }
