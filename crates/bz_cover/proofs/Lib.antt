@@ -1,3 +1,3 @@
-pub mod Counting
 pub mod Ports
+pub mod Tallies
 pub mod Traces

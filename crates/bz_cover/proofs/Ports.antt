@@ -19,7 +19,7 @@ use Rattle.bz_flat.specs.Wires.{WellWired}
 use Rattle.bz_net.specs.Sides.{Sided, answers}
 use Rattle.bz_net.proofs.Sides.{sided-head, sided-tidy, starts}
 use Rattle.bz_net.proofs.Ties.{at_other, at_same}
-use Rattle.bz_cover.proofs.Counting.{decided}
+use Rattle.bz_cover.proofs.Tallies.{decided}
 use Rattle.bz_cover.specs.Counts.{asks_or_takes, is_request, is_request_at, is_request_of}
 
 -- each process takes and replies at passive ports, asks and gets at active ones

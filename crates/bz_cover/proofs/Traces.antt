@@ -18,7 +18,7 @@ use Rattle.bz_trace_text.proofs.Lines.{line_again}
 use Rattle.bz_trace_text.proofs.Strips.{none-some}
 use Rattle.bz_trace_text.proofs.Texts.{clash_no_entry}
 use Rattle.bz_cover.specs.Counts.{AreCounts, CountEach, CountsOn, Tallies, counted, is_move_of, is_request_at}
-use Rattle.bz_cover.proofs.Counting.{alike_counted, none_yet, then}
+use Rattle.bz_cover.proofs.Tallies.{alike_counted, none_yet, then}
 
 -- Of these entries some were counted; the lines of the others stand in front of the tail.
 pub record Left (names : Outside) (old new : Tallies) (entries : List Entry) (tail rest : List ℕ) : Type 0 where
