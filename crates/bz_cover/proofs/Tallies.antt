@@ -1,8 +1,8 @@
 -- Counts that go on.
-use Rattle.std.proofs.Common.{◌≡◌, ◌≢◌, ℕ, ◌+◌, ◌<◌, ◌≤◌, ◌==◌, min, cond, Bool, true, false, List, [], ◌∷◌, ◌++◌, length, refl, sym, ap, subst, ◌∙◌, arith, append_assoc, ◌⊎◌, inl, inr}
+use Rattle.std.proofs.Common.{◌≡◌, ◌≢◌, ℕ, ◌+◌, ◌<◌, ◌≤◌, ◌==◌, ◌&&◌, min, cond, Bool, true, false, Option, List, [], ◌∷◌, ◌++◌, length, get_or, set, length-set, refl, sym, ap, subst, ◌∙◌, arith, append_assoc, ◌⊎◌, inl, inr}
 use Rattle.std.specs.List.{count_by, sum_by}
 use Rattle.std.proofs.lemmas.Bool.{eqb-true, eqb-false}
-use Rattle.std.proofs.lemmas.List.{append-nil}
+use Rattle.std.proofs.lemmas.List.{append-nil, get_or-set_same, get_or-set_other}
 use Rattle.std.proofs.lemmas.List.Sums.{sum_by-append, sum_by-cons}
 use Rattle.bz_model.specs.declared.channel.Move.TheVariants.{Ask, Take, Reply, Got}
 use Rattle.bz_model.specs.declared.event.Entry.{Entry}
@@ -10,11 +10,21 @@ use Rattle.bz_model.specs.declared.event.Entry.TheVariants.{Fired, Host, Rested}
 use Rattle.bz_model.specs.declared.event.Who.{Who}
 use Rattle.bz_model.specs.declared.event.Verb.{Verb}
 use Rattle.bz_model.specs.declared.event.Reply as reply
-use Rattle.bz_cover.specs.Counts.{AreCounts, CountEach, CountsOn, HasPlaces, Raises, Tallies, counted, is_move_of, is_request_at, most_counted, tally}
+use Rattle.bz_cover.specs.Counts.{AreCounts, CountEach, CountsOn, HasPlaces, Raises, Tallies, counted, is_move_of, is_request, is_request_at, most_counted, tally}
 
 pub decided : (b : Bool) → (b ≡ true) ⊎ (b ≡ false)
 decided true = inl refl
 decided false = inr refl
+
+pub raises_here : (row : List ℕ) (place v : ℕ) → place < length row → v ≡ min (get_or row place 0 + 1) most_counted → Raises row place (set row place v)
+raises_here row place v within is = record {
+  long = length-set row place v;
+  here = λ _. get_or-set_same row place v 0 within ∙ is;
+  others = λ k other. get_or-set_other row place k v 0 other;
+}
+
+pub raises_none : (row : List ℕ) (place : ℕ) → length row ≤ place → Raises row place row
+raises_none row place past = record { long = refl; here = λ within. absurd (omega (arith, within, past)); others = λ k other. refl }
 
 -- one entry more
 one_more : (p : Entry → Bool) (es : List Entry) (e : Entry) → count_by p (es ++ e ∷ []) ≡ count_by p es + cond (p e) 1 0
@@ -53,7 +63,7 @@ row_more p old new place e such raises es each k within =
 row_same : (p : ℕ → Entry → Bool) (row : List ℕ) (e : Entry) → ((k : ℕ) → p k e ≡ false) → (es : List Entry) → CountEach p row es → CountEach p row (es ++ e ∷ [])
 row_same p row e none es each k within = each k within ∙ counted_no (p k) es e (none k)
 
-pub adds_ask : (who : Who) (comp port chan : ℕ) (value : _) (old new : Tallies) → Raises old.comps comp new.comps → Raises old.asks chan new.asks → new.takes ≡ old.takes
+pub adds_ask : (who : Who) (comp port chan : ℕ) (value : Option ℕ) (old new : Tallies) → Raises old.comps comp new.comps → Raises old.asks chan new.asks → new.takes ≡ old.takes
     → CountsOn old (Fired who comp port chan Ask value ∷ []) new
 adds_ask who comp port chan value old new moved asked same = record {
   counts = λ before are. record {
@@ -64,7 +74,7 @@ adds_ask who comp port chan value old new moved asked same = record {
   places = λ w has. record { comps = moved.long ∙ has.comps; asks = asked.long ∙ has.asks; takes = ap length same ∙ has.takes };
 }
 
-pub adds_take : (who : Who) (comp port chan : ℕ) (value : _) (old new : Tallies) → Raises old.comps comp new.comps → Raises old.takes chan new.takes → new.asks ≡ old.asks
+pub adds_take : (who : Who) (comp port chan : ℕ) (value : Option ℕ) (old new : Tallies) → Raises old.comps comp new.comps → Raises old.takes chan new.takes → new.asks ≡ old.asks
     → CountsOn old (Fired who comp port chan Take value ∷ []) new
 adds_take who comp port chan value old new moved taken same = record {
   counts = λ before are. record {
@@ -75,7 +85,7 @@ adds_take who comp port chan value old new moved taken same = record {
   places = λ w has. record { comps = moved.long ∙ has.comps; asks = ap length same ∙ has.asks; takes = taken.long ∙ has.takes };
 }
 
-pub adds_other : (e : Entry) (old new : Tallies) → (comp : ℕ) → ((k : ℕ) → is_move_of k e ≡ (comp == k)) → ((k : ℕ) (side : Bool) → is_request_at k side e ≡ false)
+adds_other : (e : Entry) (old new : Tallies) → (comp : ℕ) → ((k : ℕ) → is_move_of k e ≡ (comp == k)) → ((k : ℕ) (side : Bool) → is_request_at k side e ≡ false)
     → Raises old.comps comp new.comps → new.asks ≡ old.asks → new.takes ≡ old.takes → CountsOn old (e ∷ []) new
 adds_other e old new comp mover none moved same_asks same_takes = record {
   counts = λ before are. record {
@@ -85,6 +95,22 @@ adds_other e old new comp mover none moved same_asks same_takes = record {
   };
   places = λ w has. record { comps = moved.long ∙ has.comps; asks = ap length same_asks ∙ has.asks; takes = ap length same_takes ∙ has.takes };
 }
+
+no_reply : (k chan : ℕ) (side : Bool) → (is_request side Reply && (chan == k)) ≡ false
+no_reply k chan true = refl
+no_reply k chan false = refl
+
+no_got : (k chan : ℕ) (side : Bool) → (is_request side Got && (chan == k)) ≡ false
+no_got k chan true = refl
+no_got k chan false = refl
+
+pub adds_reply : (who : Who) (comp port chan : ℕ) (value : Option ℕ) (old new : Tallies) → Raises old.comps comp new.comps → new.asks ≡ old.asks → new.takes ≡ old.takes
+    → CountsOn old (Fired who comp port chan Reply value ∷ []) new
+adds_reply who comp port chan value old new moved asks takes = adds_other (Fired who comp port chan Reply value) old new comp (λ k. refl) (λ k side. no_reply k chan side) moved asks takes
+
+pub adds_got : (who : Who) (comp port chan : ℕ) (value : Option ℕ) (old new : Tallies) → Raises old.comps comp new.comps → new.asks ≡ old.asks → new.takes ≡ old.takes
+    → CountsOn old (Fired who comp port chan Got value ∷ []) new
+adds_got who comp port chan value old new moved asks takes = adds_other (Fired who comp port chan Got value) old new comp (λ k. refl) (λ k side. no_got k chan side) moved asks takes
 
 -- nothing is counted of what is no move
 pub adds_none : (e : Entry) (old : Tallies) → ((k : ℕ) → is_move_of k e ≡ false) → ((k : ℕ) (side : Bool) → is_request_at k side e ≡ false) → CountsOn old (e ∷ []) old

@@ -1,5 +1,5 @@
 -- The lines of a trace, counted one after another.
-use Rattle.std.proofs.Common.{◌≡◌, ℕ, List, [], ◌∷◌, ◌++◌, ◌+◌, cond, min, drop, length, Some, None, refl, sym, ap, subst, ◌∙◌, append_assoc}
+use Rattle.std.proofs.Common.{◌≡◌, ℕ, List, [], ◌∷◌, ◌++◌, ◌+◌, Bool, drop, length, Some, None, refl, sym, ap, subst, ◌∙◌, append_assoc}
 use Rattle.std.specs.List.{AllByRecursion}
 use Rattle.std.proofs.lemmas.List.{append-nil}
 use Rattle.std.proofs.lemmas.Option.{some_pair_parts}
@@ -38,7 +38,7 @@ mover_told k (Fired w comp port chan mv value) = refl
 mover_told k (Host w v port value r) = refl
 mover_told k (Rested w) = refl
 
-request_told : (k : ℕ) (side : _) (e : Entry) → is_request_at k side (told e) ≡ is_request_at k side e
+request_told : (k : ℕ) (side : Bool) (e : Entry) → is_request_at k side (told e) ≡ is_request_at k side e
 request_told k side (Fired w comp port chan mv value) = refl
 request_told k side (Host w v port value r) = refl
 request_told k side (Rested w) = refl

@@ -65,7 +65,8 @@ impl Coverage {
         match mv {
             Move::Ask => raise(&mut self.asks, chan),
             Move::Take => raise(&mut self.takes, chan),
-            Move::Reply | Move::Got => {}
+            Move::Reply => {}
+            Move::Got => {}
         }
     }
 
@@ -113,10 +114,13 @@ fn at(row: &[u64], place: u32) -> u64
 }
 
 // Counts one more at a place, where there is one.
-fn raise(row: &mut [u64], place: u32)
-    ensures { Raises row.old place row.new }
+#[tactic(auto, using(crate::proofs::Tallies::raises_here, crate::proofs::Tallies::raises_none))]
+fn raise(row: &mut Vec<u64>, place: u32)
+    ensures { Raises row.old.items place row.new.items }
 {
-    if let Some(count) = row.get_mut(place as usize) {
-        *count = count.saturating_add(1);
+    let place = place as usize;
+    if place >= row.len() {
+        return;
     }
+    row[place] = row[place].saturating_add(1);
 }

@@ -1,18 +1,10 @@
 //! A report as JSON.
 
 use crate::report::{Report, Share};
-use bz_flat::FlatComp;
 use bz_kind_rows::{PortAt, kind_names, kind_word, port_at};
 use bz_source::SourceAt;
 use bz_text::{Piece, Text, put_json};
 use std::alloc::{AllocError, Global};
-
-/// Of a kind of component its name, and how many components of it there are.
-#[derive(Clone, Copy)]
-struct KindShare {
-    name: &'static str,
-    share: Share,
-}
 
 /// Adds one object: how much was exercised, which kinds there are, what was never used, and the counts, one component a line.
 pub fn put_report(alloc: Global, text: &mut Text, report: Report<'_>) -> Result<(), AllocError> {
@@ -31,57 +23,65 @@ pub fn put_report(alloc: Global, text: &mut Text, report: Report<'_>) -> Result<
     Ok(())
 }
 
-// Of each kind, in the order of the kinds.
-fn shares(alloc: Global, report: Report<'_>) -> Result<Vec<KindShare>, AllocError> {
-    let mut kinds = Vec::new(alloc);
-    for (name, _) in kind_names() {
-        kinds.push(KindShare {
-            name: (*name).strip_prefix("$Brz").unwrap_or(*name),
-            share: Share::NONE,
-        })?;
-    }
+// Of each kind how many components there are and how many of them moved, in the order of the kinds.
+fn shares(alloc: Global, report: Report<'_>) -> Result<Vec<Share>, AllocError> {
+    let mut shares = vec![in alloc; Share::NONE; kind_names().len()]?;
     for place in 0..report.core().comp_count() {
         let comp = place.saturating_add(1);
-        if let Some(site) = report.core().comp(comp) {
-            count_kind(kinds.as_mut_slice(), site, report.coverage.of(comp));
+        if let Some(kind) = kind_place(report, comp) {
+            if let Some(share) = shares.get_mut(kind) {
+                share.add(report.coverage.of(comp));
+            }
         }
     }
-    Ok(kinds)
+    Ok(shares)
 }
 
-fn count_kind(kinds: &mut [KindShare], site: &FlatComp, count: u64) {
-    let word = kind_word(&site.kind);
-    for kind in kinds {
-        if kind.name.as_bytes() == word {
-            kind.share.add(count);
+// The place of a component's kind among the kinds.
+fn kind_place(report: Report<'_>, comp: u32) -> Option<usize> {
+    let word = report.seen.kind(comp);
+    for (place, (name, _)) in kind_names().iter().enumerate() {
+        if word_of(name).as_bytes() == word {
+            return Some(place);
         }
     }
+    None
 }
 
-fn put_kinds(text: &mut Text, kinds: &[KindShare]) {
+// The name of a kind without what netlists put in front.
+fn word_of(name: &str) -> &str {
+    name.strip_prefix("$Brz").unwrap_or(name)
+}
+
+fn put_kinds(text: &mut Text, shares: &[Share]) {
     text.put(",\n\"kinds\":{");
     let mut before = "\"";
-    for kind in kinds {
-        if kind.share.all > 0 {
+    for (share, (name, _)) in shares.iter().zip(kind_names()) {
+        if share.all > 0 {
             text.put(before);
-            text.put(kind.name);
-            put_number(text, "\":{\"components\":", kind.share.all as u64);
-            put_number(text, ",\"moved\":", kind.share.exercised as u64);
+            text.put(word_of(name));
+            put_number(text, "\":{\"components\":", share.all as u64);
+            put_number(text, ",\"moved\":", share.exercised as u64);
             text.put("}");
             before = ",\"";
         }
     }
     text.put("},\n\"kinds_absent\":[");
+    put_absent(text, shares);
+    text.put("]");
+}
+
+// Adds the kinds of which there is no component.
+fn put_absent(text: &mut Text, shares: &[Share]) {
     let mut before = "\"";
-    for kind in kinds {
-        if kind.share.all == 0 {
+    for (share, (name, _)) in shares.iter().zip(kind_names()) {
+        if share.all == 0 {
             text.put(before);
-            text.put(kind.name);
+            text.put(word_of(name));
             text.put("\"");
             before = ",\"";
         }
     }
-    text.put("]");
 }
 
 // What was never used: each port of each component.
