@@ -85,12 +85,12 @@ module _ (w : Wiring) (wired : WellWired w) where
       subst (AreSided w) (sym step.next_is) (
         length-set s.procs (c - 1) step.rest ∙ long,
         λ d from to. elim (decided (d == c)) [
-          | inl yes ↦
-              (let same = eqb-true d c yes in
+          | inl is ↦
+              (let same = eqb-true d c is in
               let there : proc_at (moved s k (phase_after (phase_at s k) mv value) c step.rest) c ≡ step.rest = at_same s.procs c step.rest no_proc at.comp_from (let most = at.comp_to in omega (arith, most, long)) in
               subst (λ e. Sided (passive_at w.sites e) (proc_at (moved s k (phase_after (phase_at s k) mv value) c step.rest) e).todo) (sym same) (subst (λ (o : Proc). Sided (passive_at w.sites c) o.todo) (sym there) after))
-          | inr no ↦
-              (let there : proc_at (moved s k (phase_after (phase_at s k) mv value) c step.rest) d ≡ proc_at s d = at_other s.procs c d step.rest no_proc at.comp_from from (eqb-false d c no) in
+          | inr other ↦
+              (let there : proc_at (moved s k (phase_after (phase_at s k) mv value) c step.rest) d ≡ proc_at s d = at_other s.procs c d step.rest no_proc at.comp_from from (eqb-false d c other) in
               subst (λ (o : Proc). Sided (passive_at w.sites d) o.todo) (sym there) (sided.1 d from to))
         ],
       )

@@ -4,6 +4,7 @@ use Rattle.std.specs.List.{count_by, sum_by}
 use Rattle.std.proofs.lemmas.Bool.{eqb-true, eqb-false}
 use Rattle.std.proofs.lemmas.List.{append-nil, get_or-set_same, get_or-set_other}
 use Rattle.std.proofs.lemmas.List.Sums.{sum_by-append, sum_by-cons}
+use Rattle.bz_model.specs.declared.channel.Move.{Move}
 use Rattle.bz_model.specs.declared.channel.Move.TheVariants.{Ask, Take, Reply, Got}
 use Rattle.bz_model.specs.declared.event.Entry.{Entry}
 use Rattle.bz_model.specs.declared.event.Entry.TheVariants.{Fired, Host, Rested}
@@ -38,12 +39,12 @@ raised : (n : ℕ) → min (min n most_counted + 1) most_counted ≡ min (n + 1)
 raised n = grind arith
 
 counted_yes : (p : Entry → Bool) (es : List Entry) (e : Entry) → p e ≡ true → min (counted p es + 1) most_counted ≡ counted p (es ++ e ∷ [])
-counted_yes p es e yes =
-    raised (count_by p es) ∙ ap (λ n. min n most_counted) (sym (one_more p es e ∙ ap (λ b. count_by p es + cond b 1 0) yes))
+counted_yes p es e so =
+    raised (count_by p es) ∙ ap (λ n. min n most_counted) (sym (one_more p es e ∙ ap (λ b. count_by p es + cond b 1 0) so))
 
 counted_no : (p : Entry → Bool) (es : List Entry) (e : Entry) → p e ≡ false → counted p es ≡ counted p (es ++ e ∷ [])
-counted_no p es e no =
-    let more = one_more p es e ∙ ap (λ b. count_by p es + cond b 1 0) no in
+counted_no p es e none =
+    let more = one_more p es e ∙ ap (λ b. count_by p es + cond b 1 0) none in
     ap (λ n. min n most_counted) (omega (arith, more))
 
 -- a row with one more where the entry is such
@@ -52,11 +53,11 @@ row_more : (p : ℕ → Entry → Bool) (old new : List ℕ) (place : ℕ) (e : 
 row_more p old new place e such raises es each k within =
     let inside : k < length old = let long = raises.long in omega (arith, within, long) in
     elim (decided (place == k)) [
-      | inl yes ↦
-          (let same = eqb-true place k yes in
+      | inl same_place ↦
+          (let same = eqb-true place k same_place in
           let here = raises.here (subst (λ n. n < length old) (sym same) inside) in
-          ap (tally new) (sym same) ∙ here ∙ ap (λ n. min (tally old n + 1) most_counted) same ∙ ap (λ n. min (n + 1) most_counted) (each k inside) ∙ counted_yes (p k) es e (such k ∙ yes))
-      | inr no ↦ raises.others k (λ is. eqb-false place k no (sym is)) ∙ each k inside ∙ counted_no (p k) es e (such k ∙ no)
+          ap (tally new) (sym same) ∙ here ∙ ap (λ n. min (tally old n + 1) most_counted) same ∙ ap (λ n. min (n + 1) most_counted) (each k inside) ∙ counted_yes (p k) es e (such k ∙ same_place))
+      | inr other ↦ raises.others k (λ is. eqb-false place k other (sym is)) ∙ each k inside ∙ counted_no (p k) es e (such k ∙ other)
     ]
 
 -- a row of which the entry is none
@@ -111,6 +112,13 @@ adds_reply who comp port chan value old new moved asks takes = adds_other (Fired
 pub adds_got : (who : Who) (comp port chan : ℕ) (value : Option ℕ) (old new : Tallies) → Raises old.comps comp new.comps → new.asks ≡ old.asks → new.takes ≡ old.takes
     → CountsOn old (Fired who comp port chan Got value ∷ []) new
 adds_got who comp port chan value old new moved asks takes = adds_other (Fired who comp port chan Got value) old new comp (λ k. refl) (λ k side. no_got k chan side) moved asks takes
+
+-- what is counted of a move is counted of its entry
+pub as_entry : (e : Entry) (who : Who) (comp port chan : ℕ) (mv to : Move) (value : Option ℕ) (old seen new : Tallies) → e ≡ Fired who comp port chan mv value → mv ≡ to → seen ≡ old
+    → CountsOn seen (Fired who comp port chan to value ∷ []) new → CountsOn old (e ∷ []) new
+as_entry e who comp port chan mv to value old seen new is so view on =
+    subst (λ (x : Entry). CountsOn old (x ∷ []) new) (sym (is ∙ ap (λ (m : Move). Fired who comp port chan m value) so))
+        (subst (λ (o : Tallies). CountsOn o (Fired who comp port chan to value ∷ []) new) view on)
 
 -- nothing is counted of what is no move
 pub adds_none : (e : Entry) (old : Tallies) → ((k : ℕ) → is_move_of k e ≡ false) → ((k : ℕ) (side : Bool) → is_request_at k side e ≡ false) → CountsOn old (e ∷ []) old

@@ -1,5 +1,5 @@
 -- The lines of a trace, counted one after another.
-use Rattle.std.proofs.Common.{◌≡◌, ℕ, List, [], ◌∷◌, ◌++◌, ◌+◌, Bool, drop, length, Some, None, refl, sym, ap, subst, ◌∙◌, append_assoc}
+use Rattle.std.proofs.Common.{◌≡◌, ℕ, List, [], ◌∷◌, ◌++◌, ◌+◌, Bool, true, false, drop, length, Some, None, refl, sym, ap, subst, ◌∙◌, append_assoc}
 use Rattle.std.specs.List.{AllByRecursion}
 use Rattle.std.proofs.lemmas.List.{append-nil}
 use Rattle.std.proofs.lemmas.Option.{some_pair_parts}
@@ -50,8 +50,8 @@ counts_told old new e on = record {
       let so = on.counts before are in
       record {
         comps = λ k within. so.comps k within ∙ alike_counted (is_move_of k) before (told e) e (mover_told k e);
-        asks = λ k within. so.asks k within ∙ alike_counted (is_request_at k _) before (told e) e (request_told k _ e);
-        takes = λ k within. so.takes k within ∙ alike_counted (is_request_at k _) before (told e) e (request_told k _ e);
+        asks = λ k within. so.asks k within ∙ alike_counted (is_request_at k false) before (told e) e (request_told k false e);
+        takes = λ k within. so.takes k within ∙ alike_counted (is_request_at k true) before (told e) e (request_told k true e);
       };
   places = on.places;
 }
@@ -64,7 +64,7 @@ one_less names old mid new entries tail rest after entry done [] are each is cou
 one_less names old mid new entries tail rest after entry done (e ∷ others) are each is counts none read on =
     let later = lines names.ports others ++ tail in
     let whole = is ∙ append_assoc (line_text names.ports e) (lines names.ports others) tail in
-    let same = some_pair_parts (sym read ∙ ap (line_at names) whole ∙ line_again names e later each.0) in
+    let same = some_pair_parts entry (told e) after later (sym read ∙ ap (line_at names) whole ∙ line_again names e later each.0) in
     record {
       done = done ++ e ∷ [];
       others = others;
