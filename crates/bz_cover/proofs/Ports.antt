@@ -3,7 +3,8 @@ use Rattle.std.proofs.Common.{◌≡◌, ◌≢◌, ℕ, ◌+◌, ◌-◌, ◌<�
 use Rattle.std.specs.List.{count_by}
 use Rattle.std.proofs.lemmas.Bool.{eqb-true, eqb-false, eq-eqb}
 use Rattle.std.proofs.lemmas.List.Sums.{sum_by-cons}
-use Rattle.std.proofs.Math.ListN.{get_or-map, length-map}
+use Rattle.std.proofs.Math.ListN.{length-map}
+use Rattle.std.proofs.lemmas.List.{get_or-map}
 use Rattle.bz_model.specs.declared.channel.Move.{Move}
 use Rattle.bz_model.specs.declared.channel.Move.TheVariants.{Ask, Take, Reply, Got}
 use Rattle.bz_model.specs.declared.event.Entry.{Entry}
@@ -61,7 +62,7 @@ sided_opening w = (
   λ c from to.
       let site = site_at w.sites c in
       let chans = map (chan_in w.chans) site.chans in
-      let here : proc_at (opening w) c ≡ start_at w.chans site = get_or-map (start_at w.chans) w.sites (c - 1) no_site no_proc in
+      let here : proc_at (opening w) c ≡ start_at w.chans site = get_or-map (start_at w.chans) w.sites (c - 1) no_site no_proc (omega (arith, from, to)) in
       subst (λ (o : Proc). Sided (passive_at w.sites c) o.todo) (sym here)
       (sided-tidy (is_passive site.kind site.sizes) (replicate (slots site.kind site.sizes) 0) (process site.kind site.sizes chans) (starts site.kind site.sizes chans)),
 )

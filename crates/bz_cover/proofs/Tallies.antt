@@ -9,8 +9,6 @@ use Rattle.bz_model.specs.declared.channel.Move.TheVariants.{Ask, Take, Reply, G
 use Rattle.bz_model.specs.declared.event.Entry.{Entry}
 use Rattle.bz_model.specs.declared.event.Entry.TheVariants.{Fired, Host, Rested}
 use Rattle.bz_model.specs.declared.event.Who.{Who}
-use Rattle.bz_model.specs.declared.event.Verb.{Verb}
-use Rattle.bz_model.specs.declared.event.Reply as reply
 use Rattle.bz_cover.specs.Counts.{AreCounts, CountEach, CountsOn, HasPlaces, Raises, Tallies, counted, is_move_of, is_request, is_request_at, most_counted, tally}
 
 pub decided : (b : Bool) → (b ≡ true) ⊎ (b ≡ false)
@@ -118,7 +116,7 @@ pub as_entry : (e : Entry) (who : Who) (comp port chan : ℕ) (mv to : Move) (va
     → CountsOn seen (Fired who comp port chan to value ∷ []) new → CountsOn old (e ∷ []) new
 as_entry e who comp port chan mv to value old seen new is so view on =
     subst (λ (x : Entry). CountsOn old (x ∷ []) new) (sym (is ∙ ap (λ (m : Move). Fired who comp port chan m value) so))
-        (subst (λ (o : Tallies). CountsOn o (Fired who comp port chan to value ∷ []) new) view on)
+    (subst (λ (o : Tallies). CountsOn o (Fired who comp port chan to value ∷ []) new) view on)
 
 -- nothing is counted of what is no move
 pub adds_none : (e : Entry) (old : Tallies) → ((k : ℕ) → is_move_of k e ≡ false) → ((k : ℕ) (side : Bool) → is_request_at k side e ≡ false) → CountsOn old (e ∷ []) old

@@ -53,13 +53,22 @@ fn word_of(name: &str) -> &str {
     name.strip_prefix("$Brz").unwrap_or(name)
 }
 
+// The name of the kind at a place.
+fn kind_at(place: usize) -> &'static str {
+    match kind_names().get(place) {
+        Some((name, _)) => word_of(name),
+        None => "",
+    }
+}
+
 fn put_kinds(text: &mut Text, shares: &[Share]) {
     text.put(",\n\"kinds\":{");
     let mut before = "\"";
-    for (share, (name, _)) in shares.iter().zip(kind_names()) {
+    for place in 0..shares.len() {
+        let share = shares[place];
         if share.all > 0 {
             text.put(before);
-            text.put(word_of(name));
+            text.put(kind_at(place));
             put_number(text, "\":{\"components\":", share.all as u64);
             put_number(text, ",\"moved\":", share.exercised as u64);
             text.put("}");
@@ -74,10 +83,10 @@ fn put_kinds(text: &mut Text, shares: &[Share]) {
 // Adds the kinds of which there is no component.
 fn put_absent(text: &mut Text, shares: &[Share]) {
     let mut before = "\"";
-    for (share, (name, _)) in shares.iter().zip(kind_names()) {
-        if share.all == 0 {
+    for place in 0..shares.len() {
+        if shares[place].all == 0 {
             text.put(before);
-            text.put(word_of(name));
+            text.put(kind_at(place));
             text.put("\"");
             before = ",\"";
         }
