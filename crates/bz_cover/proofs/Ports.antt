@@ -1,5 +1,5 @@
 -- In a run a request at an end of a channel is one of the component and the port that stand there.
-use Rattle.std.proofs.Common.{◌≡◌, ◌≢◌, ℕ, ◌+◌, ◌-◌, ◌<◌, ◌≤◌, ◌==◌, ◌&&◌, cond, Bool, true, false, Option, List, [], ◌∷◌, length, map, replicate, refl, sym, ap, ap₂, subst, ◌∙◌, arith, ◌⊎◌, inl, inr, length-set}
+use Rattle.std.proofs.Common.{◌≡◌, ℕ, ◌+◌, ◌-◌, ◌<◌, ◌≤◌, ◌==◌, ◌&&◌, cond, Bool, true, false, Option, List, [], ◌∷◌, length, map, replicate, refl, sym, ap, ap₂, subst, ◌∙◌, arith, inl, inr, length-set}
 use Rattle.std.specs.List.{count_by}
 use Rattle.std.proofs.lemmas.Bool.{eqb-true, eqb-false, eq-eqb}
 use Rattle.std.proofs.lemmas.List.Sums.{sum_by-cons}
@@ -9,7 +9,7 @@ use Rattle.bz_model.specs.declared.channel.Move.{Move}
 use Rattle.bz_model.specs.declared.channel.Move.TheVariants.{Ask, Take, Reply, Got}
 use Rattle.bz_model.specs.declared.event.Entry.{Entry}
 use Rattle.bz_model.specs.declared.event.Entry.TheVariants.{Fired, Host, Rested}
-use Rattle.bz_model.specs.Heads.{Proc, Moves, after_head}
+use Rattle.bz_model.specs.Heads.{Proc}
 use Rattle.bz_model.specs.Nets.{Wiring, State, IsPort, Step, chan_at, chan_in, moved, no_proc, no_site, opening, passive_at, phase_at, proc_at, site_at, start_at}
 use Rattle.bz_model.specs.Phases.{incoming, phase_after}
 use Rattle.bz_model.specs.Processes.{process, slots}

@@ -1,15 +1,15 @@
 -- Counts that go on.
-use Rattle.std.proofs.Common.{◌≡◌, ◌≢◌, ℕ, ◌+◌, ◌<◌, ◌≤◌, ◌==◌, ◌&&◌, min, cond, Bool, true, false, Option, List, [], ◌∷◌, ◌++◌, length, get_or, set, length-set, refl, sym, ap, subst, ◌∙◌, arith, append_assoc, ◌⊎◌, inl, inr}
-use Rattle.std.specs.List.{count_by, sum_by}
+use Rattle.std.proofs.Common.{◌≡◌, ℕ, ◌+◌, ◌<◌, ◌≤◌, ◌==◌, ◌&&◌, min, cond, Bool, true, false, Option, List, [], ◌∷◌, ◌++◌, length, get_or, set, length-set, refl, sym, ap, subst, ◌∙◌, arith, append_assoc, ◌⊎◌, inl, inr}
+use Rattle.std.specs.List.{count_by}
 use Rattle.std.proofs.lemmas.Bool.{eqb-true, eqb-false}
 use Rattle.std.proofs.lemmas.List.{append-nil, get_or-set_same, get_or-set_other}
 use Rattle.std.proofs.lemmas.List.Sums.{sum_by-append, sum_by-cons}
 use Rattle.bz_model.specs.declared.channel.Move.{Move}
 use Rattle.bz_model.specs.declared.channel.Move.TheVariants.{Ask, Take, Reply, Got}
 use Rattle.bz_model.specs.declared.event.Entry.{Entry}
-use Rattle.bz_model.specs.declared.event.Entry.TheVariants.{Fired, Host, Rested}
+use Rattle.bz_model.specs.declared.event.Entry.TheVariants.{Fired}
 use Rattle.bz_model.specs.declared.event.Who.{Who}
-use Rattle.bz_cover.specs.Counts.{AreCounts, CountEach, CountsOn, HasPlaces, Raises, Tallies, counted, is_move_of, is_request, is_request_at, most_counted, tally}
+use Rattle.bz_cover.specs.Counts.{AreCounts, CountEach, CountsOn, Raises, Tallies, counted, is_move_of, is_request, is_request_at, most_counted, tally}
 
 pub decided : (b : Bool) → (b ≡ true) ⊎ (b ≡ false)
 decided true = inl refl

@@ -1,5 +1,5 @@
 -- The lines of a trace, counted one after another.
-use Rattle.std.proofs.Common.{◌≡◌, ℕ, List, [], ◌∷◌, ◌++◌, ◌+◌, Bool, true, false, drop, length, Some, None, refl, sym, ap, subst, ◌∙◌, append_assoc}
+use Rattle.std.proofs.Common.{◌≡◌, ℕ, List, [], ◌∷◌, ◌++◌, Bool, true, false, drop, Some, None, refl, sym, ap, subst, ◌∙◌, append_assoc}
 use Rattle.std.specs.List.{AllByRecursion}
 use Rattle.std.proofs.lemmas.List.{append-nil}
 use Rattle.std.proofs.lemmas.Option.{some_pair_parts}
@@ -8,7 +8,7 @@ use Rattle.bz_model.specs.declared.event.Entry.TheVariants.{Fired, Host, Rested}
 use Rattle.bz_model.specs.Entries.{HasLine, told}
 use Rattle.bz_model.specs.Names.{Outside}
 use Rattle.bz_model.specs.Nets.{Wiring, outside}
-use Rattle.bz_model.specs.Traces.{clash_text, line_text}
+use Rattle.bz_model.specs.Traces.{line_text}
 use Rattle.bz_trace_text.specs.Reading.{line_at}
 use Rattle.bz_trace_text.specs.Texts.{HasText, Trace, clash_lines, first_line, lines, spelling}
 use Rattle.bz_trace_text.specs.declared.text.Version.{Version}
@@ -17,7 +17,7 @@ use Rattle.bz_trace_text.proofs.Cuts.{nothing_read}
 use Rattle.bz_trace_text.proofs.Lines.{line_again}
 use Rattle.bz_trace_text.proofs.Strips.{none-some}
 use Rattle.bz_trace_text.proofs.Texts.{clash_no_entry}
-use Rattle.bz_cover.specs.Counts.{AreCounts, CountEach, CountsOn, Tallies, counted, is_move_of, is_request_at}
+use Rattle.bz_cover.specs.Counts.{CountsOn, Tallies, is_move_of, is_request_at}
 use Rattle.bz_cover.proofs.Tallies.{alike_counted, none_yet, then}
 
 -- Of these entries some were counted; the lines of the others stand in front of the tail.
