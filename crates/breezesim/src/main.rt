@@ -9,7 +9,10 @@ use bz_cli_args::{
     tell_error, words_of,
 };
 use bz_cli_input::Fault;
-use bz_cli_program::{Given, Outcome, Refusal, Texts, end, open_file, program, tell_unread, tip};
+use bz_cli_program::{
+    Copying, Given, KeptTexts, Outcome, Refusal, Texts, cover, end, open_file, program,
+    tell_unread, tip,
+};
 use bz_explain_notes::Keeping;
 use std::io::{BufWriter, IsTerminal, Read};
 use std::os::fd::AsFd;
@@ -22,28 +25,44 @@ use std::{fs, io};
 const BUFFER_SIZE: usize = 65_536;
 
 // Does what a command says, with a trace of its own where there is one.
-fn perform<P: Threads + Wait + Sync, R: Read + Drop, T: Read>(
+fn perform<P: Threads + Wait + Sync, R: Read + Drop, T: Read + Drop>(
     rt: &HostRuntime,
     threads: &P,
     given: &Given<'_, '_>,
     input: &mut Keeping<R>,
-    trace: Option<&mut T>,
+    trace: Option<T>,
 ) -> Outcome {
-    let Ok(mut output) = BufWriter::with_capacity(rt.alloc(), BUFFER_SIZE, io::writer(rt)) else {
+    let Ok(output) = BufWriter::with_capacity(rt.alloc(), BUFFER_SIZE, io::writer(rt)) else {
         return Outcome::from(Fault::Memory);
     };
-    let netlist = given.file;
-    program(
+    let (alloc, netlist) = (rt.alloc(), given.file);
+    let covers = given.command.cover_file().is_some();
+    let mut output = Copying::new(alloc, output, covers);
+    let mut trace = match trace {
+        Some(trace) => Some(Keeping::new(alloc, trace, covers)),
+        None => None,
+    };
+    let mut files = SystemFiles { rt, netlist };
+    let outcome = program(
         threads,
-        rt.alloc(),
+        alloc,
         given,
         input,
-        trace,
+        trace.as_mut(),
         &mut rt.reader(),
-        &mut SystemFiles { rt, netlist },
+        &mut files,
         &mut output,
         &mut rt.stderr(),
-    )
+    );
+    let texts = KeptTexts {
+        input: input.kept(),
+        trace: match &trace {
+            Some(trace) => trace.kept(),
+            None => None,
+        },
+        output: output.copy(),
+    };
+    cover(alloc, given, texts, outcome, &mut files, &mut rt.stderr())
 }
 
 // The same with the trace of the file that is named, or of standard input. The status of the program.
@@ -54,15 +73,16 @@ fn play<P: Threads + Wait + Sync, R: Read + Drop>(
     input: &mut Keeping<R>,
 ) -> u8 {
     let outcome = match given.command.trace_file() {
-        None => perform(rt, threads, given, input, None::<&mut fs::File>),
-        Some(Source::Stdin) => perform(rt, threads, given, input, Some(&mut rt.reader())),
+        None => perform(rt, threads, given, input, None::<fs::File>),
+        Some(Source::Stdin) => perform(rt, threads, given, input, Some(rt.reader())),
         Some(Source::File(path)) => match open_file(rt, path) {
-            Ok(mut file) => perform(rt, threads, given, input, Some(&mut file)),
+            Ok(file) => perform(rt, threads, given, input, Some(file)),
             Err(cause) => return refuse(rt, Refusal::File(path, cause)),
         },
     };
-    let alloc = rt.alloc();
-    end(rt, alloc, given, input.kept(), outcome, &mut rt.stderr())
+    // (what is kept for another use is none for notes)
+    let kept = if given.explains { input.kept() } else { None };
+    end(rt, rt.alloc(), given, kept, outcome, &mut rt.stderr())
 }
 
 // Does what was asked for on a netlist.
@@ -72,7 +92,8 @@ fn play_on<P: Threads + Wait + Sync, R: Read + Drop>(
     request: &Request<'_>,
     input: R,
 ) -> u8 {
-    let input = &mut Keeping::new(rt.alloc(), input, request.explains);
+    let keeps = request.explains || request.command.cover_file().is_some();
+    let input = &mut Keeping::new(rt.alloc(), input, keeps);
     let texts = match Texts::of(rt, rt.alloc(), request) {
         Ok(texts) => texts,
         Err(why) => return refuse(rt, why),

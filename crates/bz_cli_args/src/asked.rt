@@ -10,7 +10,7 @@ use clap::ArgMatches;
 pub enum Command<'a> {
     Run(RunOptions<'a>),
     Explore(TraceOptions<'a>),
-    Check(TraceOptions<'a>),
+    Check(CheckOptions<'a>),
     Waits(WaitsOptions<'a>),
     List(ListOptions),
     Lint(LintOptions),
@@ -29,11 +29,22 @@ pub struct RunOptions<'a> {
     pub journal: u32,
     /// Whether the run stops at a host command that is not done.
     pub strict: bool,
+    /// The file to which is written what the run exercised, if that is asked for.
+    pub cover: Option<&'a str>,
     /// Where the words come from, if they don't stand on the command line.
     pub word_file: Option<Source<'a>>,
 }
 
-/// The options of a command that reads a trace.
+/// The options of `check`.
+#[derive(Clone, Copy)]
+pub struct CheckOptions<'a> {
+    /// Where the trace comes from, if it doesn't come after the netlist.
+    pub trace: Option<Source<'a>>,
+    /// The file to which is written what the run exercised, if that is asked for.
+    pub cover: Option<&'a str>,
+}
+
+/// The options of another command that reads a trace.
 #[derive(Clone, Copy)]
 pub struct TraceOptions<'a> {
     /// Where the trace comes from, if it doesn't come after the netlist.
@@ -157,6 +168,15 @@ impl<'a> Command<'a> {
         }
     }
 
+    /// The file to which is written what a run exercised, if that is asked for.
+    pub fn cover_file(self) -> Option<&'a str> {
+        match self {
+            Command::Run(options) => options.cover,
+            Command::Check(options) => options.cover,
+            _ => None,
+        }
+    }
+
     /// Whether the command reads a trace, after the netlist where it has none of its own.
     pub fn reads_trace(self) -> bool {
         matches!(
@@ -186,7 +206,10 @@ pub(crate) fn command_in<'a>(name: &str, matches: &ArgMatches<'a>) -> Option<Com
     Some(match name {
         "run" => Command::Run(run_options(matches)),
         "explore" => Command::Explore(trace_options(matches)),
-        "check" => Command::Check(trace_options(matches)),
+        "check" => Command::Check(CheckOptions {
+            trace: source_named(matches, "trace"),
+            cover: matches.get_str("cover"),
+        }),
         "waits" => Command::Waits(waits_options(matches)),
         "list" => Command::List(ListOptions {
             paths: matches.get_flag("paths"),
@@ -206,6 +229,7 @@ fn run_options<'a>(matches: &ArgMatches<'a>) -> RunOptions<'a> {
     RunOptions {
         journal: matches.get_one("journal").unwrap_or(JOURNAL_BY_DEFAULT),
         strict: matches.get_flag("strict"),
+        cover: matches.get_str("cover"),
         word_file: source_named(matches, "word-file"),
     }
 }

@@ -5,9 +5,9 @@ use crate::help::{
     VERSION, WAITS,
 };
 use crate::options::{
-    AROUND, BEGUN_TRACE, COMPONENT, DEPTH, EXPLAIN, FILES, FORMAT, FROM, FUEL, HOPS, JOURNAL, LINE,
-    MEANT_PART, MOST, NETLIST, Opt, PART, PART_FORM, PATHS, REQUIRED_NETLIST, SESSIONS, STRICT,
-    STRICT_WAITS, TO, TRACE, WORD_FILE, WORDS, WORKERS, arg_of,
+    AROUND, BEGUN_TRACE, COMPONENT, COVER, DEPTH, EXPLAIN, FILES, FORMAT, FROM, FUEL, HOPS, JOURNAL,
+    LINE, MEANT_PART, MOST, NETLIST, Opt, PART, PART_FORM, PATHS, REQUIRED_NETLIST, SESSIONS,
+    STRICT, STRICT_WAITS, TO, TRACE, WORD_FILE, WORDS, WORKERS, arg_of,
 };
 use clap::{Arg, Command};
 use std::alloc::{AllocError, Global};
@@ -28,7 +28,9 @@ const SUBS: [Sub; 12] = [
         name: "run",
         about: "Play words on a part's net, and write the trace",
         after: RUN,
-        options: &[PART, PART_FORM, NETLIST, JOURNAL, STRICT, WORD_FILE, WORDS],
+        options: &[
+            PART, PART_FORM, NETLIST, JOURNAL, STRICT, COVER, WORD_FILE, WORDS,
+        ],
     },
     Sub {
         name: "explore",
@@ -40,7 +42,7 @@ const SUBS: [Sub; 12] = [
         name: "check",
         about: "Tell whether a trace is that of a run of a part's net",
         after: CHECK,
-        options: &[PART, PART_FORM, NETLIST, TRACE],
+        options: &[PART, PART_FORM, NETLIST, TRACE, COVER],
     },
     Sub {
         name: "waits",

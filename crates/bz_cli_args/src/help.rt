@@ -29,7 +29,7 @@ P is a port's name, in which %3A stands for a colon. V and N are decimal numbers
 Statuses:
   0  all words were played
   1  the netlist is refused (S, B and E faults)
-  2  the command line or a word is bad (H1), a file cannot be opened, or a file of words cannot be read
+  2  the command line or a word is bad (H1), a file cannot be opened or made, or a file of words cannot be read
   3  an event was refused (N faults), or with --strict a host command was not done,
      input or output failed (F1, F2), or memory ran out (F3)
 
@@ -60,7 +60,7 @@ cat makes one text of two files. With --trace it may have any length. One line i
 Statuses:
   0  the trace is that of a run
   1  it is not, or the netlist is refused (S, B and E faults)
-  2  the command line is bad, or a file cannot be opened
+  2  the command line is bad, or a file cannot be opened or made
   3  input or output failed (F1, F2), or memory ran out (F3)
 
 Examples:

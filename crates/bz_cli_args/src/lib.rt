@@ -9,8 +9,8 @@ mod request;
 mod words;
 
 pub use asked::{
-    ChartOptions, Command, DrawOptions, FormatOptions, LintOptions, ListOptions, PoolOptions,
-    RunOptions, Source, TraceOptions, WaitsOptions,
+    ChartOptions, CheckOptions, Command, DrawOptions, FormatOptions, LintOptions, ListOptions,
+    PoolOptions, RunOptions, Source, TraceOptions, WaitsOptions,
 };
 pub use commands::command_line;
 pub use options::{MAX_JOURNAL, MAX_WORKERS};

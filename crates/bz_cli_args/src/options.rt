@@ -142,6 +142,13 @@ pub(crate) const BEGUN_TRACE: Opt = Opt {
     ..TRACE
 };
 
+pub(crate) const COVER: Opt = Opt {
+    id: "cover",
+    name: Name::Long("cover"),
+    help: "Write what the trace exercised to the new file FILE: as LCOV where it ends in .info, else as JSON",
+    ..TEXT
+};
+
 pub(crate) const WORD_FILE: Opt = Opt {
     id: "word-file",
     name: Name::Short("words", 'w'),

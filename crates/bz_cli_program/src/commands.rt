@@ -42,7 +42,7 @@ use std::sync::Wait;
 use std::thread::Threads;
 
 /// The status of a strict run that met a host command that was not done.
-const REFUSED: u8 = 3;
+pub(crate) const REFUSED: u8 = 3;
 
 /// The status of a strict look at a trace behind which something can never move again.
 const STUCK: u8 = 3;

@@ -5,6 +5,8 @@
 #![tactic(auto)]
 
 mod commands;
+mod copying;
+mod covering;
 mod files;
 mod given;
 mod noting;
@@ -13,6 +15,8 @@ mod performing;
 mod refusal;
 mod resting;
 
+pub use copying::Copying;
+pub use covering::{KeptTexts, cover};
 pub use files::open_file;
 pub use given::{Given, Texts};
 pub use noting::end;

@@ -1,0 +1,16 @@
+//! What is known of the counts of a run.
+
+ghost use Rattle.std.specs.Prelude.{◌≡◌, ℕ, List};
+ghost use Rattle.std.specs.List.{count_by};
+ghost use Rattle.bz_model.specs.declared.event.Entry.{Entry};
+ghost use Rattle.bz_model.specs.Nets.{IsPort, State, Wiring, chan_at, opening, passive_at};
+ghost use Rattle.bz_model.specs.Runs.{Run};
+ghost use Rattle.bz_flat.specs.Wires.{WellWired};
+ghost use Rattle.bz_cover.specs.Counts.{is_request_at, is_request_of};
+
+/// The requests at an end of a channel are those of the component and the port that stand there.
+pub fn ports_count_their_own()
+    ensures { (w : Wiring) (entries : List Entry) (last : State) (c p : ℕ) → WellWired w → Run w (opening w) entries last
+        → IsPort w.sites c p → count_by (is_request_at (chan_at w.sites c p) (passive_at w.sites c p)) entries
+        ≡ count_by (is_request_of c p) entries }
+{}

@@ -1,0 +1,19 @@
+//! What traces have exercised of a net: how often each component moved and each port was used, and reports of it.
+#![tactic(auto)]
+
+mod counting;
+mod coverage;
+mod json;
+mod laws;
+mod lcov;
+mod report;
+mod roles;
+mod text;
+
+pub use counting::count_trace;
+pub use coverage::Coverage;
+pub use json::put_report;
+pub use laws::ports_count_their_own;
+pub use lcov::put_lcov;
+pub use report::Report;
+pub use text::put_summary;
