@@ -1,0 +1,398 @@
+//! A bench that is played on a net.
+//!
+//! Without a seed the net runs to rest, and then the first port at which a word of its stream would be done gets it. With one,
+//! each step is one of the components that can move or one of the words that would be done, each as likely as another. A play
+//! ends with the first value that is not as due. Nothing is claimed of what is picked, nor that a play comes to an end in time:
+//! the verdict goes by the journal and the state alone.
+
+ghost use Rattle.std.specs.Prelude.{◌≡◌, IfOk, length};
+ghost use Rattle.bz_bench_play.specs.Verdicts.{Judges};
+ghost use Rattle.bz_model.specs.Nets.{opening};
+ghost use Rattle.bz_model.specs.Runs.{Run};
+
+use crate::judging::{judge, next_word};
+use crate::plan::Plan;
+use crate::verdict::Verdict;
+use bz_bench::{Item, Tally, fits, no_tallies, note};
+use bz_explore_net::{Picker, Stepping};
+use bz_flat::Flat;
+use bz_model::{Entry, HostCmd, NetError, Reply, Value, Verb, Who, numbered};
+use bz_net::{Net, RunEnd};
+use std::alloc::Global;
+
+/// The most entries of a play's journal.
+const JOURNAL: u32 = 16_777_216;
+
+/// What is mixed with a seed, so that what is picked between moves and words is not as what is picked among moves.
+const MIXED: u64 = 0x9e37_79b9_7f4a_7c15;
+
+/// A bench that was played: the net, what passed at each port, and the verdict.
+pub struct Played {
+    pub stepping: Stepping,
+    pub tallies: Vec<Tally>,
+    pub verdict: Verdict,
+}
+
+// By hand, so that who lets one go has one call to show and not all its parts.
+impl Drop for Played {
+    fn drop(self) {
+        let Played {
+            stepping: _,
+            tallies: _,
+            verdict: _,
+        } = self;
+    }
+}
+
+impl Played {
+    /// What passed at each port.
+    pub fn into_tallies(self) -> Vec<Tally> {
+        let Played {
+            stepping: _,
+            tallies,
+            verdict: _,
+        } = self;
+        tallies
+    }
+}
+
+// A play that is under way.
+struct Session<'p> {
+    stepping: Stepping,
+    plan: &'p Plan,
+    tallies: Vec<Tally>,
+    // The group of lines that has begun last.
+    group: usize,
+    fuel: u64,
+}
+
+impl Drop for Session<'_> {
+    fn drop(self) {
+        let Session {
+            stepping: _,
+            plan: _,
+            tallies: _,
+            group: _,
+            fuel: _,
+        } = self;
+    }
+}
+
+/// Plays a bench on a net, with at most so many firings.
+pub fn play(
+    alloc: Global,
+    flat: Flat,
+    plan: &Plan,
+    seed: Option<u64>,
+    fuel: u64,
+) -> Result<Played, NetError>
+    requires { length plan.now.streams.items ≡ length flat.wiring.ports }
+    ensures wiring { IfOk result (λ p. p.stepping.net.wiring ≡ flat.wiring) }
+    ensures run { IfOk result (λ p. Run flat.wiring (opening flat.wiring) p.stepping.net.journal p.stepping.net.state) }
+    ensures judged { IfOk result (λ p.
+        Judges flat.wiring p.stepping.net.state p.stepping.net.journal plan.now.streams.items p.verdict) }
+{
+    let mut session = Session::open(alloc, flat, plan, fuel)?;
+    match seed {
+        None => session.play_in_order(alloc)?,
+        Some(seed) => session.play_by_chance(alloc, seed)?,
+    }
+    session.judged(alloc)
+}
+
+impl<'p> Session<'p> {
+    fn open(alloc: Global, flat: Flat, plan: &'p Plan, fuel: u64) -> Result<Session<'p>, NetError>
+        ensures wiring { IfOk result (λ s. s.stepping.net.wiring ≡ flat.wiring) }
+        ensures plan { IfOk result (λ s. s.plan.now ≡ plan.now) }
+    {
+        let Ok(tallies) = no_tallies(alloc, plan.streams.len()) else {
+            return Err(NetError::Memory);
+        };
+        let stepping = Stepping::open(alloc, flat, JOURNAL)?;
+        Ok(Session {
+            stepping,
+            plan,
+            tallies,
+            group: 0,
+            fuel,
+        })
+    }
+
+    fn judged(self, alloc: Global) -> Result<Played, NetError>
+        requires { length self.plan.now.streams.items ≡ length self.stepping.net.wiring.ports }
+        ensures net { IfOk result (λ p. p.stepping.net ≡ self.entry.stepping.net) }
+        ensures run { IfOk result (λ p. Run self.entry.stepping.net.wiring (opening self.entry.stepping.net.wiring)
+            p.stepping.net.journal p.stepping.net.state) }
+        ensures judged { IfOk result (λ p. Judges self.entry.stepping.net.wiring
+            p.stepping.net.state p.stepping.net.journal self.entry.plan.now.streams.items p.verdict) }
+    {
+        let Session {
+            stepping,
+            plan,
+            tallies,
+            group,
+            fuel: _,
+        } = self;
+        let net = stepping.net();
+        let _ = net.journal();
+        match judge(alloc, net, plan.streams.as_slice(), group) {
+            Ok(verdict) => Ok(Played {
+                stepping,
+                tallies,
+                verdict,
+            }),
+            Err(_) => Err(NetError::Memory),
+        }
+    }
+
+    // Plays to the end: at rest the first word that would be done is given.
+    fn play_in_order(&mut self, alloc: Global) -> Result<(), NetError>
+        ensures wiring { IfOk result (λ _. self.new.stepping.net.wiring ≡ self.old.stepping.net.wiring) }
+        ensures plan { self.new.plan.now ≡ self.old.plan.now }
+    {
+        for _ in 0..=JOURNAL {
+            if !self.runs_to_rest(alloc)? || !self.gives(alloc, 0)? {
+                break;
+            }
+        }
+        Ok(())
+    }
+
+    // Runs on to rest: whether it came there.
+    fn runs_to_rest(&mut self, alloc: Global) -> Result<bool, NetError>
+        ensures wiring { IfOk result (λ _. self.new.stepping.net.wiring ≡ self.old.stepping.net.wiring) }
+        ensures plan { self.new.plan.now ≡ self.old.plan.now }
+    {
+        let Ok(end) = self.stepping.run(alloc, &[], self.fuel) else {
+            return Err(NetError::Memory);
+        };
+        self.has_rested(end)
+    }
+
+    // Whether firings ended at rest.
+    fn has_rested(&mut self, end: RunEnd) -> Result<bool, NetError>
+        ensures wiring { self.new.stepping.net.wiring ≡ self.old.stepping.net.wiring }
+        ensures plan { self.new.plan.now ≡ self.old.plan.now }
+    {
+        match end {
+            RunEnd::Rest(fired) => {
+                self.fuel = self.fuel.saturating_sub(fired);
+                Ok(true)
+            }
+            RunEnd::Spent(fired) => {
+                self.fuel = self.fuel.saturating_sub(fired);
+                Ok(false)
+            }
+            RunEnd::Refused(_, NetError::Memory) => Err(NetError::Memory),
+            RunEnd::Refused(_, _) => {
+                self.fuel = 0;
+                Ok(false)
+            }
+        }
+    }
+
+    // Plays to the end: each step is a move or a word that is picked.
+    fn play_by_chance(&mut self, alloc: Global, seed: u64) -> Result<(), NetError>
+        ensures wiring { IfOk result (λ _. self.new.stepping.net.wiring ≡ self.old.stepping.net.wiring) }
+        ensures plan { self.new.plan.now ≡ self.old.plan.now }
+    {
+        self.stepping.seed(seed);
+        let mut chooser = Picker::new(seed ^ MIXED);
+        for _ in 0..=JOURNAL {
+            if !self.steps(alloc, &mut chooser)? {
+                break;
+            }
+        }
+        Ok(())
+    }
+
+    // One move or one word that is picked: whether the play goes on.
+    fn steps(&mut self, alloc: Global, chooser: &mut Picker) -> Result<bool, NetError>
+        ensures wiring { IfOk result (λ _. self.new.stepping.net.wiring ≡ self.old.stepping.net.wiring) }
+        ensures plan { self.new.plan.now ≡ self.old.plan.now }
+    {
+        self.begin_groups();
+        let moves = count_ready(self.stepping.net());
+        let choices = moves.saturating_add(self.count_words());
+        if choices == 0 {
+            self.runs_to_rest(alloc)?;
+            return Ok(false);
+        }
+        let picked = chooser.pick(choices);
+        if picked < moves {
+            self.moves(alloc)
+        } else {
+            self.gives(alloc, picked - moves)
+        }
+    }
+
+    // One move that is picked: whether there is fuel for more.
+    fn moves(&mut self, alloc: Global) -> Result<bool, NetError>
+        ensures wiring { IfOk result (λ _. self.new.stepping.net.wiring ≡ self.old.stepping.net.wiring) }
+        ensures plan { self.new.plan.now ≡ self.old.plan.now }
+    {
+        let Ok(end) = self.stepping.random(alloc, &[], self.fuel.min(1)) else {
+            return Err(NetError::Memory);
+        };
+        self.has_rested(end)?;
+        Ok(self.fuel > 0)
+    }
+
+    // How many words would be done.
+    fn count_words(&self) -> u32 {
+        let mut count = 0u32;
+        for place in 0..self.tallies.len() {
+            if self.word_at(port_of(place)).is_some() {
+                count = count.saturating_add(1);
+            }
+        }
+        count
+    }
+
+    // The word of a port that would be done.
+    fn word_at(&self, port: u32) -> Option<Verb> {
+        let stream = numbered(&self.plan.streams, port)?;
+        let tally = numbered(&self.tallies, port)?;
+        next_word(self.stepping.net(), port, stream, tally, self.group)
+    }
+
+    // Begins the next group of lines where all of one is done.
+    fn begin_groups(&mut self)
+        ensures wiring { self.new.stepping.net.wiring ≡ self.old.stepping.net.wiring }
+        ensures plan { self.new.plan.now ≡ self.old.plan.now }
+    {
+        for group in self.group..self.plan.groups.saturating_sub(1) {
+            if !self.is_done(group) {
+                break;
+            }
+            self.group = group.saturating_add(1);
+        }
+    }
+
+    // Whether all of a group of lines is done.
+    fn is_done(&self, group: usize) -> bool {
+        for (stream, tally) in self.plan.streams.iter().zip(self.tallies.iter()) {
+            let upto = stream.upto(group);
+            if tally.begun.len() < upto || tally.ended.len() < upto.min(stream.to_end()) {
+                return false;
+            }
+        }
+        true
+    }
+
+    // Gives the word that would be done after so many others, by the order of ports: whether there is one and what came is due.
+    fn gives(&mut self, alloc: Global, before: u32) -> Result<bool, NetError>
+        ensures wiring { IfOk result (λ _. self.new.stepping.net.wiring ≡ self.old.stepping.net.wiring) }
+        ensures plan { self.new.plan.now ≡ self.old.plan.now }
+    {
+        self.begin_groups();
+        match self.nth_word(before) {
+            Some((port, verb)) => self.gives_at(alloc, port, verb),
+            None => Ok(false),
+        }
+    }
+
+    // The word that would be done after so many others, by the order of ports.
+    fn nth_word(&self, before: u32) -> Option<(u32, Verb)> {
+        let mut left = before;
+        for place in 0..self.tallies.len() {
+            let port = port_of(place);
+            if let Some(verb) = self.word_at(port) {
+                if left == 0 {
+                    return Some((port, verb));
+                }
+                left -= 1;
+            }
+        }
+        None
+    }
+
+    // Gives a word at a port: whether it was done, and what came is due.
+    fn gives_at(&mut self, alloc: Global, port: u32, verb: Verb) -> Result<bool, NetError>
+        ensures wiring { IfOk result (λ _. self.new.stepping.net.wiring ≡ self.old.stepping.net.wiring) }
+        ensures plan { self.new.plan.now ≡ self.old.plan.now }
+    {
+        let item = self.item_of(port, verb);
+        let name = self.stepping.net().names().name(port).unwrap_or(&[]);
+        let Ok(name) = Vec::from_slice(alloc, name) else {
+            return Err(NetError::Memory);
+        };
+        let value = self.value_of(port, verb, item);
+        let cmd = HostCmd {
+            verb,
+            port: name,
+            value,
+        };
+        match self.stepping.command(alloc, &[], &cmd) {
+            Ok(reply) => self.has_come(port, verb, item, value, reply),
+            Err(NetError::Memory) => Err(NetError::Memory),
+            Err(_) => Ok(false),
+        }
+    }
+
+    // Notes a word that was given: whether what came is due.
+    fn has_come(
+        &mut self,
+        port: u32,
+        verb: Verb,
+        item: Option<Item>,
+        value: Option<Value>,
+        reply: Reply,
+    ) -> Result<bool, NetError>
+        ensures wiring { self.new.stepping.net.wiring ≡ self.old.stepping.net.wiring }
+        ensures plan { self.new.plan.now ≡ self.old.plan.now }
+    {
+        let entry = Entry::Host {
+            who: Who::Host(1),
+            verb,
+            port,
+            value,
+            reply,
+        };
+        if note(&mut self.tallies, entry).is_err() {
+            return Err(NetError::Memory);
+        }
+        match reply {
+            Reply::Value(came) => Ok(fits(item, Some(came))),
+            _ => Ok(true),
+        }
+    }
+
+    // The item that a word at a port is about.
+    fn item_of(&self, port: u32, verb: Verb) -> Option<Item> {
+        let stream = numbered(&self.plan.streams, port)?;
+        let tally = numbered(&self.tallies, port)?;
+        match verb {
+            Verb::Offer | Verb::Accept => stream.item_at(tally.begun.len()),
+            _ => stream.item_at(tally.ended.len()),
+        }
+    }
+
+    // The value that a word at a port brings.
+    fn value_of(&self, port: u32, verb: Verb, item: Option<Item>) -> Option<Value> {
+        let chan = self.stepping.net().names().chan(port)?;
+        match item {
+            Some(Item::Value(value)) if verb.wants_value(chan.kind) => Some(value),
+            _ => None,
+        }
+    }
+}
+
+// The number of the port at a place.
+fn port_of(place: usize) -> u32 {
+    u32::try_from(place).unwrap_or(u32::MAX).saturating_add(1)
+}
+
+// How many components can move.
+fn count_ready(net: &Net) -> u32 {
+    let Some(mut comp) = net.next_ready(1) else {
+        return 0;
+    };
+    for before in 0..u32::MAX {
+        match net.next_ready(comp.saturating_add(1)) {
+            Some(next) if next > comp => comp = next,
+            _ => return before.saturating_add(1),
+        }
+    }
+    u32::MAX
+}

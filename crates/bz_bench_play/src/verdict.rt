@@ -1,0 +1,29 @@
+//! How a bench ends.
+
+use bz_bench::Item;
+use bz_model::Value;
+
+/// How a bench ends. Ports count from 1, places in a stream from 0.
+#[derive(Clone, Copy)]
+pub enum Verdict {
+    /// All that is due has passed, and nothing else.
+    Passed,
+    /// With an item of a port another value came than was due.
+    Differs {
+        port: u32,
+        place: usize,
+        due: Option<Item>,
+        came: Option<Value>,
+    },
+    /// A value came at a port at which no more is due.
+    Extra {
+        port: u32,
+        came: Value,
+    },
+    /// No component can move, a stream of this group of lines or one above it is short, and no word of these would be done.
+    Stuck {
+        group: usize,
+    },
+    /// None of these, since the fuel or the journal was spent.
+    Spent,
+}
