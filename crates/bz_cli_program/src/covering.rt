@@ -41,7 +41,7 @@ pub fn cover<F: Files, E: Write>(
     let Some(path) = given.command.cover_file() else {
         return outcome;
     };
-    let (status, checked) = outcome.into_parts();
+    let (status, checked, ended) = outcome.into_parts();
     let status = match status {
         Ok(DONE | REFUSED) => match covered(alloc, given, texts, checked) {
             Ok(covered) => told(covered, path, status, files, errors),
@@ -52,6 +52,7 @@ pub fn cover<F: Files, E: Write>(
     Outcome {
         status,
         checked: None,
+        ended,
     }
 }
 
