@@ -43,7 +43,7 @@ pub fn cover<F: Files, E: Write>(
     };
     let (status, checked, ended) = outcome.into_parts();
     let status = match status {
-        Ok(DONE | REFUSED) => match covered(alloc, given, texts, checked) {
+        Ok(DONE | REFUSED) => match exercised(alloc, given, texts, checked) {
             Ok(covered) => told(covered, path, status, files, errors),
             Err(fault) => Err(fault),
         },
@@ -73,7 +73,7 @@ impl Drop for Covered {
 }
 
 // What the run of a command has exercised. Where the texts could not be kept, memory was wanting for them.
-fn covered(
+fn exercised(
     alloc: Global,
     given: &Given<'_, '_>,
     texts: KeptTexts<'_>,
