@@ -31,7 +31,7 @@ pub fn end<F: Files, E: Write>(
     match status {
         Ok(status) => {
             if status == NO_RUN && given.command.reads_trace() {
-                note_trace(files, alloc, given, kept, checked, errors);
+                note_trace(files, alloc, &*given, kept, checked, errors);
             }
             if let Some(ended) = ended {
                 note_ended(alloc, given, kept, &ended, errors);
