@@ -14,12 +14,12 @@ const BUFFER_SIZE: usize = 65_536;
 
 /// The files of the system, but for the netlist.
 #[derive(Clone, Copy)]
-pub(crate) struct SystemFiles<'a> {
-    pub rt: &'a HostRuntime,
-    pub netlist: Option<&'a str>,
+pub(crate) struct SystemFiles<'r, 'n> {
+    pub rt: &'r HostRuntime,
+    pub netlist: Option<&'n str>,
 }
 
-impl Files for SystemFiles<'_> {
+impl Files for SystemFiles<'_, '_> {
     type File = BufWriter<File>;
 
     fn create(&mut self, path: &str, over: bool) -> Result<BufWriter<File>, NoFile> {
@@ -35,7 +35,7 @@ impl Files for SystemFiles<'_> {
     }
 }
 
-impl SystemFiles<'_> {
+impl SystemFiles<'_, '_> {
     // A new file.
     fn made(&self, path: &str) -> Result<File, NoFile> {
         match File::create_new(self.rt, path) {

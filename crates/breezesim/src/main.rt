@@ -14,7 +14,7 @@ use bz_cli_program::{
     tell_unread, tip,
 };
 use bz_explain_notes::Keeping;
-use std::io::{BufWriter, IsTerminal, Read};
+use std::io::{BufWriter, IsTerminal, Read, Write};
 use std::os::fd::AsFd;
 use std::process::ExitCode;
 use std::sync::Wait;
@@ -54,15 +54,25 @@ fn perform<P: Threads + Wait + Sync, R: Read + Drop, T: Read + Drop>(
         &mut output,
         &mut rt.stderr(),
     );
-    let texts = KeptTexts {
-        input: input.kept(),
-        trace: match &trace {
-            Some(trace) => trace.kept(),
-            None => None,
-        },
-        output: output.copy(),
-    };
+    let texts = texts_kept(&*input, trace.as_ref(), &output);
     cover(alloc, given, texts, outcome, &mut files, &mut rt.stderr())
+}
+
+// What was read and written, where it was kept.
+fn texts_kept<'t, R: Read + Drop, T: Read + Drop, W: Write + Drop>(
+    input: &'t Keeping<R>,
+    trace: Option<&'t Keeping<T>>,
+    output: &'t Copying<W>,
+) -> KeptTexts<'t> {
+    let trace = match trace {
+        Some(trace) => trace.kept(),
+        None => None,
+    };
+    KeptTexts {
+        input: input.kept(),
+        trace,
+        output: output.copy(),
+    }
 }
 
 // The same with the trace of the file that is named, or of standard input. The status of the program.
@@ -80,9 +90,13 @@ fn play<P: Threads + Wait + Sync, R: Read + Drop>(
             Err(cause) => return refuse(rt, Refusal::File(path, cause)),
         },
     };
-    // (what is kept for another use is none for notes)
-    let kept = if given.explains { input.kept() } else { None };
+    let kept = kept_for_notes(&*input, given.explains);
     end(rt, rt.alloc(), given, kept, outcome, &mut rt.stderr())
+}
+
+// What was kept of an input for notes, and not for another use.
+fn kept_for_notes<R: Read + Drop>(input: &Keeping<R>, explains: bool) -> Option<&[u8]> {
+    if explains { input.kept() } else { None }
 }
 
 // Does what was asked for on a netlist.
