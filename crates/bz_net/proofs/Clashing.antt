@@ -10,7 +10,7 @@ use Rattle.bz_model.specs.Hosts.{host_after}
 use Rattle.bz_model.specs.Runs.{Follows, Run}
 use Rattle.bz_model.specs.Clashes.{phase_of, IsAsked, Clashes, ClashesIn}
 use Rattle.bz_flat.specs.Wires.{WellWired}
-use Rattle.bz_net.specs.Noted.{Notes, HoldsPassive, MeetBefore, NotedAt, NotedMove}
+use Rattle.bz_net.specs.Noted.{Notes, HoldsPassive, AskedBefore, NotedAt, NotedMove, Watches, WatchesBut}
 use Rattle.std.proofs.lemmas.Bool.{cases_eq}
 use Rattle.bz_model.specs.declared.channel.Move.{Move}
 use Rattle.bz_model.specs.declared.channel.Move.TheVariants as move
@@ -19,6 +19,7 @@ use Rattle.bz_model.specs.declared.event.Verb.{Verb}
 use Rattle.bz_model.specs.declared.event.Reply.{Reply}
 use Rattle.bz_model.specs.Hosts.{HostStep}
 use Rattle.bz_model.specs.Runs.{Rest}
+use Rattle.bz_net.proofs.Asking.{watches_first}
 use Rattle.bz_net.proofs.Ties.{at_other}
 
 -- the phases after an entry go by the phases before it and the entry alone
@@ -129,26 +130,50 @@ all_idle (suc n) (suc i) = all_idle n i
 pub none_opening : (w : Wiring) (c : ℕ) → ClashesIn w (opening w) [] c → ⊥
 none_opening w c x = x.first.busy (all_idle (length w.chans) (chan_at w.sites c x.one - 1))
 
--- where the channel was busy before, no requests meet that didn't
-pub met_before : (w : Wiring) (phases : List Phase) (k : ℕ) (phase : Phase) → WellWired w → 0 < k → phase_of phases k ≢ Idle → (c : ℕ) → Clashes w.sites (set phases (k - 1) phase) c → Clashes w.sites phases c
-met_before w phases k phase wired from busy c x = record {
+-- where the channel was busy before, no port is asked that wasn't
+pub asked_before : (w : Wiring) (phases : List Phase) (k : ℕ) (phase : Phase) → WellWired w → 0 < k → phase_of phases k ≢ Idle → (c p : ℕ) → IsAsked w.sites (set phases (k - 1) phase) c p → IsAsked w.sites phases c p
+asked_before w phases k phase wired from busy c p at = record {
+  is_port = at.is_port;
+  passive = at.passive;
+  busy = λ idle. elim (cases_eq (chan_at w.sites c p) k) [
+    | inl on ↦ busy (ap (phase_of phases) (sym on) ∙ idle)
+    | inr off ↦ at.busy (at_other phases k (chan_at w.sites c p) phase Idle from (wired.chan_from c p at.is_port) off ∙ idle)
+  ];
+}
+
+-- then no requests meet that didn't
+met_before : (sites : List Site) (phases phases' : List Phase) → ((c p : ℕ) → IsAsked sites phases' c p → IsAsked sites phases c p) → (c : ℕ) → Clashes sites phases' c → Clashes sites phases c
+met_before sites phases phases' before c x = record {
   mixes = x.mixes;
   one = x.one;
   other = x.other;
   apart = x.apart;
-  first = asked x.one x.first;
-  second = asked x.other x.second;
+  first = before c x.one x.first;
+  second = before c x.other x.second;
 }
-  where
-    asked : (p : ℕ) → IsAsked w.sites (set phases (k - 1) phase) c p → IsAsked w.sites phases c p
-    asked p at = record {
-      is_port = at.is_port;
-      passive = at.passive;
-      busy = λ idle. elim (cases_eq (chan_at w.sites c p) k) [
-        | inl on ↦ busy (ap (phase_of phases) (sym on) ∙ idle)
-        | inr off ↦ at.busy (at_other phases k (chan_at w.sites c p) phase Idle from (wired.chan_from c p at.is_port) off ∙ idle)
-      ];
-    }
+
+-- what is watched is watched still where one channel changes, but for that channel
+but_one : (w : Wiring) (phases : List Phase) (k : ℕ) (phase : Phase) (notes : Notes) → WellWired w → 0 < k → Watches w.sites phases notes → WatchesBut k w.sites (set phases (k - 1) phase) notes
+but_one w phases k phase notes wired from watches = record {
+  held = watches.held;
+  sole = λ c p mixes asked off.
+      watches.sole c p mixes (same_asked w.sites (set phases (k - 1) phase) phases c p (sym (at_other phases k (chan_at w.sites c p) phase Idle from (wired.chan_from c p asked.is_port) off)) asked);
+}
+
+module _ (w w' : Wiring) (s next : State) (notes : Notes) (same : w' ≡ w) (wired : WellWired w) (watches : Watches w.sites s.phases notes) where
+  but_changed : (k : ℕ) (phase : Phase) → 0 < k → next.phases ≡ set s.phases (k - 1) phase → WatchesBut k w'.sites next.phases notes
+  but_changed k phase from is =
+      subst (λ (v : Wiring). WatchesBut k v.sites next.phases notes) (sym same) (subst (λ (ps : List Phase). WatchesBut k w.sites ps notes) (sym is) (but_one w s.phases k phase notes wired from watches))
+
+  pub but_fired : (c p k : ℕ) (mv : Move) (value : Option ℕ) → 0 < k → Step w.sites s c p k mv value next → WatchesBut k w'.sites next.phases notes
+  but_fired c p k mv value from step = but_changed k (phase_after (phase_of s.phases k) mv value) from (ap (λ (o : State). o.phases) step.next_is)
+
+  pub but_commanded : (verb : Verb) (port : ℕ) (value : Option ℕ) (reply : Reply) → HostStep w s verb port value reply next → WatchesBut port w'.sites next.phases notes
+  but_commanded verb port value reply step = but_changed port (host_after verb value (phase_of s.phases port)) step.port_from (ap (λ (o : State). o.phases) step.next_is)
+
+pub watches_opening : (w : Wiring) (s : State) (notes : Notes) (n : ℕ) → s ≡ opening w → notes.asked ≡ replicate n 0 → Watches w.sites s.phases notes
+watches_opening w s notes n opened none =
+    watches_first w.sites s.phases notes n none (λ k. ap (λ (o : State). phase_of o.phases k) opened ∙ all_idle (length w.chans) (k - 1))
 
 -- no move but a request lets requests meet
 none_met : (w : Wiring) (s next : State) (journal : List Entry) (e : Entry) → Run w (opening w) journal s → Follows w s e next → (old new : Notes) → ((d : ℕ) → Contains old.numbers d ↔ ClashesIn w (opening w) journal d) → ((d : ℕ) → Clashes w.sites next.phases d → Clashes w.sites s.phases d) → new ≡ old → (d : ℕ) → Contains new.numbers d ↔ ClashesIn w (opening w) (journal ++ e ∷ []) d
@@ -168,11 +193,11 @@ asks_met w s next journal who c p k mv value wired run step old new exact noted 
     noted_after w (opening w) s next journal (Fired who c p k mv value) run step old.numbers new.numbers (HoldsPassive w.sites k) exact noted.adds
     (λ d x. end_alone w s.phases k (phase_after (phase_of s.phases k) mv value) wired from d (at_phases w.sites next.phases after d (sym (follows_phases w s (Fired who c p k mv value) next step)) x))
 
-pub clashed_fired : (w : Wiring) (s next : State) (journal : List Entry) (who : Who) (c p k : ℕ) (mv : Move) (value : Option ℕ) → WellWired w → Run w (opening w) journal s → Step w.sites s c p k mv value next → (old new : Notes) → ((d : ℕ) → Contains old.numbers d ↔ ClashesIn w (opening w) journal d) → MeetBefore w.sites s.phases next.phases mv → NotedMove w.sites next.phases old new k mv → (d : ℕ) → Contains new.numbers d ↔ ClashesIn w (opening w) (journal ++ Fired who c p k mv value ∷ []) d
+pub clashed_fired : (w : Wiring) (s next : State) (journal : List Entry) (who : Who) (c p k : ℕ) (mv : Move) (value : Option ℕ) → WellWired w → Run w (opening w) journal s → Step w.sites s c p k mv value next → (old new : Notes) → ((d : ℕ) → Contains old.numbers d ↔ ClashesIn w (opening w) journal d) → AskedBefore w.sites s.phases next.phases mv → NotedMove w.sites next.phases old new k mv → (d : ℕ) → Contains new.numbers d ↔ ClashesIn w (opening w) (journal ++ Fired who c p k mv value ∷ []) d
 clashed_fired w s next journal who c p k move.Ask value wired run step old new exact before noted = asks_met w s next journal who c p k move.Ask value wired run step old new exact noted
-clashed_fired w s next journal who c p k move.Take value wired run step old new exact before noted = none_met w s next journal (Fired who c p k move.Take value) run step old new exact before noted
-clashed_fired w s next journal who c p k move.Reply value wired run step old new exact before noted = none_met w s next journal (Fired who c p k move.Reply value) run step old new exact before noted
-clashed_fired w s next journal who c p k move.Got value wired run step old new exact before noted = none_met w s next journal (Fired who c p k move.Got value) run step old new exact before noted
+clashed_fired w s next journal who c p k move.Take value wired run step old new exact before noted = none_met w s next journal (Fired who c p k move.Take value) run step old new exact (met_before w.sites s.phases next.phases before) noted
+clashed_fired w s next journal who c p k move.Reply value wired run step old new exact before noted = none_met w s next journal (Fired who c p k move.Reply value) run step old new exact (met_before w.sites s.phases next.phases before) noted
+clashed_fired w s next journal who c p k move.Got value wired run step old new exact before noted = none_met w s next journal (Fired who c p k move.Got value) run step old new exact (met_before w.sites s.phases next.phases before) noted
 
 -- whatever the move, there are as many that may be noted
 pub noted_most : (sites : List Site) (phases : List Phase) (old new : Notes) (k : ℕ) (mv : Move) → NotedMove sites phases old new k mv → new.most ≡ old.most

@@ -28,17 +28,17 @@ use Rattle.bz_net.proofs.Hosts.{tied_command, side_from}
 use Rattle.bz_net.proofs.Readiness.{marks_after, changed_by_step, changed_by_host}
 use Rattle.bz_net.proofs.Soundness.{placed_from}
 use Rattle.bz_net.proofs.Soles.{SameStep, same_step}
-use Rattle.bz_model.specs.Clashes.{Clashes}
-use Rattle.bz_net.specs.Noted.{MeetBefore}
-use Rattle.bz_net.proofs.Clashing.{met_before}
+use Rattle.bz_model.specs.Clashes.{IsAsked}
+use Rattle.bz_net.specs.Noted.{AskedBefore}
+use Rattle.bz_net.proofs.Clashing.{asked_before}
 use Rattle.bz_net.proofs.Moving.{busy_before}
 use Rattle.bz_net.proofs.Telling.{chans_kept, told_kept, told_opening, sighted_from, stays_sighted, host_sighted}
 
-met_by : (sites : List Site) (phases phases' : List Phase) (mv : Move) → ((mv ≡ Ask → ⊥) → (d : ℕ) → Clashes sites phases' d → Clashes sites phases d) → MeetBefore sites phases phases' mv
-met_by sites phases phases' Ask before = tt
-met_by sites phases phases' Take before = before (λ e. cc)
-met_by sites phases phases' move.Reply before = before (λ e. cc)
-met_by sites phases phases' Got before = before (λ e. cc)
+asked_by : (sites : List Site) (phases phases' : List Phase) (mv : Move) → ((mv ≡ Ask → ⊥) → (d q : ℕ) → IsAsked sites phases' d q → IsAsked sites phases d q) → AskedBefore sites phases phases' mv
+asked_by sites phases phases' Ask before = tt
+asked_by sites phases phases' Take before = before (λ e. cc)
+asked_by sites phases phases' move.Reply before = before (λ e. cc)
+asked_by sites phases phases' Got before = before (λ e. cc)
 
 module _ (w : Wiring) (phases : List Phase) (comps : List Component) (heres : List (List ℕ)) (ends : List Ends) (old : List Bool) (core : CoreSound w phases comps heres ends old) where
   pub core_placed : Placed w.sites phases comps
@@ -85,13 +85,13 @@ module _ (w : Wiring) (phases : List Phase) (comps : List Component) (heres : Li
     c_to : c ≤ length comps
     c_to = let to = does.steps_at.is_port.comp_to in let len = core.tied.comps_len in omega (arith, to, len)
 
-    -- where it was no request, no requests meet that didn't
-    pub core_met : MeetBefore w.sites phases phases' mv
+    -- where it was no request, no port is asked that wasn't
+    pub core_met : AskedBefore w.sites phases phases' mv
     core_met =
-        met_by w.sites phases phases' mv
-        (λ no_ask d x. met_before w phases k (phase_after (phase_in phases k) mv value) core.wired k_from
-        (busy_before w.sites phases comps heres c p k mv value does.rest core_sighted does.steps_at.is_port does.chan_is does.moves does.turns no_ask) d
-        (subst (λ (f : List Phase). Clashes w.sites f d) does.phases_is x))
+        asked_by w.sites phases phases' mv
+        (λ no_ask d q x. asked_before w phases k (phase_after (phase_in phases k) mv value) core.wired k_from
+        (busy_before w.sites phases comps heres c p k mv value does.rest core_sighted does.steps_at.is_port does.chan_is does.moves does.turns no_ask) d q
+        (subst (λ (f : List Phase). IsAsked w.sites f d q) does.phases_is x))
 
     pub core_moved : CoreSound w phases' comps' heres' ends new
     core_moved = record {

@@ -1,5 +1,5 @@
 -- What a net keeps is kept by each event.
-use Rattle.std.proofs.Common.{◌≡◌, ℕ, ◌<◌, Option, List, [], ◌∷◌, ◌++◌, length, refl, subst, ◌∙◌, arith, length-append}
+use Rattle.std.proofs.Common.{◌≡◌, ℕ, ◌<◌, Option, List, [], ◌∷◌, ◌++◌, length, replicate, refl, subst, ◌∙◌, arith, length-append}
 use Rattle.bz_model.specs.declared.channel.Move.{Move}
 use Rattle.bz_model.specs.declared.event.Entry.{Entry}
 use Rattle.bz_model.specs.declared.event.Entry.TheVariants.{Fired, Host, Rested}
@@ -15,19 +15,21 @@ use Rattle.bz_net.specs.Simulation.{Simulation}
 use Rattle.bz_net.specs.Replies.{RefusesEntry, RefusesFire, RefusesLowest}
 use Rattle.bz_flat.specs.Wires.{WellWired}
 use Rattle.bz_net.specs.Keeping.{Keeps}
-use Rattle.bz_net.specs.Noted.{Notes, MeetBefore, NotedAt, NotedMove}
-use Rattle.bz_net.proofs.Clashing.{clashed_fired, clashed_commanded, clashed_rested, clashed_opening, noted_most}
+use Rattle.bz_net.specs.Noted.{Notes, AskedBefore, NotedAt, NotedMove}
+use Rattle.bz_net.proofs.Clashing.{clashed_fired, clashed_commanded, clashed_rested, clashed_opening, noted_most, watches_opening}
+use Rattle.bz_net.proofs.Asking.{watches_after}
 use Rattle.bz_net.specs.Unbroken.{IsUnbroken}
 use Rattle.bz_net.proofs.Opening.{unbroken_opening}
 use Rattle.bz_net.proofs.Soundness.{Run-push, UnbrokenRun-last, UnbrokenRun-push}
 
-pub keeps_opening : (w : Wiring) (s : State) (journal : List Entry) (limit : ℕ) (notes : Notes) → WellWired w → s ≡ opening w → journal ≡ [] → notes.numbers ≡ [] → notes.most ≡ length w.sites → Keeps w s journal limit notes
-keeps_opening w s journal limit notes wired opened none unnoted most = rw none (record {
+pub keeps_opening : (w : Wiring) (s : State) (journal : List Entry) (limit : ℕ) (notes : Notes) → WellWired w → s ≡ opening w → journal ≡ [] → notes.numbers ≡ [] → notes.most ≡ length w.sites → notes.asked ≡ replicate (length w.sites) 0 → Keeps w s journal limit notes
+keeps_opening w s journal limit notes wired opened none unnoted most unasked = rw none (record {
   wired = wired;
   run = opened;
   unbroken = (unbroken_opening w, opened);
   within = omega arith;
   most = most;
+  watches = watches_opening w s notes (length w.sites) opened unasked;
   clashed = clashed_opening w notes.numbers unnoted;
 })
 
@@ -35,7 +37,7 @@ keeps_opening w s journal limit notes wired opened none unnoted most = rw none (
 pub keeps_same : (w w' : Wiring) (s s' : State) (journal journal' : List Entry) (limit : ℕ) (notes notes' : Notes) → w' ≡ w → s' ≡ s → journal' ≡ journal → notes' ≡ notes → Keeps w s journal limit notes → Keeps w' s' journal' limit notes'
 keeps_same w w' s s' journal journal' limit notes notes' e f g h keeps = rw (e, f, g, h) keeps
 
-pub keeps_fired : (w w' : Wiring) (s next : State) (journal : List Entry) (limit : ℕ) (old new : Notes) (who : Who) (c p k : ℕ) (mv : Move) (value : Option ℕ) → w' ≡ w → Keeps w s journal limit old → length journal < limit → Step w.sites s c p k mv value next → IsUnbroken next → MeetBefore w.sites s.phases next.phases mv → NotedMove w'.sites next.phases old new k mv → Keeps w' next (journal ++ Fired who c p k mv value ∷ []) limit new
+pub keeps_fired : (w w' : Wiring) (s next : State) (journal : List Entry) (limit : ℕ) (old new : Notes) (who : Who) (c p k : ℕ) (mv : Move) (value : Option ℕ) → w' ≡ w → Keeps w s journal limit old → length journal < limit → Step w.sites s c p k mv value next → IsUnbroken next → AskedBefore w.sites s.phases next.phases mv → NotedMove w'.sites next.phases old new k mv → Keeps w' next (journal ++ Fired who c p k mv value ∷ []) limit new
 keeps_fired w w' s next journal limit old new who c p k mv value same keeps place step whole before noted =
     let here : NotedMove w.sites next.phases old new k mv = subst (λ (v : Wiring). NotedMove v.sites next.phases old new k mv) same noted in
     rw same (record {
@@ -44,6 +46,7 @@ keeps_fired w w' s next journal limit old new who c p k mv value same keeps plac
       unbroken = UnbrokenRun-push w (opening w) journal s (Fired who c p k mv value) next keeps.unbroken step whole;
       within = simp length-append (omega arith);
       most = noted_most w.sites next.phases old new k mv here ∙ keeps.most;
+      watches = watches_after w.sites s.phases next.phases old new k mv keeps.watches before here;
       clashed = clashed_fired w s next journal who c p k mv value keeps.wired keeps.run step old new keeps.clashed before here;
     })
 
@@ -56,6 +59,7 @@ keeps_commanded w w' s next journal limit old new who verb port value reply same
       unbroken = UnbrokenRun-push w (opening w) journal s (Host who verb port value reply) next keeps.unbroken step whole;
       within = simp length-append (omega arith);
       most = here.most ∙ keeps.most;
+      watches = here.watches;
       clashed = clashed_commanded w s next journal who verb port value reply keeps.wired keeps.run step old new keeps.clashed here;
     })
 
@@ -66,6 +70,7 @@ keeps_rested w s journal limit notes who keeps place rest = record {
   unbroken = UnbrokenRun-push w (opening w) journal s (Rested who) s keeps.unbroken (rest, refl) (UnbrokenRun-last w (opening w) journal s keeps.unbroken);
   within = simp length-append (omega arith);
   most = keeps.most;
+  watches = keeps.watches;
   clashed = clashed_rested w s journal who keeps.run rest notes keeps.clashed;
 }
 

@@ -11,12 +11,13 @@ use Rattle.bz_model.specs.Hosts.{HostStep}
 use Rattle.bz_model.specs.Runs.{Follows, Rest}
 use Rattle.bz_flat.specs.Wires.{WellWired}
 use Rattle.bz_net.specs.declared.event.RunEnd.TheVariants as ended
-use Rattle.bz_net.specs.Noted.{Notes, MeetBefore, NotedAt, NotedMove}
-use Rattle.bz_net.specs.Progress.{Progress, IsToldBy, LeadsOn, Enters, RunsInto, with_journal}
+use Rattle.bz_net.specs.Noted.{Notes, AskedBefore, NotedAt, NotedMove}
+use Rattle.bz_net.specs.Progress.{Progress, IsToldBy, LeadsOn, Enters, PlaysWell, RunsInto, with_journal}
 use Rattle.bz_net.specs.Replies.{IsPicked}
 use Rattle.bz_net.specs.Running.{Plays}
 use Rattle.bz_net.specs.Simulation.{Adds}
-use Rattle.bz_net.proofs.Clashing.{clashed_fired, clashed_commanded, clashed_rested, clashed_opening}
+use Rattle.bz_net.proofs.Clashing.{clashed_fired, clashed_commanded, clashed_rested, clashed_opening, noted_most}
+use Rattle.bz_net.proofs.Asking.{watches_after}
 use Rattle.bz_net.proofs.Playing.{plays_more}
 use Rattle.bz_net.proofs.Soundness.{Run-push}
 
@@ -41,7 +42,7 @@ enters old new e wiring follows left leads = record {
 }
 
 module _ (w w' : Wiring) (s next : State) (old new : Notes) (left left' : ℕ) (same : w' ≡ w) (wired : WellWired w) (one : left ≡ left' + 1) where
-  pub enters_fired : (who : Who) (c p k : ℕ) (mv : Move) (value : Option ℕ) → Step w.sites s c p k mv value next → MeetBefore w.sites s.phases next.phases mv → NotedMove w'.sites next.phases old new k mv → Enters (progress w s old left) (Fired who c p k mv value) (progress w' next new left')
+  pub enters_fired : (who : Who) (c p k : ℕ) (mv : Move) (value : Option ℕ) → Step w.sites s c p k mv value next → AskedBefore w.sites s.phases next.phases mv → NotedMove w'.sites next.phases old new k mv → Enters (progress w s old left) (Fired who c p k mv value) (progress w' next new left')
   enters_fired who c p k mv value step before noted =
       let here : NotedMove w.sites next.phases old new k mv = subst (λ (v : Wiring). NotedMove v.sites next.phases old new k mv) same noted in
       let leads : LeadsOn (progress w s old left) (Fired who c p k mv value ∷ []) (progress w next new left') = λ journal told. record {
@@ -65,6 +66,21 @@ enters_rested w s notes left left' who one rests = enters (progress w s notes le
       run = Run-push w (opening w) journal s (Rested who) s told.run (rests, refl);
       clashed = clashed_rested w s journal who told.run rests notes told.clashed;
     })
+
+-- what such a net keeps is kept by each event
+pub plays_fired : (w w' : Wiring) (s next : State) (old new : Notes) (k : ℕ) (mv : Move) → w' ≡ w → PlaysWell w s old → AskedBefore w.sites s.phases next.phases mv → NotedMove w'.sites next.phases old new k mv → PlaysWell w' next new
+plays_fired w w' s next old new k mv same plays before noted =
+    let here : NotedMove w.sites next.phases old new k mv = subst (λ (v : Wiring). NotedMove v.sites next.phases old new k mv) same noted in
+    subst (λ (v : Wiring). PlaysWell v next new) (sym same) (record {
+      wired = plays.wired;
+      most = noted_most w.sites next.phases old new k mv here ∙ plays.most;
+      watches = watches_after w.sites s.phases next.phases old new k mv plays.watches before here;
+    })
+
+pub plays_commanded : (w w' : Wiring) (s next : State) (old new : Notes) (port : ℕ) → w' ≡ w → PlaysWell w s old → NotedAt w'.sites next.phases old new port → PlaysWell w' next new
+plays_commanded w w' s next old new port same plays noted =
+    let here : NotedAt w.sites next.phases old new port = subst (λ (v : Wiring). NotedAt v.sites next.phases old new port) same noted in
+    subst (λ (v : Wiring). PlaysWell v next new) (sym same) (record { wired = plays.wired; most = here.most ∙ plays.most; watches = here.watches })
 
 -- so many firings so far, and the buffer has their entries
 pub record Firing (old new : Progress) (held now : List Entry) (who : Who) (from fired next : ℕ) : Type 0 where

@@ -17,7 +17,7 @@ use Rattle.bz_model.specs.Rows.{MeetsRow}
 use Rattle.bz_model.specs.Processes.{start_of}
 use Rattle.bz_flat.specs.Wires.{WellWired, at_side, ends_in}
 use Rattle.bz_model.specs.Clashes.{ClashesIn}
-use Rattle.bz_net.specs.Noted.{Notes}
+use Rattle.bz_net.specs.Noted.{Notes, Watches}
 use Rattle.bz_net.specs.Unbroken.{UnbrokenRun}
 
 abbrev pub proc_of : Component → Proc
@@ -123,4 +123,5 @@ pub record Keeps (w : Wiring) (s : State) (journal : List Entry) (limit : ℕ) (
   pub unbroken : UnbrokenRun w (opening w) journal s
   pub within : length journal ≤ limit
   pub most : notes.most ≡ length w.sites
+  pub watches : Watches w.sites s.phases notes
   pub clashed : (c : ℕ) → Contains notes.numbers c ↔ ClashesIn w (opening w) journal c

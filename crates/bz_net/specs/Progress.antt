@@ -16,7 +16,7 @@ use Rattle.bz_net.specs.declared.event.RestReply.{RestReply}
 use Rattle.bz_net.specs.declared.event.RestReply.TheVariants as asked
 use Rattle.bz_net.specs.declared.event.RunEnd.{RunEnd}
 use Rattle.bz_net.specs.declared.event.RunEnd.TheVariants.{Spent}
-use Rattle.bz_net.specs.Noted.{Notes}
+use Rattle.bz_net.specs.Noted.{Notes, Watches}
 use Rattle.bz_net.specs.Running.{Plays, Ran}
 use Rattle.bz_net.specs.Replies.{IsFiring, IsSoleStep}
 use Rattle.bz_net.specs.Simulation.{Simulation, Adds}
@@ -80,6 +80,7 @@ pub record RunsInto (old new : Progress) (held now : List Entry) (who : Who) (fr
   pub ran : (journal : List Entry) → RanTo (with_journal old journal) (with_journal new (journal ++ entries)) who from due piece.next piece.end
 
 -- what such a net keeps
-pub record PlaysWell (w : Wiring) (notes : Notes) : Type 0 where
+pub record PlaysWell (w : Wiring) (s : State) (notes : Notes) : Type 0 where
   pub wired : WellWired w
   pub most : notes.most ≡ length w.sites
+  pub watches : Watches w.sites s.phases notes

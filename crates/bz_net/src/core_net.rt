@@ -12,7 +12,7 @@ ghost use Rattle.bz_flat.specs.Wires.{IsEnd, WellWired};
 ghost use Rattle.bz_net.specs.Core.{IsSole};
 ghost use Rattle.bz_net.specs.Due.{Foresees, GivesAsSteps, HasStep, IsSoleDue, TellsDue};
 ghost use Rattle.bz_net.specs.Ends.{TellsEnds, TellsPort, IsSolePort};
-ghost use Rattle.bz_net.specs.Noted.{MeetBefore, NotedAt, NotedMove};
+ghost use Rattle.bz_net.specs.Noted.{AskedBefore, NotedAt, NotedMove, WatchesBut};
 ghost use Rattle.bz_net.specs.Sides.{answers};
 ghost use Rattle.bz_net.specs.Told.{MayMove, MovesAt};
 ghost use Rattle.bz_net.specs.Unbroken.{IsUnbroken};
@@ -358,7 +358,7 @@ impl Core {
         ensures sole { IsSole self.old self.new comp result.3 result.0 result.1 result.2 }
         ensures from { 0 < result.0 }
         ensures to { result.0 ≤ length self.old.wiring.chans }
-        ensures met { MeetBefore self.old.wiring.sites self.old.state.phases self.new.state.phases result.1 }
+        ensures met { AskedBefore self.old.wiring.sites self.old.state.phases self.new.state.phases result.1 }
         ensures unbroken { IsUnbroken self.new.state }
     {
         move_comp(
@@ -381,7 +381,7 @@ impl Core {
         ensures sole { IsSole self.old self.new comp port result.0 result.1 result.2 }
         ensures from { 0 < result.0 }
         ensures to { result.0 ≤ length self.old.wiring.chans }
-        ensures met { MeetBefore self.old.wiring.sites self.old.state.phases self.new.state.phases result.1 }
+        ensures met { AskedBefore self.old.wiring.sites self.old.state.phases self.new.state.phases result.1 }
         ensures unbroken { IsUnbroken self.new.state }
     {
         let (chan, mv, value, _) = self.fire(comp, Some(port));
@@ -416,10 +416,11 @@ impl Core {
         requires from { 0 < chan }
         requires to { chan ≤ length self.now.wiring.chans }
         requires most { noted.old.most ≡ length self.now.wiring.sites }
+        requires watches { WatchesBut chan self.now.wiring.sites self.now.state.phases noted.old }
         ensures { NotedAt self.now.wiring.sites self.now.state.phases noted.old noted.new chan }
     {
         let pair = self.ends[chan as usize - 1];
-        note_clash(&self.sites, &self.phases, noted, pair.passive);
+        note_clash(&self.sites, &self.phases, noted, chan, pair.passive);
     }
 
     /// The same after a move on the channel: where it was no request, or where requests meet nowhere, none can have met by it.
@@ -428,6 +429,7 @@ impl Core {
         requires from { 0 < chan }
         requires to { chan ≤ length self.now.wiring.chans }
         requires most { noted.old.most ≡ length self.now.wiring.sites }
+        requires watches { WatchesBut chan self.now.wiring.sites self.now.state.phases noted.old }
         ensures { NotedMove self.now.wiring.sites self.now.state.phases noted.old noted.new chan mv }
     {
         match mv {

@@ -1,12 +1,12 @@
 //! Reads of components and of channels, over the lists that a net keeps, and what a host command does to a phase.
 
-ghost use Rattle.std.specs.Prelude.{true, false, ◌≡◌, ◌≤◌, ◌<◌, ◌^◌, ℕ, suc, length, map, [], MatchOption, MatchBool, IfOk, IfSome};
+ghost use Rattle.std.specs.Prelude.{true, false, ◌≡◌, ◌≢◌, ◌≤◌, ◌<◌, ◌^◌, ℕ, suc, length, map, [], MatchOption, MatchBool, IfOk, IfSome};
 ghost use Rattle.bz_model.specs.Heads.{HasOneHead};
 ghost use Rattle.bz_model.specs.Nets.{IsPort, StepsAt, chan_at, proc_at, site_at};
 ghost use Rattle.bz_model.specs.Hosts.{reply_to, host_after, received, refusal_at};
 ghost use Rattle.bz_flat.specs.Flats.{site_of};
-ghost use Rattle.bz_model.specs.Clashes.{is_mixer, IsAsked, Clashes};
-ghost use Rattle.bz_net.specs.Noted.{NoneMixes, NotedEnd};
+ghost use Rattle.bz_model.specs.Clashes.{is_mixer, phase_of};
+ghost use Rattle.bz_net.specs.Noted.{NoneMixes, HasSoleEnds, IsHolder, NotedAt, WatchesBut};
 ghost use Rattle.bz_net.specs.Due.{Foresees, IsSoleDue, TellsDue, next_of};
 ghost use Rattle.bz_net.specs.Ends.{IsPortIn};
 ghost use Rattle.bz_net.specs.Sides.{answers, sends};
@@ -18,7 +18,6 @@ use crate::node::{Node, node_id, site_in};
 use crate::noted::Noted;
 use bz_arena::{Arena, Id};
 use bz_flat::{Ends, FlatComp};
-use bz_kind_rows::is_passive;
 use bz_model::{Kind, Move, Names, NetError, Phase, Reply, Value, Verb};
 
 /// The channel at a component's port.
@@ -140,62 +139,14 @@ pub(crate) fn mixes(sites: &Arena<FlatComp>) -> bool
     false
 }
 
-/// Whether a component's port is passive and its channel isn't idle.
-fn is_asked(sites: &Arena<FlatComp>, phases: &Phases, comp: u32, port: u32) -> bool
-    requires reads { ReadsChans (map site_of sites.now) phases.now }
-    ensures { MatchBool result
-        (IsAsked (map site_of sites.now) phases.now comp port)
-        (IsAsked (map site_of sites.now) phases.now comp port → ⊥) }
-{
-    match chan_of(sites, comp, port) {
-        None => false,
-        Some(chan) => {
-            let site = site_in(sites, comp);
-            is_passive(&site.kind, site.sizes, port)
-                && !matches!(phases.get(chan as usize - 1), Phase::Idle)
-        }
-    }
-}
-
-/// Whether two requests meet at a component.
+// Whether a channel isn't idle.
 #[inline(always)]
-fn has_clash(sites: &Arena<FlatComp>, phases: &Phases, comp: u32) -> bool
-    requires reads { ReadsChans (map site_of sites.now) phases.now }
-    requires from { 0 < comp }
-    requires to { comp ≤ length sites.now }
-    ensures { MatchBool result
-        (Clashes (map site_of sites.now) phases.now comp)
-        (Clashes (map site_of sites.now) phases.now comp → ⊥) }
+fn is_busy(phases: &Phases, chan: u32) -> bool
+    requires from { 0 < chan }
+    requires to { chan ≤ length phases.now }
+    ensures { MatchBool result (phase_of phases.now chan ≢ Phase.Idle) (phase_of phases.now chan ≡ Phase.Idle) }
 {
-    if !is_mixer(&site_in(sites, comp).kind) {
-        return false;
-    }
-    is_asked_twice(sites, phases, comp)
-}
-
-// The same of a component at which requests may meet.
-#[cold]
-#[inline(never)]
-fn is_asked_twice(sites: &Arena<FlatComp>, phases: &Phases, comp: u32) -> bool
-    requires reads { ReadsChans (map site_of sites.now) phases.now }
-    requires from { 0 < comp }
-    requires to { comp ≤ length sites.now }
-    requires mixes { is_mixer (site_at (map site_of sites.now) comp).kind ≡ true }
-    ensures { MatchBool result
-        (Clashes (map site_of sites.now) phases.now comp)
-        (Clashes (map site_of sites.now) phases.now comp → ⊥) }
-{
-    let ports = site_in(sites, comp).chans.len() as u32;
-    let mut found = 0;
-    for i in 0..ports {
-        if is_asked(sites, phases, comp, i + 1) {
-            if found > 0 {
-                return true;
-            }
-            found = i + 1;
-        }
-    }
-    false
+    !matches!(phases.get(chan as usize - 1), Phase::Idle)
 }
 
 /// Notes the component at the passive end of a channel, where two requests meet there.
@@ -204,17 +155,53 @@ pub(crate) fn note_clash(
     sites: &Arena<FlatComp>,
     phases: &Phases,
     noted: &mut Noted,
+    chan: u32,
     end: Option<u32>,
 )
     requires reads { ReadsChans (map site_of sites.now) phases.now }
+    requires ends { HasSoleEnds (map site_of sites.now) }
+    requires from { 0 < chan }
+    requires to { chan ≤ length phases.now }
+    requires holder { IsHolder (map site_of sites.now) chan end }
     requires end { IfSome end (λ c. (0 < c) × (c ≤ length sites.now)) }
     requires most { noted.old.most ≡ length sites.now }
-    ensures { NotedEnd (map site_of sites.now) phases.now noted.old noted.new end }
+    requires watches { WatchesBut chan (map site_of sites.now) phases.now noted.old }
+    ensures { NotedAt (map site_of sites.now) phases.now noted.old noted.new chan }
 {
     if let Some(comp) = end {
-        if has_clash(sites, phases, comp) {
-            noted.note(comp);
+        if is_mixer(&site_in(sites, comp).kind) {
+            note_request(sites, phases, noted, chan, comp);
         }
+    }
+}
+
+// The same of a component at which requests may meet. Where none met there yet, no channel to it but the last one is busy.
+#[inline(never)]
+fn note_request(sites: &Arena<FlatComp>, phases: &Phases, noted: &mut Noted, chan: u32, comp: u32)
+    requires reads { ReadsChans (map site_of sites.now) phases.now }
+    requires ends { HasSoleEnds (map site_of sites.now) }
+    requires from { 0 < chan }
+    requires to { chan ≤ length phases.now }
+    requires holder { IsHolder (map site_of sites.now) chan (Some comp) }
+    requires comp_from { 0 < comp }
+    requires comp_to { comp ≤ length sites.now }
+    requires mixes { is_mixer (site_at (map site_of sites.now) comp).kind ≡ true }
+    requires most { noted.old.most ≡ length sites.now }
+    requires watches { WatchesBut chan (map site_of sites.now) phases.now noted.old }
+    ensures { NotedAt (map site_of sites.now) phases.now noted.old noted.new chan }
+{
+    if !is_busy(phases, chan) {
+        return;
+    }
+    let last = noted.asked_last(comp);
+    if last == 0 || last == chan {
+        noted.ask(comp, chan);
+        return;
+    }
+    if is_busy(phases, last) {
+        noted.note(comp);
+    } else {
+        noted.ask(comp, chan);
     }
 }
 

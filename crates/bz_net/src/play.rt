@@ -60,7 +60,7 @@ impl Model for Play {
 
     ghost use Rattle.bz_net.specs.Progress.{PlaysWell};
 
-    ghost invariant = { λ n. PlaysWell n.core.wiring n.noted };
+    ghost invariant = { λ n. PlaysWell n.core.wiring n.core.state n.noted };
 }
 
 impl Play {

@@ -5,7 +5,7 @@ use Rattle.bz_flat.specs.Wires.{ends_in}
 use Rattle.bz_net.specs.Core.{Standing}
 use Rattle.bz_net.specs.Keeping.{RefreshedEnds, state_of}
 use Rattle.bz_net.specs.Told.{MayMove, MovesAt, Turned}
-use Rattle.bz_net.specs.Noted.{MeetBefore}
+use Rattle.bz_net.specs.Noted.{AskedBefore}
 use Rattle.bz_net.proofs.Cores.{core_met, core_placed, core_sighted, core_stays, core_moved, core_sole, core_step}
 use Rattle.bz_net.proofs.Telling.{all_are_ends}
 use Rattle.bz_net.specs.Nodes.{comps_of, heres_of}
@@ -95,7 +95,7 @@ returns-clause-met c =
     c.move_comp.ensures.told in
     let refreshed : RefreshedEnds w.sites (state_of d.phases (comps_of d.nodes)) n.ready d.ready (ends_in n.ends.items r.0) =
     rw c.deref.ensures.value at c.move_comp.ensures.refreshed in
-    subst (λ (v : Standing). MeetBefore v.wiring.sites v.state.phases d.phases r.1) c.self.view_is
+    subst (λ (v : Standing). AskedBefore v.wiring.sites v.state.phases d.phases r.1) c.self.view_is
     (core_met w n.phases (comps_of n.nodes) (heres_of n.nodes) n.ends.items n.ready c.self.invariant.0 d.phases (comps_of d.nodes) (heres_of d.nodes) d.ready c.args.comp r.3 r.0 r.1 r.2 told refreshed)
 
 pub move_comp-requires-clause-may : goal.move_comp-requires-clause-may

@@ -3,6 +3,7 @@ use Rattle.bz_model.specs.Nets.{Wiring, Step, StepsAt, chan_in}
 use Rattle.bz_model.specs.Widths.{FitsOn}
 use Rattle.bz_model.specs.declared.event.Entry.TheVariants.{Fired}
 use Rattle.bz_net.specs.Simulation.{Simulation}
+use Rattle.bz_net.proofs.Clashing.{but_fired}
 use Rattle.bz_net.proofs.Kept.{keeps_fired}
 use Rattle.bz_net.proofs.Soundness.{step_fits}
 use Rattle.bz_net.proofs.net.Net.fire_at.Goals as goal
@@ -17,6 +18,11 @@ note_move-requires-clause-to c = subst (λ (w : Wiring). c.fire_at-chan.result.0
 
 pub note_move-requires-clause-most : goal.note_move-requires-clause-most
 note_move-requires-clause-most c = c.self.invariant.most ∙ ap (λ (w : Wiring). length w.sites) (sym c.fire_at-chan.ensures.wiring)
+
+pub note_move-requires-clause-watches : goal.note_move-requires-clause-watches
+note_move-requires-clause-watches c =
+    let n = c.self.inside in let r = c.fire_at-chan.result in let core = c.fire_at-chan.new.self in
+    but_fired n.core.wiring core.wiring n.core.state core.state n.noted c.fire_at-chan.ensures.wiring c.self.invariant.wired c.self.invariant.watches c.args.comp c.args.port r.0 r.1 r.2 c.fire_at-chan.ensures.from c.fire_at-chan.ensures.step
 
 pub invariant_of-self : goal.invariant_of-self
 invariant_of-self c =

@@ -3,7 +3,8 @@ use Rattle.bz_model.specs.declared.event.Entry.TheVariants.{Host}
 use Rattle.bz_model.specs.Hosts.{refusal_at}
 use Rattle.bz_model.specs.Nets.{Wiring}
 use Rattle.bz_net.specs.Progress.{Progress, Enters}
-use Rattle.bz_net.proofs.Pieces.{enters_commanded, progress}
+use Rattle.bz_net.proofs.Clashing.{but_commanded}
+use Rattle.bz_net.proofs.Pieces.{enters_commanded, plays_commanded, progress}
 use Rattle.bz_net.proofs.play.Play.command_at.Goals as goal
 
 pub command-reply-requires-clause-to : goal.command-reply-requires-clause-to
@@ -17,6 +18,16 @@ note_clash-requires-clause-to c = subst (λ (w : Wiring). c.args.port ≤ length
 
 pub note_clash-requires-clause-most : goal.note_clash-requires-clause-most
 note_clash-requires-clause-most c = c.self.invariant.most ∙ ap (λ (w : Wiring). length w.sites) (sym c.command-reply.ensures.wiring)
+
+pub note_clash-requires-clause-watches : goal.note_clash-requires-clause-watches
+note_clash-requires-clause-watches c =
+    let n = c.self.inside in let core = c.command-reply.new.self in
+    but_commanded n.core.wiring core.wiring n.core.state core.state n.noted c.command-reply.ensures.wiring c.self.invariant.wired c.self.invariant.watches c.args.verb c.args.port c.args.value c.command-reply.result c.command-reply.ensures.step
+
+pub invariant_of-self : goal.invariant_of-self
+invariant_of-self c =
+    let n = c.self.inside in let core = c.command-reply.new.self in
+    plays_commanded n.core.wiring core.wiring n.core.state core.state n.noted c.note_clash.new.noted c.args.port c.command-reply.ensures.wiring c.self.invariant c.note_clash.ensures
 
 pub returns-clause-enters : goal.returns-clause-enters
 returns-clause-enters c =

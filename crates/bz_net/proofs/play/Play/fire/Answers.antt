@@ -3,7 +3,8 @@ use Rattle.bz_model.specs.declared.event.Entry.TheVariants.{Fired}
 use Rattle.bz_model.specs.Nets.{Wiring, Step}
 use Rattle.bz_net.specs.Progress.{Progress, Enters}
 use Rattle.bz_net.specs.Told.{MayMove, MovesAt}
-use Rattle.bz_net.proofs.Pieces.{enters_fired, progress}
+use Rattle.bz_net.proofs.Clashing.{but_fired}
+use Rattle.bz_net.proofs.Pieces.{enters_fired, plays_fired, progress}
 use Rattle.bz_net.proofs.play.Play.fire.Goals as goal
 
 pub fire-chan-requires : goal.fire-chan-requires
@@ -14,6 +15,16 @@ note_move-requires-clause-to c = subst (λ (w : Wiring). c.fire-chan.result.0 �
 
 pub note_move-requires-clause-most : goal.note_move-requires-clause-most
 note_move-requires-clause-most c = c.self.invariant.most ∙ ap (λ (w : Wiring). length w.sites) (sym c.fire-chan.ensures.wiring)
+
+pub note_move-requires-clause-watches : goal.note_move-requires-clause-watches
+note_move-requires-clause-watches c =
+    let n = c.self.inside in let r = c.fire-chan.result in let core = c.fire-chan.new.self in
+    but_fired n.core.wiring core.wiring n.core.state core.state n.noted c.fire-chan.ensures.wiring c.self.invariant.wired c.self.invariant.watches c.args.comp r.3 r.0 r.1 r.2 c.fire-chan.ensures.from c.fire-chan.ensures.step
+
+pub invariant_of-self : goal.invariant_of-self
+invariant_of-self c =
+    let n = c.self.inside in let r = c.fire-chan.result in let core = c.fire-chan.new.self in
+    plays_fired n.core.wiring core.wiring n.core.state core.state n.noted c.note_move.new.noted r.0 r.1 c.fire-chan.ensures.wiring c.self.invariant c.fire-chan.ensures.met c.note_move.ensures
 
 pub returns-clause-enters : goal.returns-clause-enters
 returns-clause-enters c =
