@@ -95,7 +95,7 @@ module _ (p : ℕ) where
     | inr ne ↦ inl (
       free 0 (omega arith) ne,
       beside-all n (λ i. f (suc i)) (λ i. g (suc i)) K a (λ i j e. let x = differ (suc i) (suc j) e in omega arith) (λ i lt. free (suc i) (omega arith))
-      (λ i lt. uses (suc i) (omega arith)) (λ others. none (λ i lt. rest others i lt ne)),
+          (λ i lt. uses (suc i) (omega arith)) (λ others. none (λ i lt. rest others i lt ne)),
     )
   ]
     where
@@ -263,17 +263,17 @@ module _ (p : ℕ) where
       λ a runs. chooses n branch member K a (λ i. refl) (λ i j same. omega (arith, same)) runs in
       elim (cases_eq 1 p) [
         | inl is ↦ opens-take 1 1 (Runs p (choice (all n branch)) K) is (chosen (Some true) (λ i lt.
-          let apart : (m : ℕ) → suc (suc m) ≢ p = λ m e. (let x = e ∙ sym is in omega arith) in
-          past-take (member i) 1 (Runs p (seq (call (member (n + i))) (back i)) K) (Some true) (apart i)
-          (skips (member (n + i)) 1 Nothing (Runs p (back i) K) (Some true) (apart (n + i))
-          (inl (past-reply (member i) Nothing (Is None) None (apart i) refl, inr (tt, closes-reply 1 Nothing K is refl))))))
+            let apart : (m : ℕ) → suc (suc m) ≢ p = λ m e. (let x = e ∙ sym is in omega arith) in
+            past-take (member i) 1 (Runs p (seq (call (member (n + i))) (back i)) K) (Some true) (apart i)
+            (skips (member (n + i)) 1 Nothing (Runs p (back i) K) (Some true) (apart (n + i))
+            (inl (past-reply (member i) Nothing (Is None) None (apart i) refl, inr (tt, closes-reply 1 Nothing K is refl))))))
         | inr ne ↦ past-take 1 1 (Runs p (choice (all n branch)) K) (Some false) ne (chosen (Some false) (λ i lt. elim (cases_eq (member i) p) [
           | inl is ↦ opens-take (member i) 1 (Runs p (seq (call (member (n + i))) (back i)) K) is
-            (skips (member (n + i)) 1 Nothing (Runs p (back i) K) (Some true) (λ e. let x = e ∙ sym is in omega arith)
-            (inr ((past-reply 1 Nothing (Is None) None ne refl, tt), closes-reply (member i) Nothing K is refl)))
+              (skips (member (n + i)) 1 Nothing (Runs p (back i) K) (Some true) (λ e. let x = e ∙ sym is in omega arith)
+              (inr ((past-reply 1 Nothing (Is None) None ne refl, tt), closes-reply (member i) Nothing K is refl)))
           | inr off ↦ past-take (member i) 1 (Runs p (seq (call (member (n + i))) (back i)) K) (Some false) off
-            (calls (member (n + i)) 1 Nothing (Runs p (back i) K)
-            (inl (past-reply (member i) Nothing (Is None) None off refl, inl (past-reply 1 Nothing (Is None) None ne refl, refl))))
+              (calls (member (n + i)) 1 Nothing (Runs p (back i) K)
+              (inl (past-reply (member i) Nothing (Is None) None off refl, inl (past-reply 1 Nothing (Is None) None ne refl, refl))))
         ]))
       ]
 

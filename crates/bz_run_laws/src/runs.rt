@@ -12,7 +12,8 @@ ghost use Rattle.bz_net.specs.Unbroken.{IsUnbroken, UnbrokenRun};
 /// a channel is broken, nor through one.
 pub fn runs_break_no_channel()
     ensures last { (w : Wiring) (es : List Entry) (last : State) → WellWired w → Run w (opening w) es last → IsUnbroken last }
-    ensures ever { (w : Wiring) (es : List Entry) (last : State) → WellWired w → Run w (opening w) es last → UnbrokenRun w (opening w) es last }
+    ensures ever { (w : Wiring) (es : List Entry) (last : State) → WellWired w → Run w (opening w) es last
+        → UnbrokenRun w (opening w) es last }
 {}
 
 /// In each state that a run leads to, a component can make one move at most at a port.
@@ -23,5 +24,6 @@ pub fn ports_have_one_move()
 
 /// A journal leads from the opening to one state.
 pub fn journals_lead_to_one_state()
-    ensures { (w : Wiring) (es : List Entry) (a b : State) → WellWired w → Run w (opening w) es a → Run w (opening w) es b → a ≡ b }
+    ensures { (w : Wiring) (es : List Entry) (a b : State) → WellWired w
+        → Run w (opening w) es a → Run w (opening w) es b → a ≡ b }
 {}

@@ -22,7 +22,8 @@ pub fn lines_tell_one_run()
 
 /// A text that `check` accepts is the trace of one run.
 pub fn traces_tell_one_run()
-    ensures { (w : Wiring) (text : List ℕ) (one other : IsRunText w text) → WellWired w → (one.entries ≡ other.entries) × (one.last ≡ other.last) }
+    ensures { (w : Wiring) (text : List ℕ) (one other : IsRunText w text) → WellWired w
+        → (one.entries ≡ other.entries) × (one.last ≡ other.last) }
 {}
 
 /// Through no state of the run whose trace `check` accepts is a channel broken.
