@@ -28,13 +28,14 @@ pub fn traces_tell_one_run()
 
 /// Through no state of the run whose trace `check` accepts is a channel broken.
 pub fn traces_break_no_channel()
-    ensures { (w : Wiring) (text : List ℕ) (run : IsRunText w text) → WellWired w → UnbrokenRun w (opening w) run.entries run.last }
+    ensures { (w : Wiring) (text : List ℕ) (run : IsRunText w text) → WellWired w
+        → UnbrokenRun w (opening w) run.entries run.last }
 {}
 
 /// The trace of a run of hosts and workers in range is accepted, in either version.
 pub fn traces_of_runs_are_accepted()
-    ensures second { (w : Wiring) (es : List Entry) (last : State) (text : List ℕ) → Run w (opening w) es last → AllByRecursion HasWho es
-        → length es ≤ max_entries → IsTrace w es text → IsRunText w text }
+    ensures second { (w : Wiring) (es : List Entry) (last : State) (text : List ℕ)
+        → Run w (opening w) es last → AllByRecursion HasWho es → length es ≤ max_entries → IsTrace w es text → IsRunText w text }
     ensures first { (w : Wiring) (es : List Entry) (last : State) → Run w (opening w) es last → AllByRecursion HasWho es
         → length es ≤ max_entries → IsRunText w (trace_text_1 w.ports es) }
 {}
