@@ -93,6 +93,7 @@ aside h2 button { font-size: 11px; font-weight: 400; padding: 0 6px; }
 #journal.words { font-family: inherit; }
 div.row { height: 18px; display: flex; gap: 8px; padding: 0 10px; white-space: pre; cursor: pointer; overflow: hidden; }
 div.row .line { color: var(--dim); min-width: 52px; text-align: right; flex: none; }
+#journal .row span { overflow: hidden; text-overflow: ellipsis; }
 div.row.host { font-weight: 700; }
 div.row.rest { background: var(--resting); }
 div.row.bad { color: var(--clash); }
