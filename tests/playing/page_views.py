@@ -114,7 +114,7 @@ def streams_and_lines(browser, ground):
     page.do(f"void (window.before = {drawn})")
     page.key("ArrowRight")
     run.found("a step draws nothing anew", f"{drawn} === window.before", True)
-    page.click(*page.do(middle(".stream[data-row='k2'] .name")))
+    page.click(*page.do(middle('.stream[data-row="k2"] .name')))
     run.found("a name", SELECTED, "k2")
     run.found("its row", "document.querySelector('.stream.selected').dataset.row", "k2")
     width = page.do(f"Math.round(Number({drawn}.getAttribute('width')))")
@@ -490,19 +490,17 @@ def bundles_at(run, ground, lines):
 
 def focus_at_first(browser, ground):
     """A net begins in focus where the letters of the whole would be too small on this screen."""
-    run = Run(browser, ground, "flat", width=1440, height=900)
+    faults = []
     small = """((width, height) => Math.min(width / breezesim.view.picture.width, height / breezesim.view.picture.height) * 11 < 6)(
         ...(it => [it.width, it.height])(document.getElementById('svg').getBoundingClientRect()))"""
     for width, height in ((1440, 900), (390, 800), (2600, 2200)):
-        run.page.resize(width, height)
-        run.page = run.anew("flat")
-        run.page.resize(width, height)
-        run.page.open(ground.path("flat"), f"#line={width}")
+        run = Run(browser, ground, "flat", "#line=8", width=width, height=height)
         is_focused = run.page.do("breezesim.view.isFocused")
         run.page.do("location.hash = '#line=9&focus=0&fold='")
         run.line("the whole", 9)
         run.faults += is_same(f"focus at {width}", is_focused, run.page.do(small))
-    return run.ended()
+        faults += run.ended()
+    return faults
 
 
 def focus_keeps_places(browser, ground):
