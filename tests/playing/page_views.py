@@ -366,10 +366,10 @@ def no_source(browser, ground):
     run = Run(browser, ground, "two_place", "#line=7")
     hint = "document.querySelector('.source .hint').textContent"
     run.page.key("y")
-    run.found("y", hint, "The source isn't here: two_place.balsa. A page of page --source two_place.balsa has it.")
+    run.found("y", hint, "This page doesn't have the source: two_place.balsa")
     with_source(ground, "sourced", "two_place", {"other.balsa": TWO_PLACE})
     run.anew("sourced", "#line=7&view=source")
-    run.found("another file", f"[{SOURCE}.length, {hint}.slice(0, 22)]", [0, "The source isn't here:"])
+    run.found("another file", f"[{SOURCE}.length, {hint}]", [0, "This page doesn't have the source: two_place.balsa"])
     run.anew("countdown", "#view=source")
     run.found("a netlist that names none", hint, "This netlist names no source.")
     return run.ended()

@@ -104,8 +104,7 @@ function sourceRow({line, text, told, columns, isNow}) {
 function whyNoSource() {
   const files = filesOfNet();
   if (files.length === 0) return 'This netlist names no source.';
-  const how = added.isLive ? 'Drop it here, or load it.' : `A page of page --source ${files[0]} has it.`;
-  return `The source isn't here: ${cut(files.join(', '), 120)}. ${how}`;
+  return `This page doesn't have the source: ${cut(files.join(', '), 120)}${added.isLive ? '. Drop it here, or load it.' : ''}`;
 }
 
 function showSource() {

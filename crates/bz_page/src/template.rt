@@ -6,7 +6,7 @@ pub(crate) const HEAD: &str = r##"<!doctype html>
 <head>
 <meta charset="utf-8">
 <meta name="viewport" content="width=device-width">
-<meta http-equiv="Content-Security-Policy" content="default-src 'none'; style-src 'unsafe-inline'; script-src 'sha256-1UlfEtEuMhFBh2amu11UYK5myY08U7147mgwUCPXyy8='">
+<meta http-equiv="Content-Security-Policy" content="default-src 'none'; style-src 'unsafe-inline'; script-src 'sha256-ZlvLxevF8OhINCbonBaAG2lXpl2dwpFbsHc4vdvxals='">
 <title>breezesim</title>
 <style>
 /* Colours: light, and dark where the reader's system or the reader says so. Phases are told by dashes and marks too. */
@@ -2760,8 +2760,7 @@ function sourceRow({line, text, told, columns, isNow}) {
 function whyNoSource() {
   const files = filesOfNet();
   if (files.length === 0) return 'This netlist names no source.';
-  const how = added.isLive ? 'Drop it here, or load it.' : `A page of page --source ${files[0]} has it.`;
-  return `The source isn't here: ${cut(files.join(', '), 120)}. ${how}`;
+  return `This page doesn't have the source: ${cut(files.join(', '), 120)}${added.isLive ? '. Drop it here, or load it.' : ''}`;
 }
 
 function showSource() {
