@@ -8,6 +8,7 @@ import time
 from .page_looks import is_same
 from .page_nets import NETS
 from .page_plays import RING_SEEN, STUCK_SEEN, Stuck, hostile_netlist, shown, stuck_rows
+from .page_views import SOURCE, TWO_PLACE
 from .tests import EXAMPLES
 
 READY = "document.body.classList.contains('ready')"
@@ -92,11 +93,11 @@ class Stage:
 
     def save(self, what):
         """What is saved by the list of the bar."""
-        self.page.do("void (breezesim.live.saved = null)")
+        self.page.do("void (breezesim.added.saved = null)")
         chosen = f"it.value = '{what}'; it.dispatchEvent(new Event('change'));"
         self.page.do(f"(() => {{ const it = document.getElementById('saving'); {chosen} }})()")
-        self.page.until("Boolean(breezesim.live.saved)", True, SECONDS)
-        return self.page.do("breezesim.live.saved.text")
+        self.page.until("Boolean(breezesim.added.saved)", True, SECONDS)
+        return self.page.do("breezesim.added.saved.text")
 
     def trace(self, what, wanted):
         """The trace has to be this."""
@@ -268,6 +269,51 @@ def sessions(stage):
         stage.trace(f"the session of {name}", stage.explored(name, played))
 
 
+def sources(stage):
+    """A source that places of the net name is shown where control is, also on a page that is saved; streams grow with the trace,
+    and are drawn anew where it becomes another."""
+    stage.choose(f"{EXAMPLES}/two_place.breeze", "file")
+    stage.found("the part", "document.getElementById('part').textContent", "two_place")
+    with tempfile.TemporaryDirectory() as room:
+        path, saved = f"{room}/two_place.balsa", f"{room}/saved.html"
+        with open(path, "w", encoding="utf-8") as file:
+            file.write(TWO_PLACE)
+        stage.choose(path)
+        stage.found("the panel", "breezesim.view.panel", "source")
+        stage.sign("offer:activate", "fire 3 1")
+        rows = [[5, "row", ""], [6, "row active now", "l"], [7, "row", ""]]
+        stage.found("the source", SOURCE, rows)
+        stage.button("anew")
+        stage.sign("offer:activate", "fire 3 1")
+        stage.found("begun anew", SOURCE, rows)
+        with open(saved, "w", encoding="utf-8") as file:
+            file.write(stage.save("whole"))
+        stage.page.key("t")
+        styles = "[...document.querySelectorAll('.stream[data-row=\"k1\"] rect')].map(it => it.getAttribute('class'))"
+        stage.found("streams", styles, ["idle", "asked", "taken"])
+        stage.button("undo")
+        stage.found("undone", styles, ["idle", "asked"])
+        stage.open(saved)
+        stage.found("it is open", RESTING, True)
+        stage.page.key("y")
+        stage.found("a page that was saved", SOURCE, rows)
+
+
+def keys_that_are_taken(stage):
+    """The keys of a page that have another meaning here are there by other ones."""
+    stage.start("buffer")
+    stage.sign("offer:activate")
+    stage.button("run")
+    stage.page.key("E")
+    stage.found("E", "document.getElementById('only').textContent", "host only")
+    stage.page.do("void (breezesim.view.selected = 'c1')")
+    stage.page.key("P")
+    stage.found("P", "breezesim.streams.pinned", ["c1"])
+    line = stage.page.do("breezesim.view.line")
+    stage.page.key("Home", "j")
+    stage.found("j", "breezesim.view.line", line)
+
+
 def traces(stage):
     """A trace that is a run is played, line by line, and can be changed; of any other the notes are shown."""
     stage.start("countdown")
@@ -302,7 +348,7 @@ def refusals(stage):
         stage.found(line, f"{ANSWER}.includes('{wanted}')", True)
         stage.trace(f"after {line}", "trace 2\nh1 offer activate done\n")
     stage.command("trace mine.trace")
-    stage.found("a file that a command names", "breezesim.live.saved.name", "mine.trace")
+    stage.found("a file that a command names", "breezesim.added.saved.name", "mine.trace")
 
 
 def parts(stage):
@@ -405,7 +451,7 @@ def narrow(stage):
 # The plays, and whether each is played in all ways of calling.
 PLAYS = {both_outcomes: True, values: True, deadlock: True, stuck: True, clashes: True, saved_pages: True, sessions: True}
 PLAYS.update({traces: True, long_runs: True, refusals: False, parts: False, pasted: False, hostile_names: False})
-PLAYS.update({stopped: False, narrow: False})
+PLAYS.update({stopped: False, narrow: False, sources: False, keys_that_are_taken: False})
 # Those that look at the picture.
 DRAWN = {narrow}
 

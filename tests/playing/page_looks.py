@@ -28,7 +28,8 @@ PHASES_SEEN = """(() => {
   return seen;
 })()"""
 DRAWN = "[...document.querySelectorAll('.channel[data-channel]')].map(group => group.dataset.channel)"
-VALUES_SEEN = "[...document.querySelectorAll('.value.on text')].map(text => text.textContent).sort()"
+VALUES_SEEN = """[...document.querySelectorAll('.value.on text')].filter(text => !text.closest('.of-bundle'))
+    .map(text => text.textContent).sort()"""
 ALL_SEEN = f"[{PHASES_SEEN}, {VALUES_SEEN}]"
 MARKS_SEEN = """(() => {
   const numbers = style => [...document.querySelectorAll('.component' + style)].map(group => group.dataset.component).sort();

@@ -11,10 +11,12 @@ END = re.compile(r"\d+ waits?, \d+ can move, \d+ idle")
 
 @dataclass
 class Wanted:
-    """A net and its trace: ends of channels, kinds, and behind each line (from 1) the phase and value of each channel that is not
-    idle."""
+    """A net and its trace: ends and kinds of channels, names of ports, kinds of components, and behind each line (from 1) the phase
+    and value of each channel that is not idle."""
 
     ends: dict = field(default_factory=dict)
+    channels: dict = field(default_factory=dict)
+    names: dict = field(default_factory=dict)
     kinds: dict = field(default_factory=dict)
     lines: list = field(default_factory=list)
     states: list = field(default_factory=list)
@@ -82,7 +84,9 @@ def lines_of(program, part, netlist, trace):
     for words in map(str.split, program.run(["list", *part, "--paths", "--netlist", netlist]).output.decode().splitlines()):
         if words[0] == "channel":
             at = 3 if words[2] == "sync" else 4
-            wanted.ends[words[1]] = words[at : at + 2]
+            wanted.ends[words[1]], wanted.channels[words[1]] = words[at : at + 2], words[2]
+        elif words[0] == "port":
+            wanted.names[words[1]] = words[2]
         elif words[0] == "component":
             wanted.kinds[words[1]] = words[2]
     with open(trace, encoding="ascii") as file:

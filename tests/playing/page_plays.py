@@ -207,7 +207,7 @@ def drag_and_wheel(browser, ground):
 def links(browser, ground):
     run = Run(browser, ground, "arbiter_tree", "#line=30&at=k7&view=chart&theme=dark&fold=1,3&find=fire%205")
     page = run.page
-    run.found("a link", f"[{LINE}, {SELECTED}, breezesim.view.isCharted]", [30, "k7", True])
+    run.found("a link", f"[{LINE}, {SELECTED}, breezesim.view.panel]", [30, "k7", "chart"])
     run.found("its theme", "document.documentElement.dataset.theme", "dark")
     run.found("its copies", "[...document.querySelectorAll('.folded')].map(it => it.dataset.copy).sort()", ["1", "3"])
     run.found("its search", "document.getElementById('count').textContent", "12 lines")
@@ -217,11 +217,11 @@ def links(browser, ground):
     page.key("s")
     run.found("stubs", "location.hash", "#" + "&".join(members))
     page = run.anew("arbiter_tree", "#" + "&".join(members))
-    seen = f"[{LINE}, {SELECTED}, breezesim.view.isCharted, breezesim.view.isStubbed, document.documentElement.dataset.theme]"
-    run.found("all of it, anew", seen, [31, "k7", True, True, "dark"])
+    seen = f"[{LINE}, {SELECTED}, breezesim.view.panel, breezesim.view.isStubbed, document.documentElement.dataset.theme]"
+    run.found("all of it, anew", seen, [31, "k7", "chart", True, "dark"])
     page.do("location.hash = '#line=30'")
     run.found("what a link doesn't say", f"[...{seen}, breezesim.view.folded.size, document.getElementById('search').value]",
-              [30, None, False, None, None, 0, ""])
+              [30, None, "", None, None, 0, ""])
     page.key("d")
     run.found("the theme alone", "location.hash", "#line=30&theme=dark")
     odd = [("#line=99999", [66, None]), ("#line=-4&at=c99", [1, None]), ("#line=x&at=k7", [1, "k7"])]
@@ -268,7 +268,7 @@ def searches(browser, ground):
 
 def found_is_seen(browser, ground):
     """What is chosen in a list is drawn with all that is beside it, in focus, and else the picture goes there to read it."""
-    run = Run(browser, ground, "large", "#line=9")
+    run = Run(browser, ground, "large", "#line=9&focus=1")
     page = run.page
     far = page.do("breezesim.net.components.length - 9")
     own = f"breezesim.net.components[{far}].channels.slice(1)"
@@ -495,7 +495,7 @@ def rings_in_focus(browser, ground):
     far = [int(it) for it in list(wanted_of(ground.program, *ground.made["large"]).kinds)[::60]]
     stuck = f"stuck 700 {len(far)} {' '.join(map(str, far))}"
     put_rows(ground, "stuck_ring", "large", [stuck, *(f"ring {it} it waits" for it in far)])
-    run = Run(browser, ground, "stuck_ring", "#line=699")
+    run = Run(browser, ground, "stuck_ring", "#line=699&focus=1")
     seen = f"(shown => [{far}.every(it => shown.includes(String(it))), shown.length <= 90])({COMPONENTS})"
     run.found("before it", seen, [False, True])
     for key, wanted in (("ArrowRight", True), ("ArrowLeft", False), ("End", True)):
@@ -560,8 +560,8 @@ def names_and_sources(browser, ground):
 
 
 def large_nets(browser, ground):
-    """A large net begins in focus, is laid out anew as the line moves, and can be seen whole."""
-    run = Run(browser, ground, "large")
+    """In focus a large net is laid out anew as the line moves; and it can be seen whole."""
+    run = Run(browser, ground, "large", "#focus=1")
     page, wanted = run.page, wanted_of(ground.program, *ground.made["large"])
     run.found("focus", "breezesim.view.isFocused", True)
     run.faults += is_same("few components", 0 < page.do(SHOWN) <= 90, True)
@@ -574,9 +574,9 @@ def large_nets(browser, ground):
                               ".map(it => it.dataset.component)")), mover)
         run.faults += is_same(f"who called it at {line} is in focus", wanted.callers(line) - set(page.do(COMPONENTS)), set())
     page.key("o")
-    run.found("the whole net", f"{SHOWN} === breezesim.net.components.length - 1", True)
+    run.found("the whole net", "breezesim.view.isFocused", False)
     run.faults += Drawn(page, wanted).at("whole,", 700)
-    page.do("location.hash = '#line=9&focus=0'")
+    page.do("location.hash = '#line=9&focus=0&fold='")
     run.line("a link to the whole net", 9)
     run.found("which is whole", f"{SHOWN} === breezesim.net.components.length - 1", True)
     return run.ended()

@@ -201,7 +201,7 @@ const address = {
 };
 Object.assign(globalThis, {
   document, window: globalThis, Blob: PageBlob, Option: PageOption, location: address,
-  history: {replaceState(_, title, written) { hash = written; }}, matchMedia: () => ({matches: false}),
+  history: {replaceState(_, title, written) { hash = written; }}, matchMedia: asked => ({matches: asked.includes('reduced-motion')}),
   getComputedStyle: it => ({display: isShown(it) ? 'block' : 'none', getPropertyValue: () => ''}),
   addEventListener: (type, act) => outer.window.addEventListener(type, act),
   ResizeObserver: class { observe() {} },

@@ -1,13 +1,14 @@
 // ---- what the reader does -------------------------------------------------------------------------------------------
 
+// What is shown below the net, by name.
+const PANELS = {chart: () => showChart(), streams: () => showStreams(), source: () => showSource()};
+
 // Shows the current line in all panels.
 function show() {
   const isFar = Math.abs(view.line - view.focusLine) > REFOCUS || view.hasRing !== isStuckBehind(net, view.line);
-  if (view.isFocused && isFar) {
-    draw();
-    fit();
-  }
+  if (view.isFocused && isFar) drawAnew();
   markPicture();
+  if (view.isCounted) markCounts();
   if (view.isFollowing) follow();
   $('says').textContent = tell(view.line) + (view.line === net.stuck.line ? ' (from here on something is stuck)' : '');
   $('position').textContent = `line ${view.line} of ${trace.count}`;
@@ -15,29 +16,49 @@ function show() {
   showJournal();
   showDetails();
   showStrip();
-  if (view.isCharted) showChart();
+  if (view.panel) PANELS[view.panel]();
   added.afterShow();
   writeLink();
 }
 
-// Goes to a line, or to the nearest that there is.
-function go(line) {
+// Where the reader was before each jump: the line, and what was selected.
+const places = {before: [], isSeries: false}, MOST_PLACES = 200;
+function notePlace(isSeries = false) {
+  if (!isSeries || !places.isSeries) places.before.push({line: view.line, selected: view.selected});
+  if (places.before.length > MOST_PLACES) places.before.shift();
+  places.isSeries = isSeries;
+}
+
+// Back to the place before the last jump.
+function goBack() {
+  const place = places.before.pop();
+  if (!place) return;
+  view.line = Math.min(place.line, trace.count);
+  setSelected(place.selected);
+}
+
+// Goes to a line, or to the nearest that there is. Of a series of jumps, as the scrubber makes, only the first is noted.
+function go(line, isSeries = false) {
   const wanted = Math.max(1, Math.min(trace.count, Math.trunc(line) || 1));
   if (wanted === view.line) return;
+  if (Math.abs(wanted - view.line) > 1) notePlace(isSeries);
   view.line = wanted;
   show();
 }
 const step = lines => go(view.line + lines);
 const goTo = line => { if (line) go(line); };
 
-// Selects a component, a channel, or nothing. In focus a component is drawn with all that is beside it.
+// Selects a component, a channel, or nothing.
 function select(selected) {
+  if (selected !== view.selected) notePlace();
+  setSelected(selected);
+}
+
+// In focus a component is drawn with all that is beside it.
+function setSelected(selected) {
   const before = view.selected;
   view.selected = selected;
-  if (view.isFocused && selected && !isDrawnWhole(selected)) {
-    draw();
-    fit();
-  }
+  if (view.isFocused && selected && !isDrawnWhole(selected)) drawAnew();
   markSelection(before);
   show();
 }
@@ -61,8 +82,16 @@ function fold(path) {
   redraw();
 }
 
+// Focus, or the whole net; of a very large one only when that is wanted twice.
+const limits = {drawn: 3000};
 function setFocus(isFocused) {
-  view.isFocused = isFocused;
+  const count = isFocused ? 0 : nodesOfWhole();
+  if (count > limits.drawn && view.warnedAt !== view.line) {
+    view.warnedAt = view.line;
+    $('says').textContent = `The whole has ${count} components and copies to draw, which takes a while. Once more: draw it.`;
+    return;
+  }
+  Object.assign(view, {isFocused, warnedAt: 0});
   $('focus').classList.toggle('on', isFocused);
   redraw();
 }
@@ -78,14 +107,48 @@ function setFollow(isFollowing) {
   show();
 }
 
-function setChart(isCharted) {
-  view.isCharted = isCharted;
-  document.body.classList.toggle('charted', isCharted);
-  $('charting').classList.toggle('on', isCharted);
+// Shows one of the panels below the net, or none.
+function setPanel(panel) {
+  view.panel = panel;
+  document.body.classList.toggle('charted', panel !== '');
+  document.body.classList.toggle('low', panel === 'streams' || panel === 'source');
+  for (const [id, name] of [['charting', 'chart'], ['streaming', 'streams'], ['sourcing', 'source']])
+    $(id).classList.toggle('on', panel === name);
   measure();
   fit();
   show();
 }
+const togglePanel = panel => setPanel(view.panel === panel ? '' : panel);
+
+// The lines that the list shows: all, those of the host, of what is selected, or that the search found.
+function setOnly() {
+  const kinds = ['', 'host', ...(view.selected ? ['mine'] : []), ...(search.hits ? ['found'] : [])];
+  view.only = kinds[(kinds.indexOf(view.only) + 1) % kinds.length];
+  show();
+}
+
+function setWords(isInWords) {
+  view.isInWords = isInWords;
+  show();
+}
+
+function setCounts(isCounted) {
+  view.isCounted = isCounted;
+  $('counting').classList.toggle('on', isCounted);
+  markCounts();
+  show();
+}
+
+// Gives a text as a file.
+function save(name, text, type = 'text/plain') {
+  const it = html('a');
+  it.href = URL.createObjectURL(new Blob([text], {type}));
+  it.download = name;
+  it.click();
+  setTimeout(() => URL.revokeObjectURL(it.href), 10000);
+  added.saved = {name, text};
+}
+const savePicture = () => save(`${net.part}-${view.line}.svg`, pictureFile(), 'image/svg+xml');
 
 // Light or dark; of a page that says neither the reader's system decides.
 function setTheme(theme) {
@@ -119,7 +182,7 @@ function play(isPlaying) {
   clearInterval(player.timer);
   const speed = SPEEDS[player.speed], lines = Math.max(1, Math.round(speed / PICTURES));
   const next = () => {
-    step(lines);
+    go(view.line + lines, true);
     if (view.line >= trace.count) play(false);
   };
   player.timer = isPlaying && view.line < trace.count ? setInterval(next, 1000 * lines / speed) : 0;
@@ -147,9 +210,10 @@ function writeLink() {
   if (added.isLive) return;
   const parts = [`line=${view.line}`], folded = [...foldedNow()].join(), {theme} = document.documentElement.dataset;
   if (view.selected) parts.push(`at=${view.selected}`);
-  if (view.isCharted) parts.push('view=chart');
+  if (view.panel) parts.push(`view=${view.panel}`);
   if (view.isFocused !== isLarge) parts.push(`focus=${Number(view.isFocused)}`);
   if (search.text) parts.push(`find=${encodeURIComponent(search.text)}`);
+  parts.push(...membersOfPanels());
   if (folded !== foldedAtFirst().join()) parts.push(`fold=${folded}`);
   if (view.isStubbed !== null) parts.push(`stubs=${Number(view.isStubbed)}`);
   if (theme) parts.push(`theme=${theme}`);
@@ -158,6 +222,27 @@ function writeLink() {
   link.timer = setTimeout(() => {
     if (window.location.hash !== hash) window.history.replaceState(null, '', hash);
   }, 120);
+}
+
+// What an address says of the list, the streams and the counts.
+function membersOfPanels() {
+  const {pinned, from, to} = streams, parts = [];
+  if (view.only) parts.push(`only=${view.only}`);
+  if (view.isInWords) parts.push('words=1');
+  if (view.isCounted) parts.push('counts=1');
+  if (pinned.length) parts.push(`pin=${pinned.join()}`);
+  if (to) parts.push(`from=${from}`, `to=${to}`);
+  return parts;
+}
+function readMembersOfPanels(said) {
+  const only = said.get('only'), [from, to] = ['from', 'to'].map(name => Math.trunc(Number(said.get(name))) || 0);
+  view.only = ['host', 'mine', 'found'].includes(only) ? only : '';
+  view.isInWords = said.get('words') === '1';
+  view.isCounted = said.get('counts') === '1';
+  $('counting').classList.toggle('on', view.isCounted);
+  streams.pinned = [...new Set((said.get('pin') || '').split(',').filter(isThere))].slice(0, MOST_PINNED);
+  Object.assign(streams, {from: 1, to: 0, line: view.line});
+  if (from >= 1 && to > from && to <= trace.count) setStreams(from, to - from);
 }
 
 // Whether there is a component or channel of this name.
@@ -176,8 +261,10 @@ function readLink(address) {
   $('search').value = said.get('find') || '';
   find($('search').value);
   $('focus').classList.toggle('on', view.isFocused);
+  readMembersOfPanels(said);
   draw();
-  setChart(said.get('view') === 'chart');
+  markCounts();
+  setPanel(Object.hasOwn(PANELS, said.get('view')) ? said.get('view') : '');
 }
 const foldedBy = said => said.get('fold').split(',').filter(path => net.instances.has(path));
 
@@ -195,7 +282,11 @@ const KEYS = {
   x: () => goTo(firstAfter(clashLines) || clashLines[0]),
   n: () => goToHit(1), N: () => goToHit(-1), '/': () => $('search').focus(), g: () => $('line').focus(),
   '+': () => zoom(0.8), '-': () => zoom(1.25), f: fit, w: () => setFollow(!view.isFollowing),
-  o: () => setFocus(!view.isFocused), s: () => setStubs(!isStubbedNow()), c: () => setChart(!view.isCharted), d: otherTheme,
+  o: () => setFocus(!view.isFocused), s: () => setStubs(!isStubbedNow()), d: otherTheme,
+  c: () => togglePanel('chart'), t: () => togglePanel('streams'), y: () => togglePanel('source'),
+  v: () => setWords(!view.isInWords), k: () => setCounts(!view.isCounted), S: savePicture,
+  // (on the live page `e`, `p` and `u` are taken)
+  e: setOnly, E: setOnly, p: pin, P: pin, u: goBack, j: goBack,
   '?': () => toggleHelp(), Escape: escape,
 };
 
@@ -210,7 +301,8 @@ function typed(event) {
   field.blur();
 }
 
-// Arrows choose a name that was found, and Enter goes there; else to the next line found, or to the first name where there is none.
+// Arrows choose a name that was found, and Enter goes there; else to the next line found, or to the first name where there is
+// none.
 function typedInSearch(event) {
   const by = {Enter: 0, ArrowDown: 1, ArrowUp: -1}[event.key], text = $('search').value;
   if (by === undefined) return;
@@ -244,13 +336,54 @@ function clicked(event) {
   return true;
 }
 
-const drag = {from: null, box: null, isFar: false};
+// A mouse or a finger drags the picture, two fingers bring it nearer; a finger on the list goes through its lines, and on the
+// streams the lines go with the fingers.
+const drag = {from: null, box: null, isFar: false, fingers: new Map(), list: null, streams: new Map()};
+
+const pointOf = event => ({x: event.clientX, y: event.clientY});
 
 function dragFrom(event) {
-  Object.assign(drag, {from: {x: event.clientX, y: event.clientY}, box: {...view.box}, isFar: false});
+  drag.fingers.set(event.pointerId, pointOf(event));
+  Object.assign(drag, {from: pointOf(event), box: {...view.box}, isFar: drag.fingers.size > 1});
+}
+
+// Two fingers: the point of the picture between them stays there.
+function pinchTo(event) {
+  const spread = () => {
+    const [a, b] = [...drag.fingers.values()];
+    return {x: (a.x + b.x) / 2, y: (a.y + b.y) / 2, size: Math.max(20, Math.hypot(a.x - b.x, a.y - b.y))};
+  };
+  const before = spread(), {x, y} = pointAt(before.x, before.y);
+  drag.fingers.set(event.pointerId, pointOf(event));
+  const after = spread();
+  zoom(before.size / after.size, {x, y});
+  const there = pointAt(after.x, after.y), {box} = view;
+  setBox({...box, x: box.x + x - there.x, y: box.y + y - there.y});
+}
+
+function listFrom(event) {
+  if (event.pointerType !== 'mouse') drag.list = event.clientY;
+}
+function listTo(event) {
+  const rows = Math.trunc((drag.list - event.clientY) / ROW_HEIGHT);
+  if (rows === 0) return;
+  drag.list -= rows * ROW_HEIGHT;
+  stepInList(rows);
+}
+
+function streamsFrom(event) {
+  if (event.pointerType !== 'mouse' && view.panel === 'streams') drag.streams.set(event.pointerId, event.clientX);
+}
+function streamsTo(event) {
+  const before = [...drag.streams.values()].slice(0, 2);
+  drag.streams.set(event.pointerId, event.clientX);
+  dragStreams(before, [...drag.streams.values()].slice(0, 2));
 }
 
 function dragTo(event) {
+  if (drag.list !== null) return listTo(event);
+  if (drag.streams.has(event.pointerId)) return streamsTo(event);
+  if (drag.fingers.size > 1) return drag.fingers.has(event.pointerId) && pinchTo(event);
   if (!drag.from) return;
   const dx = event.clientX - drag.from.x, dy = event.clientY - drag.from.y;
   if (Math.abs(dx) + Math.abs(dy) > 4) drag.isFar = true;
@@ -262,46 +395,64 @@ function dragTo(event) {
 // Ends a drag. Where nothing was dragged it is a click, and one beside everything selects nothing.
 function dragEnd(event) {
   const isClick = drag.from && !drag.isFar && $('svg').contains(event.target);
-  drag.from = null;
+  dragNothing(event);
   if (isClick && !added.takesClick(event) && !clicked(event)) select(null);
+}
+
+function dragNothing(event) {
+  drag.fingers.delete(event.pointerId);
+  drag.streams.delete(event.pointerId);
+  Object.assign(drag, {from: null, list: null});
+}
+
+// A click on the panel below the net: in the streams beside names it goes to the line there.
+function clickedPanel(event) {
+  if (!clicked(event) && view.panel === 'streams') go(streamLineAt(event.clientX));
 }
 
 function listen() {
   document.addEventListener('keydown', pressed);
-  for (const id of ['journal', 'details', 'chart', 'found']) $(id).addEventListener('click', clicked);
+  for (const id of ['journal', 'details', 'found']) $(id).addEventListener('click', clicked);
+  $('chart').addEventListener('click', clickedPanel);
   // (what is found is shown for as long as the field has the focus)
   $('found').addEventListener('mousedown', event => event.preventDefault());
   $('svg').addEventListener('pointerdown', dragFrom);
   window.addEventListener('pointermove', dragTo);
   window.addEventListener('pointerup', dragEnd);
-  window.addEventListener('pointercancel', () => { drag.from = null; });
-  const onWheel = (id, turn) => $(id).addEventListener('wheel', event => {
-    event.preventDefault();
-    turn(event);
-  }, {passive: false});
-  onWheel('svg', event => zoom(Math.exp(event.deltaY * 0.0015), pointAt(event.clientX, event.clientY)));
-  onWheel('journal', event => step(Math.sign(event.deltaY) * 3));
+  window.addEventListener('pointercancel', dragNothing);
+  $('journal').addEventListener('pointerdown', listFrom);
+  $('chart').addEventListener('pointerdown', streamsFrom);
+  listenToWheels();
+  listenToButtons();
+  listenToSizes();
   $('scrubber').addEventListener('input', event => {
     play(false);
-    go(Number(event.target.value));
+    go(Number(event.target.value), true);
   });
   $('search').addEventListener('input', event => {
     clearTimeout(search.timer);
     search.timer = setTimeout(() => find(event.target.value), trace.count > 100000 ? 200 : 30);
   });
-  const buttons = {first: KEYS.Home, back: () => step(-1), play: togglePlay, forward: () => step(1), last: KEYS.End,
-    slower: KEYS['<'], faster: KEYS['>'], charting: KEYS.c, focus: KEYS.o, fit, follow: KEYS.w, theme: otherTheme,
-    ask: () => toggleHelp(true), close: () => toggleHelp(false)};
-  for (const [id, act] of Object.entries(buttons)) $(id).onclick = () => {
-    act();
-    $(id).blur();
-  };
   if (!added.isLive) window.addEventListener('hashchange', event => readLink(event.newURL));
+}
+
+function listenToWheels() {
+  const onWheel = (id, turn, isWanted = () => true) => $(id).addEventListener('wheel', event => {
+    if (!isWanted()) return;
+    event.preventDefault();
+    turn(event);
+  }, {passive: false});
+  onWheel('svg', event => zoom(Math.exp(event.deltaY * 0.0015), pointAt(event.clientX, event.clientY)));
+  onWheel('journal', event => stepInList(Math.sign(event.deltaY) * 3));
+  onWheel('chart', turnStreams, () => view.panel === 'streams');
+}
+
+function listenToSizes() {
   const observer = new ResizeObserver(() => {
     measure();
     showJournal();
     showStrip();
-    if (view.isCharted) showChart();
+    if (view.panel) PANELS[view.panel]();
   });
   for (const id of ['svg', 'journal', 'chart', 'strip']) observer.observe($(id));
   window.addEventListener('resize', () => {
@@ -309,6 +460,17 @@ function listen() {
     fit();
     show();
   });
+}
+
+function listenToButtons() {
+  const buttons = {first: KEYS.Home, back: () => step(-1), play: togglePlay, forward: () => step(1), last: KEYS.End,
+    slower: KEYS['<'], faster: KEYS['>'], charting: KEYS.c, streaming: KEYS.t, sourcing: KEYS.y, focus: KEYS.o, fit,
+    nearer: KEYS['+'], farther: KEYS['-'], follow: KEYS.w, counting: KEYS.k, picture: savePicture, theme: otherTheme,
+    only: setOnly, words: KEYS.v, ask: () => toggleHelp(true), close: () => toggleHelp(false)};
+  for (const [id, act] of Object.entries(buttons)) $(id).onclick = () => {
+    act();
+    $(id).blur();
+  };
 }
 
 // ---- the opening ----------------------------------------------------------------------------------------------------
@@ -328,15 +490,18 @@ function showFoot() {
 }
 
 // Takes a net at its opening, or with a trace, in place of what is shown. Of a net with many components the outermost copies are
-// folded.
+// folded; one that couldn't be read as a whole begins in focus.
 function load(list, rows, text) {
   net = readNet(list, rows);
   all = {components: net.components.slice(1), channels: net.channels.slice(1)};
-  isLarge = all.components.length > MANY;
-  Object.assign(view, {line: 1, selected: null, isFocused: isLarge, focusLine: 0, foldedInFocus: new Set(),
-    isStubbed: null});
+  Object.assign(view, {line: 1, selected: null, focusLine: 0, foldedInFocus: new Set(), isStubbed: null, picture: null,
+    only: ''});
   view.foldedAtFirst = all.components.length > MANY / 2 ? [...net.instances.keys()].filter(path => !path.includes('/')) : [];
   view.folded = new Set(view.foldedAtFirst);
+  measure();
+  isLarge = view.isFocused = isTooSmall();
+  Object.assign(streams, {from: 1, to: 0, pinned: [], key: ''});
+  places.before = [];
   document.title = `${net.part} · breezesim`;
   $('part').textContent = net.part;
   takeTrace(readTrace(text, net));
@@ -347,7 +512,7 @@ function takeTrace(it) {
   trace = it;
   found = audit(trace, net);
   clashLines = [...found.met.values()].sort((a, b) => a - b);
-  strip.key = '';
+  strip.key = streams.key = '';
   $('scrubber').max = trace.count;
   showFoot();
 }
@@ -367,5 +532,6 @@ function open() {
 }
 
 // What tests look at.
-const forTests = {view, phaseAfter, lastChange, valueAfter, lineText, tell, get net() { return net; },
+const forTests = {view, streams, added, limits, phaseAfter, lastChange, valueAfter, lineText, tell, tellShortly, streamPieces, drawn,
+  get net() { return net; },
   get trace() { return trace; }, get found() { return found; }};

@@ -5,7 +5,7 @@
 // next, `circle` who waits in one, and `links` the channels between those.
 const live = {worker: null, waiting: new Map(), calls: 0, bytes: null, how: {}, name: '', netlist: null, part: '', isOpen: false,
   isBusy: false, isStopped: false, end: 1, steps: [], undone: [], log: [], moves: [], circle: new Set(), links: new Set(),
-  values: new Map(), times: {}};
+  values: new Map(), sources: new Map(), times: {}};
 
 // The module that the page carries.
 async function moduleBytes() {

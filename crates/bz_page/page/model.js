@@ -18,11 +18,18 @@ const PHASES = ['idle', 'asked', 'taken', 'replied'];
 // there, the stuck ones at the end, and the members of a ring with their lines.
 const nothingStuck = () => ({line: 0, first: 0, members: new Set(), ring: new Map()});
 
-// The rows of ports of each kind, the details of components, what is stuck, and who waits for whom at the end.
+// The rows of ports of each kind, the details of components, what is stuck, who waits for whom at the end, and sources: `source
+// FILE`, and then a row `text LINE` for each of its lines.
 function readRows(text) {
-  const found = {ports: new Map(), details: new Map(), stuck: nothingStuck(), end: []};
+  const found = {ports: new Map(), details: new Map(), stuck: nothingStuck(), end: [], sources: new Map()};
+  let source = [];
   for (const line of text.split('\n')) {
+    if (line.startsWith('text ')) {
+      source.push(line.slice(5));
+      continue;
+    }
     const words = line.split(' ');
+    if (words[0] === 'source') found.sources.set(words[1], source = []);
     if (words[0] === 'row') found.ports.set(words[1], words.slice(2).map(readPort));
     if (words[0] === 'detail') found.details.set(Number(words[1]), words.slice(2).join(' '));
     if (words[0] === 'stuck') {
@@ -64,7 +71,7 @@ function readChannel(words, ports) {
   const number = Number(words[1]), kind = words[2], at = kind === 'sync' ? 3 : 4, port = ports[number];
   return {number, kind, width: kind === 'sync' ? 0 : Number(words[3]), active: readEnd(words[at]),
     passive: readEnd(words[at + 1]), port: port ? port.name : '', isHostCaller: Boolean(port && port.isPassive),
-    isShown: true, isStub: false, ...readPlace(words, at + 2)};
+    isShown: true, isStub: false, isBundled: false, bundle: [number], ...readPlace(words, at + 2)};
 }
 
 // A component of the list, with the channels at its ports, counted from 1, and the names of its ports.
@@ -73,6 +80,7 @@ function readComponent(words, rows) {
   const channels = [0, ...words.slice(3, at).map(Number)], detail = rows.details.get(number) || place.name;
   const component = {number, kind, channels, detail, isShown: true, stubs: null, ...place};
   namePorts(component, rows.ports.get(kind) || []);
+  tellSets(component);
   component.title = `${number} ${kind}` + (component.detail ? ` ${component.detail}` : '');
   return component;
 }
@@ -89,11 +97,18 @@ function namePorts(component, row) {
   component.ports.forEach((port, p) => { if (port) (port.isPassive ? component.passive : component.active).push(p); });
 }
 
+// At the array of a Case each port has the set of values by which it is chosen.
+function tellSets(component) {
+  if (component.kind !== 'Case' && component.kind !== 'CaseFetch') return;
+  const sets = component.detail.split(';'), array = component.ports.filter(port => port && /\d$/.test(port.name));
+  if (sets.length === array.length) array.forEach((port, i) => { port.set = sets[i]; });
+}
+
 // The net of the list. Channels and components stand at their numbers, so the rows of both begin with null.
 function readNet(list, rowText) {
   const rows = readRows(rowText);
   const net = {part: '', ports: [], channels: [null], components: [null], instances: new Map(), stuck: rows.stuck,
-    end: rows.end};
+    end: rows.end, sources: rows.sources, files: null, isGrouped: false};
   for (const line of list.split('\n')) {
     const words = line.split(' '), number = Number(words[1]);
     if (words[0] === 'part') net.part = words[1];
@@ -102,6 +117,7 @@ function readNet(list, rowText) {
     if (words[0] === 'instance') net.instances.set(words[1], {path: words[1], name: words[2]});
     if (words[0] === 'component') net.components[number] = readComponent(words, rows);
   }
+  group(net);
   return net;
 }
 
@@ -233,8 +249,8 @@ function valueIn(trace, line) {
   return words[words.length - 2] === 'value' ? words[words.length - 1] : '';
 }
 
-// Whether something is stuck behind a line; and whether a component never moves again from there on. (What is stuck at the end may
-// have moved after that: so each counts from its own last move on.)
+// Whether something is stuck behind a line; and whether a component never moves again from there on. (What is stuck at the end
+// may have moved after that: so each counts from its own last move on.)
 const isStuckBehind = (net, line) => net.stuck.line > 0 && line >= net.stuck.line;
 const lastMoveOf = (trace, number) => nthOf(trace.linesOfComponent, number, countOf(trace.linesOfComponent, number) - 1);
 const isStill = (net, trace, number, line) => isStuckBehind(net, line) && net.stuck.members.has(number)

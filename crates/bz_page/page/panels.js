@@ -21,10 +21,43 @@ function lineStyle(line) {
 const firstRow = (rows, least) => Math.max(least, Math.min(view.line - (rows >> 1), trace.count - rows + 1));
 
 function showJournal() {
-  const rows = Math.max(5, Math.floor(sizes.journal.height / ROW_HEIGHT)), first = firstRow(rows, 1), shown = [];
-  for (let line = first; line < first + rows && line <= trace.count; line++)
-    shown.push(lineRow(line, lineText(trace, line), lineStyle(line) + (isOfSelected(line) ? ' mine' : '')));
-  $('journal').replaceChildren(...shown);
+  const lines = linesShown(Math.max(5, Math.floor(sizes.journal.height / ROW_HEIGHT))), {isInWords, only} = view;
+  $('journal').replaceChildren(...lines.map(line => {
+    const [text, other] = isInWords ? [tellShortly(line), lineText(trace, line)] : [lineText(trace, line), tell(line)];
+    const row = lineRow(line, text, lineStyle(line) + (isOfSelected(line) ? ' mine' : ''));
+    row.title = other;
+    return row;
+  }));
+  $('journal').classList.toggle('words', isInWords);
+  $('words').classList.toggle('on', isInWords);
+  $('only').textContent = {host: 'host only', mine: 'selected only', found: 'found only'}[only] || 'all lines';
+  $('only').classList.toggle('on', only !== '');
+}
+
+// The lines of which the list shows some, with their key, or null where it shows all: those of the host, of what is selected, or
+// that the search found.
+function listedLines() {
+  const {only, selected} = view;
+  if (only === 'host') return [[trace.hostLines], 0];
+  if (only === 'mine' && selected) return selectedLines();
+  return only === 'found' && search.hits ? [[search.hits], 0] : null;
+}
+
+// So many of these around the current line.
+function linesShown(rows) {
+  const listed = listedLines(), [lines, key] = listed || [[], 0];
+  const count = listed ? countOf(lines, key) : trace.count, seen = listed ? countTo(lines, key, view.line) : view.line;
+  const first = Math.max(0, Math.min(seen - 1 - (rows >> 1), count - rows));
+  return Array.from({length: Math.min(rows, count - first)}, (_, i) => (listed ? nthOf(lines, key, first + i) : first + i + 1));
+}
+
+// Goes so many lines of the list on.
+function stepInList(by) {
+  const listed = listedLines();
+  if (!listed) return go(view.line + by, true);
+  const [lines, key] = listed, seen = countTo(lines, key, view.line), isHere = nthOf(lines, key, seen - 1) === view.line;
+  const wanted = seen - 1 + by + (by < 0 && !isHere ? 1 : 0);
+  return go(nthOf(lines, key, Math.max(0, Math.min(countOf(lines, key) - 1, wanted))) || view.line, true);
 }
 
 // Whether a line moves what is selected, or moves something on a channel of it.
@@ -120,9 +153,9 @@ function callerRow(callers, names) {
 
 // A port of a component: its end, its name, its channel and what is on it. A click selects the channel.
 function portRow(component, p) {
-  const {isPassive, name} = component.ports[p] || {isPassive: false, name: `port ${p}`}, number = component.channels[p];
+  const {isPassive, name, set} = component.ports[p] || {isPassive: false, name: `port ${p}`}, number = component.channels[p];
   const {phase, text} = phaseText(number), row = html('div', `port ${phase}`), channel = net.channels[number];
-  row.append(html('span', `end ${isPassive ? 'passive' : 'active'}`), html('span', '', name));
+  row.append(html('span', `end ${isPassive ? 'passive' : 'active'}`), html('span', '', set ? `${name} ${set}` : name));
   row.append(html('span', 'channel', channelName(channel)), html('span', 'phase', text));
   row.dataset.select = `k${number}`;
   return row;
@@ -135,7 +168,9 @@ function channelDetails(number) {
   row.append(html('span', 'phase', text + (change ? `, since line ${change}` : '')));
   ports.append(row);
   const title = `${channelName(channel)} ${kindOf(channel)}${port}`;
-  return [html('div', 'title', title), html('div', 'under', endsOf(channel)), html('div', 'under', placeOf(channel)), ports];
+  const ended = `${counted(endedOn([number]), 'handshake')} ended, of ${countOf(trace.changesOf, number) >> 2}`;
+  const under = [endsOf(channel), placeOf(channel), ended].map(text => html('div', 'under', text));
+  return [html('div', 'title', title), ...under, ports];
 }
 
 // Buttons to the previous and the next line of what is selected, how many there are, and a button that leaves it.
@@ -255,8 +290,8 @@ function linesWith(text) {
   return hits;
 }
 
-// What is called so: by number, kind, name, copy, or place in the source. (`c12` and `fetch 12` are component 12, whose title begins
-// with its number.)
+// What is called so: by number, kind, name, copy, or place in the source. (`c12` and `fetch 12` are component 12, whose title
+// begins with its number.)
 function namesWith(text) {
   const names = [], holds = words => words.some(word => word && word.toLowerCase().includes(text));
   const number = /^(?:ch|channel|k) ?(\d+)$/.exec(text);
@@ -268,7 +303,7 @@ function namesWith(text) {
   const most = names.length + MOST_NAMES;
   for (const component of all.components) {
     if (names.length >= most) break;
-    const {title, path, source} = component, part = path ? net.instances.get(path).name : '';
+    const {title, source} = component, path = net.isGrouped ? '' : component.path, part = path ? net.instances.get(path).name : '';
     const told = [path && ` in ${path} ${part}`, source && ` (${source})`].filter(it => it).join('');
     if (holds([title, source, path && `${path} ${part}`])) names.push([`c${component.number}`, title + told]);
   }

@@ -20,31 +20,35 @@ function html(tag, style, text) {
 let net = null, trace = null, found = null, all = null;
 
 // What the live page adds: what is done when all is shown, whether it takes a click, and ends of channels that stay in focus.
-const added = {isLive: false, afterShow() {}, takesClick() { return false; }, endsInFocus() { return []; }};
+const added = {isLive: false, afterShow() {}, takesClick() { return false; }, endsInFocus() { return []; }, saved: null};
 
 // Above so many components a page begins in focus. In focus are at most so many, of so many lines around, and it is made anew
 // when the line has moved so far.
 const MANY = 300, IN_FOCUS = 90, NEAR = 40, REFOCUS = 25;
 
-// What the reader chose. `selected` is `c5` for a component, `k7` for a channel, or null.
-const view = {line: 1, selected: null, isFocused: false, focusLine: 0, folded: new Set(), foldedInFocus: new Set(), foldedAtFirst: [],
-  isStubbed: null, picture: null, box: null, isFollowing: false, isCharted: false, hasRing: false, layoutTime: 0};
+// What the reader chose. `selected` is `c5` for a component, `k7` for a channel, or null; `panel` what is shown below the net,
+// `only` the lines of the list.
+const view = {line: 1, selected: null, isFocused: false, focusLine: 0, folded: new Set(), foldedInFocus: new Set(),
+  foldedAtFirst: [], isStubbed: null, picture: null, box: null, isFollowing: false, panel: '', only: '', isInWords: false,
+  isCounted: false, isFit: true, warnedAt: 0, hasRing: false, layoutTime: 0};
 
 // What is drawn, by number or path, and the line that it shows (0: nothing yet).
-const drawn = {channels: new Map(), components: new Map(), boxes: new Map(), ports: new Map(), line: 0, here: 0};
+const drawn = {channels: new Map(), components: new Map(), boxes: new Map(), ports: new Map(), inside: new Map(), line: 0,
+  here: 0};
 
 const foldedNow = () => (view.isFocused ? view.foldedInFocus : view.folded);
 const isStubbedNow = () => (view.isStubbed === null ? net.shownComponents.length > 60 : view.isStubbed);
 const numberOf = selected => Number(selected.slice(1));
 
-// Chooses what is shown, lays it out and draws it.
+// Chooses what is shown, lays it out and draws it. In focus what is drawn already keeps its order.
 function draw() {
-  const before = performance.now();
+  const began = performance.now(), before = placesOf(view.isFocused && view.picture);
   if (view.isFocused) showNear(view.line); else showOnly(all.components, all.channels);
-  view.picture = layout(net, foldedNow(), isStubbedNow());
-  view.layoutTime = performance.now() - before;
+  view.picture = layout(net, foldedNow(), isStubbedNow(), before);
+  view.layoutTime = performance.now() - began;
   for (const map of [drawn.channels, drawn.components, drawn.boxes, drawn.ports]) map.clear();
   drawn.line = 0;
+  drawn.inside = insideBoxes();
   const layers = {frames: svg('g'), lines: svg('g'), nodes: svg('g'), marks: svg('g')}, {picture} = view;
   for (const frame of picture.frames) layers.frames.append(frameOf(frame));
   const labels = [];
@@ -52,6 +56,64 @@ function draw() {
   for (const [number, pieces] of picture.stubs) drawStub(net.channels[number], pieces, layers);
   for (const node of picture.nodes) layers.nodes.append(nodeOf(node));
   $('root').replaceChildren(layers.frames, layers.lines, layers.nodes, layers.marks);
+}
+
+// Draws anew what has changed, around what stays: that stands where it stood before, or moves from there.
+function drawAnew() {
+  const {picture, box, isFit} = view, before = placesOf(picture), old = seenOf(box);
+  draw();
+  if (isFit) fit();
+  const seen = seenOf(view.box), stay = view.picture.nodes.filter(({id}) => before.has(id));
+  if (stay.length < 2 || !Number.isFinite(old.size)) fit();
+  else stayInPlace(stay, before, old, seen);
+}
+
+// Moves the picture so that what stays is where it was on the screen, or near to it, and lets each node go to its place from
+// there. A picture that was whole stays so.
+function stayInPlace(stay, before, old, seen) {
+  const {isFit} = view, place = ({id}, at) => (before.get(id)[at] - old[at]) / old.size * seen.size;
+  for (const [at, size] of [['x', 'width'], ['y', 'height']]) {
+    const wanted = median(stay.map(it => it[at] - place(it, at))), least = view.picture[size] - seen[size];
+    seen[at] = isFit ? Math.max(Math.min(least, 0), Math.min(Math.max(least, 0), wanted)) : wanted;
+  }
+  setBox({x: seen.x, y: seen.y, width: seen.width, height: seen.height}, isFit);
+  glide(stay, it => ({x: place(it, 'x') + seen.x, y: place(it, 'y') + seen.y}));
+}
+
+const placesOf = picture => new Map(picture ? picture.nodes.map(it => [it.id, it]) : []);
+const median = numbers => numbers.sort((a, b) => a - b)[numbers.length >> 1];
+
+// What is seen of the picture, with what a pixel is of it.
+function seenOf(box) {
+  const {width, height} = sizes.svg, size = pixel(sizes.svg, box);
+  const wide = width * size, high = height * size;
+  return {x: box.x + (box.width - wide) / 2, y: box.y + (box.height - high) / 2, width: wide, height: high, size};
+}
+
+// Moves nodes within 0.2 s from where they were to where they are, if the reader wants things to move.
+function glide(nodes, placeBefore) {
+  if (window.matchMedia('(prefers-reduced-motion: reduce)').matches) return;
+  const moved = ({x, y}) => ({transform: `translate(${x.toFixed(1)}px, ${y.toFixed(1)}px)`});
+  for (const node of nodes) {
+    groupOf(node).animate([moved(placeBefore(node)), moved(node)], {duration: 200, easing: 'ease-out'});
+  }
+  $('root').children[1].animate([{opacity: 0}, {opacity: 1}], {duration: 200});
+}
+
+// What is drawn of a node.
+function groupOf({component, port, box}) {
+  if (component) return drawn.components.get(component.number).group;
+  return port ? drawn.ports.get(port.number) : drawn.boxes.get(box);
+}
+
+// How many components each folded copy hides.
+function insideBoxes() {
+  const inside = new Map();
+  for (const component of foldedNow().size ? net.shownComponents : []) {
+    const box = boxOf(component);
+    if (box) inside.set(box, (inside.get(box) || 0) + 1);
+  }
+  return inside;
 }
 
 // Shows these components and channels, and no others.
@@ -119,21 +181,44 @@ const ARROW = 'M5 0L-5 -4.5L-5 4.5Z';
 // A channel: its line, a filled dot at the end that asks, an open one at the end that answers, an arrow for the way of its value,
 // and its number.
 function drawChannel(channel, points, layers, labels) {
-  const group = svg('g', {class: 'channel', 'data-channel': channel.number}), d = curve(points);
+  const group = channelGroup(channel), d = curve(points);
   const walk = walkOf(points), length = walk[walk.length - 1].way;
   group.append(svg('path', {class: 'hit', d}), svg('path', {class: 'line', d}));
   group.append(dot('active', points[0]), dot('passive', points[points.length - 1]));
-  if (channel.kind === 'push') group.append(svg('path', {class: 'arrow', d: ARROW, transform: placed(onWalk(walk, length - 9))}));
-  if (channel.kind === 'pull') group.append(svg('path', {class: 'arrow', d: ARROW, transform: placed(onWalk(walk, 9), 180)}));
-  group.append(svg('title', {}, channelTitle(channel)));
+  const isAlike = channel.bundle.every(number => net.channels[number].kind === channel.kind), kind = isAlike ? channel.kind : '';
+  if (kind === 'push') group.append(svg('path', {class: 'arrow', d: ARROW, transform: placed(onWalk(walk, length - 9))}));
+  if (kind === 'pull') group.append(svg('path', {class: 'arrow', d: ARROW, transform: placed(onWalk(walk, 9), 180)}));
+  group.append(svg('title', {}, titleOfLine(channel)));
   layers.lines.append(group);
-  // (a name that stands in the port's box is not told again)
-  const name = channel.name && channel.name !== channel.port ? ` ${cut(channel.name, 10)}` : '';
-  const place = labelPlace(walk, length, labels), text = `${channel.number}${name}`;
+  const place = labelPlace(walk, length, labels), text = labelOf(channel);
   const label = svg('text', {class: 'number', x: place.x.toFixed(1), y: (place.y - 6).toFixed(1)}, text);
   const value = valueBox({x: place.x, y: place.y + 6});
   layers.marks.append(label, value);
-  drawn.channels.set(channel.number, {group, walk, length, value, token: null});
+  putDrawn(channel, {group, walk, length, value, label});
+}
+
+// The number of a channel with its name, where that isn't told in the port's box; of a bundle how many it is of.
+function labelOf(channel) {
+  if (channel.bundle.length > 1) return `×${channel.bundle.length}`;
+  return channel.number + (channel.name && channel.name !== channel.port ? ` ${cut(channel.name, 10)}` : '');
+}
+
+// What is told of a line: of a bundle its channels.
+const MOST_TITLES = 20;
+function titleOfLine({bundle}) {
+  const told = bundle.slice(0, MOST_TITLES).map(number => channelTitle(net.channels[number])), more = bundle.length - MOST_TITLES;
+  return told.join('\n') + (more > 0 ? `\nand ${counted(more, 'more channel')}` : '');
+}
+
+// The element of a channel, or of a bundle, which has the channels' numbers.
+function channelGroup({number, bundle}) {
+  const name = bundle.length > 1 ? {'data-bundle': bundle.join(' ')} : {'data-channel': number};
+  return svg('g', {class: 'channel', ...name});
+}
+
+// Notes what is drawn of a channel, or of all of a bundle.
+function putDrawn({bundle}, mark) {
+  for (const number of bundle) drawn.channels.set(number, Object.assign(mark, {bundle, token: null}));
 }
 
 // A place for a number on a line where no other number is near.
@@ -154,14 +239,16 @@ function valueBox(place) {
 
 // A channel as two short pieces, each with the name of the other end.
 function drawStub(channel, pieces, layers) {
-  const group = svg('g', {class: 'channel', 'data-channel': channel.number});
+  const group = channelGroup(channel);
   const d = pieces.map(({x, y, dx, isOut}) => (isOut ? `M${x} ${y}h${dx}` : `M${x + dx} ${y}h${-dx}`)).join('');
-  group.append(svg('path', {class: 'hit', d}), svg('path', {class: 'line', d}), svg('title', {}, channelTitle(channel)));
+  group.append(svg('path', {class: 'hit', d}), svg('path', {class: 'line', d}), svg('title', {}, titleOfLine(channel)));
+  const many = channel.bundle.length > 1 ? ` ${labelOf(channel)}` : '';
   for (const piece of pieces) {
     const {x, y, dx, isOut} = piece;
     group.append(dot(isOut ? 'active' : 'passive', piece));
-    const style = `stub ${isOut ? 'starts' : 'ends'}`, name = stubName(isOut ? channel.passive : channel.active, isOut);
-    group.append(svg('text', {class: style, x: x + dx * 1.2, y: y + 3}, name));
+    const style = `stub ${isOut ? 'starts' : 'ends'}`, isCrowd = channel.callers > 1;
+    const name = isCrowd ? `▸${channel.callers} groups` : stubName(isOut ? channel.passive : channel.active, isOut);
+    group.append(svg('text', {class: style, x: x + dx * 1.2, y: y + 3}, name + many));
     const isArrow = channel.kind === (isOut ? 'pull' : 'push');
     if (isArrow) group.append(svg('path', {class: 'arrow', d: ARROW, transform: placed({x: x + dx / 1.8, y}, isOut ? 180 : 0)}));
   }
@@ -169,13 +256,14 @@ function drawStub(channel, pieces, layers) {
   const {x, y, dx, isOut} = pieces[0], tip = {x: x + dx, y};
   const value = valueBox({x: x + dx * 2.4, y}), walk = walkOf(isOut ? [pieces[0], tip] : [tip, pieces[0]]);
   layers.marks.append(value);
-  drawn.channels.set(channel.number, {group, walk, length: walk[walk.length - 1].way, value, token: null});
+  putDrawn(channel, {group, walk, length: walk[walk.length - 1].way, value, label: null});
 }
 
 // The folded copy that hides a component, if one does.
-function boxOf({path}) {
+function boxOf({path}, folded = foldedNow()) {
+  if (path === '' || folded.size === 0) return undefined;
   const steps = path.split('/');
-  return steps.map((step, i) => steps.slice(0, i + 1).join('/')).find(outer => foldedNow().has(outer));
+  return steps.map((step, i) => steps.slice(0, i + 1).join('/')).find(outer => folded.has(outer));
 }
 
 // How the other end of a stub is called: a folded copy by its path, a variable by its name, what answers by its sign and number,
@@ -194,18 +282,24 @@ function nodeOf(node) {
   return drawBox(node);
 }
 
-function drawComponent({component, x, y, width, height, isCut}) {
+function drawComponent({component, x, y, width, height, isCut, inPorts, outPorts, tips}) {
   const group = svg('g', {'data-component': component.number, transform: placed({x, y})}), sign = signOf(component);
   const oval = (style, edge) => svg('rect', {class: style, x: -width / 2 - edge, y: -height / 2 - edge,
     width: width + 2 * edge, height: height + 2 * edge, rx: RADIUS + edge});
   group.append(oval('ring', 5), oval('body', 0));
   group.append(svg('text', {class: sign.length > 3 ? 'sign small' : 'sign', y: sign.length > 3 ? 4 : 6}, sign));
   if (isCut) group.append(svg('text', {class: 'more', y: height / 2 - 5}, '…'));
+  for (const [ports, dx, style] of [[inPorts, -5, 'ends'], [outPorts, 5, 'starts']])
+    for (const port of ports) if (component.ports[port]?.set)
+      group.append(setOf(component.ports[port].set, tips.get(port), dx, style));
   const caption = svg('text', {class: 'caption', y: height / 2 + 13}, `${component.number} ${cut(component.kind, 14)}`);
   group.append(caption, svg('title', {}, componentTitle(component)));
   drawn.components.set(component.number, {group, caption});
   return group;
 }
+
+// The set of values by which a port of a Case is chosen.
+const setOf = (text, {x, y}, dx, style) => svg('text', {class: `set ${style}`, x: x + dx, y: y - 4}, cut(text, 9));
 
 function drawPort({port, x, y, width, height}) {
   const group = svg('g', {'data-channel': port.number, transform: placed({x, y})});
@@ -217,11 +311,10 @@ function drawPort({port, x, y, width, height}) {
 
 function drawBox({box, x, y, width, height}) {
   const group = svg('g', {class: 'folded', 'data-copy': box, transform: placed({x, y})});
-  const inside = net.shownComponents.filter(({path}) => path === box || path.startsWith(`${box}/`)).length;
   for (const [style, shift] of [['behind', 4], ['front', 0]])
     group.append(svg('rect', {class: style, x: -width / 2 + shift, y: -height / 2 - shift, width, height, rx: 6}));
   group.append(svg('text', {y: -2}, `▸ ${box} ${cut(net.instances.get(box).name, 12)}`));
-  group.append(svg('text', {y: 13, class: 'caption'}, counted(inside, 'component')));
+  group.append(svg('text', {y: 13, class: 'caption'}, counted(drawn.inside.get(box) || 0, 'component')));
   drawn.boxes.set(box, group);
   return group;
 }
@@ -239,22 +332,32 @@ function markPicture() {
   if (isStuckBehind(net, line) !== isStuckBehind(net, drawn.line)) for (const number of net.stuck.members) components.add(number);
   for (const number of isAll ? [] : channels) for (const end of [net.channels[number].active, net.channels[number].passive])
     if (end && end !== 'host') components.add(end.component);
-  for (const number of channels) markChannel(number);
+  for (const number of new Set([...channels].map(it => drawn.channels.get(it)?.bundle[0]))) markChannel(number);
   for (const number of components) markComponent(number);
   markBoxes();
   markPorts(isAll);
   drawn.line = line;
 }
 
-// The marks of a channel: colour, dashes and token by its phase, and its value.
+// Of a bundle the channel that its line shows: that which moved last of those that aren't idle.
+function shownOf(bundle) {
+  const isOpen = change => phaseAfter(trace, change) !== IDLE;
+  const rank = number => (change => (isOpen(change) ? change : -1))(lastChange(trace, number, view.line));
+  return bundle.length > 1 ? bundle.reduce((best, number) => (rank(number) > rank(best) ? number : best)) : bundle[0];
+}
+
+// The marks of a channel, or of a bundle with it: colour, dashes and token by its phase, and its value.
 function markChannel(number) {
   const mark = drawn.channels.get(number);
   if (!mark) return;
-  const change = lastChange(trace, number, view.line), phase = phaseAfter(trace, change), value = valueAfter(trace, change);
-  const isHere = trace.channel[view.line] === number, isSelected = view.selected === `k${number}`;
-  const style = `channel ${net.channels[number].kind} ${PHASES[phase]}`;
+  const {bundle} = mark, shown = shownOf(bundle), change = lastChange(trace, shown, view.line);
+  const phase = phaseAfter(trace, change), value = valueAfter(trace, change), {selected} = view;
+  const isHere = bundle.includes(trace.channel[view.line]);
+  const isSelected = selected !== null && selected[0] === 'k' && bundle.includes(numberOf(selected));
+  const style = `channel ${net.channels[shown].kind} ${PHASES[phase]}${bundle.length > 1 ? ' bundle' : ''}`;
   mark.group.setAttribute('class', style + (isHere ? ' here' : '') + (isSelected ? ' selected' : ''));
-  mark.value.setAttribute('class', value === '' ? 'value' : 'value on');
+  if (bundle.length > 1) mark.group.dataset.select = `k${shown}`;
+  mark.value.setAttribute('class', `value${value === '' ? '' : ' on'}${bundle.length > 1 ? ' of-bundle' : ''}`);
   if (value !== '') {
     const [box, text] = mark.value.children, width = 8 + 7 * cut(value, 9).length;
     text.textContent = cut(value, 9);
@@ -275,6 +378,24 @@ function tokenOf({walk, length}, phase) {
   }
   const place = onWalk(walk, length * (phase === ASKED ? 0.74 : 0.26));
   return svg('path', {class: 'token', d: 'M8 0L-6 -7L-6 7Z', transform: placed(place, phase === REPLIED ? 180 : 0)});
+}
+
+// How many handshakes ended on channels up to the current line.
+const endedOn = bundle => bundle.reduce((sum, number) => sum + (countTo(trace.changesOf, number, view.line) >> 2), 0);
+
+// In the view of counts lines are as thick as handshakes were many, each has their count, and what never moved is pale.
+function markCounts() {
+  $('svg').classList.toggle('counted', view.isCounted);
+  const marks = [...new Set(drawn.channels.values())], counts = marks.map(({bundle}) => endedOn(bundle));
+  const most = Math.log1p(counts.reduce((a, b) => Math.max(a, b), 1));
+  marks.forEach(({group, label, bundle}, i) => {
+    const isStill = bundle.every(number => countTo(trace.changesOf, number, view.line) === 0);
+    group.setAttribute('style', `--wide: ${(1 + 9 * Math.log1p(counts[i]) / most).toFixed(1)}px`);
+    group.dataset.moved = Number(!isStill);
+    if (label) label.textContent = view.isCounted ? String(counts[i]) : labelOf(net.channels[bundle[0]]);
+  });
+  for (const [number, {group}] of drawn.components)
+    group.dataset.moved = Number(countTo(trace.linesOfComponent, number, view.line) > 0);
 }
 
 // The component that a line moves, or 0.
@@ -341,8 +462,8 @@ function measure() {
 }
 
 // Sets the part of the picture that is seen. From afar the small text is left out; names of ports are drawn when one is near.
-function setBox(box) {
-  view.box = box;
+function setBox(box, isFit = false) {
+  Object.assign(view, {box, isFit});
   const scale = Math.min(sizes.svg.width / box.width, sizes.svg.height / box.height);
   $('svg').setAttribute('viewBox', `${box.x} ${box.y} ${box.width} ${box.height}`);
   if (scale > NEAR_SCALE) namePortsOfPicture();
@@ -360,7 +481,8 @@ function namePortsOfPicture() {
     const sides = [[inPorts, -6, 'ends'], [outPorts, 6, 'starts']].filter(([ports]) => ports.length > 1);
     for (const [ports, dx, style] of sides) for (const port of ports) {
       const {x, y} = tips.get(port);
-      names.append(svg('text', {x: x + dx, y: y - 6, class: style}, component.ports[port].name));
+      const {name, set} = component.ports[port];
+      names.append(svg('text', {x: x + dx, y: y - 6, class: style}, set ? `${name} ${set}` : name));
     }
     drawn.components.get(component.number).group.append(names);
   }
@@ -370,7 +492,39 @@ function namePortsOfPicture() {
 function fit() {
   const {picture} = view, {svg: place} = sizes;
   const width = Math.max(picture.width, place.width / 2.2, 1), height = Math.max(picture.height, place.height / 2.2, 1);
-  setBox({x: (picture.width - width) / 2, y: (picture.height - height) / 2, width, height});
+  setBox({x: (picture.width - width) / 2, y: (picture.height - height) / 2, width, height}, true);
+}
+
+// Whether the letters of the whole picture would be too small to read; of a picture with more nodes than this that is clear.
+const LEAST_LETTER = 6, LETTER_SIZE = 11;
+function isTooSmall() {
+  if (all.components.length <= GROUPED_FROM) return false;
+  if (nodesOfWhole() > MANY) return true;
+  showOnly(all.components, all.channels);
+  const {width, height} = layout(net, view.folded, isStubbedNow(), new Map());
+  return Math.min(sizes.svg.width / width, sizes.svg.height / height) * LETTER_SIZE < LEAST_LETTER;
+}
+
+// How many components and boxes the whole picture has.
+function nodesOfWhole() {
+  const boxes = new Set();
+  let alone = 0;
+  for (const component of all.components) {
+    const box = boxOf(component, view.folded);
+    if (box) boxes.add(box); else alone++;
+  }
+  return alone + boxes.size;
+}
+
+// The picture as it is seen, as a file of its own, with the page's styles.
+function pictureFile() {
+  const copy = $('svg').cloneNode(true), {x, y, width, height} = seenOf(view.box), {theme} = document.documentElement.dataset;
+  copy.setAttribute('width', sizes.svg.width);
+  copy.setAttribute('height', sizes.svg.height);
+  if (theme) copy.setAttribute('data-theme', theme);
+  const ground = svg('rect', {x, y, width, height, style: 'fill: var(--ground)'});
+  copy.prepend(svg('style', {}, document.querySelector('style').textContent), ground);
+  return new XMLSerializer().serializeToString(copy);
 }
 
 // How much of the picture a pixel of the screen is, and the point of the picture under a point of the screen.
@@ -396,8 +550,8 @@ function follow() {
 
 // What is drawn of a component: itself, or the folded copy that hides it. And of what is selected, if anything is.
 function nodeOfComponent(number) {
-  const path = `${net.components[number].path}/`;
-  return view.picture.nodes.find(({component, box}) => (component ? component.number === number : box && path.startsWith(`${box}/`)));
+  const path = `${net.components[number].path}/`, isIn = box => Boolean(box) && path.startsWith(`${box}/`);
+  return view.picture.nodes.find(({component, box}) => (component ? component.number === number : isIn(box)));
 }
 function nodeOfSelected(selected) {
   const number = numberOf(selected);

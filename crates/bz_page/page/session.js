@@ -8,6 +8,7 @@ async function openNetlist(name, netlist, part = null) {
   if (parts.length === 0) return refuse(name, netlist, {errors: 'it has no part'});
   const isTop = words => words[4] === 'top', named = parts.find(words => words[1] === part);
   const [, chosen] = named || parts.find(isTop) || parts[0];
+  live.sources = new Map();
   if (!await openPart(name, netlist, chosen)) return false;
   const optionOf = words => new Option(words[1] + (isTop(words) ? '' : ' (used by others)'), words[1]);
   $('parts').replaceChildren(...parts.map(optionOf));
@@ -24,6 +25,7 @@ async function openPart(name, netlist, part) {
   const told = await openSession();
   if (told.status !== null) return refuse(name, netlist, told);
   load(blockIn(made.output, 'net'), blockIn(made.output, 'rows'), 'trace 2\n');
+  net.sources = live.sources;
   live.isOpen = true;
   document.body.classList.add('living');
   $('refusal').hidden = true;
@@ -245,11 +247,21 @@ async function playSession(name, text) {
   say([`${name}: ${counted(played.length, 'line')} played`, ...faults.slice(0, 3)].join('\n'), faults.length > 0);
 }
 
-// What was dropped, chosen, pasted or carried: a netlist, or a trace or a session of the netlist that is open.
+// Whether places of the net name a file so; and its lines, which the page shows where control is.
+const isSource = name => live.isOpen && filesOfNet().some(file => unescaped(lastPart(file)) === lastPart(name));
+function takeSource(name, text) {
+  const file = filesOfNet().find(it => unescaped(lastPart(it)) === lastPart(name));
+  live.sources.set(file, text.replace(/\n$/, '').split('\n'));
+  say(`${name}: the source, shown by y`);
+  if (view.panel === 'source') showSource(); else setPanel('source');
+}
+
+// What was dropped, chosen, pasted or carried: a netlist, or a trace, a session or a source of the netlist that is open.
 const take = (name, bytes) => busily(async () => {
   const text = lettersOf(bytes);
   if (/^trace [12]\n/.test(text)) return live.isOpen ? checkTrace(name, bytes) : refuseAlone(name, 'a trace');
   if (text.includes('(breeze-part') || !live.isOpen) return openNetlist(name, bytes);
+  if (isSource(name)) return takeSource(name, text);
   return playSession(name, text);
 });
 

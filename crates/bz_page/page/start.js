@@ -1,14 +1,5 @@
 // ---- live: files that come and go, and the opening --------------------------------------------------------------------
 
-function save(name, text, type = 'text/plain') {
-  const link = html('a');
-  link.href = URL.createObjectURL(new Blob([text], {type}));
-  link.download = name;
-  link.click();
-  setTimeout(() => URL.revokeObjectURL(link.href), 10000);
-  live.saved = {name, text};
-}
-
 const stem = () => live.name.replace(/\.[^.]*$/, '') || 'net';
 
 // Has the session write its trace, itself or a page, and saves that.
@@ -26,7 +17,8 @@ const escaped = text => text.replace(/[^\n -~]|[<%]/g, escapeOf);
 // This page itself, with the netlist and the session. (Names of files may have letters of more than a byte.)
 async function saveWhole() {
   const {name, netlist, part} = live, {files} = await sayPlainly([`session! ${WRITTEN.session}`], [WRITTEN.session]);
-  const carried = {name: encodeURIComponent(name), netlist: lettersOf(netlist), part, session: files[WRITTEN.session]};
+  const sources = [...live.sources].map(([file, lines]) => [encodeURIComponent(file), lines]);
+  const carried = {name: encodeURIComponent(name), netlist: lettersOf(netlist), part, session: files[WRITTEN.session], sources};
   const [head, tail] = source.split(blockStart('carried'));
   const text = `${head}${blockStart('carried')}${escaped(JSON.stringify(carried))}${tail.slice(tail.indexOf(BLOCK_END))}`;
   save(`${stem()}.live.html`, `<!doctype html>\n${text}`, 'text/html');
@@ -128,8 +120,9 @@ const source = document.documentElement.outerHTML;
 
 // Opens what the page carries: a netlist, and what was played on it.
 async function openCarried() {
-  const {name, netlist, part, session} = JSON.parse(textOf('carried'));
+  const {name, netlist, part, session, sources} = JSON.parse(textOf('carried'));
   const isOpened = await busily(() => openNetlist(decodeURIComponent(name), bytesOfLetters(netlist), part));
+  for (const [file, lines] of sources) live.sources.set(decodeURIComponent(file), lines);
   if (isOpened) await busily(() => playSession(decodeURIComponent(name), session));
 }
 

@@ -42,7 +42,7 @@ function endName(channel, end) {
 
 // Where a component or channel stands in the netlist, and where it comes from in the source.
 function placeOf(item) {
-  const inside = item.path ? ` (in ${item.path})` : '', source = item.source ? `, from ${item.source}` : '';
+  const inside = item.path && !net.isGrouped ? ` (in ${item.path})` : '', source = item.source ? `, from ${item.source}` : '';
   return `${item.part} ${item.position}, line ${item.line} of the netlist${inside}${source}`;
 }
 
@@ -60,7 +60,9 @@ function tell(line) {
     const first = found.met.get(component.number);
     return `Two requests met at ${component.title}${first ? `, first at line ${first}` : ''}.`;
   }
-  return component ? tellFiring(line, component) : tellHost(lineText(trace, line).split(' '));
+  if (!component) return tellHost(lineText(trace, line).split(' '));
+  // (on a page that is damaged there may be no such channel)
+  return net.channels[trace.channel[line]] ? tellFiring(line, component) : lineText(trace, line);
 }
 
 // What a component does: `Fetch 4 has the reply of Variable 1 on channel 13, value 2`.
@@ -69,6 +71,19 @@ function tellFiring(line, component) {
   const other = endName(channel, what === ASK || what === GOT ? channel.passive : channel.active);
   const verb = ['', 'asks', 'takes the request of', 'replies to', 'has the reply of'][what];
   return `${componentName(component)} ${verb} ${other} on ${channelName(channel)}${value ? `, value ${value}` : ''}`;
+}
+
+// The same in fewer words, for the list: `Variable 8 a replies 12 to BinaryFunc 13`.
+function tellShortly(line) {
+  const what = trace.what[line], component = net.components[trace.component[line]];
+  const channel = net.channels[trace.channel[line]], value = valueIn(trace, line);
+  if (!component || !isMove(what) || !channel) return tell(line);
+  const name = componentName(component);
+  const other = endName(channel, what === ASK || what === GOT ? channel.passive : channel.active);
+  if (what === ASK) return `${name} asks ${other}${value && ` with ${value}`}`;
+  if (what === REPLY) return `${name} replies ${value && `${value} `}to ${other}`;
+  const [verb, noun] = what === TAKE ? ['takes', 'request'] : ['gets', 'reply'];
+  return `${name} ${verb} ${value ? `${value} from` : `the ${noun} of`} ${other}`;
 }
 
 // What a host does, and what it is told.

@@ -6,7 +6,7 @@ pub(crate) const HEAD: &str = r##"<!doctype html>
 <head>
 <meta charset="utf-8">
 <meta name="viewport" content="width=device-width">
-<meta http-equiv="Content-Security-Policy" content="default-src 'none'; style-src 'unsafe-inline'; script-src 'sha256-MBeMe2tJKVrqWYGwoU69URjdJQbBUb3i9yV8nvW1lFU='">
+<meta http-equiv="Content-Security-Policy" content="default-src 'none'; style-src 'unsafe-inline'; script-src 'sha256-ZlvLxevF8OhINCbonBaAG2lXpl2dwpFbsHc4vdvxals='">
 <title>breezesim</title>
 <style>
 /* Colours: light, and dark where the reader's system or the reader says so. Phases are told by dashes and marks too. */
@@ -44,6 +44,7 @@ body {
   grid-template-areas: "top top" "net side" "chart side" "bar bar";
 }
 body.charted { grid-template-rows: auto minmax(0, 1fr) minmax(0, 46vh) auto; }
+body.charted.low { grid-template-rows: auto minmax(0, 1fr) minmax(0, 34vh) auto; }
 header, aside, footer, #chart { background: var(--panel); }
 header { grid-area: top; display: flex; gap: 10px; align-items: center; padding: 6px 12px; border-bottom: 1px solid var(--rule); }
 #part { font-size: 15px; }
@@ -56,6 +57,8 @@ button:not(:disabled) { cursor: pointer; }
 button:hover:not(:disabled) { border-color: var(--dim); }
 button:disabled { opacity: .4; }
 button.on { border-color: var(--selected); color: var(--selected); }
+.zoom { display: flex; }
+.zoom button { padding: 3px 6px; border-radius: 0; margin-left: -1px; }
 :focus-visible { outline: 2px solid var(--selected); outline-offset: 1px; }
 
 /* Search */
@@ -81,11 +84,16 @@ aside {
 }
 aside h2 {
   font-size: 11px; font-weight: 600; text-transform: uppercase; color: var(--dim); margin: 0; padding: 6px 10px 2px;
+  display: flex; gap: 6px; align-items: center;
 }
+aside h2 span { margin-right: auto; }
+aside h2 button { font-size: 11px; font-weight: 400; padding: 0 6px; }
 #journal, .history, #chart text { font-family: ui-monospace, "DejaVu Sans Mono", monospace; font-size: 12px; }
-#journal { overflow: hidden; border-bottom: 1px solid var(--rule); }
+#journal { overflow: hidden; border-bottom: 1px solid var(--rule); touch-action: none; }
+#journal.words { font-family: inherit; }
 div.row { height: 18px; display: flex; gap: 8px; padding: 0 10px; white-space: pre; cursor: pointer; overflow: hidden; }
 div.row .line { color: var(--dim); min-width: 52px; text-align: right; flex: none; }
+#journal .row span { overflow: hidden; text-overflow: ellipsis; }
 div.row.host { font-weight: 700; }
 div.row.rest { background: var(--resting); }
 div.row.bad { color: var(--clash); }
@@ -184,6 +192,7 @@ circle.passive { fill: var(--ground); stroke: var(--ink); stroke-width: 1.4; }
 .taken .token { fill: var(--taken); }
 .replied .token { fill: var(--replied); }
 svg .stub { font-size: 8.5px; stroke-width: 2px; }
+svg .set { font-size: 8px; fill: var(--dim); }
 svg .number { font-size: 9px; pointer-events: none; }
 .value { display: none; pointer-events: none; }
 .value.on { display: block; }
@@ -206,6 +215,7 @@ svg .caption { font-size: 9.5px; }
 .folded .caption { stroke: none; }
 .names { display: none; }
 .near .names { display: block; }
+.near .set { display: none; }
 svg .names text { font-size: 6.5px; stroke-width: 1px; }
 g.port { cursor: pointer; }
 g.port rect { fill: var(--body); stroke: var(--ink); stroke-width: 2.4; }
@@ -213,7 +223,10 @@ g.port text { font-weight: 700; }
 g.port.moved rect { stroke: var(--moved); stroke-width: 5; }
 g.port.refused rect { stroke: var(--clash); stroke-width: 5; stroke-dasharray: 6 3; }
 g.port.selected rect { stroke: var(--selected); }
-.far .number, .far .caption, .far .stub, .farthest .sign { display: none; }
+.far .number, .far .caption, .far .stub, .far .set, .farthest .sign { display: none; }
+.channel.bundle .line { stroke-width: 4; }
+.counted .channel .line { stroke-width: var(--wide); stroke-dasharray: none; }
+.counted [data-moved="0"] { opacity: .25; }
 .resting { box-shadow: inset 0 0 0 4px var(--rest); }
 
 /* The chart */
@@ -244,6 +257,37 @@ g.row.now rect { fill: var(--moved); fill-opacity: .5; }
 #chart .stroke .starts { text-anchor: start; }
 #chart .stroke .ends { text-anchor: end; }
 
+/* The streams */
+#chart .streams .name { text-anchor: end; cursor: pointer; }
+#chart .streams .selected .name { fill: var(--selected); font-weight: 700; }
+#chart .streams .tick { fill: var(--dim); font-size: 9.5px; text-anchor: middle; }
+#chart .streams .tick.ends { text-anchor: end; }
+#chart .streams { cursor: crosshair; display: block; touch-action: none; }
+#chart .streams text { font-size: 11px; }
+.streams rect.idle { fill: var(--idle); }
+.streams rect.asked { fill: var(--asked); }
+.streams rect.taken { fill: var(--taken); }
+.streams rect.replied { fill: var(--replied); }
+.streams rect.held { fill: var(--busy); stroke: var(--taken); stroke-width: .8; }
+.streams rect.many { fill: var(--dim); opacity: .55; }
+#chart .told { text-anchor: start; fill: var(--panel); pointer-events: none; }
+#chart .told.held, #chart .told.beside { fill: var(--ink); }
+.streams line.now { stroke: var(--moved); stroke-width: 2; pointer-events: none; }
+.streams line.rest { stroke: var(--rest); }
+
+/* The source */
+.source { padding: 4px 0; font: 12px ui-monospace, "DejaVu Sans Mono", monospace; tab-size: 4; }
+.source .file { padding: 2px 10px; color: var(--dim); }
+.source .gap { padding-left: 58px; line-height: 8px; color: var(--dim); }
+.source .row.active { background: var(--busy); }
+.source .row.stuck { background: var(--clash); }
+.source .row.stuck, .source .row.stuck .line { color: var(--panel); }
+.source .row.now { outline: 2px solid var(--moved); outline-offset: -2px; background: none; color: inherit; }
+.source .row.now .line { background: none; color: var(--dim); }
+.source .row.now.active { background: var(--busy); }
+.source .row.now.stuck { background: var(--clash); color: var(--panel); }
+.source mark { background: var(--moved); color: var(--on-moved); }
+
 /* Printers and narrow screens */
 @media print {
   header button, .find, .buttons, #scrubber, #line, .events { display: none; }
@@ -254,10 +298,11 @@ g.row.now rect { fill: var(--moved); fill-opacity: .5; }
     grid-template: auto minmax(0, 1.3fr) minmax(0, 1fr) auto / minmax(0, 1fr);
     grid-template-areas: "top" "net" "side" "bar";
   }
-  body.charted {
+  body.charted, body.charted.low {
     grid-template: auto minmax(0, 1fr) minmax(0, 1fr) auto / minmax(0, 1fr);
     grid-template-areas: "top" "net" "chart" "bar";
   }
+  header { gap: 6px; }
   body.charted aside { display: none; }
   aside { border-left: 0; border-top: 1px solid var(--rule); grid-template-rows: auto minmax(0, 1fr); }
   #details, .chosen #journal, .chosen h2 { display: none; }
@@ -284,17 +329,24 @@ autocomplete="off" spellcheck="false">
 <span id="count"></span>
 <div id="found"></div>
 </span>
+<button id="streaming" title="what passed at ports and what variables held, from left to right (t)">streams</button>
 <button id="charting" title="chart of the lines around (c)">chart</button>
+<button id="sourcing" title="the source, where control is (y)">source</button>
+<button id="counting" title="how many handshakes there were (k)">counts</button>
 <button id="focus" title="only what moves around this line (o)">focus</button>
-<button id="fit" title="whole net (f)">fit</button>
+<span class="zoom"><button id="farther" title="farther (-)" aria-label="farther">−</button><button id="fit"
+title="whole net (f)">fit</button><button id="nearer" title="nearer (+)" aria-label="nearer">+</button></span>
 <button id="follow" title="keep what moves in sight (w)">follow</button>
+<button id="picture" title="save the picture (S)" aria-label="save the picture">⤓</button>
 <button id="theme" title="light or dark (d)">◐</button>
 <button id="ask" title="keys (?)">?</button>
 </header>
 <svg id="svg" role="img" aria-label="the net"><g id="root"></g></svg>
 <div id="chart"></div>
 <aside>
-<h2>Trace</h2>
+<h2><span>Trace</span>
+<button id="only" title="all lines, those of the host, of what is selected, found (e)">all lines</button>
+<button id="words" title="in words (v)">words</button></h2>
 <div id="journal"></div>
 <div id="details"></div>
 </aside>
@@ -327,10 +379,14 @@ autocomplete="off" spellcheck="false">
 <tr><td><kbd>r</kbd> <kbd>R</kbd> <kbd>x</kbd></td><td>next rest, previous rest, next clash</td></tr>
 <tr><td><kbd>/</kbd> <kbd>Enter</kbd> <kbd>n</kbd> <kbd>N</kbd> <kbd>↓</kbd> <kbd>↑</kbd></td>
 <td>search, next, next, previous line found; choose a name found</td></tr>
-<tr><td><kbd>g</kbd></td><td>go to a line by its number</td></tr>
+<tr><td><kbd>g</kbd> <kbd>u</kbd></td><td>go to a line by its number; back to the last place</td></tr>
+<tr><td><kbd>e</kbd> <kbd>v</kbd></td>
+<td>which lines the list shows: all, those of the host, of what is selected, found; in words</td></tr>
 <tr><td><kbd>+</kbd> <kbd>-</kbd> <kbd>f</kbd> <kbd>w</kbd></td><td>nearer, farther, whole net, follow what moves</td></tr>
 <tr><td><kbd>o</kbd> <kbd>s</kbd></td><td>only what moves around this line; channels to hubs as stubs</td></tr>
-<tr><td><kbd>c</kbd> <kbd>d</kbd> <kbd>Esc</kbd></td><td>chart, light or dark, nothing selected</td></tr>
+<tr><td><kbd>t</kbd> <kbd>p</kbd></td><td>streams; a row of its own for what is selected, or none again</td></tr>
+<tr><td><kbd>c</kbd> <kbd>y</kbd> <kbd>k</kbd></td><td>chart, source, counts of handshakes</td></tr>
+<tr><td><kbd>d</kbd> <kbd>S</kbd> <kbd>Esc</kbd></td><td>light or dark, save the picture, nothing selected</td></tr>
 </table>
 <p><b>Signs.</b> A circle is a component. A channel goes from a filled dot (the end that asks) to an open one (the end that
 answers). Its arrow says where a value goes.<br>
@@ -354,9 +410,7 @@ pub(crate) const MID2: &str = r##"</script>
 pub(crate) const TAIL: &str = r##"</script>
 <script>'use strict';
 (() => {
-// ---- the three texts that the program wrote, as a net and a trace; nothing here touches the picture -----------------
 
-// The text of a block. LF and printable ASCII but `<` and `%` stand for themselves there; any other byte is `%` and two digits.
 const textOf = id => unescaped(document.getElementById(id).textContent);
 
 function unescaped(text) {
@@ -364,21 +418,23 @@ function unescaped(text) {
   return text.replace(/%([0-9A-F]{2})/g, (all, digits) => String.fromCharCode(parseInt(digits, 16)));
 }
 
-// The kinds at which no two requests may meet.
 const CALLS = new Set(['Call', 'CallMux', 'CallDemux']);
 
 const IDLE = 0, ASKED = 1, TAKEN = 2, REPLIED = 3;
 const PHASES = ['idle', 'asked', 'taken', 'replied'];
 
-// What can never move again: the first line behind which something is stuck (0: there is none), how many components are stuck
-// there, the stuck ones at the end, and the members of a ring with their lines.
 const nothingStuck = () => ({line: 0, first: 0, members: new Set(), ring: new Map()});
 
-// The rows of ports of each kind, the details of components, what is stuck, and who waits for whom at the end.
 function readRows(text) {
-  const found = {ports: new Map(), details: new Map(), stuck: nothingStuck(), end: []};
+  const found = {ports: new Map(), details: new Map(), stuck: nothingStuck(), end: [], sources: new Map()};
+  let source = [];
   for (const line of text.split('\n')) {
+    if (line.startsWith('text ')) {
+      source.push(line.slice(5));
+      continue;
+    }
     const words = line.split(' ');
+    if (words[0] === 'source') found.sources.set(words[1], source = []);
     if (words[0] === 'row') found.ports.set(words[1], words.slice(2).map(readPort));
     if (words[0] === 'detail') found.details.set(Number(words[1]), words.slice(2).join(' '));
     if (words[0] === 'stuck') {
@@ -391,15 +447,12 @@ function readRows(text) {
   return found;
 }
 
-// A port of a row: `p:` or `a:` for passive or active, its name, and `*` for an array of ports.
 function readPort(word) {
   return {isPassive: word[0] === 'p', isArray: word.endsWith('*'), name: word.slice(2).replace('*', '')};
 }
 
 const MEMBERS = new Map([['in', 'path'], ['name', 'name'], ['from', 'source']]);
 
-// Where a record stands: `at PART POSITION line LINE`, and then, where they are told, `in PATH`, `name NAME` and
-// `from FILE:LINE:COLUMN`.
 function readPlace(words, at) {
   const place = {part: words[at + 1], position: Number(words[at + 2]), line: Number(words[at + 4])};
   for (const member of MEMBERS.values()) place[member] = '';
@@ -407,7 +460,6 @@ function readPlace(words, at) {
   return place;
 }
 
-// An end of a channel: null where nothing is there, 'host', or a component with its port.
 function readEnd(word) {
   if (word === '-') return null;
   if (word === 'host') return 'host';
@@ -415,25 +467,23 @@ function readEnd(word) {
   return {component, port};
 }
 
-// A channel of the list, with its ends: the active one asks, the passive one answers.
 function readChannel(words, ports) {
   const number = Number(words[1]), kind = words[2], at = kind === 'sync' ? 3 : 4, port = ports[number];
   return {number, kind, width: kind === 'sync' ? 0 : Number(words[3]), active: readEnd(words[at]),
     passive: readEnd(words[at + 1]), port: port ? port.name : '', isHostCaller: Boolean(port && port.isPassive),
-    isShown: true, isStub: false, ...readPlace(words, at + 2)};
+    isShown: true, isStub: false, isBundled: false, bundle: [number], ...readPlace(words, at + 2)};
 }
 
-// A component of the list, with the channels at its ports, counted from 1, and the names of its ports.
 function readComponent(words, rows) {
   const at = words.indexOf('at', 3), number = Number(words[1]), kind = words[2], place = readPlace(words, at);
   const channels = [0, ...words.slice(3, at).map(Number)], detail = rows.details.get(number) || place.name;
   const component = {number, kind, channels, detail, isShown: true, stubs: null, ...place};
   namePorts(component, rows.ports.get(kind) || []);
+  tellSets(component);
   component.title = `${number} ${kind}` + (component.detail ? ` ${component.detail}` : '');
   return component;
 }
 
-// The ports of a component: its kind's row with each array as long as the number of channels tells.
 function namePorts(component, row) {
   const arrays = row.filter(port => port.isArray).length, channels = component.channels.length - 1;
   const size = arrays ? (channels - row.length + arrays) / arrays : 0;
@@ -445,11 +495,16 @@ function namePorts(component, row) {
   component.ports.forEach((port, p) => { if (port) (port.isPassive ? component.passive : component.active).push(p); });
 }
 
-// The net of the list. Channels and components stand at their numbers, so the rows of both begin with null.
+function tellSets(component) {
+  if (component.kind !== 'Case' && component.kind !== 'CaseFetch') return;
+  const sets = component.detail.split(';'), array = component.ports.filter(port => port && /\d$/.test(port.name));
+  if (sets.length === array.length) array.forEach((port, i) => { port.set = sets[i]; });
+}
+
 function readNet(list, rowText) {
   const rows = readRows(rowText);
   const net = {part: '', ports: [], channels: [null], components: [null], instances: new Map(), stuck: rows.stuck,
-    end: rows.end};
+    end: rows.end, sources: rows.sources, files: null, isGrouped: false};
   for (const line of list.split('\n')) {
     const words = line.split(' '), number = Number(words[1]);
     if (words[0] === 'part') net.part = words[1];
@@ -458,17 +513,15 @@ function readNet(list, rowText) {
     if (words[0] === 'instance') net.instances.set(words[1], {path: words[1], name: words[2]});
     if (words[0] === 'component') net.components[number] = readComponent(words, rows);
   }
+  group(net);
   return net;
 }
 
-// What a line of a trace is: one of the four moves, a rest, a clash, or a host that was told without a move.
 const NONE = 0, ASK = 1, TAKE = 2, REPLY = 3, GOT = 4, REST = 5, CLASH = 6, TOLD = 7;
 const MOVES = {ask: ASK, take: TAKE, reply: REPLY, got: GOT};
 const HOST_MOVES = {offer: ASK, accept: TAKE, answer: REPLY, collect: GOT};
 const isMove = what => what >= ASK && what <= GOT;
 
-// A trace with its index: of each line, from 1, where it begins, what it is, its channel and its component (0 where none is); and
-// the lines of each channel and component, rising. It grows by the lines that are added.
 function readTrace(text, net) {
   const trace = {text: '', count: 0, start: new Uint32Array(64), what: new Uint8Array(64), channel: new Uint32Array(64),
     component: new Uint32Array(64), hostLines: [], rests: [], clashes: [], audited: null,
@@ -478,7 +531,6 @@ function readTrace(text, net) {
   return trace;
 }
 
-// Adds lines after the last one.
 function addLines(trace, text) {
   const before = trace.count;
   let more = 0, start = trace.text.length;
@@ -502,7 +554,6 @@ function addLines(trace, text) {
   trace.start[trace.count + 1] = start;
 }
 
-// Takes off the clash lines, which stand after all others.
 function dropClashes(trace) {
   trace.count -= trace.clashes.length;
   trace.clashes.length = 0;
@@ -518,7 +569,6 @@ function makeRoom(trace, size) {
   }
 }
 
-// Reads one line. A firing is read letter by letter, since there may be millions.
 function readLine(trace, line, start, end) {
   const {text} = trace, blank = text.indexOf(' ', start);
   if (text.charCodeAt(blank + 1) === 102) {                                           // WHO fire
@@ -544,7 +594,6 @@ function readLine(trace, line, start, end) {
   }
 }
 
-// The number that begins at a place of a text.
 function numberAt(text, at, end) {
   let number = 0;
   for (let i = at, digit; i < end && (digit = text.charCodeAt(i)) !== 32; i++) number = number * 10 + digit - 48;
@@ -553,7 +602,6 @@ function numberAt(text, at, end) {
 
 const lineText = (trace, line) => trace.text.slice(trace.start[line], trace.start[line + 1] - 1);
 
-// How many of the rising numbers list[from] up to list[to] are at or below a line.
 function countIn(list, from, to, line) {
   let low = from, high = to;
   while (low < high) {
@@ -563,7 +611,6 @@ function countIn(list, from, to, line) {
   return low - from;
 }
 
-// The lines of a key, how many there are, how many are at or below a line, and the one at an index (0 where there is none).
 const NO_LINES = [];
 const linesOf = (lines, key) => lines[key] || NO_LINES;
 const addLine = (lines, key, line) => { (lines[key] || (lines[key] = [])).push(line); };
@@ -571,17 +618,14 @@ const countOf = (lines, key) => linesOf(lines, key).length;
 const countTo = (lines, key, line) => countIn(linesOf(lines, key), 0, countOf(lines, key), line);
 const nthOf = (lines, key, index) => linesOf(lines, key)[index] || 0;
 
-// The last line at or below a line that changed a channel; 0 where none did. From it the channel's phase and value.
 const lastChange = (trace, channel, line) => nthOf(trace.changesOf, channel, countTo(trace.changesOf, channel, line) - 1);
 const phaseAfter = (trace, change) => (change === 0 ? IDLE : trace.what[change] & 3);
 
-// The value that is on a channel after a change: one that came with the request or with the reply and was not yet taken over.
 function valueAfter(trace, change) {
   if (change === 0 || trace.what[change] !== ASK && trace.what[change] !== REPLY) return '';
   return valueIn(trace, change);
 }
 
-// The value that a line brings, or ''. `w1 fire 4 got 2 5`, `h1 answer i 5 done`, `h1 accept o value 5`.
 function valueIn(trace, line) {
   const words = lineText(trace, line).split(' ');
   if (trace.component[line]) return words[5] || '';
@@ -589,14 +633,11 @@ function valueIn(trace, line) {
   return words[words.length - 2] === 'value' ? words[words.length - 1] : '';
 }
 
-// Whether something is stuck behind a line; and whether a component never moves again from there on. (What is stuck at the end may
-// have moved after that: so each counts from its own last move on.)
 const isStuckBehind = (net, line) => net.stuck.line > 0 && line >= net.stuck.line;
 const lastMoveOf = (trace, number) => nthOf(trace.linesOfComponent, number, countOf(trace.linesOfComponent, number) - 1);
 const isStill = (net, trace, number, line) => isStuckBehind(net, line) && net.stuck.members.has(number)
   && line >= lastMoveOf(trace, number);
 
-// What a variable holds: the value of the last write that it took, at first 0.
 function heldBy(trace, component, line) {
   const write = component.channels[1], seen = countTo(trace.changesOf, write, line);
   for (let i = seen - 1; i >= 0 && i >= seen - 4; i--) {
@@ -606,7 +647,6 @@ function heldBy(trace, component, line) {
   return '0';
 }
 
-// Who called, from a component up the requests that are taken: numbers of components, and last the host's port if it began there.
 function callersOf(net, trace, component, line) {
   const callers = [], seen = new Set();
   for (let at = component; at && !seen.has(at) && callers.length < 64;) {
@@ -620,9 +660,6 @@ function callersOf(net, trace, component, line) {
   return callers;
 }
 
-// Holds the trace against itself, apart from what the page shows of it: each line's move by the four-move table, values handed
-// over, phases and values that hosts were told, and the clash lines. `bad` is the first line that disagrees, or 0. It goes on
-// where the last look at the same trace ended.
 function audit(trace, net) {
   const seen = trace.audited || (trace.audited = {to: 1, phase: new Uint8Array(net.channels.length), open: new Map(),
     change: new Uint32Array(net.channels.length), found: {moves: 0, told: 0, values: 0, bad: 0, met: new Map()}});
@@ -636,12 +673,10 @@ function audit(trace, net) {
   if (!found.bad && trace.clashes[0] <= end) return {...found, bad: trace.clashes[0]};
   const due = [...found.met.keys()].sort((a, b) => a - b).join();
   const written = trace.clashes.map(line => trace.component[line]).join();
-  // (a trace of version 1 has no clash lines)
   const isAgreed = found.bad > 0 || due === written || lineText(trace, 1) !== 'trace 2';
   return isAgreed ? found : {...found, bad: trace.clashes[0] || trace.count};
 }
 
-// A move must find its channel in the phase before it, and bring on what was put there.
 function auditMove(trace, net, line, seen, found) {
   const what = trace.what[line], number = trace.channel[line], channel = net.channels[number];
   if (!channel || seen.phase[number] !== what - 1) return false;
@@ -661,7 +696,6 @@ function auditMove(trace, net, line, seen, found) {
   return true;
 }
 
-// A host that was told a phase, and perhaps a value, must have been told those of its port.
 function auditTold(trace, line, seen, found) {
   const words = lineText(trace, line).split(' '), at = words.findIndex((word, i) => i > 2 && PHASES.includes(word));
   if (at < 0) return true;
@@ -669,47 +703,114 @@ function auditTold(trace, line, seen, found) {
   found.told++;
   return words[at] === PHASES[seen.phase[number]] && (words[at + 1] || '') === valueAfter(trace, seen.change[number]);
 }
-// ---- layout: layers from left to right, one copy of a part at a time ------------------------------------------------
-// A level is one copy of a part: its components, the boxes of its instances (each laid out alone before), and gates, where
-// channels come in at its left edge and go out at its right one. Neither chance nor time has a say: one net has one picture.
 
-// Kinds whose active ports have an order that says something. All other ports may change places on their side.
+const GROUPED_FROM = 60, GROUP_LEAST = 8, MOST_STEPS = 2e7;
+
+function askersOf(net) {
+  const graph = net.components.map(() => ({asks: [], askedBy: []}));
+  for (const channel of net.channels) {
+    if (!channel || !channel.passive || channel.passive === 'host') continue;
+    const from = channel.active && channel.active !== 'host' ? channel.active.component : 0, to = channel.passive.component;
+    graph[from].asks.push(to);
+    graph[to].askedBy.push(from);
+  }
+  return graph;
+}
+
+function postorder(graph) {
+  const order = [], seen = new Uint8Array(graph.length), stack = [{number: 0, next: 0}];
+  seen[0] = 1;
+  while (stack.length) {
+    const top = stack[stack.length - 1], next = graph[top.number].asks[top.next++];
+    if (next === undefined) order.push(stack.pop().number);
+    else if (!seen[next]) {
+      seen[next] = 1;
+      stack.push({number: next, next: 0});
+    }
+  }
+  return order;
+}
+
+function dominators(graph, order) {
+  const rank = new Int32Array(graph.length), above = new Int32Array(graph.length).fill(-1);
+  let steps = 0;
+  order.forEach((number, i) => { rank[number] = i; });
+  above[0] = 0;
+  const meet = (a, b) => {
+    for (; a !== b; steps++) if (rank[a] < rank[b]) a = above[a]; else b = above[b];
+    return a;
+  };
+  for (let isChanged = true; isChanged && steps < MOST_STEPS;) {
+    isChanged = false;
+    for (let i = order.length - 2; i >= 0 && steps < MOST_STEPS; i--) {
+      const number = order[i], found = graph[number].askedBy.filter(it => above[it] >= 0).reduce(meet);
+      if (found !== above[number]) isChanged = true;
+      above[number] = found;
+    }
+  }
+  return steps < MOST_STEPS ? above : null;
+}
+
+function group(net) {
+  if (net.instances.size || net.components.length - 1 <= GROUPED_FROM) return;
+  const graph = askersOf(net), above = dominators(graph, postorder(graph));
+  if (!above) return;
+  const below = graph.map(() => []), size = new Int32Array(graph.length), order = [0];
+  for (let number = 1; number < graph.length; number++) if (above[number] >= 0) below[above[number]].push(number);
+  for (let i = 0; i < order.length; i++) for (const one of below[order[i]]) order.push(one);
+  for (const number of order.slice().reverse()) size[number] = 1 + below[number].reduce((sum, one) => sum + size[one], 0);
+  for (const number of order) {
+    const isAlone = below[number].filter(one => size[one] >= GROUP_LEAST).length < 2;
+    const outer = number ? net.components[number].path : '';
+    for (const one of below[number]) {
+      const isGroup = !isAlone && size[one] >= GROUP_LEAST && isBegun(net, net.components[one]);
+      net.components[one].path = isGroup ? `${outer && `${outer}/`}${one}` : outer;
+      if (isGroup) putGroup(net, net.components[one]);
+    }
+  }
+}
+
+const isBegun = (net, component) => component.passive.some(p => net.channels[component.channels[p]].kind === 'sync');
+
+function putGroup(net, {path, source, kind}) {
+  net.instances.set(path, {path, name: source || kind});
+  net.isGrouped = true;
+}
+
 const ORDERED = new Set(['Sequence', 'SequenceOptimised', 'Case', 'CaseFetch', 'While', 'BinaryFunc', 'Combine', 'CombineEqual',
   'Split', 'DecisionWait', 'Bar']);
-// Kinds to which so much leads that their channels may be drawn as stubs.
 const HUBS = new Set(['Variable', 'FalseVariable', 'Call', 'CallMux', 'CallDemux']);
 
 const RADIUS = 21, PORT_STEP = 14, CAPTION = 15, STUB_SPACE = 34, LETTER = 5.4;
-const COLUMN_GAP = 46, NODE_GAP = 22, THREAD_GAP = 12;
+const COLUMN_GAP = 46, NODE_GAP = 22, THREAD_GAP = 12, BOX_STUBS = 12, BOX_CALLERS = 4;
 
-// The levels of what is shown, by path. Nodes: `c5` a component, `p3` a port, `i2/4` an instance's box, `o7` and `e7` the gates
-// by which channel 7 goes out of a copy and comes into one.
 class Levels {
   constructor(net, folded) {
-    Object.assign(this, {net, folded, byPath: new Map()});
+    Object.assign(this, {net, folded, byPath: new Map(), bundles: new Map(), callers: new Map()});
     this.level('');
+    const isShown = component => p => {
+      const channel = net.channels[component.channels[p]];
+      return channel.isShown && !channel.isBundled;
+    };
     for (const component of net.shownComponents) {
       const chain = this.seat(component.path), last = chain[chain.length - 1];
-      if (folded.has(last)) continue;
-      this.node(last, `c${component.number}`, {component, isShown: p => net.channels[component.channels[p]].isShown});
+      if (!folded.has(last)) this.node(last, `c${component.number}`, {component, isShown: isShown(component)});
     }
+    for (const channel of net.shownChannels) if (channel.isStub) this.noteCaller(channel);
     for (const channel of net.shownChannels) this.putChannel(channel);
   }
 
-  // The level of a path.
   level(path) {
     if (!this.byPath.has(path)) this.byPath.set(path, {path, nodes: new Map(), edges: []});
     return this.byPath.get(path);
   }
 
-  // The node of a level, made where there is none yet.
   node(path, id, members) {
     const {nodes} = this.level(path);
     if (!nodes.has(id)) nodes.set(id, {id, ...members});
     return nodes.get(id);
   }
 
-  // The copies from the outermost down to a path, or to the first that is folded; their boxes are made.
   seat(path) {
     const chain = [''];
     if (path === '') return chain;
@@ -723,7 +824,6 @@ class Levels {
     return chain;
   }
 
-  // Where an end of a channel is seen: at the host's port, at a component, or at the box that is folded over it.
   endOf(end, channel, side) {
     if (end === 'host') return {chain: [''], id: `p${channel.number}`};
     const chain = this.seat(this.net.components[end.component].path), last = chain[chain.length - 1];
@@ -731,12 +831,12 @@ class Levels {
     return {chain: chain.slice(0, -1), id: `i${last}`, tip: side + channel.number, isBox: true};
   }
 
-  // Puts a channel into the deepest copy that holds both of its ends, and gates where it goes on inwards.
   putChannel(channel) {
     if (channel.port) this.node('', `p${channel.number}`, {port: channel});
     if (!channel.active || !channel.passive) return;
     const tail = this.endOf(channel.active, channel, 'o'), head = this.endOf(channel.passive, channel, 'e');
     if (tail.id === head.id && (tail.isBox || channel.active === 'host')) return;
+    if (this.putIntoBundle(channel, tail, head)) return;
     if (channel.isStub) {
       this.putStub(tail, 'o', channel);
       this.putStub(head, 'e', channel);
@@ -748,12 +848,32 @@ class Levels {
     this.level(tail.chain[common]).edges.push(edge);
   }
 
-  // A box keeps a place for a stub.
-  putStub(end, side, channel) {
-    if (end.isBox) this.node(end.chain[end.chain.length - 1], end.id).stubs[side].push(channel.number);
+  noteCaller(channel) {
+    const tail = this.endOf(channel.active, channel, 'o'), key = this.hubOf(channel);
+    if (tail.isBox) this.callers.set(key, (this.callers.get(key) || new Set()).add(tail.id));
+  }
+  hubOf({passive, kind}) { return `${passive.component} ${kind}`; }
+
+  putIntoBundle(channel, tail, head) {
+    const callers = channel.isStub && tail.isBox && !head.isBox ? this.callers.get(this.hubOf(channel)).size : 1;
+    const isCrowd = callers > BOX_CALLERS, key = isCrowd ? this.hubOf(channel) : `${tail.id} ${head.id}`;
+    const first = this.bundles.get(key);
+    Object.assign(channel, {bundle: [channel.number], isBundled: false, callers: isCrowd ? callers : 1});
+    if (!tail.isBox && !head.isBox) return false;
+    if (!first) this.bundles.set(key, channel);
+    else {
+      first.bundle.push(channel.number);
+      channel.isBundled = true;
+    }
+    return channel.isBundled;
   }
 
-  // From the copy where a channel is drawn down to its end: in each copy on the way a gate. Answers how it looks from above.
+  putStub(end, side, channel) {
+    if (!end.isBox || channel.callers > 1) return;
+    const stubs = this.node(end.chain[end.chain.length - 1], end.id).stubs[side];
+    if (stubs.length < BOX_STUBS) stubs.push(channel.number);
+  }
+
   passGates(end, common, channel, side) {
     const boxAt = i => ({id: `i${end.chain[i]}`, tip: side + channel.number});
     for (let i = common + 1; i < end.chain.length; i++) {
@@ -766,9 +886,8 @@ class Levels {
   }
 }
 
-// One level laid out: its nodes have their middles, its lines their points, the frame its size and the places of its gates.
 class LevelLayout {
-  constructor(level, inner, folded) {
+  constructor(level, inner, folded, before) {
     this.isTop = level.path === '';
     this.nodes = [...level.nodes.values()];
     this.sizeNodes(inner, folded);
@@ -778,6 +897,7 @@ class LevelLayout {
     this.standGatesApart();
     this.threadEdges();
     this.orderFirst();
+    this.keepOrder(before);
     this.orderBySweeps();
     this.exchangeNeighbours();
     this.settleHeights();
@@ -787,7 +907,6 @@ class LevelLayout {
     this.drawLines();
   }
 
-  // The size of each node, and where on it channels end.
   sizeNodes(inner, folded) {
     const isCrowded = this.nodes.length > 120;
     for (const node of this.nodes) {
@@ -803,7 +922,6 @@ class LevelLayout {
     }
   }
 
-  // Edges between nodes, with the places where they end on them.
   joinEdges(level) {
     const boxes = this.nodes.filter(node => node.box && !node.layout);
     const sides = new Map(boxes.map(node => [node.id, {o: node.stubs.o.slice(), e: node.stubs.e.slice()}]));
@@ -821,7 +939,6 @@ class LevelLayout {
     });
   }
 
-  // A channel back to a node that is on the way to it is turned round, so that all lead from left to right.
   turnCircles() {
     for (const node of this.nodes) Object.assign(node, {out: [], in: []});
     for (const edge of this.edges) edge.tail.out.push(edge);
@@ -854,7 +971,6 @@ class LevelLayout {
     }
   }
 
-  // Layers: the longest way from the left, and then each node where its channels are shortest.
   assignLayers() {
     const order = this.nodes.filter(node => node.in.length === 0);
     const waiting = new Map(this.nodes.map(node => [node, node.in.length]));
@@ -871,7 +987,6 @@ class LevelLayout {
       for (const node of turn % 2 ? order : order.slice().reverse()) if (!node.isHub) node.layer = this.bestLayer(node);
   }
 
-  // Hubs whose channels are stubs stand in columns of their own at the right.
   standHubsApart() {
     const isHub = node => node.component && HUBS.has(node.component.kind);
     const isApart = node => node.component.stubs && node.in.length === 0 && node.out.every(edge => isHub(edge.to));
@@ -884,7 +999,6 @@ class LevelLayout {
     this.last += 2;
   }
 
-  // Nearest to the side to which more channels lead; gates and ports of the host at the edges.
   bestLayer(node) {
     if (node.gate === 'e') return 0;
     if (node.gate || node.port && !node.port.isHostCaller && node.out.length === 0) return this.last;
@@ -895,7 +1009,6 @@ class LevelLayout {
     return node.in.length ? Math.min(Math.max(node.layer, least), most) : node.layer;
   }
 
-  // Gates stand alone in the outermost layers. Then the rows of layers are made, still empty.
   standGatesApart() {
     const {nodes} = this, isIn = node => node.gate === 'e', isOut = node => node.gate === 'o';
     if (nodes.some(isIn) && nodes.some(node => !node.gate && node.layer === 0)) {
@@ -907,7 +1020,6 @@ class LevelLayout {
     this.layers = Array.from({length: this.last + 1}, () => []);
   }
 
-  // Each edge as threads between neighbouring layers, with a knot in each layer that it passes.
   threadEdges() {
     this.threads = [];
     const knots = [];
@@ -935,7 +1047,6 @@ class LevelLayout {
     }
   }
 
-  // A first order within the layers: a walk from the left in the order of ports.
   orderFirst() {
     const seen = new Set();
     for (const first of [...this.firsts, ...this.nodes.filter(node => node.left.length === 0), ...this.nodes]) {
@@ -950,13 +1061,19 @@ class LevelLayout {
     }
   }
 
-  // Gives each node its index in its layer, and turns ports so that their channels cross less.
+  keepOrder(before) {
+    const isKnown = node => before.has(node.id), height = node => before.get(node.id).y;
+    for (const layer of before.size ? this.layers : []) {
+      const known = layer.filter(isKnown).sort((a, b) => height(a) - height(b));
+      layer.forEach((node, i) => { if (isKnown(node)) layer[i] = known.shift(); });
+    }
+  }
+
   numberNodes() {
     for (const layer of this.layers) layer.forEach((node, index) => { node.index = index; });
     this.untwist();
   }
 
-  // Ports whose order says nothing change places, so that each stands on its side as what it leads to stands there.
   untwist() {
     for (const node of this.nodes) if (node.component) {
       const goOut = node.right.filter(thread => thread.tailAt === node);
@@ -966,7 +1083,6 @@ class LevelLayout {
     }
   }
 
-  // How many pairs of threads cross.
   crossings() {
     let sum = 0;
     for (const layer of this.layers) {
@@ -981,7 +1097,6 @@ class LevelLayout {
     return sum;
   }
 
-  // Order within the layers by the middle of the neighbours, to and fro; the best of these orders is kept.
   orderBySweeps() {
     this.numberNodes();
     let least = this.crossings(), best = this.layers.map(layer => layer.slice());
@@ -1000,7 +1115,6 @@ class LevelLayout {
     this.numberNodes();
   }
 
-  // Neighbours change places where that takes crossings away.
   exchangeNeighbours() {
     for (let turn = 0, isChanged = true; isChanged && turn < 8; turn++) {
       isChanged = false;
@@ -1016,7 +1130,6 @@ class LevelLayout {
     this.crossed = this.crossings();
   }
 
-  // Heights: each node as near to where its channels want it as the others of its layer let it.
   settleHeights() {
     for (const layer of this.layers) {
       let y = 0;
@@ -1033,7 +1146,6 @@ class LevelLayout {
     for (let turn = 0; turn < 6; turn++) for (const layer of turn % 2 ? back : this.layers) settle(layer, true, true);
   }
 
-  // Groups that no channel joins are moved up until they meet what is above them.
   closeGaps() {
     const groups = joinedGroups(this.all, this.threads);
     if (groups.length < 2) return;
@@ -1049,7 +1161,6 @@ class LevelLayout {
     }
   }
 
-  // Columns: each as wide as its widest node, and between two of them room for the steepest thread.
   placeColumns() {
     let x = 30;
     this.columns = this.layers.map((layer, k) => {
@@ -1068,7 +1179,6 @@ class LevelLayout {
     if (this.layers[this.last].some(node => node.gate === 'o')) this.columns[this.last] = {left: this.width, right: this.width};
   }
 
-  // The frame: its height, and where channels come in and go out, from its middle.
   placeFrame() {
     const top = this.all.reduce((least, node) => Math.min(least, node.y - node.height / 2), Infinity);
     const bottom = this.all.reduce((most, node) => Math.max(most, node.y + node.height / 2 + node.below), -Infinity);
@@ -1082,7 +1192,6 @@ class LevelLayout {
     }
   }
 
-  // The points of each channel. It is level where it passes a column, and so never runs under what stands there.
   drawLines() {
     this.lines = this.edges.map(edge => {
       const start = {x: edge.tail.x + edge.tailTip.x, y: edge.tail.y + edge.tailTip.y};
@@ -1099,7 +1208,6 @@ class LevelLayout {
   }
 }
 
-// A component is a circle, or taller where a side has many ports. Ports whose channel is not shown are left out.
 function sizeComponent(node) {
   const {component, isShown} = node;
   const inPorts = component.passive.filter(isShown), outPorts = component.active.filter(isShown);
@@ -1116,7 +1224,6 @@ function sizeComponent(node) {
   });
 }
 
-// A folded copy is a box with the channels that come in at its left side and those that go out at its right one.
 function sizeBox(node, sides) {
   const most = Math.max(sides.o.length, sides.e.length);
   Object.assign(node, {width: 96, height: Math.max(54, most * 12 + 14), tips: new Map(),
@@ -1125,12 +1232,10 @@ function sizeBox(node, sides) {
     node.tips.set(side + channel, {x: side === 'o' ? 48 : -48, y: (i - (sides[side].length - 1) / 2) * 12}));
 }
 
-// Where an edge ends on a node, from the node's middle.
 function tipOf(node, tip, sign) {
   return node.tips ? node.tips.get(tip) : {x: node.gate ? 0 : sign * node.width / 2, y: 0};
 }
 
-// The ports of one side take the places of that side in the order of the nodes at their other ends.
 function turnSide(node, threads, ports, other, port, y) {
   if (ports.length < 2 || threads.length !== ports.length) return;
   const sorted = threads.slice().sort((x, z) => x[other].index - z[other].index);
@@ -1142,7 +1247,6 @@ function turnSide(node, threads, ports, other, port, y) {
   });
 }
 
-// The middle of the neighbours of a node on one side, in their order; null where there are none.
 function middleOf(node, side) {
   const threads = node[side];
   if (threads.length === 0) return null;
@@ -1153,7 +1257,6 @@ function middleOf(node, side) {
   return places.reduce((sum, place) => sum + place, 0) / places.length;
 }
 
-// How many threads of two neighbours cross where one stands above the other.
 function pairCrossings(above, below) {
   let sum = 0;
   for (const x of above.left) for (const y of below.left) if (y.a.index < x.a.index || y.a === x.a && y.ay < x.ay) sum++;
@@ -1161,7 +1264,6 @@ function pairCrossings(above, below) {
   return sum;
 }
 
-// Settles one layer by its neighbours at the left, at the right, or both. Nodes that push each other move as one block.
 function settle(layer, byLeft, byRight) {
   const blocks = [];
   let offset = 0;
@@ -1192,7 +1294,6 @@ function settle(layer, byLeft, byRight) {
   });
 }
 
-// The nodes in groups that threads join.
 function joinedGroups(nodes, threads) {
   const leader = new Map(nodes.map(node => [node, node]));
   const find = node => {
@@ -1215,24 +1316,22 @@ function joinedGroups(nodes, threads) {
   return [...groups.values()];
 }
 
-// ---- the whole picture ----------------------------------------------------------------------------------------------
 
-// All levels laid out, each copy before the one around it. Answers the outermost ones: one for each set of its nodes.
-function layLevels(net, folded, columnOf) {
+function layLevels(net, folded, before, columnOf) {
   const levels = new Levels(net, folded), laid = new Map();
   const inner = path => {
-    if (!laid.has(path)) laid.set(path, new LevelLayout(levels.level(path), inner, folded));
+    if (!laid.has(path)) laid.set(path, new LevelLayout(levels.level(path), inner, folded, before));
     return laid.get(path);
   };
   if (!columnOf) return [inner('')];
   const root = levels.level(''), count = 1 + Math.max(...columnOf.values());
   return Array.from({length: count}, (none, column) => {
     const nodes = new Map([...root.nodes].filter(([id]) => columnOf.get(id) === column));
-    return new LevelLayout({path: '', nodes, edges: root.edges.filter(edge => nodes.has(edge.tail.id))}, inner, folded);
+    const edges = root.edges.filter(edge => nodes.has(edge.tail.id));
+    return new LevelLayout({path: '', nodes, edges}, inner, folded, before);
   });
 }
 
-// Channels to hubs become stubs: two short pieces, each with the name of the other end, as a signal in a schematic.
 function markStubs(net, isWanted) {
   for (const component of net.shownComponents) component.stubs = null;
   for (const channel of net.shownChannels) channel.isStub = false;
@@ -1245,7 +1344,6 @@ function markStubs(net, isWanted) {
     }
 }
 
-// Makes a channel a stub, known at the ports of both ends.
 function makeStub(net, channel) {
   channel.isStub = true;
   for (const end of [channel.active, channel.passive]) if (end && end !== 'host') {
@@ -1255,8 +1353,6 @@ function makeStub(net, channel) {
   }
 }
 
-// A tall picture, such as a long chain of copies, is cut across into columns that stand side by side. Answers the column of each
-// outermost node, and makes channels between columns stubs.
 function cutInColumns(net, whole, count) {
   const columnOf = new Map();
   const place = node => Math.min(count - 1, Math.max(0, Math.floor(count * node.y / whole.height)));
@@ -1271,12 +1367,11 @@ function cutInColumns(net, whole, count) {
 
 const TALL = 1400, WIDE_TO_HIGH = 1.5;
 
-// The picture of what is shown: nodes, frames, lines of channels and stubs, each with its place.
-function layout(net, folded, isStubbed) {
+function layout(net, folded, isStubbed, before) {
   markStubs(net, isStubbed);
-  let levels = layLevels(net, folded);
+  let levels = layLevels(net, folded, before);
   const [{width, height}] = levels, columns = Math.round(Math.sqrt(WIDE_TO_HIGH * height / width));
-  if (height > TALL && columns > 1) levels = layLevels(net, folded, cutInColumns(net, levels[0], columns));
+  if (height > TALL && columns > 1) levels = layLevels(net, folded, before, cutInColumns(net, levels[0], columns));
   const picture = {width: 0, height: 0, nodes: [], frames: [], lines: new Map(), stubs: new Map(), crossed: 0};
   const pieces = new Map();
   for (const level of levels) {
@@ -1289,7 +1384,6 @@ function layout(net, folded, isStubbed) {
   return picture;
 }
 
-// Takes what a level and those within have into the picture, moved to where the level stands.
 function placeLevel(level, dx, dy, picture, pieces) {
   picture.crossed += level.crossed;
   for (const node of level.nodes) {
@@ -1306,7 +1400,6 @@ function placeLevel(level, dx, dy, picture, pieces) {
   }
 }
 
-// The pieces of a channel as one line, from its active end out of the copies around it and into those around its passive end.
 function joinPieces(pieces) {
   const isNear = (p, q) => Math.abs(p.x - q.x) < 0.6 && Math.abs(p.y - q.y) < 0.6;
   const left = pieces.slice(), first = left.find(piece => piece.isFirst) || left[0], points = first.points.slice();
@@ -1318,7 +1411,6 @@ function joinPieces(pieces) {
   return points;
 }
 
-// The short pieces of each stub, where its ends are seen.
 function placeStubs(net, picture) {
   const seats = new Map(picture.nodes.map(node => [node.id, node]));
   const seatOf = (end, channel, side) => {
@@ -1328,7 +1420,7 @@ function placeStubs(net, picture) {
     const box = steps.map((step, i) => seats.get(`i${steps.slice(0, i + 1).join('/')}`)).find(it => it);
     return box ? {seat: box, tip: box.tips.get(side + channel.number)} : null;
   };
-  for (const channel of net.shownChannels) if (channel.isStub) {
+  for (const channel of net.shownChannels) if (channel.isStub && !channel.isBundled) {
     const pieces = [];
     for (const [end, side, dx] of [[channel.active, 'o', 16], [channel.passive, 'e', -16]]) {
       const found = end === 'host' ? null : seatOf(end, channel, side);
@@ -1339,18 +1431,15 @@ function placeStubs(net, picture) {
   }
 }
 
-// ---- lines ----------------------------------------------------------------------------------------------------------
 
 const isLevel = (a, b) => Math.abs(a.y - b.y) < 0.5;
 const isSame = (a, b) => isLevel(a, b) && Math.abs(a.x - b.x) < 0.5;
 
-// How far the two inner points of a curve stand from its ends.
 function bendOf(a, b) {
   const dx = b.x - a.x;
   return dx > 0 ? dx / 2 : Math.max(18, Math.min(60, -dx / 2));
 }
 
-// A smooth line through points, level at each of them, as the text of a path.
 function curve(points) {
   const at = (x, y) => `${Math.round(x * 10) / 10} ${Math.round(y * 10) / 10}`;
   let text = `M${at(points[0].x, points[0].y)}`;
@@ -1362,7 +1451,6 @@ function curve(points) {
   return text;
 }
 
-// The same line as points close by, with the way to each: where a mark stands on it is found without asking the browser.
 function walkOf(points) {
   const walk = [{x: points[0].x, y: points[0].y, way: 0}];
   const go = (x, y) => {
@@ -1382,20 +1470,17 @@ function walkOf(points) {
   return walk;
 }
 
-// The place on a walk after some way, and the line's angle there.
 function onWalk(walk, way) {
   let i = 1;
   while (i < walk.length - 1 && walk[i].way < way) i++;
   const a = walk[i - 1], b = walk[i], t = b.way > a.way ? (way - a.way) / (b.way - a.way) : 0;
   return {x: a.x + t * (b.x - a.x), y: a.y + t * (b.y - a.y), angle: Math.atan2(b.y - a.y, b.x - a.x) * 180 / Math.PI};
 }
-// ---- words: the names of what there is, its signs, and what a line of the trace says --------------------------------
 
 const cut = (text, most) => (text.length > most ? text.slice(0, most - 1) + '…' : text);
 const counted = (count, one, many = `${one}s`) => `${count} ${count === 1 ? one : many}`;
 const isVariable = component => component.kind === 'Variable' || component.kind === 'FalseVariable';
 
-// The sign in a component's circle, as handshake circuits are drawn.
 const SIGNS = {
   Loop: '#', Sequence: ';', SequenceOptimised: ';', Concur: '‖', Fork: '⋔', WireFork: '⋔', ForkPush: '⋔', While: 'do', Bar: '[]',
   Case: '@', CaseFetch: '@', Fetch: '→', Constant: 'k', Slice: '[ ]', Combine: '⟨⟩', CombineEqual: '⟨⟩', Split: '⟩⟨', Adapt: 'ad',
@@ -1408,10 +1493,8 @@ const OPERATIONS = {
   LessOrEquals: '≤', GreaterOrEquals: '≥', And: '∧', Or: '∨', Xor: '⊕', Invert: '¬',
 };
 
-// A name that fits in a circle: `x` of `x[0..7]`, since a compiler's names end so.
 const shortName = name => cut(name.length > 5 ? name.replace(/(.)\[.*$/, '$1') : name, 5);
 
-// A variable has its name in the circle, a constant its value, and an operation its sign, with its constant if it has one.
 function signOf(component) {
   const [first, second] = component.detail.split(' ');
   if (isVariable(component) && first) return shortName(first);
@@ -1421,19 +1504,16 @@ function signOf(component) {
   return Object.hasOwn(SIGNS, component.kind) ? SIGNS[component.kind] : component.kind.slice(0, 4);
 }
 
-// The names by which components and channels are told. A variable goes by its name too, and so does a channel that has one.
 const componentName = it => `${it.kind} ${it.number}` + (isVariable(it) && it.detail ? ` ${it.detail.split(' ')[0]}` : '');
 const channelName = it => `channel ${it.number}` + (it.name ? ` ${it.name}` : '');
 
-// An end of a channel.
 function endName(channel, end) {
   if (end === null) return 'nobody';
   return end === 'host' ? `the host at ${channel.port}` : componentName(net.components[end.component]);
 }
 
-// Where a component or channel stands in the netlist, and where it comes from in the source.
 function placeOf(item) {
-  const inside = item.path ? ` (in ${item.path})` : '', source = item.source ? `, from ${item.source}` : '';
+  const inside = item.path && !net.isGrouped ? ` (in ${item.path})` : '', source = item.source ? `, from ${item.source}` : '';
   return `${item.part} ${item.position}, line ${item.line} of the netlist${inside}${source}`;
 }
 
@@ -1442,7 +1522,6 @@ const kindOf = channel => channel.kind + (channel.width ? ` ${channel.width}` : 
 const channelTitle = channel => `${channelName(channel)} ${kindOf(channel)}: ${endsOf(channel)}\n${placeOf(channel)}`;
 const componentTitle = component => `${component.title}\n${placeOf(component)}`;
 
-// What a line says.
 function tell(line) {
   if (line === 1) return 'The opening: every channel is idle.';
   const what = trace.what[line], component = net.components[trace.component[line]];
@@ -1451,10 +1530,10 @@ function tell(line) {
     const first = found.met.get(component.number);
     return `Two requests met at ${component.title}${first ? `, first at line ${first}` : ''}.`;
   }
-  return component ? tellFiring(line, component) : tellHost(lineText(trace, line).split(' '));
+  if (!component) return tellHost(lineText(trace, line).split(' '));
+  return net.channels[trace.channel[line]] ? tellFiring(line, component) : lineText(trace, line);
 }
 
-// What a component does: `Fetch 4 has the reply of Variable 1 on channel 13, value 2`.
 function tellFiring(line, component) {
   const what = trace.what[line], channel = net.channels[trace.channel[line]], value = valueIn(trace, line);
   const other = endName(channel, what === ASK || what === GOT ? channel.passive : channel.active);
@@ -1462,17 +1541,26 @@ function tellFiring(line, component) {
   return `${componentName(component)} ${verb} ${other} on ${channelName(channel)}${value ? `, value ${value}` : ''}`;
 }
 
-// What a host does, and what it is told.
+function tellShortly(line) {
+  const what = trace.what[line], component = net.components[trace.component[line]];
+  const channel = net.channels[trace.channel[line]], value = valueIn(trace, line);
+  if (!component || !isMove(what) || !channel) return tell(line);
+  const name = componentName(component);
+  const other = endName(channel, what === ASK || what === GOT ? channel.passive : channel.active);
+  if (what === ASK) return `${name} asks ${other}${value && ` with ${value}`}`;
+  if (what === REPLY) return `${name} replies ${value && `${value} `}to ${other}`;
+  const [verb, noun] = what === TAKE ? ['takes', 'request'] : ['gets', 'reply'];
+  return `${name} ${verb} ${value ? `${value} from` : `the ${noun} of`} ${other}`;
+}
+
 function tellHost([who, verb, port, ...told]) {
   const host = who === 'h1' ? 'The host' : `Host ${who.slice(1)}`;
   const does = {offer: 'asks at', collect: 'collects the reply at', accept: 'takes the request at', answer: 'replies at'}[verb];
   return `${host} ${does || 'looks at'} ${port}: ${told.join(' ')}`;
 }
-// ---- the picture: the net as it stands behind the current line ------------------------------------------------------
 
 const $ = id => document.getElementById(id);
 
-// An element of SVG, and one of HTML. Text goes in as text alone, whatever stands in a name.
 function svg(name, attributes = {}, text) {
   const element = document.createElementNS('http://www.w3.org/2000/svg', name);
   for (const [key, value] of Object.entries(attributes)) element.setAttribute(key, value);
@@ -1486,35 +1574,31 @@ function html(tag, style, text) {
   return element;
 }
 
-// The net and its trace, what the trace's audit found, and all components and channels (`load` sets them).
 let net = null, trace = null, found = null, all = null;
 
-// What the live page adds: what is done when all is shown, whether it takes a click, and ends of channels that stay in focus.
-const added = {isLive: false, afterShow() {}, takesClick() { return false; }, endsInFocus() { return []; }};
+const added = {isLive: false, afterShow() {}, takesClick() { return false; }, endsInFocus() { return []; }, saved: null};
 
-// Above so many components a page begins in focus. In focus are at most so many, of so many lines around, and it is made anew
-// when the line has moved so far.
 const MANY = 300, IN_FOCUS = 90, NEAR = 40, REFOCUS = 25;
 
-// What the reader chose. `selected` is `c5` for a component, `k7` for a channel, or null.
-const view = {line: 1, selected: null, isFocused: false, focusLine: 0, folded: new Set(), foldedInFocus: new Set(), foldedAtFirst: [],
-  isStubbed: null, picture: null, box: null, isFollowing: false, isCharted: false, hasRing: false, layoutTime: 0};
+const view = {line: 1, selected: null, isFocused: false, focusLine: 0, folded: new Set(), foldedInFocus: new Set(),
+  foldedAtFirst: [], isStubbed: null, picture: null, box: null, isFollowing: false, panel: '', only: '', isInWords: false,
+  isCounted: false, isFit: true, warnedAt: 0, hasRing: false, layoutTime: 0};
 
-// What is drawn, by number or path, and the line that it shows (0: nothing yet).
-const drawn = {channels: new Map(), components: new Map(), boxes: new Map(), ports: new Map(), line: 0, here: 0};
+const drawn = {channels: new Map(), components: new Map(), boxes: new Map(), ports: new Map(), inside: new Map(), line: 0,
+  here: 0};
 
 const foldedNow = () => (view.isFocused ? view.foldedInFocus : view.folded);
 const isStubbedNow = () => (view.isStubbed === null ? net.shownComponents.length > 60 : view.isStubbed);
 const numberOf = selected => Number(selected.slice(1));
 
-// Chooses what is shown, lays it out and draws it.
 function draw() {
-  const before = performance.now();
+  const began = performance.now(), before = placesOf(view.isFocused && view.picture);
   if (view.isFocused) showNear(view.line); else showOnly(all.components, all.channels);
-  view.picture = layout(net, foldedNow(), isStubbedNow());
-  view.layoutTime = performance.now() - before;
+  view.picture = layout(net, foldedNow(), isStubbedNow(), before);
+  view.layoutTime = performance.now() - began;
   for (const map of [drawn.channels, drawn.components, drawn.boxes, drawn.ports]) map.clear();
   drawn.line = 0;
+  drawn.inside = insideBoxes();
   const layers = {frames: svg('g'), lines: svg('g'), nodes: svg('g'), marks: svg('g')}, {picture} = view;
   for (const frame of picture.frames) layers.frames.append(frameOf(frame));
   const labels = [];
@@ -1524,7 +1608,57 @@ function draw() {
   $('root').replaceChildren(layers.frames, layers.lines, layers.nodes, layers.marks);
 }
 
-// Shows these components and channels, and no others.
+function drawAnew() {
+  const {picture, box, isFit} = view, before = placesOf(picture), old = seenOf(box);
+  draw();
+  if (isFit) fit();
+  const seen = seenOf(view.box), stay = view.picture.nodes.filter(({id}) => before.has(id));
+  if (stay.length < 2 || !Number.isFinite(old.size)) fit();
+  else stayInPlace(stay, before, old, seen);
+}
+
+function stayInPlace(stay, before, old, seen) {
+  const {isFit} = view, place = ({id}, at) => (before.get(id)[at] - old[at]) / old.size * seen.size;
+  for (const [at, size] of [['x', 'width'], ['y', 'height']]) {
+    const wanted = median(stay.map(it => it[at] - place(it, at))), least = view.picture[size] - seen[size];
+    seen[at] = isFit ? Math.max(Math.min(least, 0), Math.min(Math.max(least, 0), wanted)) : wanted;
+  }
+  setBox({x: seen.x, y: seen.y, width: seen.width, height: seen.height}, isFit);
+  glide(stay, it => ({x: place(it, 'x') + seen.x, y: place(it, 'y') + seen.y}));
+}
+
+const placesOf = picture => new Map(picture ? picture.nodes.map(it => [it.id, it]) : []);
+const median = numbers => numbers.sort((a, b) => a - b)[numbers.length >> 1];
+
+function seenOf(box) {
+  const {width, height} = sizes.svg, size = pixel(sizes.svg, box);
+  const wide = width * size, high = height * size;
+  return {x: box.x + (box.width - wide) / 2, y: box.y + (box.height - high) / 2, width: wide, height: high, size};
+}
+
+function glide(nodes, placeBefore) {
+  if (window.matchMedia('(prefers-reduced-motion: reduce)').matches) return;
+  const moved = ({x, y}) => ({transform: `translate(${x.toFixed(1)}px, ${y.toFixed(1)}px)`});
+  for (const node of nodes) {
+    groupOf(node).animate([moved(placeBefore(node)), moved(node)], {duration: 200, easing: 'ease-out'});
+  }
+  $('root').children[1].animate([{opacity: 0}, {opacity: 1}], {duration: 200});
+}
+
+function groupOf({component, port, box}) {
+  if (component) return drawn.components.get(component.number).group;
+  return port ? drawn.ports.get(port.number) : drawn.boxes.get(box);
+}
+
+function insideBoxes() {
+  const inside = new Map();
+  for (const component of foldedNow().size ? net.shownComponents : []) {
+    const box = boxOf(component);
+    if (box) inside.set(box, (inside.get(box) || 0) + 1);
+  }
+  return inside;
+}
+
 function showOnly(components, channels) {
   for (const item of [...net.shownComponents || all.components, ...net.shownChannels || all.channels]) item.isShown = false;
   for (const item of components) item.isShown = true;
@@ -1532,7 +1666,6 @@ function showOnly(components, channels) {
   Object.assign(net, {shownComponents: components, shownChannels: channels});
 }
 
-// In focus: what moves in the lines around this one, with who called it, and the ring where something is stuck.
 function showNear(line) {
   const kept = new Set(), keep = number => { if (kept.size < IN_FOCUS) kept.add(number); };
   const keepEnd = (end, at) => {
@@ -1559,7 +1692,6 @@ function showNear(line) {
   showOnly(components, channels.filter(it => it && isKept(it.active) && isKept(it.passive)));
 }
 
-// The components at the ends of a channel, or a component and those at the other ends of its channels.
 function endsBeside(selected) {
   if (!selected) return [];
   const number = numberOf(selected), isChannel = selected[0] === 'k';
@@ -1568,13 +1700,11 @@ function endsBeside(selected) {
   return [...(isChannel ? [] : [number]), ...ends.map(end => end.component)];
 }
 
-// Whether what is selected is drawn, and a component with all of its channels that have two ends.
 function isDrawnWhole(selected) {
   const channels = selected[0] === 'k' ? [numberOf(selected)] : net.components[numberOf(selected)].channels.slice(1);
   return channels.every(number => drawn.channels.has(number) || !net.channels[number].active || !net.channels[number].passive);
 }
 
-// The frame of a copy that is unfolded.
 function frameOf({path, x, y, width, height}) {
   const group = svg('g', {class: 'frame', 'data-copy': path});
   group.append(svg('rect', {x, y, width, height, rx: 8}));
@@ -1586,27 +1716,43 @@ const dot = (style, {x, y}) => svg('circle', {class: style, cx: x, cy: y, r: 3.6
 const placed = ({x, y, angle = 0}, turn = 0) => `translate(${x.toFixed(1)} ${y.toFixed(1)}) rotate(${(angle + turn).toFixed(1)})`;
 const ARROW = 'M5 0L-5 -4.5L-5 4.5Z';
 
-// A channel: its line, a filled dot at the end that asks, an open one at the end that answers, an arrow for the way of its value,
-// and its number.
 function drawChannel(channel, points, layers, labels) {
-  const group = svg('g', {class: 'channel', 'data-channel': channel.number}), d = curve(points);
+  const group = channelGroup(channel), d = curve(points);
   const walk = walkOf(points), length = walk[walk.length - 1].way;
   group.append(svg('path', {class: 'hit', d}), svg('path', {class: 'line', d}));
   group.append(dot('active', points[0]), dot('passive', points[points.length - 1]));
-  if (channel.kind === 'push') group.append(svg('path', {class: 'arrow', d: ARROW, transform: placed(onWalk(walk, length - 9))}));
-  if (channel.kind === 'pull') group.append(svg('path', {class: 'arrow', d: ARROW, transform: placed(onWalk(walk, 9), 180)}));
-  group.append(svg('title', {}, channelTitle(channel)));
+  const isAlike = channel.bundle.every(number => net.channels[number].kind === channel.kind), kind = isAlike ? channel.kind : '';
+  if (kind === 'push') group.append(svg('path', {class: 'arrow', d: ARROW, transform: placed(onWalk(walk, length - 9))}));
+  if (kind === 'pull') group.append(svg('path', {class: 'arrow', d: ARROW, transform: placed(onWalk(walk, 9), 180)}));
+  group.append(svg('title', {}, titleOfLine(channel)));
   layers.lines.append(group);
-  // (a name that stands in the port's box is not told again)
-  const name = channel.name && channel.name !== channel.port ? ` ${cut(channel.name, 10)}` : '';
-  const place = labelPlace(walk, length, labels), text = `${channel.number}${name}`;
+  const place = labelPlace(walk, length, labels), text = labelOf(channel);
   const label = svg('text', {class: 'number', x: place.x.toFixed(1), y: (place.y - 6).toFixed(1)}, text);
   const value = valueBox({x: place.x, y: place.y + 6});
   layers.marks.append(label, value);
-  drawn.channels.set(channel.number, {group, walk, length, value, token: null});
+  putDrawn(channel, {group, walk, length, value, label});
 }
 
-// A place for a number on a line where no other number is near.
+function labelOf(channel) {
+  if (channel.bundle.length > 1) return `×${channel.bundle.length}`;
+  return channel.number + (channel.name && channel.name !== channel.port ? ` ${cut(channel.name, 10)}` : '');
+}
+
+const MOST_TITLES = 20;
+function titleOfLine({bundle}) {
+  const told = bundle.slice(0, MOST_TITLES).map(number => channelTitle(net.channels[number])), more = bundle.length - MOST_TITLES;
+  return told.join('\n') + (more > 0 ? `\nand ${counted(more, 'more channel')}` : '');
+}
+
+function channelGroup({number, bundle}) {
+  const name = bundle.length > 1 ? {'data-bundle': bundle.join(' ')} : {'data-channel': number};
+  return svg('g', {class: 'channel', ...name});
+}
+
+function putDrawn({bundle}, mark) {
+  for (const number of bundle) drawn.channels.set(number, Object.assign(mark, {bundle, token: null}));
+}
+
 function labelPlace(walk, length, labels) {
   const places = [0.5, 0.38, 0.62, 0.28, 0.72].map(part => onWalk(walk, length * part));
   const isFree = place => !labels.some(other => Math.abs(other.x - place.x) < 14 && Math.abs(other.y - place.y) < 11);
@@ -1615,23 +1761,23 @@ function labelPlace(walk, length, labels) {
   return place;
 }
 
-// The box for a value, which is hidden where there is none.
 function valueBox(place) {
   const box = svg('g', {class: 'value', transform: placed(place)});
   box.append(svg('rect', {rx: 4, y: -7, height: 15}), svg('text', {y: 4}));
   return box;
 }
 
-// A channel as two short pieces, each with the name of the other end.
 function drawStub(channel, pieces, layers) {
-  const group = svg('g', {class: 'channel', 'data-channel': channel.number});
+  const group = channelGroup(channel);
   const d = pieces.map(({x, y, dx, isOut}) => (isOut ? `M${x} ${y}h${dx}` : `M${x + dx} ${y}h${-dx}`)).join('');
-  group.append(svg('path', {class: 'hit', d}), svg('path', {class: 'line', d}), svg('title', {}, channelTitle(channel)));
+  group.append(svg('path', {class: 'hit', d}), svg('path', {class: 'line', d}), svg('title', {}, titleOfLine(channel)));
+  const many = channel.bundle.length > 1 ? ` ${labelOf(channel)}` : '';
   for (const piece of pieces) {
     const {x, y, dx, isOut} = piece;
     group.append(dot(isOut ? 'active' : 'passive', piece));
-    const style = `stub ${isOut ? 'starts' : 'ends'}`, name = stubName(isOut ? channel.passive : channel.active, isOut);
-    group.append(svg('text', {class: style, x: x + dx * 1.2, y: y + 3}, name));
+    const style = `stub ${isOut ? 'starts' : 'ends'}`, isCrowd = channel.callers > 1;
+    const name = isCrowd ? `▸${channel.callers} groups` : stubName(isOut ? channel.passive : channel.active, isOut);
+    group.append(svg('text', {class: style, x: x + dx * 1.2, y: y + 3}, name + many));
     const isArrow = channel.kind === (isOut ? 'pull' : 'push');
     if (isArrow) group.append(svg('path', {class: 'arrow', d: ARROW, transform: placed({x: x + dx / 1.8, y}, isOut ? 180 : 0)}));
   }
@@ -1639,17 +1785,15 @@ function drawStub(channel, pieces, layers) {
   const {x, y, dx, isOut} = pieces[0], tip = {x: x + dx, y};
   const value = valueBox({x: x + dx * 2.4, y}), walk = walkOf(isOut ? [pieces[0], tip] : [tip, pieces[0]]);
   layers.marks.append(value);
-  drawn.channels.set(channel.number, {group, walk, length: walk[walk.length - 1].way, value, token: null});
+  putDrawn(channel, {group, walk, length: walk[walk.length - 1].way, value, label: null});
 }
 
-// The folded copy that hides a component, if one does.
-function boxOf({path}) {
+function boxOf({path}, folded = foldedNow()) {
+  if (path === '' || folded.size === 0) return undefined;
   const steps = path.split('/');
-  return steps.map((step, i) => steps.slice(0, i + 1).join('/')).find(outer => foldedNow().has(outer));
+  return steps.map((step, i) => steps.slice(0, i + 1).join('/')).find(outer => folded.has(outer));
 }
 
-// How the other end of a stub is called: a folded copy by its path, a variable by its name, what answers by its sign and number,
-// who asks by its number.
 function stubName(end, isAnswering) {
   const component = net.components[end.component], box = boxOf(component);
   if (box) return `▸${box}`;
@@ -1657,25 +1801,29 @@ function stubName(end, isAnswering) {
   return isVariable(component) && component.detail ? signOf(component) : signOf(component) + component.number;
 }
 
-// A component, a port of the host, or a copy that is folded.
 function nodeOf(node) {
   if (node.component) return drawComponent(node);
   if (node.port) return drawPort(node);
   return drawBox(node);
 }
 
-function drawComponent({component, x, y, width, height, isCut}) {
+function drawComponent({component, x, y, width, height, isCut, inPorts, outPorts, tips}) {
   const group = svg('g', {'data-component': component.number, transform: placed({x, y})}), sign = signOf(component);
   const oval = (style, edge) => svg('rect', {class: style, x: -width / 2 - edge, y: -height / 2 - edge,
     width: width + 2 * edge, height: height + 2 * edge, rx: RADIUS + edge});
   group.append(oval('ring', 5), oval('body', 0));
   group.append(svg('text', {class: sign.length > 3 ? 'sign small' : 'sign', y: sign.length > 3 ? 4 : 6}, sign));
   if (isCut) group.append(svg('text', {class: 'more', y: height / 2 - 5}, '…'));
+  for (const [ports, dx, style] of [[inPorts, -5, 'ends'], [outPorts, 5, 'starts']])
+    for (const port of ports) if (component.ports[port]?.set)
+      group.append(setOf(component.ports[port].set, tips.get(port), dx, style));
   const caption = svg('text', {class: 'caption', y: height / 2 + 13}, `${component.number} ${cut(component.kind, 14)}`);
   group.append(caption, svg('title', {}, componentTitle(component)));
   drawn.components.set(component.number, {group, caption});
   return group;
 }
+
+const setOf = (text, {x, y}, dx, style) => svg('text', {class: `set ${style}`, x: x + dx, y: y - 4}, cut(text, 9));
 
 function drawPort({port, x, y, width, height}) {
   const group = svg('g', {'data-channel': port.number, transform: placed({x, y})});
@@ -1687,18 +1835,15 @@ function drawPort({port, x, y, width, height}) {
 
 function drawBox({box, x, y, width, height}) {
   const group = svg('g', {class: 'folded', 'data-copy': box, transform: placed({x, y})});
-  const inside = net.shownComponents.filter(({path}) => path === box || path.startsWith(`${box}/`)).length;
   for (const [style, shift] of [['behind', 4], ['front', 0]])
     group.append(svg('rect', {class: style, x: -width / 2 + shift, y: -height / 2 - shift, width, height, rx: 6}));
   group.append(svg('text', {y: -2}, `▸ ${box} ${cut(net.instances.get(box).name, 12)}`));
-  group.append(svg('text', {y: 13, class: 'caption'}, counted(inside, 'component')));
+  group.append(svg('text', {y: 13, class: 'caption'}, counted(drawn.inside.get(box) || 0, 'component')));
   drawn.boxes.set(box, group);
   return group;
 }
 
-// ---- the state behind a line ----------------------------------------------------------------------------------------
 
-// Shows the current line in the picture. Only what changed between the line shown last and this one is looked at.
 function markPicture() {
   const {line} = view, steps = Math.abs(line - drawn.line), isAll = drawn.line === 0 || steps > 64;
   const channels = new Set(isAll ? drawn.channels.keys() : []), components = new Set(isAll ? drawn.components.keys() : []);
@@ -1709,22 +1854,30 @@ function markPicture() {
   if (isStuckBehind(net, line) !== isStuckBehind(net, drawn.line)) for (const number of net.stuck.members) components.add(number);
   for (const number of isAll ? [] : channels) for (const end of [net.channels[number].active, net.channels[number].passive])
     if (end && end !== 'host') components.add(end.component);
-  for (const number of channels) markChannel(number);
+  for (const number of new Set([...channels].map(it => drawn.channels.get(it)?.bundle[0]))) markChannel(number);
   for (const number of components) markComponent(number);
   markBoxes();
   markPorts(isAll);
   drawn.line = line;
 }
 
-// The marks of a channel: colour, dashes and token by its phase, and its value.
+function shownOf(bundle) {
+  const isOpen = change => phaseAfter(trace, change) !== IDLE;
+  const rank = number => (change => (isOpen(change) ? change : -1))(lastChange(trace, number, view.line));
+  return bundle.length > 1 ? bundle.reduce((best, number) => (rank(number) > rank(best) ? number : best)) : bundle[0];
+}
+
 function markChannel(number) {
   const mark = drawn.channels.get(number);
   if (!mark) return;
-  const change = lastChange(trace, number, view.line), phase = phaseAfter(trace, change), value = valueAfter(trace, change);
-  const isHere = trace.channel[view.line] === number, isSelected = view.selected === `k${number}`;
-  const style = `channel ${net.channels[number].kind} ${PHASES[phase]}`;
+  const {bundle} = mark, shown = shownOf(bundle), change = lastChange(trace, shown, view.line);
+  const phase = phaseAfter(trace, change), value = valueAfter(trace, change), {selected} = view;
+  const isHere = bundle.includes(trace.channel[view.line]);
+  const isSelected = selected !== null && selected[0] === 'k' && bundle.includes(numberOf(selected));
+  const style = `channel ${net.channels[shown].kind} ${PHASES[phase]}${bundle.length > 1 ? ' bundle' : ''}`;
   mark.group.setAttribute('class', style + (isHere ? ' here' : '') + (isSelected ? ' selected' : ''));
-  mark.value.setAttribute('class', value === '' ? 'value' : 'value on');
+  if (bundle.length > 1) mark.group.dataset.select = `k${shown}`;
+  mark.value.setAttribute('class', `value${value === '' ? '' : ' on'}${bundle.length > 1 ? ' of-bundle' : ''}`);
   if (value !== '') {
     const [box, text] = mark.value.children, width = 8 + 7 * cut(value, 9).length;
     text.textContent = cut(value, 9);
@@ -1736,7 +1889,6 @@ function markChannel(number) {
   if (mark.token) mark.group.append(mark.token);
 }
 
-// A token: where a request or a reply is on its way a triangle that points there, and where a request is held a square.
 function tokenOf({walk, length}, phase) {
   if (phase === IDLE) return null;
   if (phase === TAKEN) {
@@ -1747,11 +1899,24 @@ function tokenOf({walk, length}, phase) {
   return svg('path', {class: 'token', d: 'M8 0L-6 -7L-6 7Z', transform: placed(place, phase === REPLIED ? 180 : 0)});
 }
 
-// The component that a line moves, or 0.
+const endedOn = bundle => bundle.reduce((sum, number) => sum + (countTo(trace.changesOf, number, view.line) >> 2), 0);
+
+function markCounts() {
+  $('svg').classList.toggle('counted', view.isCounted);
+  const marks = [...new Set(drawn.channels.values())], counts = marks.map(({bundle}) => endedOn(bundle));
+  const most = Math.log1p(counts.reduce((a, b) => Math.max(a, b), 1));
+  marks.forEach(({group, label, bundle}, i) => {
+    const isStill = bundle.every(number => countTo(trace.changesOf, number, view.line) === 0);
+    group.setAttribute('style', `--wide: ${(1 + 9 * Math.log1p(counts[i]) / most).toFixed(1)}px`);
+    group.dataset.moved = Number(!isStill);
+    if (label) label.textContent = view.isCounted ? String(counts[i]) : labelOf(net.channels[bundle[0]]);
+  });
+  for (const [number, {group}] of drawn.components)
+    group.dataset.moved = Number(countTo(trace.linesOfComponent, number, view.line) > 0);
+}
+
 const moverAt = line => (isMove(trace.what[line]) ? trace.component[line] : 0);
 
-// The marks of a component: filled where it holds a request that it took, ringed where it moved, red where requests meet; an edge
-// of red dashes from where it never moves again, and thick red ones in the ring; and what a variable holds.
 function markComponent(number) {
   const mark = drawn.components.get(number);
   if (!mark) return;
@@ -1767,7 +1932,6 @@ function markComponent(number) {
   if (isVariable(component)) mark.caption.textContent = `${number} ${component.kind} = ${cut(heldBy(trace, component, line), 9)}`;
 }
 
-// A folded copy is ringed where something in it moved, and red where something in it is in the ring.
 function markBoxes() {
   const mover = moverAt(view.line), path = mover ? `${net.components[mover].path}/` : '';
   for (const [box, group] of drawn.boxes) group.setAttribute('class', path.startsWith(`${box}/`) ? 'folded moved' : 'folded');
@@ -1775,10 +1939,8 @@ function markBoxes() {
     drawn.boxes.get(boxOf(net.components[number]))?.classList.add('in-ring');
 }
 
-// Whether a host was told no.
 const isRefused = line => trace.what[line] === TOLD && / (busy|not-yet|not-taken)/.test(lineText(trace, line));
 
-// A port is ringed where the host moved there, and dashed red where it was told no.
 function markPorts(isAll) {
   const {line} = view, here = trace.component[line] ? 0 : trace.channel[line];
   for (const number of isAll ? drawn.ports.keys() : [drawn.here, here]) {
@@ -1791,7 +1953,6 @@ function markPorts(isAll) {
   $('svg').classList.toggle('resting', trace.what[line] === REST);
 }
 
-// Marks anew what was selected and what is selected now.
 function markSelection(before) {
   for (const selected of [before, view.selected]) if (selected) {
     if (selected[0] === 'c') markComponent(numberOf(selected));
@@ -1800,19 +1961,16 @@ function markSelection(before) {
   markPorts(true);
 }
 
-// ---- how much of the picture is seen --------------------------------------------------------------------------------
 
 const NEAR_SCALE = 1.5, FAR_SCALE = 0.55, FARTHEST_SCALE = 0.28;
 
-// How large the panels are. (Asked at each step, the browser would have to lay out the page each time.)
 const sizes = {};
 function measure() {
   for (const id of ['svg', 'journal', 'chart', 'strip']) sizes[id] = $(id).getBoundingClientRect();
 }
 
-// Sets the part of the picture that is seen. From afar the small text is left out; names of ports are drawn when one is near.
-function setBox(box) {
-  view.box = box;
+function setBox(box, isFit = false) {
+  Object.assign(view, {box, isFit});
   const scale = Math.min(sizes.svg.width / box.width, sizes.svg.height / box.height);
   $('svg').setAttribute('viewBox', `${box.x} ${box.y} ${box.width} ${box.height}`);
   if (scale > NEAR_SCALE) namePortsOfPicture();
@@ -1821,7 +1979,6 @@ function setBox(box) {
   $('svg').classList.toggle('near', scale > NEAR_SCALE);
 }
 
-// Draws the names of ports, once. That of a port which is alone on its side would say nothing.
 function namePortsOfPicture() {
   if (view.picture.isNamed) return;
   view.picture.isNamed = true;
@@ -1830,20 +1987,48 @@ function namePortsOfPicture() {
     const sides = [[inPorts, -6, 'ends'], [outPorts, 6, 'starts']].filter(([ports]) => ports.length > 1);
     for (const [ports, dx, style] of sides) for (const port of ports) {
       const {x, y} = tips.get(port);
-      names.append(svg('text', {x: x + dx, y: y - 6, class: style}, component.ports[port].name));
+      const {name, set} = component.ports[port];
+      names.append(svg('text', {x: x + dx, y: y - 6, class: style}, set ? `${name} ${set}` : name));
     }
     drawn.components.get(component.number).group.append(names);
   }
 }
 
-// The whole picture, but not more than 2.2 times as large as it is.
 function fit() {
   const {picture} = view, {svg: place} = sizes;
   const width = Math.max(picture.width, place.width / 2.2, 1), height = Math.max(picture.height, place.height / 2.2, 1);
-  setBox({x: (picture.width - width) / 2, y: (picture.height - height) / 2, width, height});
+  setBox({x: (picture.width - width) / 2, y: (picture.height - height) / 2, width, height}, true);
 }
 
-// How much of the picture a pixel of the screen is, and the point of the picture under a point of the screen.
+const LEAST_LETTER = 6, LETTER_SIZE = 11;
+function isTooSmall() {
+  if (all.components.length <= GROUPED_FROM) return false;
+  if (nodesOfWhole() > MANY) return true;
+  showOnly(all.components, all.channels);
+  const {width, height} = layout(net, view.folded, isStubbedNow(), new Map());
+  return Math.min(sizes.svg.width / width, sizes.svg.height / height) * LETTER_SIZE < LEAST_LETTER;
+}
+
+function nodesOfWhole() {
+  const boxes = new Set();
+  let alone = 0;
+  for (const component of all.components) {
+    const box = boxOf(component, view.folded);
+    if (box) boxes.add(box); else alone++;
+  }
+  return alone + boxes.size;
+}
+
+function pictureFile() {
+  const copy = $('svg').cloneNode(true), {x, y, width, height} = seenOf(view.box), {theme} = document.documentElement.dataset;
+  copy.setAttribute('width', sizes.svg.width);
+  copy.setAttribute('height', sizes.svg.height);
+  if (theme) copy.setAttribute('data-theme', theme);
+  const ground = svg('rect', {x, y, width, height, style: 'fill: var(--ground)'});
+  copy.prepend(svg('style', {}, document.querySelector('style').textContent), ground);
+  return new XMLSerializer().serializeToString(copy);
+}
+
 const pixel = (place, box) => Math.max(box.width / place.width, box.height / place.height);
 function pointAt(clientX, clientY) {
   const {box} = view, place = $('svg').getBoundingClientRect(), size = pixel(place, box);
@@ -1851,23 +2036,20 @@ function pointAt(clientX, clientY) {
     y: box.y + box.height / 2 + (clientY - place.top - place.height / 2) * size};
 }
 
-// Nearer or farther, around a point of the picture, or else the middle.
 function zoom(factor, point) {
   const {x, y, width, height} = view.box, {x: px, y: py} = point || {x: x + width / 2, y: y + height / 2};
   setBox({x: px - (px - x) * factor, y: py - (py - y) * factor, width: width * factor, height: height * factor});
 }
 
-// Moves the picture so that what moves is in sight.
 function follow() {
   const mover = moverAt(view.line);
   if (!mover) return;
   bringIntoSight(nodeOfComponent(mover), false);
 }
 
-// What is drawn of a component: itself, or the folded copy that hides it. And of what is selected, if anything is.
 function nodeOfComponent(number) {
-  const path = `${net.components[number].path}/`;
-  return view.picture.nodes.find(({component, box}) => (component ? component.number === number : box && path.startsWith(`${box}/`)));
+  const path = `${net.components[number].path}/`, isIn = box => Boolean(box) && path.startsWith(`${box}/`);
+  return view.picture.nodes.find(({component, box}) => (component ? component.number === number : isIn(box)));
 }
 function nodeOfSelected(selected) {
   const number = numberOf(selected);
@@ -1876,18 +2058,15 @@ function nodeOfSelected(selected) {
   return view.picture.nodes.find(({port}) => port && port.number === number) || end && nodeOfComponent(end);
 }
 
-// Moves the picture so that a node is in sight, and as near as it has to be read where that is wanted.
 function bringIntoSight(node, isToBeRead) {
   const {box} = view, isFar = isToBeRead && sizes.svg.width / box.width < FAR_SCALE, {width, height} = isFar ? sizes.svg : box;
   const isIn = (at, from, size) => at > from + 0.08 * size && at < from + 0.92 * size;
   if (!node || !isFar && isIn(node.x, box.x, box.width) && isIn(node.y, box.y, box.height)) return;
   setBox({x: node.x - width / 2, y: node.y - height / 2, width, height});
 }
-// ---- the journal: of the lines of the trace those around the current one --------------------------------------------
 
 const ROW_HEIGHT = 18;
 
-// A row with a line's number; a click goes there.
 function lineRow(line, text, style) {
   const row = html('div', `row${style}`);
   row.append(html('span', 'line', String(line)), html('span', '', text));
@@ -1895,24 +2074,50 @@ function lineRow(line, text, style) {
   return row;
 }
 
-// How a line looks in the journal and in the chart.
 function lineStyle(line) {
   const what = trace.what[line], isHost = !trace.component[line] && trace.channel[line] > 0;
   return (line === view.line ? ' now' : '') + (what === REST ? ' rest' : '') + (isHost ? ' host' : '')
     + (what === CLASH || isRefused(line) ? ' bad' : '');
 }
 
-// Of so many rows around the current line the first.
 const firstRow = (rows, least) => Math.max(least, Math.min(view.line - (rows >> 1), trace.count - rows + 1));
 
 function showJournal() {
-  const rows = Math.max(5, Math.floor(sizes.journal.height / ROW_HEIGHT)), first = firstRow(rows, 1), shown = [];
-  for (let line = first; line < first + rows && line <= trace.count; line++)
-    shown.push(lineRow(line, lineText(trace, line), lineStyle(line) + (isOfSelected(line) ? ' mine' : '')));
-  $('journal').replaceChildren(...shown);
+  const lines = linesShown(Math.max(5, Math.floor(sizes.journal.height / ROW_HEIGHT))), {isInWords, only} = view;
+  $('journal').replaceChildren(...lines.map(line => {
+    const [text, other] = isInWords ? [tellShortly(line), lineText(trace, line)] : [lineText(trace, line), tell(line)];
+    const row = lineRow(line, text, lineStyle(line) + (isOfSelected(line) ? ' mine' : ''));
+    row.title = other;
+    return row;
+  }));
+  $('journal').classList.toggle('words', isInWords);
+  $('words').classList.toggle('on', isInWords);
+  $('only').textContent = {host: 'host only', mine: 'selected only', found: 'found only'}[only] || 'all lines';
+  $('only').classList.toggle('on', only !== '');
 }
 
-// Whether a line moves what is selected, or moves something on a channel of it.
+function listedLines() {
+  const {only, selected} = view;
+  if (only === 'host') return [[trace.hostLines], 0];
+  if (only === 'mine' && selected) return selectedLines();
+  return only === 'found' && search.hits ? [[search.hits], 0] : null;
+}
+
+function linesShown(rows) {
+  const listed = listedLines(), [lines, key] = listed || [[], 0];
+  const count = listed ? countOf(lines, key) : trace.count, seen = listed ? countTo(lines, key, view.line) : view.line;
+  const first = Math.max(0, Math.min(seen - 1 - (rows >> 1), count - rows));
+  return Array.from({length: Math.min(rows, count - first)}, (_, i) => (listed ? nthOf(lines, key, first + i) : first + i + 1));
+}
+
+function stepInList(by) {
+  const listed = listedLines();
+  if (!listed) return go(view.line + by, true);
+  const [lines, key] = listed, seen = countTo(lines, key, view.line), isHere = nthOf(lines, key, seen - 1) === view.line;
+  const wanted = seen - 1 + by + (by < 0 && !isHere ? 1 : 0);
+  return go(nthOf(lines, key, Math.max(0, Math.min(countOf(lines, key) - 1, wanted))) || view.line, true);
+}
+
 function isOfSelected(line) {
   if (!view.selected) return false;
   const number = numberOf(view.selected), channel = trace.channel[line];
@@ -1920,11 +2125,9 @@ function isOfSelected(line) {
   return trace.component[line] === number || channel > 0 && net.components[number].channels.includes(channel, 1);
 }
 
-// ---- what is selected, with its history -----------------------------------------------------------------------------
 
 const MOST_PORTS = 40, BEFORE = 6, HISTORY = 12;
 
-// The rising lines of what is selected, and their key.
 const selectedLines = () => [view.selected[0] === 'c' ? trace.linesOfComponent : trace.linesOfChannel, numberOf(view.selected)];
 
 function showDetails() {
@@ -1937,7 +2140,6 @@ function showDetails() {
   return $('details').replaceChildren(...shown, eventButtons(), history(), ...stuckDetails());
 }
 
-// What can never move again, since which line, and the ring.
 function stuckDetails() {
   const {line, first, members, ring} = net.stuck;
   if (!isStuckBehind(net, view.line)) return [];
@@ -1954,14 +2156,12 @@ function stuckDetails() {
   })];
 }
 
-// Whether the current line is behind the last move, and it is told who waits for whom then.
 function isEndTold() {
   let last = trace.count;
   while (last > 1 && trace.what[last] >= REST) last--;
   return net.end.length > 0 && view.line >= last;
 }
 
-// At the end who waits for whom.
 function endDetails() {
   if (!isEndTold()) return [];
   const shown = [html('div', 'title end', `Who waits for whom ${added.isLive ? 'now' : 'at the end'}`)];
@@ -1974,7 +2174,6 @@ function endDetails() {
   return shown;
 }
 
-// The phase of a channel and its value, in words.
 function phaseText(number) {
   const change = lastChange(trace, number, view.line), value = valueAfter(trace, change);
   return {change, phase: PHASES[phaseAfter(trace, change)], text: PHASES[phaseAfter(trace, change)] + (value ? ` ${value}` : '')};
@@ -1996,18 +2195,16 @@ function componentDetails(number) {
   return shown;
 }
 
-// Who called it, up to the host. A click selects the nearest caller.
 function callerRow(callers, names) {
   const row = html('div', 'under callers', `called by ${names.join(' ‹ ')}`);
   if (typeof callers[0] === 'number') row.dataset.select = `c${callers[0]}`;
   return row;
 }
 
-// A port of a component: its end, its name, its channel and what is on it. A click selects the channel.
 function portRow(component, p) {
-  const {isPassive, name} = component.ports[p] || {isPassive: false, name: `port ${p}`}, number = component.channels[p];
+  const {isPassive, name, set} = component.ports[p] || {isPassive: false, name: `port ${p}`}, number = component.channels[p];
   const {phase, text} = phaseText(number), row = html('div', `port ${phase}`), channel = net.channels[number];
-  row.append(html('span', `end ${isPassive ? 'passive' : 'active'}`), html('span', '', name));
+  row.append(html('span', `end ${isPassive ? 'passive' : 'active'}`), html('span', '', set ? `${name} ${set}` : name));
   row.append(html('span', 'channel', channelName(channel)), html('span', 'phase', text));
   row.dataset.select = `k${number}`;
   return row;
@@ -2020,10 +2217,11 @@ function channelDetails(number) {
   row.append(html('span', 'phase', text + (change ? `, since line ${change}` : '')));
   ports.append(row);
   const title = `${channelName(channel)} ${kindOf(channel)}${port}`;
-  return [html('div', 'title', title), html('div', 'under', endsOf(channel)), html('div', 'under', placeOf(channel)), ports];
+  const ended = `${counted(endedOn([number]), 'handshake')} ended, of ${countOf(trace.changesOf, number) >> 2}`;
+  const under = [endsOf(channel), placeOf(channel), ended].map(text => html('div', 'under', text));
+  return [html('div', 'title', title), ...under, ports];
 }
 
-// Buttons to the previous and the next line of what is selected, how many there are, and a button that leaves it.
 function eventButtons() {
   const [lines, key] = selectedLines(), row = html('div', 'events');
   for (const [text, direction] of [['◂ previous event', -1], ['next event ▸', 1]]) {
@@ -2040,7 +2238,6 @@ function eventButtons() {
   return row;
 }
 
-// The lines of what is selected that are around the current one.
 function history() {
   const [lines, key] = selectedLines(), list = html('div', 'history');
   const first = Math.max(0, countTo(lines, key, view.line) - BEFORE);
@@ -2055,7 +2252,6 @@ function history() {
   return list;
 }
 
-// The next or previous line of what is selected, or of the hosts where nothing is; 0 where there is none.
 function eventLine(direction) {
   const {hostLines} = trace, ofHosts = [[hostLines], 0];
   const [lines, key] = view.selected ? selectedLines() : ofHosts;
@@ -2063,7 +2259,6 @@ function eventLine(direction) {
   return nthOf(lines, key, direction > 0 ? seen : seen - (isHere ? 2 : 1));
 }
 
-// ---- the strip above the scrubber: hosts, rests, clashes, events of what is selected, what was found, a flag where it is stuck
 
 const STRIP_HEIGHT = 22;
 const strip = {key: ''};
@@ -2102,13 +2297,11 @@ function showStrip() {
   }
 }
 
-// ---- search ---------------------------------------------------------------------------------------------------------
 
 const MOST_HITS = 200000, MOST_NAMES = 12;
 const search = {text: '', hits: null, chosen: -1, timer: 0};
 const countedHits = count => (count === MOST_HITS ? `${count}+ lines` : counted(count, 'line'));
 
-// Finds the lines that hold a text, and components, channels and ports by what they are called.
 function find(text) {
   Object.assign(search, {text, hits: text === '' ? null : linesWith(text), chosen: -1});
   $('count').textContent = text === '' ? '' : countedHits(search.hits.length);
@@ -2121,14 +2314,12 @@ function find(text) {
   writeLink();
 }
 
-// Chooses the next or the previous of the names that were found; before the first one none is chosen.
 function chooseName(by) {
   const names = $('found').children;
   search.chosen = Math.max(-1, Math.min(names.length - 1, search.chosen + by));
   [...names].forEach((row, i) => row.classList.toggle('chosen', i === search.chosen));
 }
 
-// The lines that hold a text, rising.
 function linesWith(text) {
   const hits = [];
   for (let at = trace.text.indexOf(text); at >= 0 && hits.length < MOST_HITS;) {
@@ -2140,8 +2331,6 @@ function linesWith(text) {
   return hits;
 }
 
-// What is called so: by number, kind, name, copy, or place in the source. (`c12` and `fetch 12` are component 12, whose title begins
-// with its number.)
 function namesWith(text) {
   const names = [], holds = words => words.some(word => word && word.toLowerCase().includes(text));
   const number = /^(?:ch|channel|k) ?(\d+)$/.exec(text);
@@ -2153,7 +2342,7 @@ function namesWith(text) {
   const most = names.length + MOST_NAMES;
   for (const component of all.components) {
     if (names.length >= most) break;
-    const {title, path, source} = component, part = path ? net.instances.get(path).name : '';
+    const {title, source} = component, path = net.isGrouped ? '' : component.path, part = path ? net.instances.get(path).name : '';
     const told = [path && ` in ${path} ${part}`, source && ` (${source})`].filter(it => it).join('');
     if (holds([title, source, path && `${path} ${part}`])) names.push([`c${component.number}`, title + told]);
   }
@@ -2165,7 +2354,6 @@ function namesWith(text) {
   return names;
 }
 
-// Goes to the next or previous line found, and from the ends to the other end.
 function goToHit(direction) {
   const {hits} = search;
   if (!hits || hits.length === 0) return;
@@ -2173,11 +2361,9 @@ function goToHit(direction) {
   go(direction > 0 ? hits[seen] || hits[0] : hits[seen - (isHere ? 2 : 1)] || hits[hits.length - 1]);
 }
 
-// ---- the chart around the current line, as `chart` draws it ---------------------------------------------------------
 
 const CHART = {row: 15, left: 178, top: 34, widest: 110, named: 58, least: 24, label: 40};
 
-// What the chart shows: its lines, and its lifelines from left to right. Where too many take part, fewer lines are shown.
 function chartPlan(width, height) {
   let rows = Math.max(9, Math.floor((height - CHART.top - 16) / CHART.row));
   for (;; rows -= 2) {
@@ -2195,7 +2381,6 @@ function chartPlan(width, height) {
   }
 }
 
-// A lifeline: `c5` of a component, `p2` of a port of the host. Ports where the host calls stand at the left, others at the right.
 const lifelineOf = (channel, end) => (end === 'host' ? `p${channel.number}` : `c${end.component}`);
 function rankOf(lifeline) {
   const number = numberOf(lifeline);
@@ -2213,7 +2398,6 @@ function showChart() {
   $('chart').replaceChildren(picture);
 }
 
-// The lines with their texts.
 function chartRows({first, last, y, width}) {
   const rows = [];
   for (let line = first; line <= last; line++) {
@@ -2226,7 +2410,6 @@ function chartRows({first, last, y, width}) {
   return rows;
 }
 
-// The lifelines with their names; where there is little room the numbers stand by turns higher and lower, without kinds.
 function chartHeads({last, column, places, y}) {
   const heads = [];
   [...places].forEach(([key, x], i) => {
@@ -2243,13 +2426,11 @@ function chartHeads({last, column, places, y}) {
   return heads;
 }
 
-// What a head tells of a component beside its number.
 function headOf(component) {
   const isTelling = isVariable(component) || component.kind.startsWith('Binary');
   return isTelling && component.detail ? component.detail : component.kind;
 }
 
-// The channels that may have something to show: those of the lines, and those by which a component of the chart was called.
 function chartChannels({first, last, places}) {
   const channels = new Set();
   for (let line = first; line <= last; line++) if (trace.channel[line]) channels.add(trace.channel[line]);
@@ -2260,7 +2441,6 @@ function chartChannels({first, last, places}) {
   return channels;
 }
 
-// Of one channel: a bar while a request is held, and strokes from ask to take and from reply to got.
 function chartChannel({first, last, places, y}, channel, bars, strokes) {
   const lines = trace.changesOf, key = channel.number;
   const [active, passive] = [channel.active, channel.passive].map(end => end && places.get(lifelineOf(channel, end)));
@@ -2278,7 +2458,6 @@ function chartChannel({first, last, places, y}, channel, bars, strokes) {
   }
 }
 
-// The strokes. Where several wait beside one lifeline, each has a lane.
 function drawStrokes({first, last, y, column}, strokes) {
   const group = svg('g'), lanes = new Map();
   for (const {channel, line, next, isAsk, isThick, from, to} of strokes.sort((a, b) => a.line - b.line)) {
@@ -2302,16 +2481,308 @@ function drawStrokes({first, last, y, column}, strokes) {
   }
   return group;
 }
-// ---- what the reader does -------------------------------------------------------------------------------------------
 
-// Shows the current line in all panels.
+const STREAM = {row: 19, left: 132, top: 20, letter: 6.4, least: 20};
+
+const streams = {from: 1, to: 0, pinned: [], line: 0, key: '', picture: null, now: null};
+const MOST_PINNED = 24;
+const lastStreamed = () => (streams.to ? Math.min(streams.to, trace.count) : trace.count);
+
+function streamRows(room) {
+  const ports = net.ports.filter(port => port).map(port => `k${port.number}`), {pinned} = streams;
+  const variables = all.components.filter(isVariable).map(component => `c${component.number}`);
+  const others = ports.filter(row => !pinned.includes(row)).slice(0, Math.max(1, room - pinned.length));
+  return [...new Set([...others, ...pinned, ...variables])].slice(0, room);
+}
+
+function streamName(row) {
+  const number = numberOf(row);
+  if (row[0] === 'k') return net.channels[number].port || channelName(net.channels[number]).replace('channel ', '');
+  const component = net.components[number];
+  return isVariable(component) && component.detail ? component.detail.split(' ')[0] : component.title;
+}
+
+function streamLines(row) {
+  const number = numberOf(row);
+  const at = (lines, key) => ({countTo: line => countTo(lines, key, line), nth: i => nthOf(lines, key, i)});
+  if (row[0] === 'k') return at(trace.changesOf, number);
+  const component = net.components[number];
+  if (!isVariable(component)) return at(trace.linesOfComponent, number);
+  const moves = at(trace.changesOf, component.channels[1]);
+  return {countTo: line => (moves.countTo(line) + 2) >> 2, nth: i => (i < 0 ? 0 : moves.nth(4 * i + 1))};
+}
+
+function streamState(row, line) {
+  const number = numberOf(row);
+  if (row[0] === 'k') {
+    const phase = phaseAfter(trace, line), isTaken = phase === TAKEN && net.channels[number].kind === 'push';
+    return {style: PHASES[phase], text: isTaken ? valueIn(trace, line) : valueAfter(trace, line)};
+  }
+  const component = net.components[number];
+  if (isVariable(component)) return {style: 'held', text: line ? valueIn(trace, line) : '0'};
+  const isBusy = component.passive.some(p => phaseAfter(trace, lastChange(trace, component.channels[p], line)) === TAKEN);
+  return {style: isBusy ? 'taken' : 'idle', text: ''};
+}
+
+function streamPieces(row, from, to, width) {
+  const lines = streamLines(row), wide = width / (to - from + 1), pieces = [];
+  let line = from, index = lines.countTo(from) - 1;
+  while (line <= to) {
+    const next = lines.nth(index + 1), isLast = !next || next > to, end = isLast ? to + 1 : next;
+    if (isLast || (end - line) * wide >= 1) {
+      pieces.push({first: line, end, ...streamState(row, lines.nth(index))});
+      line = end;
+      index++;
+    } else {
+      index = lines.countTo(Math.min(to, Math.floor(line + 1 / wide))) - 1;
+      pieces.push({first: line, end: lines.nth(index), style: 'many', text: ''});
+      line = lines.nth(index);
+    }
+  }
+  return joined(pieces);
+}
+
+function joined(pieces) {
+  const shown = [];
+  for (const piece of pieces) {
+    const last = shown[shown.length - 1];
+    if (last && last.style === piece.style && last.text === piece.text) last.end = piece.end; else shown.push(piece);
+  }
+  return shown;
+}
+
+function streamText(pieces, i, at) {
+  const {first, end, text} = pieces[i], room = at(end) - at(first), size = text.length * STREAM.letter + 5, next = pieces[i + 1];
+  if (!text) return null;
+  if (room >= size) return {x: at(first) + 3, isIn: true, text};
+  const quiet = next && next.style === 'replied' && !next.text ? pieces[i + 2] : next;
+  if (quiet && quiet.style === 'idle' && at(quiet.end) - at(end) >= size) return {x: at(quiet.first) + 2, isIn: false, text};
+  const fits = Math.floor((room - 4) / STREAM.letter);
+  return fits >= 3 ? {x: at(first) + 3, isIn: true, text: cut(text, fits)} : null;
+}
+
+function streamPlan() {
+  const {width, height} = sizes.chart, left = Math.min(STREAM.left, Math.round(width * 0.3)), to = lastStreamed();
+  const wide = Math.max(50, Math.floor(width) - left - 12), from = Math.max(1, Math.min(streams.from, to));
+  const rows = streamRows(Math.max(1, Math.floor((height - STREAM.top - 4) / STREAM.row)));
+  return {from, to, left, wide, rows, at: line => left + (line - from) / (to - from + 1) * wide};
+}
+
+function followStreams() {
+  const to = lastStreamed(), size = to - streams.from, {line} = view, isAnother = streams.line !== line;
+  streams.line = line;
+  if (!isAnother || line >= streams.from && line <= to) return;
+  setStreams(line < streams.from ? line - size / 4 : line - size * 3 / 4, size);
+}
+
+function setStreams(from, size) {
+  const most = trace.count - 1, wanted = Math.max(Math.min(STREAM.least, most), Math.min(most, Math.round(size)));
+  streams.from = Math.max(1, Math.min(trace.count - wanted, Math.round(from)));
+  streams.to = wanted === most ? 0 : streams.from + wanted;
+}
+
+function showStreams() {
+  followStreams();
+  const plan = streamPlan(), key = [plan.from, plan.to, plan.wide, ...plan.rows, view.selected].join();
+  if (streams.key !== key || !$('chart').contains(streams.picture)) drawStreams(plan);
+  streams.key = key;
+  const x = plan.at(view.line + 0.5);
+  for (const name of ['x1', 'x2']) streams.now.setAttribute(name, x.toFixed(1));
+}
+
+function drawStreams(plan) {
+  const {from, to, rows, at, left, wide} = plan, bottom = STREAM.top + rows.length * STREAM.row;
+  const picture = svg('svg', {width: left + wide + 10, height: bottom + 2, class: 'streams'});
+  for (const line of restsApart(plan)) {
+    const x = at(line).toFixed(1);
+    picture.append(svg('line', {class: 'rest', x1: x, x2: x, y1: STREAM.top - 6, y2: bottom}));
+  }
+  rows.forEach((row, i) => picture.append(streamRow(plan, row, STREAM.top + i * STREAM.row)));
+  const ticks = wide < 400 ? 2 : 5;
+  for (let i = 0; i <= ticks; i++) {
+    const line = Math.round(from + (to - from) * i / ticks);
+    picture.append(svg('text', {class: i === ticks ? 'tick ends' : 'tick', x: at(line).toFixed(1), y: 11}, String(line)));
+  }
+  const now = svg('line', {class: 'now', y1: 2, y2: bottom});
+  picture.append(now);
+  Object.assign(streams, {picture, now});
+  $('chart').replaceChildren(picture);
+}
+
+function restsApart({from, to, wide}) {
+  const {rests} = trace, found = [], step = (to - from + 1) / wide;
+  for (let line = from - 1; line < to;) {
+    const next = rests[countIn(rests, 0, rests.length, line)];
+    if (!next || next > to) break;
+    found.push(next);
+    line = Math.max(next, Math.floor(next + step) - 1);
+  }
+  return found;
+}
+
+function streamRow({from, to, wide, left, at}, row, y) {
+  const group = svg('g', {class: `stream${view.selected === row ? ' selected' : ''}`, 'data-row': row});
+  const pieces = streamPieces(row, from, to, wide), name = cut(streamName(row), Math.floor(left / 7));
+  group.append(svg('text', {class: 'name', x: left - 8, y: y + 13, 'data-select': row}, name));
+  pieces.forEach((piece, i) => {
+    const isBus = piece.text !== '' || piece.style === 'held', told = streamText(pieces, i, at), x = at(piece.first);
+    const [top, height] = piece.style === 'idle' ? [y + 9, 1.5] : isBus ? [y + 2, 14] : [y + 5, 8];
+    const width = Math.max(0.8, at(piece.end) - x - (isBus ? 1 : 0));
+    group.append(svg('rect', {class: piece.style, x: x.toFixed(1), y: top, width: width.toFixed(1), height}));
+    const style = told && (told.isIn ? piece.style : 'beside');
+    if (told) group.append(svg('text', {class: `told ${style}`, x: told.x.toFixed(1), y: y + 13}, told.text));
+  });
+  return group;
+}
+
+function streamLineAt(clientX) {
+  const {from, to, left, wide} = streamPlan(), x = clientX - $('chart').getBoundingClientRect().left - left;
+  return Math.max(from, Math.min(to, from + Math.floor(x / wide * (to - from + 1))));
+}
+
+function turnStreams(event) {
+  const {from, to} = streamPlan(), size = to - from, at = streamLineAt(event.clientX), turn = event.deltaY || event.deltaX;
+  if (event.shiftKey) setStreams(from + Math.sign(turn) * Math.max(1, size / 10), size);
+  else {
+    const wanted = Math.min(trace.count - 1, Math.max(STREAM.least, size * Math.exp(turn * 0.002)));
+    setStreams(at - (at - from) / Math.max(1, size) * wanted, wanted);
+  }
+  showStreams();
+  writeLink();
+}
+
+function dragStreams(before, after) {
+  const {from, to, left, wide} = streamPlan(), edge = $('chart').getBoundingClientRect().left + left, [x, y] = after;
+  const lineAt = at => from + (at - edge) / wide * (to - from + 1), [a, b] = before.map(lineAt);
+  const count = y === undefined ? to - from + 1 : (b - a) * wide / (y - x);
+  if (count > 0) setStreams(a - (x - edge) / wide * count, count - 1);
+  showStreams();
+  writeLink();
+}
+
+function pin() {
+  const {pinned} = streams, {selected} = view;
+  if (!selected) return;
+  if (pinned.includes(selected)) pinned.splice(pinned.indexOf(selected), 1);
+  else if (pinned.length < MOST_PINNED) pinned.push(selected);
+  show();
+}
+
+function sourceOf(item) {
+  const found = /^(.*):(\d+):(\d+)$/.exec(item ? item.source : '');
+  return found ? {file: found[1], line: Number(found[2]), column: Number(found[3])} : null;
+}
+
+function filesOfNet() {
+  net.files = net.files || [...new Set([...all.components, ...all.channels].map(it => sourceOf(it)?.file).filter(file => file))];
+  return net.files;
+}
+
+const lastPart = name => name.slice(name.lastIndexOf('/') + 1);
+function linesOfSource(file) {
+  const {sources} = net, isAlike = name => lastPart(name) === lastPart(file);
+  if (sources.has(file)) return sources.get(file);
+  const alike = [...sources.keys()].filter(isAlike);
+  return alike.length === 1 && filesOfNet().filter(isAlike).length === 1 ? sources.get(alike[0]) : null;
+}
+
+const MEETINGS = new Set(['Passivator', 'PassivatorPush', 'Synch', 'SynchPull', 'SynchPush', 'Variable', 'FalseVariable',
+  ...CALLS]);
+const phaseNow = number => phaseAfter(trace, lastChange(trace, number, view.line));
+const isBusyNow = component => component.passive.some(p => phaseNow(component.channels[p]) === TAKEN);
+
+function isControlAt(component) {
+  if (MEETINGS.has(component.kind) || !isBusyNow(component)) return false;
+  return component.active.every(p => {
+    const {number, passive} = net.channels[component.channels[p]];
+    const callee = passive && passive !== 'host' && net.components[passive.component];
+    return !callee || MEETINGS.has(callee.kind) || phaseNow(number) === IDLE || !isBusyNow(callee);
+  });
+}
+
+function controlInSource() {
+  const found = new Map();
+  for (const component of all.components) {
+    const place = component.source && isControlAt(component) ? sourceOf(component) : null;
+    if (!place || !linesOfSource(place.file)) continue;
+    const key = `${place.file}:${place.line}`, isRing = net.stuck.ring.has(component.number);
+    const told = found.get(key) || {...place, columns: [], component: component.number, isRing: false};
+    told.columns.push(place.column);
+    told.isRing = told.isRing || isRing && isStill(net, trace, component.number, view.line);
+    found.set(key, told);
+  }
+  return [...found.values()];
+}
+
+function sourceNow() {
+  const isTold = item => sourceOf(item) && linesOfSource(sourceOf(item).file), {selected, line} = view;
+  if (selected && isTold(thatIs(selected))) return sourceOf(thatIs(selected));
+  for (let at = line; at > 1 && at > line - 500; at--) {
+    const item = [net.components[trace.component[at]], net.channels[trace.channel[at]]].find(isTold);
+    if (item) return sourceOf(item);
+  }
+  return null;
+}
+
+function sourceLines(room) {
+  const now = sourceNow(), shown = new Map(), control = controlInSource().sort((a, b) => b.isRing - a.isRing);
+  const isAt = (place, file, line) => Boolean(place) && place.file === file && place.line === line;
+  const put = (file, line) => {
+    const key = `${file}:${line}`, lines = linesOfSource(file);
+    if (line < 1 || line > lines.length || shown.has(key) || shown.size >= room) return;
+    const told = control.find(it => isAt(it, file, line)), isNow = isAt(now, file, line);
+    const columns = [...(isNow ? [now.column] : []), ...(told ? told.columns : [])];
+    shown.set(key, {file, line, text: lines[line - 1], told, columns, isNow});
+  };
+  for (const {file, line} of [...(now ? [now] : []), ...control]) for (const at of [line, line - 1, line + 1]) put(file, at);
+  const first = filesOfNet().find(linesOfSource);
+  for (let line = 1; !now && control.length === 0 && line <= room; line++) put(first, line);
+  return [...shown.values()].sort((a, b) => (a.file < b.file ? -1 : a.file > b.file ? 1 : a.line - b.line));
+}
+
+const utf8 = letters => new TextDecoder().decode(Uint8Array.from(letters, letter => letter.charCodeAt(0)));
+
+function sourceRow({line, text, told, columns, isNow}) {
+  const row = html('div', `row${told ? told.isRing ? ' stuck' : ' active' : ''}${isNow ? ' now' : ''}`), held = html('span');
+  let at = 0;
+  for (const column of [...new Set(columns)].sort((a, b) => a - b)) if (column > at && column <= text.length) {
+    const end = column + /^[\x80-\xbf]*/.exec(text.slice(column))[0].length;
+    held.append(utf8(text.slice(at, column - 1)), html('mark', '', utf8(text.slice(column - 1, end))));
+    at = end;
+  }
+  held.append(utf8(text.slice(at)));
+  row.append(html('span', 'line', String(line)), held);
+  row.dataset.place = line;
+  if (told) row.dataset.select = `c${told.component}`;
+  return row;
+}
+
+function whyNoSource() {
+  const files = filesOfNet();
+  if (files.length === 0) return 'This netlist names no source.';
+  return `This page doesn't have the source: ${cut(files.join(', '), 120)}${added.isLive ? '. Drop it here, or load it.' : ''}`;
+}
+
+function showSource() {
+  const list = html('div', 'source'), isTold = filesOfNet().some(linesOfSource);
+  if (!isTold) list.append(html('div', 'hint', whyNoSource()));
+  let last = {file: '', line: 0};
+  for (const it of isTold ? sourceLines(Math.max(6, Math.floor(sizes.chart.height / ROW_HEIGHT) - 3)) : []) {
+    if (it.file !== last.file) list.append(html('div', 'file', it.file));
+    else if (it.line > last.line + 1) list.append(html('div', 'gap', '·'));
+    list.append(sourceRow(it));
+    last = it;
+  }
+  $('chart').replaceChildren(list);
+}
+
+const PANELS = {chart: () => showChart(), streams: () => showStreams(), source: () => showSource()};
+
 function show() {
   const isFar = Math.abs(view.line - view.focusLine) > REFOCUS || view.hasRing !== isStuckBehind(net, view.line);
-  if (view.isFocused && isFar) {
-    draw();
-    fit();
-  }
+  if (view.isFocused && isFar) drawAnew();
   markPicture();
+  if (view.isCounted) markCounts();
   if (view.isFollowing) follow();
   $('says').textContent = tell(view.line) + (view.line === net.stuck.line ? ' (from here on something is stuck)' : '');
   $('position').textContent = `line ${view.line} of ${trace.count}`;
@@ -2319,40 +2790,53 @@ function show() {
   showJournal();
   showDetails();
   showStrip();
-  if (view.isCharted) showChart();
+  if (view.panel) PANELS[view.panel]();
   added.afterShow();
   writeLink();
 }
 
-// Goes to a line, or to the nearest that there is.
-function go(line) {
+const places = {before: [], isSeries: false}, MOST_PLACES = 200;
+function notePlace(isSeries = false) {
+  if (!isSeries || !places.isSeries) places.before.push({line: view.line, selected: view.selected});
+  if (places.before.length > MOST_PLACES) places.before.shift();
+  places.isSeries = isSeries;
+}
+
+function goBack() {
+  const place = places.before.pop();
+  if (!place) return;
+  view.line = Math.min(place.line, trace.count);
+  setSelected(place.selected);
+}
+
+function go(line, isSeries = false) {
   const wanted = Math.max(1, Math.min(trace.count, Math.trunc(line) || 1));
   if (wanted === view.line) return;
+  if (Math.abs(wanted - view.line) > 1) notePlace(isSeries);
   view.line = wanted;
   show();
 }
 const step = lines => go(view.line + lines);
 const goTo = line => { if (line) go(line); };
 
-// Selects a component, a channel, or nothing. In focus a component is drawn with all that is beside it.
 function select(selected) {
+  if (selected !== view.selected) notePlace();
+  setSelected(selected);
+}
+
+function setSelected(selected) {
   const before = view.selected;
   view.selected = selected;
-  if (view.isFocused && selected && !isDrawnWhole(selected)) {
-    draw();
-    fit();
-  }
+  if (view.isFocused && selected && !isDrawnWhole(selected)) drawAnew();
   markSelection(before);
   show();
 }
 
-// Selects what was chosen in a list, and moves the picture there, near enough to read it.
 function goToSelected(selected) {
   select(selected);
   bringIntoSight(nodeOfSelected(selected), true);
 }
 
-// Draws anew, and shows all of it.
 function redraw() {
   draw();
   fit();
@@ -2365,8 +2849,15 @@ function fold(path) {
   redraw();
 }
 
+const limits = {drawn: 3000};
 function setFocus(isFocused) {
-  view.isFocused = isFocused;
+  const count = isFocused ? 0 : nodesOfWhole();
+  if (count > limits.drawn && view.warnedAt !== view.line) {
+    view.warnedAt = view.line;
+    $('says').textContent = `The whole has ${count} components and copies to draw, which takes a while. Once more: draw it.`;
+    return;
+  }
+  Object.assign(view, {isFocused, warnedAt: 0});
   $('focus').classList.toggle('on', isFocused);
   redraw();
 }
@@ -2382,16 +2873,46 @@ function setFollow(isFollowing) {
   show();
 }
 
-function setChart(isCharted) {
-  view.isCharted = isCharted;
-  document.body.classList.toggle('charted', isCharted);
-  $('charting').classList.toggle('on', isCharted);
+function setPanel(panel) {
+  view.panel = panel;
+  document.body.classList.toggle('charted', panel !== '');
+  document.body.classList.toggle('low', panel === 'streams' || panel === 'source');
+  for (const [id, name] of [['charting', 'chart'], ['streaming', 'streams'], ['sourcing', 'source']])
+    $(id).classList.toggle('on', panel === name);
   measure();
   fit();
   show();
 }
+const togglePanel = panel => setPanel(view.panel === panel ? '' : panel);
 
-// Light or dark; of a page that says neither the reader's system decides.
+function setOnly() {
+  const kinds = ['', 'host', ...(view.selected ? ['mine'] : []), ...(search.hits ? ['found'] : [])];
+  view.only = kinds[(kinds.indexOf(view.only) + 1) % kinds.length];
+  show();
+}
+
+function setWords(isInWords) {
+  view.isInWords = isInWords;
+  show();
+}
+
+function setCounts(isCounted) {
+  view.isCounted = isCounted;
+  $('counting').classList.toggle('on', isCounted);
+  markCounts();
+  show();
+}
+
+function save(name, text, type = 'text/plain') {
+  const it = html('a');
+  it.href = URL.createObjectURL(new Blob([text], {type}));
+  it.download = name;
+  it.click();
+  setTimeout(() => URL.revokeObjectURL(it.href), 10000);
+  added.saved = {name, text};
+}
+const savePicture = () => save(`${net.part}-${view.line}.svg`, pictureFile(), 'image/svg+xml');
+
 function setTheme(theme) {
   if (theme) document.documentElement.dataset.theme = theme;
   else delete document.documentElement.dataset.theme;
@@ -2399,7 +2920,6 @@ function setTheme(theme) {
   writeLink();
 }
 
-// Light where it is dark, and dark where it is light.
 function otherTheme() {
   const isDark = window.matchMedia('(prefers-color-scheme: dark)').matches;
   const now = document.documentElement.dataset.theme || (isDark ? 'dark' : 'light');
@@ -2408,13 +2928,11 @@ function otherTheme() {
 
 const toggleHelp = isShown => $('help').classList.toggle('on', isShown);
 
-// Leaves the help, or else what is selected.
 function escape() {
   if ($('help').classList.contains('on')) toggleHelp(false);
   else select(null);
 }
 
-// ---- play: 1 to 1,000 lines a second, at most 50 pictures -----------------------------------------------------------
 
 const SPEEDS = [1, 2, 5, 10, 25, 100, 1000], PICTURES = 50;
 const player = {timer: 0, speed: 3};
@@ -2423,11 +2941,10 @@ function play(isPlaying) {
   clearInterval(player.timer);
   const speed = SPEEDS[player.speed], lines = Math.max(1, Math.round(speed / PICTURES));
   const next = () => {
-    step(lines);
+    go(view.line + lines, true);
     if (view.line >= trace.count) play(false);
   };
   player.timer = isPlaying && view.line < trace.count ? setInterval(next, 1000 * lines / speed) : 0;
-  // (what is read aloud would come too late)
   $('says').setAttribute('aria-live', player.timer ? 'off' : 'polite');
   $('play').textContent = player.timer ? 'pause' : 'play';
   $('speed').textContent = `${speed}/s`;
@@ -2439,21 +2956,19 @@ function changeSpeed(by) {
   play(Boolean(player.timer));
 }
 
-// ---- links to a moment: `#line=120&at=c7` ---------------------------------------------------------------------------
 
 const link = {timer: 0};
 
-// The copies that begin folded, in focus and else.
 const foldedAtFirst = () => (view.isFocused ? [] : view.foldedAtFirst);
 
-// Writes what is seen into the address, without a step in the browser's history.
 function writeLink() {
   if (added.isLive) return;
   const parts = [`line=${view.line}`], folded = [...foldedNow()].join(), {theme} = document.documentElement.dataset;
   if (view.selected) parts.push(`at=${view.selected}`);
-  if (view.isCharted) parts.push('view=chart');
+  if (view.panel) parts.push(`view=${view.panel}`);
   if (view.isFocused !== isLarge) parts.push(`focus=${Number(view.isFocused)}`);
   if (search.text) parts.push(`find=${encodeURIComponent(search.text)}`);
+  parts.push(...membersOfPanels());
   if (folded !== foldedAtFirst().join()) parts.push(`fold=${folded}`);
   if (view.isStubbed !== null) parts.push(`stubs=${Number(view.isStubbed)}`);
   if (theme) parts.push(`theme=${theme}`);
@@ -2464,11 +2979,29 @@ function writeLink() {
   }, 120);
 }
 
-// Whether there is a component or channel of this name.
+function membersOfPanels() {
+  const {pinned, from, to} = streams, parts = [];
+  if (view.only) parts.push(`only=${view.only}`);
+  if (view.isInWords) parts.push('words=1');
+  if (view.isCounted) parts.push('counts=1');
+  if (pinned.length) parts.push(`pin=${pinned.join()}`);
+  if (to) parts.push(`from=${from}`, `to=${to}`);
+  return parts;
+}
+function readMembersOfPanels(said) {
+  const only = said.get('only'), [from, to] = ['from', 'to'].map(name => Math.trunc(Number(said.get(name))) || 0);
+  view.only = ['host', 'mine', 'found'].includes(only) ? only : '';
+  view.isInWords = said.get('words') === '1';
+  view.isCounted = said.get('counts') === '1';
+  $('counting').classList.toggle('on', view.isCounted);
+  streams.pinned = [...new Set((said.get('pin') || '').split(',').filter(isThere))].slice(0, MOST_PINNED);
+  Object.assign(streams, {from: 1, to: 0, line: view.line});
+  if (from >= 1 && to > from && to <= trace.count) setStreams(from, to - from);
+}
+
 const thatIs = selected => (selected[0] === 'c' ? net.components : net.channels)[numberOf(selected)];
 const isThere = selected => /^[ck][0-9]+$/.test(selected) && Boolean(thatIs(selected));
 
-// Shows what an address says; what it doesn't say is as at first.
 function readLink(address) {
   const said = new URLSearchParams(new URL(address).hash.slice(1)), at = said.get('at');
   view.line = Math.max(1, Math.min(trace.count, Math.trunc(Number(said.get('line'))) || 1));
@@ -2480,12 +3013,13 @@ function readLink(address) {
   $('search').value = said.get('find') || '';
   find($('search').value);
   $('focus').classList.toggle('on', view.isFocused);
+  readMembersOfPanels(said);
   draw();
-  setChart(said.get('view') === 'chart');
+  markCounts();
+  setPanel(Object.hasOwn(PANELS, said.get('view')) ? said.get('view') : '');
 }
 const foldedBy = said => said.get('fold').split(',').filter(path => net.instances.has(path));
 
-// ---- keys and the mouse ---------------------------------------------------------------------------------------------
 
 const lastBefore = lines => lines[countIn(lines, 0, lines.length, view.line - 1) - 1];
 const firstAfter = lines => lines[countIn(lines, 0, lines.length, view.line)];
@@ -2499,11 +3033,13 @@ const KEYS = {
   x: () => goTo(firstAfter(clashLines) || clashLines[0]),
   n: () => goToHit(1), N: () => goToHit(-1), '/': () => $('search').focus(), g: () => $('line').focus(),
   '+': () => zoom(0.8), '-': () => zoom(1.25), f: fit, w: () => setFollow(!view.isFollowing),
-  o: () => setFocus(!view.isFocused), s: () => setStubs(!isStubbedNow()), c: () => setChart(!view.isCharted), d: otherTheme,
+  o: () => setFocus(!view.isFocused), s: () => setStubs(!isStubbedNow()), d: otherTheme,
+  c: () => togglePanel('chart'), t: () => togglePanel('streams'), y: () => togglePanel('source'),
+  v: () => setWords(!view.isInWords), k: () => setCounts(!view.isCounted), S: savePicture,
+  e: setOnly, E: setOnly, p: pin, P: pin, u: goBack, j: goBack,
   '?': () => toggleHelp(), Escape: escape,
 };
 
-// A key in a field that is typed in.
 function typed(event) {
   const field = event.target;
   if (event.key === 'Escape') field.blur();
@@ -2514,7 +3050,6 @@ function typed(event) {
   field.blur();
 }
 
-// Arrows choose a name that was found, and Enter goes there; else to the next line found, or to the first name where there is none.
 function typedInSearch(event) {
   const by = {Enter: 0, ArrowDown: 1, ArrowUp: -1}[event.key], text = $('search').value;
   if (by === undefined) return;
@@ -2535,7 +3070,6 @@ function pressed(event) {
   }
 }
 
-// Goes to or selects what was clicked. Answers whether there was anything.
 function clicked(event) {
   const target = event.target.closest('[data-line],[data-select],[data-component],[data-channel],[data-copy]');
   if (!target) return false;
@@ -2548,13 +3082,51 @@ function clicked(event) {
   return true;
 }
 
-const drag = {from: null, box: null, isFar: false};
+const drag = {from: null, box: null, isFar: false, fingers: new Map(), list: null, streams: new Map()};
+
+const pointOf = event => ({x: event.clientX, y: event.clientY});
 
 function dragFrom(event) {
-  Object.assign(drag, {from: {x: event.clientX, y: event.clientY}, box: {...view.box}, isFar: false});
+  drag.fingers.set(event.pointerId, pointOf(event));
+  Object.assign(drag, {from: pointOf(event), box: {...view.box}, isFar: drag.fingers.size > 1});
+}
+
+function pinchTo(event) {
+  const spread = () => {
+    const [a, b] = [...drag.fingers.values()];
+    return {x: (a.x + b.x) / 2, y: (a.y + b.y) / 2, size: Math.max(20, Math.hypot(a.x - b.x, a.y - b.y))};
+  };
+  const before = spread(), {x, y} = pointAt(before.x, before.y);
+  drag.fingers.set(event.pointerId, pointOf(event));
+  const after = spread();
+  zoom(before.size / after.size, {x, y});
+  const there = pointAt(after.x, after.y), {box} = view;
+  setBox({...box, x: box.x + x - there.x, y: box.y + y - there.y});
+}
+
+function listFrom(event) {
+  if (event.pointerType !== 'mouse') drag.list = event.clientY;
+}
+function listTo(event) {
+  const rows = Math.trunc((drag.list - event.clientY) / ROW_HEIGHT);
+  if (rows === 0) return;
+  drag.list -= rows * ROW_HEIGHT;
+  stepInList(rows);
+}
+
+function streamsFrom(event) {
+  if (event.pointerType !== 'mouse' && view.panel === 'streams') drag.streams.set(event.pointerId, event.clientX);
+}
+function streamsTo(event) {
+  const before = [...drag.streams.values()].slice(0, 2);
+  drag.streams.set(event.pointerId, event.clientX);
+  dragStreams(before, [...drag.streams.values()].slice(0, 2));
 }
 
 function dragTo(event) {
+  if (drag.list !== null) return listTo(event);
+  if (drag.streams.has(event.pointerId)) return streamsTo(event);
+  if (drag.fingers.size > 1) return drag.fingers.has(event.pointerId) && pinchTo(event);
   if (!drag.from) return;
   const dx = event.clientX - drag.from.x, dy = event.clientY - drag.from.y;
   if (Math.abs(dx) + Math.abs(dy) > 4) drag.isFar = true;
@@ -2563,49 +3135,64 @@ function dragTo(event) {
   setBox({...drag.box, x: drag.box.x - dx * size, y: drag.box.y - dy * size});
 }
 
-// Ends a drag. Where nothing was dragged it is a click, and one beside everything selects nothing.
 function dragEnd(event) {
   const isClick = drag.from && !drag.isFar && $('svg').contains(event.target);
-  drag.from = null;
+  dragNothing(event);
   if (isClick && !added.takesClick(event) && !clicked(event)) select(null);
+}
+
+function dragNothing(event) {
+  drag.fingers.delete(event.pointerId);
+  drag.streams.delete(event.pointerId);
+  Object.assign(drag, {from: null, list: null});
+}
+
+function clickedPanel(event) {
+  if (!clicked(event) && view.panel === 'streams') go(streamLineAt(event.clientX));
 }
 
 function listen() {
   document.addEventListener('keydown', pressed);
-  for (const id of ['journal', 'details', 'chart', 'found']) $(id).addEventListener('click', clicked);
-  // (what is found is shown for as long as the field has the focus)
+  for (const id of ['journal', 'details', 'found']) $(id).addEventListener('click', clicked);
+  $('chart').addEventListener('click', clickedPanel);
   $('found').addEventListener('mousedown', event => event.preventDefault());
   $('svg').addEventListener('pointerdown', dragFrom);
   window.addEventListener('pointermove', dragTo);
   window.addEventListener('pointerup', dragEnd);
-  window.addEventListener('pointercancel', () => { drag.from = null; });
-  const onWheel = (id, turn) => $(id).addEventListener('wheel', event => {
-    event.preventDefault();
-    turn(event);
-  }, {passive: false});
-  onWheel('svg', event => zoom(Math.exp(event.deltaY * 0.0015), pointAt(event.clientX, event.clientY)));
-  onWheel('journal', event => step(Math.sign(event.deltaY) * 3));
+  window.addEventListener('pointercancel', dragNothing);
+  $('journal').addEventListener('pointerdown', listFrom);
+  $('chart').addEventListener('pointerdown', streamsFrom);
+  listenToWheels();
+  listenToButtons();
+  listenToSizes();
   $('scrubber').addEventListener('input', event => {
     play(false);
-    go(Number(event.target.value));
+    go(Number(event.target.value), true);
   });
   $('search').addEventListener('input', event => {
     clearTimeout(search.timer);
     search.timer = setTimeout(() => find(event.target.value), trace.count > 100000 ? 200 : 30);
   });
-  const buttons = {first: KEYS.Home, back: () => step(-1), play: togglePlay, forward: () => step(1), last: KEYS.End,
-    slower: KEYS['<'], faster: KEYS['>'], charting: KEYS.c, focus: KEYS.o, fit, follow: KEYS.w, theme: otherTheme,
-    ask: () => toggleHelp(true), close: () => toggleHelp(false)};
-  for (const [id, act] of Object.entries(buttons)) $(id).onclick = () => {
-    act();
-    $(id).blur();
-  };
   if (!added.isLive) window.addEventListener('hashchange', event => readLink(event.newURL));
+}
+
+function listenToWheels() {
+  const onWheel = (id, turn, isWanted = () => true) => $(id).addEventListener('wheel', event => {
+    if (!isWanted()) return;
+    event.preventDefault();
+    turn(event);
+  }, {passive: false});
+  onWheel('svg', event => zoom(Math.exp(event.deltaY * 0.0015), pointAt(event.clientX, event.clientY)));
+  onWheel('journal', event => stepInList(Math.sign(event.deltaY) * 3));
+  onWheel('chart', turnStreams, () => view.panel === 'streams');
+}
+
+function listenToSizes() {
   const observer = new ResizeObserver(() => {
     measure();
     showJournal();
     showStrip();
-    if (view.isCharted) showChart();
+    if (view.panel) PANELS[view.panel]();
   });
   for (const id of ['svg', 'journal', 'chart', 'strip']) observer.observe($(id));
   window.addEventListener('resize', () => {
@@ -2615,11 +3202,20 @@ function listen() {
   });
 }
 
-// ---- the opening ----------------------------------------------------------------------------------------------------
+function listenToButtons() {
+  const buttons = {first: KEYS.Home, back: () => step(-1), play: togglePlay, forward: () => step(1), last: KEYS.End,
+    slower: KEYS['<'], faster: KEYS['>'], charting: KEYS.c, streaming: KEYS.t, sourcing: KEYS.y, focus: KEYS.o, fit,
+    nearer: KEYS['+'], farther: KEYS['-'], follow: KEYS.w, counting: KEYS.k, picture: savePicture, theme: otherTheme,
+    only: setOnly, words: KEYS.v, ask: () => toggleHelp(true), close: () => toggleHelp(false)};
+  for (const [id, act] of Object.entries(buttons)) $(id).onclick = () => {
+    act();
+    $(id).blur();
+  };
+}
+
 
 let isLarge = false;
 
-// What the page is of, and whether its trace agrees with itself.
 function showFoot() {
   const hostMoves = trace.hostLines.filter(line => isMove(trace.what[line])).length, {moves, values, told, met, bad} = found;
   const counts = [`${counted(all.components.length, 'component')}, ${counted(all.channels.length, 'channel')}`,
@@ -2631,32 +3227,31 @@ function showFoot() {
   $('foot').classList.toggle('bad', bad > 0);
 }
 
-// Takes a net at its opening, or with a trace, in place of what is shown. Of a net with many components the outermost copies are
-// folded.
 function load(list, rows, text) {
   net = readNet(list, rows);
   all = {components: net.components.slice(1), channels: net.channels.slice(1)};
-  isLarge = all.components.length > MANY;
-  Object.assign(view, {line: 1, selected: null, isFocused: isLarge, focusLine: 0, foldedInFocus: new Set(),
-    isStubbed: null});
+  Object.assign(view, {line: 1, selected: null, focusLine: 0, foldedInFocus: new Set(), isStubbed: null, picture: null,
+    only: ''});
   view.foldedAtFirst = all.components.length > MANY / 2 ? [...net.instances.keys()].filter(path => !path.includes('/')) : [];
   view.folded = new Set(view.foldedAtFirst);
+  measure();
+  isLarge = view.isFocused = isTooSmall();
+  Object.assign(streams, {from: 1, to: 0, pinned: [], key: ''});
+  places.before = [];
   document.title = `${net.part} · breezesim`;
   $('part').textContent = net.part;
   takeTrace(readTrace(text, net));
 }
 
-// Takes a trace of the net, or what the trace has become.
 function takeTrace(it) {
   trace = it;
   found = audit(trace, net);
   clashLines = [...found.met.values()].sort((a, b) => a - b);
-  strip.key = '';
+  strip.key = streams.key = '';
   $('scrubber').max = trace.count;
   showFoot();
 }
 
-// Opens the page on the three texts that it carries.
 function open() {
   const times = {started: performance.now()};
   load(textOf('net'), textOf('rows'), textOf('trace'));
@@ -2670,8 +3265,8 @@ function open() {
   return times;
 }
 
-// What tests look at.
-const forTests = {view, phaseAfter, lastChange, valueAfter, lineText, tell, get net() { return net; },
+const forTests = {view, streams, added, limits, phaseAfter, lastChange, valueAfter, lineText, tell, tellShortly, streamPieces, drawn,
+  get net() { return net; },
   get trace() { return trace; }, get found() { return found; }};
 forTests.times = open();
 window.breezesim = forTests;
