@@ -281,7 +281,7 @@ def found_is_seen(browser, ground):
     run.found("it is drawn", f"document.querySelectorAll('.component.selected[data-component=\"{far}\"]').length", 1)
     run.found("with its channels", f"{own}.every({drawn})", True)
     run.found("and who moves", "document.querySelectorAll('.component.moved').length", 1)
-    page = run.anew("large", "#line=9&focus=0")
+    page = run.anew("large", "#line=9&focus=0&fold=")
     channel = page.do(f"{own}[0]")
     near = f"""(({{x, y, width, height}}, node) => node.x > x && node.x < x + width && node.y > y && node.y < y + height
         && width < 2 * document.getElementById('svg').getBoundingClientRect().width)(breezesim.view.box,

@@ -293,6 +293,10 @@ g.row.now rect { fill: var(--moved); fill-opacity: .5; }
   header button, .find, .buttons, #scrubber, #line, .events { display: none; }
   body { grid-template-columns: minmax(0, 1fr) 250px; }
 }
+@media (max-width: 1200px) {
+  header { flex-wrap: wrap; }
+  #says { order: 9; flex-basis: 100%; }
+}
 @media (max-width: 900px) {
   body {
     grid-template: auto minmax(0, 1.3fr) minmax(0, 1fr) auto / minmax(0, 1fr);
@@ -310,8 +314,7 @@ g.row.now rect { fill: var(--moved); fill-opacity: .5; }
   .chosen aside { grid-template-rows: minmax(0, 1fr); }
   .told #details { display: block; }
   .told aside { grid-template-rows: auto minmax(0, 1fr) minmax(0, 1fr); }
-  header { flex-wrap: wrap; }
-  #says { order: 9; flex-basis: 100%; white-space: normal; }
+  #says { white-space: normal; }
   footer { grid-template-columns: 1fr; }
   #foot { grid-column: 1; }
   .track { grid-row: 1; }
