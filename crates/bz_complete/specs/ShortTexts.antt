@@ -1,7 +1,8 @@
 -- The text of a short trace: a line for each move, `ask K`, `ask K V`, `reply K` or `reply K V`.
-use Rattle.std.specs.Prelude.{◌≡◌, ◌⊎◌, ℕ, ◌<◌, ◌^◌, Option, Some, None, List, [], ◌∷◌, ◌++◌, codes, slice_get}
+use Rattle.std.specs.Prelude.{◌≡◌, ◌⊎◌, ℕ, ◌<◌, ◌^◌, Option, Some, None, List, [], ◌∷◌, ◌++◌, codes}
 use Rattle.std.specs.Str.Parse.{IsNumeral, digits_value}
 use Rattle.bz_model.specs.Limits.{max_width}
+use Rattle.bz_model.specs.Names.{numbered}
 use Rattle.bz_complete.specs.declared.names.ChanName.{ChanName}
 use Rattle.bz_complete.specs.declared.short.Sent.{Sent}
 use Rattle.bz_complete.specs.declared.short.Sent.TheVariants.{Ask, Reply}
@@ -23,7 +24,7 @@ IsNumber digits n = IsNumeral 10 digits × (n ≡ digits_value 10 digits)
 
 -- the table has this channel under this name
 abbrev pub IsNamed : List ChanName → List ℕ → ℕ → Type 0
-IsNamed names name chan = (place : ℕ) × (entry : ChanName) × (slice_get names place ≡ Some entry) × (entry.name.items ≡ name) × (entry.chan ≡ chan)
+IsNamed names name chan = (number : ℕ) × (entry : ChanName) × (numbered names number ≡ Some entry) × (entry.name.items ≡ name) × (entry.chan ≡ chan)
 
 -- a channel by its number, or by a name of the table
 abbrev pub Stands : List ChanName → List ℕ → ℕ → Type 0

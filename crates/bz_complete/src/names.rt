@@ -3,6 +3,8 @@
 ghost use Rattle.std.specs.Prelude.{IfSome};
 ghost use Rattle.bz_complete.specs.ShortTexts.{IsNamed};
 
+use bz_model::numbered;
+
 /// A name that one channel has, and no other.
 #[derive(PartialEq, Eq, PartialOrd, Ord, Drop)]
 pub struct ChanName {
@@ -14,7 +16,7 @@ pub struct ChanName {
 pub(crate) fn named(names: &[ChanName], name: &[u8]) -> Option<u32>
     ensures { IfSome result (IsNamed names.now name.now) }
 {
-    let entry = names.get(place_of(names, name))?;
+    let entry = numbered(names, number_of(names, name))?;
     if entry.name.as_slice() == name {
         Some(entry.chan)
     } else {
@@ -22,8 +24,8 @@ pub(crate) fn named(names: &[ChanName], name: &[u8]) -> Option<u32>
     }
 }
 
-// How many names of a sorted table come before this one.
-fn place_of(names: &[ChanName], name: &[u8]) -> usize {
+// The number, from 1, at which a name stands in a sorted table, if it does.
+fn number_of(names: &[ChanName], name: &[u8]) -> u32 {
     let (mut from, mut to) = (0usize, names.len());
     for _ in 0..usize::BITS {
         let middle = from.saturating_add(to.saturating_sub(from) / 2);
@@ -38,5 +40,5 @@ fn place_of(names: &[ChanName], name: &[u8]) -> usize {
             _ => break,
         }
     }
-    from
+    u32::try_from(from).unwrap_or(u32::MAX).saturating_add(1)
 }

@@ -42,21 +42,20 @@ pub fn read_short(
 {
     let mut moves = Vec::new(alloc);
     let mut rest = text;
-    for line in 1..=text.len() {
+    for before in 0..text.len() {
         if rest.is_empty() {
-            break;
+            return Ok(moves);
         }
         let Some((due, after)) = move_at(rest, names) else {
-            return Err(ShortFault::Bad(line));
+            return Err(ShortFault::Bad(before + 1));
         };
         moves.push(due)?;
         rest = after;
     }
     if rest.is_empty() {
-        Ok(moves)
-    } else {
-        Err(ShortFault::Bad(text.len()))
+        return Ok(moves);
     }
+    Err(ShortFault::Bad(text.len()))
 }
 
 // The move of the first line of a text, and what follows that line.
