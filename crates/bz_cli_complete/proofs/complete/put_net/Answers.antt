@@ -10,8 +10,8 @@ returns-in-Ok-clause-ok g c =
       λ w moves made. whole_of w moves net comps c.journal.ensures.run c.journal.ensures.within c.clashes.ensures made,
     )
 
-pub returns-clause-err : goal.returns-clause-err
-returns-clause-err g c =
+pub returns-in-Err-clause-err : goal.returns-in-Err-clause-err
+returns-in-Err-clause-err g c =
     let net = c.args.net.now in let comps = c.clashes.result.now in (
       trace_text net.wiring.ports net.journal comps,
       rw (c.names.ensures.value, c.journal.ensures.entries) at c.in-Err.ensures.err,
