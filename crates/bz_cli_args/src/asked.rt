@@ -11,6 +11,8 @@ pub enum Command<'a> {
     Run(RunOptions<'a>),
     Explore(TraceOptions<'a>),
     Check(CheckOptions<'a>),
+    /// Of which the trace is the short one.
+    Complete(TraceOptions<'a>),
     Waits(WaitsOptions<'a>),
     List(ListOptions),
     Lint(LintOptions),
@@ -161,6 +163,7 @@ impl<'a> Command<'a> {
         match self {
             Command::Explore(options) => options.trace,
             Command::Check(options) => options.trace,
+            Command::Complete(options) => options.trace,
             Command::Waits(options) => options.trace,
             Command::Chart(options) => options.trace,
             Command::Page(options) => options.trace,
@@ -210,6 +213,7 @@ pub(crate) fn command_in<'a>(name: &str, matches: &ArgMatches<'a>) -> Option<Com
             trace: source_named(matches, "trace"),
             cover: matches.get_str("cover"),
         }),
+        "complete" => Command::Complete(short_options(matches)),
         "waits" => Command::Waits(waits_options(matches)),
         "list" => Command::List(ListOptions {
             paths: matches.get_flag("paths"),
@@ -237,6 +241,12 @@ fn run_options<'a>(matches: &ArgMatches<'a>) -> RunOptions<'a> {
 fn trace_options<'a>(matches: &ArgMatches<'a>) -> TraceOptions<'a> {
     TraceOptions {
         trace: source_named(matches, "trace"),
+    }
+}
+
+fn short_options<'a>(matches: &ArgMatches<'a>) -> TraceOptions<'a> {
+    TraceOptions {
+        trace: Some(source_named(matches, "short").unwrap_or(Source::Stdin)),
     }
 }
 

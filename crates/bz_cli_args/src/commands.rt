@@ -1,13 +1,13 @@
 //! The program with its commands.
 
 use crate::help::{
-    ALL_COMMANDS, CHART, CHECK, DRAW, EXPLORE, KINDS, LINT, LIST, PAGE, PARTS, POOL, PROGRAM, RUN,
-    VERSION, WAITS,
+    ALL_COMMANDS, CHART, CHECK, COMPLETE, DRAW, EXPLORE, KINDS, LINT, LIST, PAGE, PARTS, POOL,
+    PROGRAM, RUN, VERSION, WAITS,
 };
 use crate::options::{
     AROUND, BEGUN_TRACE, COMPONENT, COVER, DEPTH, EXPLAIN, FILES, FORMAT, FROM, FUEL, HOPS,
     JOURNAL, LINE, MEANT_PART, MOST, NETLIST, Opt, PART, PART_FORM, PATHS, REQUIRED_NETLIST,
-    SESSIONS, STRICT, STRICT_WAITS, TO, TRACE, WORD_FILE, WORDS, WORKERS, arg_of,
+    SESSIONS, SHORT, STRICT, STRICT_WAITS, TO, TRACE, WORD_FILE, WORDS, WORKERS, arg_of,
 };
 use clap::{Arg, Command};
 use std::alloc::{AllocError, Global};
@@ -23,7 +23,7 @@ struct Sub {
 }
 
 /// The commands, in the order of the help.
-const SUBS: [Sub; 12] = [
+const SUBS: [Sub; 13] = [
     Sub {
         name: "run",
         about: "Play words on a part's net, and write the trace",
@@ -43,6 +43,12 @@ const SUBS: [Sub; 12] = [
         about: "Tell whether a trace is that of a run of a part's net",
         after: CHECK,
         options: &[PART, PART_FORM, NETLIST, TRACE, COVER],
+    },
+    Sub {
+        name: "complete",
+        about: "Make a short trace, of requests and replies alone, the trace of a run of a part's net",
+        after: COMPLETE,
+        options: &[PART, PART_FORM, NETLIST, SHORT],
     },
     Sub {
         name: "waits",

@@ -67,6 +67,25 @@ Examples:
   breezesim check --part buffer --netlist examples/buffer.breeze --trace examples/buffer.trace
   cat examples/buffer.breeze examples/buffer.trace | breezesim check --part buffer";
 
+/// What stands behind the options of `complete`.
+pub(crate) const COMPLETE: &str = "\
+The netlist comes from FILE, the short trace from SHORT or from standard input. A short trace has a line for each request and
+reply, as the channels show them: `ask K`, `ask K V`, `reply K` or `reply K V`. K is a channel's number, or its name where just
+one channel has that. Each take and got is put in where its component or the host must have made it. The trace goes to standard
+output, and `check` reads it. Where there is none, standard error tells why:
+  error: not completed: line L      the move of line L can't be made behind those before it; what was found and what is due
+                                    there stand below
+  error: not a short trace: line L  line L is the first malformed line
+
+Statuses:
+  0  the trace was written
+  1  there is none, or the netlist is refused (S, B and E faults)
+  2  the command line is bad, or a file cannot be opened
+  3  the trace would be too long, input or output failed (F1, F2), or memory ran out (F3)
+
+Example:
+  breezesim complete --netlist design.breeze design.short";
+
 /// What stands behind the options of `waits`.
 pub(crate) const WAITS: &str = "\
 The netlist comes from --netlist or from standard input. The trace comes from --trace, or else stands behind the netlist, as

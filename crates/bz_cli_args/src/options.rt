@@ -142,6 +142,15 @@ pub(crate) const BEGUN_TRACE: Opt = Opt {
     ..TRACE
 };
 
+pub(crate) const SHORT: Opt = Opt {
+    id: "short",
+    name: Name::Place,
+    value: &["SHORT"],
+    help: "Read the short trace from SHORT; - is standard input, and the default",
+    takes_hyphens: false,
+    ..TEXT
+};
+
 pub(crate) const COVER: Opt = Opt {
     id: "cover",
     name: Name::Long("cover"),

@@ -2,6 +2,9 @@
 use Rattle.std.specs.Prelude.{◌≡◌, ℕ, ◌<◌, ◌≤◌, ◌&&◌, ⊤, Bool, if◌then◌else◌, Option, None, Some, Result, Ok, Err, List}
 use Rattle.std.specs.Io.KnownBytes.{Keeps}
 use Rattle.bz_cli_input.specs.declared.fault.Fault.{Fault}
+use Rattle.bz_cli_complete.specs.declared.fault.CompleteFault.{CompleteFault}
+use Rattle.bz_cli_complete.specs.declared.fault.CompleteFault.TheVariants as complete
+use Rattle.bz_cli_complete.specs.Completions as completing
 use Rattle.bz_cli_core.specs.declared.playing.Halt.{Halt}
 use Rattle.bz_cli_core.specs.declared.run.Played.{Played}
 use Rattle.bz_cli_trace.specs.declared.fault.TraceFault.{TraceFault}
@@ -55,6 +58,12 @@ of_unmade fault = Ok (status_of fault)
 abbrev pub of_made : {A C : Type 0} → Result A (TraceFault C) → Result ℕ Fault
 of_made (Ok u) = Ok 0
 of_made (Err fault) = of_unmade fault
+
+-- 0 where a trace was made of a short one, and else the status that says why none is
+abbrev pub of_completed : Result ⊤ CompleteFault → Result ℕ Fault
+of_completed (Ok u) = Ok 0
+of_completed (Err (complete.Command fault)) = Err fault
+of_completed (Err fault) = Ok (completing.status_of fault)
 
 -- 0 where it is told of a trace who waits, or 3 where something can never move again and that is asked for
 abbrev pub of_told : {C : Type 0} → Bool → Result Bool (TraceFault C) → Result ℕ Fault

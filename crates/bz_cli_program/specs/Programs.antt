@@ -9,6 +9,7 @@ use Rattle.bz_cli_args.specs.declared.asked.ListOptions.{ListOptions}
 use Rattle.bz_cli_args.specs.declared.asked.PoolOptions.{PoolOptions}
 use Rattle.bz_cli_args.specs.declared.asked.RunOptions.{RunOptions}
 use Rattle.bz_cli_args.specs.declared.asked.WaitsOptions.{WaitsOptions}
+use Rattle.bz_cli_complete.specs.Completions.{CompletesApart}
 use Rattle.bz_cli_core.specs.Running.{Runs}
 use Rattle.bz_cli_input.specs.Listed.{Lists}
 use Rattle.bz_cli_input.specs.declared.fault.Fault.{Fault}
@@ -20,7 +21,7 @@ use Rattle.bz_draw.specs.Drawing.{Draws}
 use Rattle.bz_draw.specs.declared.fault.NoDrawing.{NoDrawing}
 use Rattle.bz_page.specs.Pages.{Blank}
 use Rattle.bz_page.specs.Paging.{Pages, PagesApart}
-use Rattle.bz_cli_program.specs.Endings.{AreWorkers, Does, IsDone, IsJournal, IsRefused, lines_asked, of_check, of_done, of_drawing, of_made, of_run, of_told, waits_asked}
+use Rattle.bz_cli_program.specs.Endings.{AreWorkers, Does, IsDone, IsJournal, IsRefused, lines_asked, of_check, of_completed, of_done, of_drawing, of_made, of_run, of_told, waits_asked}
 
 -- `run`, where the journal may be as long as is asked for
 abbrev pub RunEnds : RunOptions → List (List ℕ) → Option (List ℕ) → Option (List ℕ) → Option (List ℕ) → Option (List ℕ) → Result ℕ Fault → Type 0
@@ -33,6 +34,12 @@ abbrev pub CheckEnds : Option (List ℕ) → Option (List ℕ) → Option (Optio
 CheckEnds part known None old new result = IfSome known (λ text. Does of_check (Checks text part old new) result)
 CheckEnds part known (Some apart) old new result =
     IfSome known (λ netlist. IfSome apart (λ text. Does of_check (ChecksApart netlist text part old new) result))
+
+-- `complete`, of the short trace that a reader of its own gives
+abbrev pub CompleteEnds : Option (List ℕ) → Option (List ℕ) → Option (Option (List ℕ)) → Option (List ℕ) → Option (List ℕ) → Result ℕ Fault → Type 0
+CompleteEnds part known None old new result = IsRefused old new result
+CompleteEnds part known (Some apart) old new result =
+    IfSome known (λ netlist. IfSome apart (λ text. Does of_completed (CompletesApart netlist text part old new) result))
 
 -- `waits`, of the line and the component that are asked for
 abbrev pub WaitsEnds : WaitsOptions → Option (List ℕ) → Option (List ℕ) → Option (Option (List ℕ)) → Option (List ℕ) → Option (List ℕ) → Result ℕ Fault → Type 0
@@ -74,6 +81,7 @@ abbrev pub ProgramDoes : Command → List (List ℕ) → Option (List ℕ) → O
 ProgramDoes (asked.Run options) words part known trace old new result = RunEnds options words part known old new result
 ProgramDoes (asked.Explore options) words part known trace old new result = ⊤
 ProgramDoes (asked.Check options) words part known trace old new result = CheckEnds part known trace old new result
+ProgramDoes (asked.Complete options) words part known trace old new result = CompleteEnds part known trace old new result
 ProgramDoes (asked.Waits options) words part known trace old new result = WaitsEnds options part known trace old new result
 ProgramDoes (asked.List options) words part known trace old new result = ListEnds options part known old new result
 ProgramDoes (asked.Lint options) words part known trace old new result = ⊤

@@ -7,8 +7,8 @@ ghost use Rattle.bz_cli_core.specs.Running.{Runs};
 ghost use Rattle.bz_cli_input.specs.Listed.{Lists};
 ghost use Rattle.bz_cli_input.specs.Reading.{ReadsWithin};
 ghost use Rattle.bz_cli_program.specs.Endings.{AreWorkers, Does, IsDone, IsJournal, IsRefused};
-ghost use Rattle.bz_cli_program.specs.Endings.{of_check, of_done, of_drawing, of_made, of_run, of_told, of_unmade};
-ghost use Rattle.bz_cli_program.specs.Programs.{ChartEnds, CheckEnds, PageEnds, WaitsEnds};
+ghost use Rattle.bz_cli_program.specs.Endings.{of_check, of_completed, of_done, of_drawing, of_made, of_run, of_told, of_unmade};
+ghost use Rattle.bz_cli_program.specs.Programs.{ChartEnds, CheckEnds, CompleteEnds, PageEnds, WaitsEnds};
 ghost use Rattle.bz_cli_source.specs.Listed as placed;
 ghost use Rattle.bz_cli_source.specs.PartLists.{ListsParts};
 ghost use Rattle.bz_draw.specs.Drawing.{Draws};
@@ -23,6 +23,7 @@ use bz_cli_args::{
     BAD_COMMAND_LINE, ChartOptions, DrawOptions, FormatOptions, LintOptions, ListOptions,
     MAX_JOURNAL, MAX_WORKERS, PoolOptions, RunOptions, WaitsOptions,
 };
+use bz_cli_complete::{CompleteFault, complete_cmd};
 use bz_cli_core::{Halt, Played, run_cmd};
 use bz_cli_input::{Fault, list_cmd};
 use bz_cli_kinds::kinds_cmd;
@@ -150,6 +151,48 @@ fn judged(checked: Result<Checked, Fault>) -> Outcome
             }
         }
         Err(unchecked) => Outcome::of(Err(unchecked)),
+    }
+}
+
+/// Makes the short trace that is given whole, and writes the trace. Why there is none goes to `errors`, but for a fault that other
+/// commands have too.
+pub(crate) fn complete<R: Read, T: Read, W: Write, E: Write>(
+    alloc: Global,
+    part: Option<&[u8]>,
+    input: &mut R,
+    short: Option<&mut T>,
+    output: &mut W,
+    errors: &mut E,
+) -> Result<u8, Fault>
+    ensures completes { CompleteEnds (option_copied part.entry) (R.remaining input.old)
+        (option_map (λ apart. T.remaining apart.now) short.entry) (W.contents output.old) (W.contents output.new) result }
+
+    // Whatever comes of it, it reads at most one byte past the limit.
+    ensures bounded { ReadsWithin (R.remaining input.old) (R.remaining input.new) }
+{
+    match short {
+        Some(short) => {
+            let completed = complete_cmd(alloc, part, input, short, output);
+            completed_or_not(completed, errors)
+        }
+        None => Ok(BAD_COMMAND_LINE),
+    }
+}
+
+// The status of a short trace that was made whole. Why it wasn't goes to `errors`.
+fn completed_or_not<E: Write>(
+    completed: Result<(), CompleteFault>,
+    errors: &mut E,
+) -> Result<u8, Fault>
+    ensures { result ≡ of_completed completed }
+{
+    match completed {
+        Ok(()) => Ok(DONE),
+        Err(CompleteFault::Command(fault)) => Err(fault),
+        Err(why) => {
+            let _ = writeln!(errors, "error: {why}");
+            Ok(why.status())
+        }
     }
 }
 

@@ -7,7 +7,7 @@ ghost use Rattle.bz_cli_program.specs.Programs.{ProgramDoes};
 ghost use Rattle.bz_words.specs.Words.{texts};
 
 use crate::commands::{
-    chart, check, draw, explore, kinds, lint, list, page, parts, pool, run, waits,
+    chart, check, complete, draw, explore, kinds, lint, list, page, parts, pool, run, waits,
 };
 use crate::given::Given;
 use crate::outcome::Outcome;
@@ -54,6 +54,7 @@ pub fn program<
             alloc, given, input, trace, lines, files, output, errors,
         )),
         Command::Check(_) => check(alloc, part, input, trace, output),
+        Command::Complete(_) => of(complete(alloc, part, input, trace, output, errors)),
         Command::Waits(options) => of(waits(alloc, part, options, input, trace, output, errors)),
         Command::List(options) => of(list(alloc, part, options, input, output)),
         Command::Lint(options) => of(lint(alloc, given, options, input, output)),

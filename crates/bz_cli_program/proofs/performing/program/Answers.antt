@@ -9,6 +9,9 @@ returns-in-Explore-clause-does g c = rw c.in-Explore.is tt
 pub returns-in-Check-clause-does : goal.returns-in-Check-clause-does
 returns-in-Check-clause-does g c = rw c.in-Check.is c.check.ensures.checks
 
+pub returns-in-Complete-clause-does : goal.returns-in-Complete-clause-does
+returns-in-Complete-clause-does g c = rw (c.in-Complete.is, c.of-in-Complete.ensures) c.complete.ensures.completes
+
 pub returns-in-Waits-clause-does : goal.returns-in-Waits-clause-does
 returns-in-Waits-clause-does g c = rw (c.in-Waits.is, c.of-in-Waits.ensures) c.waits.ensures.waits
 

@@ -1,0 +1,113 @@
+//! Which take or got a component makes next on its way to a move that is due.
+//!
+//! Nothing is claimed of the choice. Of a component's own port comes first, so a variable that is read takes no write for it.
+//! Where one of several requests is taken, the output that is asked at tells which, or else the component's next reply, or else
+//! the value. The two halves of a Bar go each by itself.
+
+use crate::guide::Guide;
+use crate::short::ShortMove;
+use bz_flat::FlatComp;
+use bz_model::{Kind, Move, Value};
+use bz_net::Net;
+
+/// A component on its way to a move at one of its ports.
+#[derive(Clone, Copy)]
+pub(crate) struct Way {
+    pub(crate) comp: u32,
+    pub(crate) port: u32,
+    pub(crate) due: ShortMove,
+}
+
+impl Way {
+    /// The port of the take or got that comes next: of several the first from a number on, and then from the first port on.
+    pub(crate) fn next(self, net: &Net, guide: &Guide, from: u32) -> Option<u32> {
+        let site = net.core().comp(self.comp)?;
+        if self.is_open(net, self.port) {
+            return Some(self.port);
+        }
+        match self.told(net, guide, site) {
+            Some(port) if self.is_open(net, port) => Some(port),
+            _ => self.first(net, site, from),
+        }
+    }
+
+    // The port whose request is taken, where the move that is due tells it.
+    fn told(self, net: &Net, guide: &Guide, site: &FlatComp) -> Option<u32> {
+        let [size, _] = site.sizes;
+        match site.kind {
+            Kind::Arbiter => self.port.checked_sub(2),
+            Kind::DecisionWait if self.port > size.saturating_add(1) => self.port.checked_sub(size),
+            Kind::Call | Kind::CallMux | Kind::CallDemux if self.port > size => {
+                match guide.next_port(self.comp) {
+                    Some(port) => Some(port),
+                    None => self.with_value(net, size),
+                }
+            }
+            Kind::Variable | Kind::FalseVariable if self.brings(net, 1) == Some(self.due.value) => {
+                Some(1)
+            }
+            _ => None,
+        }
+    }
+
+    // The first of so many ports at which a request with the value that is due is to be taken.
+    fn with_value(self, net: &Net, ports: u32) -> Option<u32> {
+        for before in 0..ports {
+            let port = before.saturating_add(1);
+            if self.brings(net, port) == Some(self.due.value) {
+                return Some(port);
+            }
+        }
+        None
+    }
+
+    // The first port with a take or a got, from a number on and then from the first on.
+    fn first(self, net: &Net, site: &FlatComp, from: u32) -> Option<u32> {
+        let ports = port_count(site);
+        for place in from.saturating_sub(1)..ports {
+            let port = place.saturating_add(1);
+            if self.is_beside(site, port) && self.is_open(net, port) {
+                return Some(port);
+            }
+        }
+        for place in 0..from.saturating_sub(1).min(ports) {
+            let port = place.saturating_add(1);
+            if self.is_beside(site, port) && self.is_open(net, port) {
+                return Some(port);
+            }
+        }
+        None
+    }
+
+    // Whether a port is of the same half of a component as the one of the move that is due. All but a Bar have one half.
+    fn is_beside(self, site: &FlatComp, port: u32) -> bool {
+        let [size, _] = site.sizes;
+        match site.kind {
+            Kind::Bar => is_guarding(size, port) == is_guarding(size, self.port),
+            _ => true,
+        }
+    }
+
+    // Whether a take or a got can be made at a port.
+    fn is_open(self, net: &Net, port: u32) -> bool {
+        self.brings(net, port).is_some()
+    }
+
+    // What the take or got at a port brings.
+    fn brings(self, net: &Net, port: u32) -> Option<Option<Value>> {
+        match net.foresee(self.comp, port) {
+            Some((_, Move::Take | Move::Got, value)) => Some(value),
+            _ => None,
+        }
+    }
+}
+
+// Whether a port of a Bar with so many inputs is its guard or one of the inputs.
+fn is_guarding(size: u32, port: u32) -> bool {
+    port == 1 || (port > 2 && port <= size.saturating_add(2))
+}
+
+/// How many ports a component has.
+pub(crate) fn port_count(site: &FlatComp) -> u32 {
+    u32::try_from(site.chans.len()).unwrap_or(u32::MAX)
+}

@@ -1,0 +1,145 @@
+//! The text of a short trace, read.
+
+ghost use Rattle.std.specs.Prelude.{◌≡◌, ◌∷◌, ◌++◌, ◌^◌, ◌<◌, IfOk, IfSome};
+ghost use Rattle.std.specs.Option.{SomeIff};
+ghost use Rattle.std.specs.Str.Parse.{IsNumeral, digits_value};
+ghost use Rattle.bz_model.specs.Limits.{max_width};
+ghost use Rattle.bz_complete.specs.ShortTexts.{AreOperands, BeginsWith, IsLine, Spells, Stands, line_end, sent_text};
+
+use crate::names::{ChanName, named};
+use crate::short::{Sent, ShortMove};
+use bz_model::Value;
+use std::alloc::{AllocError, AllocFailed, Global};
+use std::str;
+
+/// Why a text is no short trace.
+#[derive(Clone, Copy, Debug, PartialEq, Eq)]
+pub enum ShortFault {
+    /// The line of this number, from 1, is none of a short trace.
+    Bad(usize),
+    Memory,
+}
+
+impl From<AllocError> for ShortFault {
+    fn from(_e: AllocError) -> ShortFault {
+        ShortFault::Memory
+    }
+}
+
+impl<T: Drop> From<AllocFailed<T>> for ShortFault {
+    fn from(_e: AllocFailed<T>) -> ShortFault {
+        ShortFault::Memory
+    }
+}
+
+/// The moves that a text spells, by numbers of channels and by these names.
+pub fn read_short(
+    alloc: Global,
+    text: &[u8],
+    names: &[ChanName],
+) -> Result<Vec<ShortMove>, ShortFault>
+    ensures { IfOk result (λ moves. Spells names.now text.now moves.items) }
+{
+    let mut moves = Vec::new(alloc);
+    let mut rest = text;
+    for before in 0..text.len() {
+        if rest.is_empty() {
+            return Ok(moves);
+        }
+        let Some((due, after)) = move_at(rest, names) else {
+            return Err(ShortFault::Bad(before + 1));
+        };
+        moves.push(due)?;
+        rest = after;
+    }
+    if rest.is_empty() {
+        return Ok(moves);
+    }
+    Err(ShortFault::Bad(text.len()))
+}
+
+// The move of the first line of a text, and what follows that line.
+fn move_at<'t>(text: &'t [u8], names: &[ChanName]) -> Option<(ShortMove, &'t [u8])>
+    ensures { IfSome result (λ r. BeginsWith names.now text.now r.0 r.1.now) }
+{
+    let (line, after) = cut_line(text)?;
+    match str::from_utf8(line) {
+        Ok(line) => Some((move_in(line, names)?, after)),
+        Err(_) => None,
+    }
+}
+
+// The first line of a text, and what follows it.
+fn cut_line(text: &[u8]) -> Option<(&[u8], &[u8])>
+    ensures { IfSome result (λ r. text.now ≡ r.0.now ++ line_end ∷ r.1.now) }
+{
+    for place in 0..text.len() {
+        if text[place] == b'\n' {
+            return Some((&text[..place], &text[place + 1..]));
+        }
+    }
+    None
+}
+
+// The move of a line, if it has one.
+fn move_in(line: &str, names: &[ChanName]) -> Option<ShortMove>
+    ensures { IfSome result (IsLine names.now line.now) }
+{
+    let (word, operands) = line.split_once(' ')?;
+    let sent = sent(word)?;
+    let (chan, value) = operands_in(operands, names)?;
+    Some(ShortMove { sent, chan, value })
+}
+
+// A channel, and a value where there is one.
+fn operands_in(text: &str, names: &[ChanName]) -> Option<(u32, Option<Value>)>
+    ensures { IfSome result (λ r. AreOperands names.now text.now r.0 r.1) }
+{
+    match text.split_once(' ') {
+        None => Some((chan(text, names)?, None)),
+        Some((word, digits)) => Some((chan(word, names)?, Some(value(digits)?))),
+    }
+}
+
+// What a word says that is sent.
+fn sent(word: &str) -> Option<Sent>
+    ensures { IfSome result (λ sent. word.now ≡ sent_text sent) }
+{
+    match word {
+        "ask" => Some(Sent::Ask),
+        "reply" => Some(Sent::Reply),
+        _ => None,
+    }
+}
+
+// The channel that a word stands for: the one of a number, or else that of a name.
+fn chan(word: &str, names: &[ChanName]) -> Option<u32>
+    ensures { IfSome result (Stands names.now word.now) }
+{
+    match number(word) {
+        Some(chan) => Some(chan),
+        None => named(names, word.as_bytes()),
+    }
+}
+
+// The number that decimal digits spell.
+fn number(digits: &str) -> Option<u32>
+    ensures { SomeIff result (IsNumeral 10 digits.now × (digits_value 10 digits.now < 2 ^ 32))
+        (digits_value 10 digits.now) }
+{
+    if digits.starts_with('+') {
+        return None;
+    }
+    digits.parse().ok()
+}
+
+// The value that decimal digits spell.
+fn value(digits: &str) -> Option<Value>
+    ensures { SomeIff result (IsNumeral 10 digits.now × (digits_value 10 digits.now < 2 ^ max_width))
+        (digits_value 10 digits.now) }
+{
+    if digits.starts_with('+') {
+        return None;
+    }
+    digits.parse().ok()
+}
