@@ -1,7 +1,7 @@
 -- What went out of a pool, from what was played and what was written.
 use Rattle.std.proofs.Common.{Bool, ◌≡◌, ◌≤◌, ◌+◌, ◌<◌, ℕ, Option, None, Some, Result, Ok, Err, List, [], ◌∷◌, length, map, take, get_or, inl, inr, subst, refl, sym, ap, ◌∙◌}
 use Rattle.std.specs.Prelude.{IfSome, vec_len}
-use Rattle.std.specs.List.{All}
+use Rattle.std.specs.List.{All, list_all}
 use Rattle.std.specs.declared.alloc.Global.{Global}
 use Rattle.std.specs.declared.vec.Vec.{Vec}
 use Rattle.std.proofs.lemmas.List.{take_more}
@@ -34,7 +34,7 @@ use Rattle.bz_cli_input.specs.declared.fault.Fault.TheVariants.{Write}
 use Rattle.bz_cli_input.specs.Limits.{input_limit}
 use Rattle.bz_cli_input.specs.Opening.{Denotes}
 use Rattle.std.proofs.KnownBytes.{Keeps-refl}
-use Rattle.bz_cli.specs.Pooling.{IsAgreed, IsFirstRefused, IsOfPool, Pools, PoolsText, RefusesSessions, TellsRefused, WritesClosed, WritesPlay, fault_for}
+use Rattle.bz_cli.specs.Pooling.{IsAgreed, IsFirstRefused, IsOfPool, Pools, PoolsText, RefusesSessions, TellsRefused, WritesClosed, WritesPlay, fault_for, is_done}
 use Rattle.bz_cli_input.specs.Stopping.{AppendsSome}
 use Rattle.bz_cli_input.specs.Statuses.{of_words}
 use Rattle.bz_cli.specs.Faults.{of_pool}
@@ -59,10 +59,11 @@ pooled_so fuel closed lists workers ends stopped played comps Out clashed run fe
 -- its trace went out, no end is a refusal, and the net is answered as it was left
 pub closed_well : (fuel : ℕ) (closed : Simulation) (lists : List (Vec HostCmd Global)) (workers : ℕ) (ends : Vec End Global) (stopped : Bool) → ArePlayed (terms closed.wiring closed.limit fuel (length lists)) lists workers (moment closed stopped) ends.items → (comps : List ℕ) (old new : Option (List ℕ)) → AreClashed closed.wiring closed.journal comps
     → Run closed.wiring (opening closed.wiring) closed.journal closed.state → length closed.journal ≤ closed.limit → fired_count closed.journal ≤ fuel → Appends old new (trace_text closed.wiring.ports closed.journal comps) → All IsAgreed ends.items → vec_len ends ≡ length lists + workers
-    → WritesClosed (terms closed.wiring closed.limit fuel (length lists)) lists workers old new (Ok (record { net = closed; ends = ends }))
+    → (done : Bool) → done ≡ list_all is_done (take (length lists) ends.items)
+    → WritesClosed (terms closed.wiring closed.limit fuel (length lists)) lists workers old new (Ok (record { net = closed; ends = ends; is_done = done }))
 unfolding pooled_so
-closed_well fuel closed lists workers ends stopped played comps old new clashed run few within out agreed counted =
-    (pooled_so fuel closed lists workers ends.items stopped played comps (Appends old new) clashed run few within out, agreed, counted, (refl, refl, refl))
+closed_well fuel closed lists workers ends stopped played comps old new clashed run few within out agreed counted done done_is =
+    (pooled_so fuel closed lists workers ends.items stopped played comps (Appends old new) clashed run few within out, agreed, counted, (refl, refl, refl), done_is)
 
 -- an end that was refused is told behind the trace
 pub told_behind : (t : Terms) (lists : List (Vec HostCmd Global)) (workers : ℕ) (old new : Option (List ℕ)) (e : NetError) (who : Who) → TellsRefused t lists workers old new (fault_for e who) → WritesClosed t lists workers old new (Err (fault_for e who))

@@ -1,6 +1,6 @@
 -- What the command `pool` reads, plays and writes.
-use Rattle.std.specs.Prelude.{◌≡◌, ℕ, Bool, ◌+◌, ◌-◌, ◌≤◌, ◌⊎◌, ⊤, if◌then◌else◌, nat_lt, Option, Some, None, Result, Ok, Err, IsErrAnd, List, length, map, slice_get, take, vec_len}
-use Rattle.std.specs.List.{All}
+use Rattle.std.specs.Prelude.{◌≡◌, ℕ, Bool, true, false, ◌+◌, ◌-◌, ◌≤◌, ◌⊎◌, ⊤, if◌then◌else◌, nat_lt, Option, Some, None, Result, Ok, Err, IsErrAnd, List, length, map, slice_get, take, vec_len}
+use Rattle.std.specs.List.{All, list_all}
 use Rattle.std.specs.declared.alloc.Global.{Global}
 use Rattle.std.specs.declared.vec.Vec.{Vec}
 use Rattle.std.specs.Io.KnownBytes.{Appends, Keeps}
@@ -59,6 +59,11 @@ refusal_of (end.Refused word (session.BadWord at)) = Some net.Memory
 refusal_of (end.Refused word session.Memory) = Some net.Memory
 refusal_of e = None
 
+-- a session has played all its words
+abbrev pub is_done : End → Bool
+is_done end.Done = true
+is_done e = false
+
 abbrev pub IsAgreed : End → Type 0
 IsAgreed e = refusal_of e ≡ None
 
@@ -89,12 +94,12 @@ TellsRefused t lists workers old new fault =
 abbrev pub IsLeft : Terms → List Entry → State → Simulation → Type 0
 IsLeft t entries to left = (left.wiring ≡ t.wiring) × (left.journal ≡ entries) × (left.state ≡ to)
 
--- What went out of a pool that was closed, and what was answered: the trace of all, and the net as it was left; where the writer
--- failed, a front of the trace.
+-- What went out of a pool that was closed, and what was answered: the trace of all, the net as it was left, and whether all
+-- sessions are done; where the writer failed, a front of the trace.
 abbrev pub WritesClosed : Terms → List (Vec HostCmd Global) → ℕ → Option (List ℕ) → Option (List ℕ) → Result Pooled Fault → Type 0
 WritesClosed t lists workers old new (Ok pooled) =
     (play : WritesPlay t lists workers pooled.ends.items (Appends old new)) × All IsAgreed pooled.ends.items × (vec_len pooled.ends ≡ length lists + workers)
-    × IsLeft t play.entries play.to pooled.net
+    × IsLeft t play.entries play.to pooled.net × (pooled.is_done ≡ list_all is_done (take (length lists) pooled.ends.items))
 WritesClosed t lists workers old new (Err (Ended net.Memory who)) = ⊥
 WritesClosed t lists workers old new (Err (Ended e who)) = TellsRefused t lists workers old new (Ended e who)
 WritesClosed t lists workers old new (Err Memory) = TellsRefused t lists workers old new Memory

@@ -6,7 +6,7 @@
 //! reported as out of memory.
 
 ghost use Rattle.std.specs.Prelude.{◌≡◌, ◌≤◌, ◌<◌, ◌+◌, length, map, vec_len, IfOk, IfErr, IfSome, IfNone};
-ghost use Rattle.std.specs.List.{All};
+ghost use Rattle.std.specs.List.{All, list_all};
 ghost use Rattle.std.specs.Option.{option_copied};
 ghost use Rattle.bz_locked.specs.Journal.{fired_count};
 ghost use Rattle.bz_model.specs.Nets.{opening};
@@ -15,7 +15,7 @@ ghost use Rattle.bz_words.specs.HostWords.{hosts_of};
 ghost use Rattle.bz_words.specs.Limits.{max_sessions};
 ghost use Rattle.bz_words.specs.Words.{Spell, texts};
 ghost use Rattle.bz_cli.specs.Faults.{of_pool};
-ghost use Rattle.bz_cli.specs.Pooling.{IsAgreed, IsFirstRefused, fault_for, refusal_of, who_at, Pools, PoolsText, RefusesSessions, WritesOf};
+ghost use Rattle.bz_cli.specs.Pooling.{IsAgreed, IsFirstRefused, fault_for, is_done, refusal_of, who_at, Pools, PoolsText, RefusesSessions, WritesOf};
 ghost use Rattle.bz_cli_input.specs.Reading.{ReadsWithin};
 
 use bz_cli_core::{open_net, write_out};
@@ -45,12 +45,18 @@ pub struct PoolOptions {
 pub struct Pooled {
     pub net: Net,
     pub ends: Vec<End>,
+    /// Whether each session has played all its words.
+    pub is_done: bool,
 }
 
 // By hand, so that who lets one go has one call to show and not all its parts.
 impl Drop for Pooled {
     fn drop(self) {
-        let Pooled { net: _, ends: _ } = self;
+        let Pooled {
+            net: _,
+            ends: _,
+            is_done: _,
+        } = self;
     }
 }
 
@@ -161,12 +167,35 @@ fn write_closed<W: Write>(
     requires run { Run net.wiring (opening net.wiring) net.journal net.state }
     requires within { fired_count net.journal ≤ fuel }
     requires few { vec_len ends ≤ 24 }
+    requires sessions { sessions ≤ vec_len ends }
     ensures { WritesOf net ends.items sessions fuel (W.contents output.old) (W.contents output.new) result }
 {
     write_out(net.names(), net.journal(), net.clashes(), output)?;
+    let is_done = are_done(&ends.as_slice()[..sessions]);
     match first_refused(ends.as_slice(), sessions) {
-        None => Ok(Pooled { net, ends }),
+        None => Ok(Pooled { net, ends, is_done }),
         Some(fault) => Err(fault),
+    }
+}
+
+// Whether each of these is the end of a session that has played all its words.
+fn are_done(ends: &[End]) -> bool
+    ensures { result ≡ list_all is_done ends.now }
+{
+    for end in ends {
+        if !is_done(*end) {
+            return false;
+        }
+    }
+    true
+}
+
+fn is_done(end: End) -> bool
+    ensures { result ≡ is_done end }
+{
+    match end {
+        End::Done => true,
+        End::Resting(_) | End::Spent(_) | End::Stopped(_) | End::Refused(_, _) => false,
     }
 }
 

@@ -141,3 +141,10 @@ then old mid new es fs first next = record {
   counts = λ before are. subst (AreCounts new) (append_assoc before es fs) (next.counts (before ++ es) (first.counts before are));
   places = λ w has. next.places w (first.places w has);
 }
+
+-- of two lists of entries as many are counted as of each
+raised_both : (m n : ℕ) → min (m + n) most_counted ≡ min (min m most_counted + min n most_counted) most_counted
+raised_both m n = grind arith
+
+pub add_up : (p : Entry → Bool) (es fs : List Entry) → counted p (es ++ fs) ≡ min (counted p es + counted p fs) most_counted
+add_up p es fs = ap (λ n. min n most_counted) (sum_by-append (λ (x : Entry). cond (p x) 1 0) es fs) ∙ raised_both (count_by p es) (count_by p fs)

@@ -23,6 +23,15 @@ pub fn count_trace(coverage: &mut Coverage, names: &LineNames, text: &[u8])
     }
 }
 
+/// Counts entries, as a net's journal has them.
+pub fn count_entries(coverage: &mut Coverage, entries: &[Entry])
+    ensures { CountsOn coverage.old entries.now coverage.new }
+{
+    for entry in entries {
+        coverage.add(entry);
+    }
+}
+
 // Counts the entries whose lines stand at the front.
 fn count_lines(coverage: &mut Coverage, names: &LineNames, text: &[u8])
     ensures { (entries : List Entry) (tail : List ℕ) → AllByRecursion (HasLine names.now) entries

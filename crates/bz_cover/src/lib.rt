@@ -10,10 +10,10 @@ mod report;
 mod roles;
 mod text;
 
-pub use counting::count_trace;
+pub use counting::{count_entries, count_trace};
 pub use coverage::Coverage;
 pub use json::put_report;
-pub use laws::ports_count_their_own;
+pub use laws::{counts_add_up, ports_count_their_own, traces_add_up};
 pub use lcov::put_lcov;
 pub use report::Report;
 pub use text::put_summary;

@@ -1,4 +1,4 @@
-use Rattle.std.proofs.Common.{length, arith}
+use Rattle.std.proofs.Common.{length, sym, arith}
 use Rattle.std.proofs.lemmas.Result.{err_from_is_err_and}
 use Rattle.std.specs.Io.KnownBytes.{Appends}
 use Rattle.bz_locked.specs.Terms.{terms}
@@ -21,7 +21,7 @@ returns-in-None g c lists workers stopped count counts played =
     let old = g.W.Write.contents c.args.output.now in
     let new = g.W.Write.contents c.write_out.new.output in
     let out = rw (c.names.ensures.value, c.journal.ensures.entries) at c.in_ok-write_out.ensures.ok in
-    closed_well c.args.fuel net lists workers c.args.ends stopped played c.clashes.result.now old new c.clashes.ensures c.requires.run c.journal.ensures.within c.requires.within out (rw c.as_slice.ensures.value at c.in-None.ensures.none) (omega (arith, counts, c.args.ends.ok.0))
+    closed_well c.args.fuel net lists workers c.args.ends stopped played c.clashes.result.now old new c.clashes.ensures c.requires.run c.journal.ensures.within c.requires.within out (rw c.as_slice-2.ensures.value at c.in-None.ensures.none) (omega (arith, counts, c.args.ends.ok.0)) _ (rw (c.as_slice.ensures.value, sym count) at c.are_done-is_done.ensures)
 
 pub returns-in-Some : goal.returns-in-Some
 returns-in-Some g c lists workers stopped count counts played =
@@ -29,5 +29,5 @@ returns-in-Some g c lists workers stopped count counts played =
     let old = g.W.Write.contents c.args.output.now in
     let new = g.W.Write.contents c.write_out.new.output in
     let out = rw (c.names.ensures.value, c.journal.ensures.entries) at c.in_ok-write_out.ensures.ok in
-    let first = rw c.as_slice.ensures.value at c.in-Some.ensures.some in
+    let first = rw c.as_slice-2.ensures.value at c.in-Some.ensures.some in
     first_told (terms net.wiring net.limit c.args.fuel (length lists)) lists workers c.args.sessions c.args.ends.items old new _ count first (pooled_so c.args.fuel net lists workers c.args.ends.items stopped played c.clashes.result.now (Appends old new) c.clashes.ensures c.requires.run c.journal.ensures.within c.requires.within out)
