@@ -2,12 +2,13 @@
 
 use crate::help::{
     ALL_COMMANDS, CHART, CHECK, DRAW, EXPLORE, KINDS, LINT, LIST, PAGE, PARTS, POOL, PROGRAM, RUN,
-    VERSION, WAITS,
+    TEST, VERSION, WAITS,
 };
 use crate::options::{
-    AROUND, BEGUN_TRACE, COMPONENT, COVER, DEPTH, EXPLAIN, FILES, FORMAT, FROM, FUEL, HOPS,
-    JOURNAL, LINE, MEANT_PART, MOST, NETLIST, Opt, PART, PART_FORM, PATHS, REQUIRED_NETLIST,
-    SESSIONS, STRICT, STRICT_WAITS, TO, TRACE, WORD_FILE, WORDS, WORKERS, arg_of,
+    AROUND, BEGUN_TRACE, BENCH_FORM, BENCH_FUEL, BENCH_JOURNAL, BENCH_NETLIST, BENCH_PART,
+    BENCH_TRACES, BENCHES, COMPONENT, COVER, DEPTH, EXPLAIN, FILES, FORMAT, FROM, FUEL, HOPS,
+    JOURNAL, LINE, MEANT_PART, MOST, NETLIST, Opt, PART, PART_FORM, PATHS, REQUIRED_NETLIST, SEED,
+    SEEDS, SESSIONS, STRICT, STRICT_WAITS, TO, TRACE, WORD_FILE, WORDS, WORKERS, arg_of,
 };
 use clap::{Arg, Command};
 use std::alloc::{AllocError, Global};
@@ -23,7 +24,7 @@ struct Sub {
 }
 
 /// The commands, in the order of the help.
-const SUBS: [Sub; 12] = [
+const SUBS: [Sub; 13] = [
     Sub {
         name: "run",
         about: "Play words on a part's net, and write the trace",
@@ -106,6 +107,23 @@ const SUBS: [Sub; 12] = [
         after: POOL,
         options: &[
             PART, PART_FORM, NETLIST, WORKERS, FUEL, JOURNAL, WORD_FILE, SESSIONS,
+        ],
+    },
+    Sub {
+        name: "test",
+        about: "Play benches, and tell which of their values did not come",
+        after: TEST,
+        options: &[
+            BENCH_PART,
+            PART_FORM,
+            BENCH_NETLIST,
+            SEED,
+            SEEDS,
+            BENCH_FUEL,
+            BENCH_JOURNAL,
+            BENCH_TRACES,
+            BENCH_FORM,
+            BENCHES,
         ],
     },
 ];
