@@ -22,11 +22,11 @@ pub first_more : (cases : List Ended) (n : ℕ) (ended : Ended) (before one afte
     → IsFirst cases n before → IsFirst cases (n + 1) after
 first_more cases n ended before one after within was passes fails which none first = record {
   passed = λ zero place other less is. elim (cases_lt place n) [
-    | inl earlier ↦ first.passed (none zero).1 place other earlier is
+    | inl earlier ↦ first.passed (none zero).0 place other earlier is
     | inr least ↦
         let e : n ≡ place = omega (arith, less, least) in
         let same : ended ≡ other = was ∙ ap (λ k. get_or cases k ended) e ∙ get_or_from_slice_get cases place other ended is in
-        subst IsPassed same (passes (none zero).2)
+        subst IsPassed same (passes (none zero).1)
   ];
   failed = λ is_one. elim which [
     | inl as_before ↦ first.failed (sym as_before ∙ is_one)

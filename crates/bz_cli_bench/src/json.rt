@@ -111,21 +111,32 @@ fn put_unlike(text: &mut Text, unlike: Unlike, told: &Told) {
 
 fn put_stuck(text: &mut Text, told: &Told) {
     text.put(",\"short\":[");
+    put_shorts(text, told);
+    text.put("],\"waits\":[");
+    put_waits(text, told);
+    text.put("]");
+}
+
+fn put_shorts(text: &mut Text, told: &Told) {
     let mut before = "{\"port\":";
     for short in &told.short {
         put_short(text, before, short);
         before = ",{\"port\":";
     }
-    text.put("],\"waits\":[");
-    let mut before = "";
+}
+
+// Adds each line of what waits as a string.
+fn put_waits(text: &mut Text, told: &Told) {
+    let mut is_first = true;
     for line in told.why.as_slice().split(|byte| *byte == b'\n') {
         if !line.is_empty() {
-            text.put(before);
+            if !is_first {
+                text.put(",");
+            }
             put_string(text, line);
-            before = ",";
+            is_first = false;
         }
     }
-    text.put("]");
 }
 
 fn put_short(text: &mut Text, before: &str, short: &Short) {

@@ -26,7 +26,7 @@ pub fn test_cmd<R: Read, F: BenchFiles, W: Write, E: Write>(
     output: &mut W,
     errors: &mut E,
 ) -> Result<u8, Fault>
-    ensures tests { Tests (length asked.benches.now) result }
+    ensures tests { Tests (length asked.entry.benches.now) result }
 
     // Whatever comes of it, it reads at most one byte past the limit.
     ensures bounded { ReadsWithin (R.remaining input.old) (R.remaining input.new) }
@@ -81,7 +81,7 @@ fn test<F: BenchFiles, W: Write, E: Write>(
     output: &mut W,
     errors: &mut E,
 ) -> Result<u8, Fault>
-    ensures { Tests (length trial.asked.benches.now) result }
+    ensures { Tests (length trial.entry.asked.benches.now) result }
 {
     match cases_of(trial, files) {
         Ok(cases) => told(trial, &cases, output, errors),
@@ -91,7 +91,7 @@ fn test<F: BenchFiles, W: Write, E: Write>(
 
 // All cases: for each bench there is one at least.
 fn cases_of<F: BenchFiles>(trial: Trial<'_>, files: &mut F) -> Result<Vec<Case>, Fault>
-    ensures { IfOk result (λ cases. length trial.asked.benches.now ≤ length cases.items) }
+    ensures { IfOk result (λ cases. length trial.entry.asked.benches.now ≤ length cases.items) }
 {
     let mut nets = Nets::new(trial.alloc);
     let mut cases = Vec::new(trial.alloc);
@@ -109,7 +109,7 @@ fn told<W: Write, E: Write>(
     errors: &mut E,
 ) -> Result<u8, Fault>
     requires { length trial.asked.benches.now ≤ length cases.now }
-    ensures { Tests (length trial.asked.benches.now) result }
+    ensures { Tests (length trial.entry.asked.benches.now) result }
 {
     tell_unkept(trial.alloc, trial.asked, cases, errors);
     match tell(trial, cases, output) {

@@ -4,14 +4,13 @@ use crate::case::{Short, Told};
 use crate::ended::Unlike;
 use crate::journal::line_of;
 use crate::playing::Setting;
-use crate::reading::bytes_of;
 use crate::unlike::is_pull;
 use bz_bench_play::{Played, Verdict};
 use bz_model::numbered;
 use bz_text::Text;
 use bz_trace_text::counts;
 use bz_view::{Seen, put_rest};
-use std::alloc::AllocError;
+use std::alloc::{AllocError, Global};
 
 /// What is told of a play, which passed with other values than another one where that is handed in.
 pub(crate) fn told_of(
@@ -81,8 +80,22 @@ fn tell_stuck(
     let mut text = Text::new(setting.trial.alloc);
     let net = played.stepping.net();
     put_rest(Seen::of(net.core(), setting.opened.survey()), &mut text);
-    told.why = bytes_of(setting.trial.alloc, &text)?;
+    told.why = squeezed(setting.trial.alloc, text.whole()?)?;
     Ok(())
+}
+
+// A text with one blank where several stand together.
+fn squeezed(alloc: Global, text: &[u8]) -> Result<Vec<u8>, AllocError> {
+    let mut bytes = Vec::new(alloc);
+    let mut was_blank = false;
+    for byte in text {
+        let is_blank = *byte == b' ';
+        if !is_blank || !was_blank {
+            bytes.push(*byte)?;
+        }
+        was_blank = is_blank;
+    }
+    Ok(bytes)
 }
 
 // What is short at a port, if something is.
