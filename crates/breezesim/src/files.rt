@@ -3,10 +3,13 @@
 //! A file is made anew, so that no other program's file can come between the look and the writing. With `!` it is opened
 //! first, compared with the netlist by device and number, and only then emptied.
 
+use bz_cli_bench::{BenchFiles, Unread};
+use bz_cli_program::{Cause, bytes_of_file};
 use bz_explore::{Files, NoFile};
+use std::alloc::Global;
 use std::fs;
 use std::fs::{File, Metadata, OpenOptions};
-use std::io::{BufWriter, ErrorKind};
+use std::io::{BufWriter, ErrorKind, Write};
 use std::os::unix::fs::MetadataExt;
 
 /// How many bytes are gathered before they go out.
@@ -31,6 +34,27 @@ impl Files for SystemFiles<'_, '_> {
         match file {
             Ok(file) => buffered(self.rt, file),
             Err(cause) => Err(cause),
+        }
+    }
+}
+
+impl BenchFiles for SystemFiles<'_, '_> {
+    fn read(&mut self, alloc: Global, path: &str) -> Result<Vec<u8>, Unread> {
+        match bytes_of_file(self.rt, alloc, path) {
+            Ok(bytes) => Ok(bytes),
+            Err(Cause::Memory) => Err(Unread::Memory),
+            Err(cause) => Err(Unread::Cause(cause.words())),
+        }
+    }
+
+    fn make(&mut self, path: &str, bytes: &[u8]) -> Result<(), &'static str> {
+        match self.made(path) {
+            Ok(mut file) => match file.write_all(bytes) {
+                Ok(()) => Ok(()),
+                Err(_) => Err("it can't be written"),
+            },
+            Err(NoFile::Exists) => Err("it exists, and nothing is written over it"),
+            Err(NoFile::Netlist | NoFile::Unwritable) => Err("it can't be written"),
         }
     }
 }

@@ -5,7 +5,7 @@
 //! ends with the first value that is not as due. Nothing is claimed of what is picked, nor that a play comes to an end in time:
 //! the verdict goes by the journal and the state alone.
 
-ghost use Rattle.std.specs.Prelude.{◌≡◌, IfOk, length};
+ghost use Rattle.std.specs.Prelude.{◌≡◌, ◌<◌, ◌≤◌, IfOk, length};
 ghost use Rattle.bz_bench_play.specs.Verdicts.{Judges};
 ghost use Rattle.bz_model.specs.Nets.{opening};
 ghost use Rattle.bz_model.specs.Runs.{Run};
@@ -20,8 +20,8 @@ use bz_model::{Entry, HostCmd, NetError, Reply, Value, Verb, Who, numbered};
 use bz_net::{Net, RunEnd};
 use std::alloc::Global;
 
-/// The most entries of a play's journal.
-const JOURNAL: u32 = 16_777_216;
+/// The most entries that the journal of a play may have.
+const MAX_JOURNAL: u32 = 16_777_216;
 
 /// What is mixed with a seed, so that what is picked between moves and words is not as what is picked among moves.
 const MIXED: u64 = 0x9e37_79b9_7f4a_7c15;
@@ -78,21 +78,24 @@ impl Drop for Session<'_> {
     }
 }
 
-/// Plays a bench on a net, with at most so many firings.
+/// Plays a bench on a net, with at most so many firings, and at most so many entries of the journal.
 pub fn play(
     alloc: Global,
     flat: Flat,
     plan: &Plan,
     seed: Option<u64>,
     fuel: u64,
+    journal: u32,
 ) -> Result<Played, NetError>
-    requires { length plan.now.streams.items ≡ length flat.wiring.ports }
+    requires streams { length plan.now.streams.items ≡ length flat.wiring.ports }
+    requires least { 0 < journal }
+    requires most { journal ≤ 16777216 }
     ensures wiring { IfOk result (λ p. p.stepping.net.wiring ≡ flat.wiring) }
     ensures run { IfOk result (λ p. Run flat.wiring (opening flat.wiring) p.stepping.net.journal p.stepping.net.state) }
     ensures judged { IfOk result (λ p.
         Judges flat.wiring p.stepping.net.state p.stepping.net.journal plan.now.streams.items p.verdict) }
 {
-    let mut session = Session::open(alloc, flat, plan, fuel)?;
+    let mut session = Session::open(alloc, flat, plan, fuel, journal)?;
     match seed {
         None => session.play_in_order(alloc)?,
         Some(seed) => session.play_by_chance(alloc, seed)?,
@@ -101,14 +104,22 @@ pub fn play(
 }
 
 impl<'p> Session<'p> {
-    fn open(alloc: Global, flat: Flat, plan: &'p Plan, fuel: u64) -> Result<Session<'p>, NetError>
+    fn open(
+        alloc: Global,
+        flat: Flat,
+        plan: &'p Plan,
+        fuel: u64,
+        journal: u32,
+    ) -> Result<Session<'p>, NetError>
+        requires least { 0 < journal }
+        requires most { journal ≤ 16777216 }
         ensures wiring { IfOk result (λ s. s.stepping.net.wiring ≡ flat.wiring) }
         ensures plan { IfOk result (λ s. s.plan.now ≡ plan.now) }
     {
         let Ok(tallies) = no_tallies(alloc, plan.streams.len()) else {
             return Err(NetError::Memory);
         };
-        let stepping = Stepping::open(alloc, flat, JOURNAL)?;
+        let stepping = Stepping::open(alloc, flat, journal)?;
         Ok(Session {
             stepping,
             plan,
@@ -150,7 +161,7 @@ impl<'p> Session<'p> {
         ensures wiring { IfOk result (λ _. self.new.stepping.net.wiring ≡ self.old.stepping.net.wiring) }
         ensures plan { self.new.plan.now ≡ self.old.plan.now }
     {
-        for _ in 0..=JOURNAL {
+        for _ in 0..=MAX_JOURNAL {
             if !self.runs_to_rest(alloc)? || !self.gives(alloc, 0)? {
                 break;
             }
@@ -198,7 +209,7 @@ impl<'p> Session<'p> {
     {
         self.stepping.seed(seed);
         let mut chooser = Picker::new(seed ^ MIXED);
-        for _ in 0..=JOURNAL {
+        for _ in 0..=MAX_JOURNAL {
             if !self.steps(alloc, &mut chooser)? {
                 break;
             }

@@ -22,6 +22,7 @@ pub enum Command<'a> {
     Chart(ChartOptions<'a>),
     Page(TraceOptions<'a>),
     Pool(PoolOptions<'a>),
+    Test(TestOptions<'a>),
 }
 
 /// The options of `run`.
@@ -121,6 +122,38 @@ pub struct PoolOptions<'a> {
     pub journal: u32,
     /// Where the words come from, if they don't stand on the command line.
     pub word_file: Option<Source<'a>>,
+}
+
+/// The options of `test`.
+#[derive(Clone, Copy)]
+pub struct TestOptions<'a> {
+    /// Whether a netlist takes the place of those that benches name.
+    pub has_netlist: bool,
+    pub seeds: SeedsAsked,
+    /// The most firings of a play.
+    pub fuel: u64,
+    /// The most entries of a play.
+    pub journal: u32,
+    /// The folder in which traces are kept, if that is asked for.
+    pub traces: Option<&'a str>,
+    pub form: TestForm,
+}
+
+/// The seeds by which benches are played.
+#[derive(Clone, Copy)]
+pub enum SeedsAsked {
+    None,
+    One(u64),
+    /// Each from 1 up to this one.
+    Upto(u32),
+}
+
+/// How `test` tells its cases.
+#[derive(Clone, Copy)]
+pub enum TestForm {
+    Text,
+    Json,
+    Junit,
 }
 
 /// Where a text comes from.
@@ -225,6 +258,7 @@ pub(crate) fn command_in<'a>(name: &str, matches: &ArgMatches<'a>) -> Option<Com
         "chart" => Command::Chart(chart_options(matches)),
         "page" => Command::Page(trace_options(matches)),
         "pool" => Command::Pool(pool_options(matches)),
+        "test" => Command::Test(test_options(matches)),
         _ => return None,
     })
 }
@@ -294,6 +328,29 @@ fn pool_options<'a>(matches: &ArgMatches<'a>) -> PoolOptions<'a> {
         fuel: matches.get_one("fuel").unwrap_or(FUEL_BY_DEFAULT),
         journal: matches.get_one("journal").unwrap_or(JOURNAL_BY_DEFAULT),
         word_file: source_named(matches, "word-file"),
+    }
+}
+
+fn test_options<'a>(matches: &ArgMatches<'a>) -> TestOptions<'a> {
+    TestOptions {
+        has_netlist: matches.get_str("netlist").is_some(),
+        seeds: seeds_in(matches),
+        fuel: matches.get_one("fuel").unwrap_or(FUEL_BY_DEFAULT),
+        journal: matches.get_one("journal").unwrap_or(JOURNAL_BY_DEFAULT),
+        traces: matches.get_str("traces"),
+        form: match matches.get_str("format") {
+            Some("json") => TestForm::Json,
+            Some("junit") => TestForm::Junit,
+            _ => TestForm::Text,
+        },
+    }
+}
+
+fn seeds_in(matches: &ArgMatches<'_>) -> SeedsAsked {
+    match (matches.get_one("seed"), matches.get_one("seeds")) {
+        (Some(seed), _) => SeedsAsked::One(seed),
+        (None, Some(last)) => SeedsAsked::Upto(last),
+        (None, None) => SeedsAsked::None,
     }
 }
 

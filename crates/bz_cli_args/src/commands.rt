@@ -1,13 +1,10 @@
 //! The program with its commands.
 
 use crate::help::{
-    ALL_COMMANDS, CHART, CHECK, COMPLETE, DRAW, EXPLORE, KINDS, LINT, LIST, PAGE, PARTS, POOL,
-    PROGRAM, RUN, VERSION, WAITS,
+    ALL_COMMANDS, CHART, CHECK, COMPLETE, DRAW, EXPLORE, KINDS, LINT, LIST, PAGE, PARTS, POOL, PROGRAM, RUN, TEST, VERSION, WAITS,
 };
 use crate::options::{
-    AROUND, BEGUN_TRACE, COMPONENT, COVER, DEPTH, EXPLAIN, FILES, FORMAT, FROM, FUEL, HOPS,
-    JOURNAL, LINE, MEANT_PART, MOST, NETLIST, Opt, PART, PART_FORM, PATHS, REQUIRED_NETLIST,
-    SESSIONS, SHORT, STRICT, STRICT_WAITS, TO, TRACE, WORD_FILE, WORDS, WORKERS, arg_of,
+    AROUND, BEGUN_TRACE, BENCHES, BENCH_FORM, BENCH_FUEL, BENCH_JOURNAL, BENCH_NETLIST, BENCH_PART, BENCH_TRACES, COMPONENT, COVER, DEPTH, EXPLAIN, FILES, FORMAT, FROM, FUEL, HOPS, JOURNAL, LINE, MEANT_PART, MOST, NETLIST, Opt, PART, PART_FORM, PATHS, REQUIRED_NETLIST, SEED, SEEDS, SESSIONS, SHORT, STRICT, STRICT_WAITS, TO, TRACE, WORDS, WORD_FILE, WORKERS, arg_of,
 };
 use clap::{Arg, Command};
 use std::alloc::{AllocError, Global};
@@ -112,6 +109,23 @@ const SUBS: [Sub; 13] = [
         after: POOL,
         options: &[
             PART, PART_FORM, NETLIST, WORKERS, FUEL, JOURNAL, WORD_FILE, SESSIONS,
+        ],
+    },
+    Sub {
+        name: "test",
+        about: "Play benches, and tell which of their values did not come",
+        after: TEST,
+        options: &[
+            BENCH_PART,
+            PART_FORM,
+            BENCH_NETLIST,
+            SEED,
+            SEEDS,
+            BENCH_FUEL,
+            BENCH_JOURNAL,
+            BENCH_TRACES,
+            BENCH_FORM,
+            BENCHES,
         ],
     },
 ];

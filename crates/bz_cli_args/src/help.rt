@@ -219,3 +219,27 @@ Statuses:
 
 Example:
   breezesim pool --part two --netlist examples/two.breeze --words examples/two.words";
+
+/// What stands behind the options of `test`.
+pub(crate) const TEST: &str = "\
+A bench has a line for each port, with what passes there in order. At a push of the net or a passive pull the values are due,
+elsewhere they are given:
+  P ITEM..              P is a port's name, in which %3A stands for a colon
+  V, V*N, V*            a value, N times, or last as often as it is asked for; also of . and ?
+  ?                     any value, where one is due
+  .                     a handshake of a sync port
+  >                     last: one that begins and need not end, at a passive sync port
+  @FILE                 the items of FILE
+  :netlist FILE         the netlist, from the bench's folder on
+  :part P               its part
+  :then                 what stands above is done before what follows begins
+A # begins a comment. Without a seed the net runs to rest before each word.
+
+Statuses:
+  0  all passed
+  1  values were others than due, some did not come, or more came
+  2  a bench is none (T faults), a netlist is refused, a file cannot be read or made, or the command line is bad
+  3  nothing worse, and a play did not come to an end; input or output failed (F1, F2), or memory ran out (F3)
+
+Example:
+  breezesim test --netlist examples/gcd.breeze examples/gcd.bench";

@@ -10,7 +10,7 @@ mod words;
 
 pub use asked::{
     ChartOptions, CheckOptions, Command, DrawOptions, FormatOptions, LintOptions, ListOptions,
-    PoolOptions, RunOptions, Source, TraceOptions, WaitsOptions,
+    PoolOptions, RunOptions, SeedsAsked, Source, TestForm, TestOptions, TraceOptions, WaitsOptions,
 };
 pub use commands::command_line;
 pub use options::{MAX_JOURNAL, MAX_WORKERS};

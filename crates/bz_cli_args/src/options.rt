@@ -16,7 +16,7 @@ pub(crate) const JOURNAL_BY_DEFAULT: u32 = 1_000_000;
 /// The workers of a pool where no number is asked for: what `WORKERS` has as its default.
 pub(crate) const WORKERS_BY_DEFAULT: u8 = 2;
 
-/// The most firings of a pool where none is asked for: what `FUEL` has as its default.
+/// The most firings of a pool or of a play of `test` where none is asked for: what `FUEL` has as its default.
 pub(crate) const FUEL_BY_DEFAULT: u64 = 1_000_000;
 
 /// The most findings that `lint` tells where no number is asked for: what `MOST` has as its default.
@@ -320,6 +320,64 @@ pub(crate) const WORDS: Opt = Opt {
 
 pub(crate) const SESSIONS: Opt = Opt {
     help: "offer:P[:V], collect:P, accept:P, answer:P[:V] or watch:P; a / begins the next session",
+    ..WORDS
+};
+
+pub(crate) const BENCH_PART: Opt = Opt {
+    help: "The part to open, in place of those that the benches name",
+    ..PART
+};
+
+pub(crate) const BENCH_NETLIST: Opt = Opt {
+    help: "Read the netlist from FILE, in place of those that the benches name; - is standard input",
+    ..NETLIST
+};
+
+pub(crate) const SEED: Opt = Opt {
+    id: "seed",
+    name: Name::Long("seed"),
+    value: &["S"],
+    help: "Pick moves and words by seed S, from 0 to 18446744073709551615",
+    parser: ValueParser::Unsigned(0, u64::MAX),
+    conflicts: &["seeds"],
+    ..NUMBER
+};
+
+pub(crate) const SEEDS: Opt = Opt {
+    id: "seeds",
+    name: Name::Long("seeds"),
+    help: "Play each bench by the seeds 1 to N, N from 1 to 1000000",
+    parser: ValueParser::Signed(1, 1_000_000),
+    ..NUMBER
+};
+
+pub(crate) const BENCH_FUEL: Opt = Opt {
+    help: "The most firings of a play, from 0 to 18446744073709551615",
+    ..FUEL
+};
+
+pub(crate) const BENCH_JOURNAL: Opt = Opt {
+    help: "The most entries of a play, from 1 to 16777216",
+    ..JOURNAL
+};
+
+pub(crate) const BENCH_TRACES: Opt = Opt {
+    id: "traces",
+    name: Name::Long("trace"),
+    value: &["DIR"],
+    help: "Keep the trace of each case that failed as DIR/NAME.trace, with a seed DIR/NAME.S.trace",
+    ..TEXT
+};
+
+pub(crate) const BENCH_FORM: Opt = Opt {
+    parser: ValueParser::Names(&["text", "json", "junit"]),
+    ..FORMAT
+};
+
+pub(crate) const BENCHES: Opt = Opt {
+    value: &["BENCHES"],
+    help: "The files of the benches",
+    is_required: true,
     ..WORDS
 };
 

@@ -1,7 +1,8 @@
 -- What the program does of each command, with these words and this input: with what status or fault it ends, and what went out.
-use Rattle.std.specs.Prelude.{◌≡◌, ℕ, ⊤, false, true, Option, None, Some, Result, List, IfSome}
+use Rattle.std.specs.Prelude.{◌≡◌, ℕ, ⊤, false, true, length, Option, None, Some, Result, List, IfSome}
 use Rattle.bz_chart.specs.Charting.{Charts, ChartsApart}
 use Rattle.bz_cli.specs.Pooling.{Pools}
+use Rattle.bz_cli_bench.specs.Cases.{Tests}
 use Rattle.bz_cli_args.specs.declared.asked.ChartOptions.{ChartOptions}
 use Rattle.bz_cli_args.specs.declared.asked.Command.{Command}
 use Rattle.bz_cli_args.specs.declared.asked.Command.TheVariants as asked
@@ -75,7 +76,7 @@ PoolEnds options words part known old new result =
     × (AreWorkers options.workers → IsJournal options.journal
     → IfSome known (λ text. Does of_done (Pools text words part options.workers options.fuel options.journal old new) result))
 
--- What the program does of a command, its words, the part that is asked for, the input where it is known, and the bytes of a trace
+-- What the program does of a command, its words, which for `test` are the benches, the part that is asked for, the input where it is known, and the bytes of a trace
 -- apart where there is one. Of `explore`, `lint` and `kinds` nothing is said.
 abbrev pub ProgramDoes : Command → List (List ℕ) → Option (List ℕ) → Option (List ℕ) → Option (Option (List ℕ)) → Option (List ℕ) → Option (List ℕ) → Result ℕ Fault → Type 0
 ProgramDoes (asked.Run options) words part known trace old new result = RunEnds options words part known old new result
@@ -92,3 +93,4 @@ ProgramDoes (asked.Draw options) words part known trace old new result =
 ProgramDoes (asked.Chart options) words part known trace old new result = ChartEnds options part known trace old new result
 ProgramDoes (asked.Page options) words part known trace old new result = PageEnds part known trace old new result
 ProgramDoes (asked.Pool options) words part known trace old new result = PoolEnds options words part known old new result
+ProgramDoes (asked.Test options) words part known trace old new result = Tests (length words) result

@@ -36,6 +36,31 @@ impl fmt::Display for Cause {
     }
 }
 
+impl Cause {
+    /// The same, where the system's own words are left out.
+    pub fn words(self) -> &'static str {
+        match self {
+            Cause::System(error) => match error.kind() {
+                ErrorKind::NotFound => "there is no such file",
+                ErrorKind::PermissionDenied => "permission denied",
+                _ => "it can't be read",
+            },
+            Cause::Folder => "it is a folder",
+            Cause::TooLong => "it has more than 67108864 bytes",
+            Cause::NotText => "it is not UTF-8",
+            Cause::Memory => "memory ran out",
+        }
+    }
+}
+
+/// The bytes of a file, if there are no more than a netlist may have.
+pub fn bytes_of_file<R: Files>(files: &R, alloc: Global, path: &str) -> Result<Vec<u8>, Cause> {
+    match open_file(files, path) {
+        Ok(file) => bytes_of(alloc, file),
+        Err(cause) => Err(cause),
+    }
+}
+
 /// Opens a file to read from it. A folder is none.
 pub fn open_file<R: Files>(files: &R, path: &str) -> Result<R::File, Cause> {
     match fs::open(files, path) {
@@ -84,21 +109,26 @@ impl<R: Read + Drop> Read for Failing<R> {
     }
 }
 
+// The bytes that a reader gives, if there are no more than a netlist may have.
+fn bytes_of<R: Read + Drop>(alloc: Global, input: R) -> Result<Vec<u8>, Cause> {
+    let mut input = Failing { input, error: None };
+    match read_input(alloc, &mut input) {
+        Ok(bytes) => Ok(bytes),
+        Err(InputFault::Memory) => Err(Cause::Memory),
+        Err(InputFault::Read) => Err(match input.error {
+            Some(error) => Cause::System(error),
+            None => Cause::TooLong,
+        }),
+    }
+}
+
 /// The text that a reader gives, if it has no more bytes than a netlist may have.
 pub(crate) fn text_of<R: Read + Drop>(alloc: Global, input: R) -> Result<String, Cause> {
-    let mut input = Failing { input, error: None };
-    let bytes = match read_input(alloc, &mut input) {
-        Ok(bytes) => bytes,
-        Err(InputFault::Memory) => return Err(Cause::Memory),
-        Err(InputFault::Read) => {
-            return Err(match input.error {
-                Some(error) => Cause::System(error),
-                None => Cause::TooLong,
-            });
-        }
-    };
-    match String::from_utf8(bytes) {
-        Ok(text) => Ok(text),
-        Err(_) => Err(Cause::NotText),
+    match bytes_of(alloc, input) {
+        Ok(bytes) => match String::from_utf8(bytes) {
+            Ok(text) => Ok(text),
+            Err(_) => Err(Cause::NotText),
+        },
+        Err(cause) => Err(cause),
     }
 }

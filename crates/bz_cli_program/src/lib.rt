@@ -17,7 +17,7 @@ mod resting;
 
 pub use copying::Copying;
 pub use covering::{KeptTexts, cover};
-pub use files::open_file;
+pub use files::{Cause, bytes_of_file, open_file};
 pub use given::{Given, Texts};
 pub use noting::end;
 pub use outcome::Outcome;

@@ -7,11 +7,12 @@ ghost use Rattle.bz_cli_program.specs.Programs.{ProgramDoes};
 ghost use Rattle.bz_words.specs.Words.{texts};
 
 use crate::commands::{
-    chart, check, complete, draw, explore, kinds, lint, list, page, parts, pool, run, waits,
+    chart, check, complete, draw, explore, kinds, lint, list, page, parts, pool, run, test, waits,
 };
 use crate::given::Given;
 use crate::outcome::Outcome;
 use bz_cli_args::Command;
+use bz_cli_bench::BenchFiles;
 use bz_cli_input::Fault;
 use bz_explore::Files;
 use std::alloc::Global;
@@ -20,14 +21,14 @@ use std::sync::Wait;
 use std::thread::Threads;
 
 /// Does what a command says: reads the netlist from `input`, the trace from `trace` or else after the netlist, and the lines of
-/// `explore` from `lines`, whose files are made by `files`. Results go to `output`; what is wrong, and notes at a run's end, to
+/// `explore` from `lines`, whose files are made by `files`, as those that benches name are read by it. Results go to `output`; what is wrong, and notes at a run's end, to
 /// `errors`.
 pub fn program<
     H: Threads + Wait + Sync,
     R: Read,
     T: Read,
     L: BufRead,
-    F: Files,
+    F: Files + BenchFiles,
     W: Write,
     E: Write,
 >(
@@ -64,6 +65,7 @@ pub fn program<
         Command::Chart(options) => of(chart(alloc, part, options, input, trace, output, errors)),
         Command::Page(_) => of(page(alloc, part, input, trace, output, errors)),
         Command::Pool(options) => pool(threads, alloc, given, options, input, output, errors),
+        Command::Test(options) => of(test(alloc, given, options, input, files, output, errors)),
     }
 }
 

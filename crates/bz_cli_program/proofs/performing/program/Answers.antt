@@ -38,3 +38,6 @@ returns-in-Page-clause-does g c = rw (c.in-Page.is, c.of-in-Page.ensures) c.page
 
 pub returns-in-Pool-clause-does : goal.returns-in-Pool-clause-does
 returns-in-Pool-clause-does g c = rw c.in-Pool.is (c.pool.ensures.refused, c.pool.ensures.pools)
+
+pub returns-in-Test-clause-does : goal.returns-in-Test-clause-does
+returns-in-Test-clause-does g c = rw (c.in-Test.is, c.of-in-Test.ensures) c.test.ensures.tests

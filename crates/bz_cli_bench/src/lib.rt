@@ -1,0 +1,31 @@
+//! The command `test`: benches that are played on the nets of netlists, and what each case came to.
+//!
+//! All cases are decided before anything is written, so that a form that begins with their number can be had.
+#![tactic(auto)]
+
+mod asked;
+mod case;
+mod ended;
+mod files;
+mod forms;
+mod journal;
+mod json;
+mod junit;
+mod lines;
+mod nets;
+mod opened;
+mod playing;
+mod reading;
+mod rounds;
+mod status;
+mod telling;
+mod testing;
+mod told;
+mod traces;
+mod unlike;
+
+pub use asked::{Asked, Form, Seeds};
+pub use case::{Case, Short, Told};
+pub use ended::{Ended, Unlike};
+pub use files::{BenchFiles, Unread};
+pub use testing::test_cmd;

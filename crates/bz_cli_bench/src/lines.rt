@@ -1,0 +1,155 @@
+//! Cases as lines of text.
+
+use crate::case::{Case, Short, Told};
+use crate::ended::{Ended, Unlike};
+use bz_bench::Item;
+use bz_bench_play::Verdict;
+use bz_model::Value;
+use bz_text::Text;
+use bz_view::Piece;
+
+/// Adds a line for each case that did not pass, and last how many did and how many did not.
+pub(crate) fn put_lines(text: &mut Text, benches: &[&str], cases: &[Case]) {
+    let mut passed = 0usize;
+    for case in cases {
+        if case.is_passed() {
+            passed = passed.saturating_add(1);
+        } else {
+            put_line(text, path_of(benches, case), case);
+        }
+    }
+    let failed = cases.len().saturating_sub(passed);
+    let totals = [Piece::Number(passed), Piece::Number(failed)];
+    text.say("% passed, % failed\n", &totals);
+}
+
+/// The file of a case's bench.
+pub(crate) fn path_of<'b>(benches: &'b [&str], case: &Case) -> &'b str {
+    match benches.get(case.bench()) {
+        Some(path) => path,
+        None => "",
+    }
+}
+
+// Adds the line of a case.
+fn put_line(text: &mut Text, path: &str, case: &Case) {
+    text.put(path);
+    if let Ended::BadBench(at, _) = case.ended() {
+        let spot = [Piece::Number(at.line), Piece::Number(at.column)];
+        text.say(":%:%", &spot);
+    }
+    if let Some(seed) = case.seed() {
+        text.say(": seed %", &[Piece::Wide(seed.into())]);
+    }
+    text.put(": ");
+    put_why(text, case);
+    text.put("\n");
+}
+
+/// Adds how a case ended, without a line end.
+pub(crate) fn put_why(text: &mut Text, case: &Case) {
+    let told = case.told();
+    match case.ended() {
+        Ended::Judged(verdict) => put_verdict(text, verdict, told),
+        Ended::Unlike(unlike) => put_unlike(text, unlike, told),
+        Ended::BadBench(_, cause) => {
+            let pieces = [Piece::Text(cause.code()), Piece::Text(cause.expected())];
+            text.say("refused: %, expected: %", &pieces);
+        }
+        Ended::NoNet => text.say("refused: %", &[Piece::Bytes(told.why.as_slice())]),
+    }
+}
+
+fn put_verdict(text: &mut Text, verdict: Verdict, told: &Told) {
+    match verdict {
+        Verdict::Passed => text.put("ok"),
+        Verdict::Differs {
+            place,
+            due,
+            came,
+            ..
+        } => {
+            put_place(text, place, told);
+            text.put(": due ");
+            put_due(text, due);
+            text.put(", came ");
+            put_came(text, came);
+            put_trace_line(text, told);
+        }
+        Verdict::Extra { came, .. } => {
+            let port = Piece::Typed(told.port.as_slice());
+            text.say("extra at %: came %", &[port, Piece::Wide(came)]);
+        }
+        Verdict::Stuck { .. } => put_stuck(text, told),
+        Verdict::Spent => text.put("spent: the fuel or the journal was at its end"),
+    }
+}
+
+// Adds that another value came, and at which item of which port.
+fn put_place(text: &mut Text, place: usize, told: &Told) {
+    let port = Piece::Typed(told.port.as_slice());
+    let item = Piece::Number(place.saturating_add(1));
+    text.say("differs at %, item %", &[port, item]);
+}
+
+fn put_trace_line(text: &mut Text, told: &Told) {
+    text.say(", line % of the trace", &[Piece::Number(told.line)]);
+}
+
+fn put_unlike(text: &mut Text, unlike: Unlike, told: &Told) {
+    put_place(text, unlike.place, told);
+    text.put(": came ");
+    put_came(text, unlike.came);
+    text.put(", and ");
+    put_came(text, unlike.had);
+    if let Some(seed) = unlike.before {
+        text.say(" by seed %", &[Piece::Wide(seed.into())]);
+    }
+    put_trace_line(text, told);
+}
+
+// Adds what is short, and who waits for whom.
+fn put_stuck(text: &mut Text, told: &Told) {
+    text.put("stuck");
+    let mut before = ": ";
+    for short in &told.short {
+        text.put(before);
+        put_short(text, short);
+        before = ", ";
+    }
+    for line in told.why.as_slice().split(|byte| *byte == b'\n') {
+        if !line.is_empty() {
+            text.put("; ");
+            text.put_bytes(line);
+        }
+    }
+}
+
+fn put_short(text: &mut Text, short: &Short) {
+    let port = Piece::Typed(short.port.as_slice());
+    let (begun, due) = (Piece::Number(short.begun), Piece::Number(short.due));
+    if short.begun < short.due {
+        text.say("% begun % of %", &[port, begun, due]);
+    } else {
+        let ended = Piece::Number(short.ended);
+        text.say("% ended % of %", &[port, ended, due]);
+    }
+}
+
+/// Adds what was due.
+pub(crate) fn put_due(text: &mut Text, due: Option<Item>) {
+    match due {
+        Some(Item::Value(value)) => text.say("%", &[Piece::Wide(value)]),
+        Some(Item::Handshake) => text.put("."),
+        Some(Item::Any) => text.put("?"),
+        None => text.put("nothing"),
+    }
+}
+
+/// Adds what came.
+pub(crate) fn put_came(text: &mut Text, came: Option<Value>) {
+    match came {
+        Some(value) => text.say("%", &[Piece::Wide(value)]),
+        None => text.put("."),
+    }
+}

@@ -1,0 +1,113 @@
+//! The nets that are opened, each once, by the netlist and the part that are named.
+
+use crate::asked::Trial;
+use crate::files::BenchFiles;
+use crate::opened::Opened;
+use crate::reading::{Refusal, bytes_of, unread};
+use bz_cli_input::Fault;
+use bz_model::NameSet;
+use bz_text::Text;
+use std::alloc::{AllocError, Global};
+use std::io::Write;
+
+/// What a netlist and the name of a part come to.
+#[derive(Drop)]
+pub(crate) enum Found {
+    Net(Opened),
+    /// Why there is no net.
+    Refused(Vec<u8>),
+}
+
+/// The nets that were asked for, and those that there are not.
+#[derive(Drop)]
+pub(crate) struct Nets {
+    // Netlists and parts, as they were named, in the order in which they came.
+    names: NameSet,
+    found: Vec<Found>,
+}
+
+impl Nets {
+    pub(crate) fn new(alloc: Global) -> Nets {
+        Nets {
+            names: NameSet::new(alloc),
+            found: Vec::new(alloc),
+        }
+    }
+
+    /// What is at a place.
+    pub(crate) fn at(&self, place: usize) -> Option<&Found> {
+        self.found.get(place)
+    }
+
+    /// The place of the net of a part of a netlist, which is opened where it was not yet.
+    pub(crate) fn place_of<F: BenchFiles>(
+        &mut self,
+        trial: Trial<'_>,
+        netlist: &str,
+        part: Option<&[u8]>,
+        files: &mut F,
+    ) -> Result<usize, Refusal> {
+        let name = name_of(trial.alloc, netlist, part)?;
+        if let Some(place) = self.names.place(name.as_slice()) {
+            return Ok(place);
+        }
+        self.names.insert(trial.alloc, name.as_slice())?;
+        self.add(found_in(trial, netlist, part, files))
+    }
+
+    // Adds what was found, if memory sufficed. Its place.
+    fn add(&mut self, found: Result<Found, AllocError>) -> Result<usize, Refusal> {
+        let place = self.found.len();
+        self.found.push(found?)?;
+        Ok(place)
+    }
+}
+
+// A netlist and a part as one name.
+fn name_of(alloc: Global, netlist: &str, part: Option<&[u8]>) -> Result<Vec<u8>, AllocError> {
+    let mut name = Vec::from_slice(alloc, netlist.as_bytes())?;
+    if let Some(part) = part {
+        name.push(0)?;
+        name.extend_from_slice(part)?;
+    }
+    Ok(name)
+}
+
+// The net of a part: of the text that takes the place of the netlists of benches, or else of a file.
+fn found_in<F: BenchFiles>(
+    trial: Trial<'_>,
+    netlist: &str,
+    part: Option<&[u8]>,
+    files: &mut F,
+) -> Result<Found, AllocError> {
+    if let Some(text) = trial.text {
+        return opened(trial.alloc, netlist, part, text);
+    }
+    match files.read(trial.alloc, netlist) {
+        Ok(text) => opened(trial.alloc, netlist, part, text.as_slice()),
+        Err(why) => match unread(trial.alloc, netlist, why) {
+            Refusal::NoNet(why) => Ok(Found::Refused(why)),
+            _ => Err(AllocError),
+        },
+    }
+}
+
+// The net of a part of a text, or the fault of the netlist of this name.
+fn opened(
+    alloc: Global,
+    netlist: &str,
+    part: Option<&[u8]>,
+    text: &[u8],
+) -> Result<Found, AllocError> {
+    match Opened::of(alloc, part, text) {
+        Ok(opened) => Ok(Found::Net(opened)),
+        Err(Fault::Memory) => Err(AllocError),
+        Err(fault) => refused(alloc, netlist, &fault),
+    }
+}
+
+fn refused(alloc: Global, netlist: &str, fault: &Fault) -> Result<Found, AllocError> {
+    let mut why = Text::new(alloc);
+    let _ = write!(why, "{netlist}: {fault}");
+    Ok(Found::Refused(bytes_of(alloc, &why)?))
+}

@@ -1,0 +1,119 @@
+//! The command `test`.
+
+ghost use Rattle.std.specs.Prelude.{◌≡◌, ◌≤◌, length, IfOk};
+ghost use Rattle.bz_cli_bench.specs.Cases.{Tests};
+ghost use Rattle.bz_cli_input.specs.Reading.{ReadsWithin};
+
+use crate::asked::{Asked, At, Trial};
+use crate::case::Case;
+use crate::files::BenchFiles;
+use crate::nets::Nets;
+use crate::rounds::add_cases;
+use crate::status::status_of;
+use crate::telling::tell;
+use crate::traces::tell_unkept;
+use bz_cli_input::{Fault, InputFault, read_input};
+use std::alloc::Global;
+use std::io::{Read, Write};
+
+/// Plays benches, and tells what each case came to. The netlist comes from `input` where one is named for all benches, and else
+/// from the files that they name. That a trace could not be kept goes to `errors`.
+pub fn test_cmd<R: Read, F: BenchFiles, W: Write, E: Write>(
+    alloc: Global,
+    asked: Asked<'_>,
+    input: &mut R,
+    files: &mut F,
+    output: &mut W,
+    errors: &mut E,
+) -> Result<u8, Fault>
+    ensures tests { Tests (length asked.entry.benches.now) result }
+
+    // Whatever comes of it, it reads at most one byte past the limit.
+    ensures bounded { ReadsWithin (R.remaining input.old) (R.remaining input.new) }
+{
+    match netlist_of(alloc, asked, input) {
+        Ok(None) => test(
+            Trial {
+                alloc,
+                asked,
+                text: None,
+            },
+            files,
+            output,
+            errors,
+        ),
+        Ok(Some(text)) => test(
+            Trial {
+                alloc,
+                asked,
+                text: Some(text.as_slice()),
+            },
+            files,
+            output,
+            errors,
+        ),
+        Err(InputFault::Read) => Err(Fault::Read),
+        Err(InputFault::Memory) => Err(Fault::Memory),
+    }
+}
+
+// The text of the netlist that is named for all benches, if one is.
+fn netlist_of<R: Read>(
+    alloc: Global,
+    asked: Asked<'_>,
+    input: &mut R,
+) -> Result<Option<Vec<u8>>, InputFault>
+    ensures { ReadsWithin (R.remaining input.old) (R.remaining input.new) }
+{
+    if asked.netlist.is_none() {
+        return Ok(None);
+    }
+    match read_input(alloc, input) {
+        Ok(text) => Ok(Some(text)),
+        Err(fault) => Err(fault),
+    }
+}
+
+// Plays all benches, and tells what each case came to.
+fn test<F: BenchFiles, W: Write, E: Write>(
+    trial: Trial<'_>,
+    files: &mut F,
+    output: &mut W,
+    errors: &mut E,
+) -> Result<u8, Fault>
+    ensures { Tests (length trial.entry.asked.benches.now) result }
+{
+    match cases_of(trial, files) {
+        Ok(cases) => told(trial, &cases, output, errors),
+        Err(fault) => Err(fault),
+    }
+}
+
+// All cases: for each bench there is one at least.
+fn cases_of<F: BenchFiles>(trial: Trial<'_>, files: &mut F) -> Result<Vec<Case>, Fault>
+    ensures { IfOk result (λ cases. length trial.entry.asked.benches.now ≤ length cases.items) }
+{
+    let mut nets = Nets::new(trial.alloc);
+    let mut cases = Vec::new(trial.alloc);
+    for (place, path) in trial.asked.benches.iter().enumerate() {
+        add_cases(trial, At { place, path }, &mut nets, files, &mut cases)?;
+    }
+    Ok(cases)
+}
+
+// Tells what all cases came to. Their status.
+fn told<W: Write, E: Write>(
+    trial: Trial<'_>,
+    cases: &[Case],
+    output: &mut W,
+    errors: &mut E,
+) -> Result<u8, Fault>
+    requires { length trial.asked.benches.now ≤ length cases.now }
+    ensures { Tests (length trial.entry.asked.benches.now) result }
+{
+    tell_unkept(trial.alloc, trial.asked, cases, errors);
+    match tell(trial, cases, output) {
+        Ok(()) => Ok(status_of(cases)),
+        Err(fault) => Err(fault),
+    }
+}
