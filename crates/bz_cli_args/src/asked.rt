@@ -42,6 +42,10 @@ pub struct CheckOptions<'a> {
     pub trace: Option<Source<'a>>,
     /// The file to which is written what the run exercised, if that is asked for.
     pub cover: Option<&'a str>,
+    /// Whether no more of the trace is read once a line is that of no run.
+    pub first: bool,
+    /// Whether a run has to end at rest.
+    pub to_rest: bool,
 }
 
 /// The options of another command that reads a trace.
@@ -206,10 +210,7 @@ pub(crate) fn command_in<'a>(name: &str, matches: &ArgMatches<'a>) -> Option<Com
     Some(match name {
         "run" => Command::Run(run_options(matches)),
         "explore" => Command::Explore(trace_options(matches)),
-        "check" => Command::Check(CheckOptions {
-            trace: source_named(matches, "trace"),
-            cover: matches.get_str("cover"),
-        }),
+        "check" => Command::Check(check_options(matches)),
         "waits" => Command::Waits(waits_options(matches)),
         "list" => Command::List(ListOptions {
             paths: matches.get_flag("paths"),
@@ -231,6 +232,15 @@ fn run_options<'a>(matches: &ArgMatches<'a>) -> RunOptions<'a> {
         strict: matches.get_flag("strict"),
         cover: matches.get_str("cover"),
         word_file: source_named(matches, "word-file"),
+    }
+}
+
+fn check_options<'a>(matches: &ArgMatches<'a>) -> CheckOptions<'a> {
+    CheckOptions {
+        trace: source_named(matches, "trace"),
+        cover: matches.get_str("cover"),
+        first: matches.get_flag("first"),
+        to_rest: matches.get_flag("to-rest"),
     }
 }
 

@@ -5,9 +5,9 @@ use crate::help::{
     VERSION, WAITS,
 };
 use crate::options::{
-    AROUND, BEGUN_TRACE, COMPONENT, COVER, DEPTH, EXPLAIN, FILES, FORMAT, FROM, FUEL, HOPS,
+    AROUND, BEGUN_TRACE, COMPONENT, COVER, DEPTH, EXPLAIN, FILES, FIRST, FORMAT, FROM, FUEL, HOPS,
     JOURNAL, LINE, MEANT_PART, MOST, NETLIST, Opt, PART, PART_FORM, PATHS, REQUIRED_NETLIST,
-    SESSIONS, STRICT, STRICT_WAITS, TO, TRACE, WORD_FILE, WORDS, WORKERS, arg_of,
+    SESSIONS, STRICT, STRICT_WAITS, TO, TO_REST, TRACE, WORD_FILE, WORDS, WORKERS, arg_of,
 };
 use clap::{Arg, Command};
 use std::alloc::{AllocError, Global};
@@ -42,7 +42,9 @@ const SUBS: [Sub; 12] = [
         name: "check",
         about: "Tell whether a trace is that of a run of a part's net",
         after: CHECK,
-        options: &[PART, PART_FORM, NETLIST, TRACE, COVER],
+        options: &[
+            PART, PART_FORM, NETLIST, TRACE, FIRST, TO_REST, COVER,
+        ],
     },
     Sub {
         name: "waits",

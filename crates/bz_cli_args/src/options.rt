@@ -149,6 +149,21 @@ pub(crate) const COVER: Opt = Opt {
     ..TEXT
 };
 
+pub(crate) const FIRST: Opt = Opt {
+    id: "first",
+    name: Name::Long("first"),
+    help: "Read no more of the trace once a line is that of no run",
+    needs: &["trace"],
+    ..FLAG
+};
+
+pub(crate) const TO_REST: Opt = Opt {
+    id: "to-rest",
+    name: Name::Long("to-rest"),
+    help: "End with status 1 also where the run does not end at rest",
+    ..FLAG
+};
+
 pub(crate) const WORD_FILE: Opt = Opt {
     id: "word-file",
     name: Name::Short("words", 'w'),

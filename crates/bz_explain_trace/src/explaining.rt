@@ -1,11 +1,12 @@
 //! What is said of a trace that is not that of a run.
 
-use crate::beginnings::explain_beginning;
+use crate::beginnings::{explain_beginning, explain_netlist};
 use crate::form_faults::explain_form;
-use crate::stops::explain_stop;
+use crate::stops::{explain_end, explain_line};
 use crate::suspect::Suspect;
 use bz_cli_trace::Checked;
 use bz_explain_notes::Notes;
+use bz_model::Names;
 use bz_trace::Verdict;
 use bz_view::Piece::Text;
 use std::alloc::Global;
@@ -24,9 +25,40 @@ pub fn explain_trace(alloc: Global, suspect: Suspect<'_>, checked: Checked) -> N
 fn explain_checked(notes: &mut Notes, suspect: Suspect<'_>, checked: Checked) {
     match checked.verdict {
         Verdict::Run => {}
-        Verdict::Bad(1) => explain_beginning(notes, suspect),
-        Verdict::Bad(line) => explain_form(notes, checked.net.names(), suspect.trace, line),
-        Verdict::Not(line) => explain_stop(notes, checked, suspect.trace, line),
+        Verdict::Bad(line) => explain_bad(notes, checked.net.names(), suspect, line),
+        Verdict::Not(line) => {
+            let (mut net, source, part) = checked.into_parts();
+            match source.survey(notes.alloc(), part.as_slice()) {
+                Ok(survey) => explain_line(notes, &mut net, &survey, suspect, line),
+                Err(_) => notes.fail(),
+            }
+        }
         Verdict::Memory => notes.fail(),
     }
+}
+
+fn explain_bad(notes: &mut Notes, names: &Names, suspect: Suspect<'_>, line: usize) {
+    if line == 1 {
+        explain_beginning(notes, suspect);
+    } else {
+        explain_form(notes, names, suspect, line);
+    }
+}
+
+/// The notes of a netlist in a file, behind which no line begins a trace.
+pub fn explain_no_trace(alloc: Global, netlist: &[u8]) -> Notes {
+    let mut notes = Notes::new(alloc);
+    explain_netlist(&mut notes, netlist);
+    notes
+}
+
+/// The notes of the trace of a run that was to end at rest: what can move where it ends.
+pub fn explain_unrested(alloc: Global, checked: Checked) -> Notes {
+    let mut notes = Notes::new(alloc);
+    let (net, source, part) = checked.into_parts();
+    match source.survey(alloc, part.as_slice()) {
+        Ok(survey) => explain_end(&mut notes, net.core(), &survey),
+        Err(_) => notes.fail(),
+    }
+    notes
 }
