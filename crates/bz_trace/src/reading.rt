@@ -286,11 +286,11 @@ fn read_lines<R: Read>(
     ensures more { IfOk result (ReadsMore (R.remaining input.old) (R.remaining input.new) held.old.items held.new.items 0) }
     ensures err { IfErr result (λ e. e ≢ TooLong) }
 {
-    let before = held.len();
+    let from = held.len();
     let mut piece = [0u8; PIECE];
     'reading: while held.len() < goal {
         match input.read(&mut piece) {
-            Ok(0) => return Ok(held.len() > before),
+            Ok(0) => return Ok(held.len() > from),
             Ok(n) => {
                 held.extend_from_slice(&piece[..n])?;
                 if piece[..n].contains(&b'\n') {
