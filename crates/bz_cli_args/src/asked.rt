@@ -46,6 +46,10 @@ pub struct CheckOptions<'a> {
     pub first: bool,
     /// Whether a run has to end at rest.
     pub to_rest: bool,
+    /// Whether several traces are named, each of which is checked by itself.
+    pub several: bool,
+    /// Where the names of the traces come from, if they don't stand on the command line.
+    pub traces_from: Option<Source<'a>>,
 }
 
 /// The options of another command that reads a trace.
@@ -172,6 +176,19 @@ impl<'a> Command<'a> {
         }
     }
 
+    /// Where the names of several traces come from, if they don't stand on the command line.
+    pub fn trace_names(self) -> Option<Source<'a>> {
+        match self {
+            Command::Check(options) => options.traces_from,
+            _ => None,
+        }
+    }
+
+    /// Whether several traces are named, each of which is checked by itself.
+    pub fn is_of_several(self) -> bool {
+        matches!(self, Command::Check(options) if options.several)
+    }
+
     /// The file to which is written what a run exercised, if that is asked for.
     pub fn cover_file(self) -> Option<&'a str> {
         match self {
@@ -241,6 +258,8 @@ fn check_options<'a>(matches: &ArgMatches<'a>) -> CheckOptions<'a> {
         cover: matches.get_str("cover"),
         first: matches.get_flag("first"),
         to_rest: matches.get_flag("to-rest"),
+        several: matches.get_strs("traces").is_some() || matches.get_str("traces-from").is_some(),
+        traces_from: source_named(matches, "traces-from"),
     }
 }
 

@@ -7,7 +7,7 @@ use crate::help::{
 use crate::options::{
     AROUND, BEGUN_TRACE, COMPONENT, COVER, DEPTH, EXPLAIN, FILES, FIRST, FORMAT, FROM, FUEL, HOPS,
     JOURNAL, LINE, MEANT_PART, MOST, NETLIST, Opt, PART, PART_FORM, PATHS, REQUIRED_NETLIST,
-    SESSIONS, STRICT, STRICT_WAITS, TO, TO_REST, TRACE, WORD_FILE, WORDS, WORKERS, arg_of,
+    SESSIONS, STRICT, STRICT_WAITS, TO, TO_REST, TRACE, TRACES, TRACES_FROM, WORD_FILE, WORDS, WORKERS, arg_of,
 };
 use clap::{Arg, Command};
 use std::alloc::{AllocError, Global};
@@ -43,7 +43,15 @@ const SUBS: [Sub; 12] = [
         about: "Tell whether a trace is that of a run of a part's net",
         after: CHECK,
         options: &[
-            PART, PART_FORM, NETLIST, TRACE, FIRST, TO_REST, COVER,
+            PART,
+            PART_FORM,
+            NETLIST,
+            TRACE,
+            TRACES_FROM,
+            FIRST,
+            TO_REST,
+            COVER,
+            TRACES,
         ],
     },
     Sub {

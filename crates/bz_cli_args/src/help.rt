@@ -58,12 +58,15 @@ entries. One line is written:
   run, and not at rest: ..      the same with --to-rest, where some component can move at its end
   not a run: line L             line L is the first that no run allows
   not a trace: line L           line L is the first malformed line
-With --first, ", and the rest was not looked at" comes after the line that no run allows: the command ends at it.
+With --first, ", and the rest was not looked at" comes after the line that no run allows: no more is read.
+Of several traces, named by TRACES or in the file of --traces-from, each one is checked by itself. A line NAME: with what is
+told above is written for each, in their order, and then how many passed.
 
 Statuses:
   0  the trace is that of a run
-  1  it is not, with --to-rest it does not end at rest, or the netlist is refused (S, B and E faults)
-  2  the command line is bad, a file cannot be opened or made, or the netlist of a file has no trace after it and none is named
+  1  it is not (of several: one is not), with --to-rest it does not end at rest, or the netlist is refused (S, B and E faults)
+  2  the command line is bad, a file cannot be opened or made, one of several traces cannot be read, or the netlist of a file has
+     no trace after it and none is named
   3  input or output failed (F1, F2), or memory ran out (F3)
 
 Examples:

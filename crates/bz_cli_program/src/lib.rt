@@ -14,6 +14,7 @@ mod outcome;
 mod performing;
 mod refusal;
 mod resting;
+mod several;
 
 pub use copying::Copying;
 pub use covering::{KeptTexts, cover};
@@ -23,3 +24,4 @@ pub use noting::end;
 pub use outcome::Outcome;
 pub use performing::program;
 pub use refusal::{Refusal, tell_unread, tip};
+pub use several::check_several;

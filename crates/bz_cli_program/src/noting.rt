@@ -54,7 +54,7 @@ fn note_status<F: Files, E: Write>(
 ) {
     if let Some(checked) = checked {
         note_checked(alloc, given, kept, checked, errors);
-    } else if status == NO_RUN && given.command.reads_trace() {
+    } else if status == NO_RUN && makes_of_trace(given.command) {
         note_trace(files, alloc, given, kept, errors);
     } else if status == BAD_COMMAND_LINE && misses_trace(given, kept) {
         let _ = tell_notes(alloc, &explain_no_trace(alloc, kept), errors);
@@ -73,10 +73,17 @@ fn note_ended<E: Write>(
     note_rest(alloc, given.part, netlist, ended.net(), errors);
 }
 
+// Whether something is made of a trace, which is not just checked.
+fn makes_of_trace(command: Command<'_>) -> bool {
+    command.reads_trace() && !matches!(command, Command::Check(_))
+}
+
 // Whether a trace is asked for after the netlist of a file, and there is none.
 fn misses_trace(given: &Given<'_, '_>, kept: &[u8]) -> bool {
     match given.command {
-        Command::Check(options) => options.trace.is_none() && split_trace(kept).1.is_empty(),
+        Command::Check(options) => {
+            options.trace.is_none() && !options.several && split_trace(kept).1.is_empty()
+        }
         _ => false,
     }
 }

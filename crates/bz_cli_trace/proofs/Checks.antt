@@ -1,5 +1,5 @@
 -- What the command `check` answers.
-use Rattle.std.proofs.Common.{◌≡◌, ◌≤◌, ℕ, Bool, true, false, List, Option, Some, None, length, ◌⊎◌, inl, inr, refl, subst, sym}
+use Rattle.std.proofs.Common.{◌≡◌, ◌≤◌, ℕ, Bool, true, false, List, [], Option, Some, None, length, ◌⊎◌, inl, inr, refl, subst, sym}
 use Rattle.std.proofs.KnownBytes.{Keeps-refl}
 use Rattle.std.proofs.lemmas.Option.{IfSome_then}
 use Rattle.std.specs.Prelude.{Result, Ok, Err, IfOk, IfSome}
@@ -34,19 +34,19 @@ none_checked to_first to_rest had netlist asked old f (inr r) = whatever had _ (
 
 module _ (to_first to_rest : Bool) (netlist : List ℕ) (asked : Option (List ℕ)) (c : Checked) (old new : Option (List ℕ)) where
   -- a verdict that went out
-  pub said : (trace : List ℕ) → IsCheckedTo to_first to_rest netlist trace asked c → TellsVerdict {A = Unit {0}} (finding_of c) old new (Ok tt) → ChecksTrace to_first to_rest netlist trace asked old new (Ok c)
-  said trace checked t = sent_as (λ f. f) Write (λ (u : Unit {0}). SaysVerdict (finding_of c)) (λ f. f ≡ Memory) (IsVerdict to_first to_rest netlist trace asked) (RefusesNet netlist asked) old new tt c (λ text says. (checked, says)) t
+  pub said : (trace : List ℕ) → IsCheckedTo to_first to_rest netlist trace asked c → TellsVerdict {A = Unit {0}} [] (finding_of c) old new (Ok tt) → ChecksTrace to_first to_rest netlist trace asked old new (Ok c)
+  said trace checked t = sent_as (λ f. f) Write (λ (u : Unit {0}). SaysVerdict [] (finding_of c)) (λ f. f ≡ Memory) (IsVerdict to_first to_rest netlist trace asked) (RefusesNet netlist asked) old new tt c (λ text says. (checked, says)) t
 
-  pub not_said : (trace : List ℕ) (f : Fault) → IsCheckedTo to_first to_rest netlist trace asked c → TellsVerdict {A = Unit {0}} (finding_of c) old new (Err f) → ChecksTrace to_first to_rest netlist trace asked old new (Err f)
+  pub not_said : (trace : List ℕ) (f : Fault) → IsCheckedTo to_first to_rest netlist trace asked c → TellsVerdict {A = Unit {0}} [] (finding_of c) old new (Err f) → ChecksTrace to_first to_rest netlist trace asked old new (Err f)
   not_said trace f checked t =
-      failed_as (λ f. f) Write (λ (u : Unit {0}). SaysVerdict (finding_of c)) (λ f. f ≡ Memory) (IsVerdict to_first to_rest netlist trace asked) (RefusesNet netlist asked) old new f c (λ u text says. (checked, says)) (λ is. subst (RefusesNet netlist asked) (sym is) tt) t
+      failed_as (λ f. f) Write (λ (u : Unit {0}). SaysVerdict [] (finding_of c)) (λ f. f ≡ Memory) (IsVerdict to_first to_rest netlist trace asked) (RefusesNet netlist asked) old new f c (λ u text says. (checked, says)) (λ is. subst (RefusesNet netlist asked) (sym is) tt) t
 
   -- the same where the trace is what its reader had
-  pub said_read : (had : Option (List ℕ)) → IfSome had (λ text. IsCheckedTo to_first to_rest netlist text asked c) → TellsVerdict {A = Unit {0}} (finding_of c) old new (Ok tt)
+  pub said_read : (had : Option (List ℕ)) → IfSome had (λ text. IsCheckedTo to_first to_rest netlist text asked c) → TellsVerdict {A = Unit {0}} [] (finding_of c) old new (Ok tt)
       → IfSome had (λ text. StopsAtInput {E = Checked} old new (Ok c) ⊎ ChecksTrace to_first to_rest netlist text asked old new (Ok c))
   said_read had checked t = IfSome_then had checked (λ text is. inr (said text is t))
 
-  pub not_said_read : (had : Option (List ℕ)) (f : Fault) → IfSome had (λ text. IsCheckedTo to_first to_rest netlist text asked c) → TellsVerdict {A = Unit {0}} (finding_of c) old new (Err f)
+  pub not_said_read : (had : Option (List ℕ)) (f : Fault) → IfSome had (λ text. IsCheckedTo to_first to_rest netlist text asked c) → TellsVerdict {A = Unit {0}} [] (finding_of c) old new (Err f)
       → IfSome had (λ text. StopsAtInput {E = Checked} old new (Err f) ⊎ ChecksTrace to_first to_rest netlist text asked old new (Err f))
   not_said_read had f checked t = IfSome_then had checked (λ text is. inr (not_said text f is t))
 

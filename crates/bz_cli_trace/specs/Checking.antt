@@ -47,8 +47,11 @@ is_run verdict.Run = true
 is_run v = false
 
 -- the trace is that of a run, which ends at rest where it was to
+abbrev pub is_passed : Finding → Bool
+is_passed found = is_run found.verdict && not found.unrested
+
 abbrev pub passes : Checked → Bool
-passes c = is_run c.verdict && not c.unrested
+passes c = is_passed (finding_of c)
 
 -- The netlist denotes the net that was checked, which comes of this text and part; this is the verdict on the trace, and there
 -- the net was left.
@@ -76,17 +79,17 @@ pub record IsCheckedTo (to_first to_rest : Bool) (netlist trace : List ℕ) (ask
   pub leaves : LeavesTo c.early c.net.wiring trace c.net c.verdict
   pub rests : TellsRest to_rest c.verdict c.net c.unrested
 
--- its text, where memory was not refused
-abbrev pub SaysVerdict : Finding → List ℕ → Type 0
-SaysVerdict found text = (found.verdict ≢ verdict.Memory) × (text ≡ verdict_text found)
+-- its text, behind what stands in front of it, where memory was not refused
+abbrev pub SaysVerdict : List ℕ → Finding → List ℕ → Type 0
+SaysVerdict front found text = (found.verdict ≢ verdict.Memory) × (text ≡ front ++ verdict_text found)
 
 -- It goes out, or memory was refused.
-abbrev pub TellsVerdict : {A : Type 0} → Finding → Option (List ℕ) → Option (List ℕ) → Result A Fault → Type 0
-TellsVerdict found old new answer = Answers Write (λ u text. SaysVerdict found text) (λ fault. fault ≡ Memory) old new answer
+abbrev pub TellsVerdict : {A : Type 0} → List ℕ → Finding → Option (List ℕ) → Option (List ℕ) → Result A Fault → Type 0
+TellsVerdict front found old new answer = Answers Write (λ u text. SaysVerdict front found text) (λ fault. fault ≡ Memory) old new answer
 
 -- the verdict on a trace, with the net that was checked
 abbrev pub IsVerdict : Bool → Bool → List ℕ → List ℕ → Option (List ℕ) → Checked → List ℕ → Type 0
-IsVerdict to_first to_rest netlist trace asked c text = IsCheckedTo to_first to_rest netlist trace asked c × SaysVerdict (finding_of c) text
+IsVerdict to_first to_rest netlist trace asked c text = IsCheckedTo to_first to_rest netlist trace asked c × SaysVerdict [] (finding_of c) text
 
 -- The netlist is refused, or the verdict goes out.
 abbrev pub ChecksTrace : Bool → Bool → List ℕ → List ℕ → Option (List ℕ) → Option (List ℕ) → Option (List ℕ) → Result Checked Fault → Type 0

@@ -66,7 +66,7 @@ impl Checked {
     pub fn passes(&self) -> bool
         ensures { result ≡ passes self.now }
     {
-        self.is_run() && !self.unrested
+        self.finding().passes()
     }
 
     /// What is said of the trace.
@@ -141,8 +141,8 @@ fn open(
     }
 }
 
-// Whether a trace is that of a run that was to end at rest, and doesn't: the net is where it ends.
-fn moves_on(net: &Play, verdict: Verdict, to_rest: bool) -> bool
+/// Whether a trace is that of a run that was to end at rest, and doesn't: the net is where it ends.
+pub(crate) fn moves_on(net: &Play, verdict: Verdict, to_rest: bool) -> bool
     ensures { TellsRest to_rest verdict net.now result }
 {
     if !to_rest {

@@ -54,7 +54,7 @@ pub fn check_texts<W: Write>(
         Ok(checked) => checked,
         Err(fault) => return Err(fault),
     };
-    match tell(checked.finding(), output) {
+    match tell(b"", checked.finding(), output) {
         Ok(()) => Ok(checked),
         Err(fault) => Err(fault),
     }
@@ -98,31 +98,31 @@ fn check_netlist<T: Read, W: Write>(
         Ok(checked) => checked,
         Err(fault) => return Err(fault),
     };
-    match tell(checked.finding(), output) {
+    match tell(b"", checked.finding(), output) {
         Ok(()) => Ok(checked),
         Err(fault) => Err(fault),
     }
 }
 
-// Writes a verdict.
-fn tell<W: Write>(found: Finding, output: &mut W) -> Result<(), Fault>
-    ensures { TellsVerdict found (W.contents output.old) (W.contents output.new) result }
+/// Writes a verdict behind what stands in front of it.
+pub(crate) fn tell<W: Write>(front: &[u8], found: Finding, output: &mut W) -> Result<(), Fault>
+    ensures { TellsVerdict front.now found (W.contents output.old) (W.contents output.new) result }
 {
     if let Verdict::Memory = found.verdict {
         return Err(Fault::Memory);
     }
-    match write_out(found, output) {
+    match write_out(front, found, output) {
         Ok(()) => Ok(()),
         Err(WriteFault) => Err(Fault::Write),
     }
 }
 
 // Writes a verdict, down to the last byte.
-fn write_out<W: Write>(found: Finding, output: &mut W) -> Result<(), WriteFault>
-    ensures ok { OnOk result (Appends (W.contents output.old) (W.contents output.new) (verdict_text found)) }
-    ensures err { OnErr result (AppendsSome (W.contents output.old) (W.contents output.new) (verdict_text found)) }
+fn write_out<W: Write>(front: &[u8], found: Finding, output: &mut W) -> Result<(), WriteFault>
+    ensures ok { OnOk result (Appends (W.contents output.old) (W.contents output.new) (front.now ++ verdict_text found)) }
+    ensures err { OnErr result (AppendsSome (W.contents output.old) (W.contents output.new) (front.now ++ verdict_text found)) }
 {
-    match put_verdict(found, output) {
+    match put_verdict(front, found, output) {
         Ok(()) => {}
         Err(fault) => return Err(fault),
     }
@@ -132,14 +132,17 @@ fn write_out<W: Write>(found: Finding, output: &mut W) -> Result<(), WriteFault>
     }
 }
 
-fn put_verdict<W: Write>(found: Finding, output: &mut W) -> Result<(), WriteFault>
-    ensures { Writes (W.contents output.old) (W.contents output.new) result (verdict_text found) }
+fn put_verdict<W: Write>(front: &[u8], found: Finding, output: &mut W) -> Result<(), WriteFault>
+    ensures { Writes (W.contents output.old) (W.contents output.new) result (front.now ++ verdict_text found) }
 {
     match found.verdict {
-        Verdict::Run => put_counts(output, run_words(found.unrested), found.counts),
-        Verdict::Not(line) => put_line(output, b"not a run: line ", line, line_end(found.early)),
-        Verdict::Bad(line) => put_line(output, b"not a trace: line ", line, b"\n"),
-        Verdict::Memory => put_pieces(output, &[]),
+        Verdict::Run => put_counts(output, front, run_words(found.unrested), found.counts),
+        Verdict::Not(line) => {
+            let end = line_end(found.early);
+            put_line(output, front, b"not a run: line ", line, end)
+        }
+        Verdict::Bad(line) => put_line(output, front, b"not a trace: line ", line, b"\n"),
+        Verdict::Memory => put_pieces(output, &[Piece::Bytes(front)]),
     }
 }
 
@@ -165,10 +168,16 @@ fn line_end(early: bool) -> &'static [u8]
     }
 }
 
-fn put_counts<W: Write>(output: &mut W, words: &[u8], counts: Counts) -> Result<(), WriteFault>
-    ensures { Writes (W.contents output.old) (W.contents output.new) result (words.now ++ counts_text counts) }
+fn put_counts<W: Write>(
+    output: &mut W,
+    front: &[u8],
+    words: &[u8],
+    counts: Counts,
+) -> Result<(), WriteFault>
+    ensures { Writes (W.contents output.old) (W.contents output.new) result (front.now ++ (words.now ++ counts_text counts)) }
 {
     let pieces = [
+        Piece::Bytes(front),
         Piece::Bytes(words),
         Piece::Number(counts.fired as Value),
         Piece::Bytes(b" fired, "),
@@ -182,13 +191,15 @@ fn put_counts<W: Write>(output: &mut W, words: &[u8], counts: Counts) -> Result<
 
 fn put_line<W: Write>(
     output: &mut W,
+    front: &[u8],
     words: &[u8],
     line: usize,
     end: &[u8],
 ) -> Result<(), WriteFault>
-    ensures { Writes (W.contents output.old) (W.contents output.new) result (words.now ++ (decimal line ++ end.now)) }
+    ensures { Writes (W.contents output.old) (W.contents output.new) result (front.now ++ (words.now ++ (decimal line ++ end.now))) }
 {
     let pieces = [
+        Piece::Bytes(front),
         Piece::Bytes(words),
         Piece::Number(line as Value),
         Piece::Bytes(end),

@@ -16,5 +16,5 @@ mod scene;
 mod stops;
 mod suspect;
 
-pub use explaining::{explain_no_trace, explain_trace, explain_unrested};
+pub use explaining::{explain_found, explain_no_trace, explain_trace, explain_unrested};
 pub use suspect::Suspect;
