@@ -44,7 +44,10 @@ ALONE = BEGUN % (b"both", CELL.split(b"\n")[0], b"the first line") + (
     b"breezesim: note: expected: a line that is exactly trace 1 or trace 2\n"
     b"breezesim: note: help: the file of --trace has the trace alone\n"
 )
-UNTOLD = b"breezesim: note: the reason is told only where the trace is a regular file of at most 67108864 bytes\n"
+INPUT = BEGUN % (b"standard input", b"x", b"the first line") + (
+    b"breezesim: note: expected: a line that is exactly trace 1 or trace 2\n"
+    b"breezesim: note: help: the file of --trace has the trace alone\n"
+)
 
 
 def add_traced(cases):
@@ -72,7 +75,7 @@ def add_traced(cases):
         ("with --explain, of a run", [*CHECK, "cell.trace", "--explain"], b"", Ran(0, RUN, b"")),
         ("with --explain, a CR", [*CHECK, "cr.trace", "--explain"], b"", Ran(1, b"not a trace: line 1\n", RETURN)),
         ("with --explain, a netlist", [*CHECK, "both", "--explain"], b"", Ran(1, b"not a trace: line 1\n", ALONE)),
-        ("with --explain, not a file", [*CHECK, "-", "--explain"], b"x", Ran(1, b"not a trace: line 1\n", UNTOLD)),
+        ("with --explain, not a file", [*CHECK, "-", "--explain"], b"x", Ran(1, b"not a trace: line 1\n", INPUT)),
         (
             "of a chart of no run", ["chart", *CHECK[1:], "spoilt.trace", "--explain"], b"",
             Ran(1, b"", b"error: not a run: line 3\n" + NOTES),
