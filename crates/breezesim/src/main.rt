@@ -11,7 +11,7 @@ use bz_cli_args::{
 use bz_cli_input::Fault;
 use bz_cli_program::{
     Copying, Given, KeptTexts, Outcome, Refusal, Texts, check_several, cover, end, open_file,
-    program, tell_unread, tip,
+    program, tell_object, tell_unread, tip,
 };
 use bz_explain_notes::Keeping;
 use std::io::{BufWriter, IsTerminal, Read, Write};
@@ -54,6 +54,7 @@ fn perform<P: Threads + Wait + Sync, R: Read + Drop, T: Read + Drop>(
         &mut output,
         &mut rt.stderr(),
     );
+    let outcome = tell_object(alloc, given, input.kept(), outcome, &mut output);
     let texts = texts_kept(&*input, trace.as_ref(), &output);
     cover(alloc, given, texts, outcome, &mut files, &mut rt.stderr())
 }
@@ -106,7 +107,9 @@ fn play_on<P: Threads + Wait + Sync, R: Read + Drop>(
     request: &Request<'_>,
     input: R,
 ) -> u8 {
-    let keeps = request.explains || request.command.cover_file().is_some();
+    let keeps = request.explains
+        || request.command.cover_file().is_some()
+        || request.command.answers_findings();
     let input = &mut Keeping::new(rt.alloc(), input, keeps);
     let texts = match Texts::of(rt, rt.alloc(), request) {
         Ok(texts) => texts,

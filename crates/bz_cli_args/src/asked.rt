@@ -48,6 +48,8 @@ pub struct CheckOptions<'a> {
     pub to_rest: bool,
     /// Whether several traces are named, each of which is checked by itself.
     pub several: bool,
+    /// Whether JSON is asked for.
+    pub json: bool,
     /// Where the names of the traces come from, if they don't stand on the command line.
     pub traces_from: Option<Source<'a>>,
 }
@@ -184,6 +186,11 @@ impl<'a> Command<'a> {
         }
     }
 
+    /// Whether what is found of a trace is answered as an object of JSON.
+    pub fn answers_findings(self) -> bool {
+        matches!(self, Command::Check(options) if options.json)
+    }
+
     /// Whether several traces are named, each of which is checked by itself.
     pub fn is_of_several(self) -> bool {
         matches!(self, Command::Check(options) if options.several)
@@ -259,6 +266,7 @@ fn check_options<'a>(matches: &ArgMatches<'a>) -> CheckOptions<'a> {
         first: matches.get_flag("first"),
         to_rest: matches.get_flag("to-rest"),
         several: matches.get_strs("traces").is_some() || matches.get_str("traces-from").is_some(),
+        json: format_options(matches).json,
         traces_from: source_named(matches, "traces-from"),
     }
 }

@@ -7,7 +7,8 @@ use crate::help::{
 use crate::options::{
     AROUND, BEGUN_TRACE, COMPONENT, COVER, DEPTH, EXPLAIN, FILES, FIRST, FORMAT, FROM, FUEL, HOPS,
     JOURNAL, LINE, MEANT_PART, MOST, NETLIST, Opt, PART, PART_FORM, PATHS, REQUIRED_NETLIST,
-    SESSIONS, STRICT, STRICT_WAITS, TO, TO_REST, TRACE, TRACES, TRACES_FROM, WORD_FILE, WORDS, WORKERS, arg_of,
+    SESSIONS, STRICT, STRICT_WAITS, TO, TO_REST, TRACE, TRACES, TRACES_FROM, WORD_FILE, WORDS,
+    WORKERS, arg_of,
 };
 use clap::{Arg, Command};
 use std::alloc::{AllocError, Global};
@@ -50,6 +51,7 @@ const SUBS: [Sub; 12] = [
             TRACES_FROM,
             FIRST,
             TO_REST,
+            FORMAT,
             COVER,
             TRACES,
         ],

@@ -119,7 +119,9 @@ pub fn stray_word(alloc: Global, error: &Error) -> Option<String> {
 pub fn mistake_in(request: &Request<'_>) -> Option<&'static str> {
     match request.command {
         Command::Check(options) if options.first && options.trace.is_none() && !options.several => {
-            Some("--first takes a trace with a text of its own: --trace FILE, --trace -, or traces that are named")
+            Some(
+                "--first takes a trace with a text of its own: --trace FILE, --trace -, or traces that are named",
+            )
         }
         _ => None,
     }

@@ -47,6 +47,12 @@ CheckEnds options is_file part known None old new result = IfSome known (λ text
 CheckEnds options is_file part known (Some apart) old new result =
     IfSome known (λ netlist. IfSome apart (λ text. Does of_check (ChecksApart options.first options.to_rest netlist text part old new) result))
 
+-- the same with the line that is written; or with an object in its place, of which nothing is said
+abbrev pub CheckTells : CheckOptions → Bool → Option (List ℕ) → Option (List ℕ) → Option (Option (List ℕ)) → Option (List ℕ) → Option (List ℕ) → Result ℕ Fault → Type 0
+CheckTells options is_file part known trace old new result =
+    (options.json ≡ false → CheckEnds options is_file part known trace old new result)
+    × (options.json ≡ true → (from to : Option (List ℕ)) × CheckEnds options is_file part known trace from to result)
+
 -- `waits`, of the line and the component that are asked for
 abbrev pub WaitsEnds : WaitsOptions → Option (List ℕ) → Option (List ℕ) → Option (Option (List ℕ)) → Option (List ℕ) → Option (List ℕ) → Result ℕ Fault → Type 0
 WaitsEnds options part known None old new result =
@@ -86,7 +92,7 @@ PoolEnds options words part known old new result =
 abbrev pub ProgramDoes : Command → List (List ℕ) → Bool → Option (List ℕ) → Option (List ℕ) → Option (Option (List ℕ)) → Option (List ℕ) → Option (List ℕ) → Result ℕ Fault → Type 0
 ProgramDoes (asked.Run options) words is_file part known trace old new result = RunEnds options words part known old new result
 ProgramDoes (asked.Explore options) words is_file part known trace old new result = ⊤
-ProgramDoes (asked.Check options) words is_file part known trace old new result = CheckEnds options is_file part known trace old new result
+ProgramDoes (asked.Check options) words is_file part known trace old new result = CheckTells options is_file part known trace old new result
 ProgramDoes (asked.Waits options) words is_file part known trace old new result = WaitsEnds options part known trace old new result
 ProgramDoes (asked.List options) words is_file part known trace old new result = ListEnds options part known old new result
 ProgramDoes (asked.Lint options) words is_file part known trace old new result = ⊤

@@ -8,7 +8,7 @@ ghost use Rattle.bz_cli_input.specs.Listed.{Lists};
 ghost use Rattle.bz_cli_input.specs.Reading.{ReadsWithin};
 ghost use Rattle.bz_cli_program.specs.Endings.{AreWorkers, Does, IsDone, IsJournal, IsRefused};
 ghost use Rattle.bz_cli_program.specs.Endings.{of_check, of_done, of_drawing, of_made, of_run, of_told, of_unmade};
-ghost use Rattle.bz_cli_program.specs.Programs.{ChartEnds, CheckBehind, CheckEnds, PageEnds, WaitsEnds};
+ghost use Rattle.bz_cli_program.specs.Programs.{ChartEnds, CheckBehind, CheckEnds, CheckTells, PageEnds, WaitsEnds};
 ghost use Rattle.bz_cli_source.specs.Listed as placed;
 ghost use Rattle.bz_cli_source.specs.PartLists.{ListsParts};
 ghost use Rattle.bz_draw.specs.Drawing.{Draws};
@@ -20,8 +20,8 @@ use crate::outcome::{DONE, Ended, NO_RUN, Outcome};
 use bz_chart::{LineRange, chart_cmd, chart_trace_cmd};
 use bz_cli::{Pooled, pool_cmd};
 use bz_cli_args::{
-    BAD_COMMAND_LINE, ChartOptions, CheckOptions, DrawOptions, FormatOptions, LintOptions, ListOptions,
-    MAX_JOURNAL, MAX_WORKERS, PoolOptions, RunOptions, WaitsOptions,
+    BAD_COMMAND_LINE, ChartOptions, CheckOptions, DrawOptions, FormatOptions, LintOptions,
+    ListOptions, MAX_JOURNAL, MAX_WORKERS, PoolOptions, RunOptions, WaitsOptions,
 };
 use bz_cli_core::{Halt, Played, run_cmd};
 use bz_cli_input::{Fault, list_cmd};
@@ -37,7 +37,7 @@ use bz_page::{page_cmd, page_trace_cmd};
 use bz_session::End;
 use std::alloc::Global;
 use std::fmt::Display;
-use std::io::{BufRead, Read, Write};
+use std::io::{BufRead, Read, Write, sink};
 use std::sync::Wait;
 use std::thread::Threads;
 
@@ -120,8 +120,32 @@ fn tell_halt<E: Write>(halt: Halt, errors: &mut E) {
 }
 
 /// Reports whether a trace is that of a run: the one that is given, or the one after the netlist. The net that was checked goes
-/// with the status. That there is no trace after the netlist of a file goes to `errors`.
+/// with the status. That there is no trace after the netlist of a file goes to `errors`. Where an object is asked for, nothing is
+/// written: what was found goes with the status.
 pub(crate) fn check<R: Read, T: Read, W: Write, E: Write>(
+    alloc: Global,
+    given: &Given<'_, '_>,
+    options: CheckOptions<'_>,
+    input: &mut R,
+    trace: Option<&mut T>,
+    output: &mut W,
+    errors: &mut E,
+) -> Outcome
+    ensures checks { CheckTells options.entry (is_some given.now.file) (option_copied given.now.part) (R.remaining input.old)
+        (option_map (λ apart. T.remaining apart.now) trace.entry) (W.contents output.old) (W.contents output.new) result.status }
+
+    // Whatever comes of it, it reads at most one byte past the limit.
+    ensures bounded { ReadsWithin (R.remaining input.old) (R.remaining input.new) }
+{
+    if options.json {
+        check_into(alloc, given, options, input, trace, &mut sink(), errors)
+    } else {
+        check_into(alloc, given, options, input, trace, output, errors)
+    }
+}
+
+// The same, with the line that is written.
+fn check_into<R: Read, T: Read, W: Write, E: Write>(
     alloc: Global,
     given: &Given<'_, '_>,
     options: CheckOptions<'_>,
@@ -141,11 +165,9 @@ pub(crate) fn check<R: Read, T: Read, W: Write, E: Write>(
             let way = CheckWay {
                 to_first: options.first,
                 to_rest: options.to_rest,
-                keeps: given.explains,
+                keeps: given.explains || options.json,
             };
-            judged(check_trace_cmd(
-                alloc, given.part, way, input, trace, output,
-            ))
+            judged(check_trace_cmd(alloc, given.part, way, input, trace, output))
         }
         None => {
             let is_file = given.file.is_some();

@@ -119,8 +119,8 @@ fn note_checked<E: Write>(
     let _ = tell_notes(alloc, &notes, errors);
 }
 
-// The trace after a netlist.
-fn suspect_behind<'t>(command: Command<'_>, kept: &'t [u8]) -> Suspect<'t> {
+/// The trace after a netlist.
+pub(crate) fn suspect_behind<'t>(command: Command<'_>, kept: &'t [u8]) -> Suspect<'t> {
     let netlist = netlist_in(command, kept);
     let (_, trace) = kept.split_at(netlist.len().min(kept.len()));
     Suspect {

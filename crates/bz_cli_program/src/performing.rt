@@ -54,9 +54,7 @@ pub fn program<
         Command::Explore(_) => of(explore(
             alloc, given, input, trace, lines, files, output, errors,
         )),
-        Command::Check(options) => {
-            check(alloc, given, options, input, trace, output, errors)
-        }
+        Command::Check(options) => { check(alloc, given, options, input, trace, output, errors) }
         Command::Waits(options) => of(waits(alloc, part, options, input, trace, output, errors)),
         Command::List(options) => of(list(alloc, part, options, input, output)),
         Command::Lint(options) => of(lint(alloc, given, options, input, output)),

@@ -2,18 +2,20 @@
 
 use crate::files::open_file;
 use crate::given::Given;
+use crate::objects::put_text;
 use crate::outcome::{DONE, NO_RUN, Outcome};
 use bz_cli_args::{BAD_COMMAND_LINE, CheckOptions, Command, Source};
 use bz_cli_input::{Fault, read_input};
-use bz_cli_trace::{CheckWay, Opened, Traced, check_named};
+use bz_cli_trace::{CheckWay, Finding, Opened, Traced, check_named};
 use bz_explain_notes::tell_notes;
-use bz_explain_trace::{Suspect, explain_found};
+use bz_explain_trace::{Suspect, explain_found, put_found};
 use bz_flat::Flat;
 use bz_source::Survey;
 use bz_text::{Piece, Text, put_pieces};
+use bz_view::Seen;
 use std::alloc::Global;
 use std::fmt::Display;
-use std::io::{Input, Read, Write};
+use std::io::{Input, Read, Write, sink};
 use std::rt::Files;
 
 /// What became of a trace.
@@ -64,9 +66,11 @@ impl Tally {
 #[derive(Clone, Copy)]
 struct Judge<'t> {
     flat: &'t Flat,
-    /// Where everything in the net stands in its text, where notes are asked for.
+    /// Where everything in the net stands in its text, where notes or objects are asked for.
     survey: Option<&'t Survey>,
     way: CheckWay,
+    /// Whether an object is written for each trace, in place of a line.
+    json: bool,
 }
 
 /// Checks traces by their names, each by itself, against the net of the netlist that a reader gives. A line for each one goes to
@@ -108,7 +112,8 @@ fn check_opened<F: Files + Input, W: Write, E: Write>(
     errors: &mut E,
 ) -> Result<u8, Fault> {
     let (flat, source, part) = opened.into_parts();
-    let survey = if given.explains {
+    let keeps = given.explains || options.json;
+    let survey = if keeps {
         source.survey(alloc, part.as_slice()).ok()
     } else {
         None
@@ -119,8 +124,9 @@ fn check_opened<F: Files + Input, W: Write, E: Write>(
         way: CheckWay {
             to_first: options.first,
             to_rest: options.to_rest,
-            keeps: given.explains,
+            keeps,
         },
+        json: options.json,
     };
     check_all(rt, alloc, judge, names, output, errors)
 }
@@ -139,6 +145,9 @@ fn check_all<F: Files + Input, W: Write, E: Write>(
             Ok(fate) => tally.add(fate),
             Err(fault) => return Err(fault),
         }
+    }
+    if judge.json {
+        return Ok(tally.status());
     }
     match put_tally(tally, output) {
         Ok(()) => Ok(tally.status()),
@@ -159,7 +168,7 @@ fn check_one<F: Files + Input, W: Write, E: Write>(
         Source::Stdin => check_from(alloc, judge, name, &mut rt.reader(), output, errors),
         Source::File(path) => match open_file(rt, path) {
             Ok(mut file) => check_from(alloc, judge, name, &mut file, output, errors),
-            Err(cause) => put_unread(name, cause, output, errors),
+            Err(cause) => put_unread(name, cause, judge.json, output, errors),
         },
     }
 }
@@ -179,13 +188,53 @@ fn check_from<T: Read, W: Write, E: Write>(
     let Ok(front) = front.whole() else {
         return Err(Fault::Memory);
     };
-    match check_named(alloc, judge.flat, front, trace, judge.way, output) {
+    let checked = if judge.json {
+        check_named(alloc, judge.flat, front, trace, judge.way, &mut sink())
+    } else {
+        check_named(alloc, judge.flat, front, trace, judge.way, output)
+    };
+    match checked {
+        Ok(traced) if judge.json => put_object(alloc, judge.survey, name, traced, output),
         Ok(traced) => Ok(note_found(alloc, judge.survey, name, traced, errors)),
         Err(Fault::Read) => {
             let why = "reading failed, or a line of it is too long";
-            put_unread(name, why, output, errors)
+            put_unread(name, why, judge.json, output, errors)
         }
         Err(fault) => Err(fault),
+    }
+}
+
+// Writes the object of a trace that was checked.
+fn put_object<W: Write>(
+    alloc: Global,
+    survey: Option<&Survey>,
+    name: &str,
+    traced: Traced,
+    output: &mut W,
+) -> Result<Fate, Fault> {
+    let (found, net, kept) = traced.into_parts();
+    let (Some(survey), Some(trace)) = (survey, kept.lines()) else {
+        return Err(Fault::Memory);
+    };
+    let suspect = Suspect {
+        netlist: b"",
+        trace,
+        first: kept.first(),
+        file: Some(name),
+    };
+    let mut text = Text::new(alloc);
+    put_found(suspect, found, Seen::of(net.core(), survey), &mut text);
+    match put_text(&text, output) {
+        Ok(()) => Ok(fate_of(found)),
+        Err(fault) => Err(fault),
+    }
+}
+
+fn fate_of(found: Finding) -> Fate {
+    if found.passes() {
+        Fate::Passed
+    } else {
+        Fate::Failed
     }
 }
 
@@ -218,10 +267,14 @@ fn note_found<E: Write>(
 fn put_unread<C: Display, W: Write, E: Write>(
     name: &str,
     why: C,
+    json: bool,
     output: &mut W,
     errors: &mut E,
 ) -> Result<Fate, Fault> {
     let _ = writeln!(errors, "error: cannot read {name}: {why}");
+    if json {
+        return Ok(Fate::Unread);
+    }
     let pieces = [Piece::Bytes(name.as_bytes()), Piece::Bytes(b": not read\n")];
     if put_pieces(output, &pieces).is_err() || output.flush().is_err() {
         return Err(Fault::Write);

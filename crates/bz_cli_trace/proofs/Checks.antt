@@ -52,7 +52,7 @@ module _ (to_first to_rest : Bool) (netlist : List ℕ) (asked : Option (List �
 
 -- a net that was checked, whose wiring is the one that was opened
 module _ (to_first to_rest : Bool) (netlist : List ℕ) (asked : Option (List ℕ)) (c : Checked) (w : Wiring) (same : w ≡ c.net.wiring) (net : Denotes netlist asked w) (read : IsRead netlist asked c.part.items w c.source.parts c.source.lines.items)
-  (whole : to_first ≡ false → c.early ≡ false) (rests : TellsRest to_rest c.verdict c.net c.unrested) where
+    (whole : to_first ≡ false → c.early ≡ false) (rests : TellsRest to_rest c.verdict c.net c.unrested) where
   checked_of : (trace : List ℕ) → JudgesTo c.early w trace c.verdict → (to_first ≡ true → (line : ℕ) → StopsInFront w trace line → (c.early ≡ true) × (c.verdict ≡ verdict.Not line))
       → (c.verdict ≡ verdict.Run → CountsRun w trace c.counts) → LeavesTo c.early w trace c.net c.verdict → IsCheckedTo to_first to_rest netlist trace asked c
   checked_of trace judged first counted leaves = record {

@@ -9,12 +9,7 @@ use bz_trace_text::MAX_ENTRIES;
 use bz_view::Piece::{Count, Number, Shown};
 
 /// The notes of a line, by its number, that has none of the forms, or stands where none of its form may.
-pub(crate) fn explain_form(
-    notes: &mut Notes,
-    names: &Names,
-    suspect: Suspect<'_>,
-    number: usize,
-) {
+pub(crate) fn explain_form(notes: &mut Notes, names: &Names, suspect: Suspect<'_>, number: usize) {
     let at = LineAt::of(suspect, number);
     let text = line_of(at.rest);
     let line = Line {

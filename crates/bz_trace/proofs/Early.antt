@@ -140,17 +140,17 @@ module _ (to_first : Bool) (old new : Option (List ℕ)) (names : Outside) (w : 
   pub bad_to : NoneToFollow names held far → IsOther v held → (to_first ≡ true → far.stop ≡ None) → IfSome old (λ more. ConcludesTo to_first w (first_line v ++ (front ++ more)) net (whole (verdict.Bad (far.count + 2)) far.counts))
   bad_to none other plays =
       both old (λ more. Concludes w (first_line v ++ (front ++ more)) net far.counts (verdict.Bad (far.count + 2))) (λ more. to_first ≡ true → (line : ℕ) → StopsInFront w (first_line v ++ (front ++ more)) line → ⊥) (λ more. ConcludesTo to_first w (first_line v ++ (front ++ more)) net (whole (verdict.Bad (far.count + 2)) far.counts))
-          (λ more a b. record { concludes = a; first = λ so line s. absurd (b so line s) })
-          (bad_line old new names w net v front got held far taken follows none other)
-          (whatever_comes old new got (λ more. to_first ≡ true → (line : ℕ) → StopsInFront w (first_line v ++ (front ++ more)) line → ⊥) taken (λ left so line s.
-              none_here names w net v (front ++ got) held far follows line left (plays so) (no_entry names (outside w) held left far follows.names_are other.0 none) (subst (λ t. StopsInFront w (first_line v ++ t) line) (sym (append_assoc front got left)) s)))
+      (λ more a b. record { concludes = a; first = λ so line s. absurd (b so line s) })
+      (bad_line old new names w net v front got held far taken follows none other)
+      (whatever_comes old new got (λ more. to_first ≡ true → (line : ℕ) → StopsInFront w (first_line v ++ (front ++ more)) line → ⊥) taken (λ left so line s.
+      none_here names w net v (front ++ got) held far follows line left (plays so) (no_entry names (outside w) held left far follows.names_are other.0 none) (subst (λ t. StopsInFront w (first_line v ++ t) line) (sym (append_assoc front got left)) s)))
 
 no_entry_here : (names net : Outside) (rest : List ℕ) (far : Followed) → names ≡ net → NoneToFollow names rest far → NoEntry net far.count rest
 no_entry_here names net rest far named (inl none) = no_entry_from net far.count rest (subst (λ n. line_at n rest ≡ None) named none)
 no_entry_here names net rest far named (inr full) = λ e after has is. full
 
 module _ (to_first : Bool) (old mid new : Option (List ℕ)) (names : Outside) (w : Wiring) (net : Progress) (v : Version) (front got held : List ℕ) (far : Followed) (taken : Consumes old mid got) (nothing : Consumes mid new []) (end : IsAtEnd new)
-  (follows : FollowsText names w net (front ++ got) held far) (none : NoneToFollow names held far) (plays : to_first ≡ true → far.stop ≡ None) where
+    (follows : FollowsText names w net (front ++ got) held far) (none : NoneToFollow names held far) (plays : to_first ≡ true → far.stop ≡ None) where
   none_now : to_first ≡ true → (line : ℕ) → StopsInFront w (first_line v ++ (front ++ got)) line → ⊥
   none_now so line s =
       none_early w follows.wired net v follows.entries (front ++ got) held line (subst (Stands w net follows.entries) (plays so) follows.stands) follows.each (subst (λ n. NoEntry (outside w) n held) follows.count_is (no_entry_here names (outside w) held far follows.names_are none)) follows.text_is s
@@ -163,6 +163,6 @@ module _ (to_first : Bool) (old mid new : Option (List ℕ)) (names : Outside) (
   pub end_to : (said : Verdict) → Concludes w (first_line v ++ (front ++ got)) net far.counts said → IfSome old (λ more. ConcludesTo to_first w (first_line v ++ (front ++ more)) net (whole said far.counts))
   end_to said by =
       both old (λ more. Concludes w (first_line v ++ (front ++ more)) net far.counts said) (λ more. to_first ≡ true → (line : ℕ) → StopsInFront w (first_line v ++ (front ++ more)) line → ⊥) (λ more. ConcludesTo to_first w (first_line v ++ (front ++ more)) net (whole said far.counts))
-          (λ more a b. record { concludes = a; first = λ so line s. absurd (b so line s) })
-          (said_at_end old mid new w net v front got far.counts said taken nothing end by)
-          none_at_end
+      (λ more a b. record { concludes = a; first = λ so line s. absurd (b so line s) })
+      (said_at_end old mid new w net v front got far.counts said taken nothing end by)
+      none_at_end

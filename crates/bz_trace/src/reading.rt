@@ -277,11 +277,7 @@ fn read_more<R: Read>(input: &mut R, held: &mut Vec<u8>, goal: usize) -> Result<
 }
 
 // Reads on until a line ends in what came, so many bytes are held, or to the end. Whether anything came.
-fn read_lines<R: Read>(
-    input: &mut R,
-    held: &mut Vec<u8>,
-    goal: usize,
-) -> Result<bool, ReadFault>
+fn read_lines<R: Read>(input: &mut R, held: &mut Vec<u8>, goal: usize) -> Result<bool, ReadFault>
     requires { length held.old.items < goal }
     ensures more { IfOk result (ReadsMore (R.remaining input.old) (R.remaining input.new) held.old.items held.new.items 0) }
     ensures err { IfErr result (λ e. e ≢ TooLong) }

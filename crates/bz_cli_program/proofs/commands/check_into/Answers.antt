@@ -2,7 +2,7 @@ use Rattle.std.specs.Option.{option_copied}
 use Rattle.bz_cli_trace.specs.Checking.{ChecksApart}
 use Rattle.bz_cli_program.specs.Endings.{of_check}
 use Rattle.bz_cli_program.proofs.Ended.{does_apart}
-use Rattle.bz_cli_program.proofs.commands.check.Goals as goal
+use Rattle.bz_cli_program.proofs.commands.check_into.Goals as goal
 
 pub returns-in-Some-clause-checks : goal.returns-in-Some-clause-checks
 returns-in-Some-clause-checks g c =
