@@ -35,6 +35,7 @@ use bz_explore::{Files, explore_cmd};
 use bz_model::Reply;
 use bz_page::{page_cmd, page_trace_cmd};
 use bz_session::End;
+use bz_text::put;
 use std::alloc::Global;
 use std::fmt::Display;
 use std::io::{BufRead, Read, Write, sink};
@@ -203,7 +204,7 @@ fn check_behind<R: Read, W: Write, E: Write>(
         Err(fault) => return Outcome::of(Err(Fault::from(fault))),
     };
     if is_file && has_no_trace(&texts) {
-        let _ = errors.write_str(NO_TRACE);
+        let _ = put(errors, NO_TRACE.as_bytes());
         return Outcome::of(Ok(BAD_COMMAND_LINE));
     }
     judged(check_texts(alloc, part, to_rest, &texts, output))

@@ -264,7 +264,7 @@ fn note_found<E: Write>(
 }
 
 // Tells that a trace could not be read, and why.
-fn put_unread<C: Display, W: Write, E: Write>(
+fn put_unread<C: Display + Drop, W: Write, E: Write>(
     name: &str,
     why: C,
     json: bool,

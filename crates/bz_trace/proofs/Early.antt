@@ -1,5 +1,5 @@
 -- A verdict on a front of a text: the first line that no run allows, whatever comes after it.
-use Rattle.std.proofs.Common.{◌≡◌, ◌⊎◌, inl, inr, ℕ, suc, ◌+◌, ◌≤◌, Bool, true, false, Option, Some, None, List, [], ◌∷◌, ◌++◌, length, map, refl, sym, ap, ap₂, subst, ◌∙◌, arith, append_assoc, length-append}
+use Rattle.std.proofs.Common.{◌≡◌, ◌⊎◌, inl, inr, ℕ, suc, ◌+◌, ◌≤◌, Bool, true, false, Option, Some, None, List, [], ◌∷◌, ◌++◌, length, map, refl, sym, ap, ap₂, subst, ◌∙◌, arith, append_assoc, length-append, codes}
 use Rattle.std.specs.Prelude.{IfSome}
 use Rattle.std.specs.Io.KnownBytes.{Consumes, IsAtEnd}
 use Rattle.std.specs.List.{AllByRecursion}
@@ -16,10 +16,11 @@ use Rattle.bz_flat.specs.Wires.{WellWired}
 use Rattle.bz_net.specs.Progress.{Progress}
 use Rattle.bz_trace_text.specs.declared.text.Version.{Version}
 use Rattle.bz_trace_text.specs.declared.text.Version.TheVariants.{One, Two}
-use Rattle.bz_trace_text.specs.Reading.{line_at}
+use Rattle.bz_trace_text.specs.Reading.{line_at, strip}
 use Rattle.bz_trace_text.specs.Texts.{NoEntry, first_line, lines}
-use Rattle.bz_trace_text.proofs.Cuts.{same_first}
+use Rattle.bz_trace_text.proofs.Cuts.{same_first_rest}
 use Rattle.bz_trace_text.proofs.Lines.{line_again}
+use Rattle.bz_trace_text.proofs.Strips.{none-some, strip_again}
 use Rattle.bz_trace_text.proofs.Texts.{no_entry_from}
 use Rattle.bz_trace.specs.declared.checking.Verdict.TheVariants as verdict
 use Rattle.bz_trace.specs.declared.lines.Followed.{Followed}
@@ -32,6 +33,20 @@ use Rattle.bz_trace_text.specs.declared.tally.Counts.{Counts}
 use Rattle.bz_trace.proofs.Along.{all_who, run_along, taken_front}
 use Rattle.bz_trace.proofs.Sole.{none_stops, one_entry}
 use Rattle.bz_trace.proofs.Streams.{bad_line, both, consumes_then, no_entry, nothing_comes, said_at_end, whatever_comes}
+
+-- the first line is that of one version
+not_one : (y : List ℕ) → strip (codes "trace 1\n") (first_line Two ++ y) ≡ None
+unfolding strip
+not_one y = refl
+
+other_first : (x y : List ℕ) → first_line One ++ x ≡ first_line Two ++ y → ⊥
+other_first x y e = none-some x (sym (not_one y) ∙ ap (strip (codes "trace 1\n")) (sym e) ∙ strip_again (codes "trace 1\n") x)
+
+same_text : (v u : Version) (x y : List ℕ) → first_line v ++ x ≡ first_line u ++ y → x ≡ y
+same_text One One x y e = same_first_rest (first_line One) x y e
+same_text One Two x y e = absurd (other_first x y e)
+same_text Two One x y e = absurd (other_first y x (sym e))
+same_text Two Two x y e = same_first_rest (first_line Two) x y e
 
 -- these entries go on from those, and so does their text
 abbrev GoesOn : Outside → List Entry → List Entry → List ℕ → List ℕ → Type 0
@@ -83,8 +98,8 @@ module _ (w : Wiring) (wired : WellWired w) where
   pub none_early : (net : Progress) (v : Version) (es : List Entry) (text rest : List ℕ) (line : ℕ) → Along w net es → AllByRecursion (HasLine (outside w)) es → NoEntry (outside w) (length es) rest → text ≡ lines w.ports es ++ rest
       → StopsInFront w (first_line v ++ text) line → ⊥
   none_early net v es text rest line along each none is s =
-      let first = same_first v s.version text (lines w.ports s.entries ++ s.more) s.text_is in
-      elim (fronts (outside w) es s.entries rest s.more each s.each (sym is ∙ first.1)) [
+      let same = same_text v s.version text (lines w.ports s.entries ++ s.more) s.text_is in
+      elim (fronts (outside w) es s.entries rest s.more each s.each (sym is ∙ same)) [
         | inl h ↦ goes_past net es s.entries h.0 rest s.more line along none s.few s.stops h.1 h.2 h.3
         | inr h ↦ none_stops w wired along.journal (s.entries ++ h.0) line net.state (stops_on w s.entries h.0 line s.stops) (all_who (outside w) along.journal along.each) (run_along w net es along) (along.tells ∙ h.1)
       ]
@@ -92,8 +107,8 @@ module _ (w : Wiring) (wired : WellWired w) where
   -- one line of a text is the first that stops
   pub one_early : (v : Version) (es : List Entry) (text rest : List ℕ) (k line : ℕ) → AllByRecursion (HasLine (outside w)) es → text ≡ lines w.ports es ++ rest → StopsAtEntry w es k → StopsInFront w (first_line v ++ text) line → k ≡ line
   one_early v es text rest k line each is stops s =
-      let first = same_first v s.version text (lines w.ports s.entries ++ s.more) s.text_is in
-      elim (fronts (outside w) es s.entries rest s.more each s.each (sym is ∙ first.1)) [
+      let same = same_text v s.version text (lines w.ports s.entries ++ s.more) s.text_is in
+      elim (fronts (outside w) es s.entries rest s.more each s.each (sym is ∙ same)) [
         | inl h ↦ one_entry w wired (es ++ h.0) s.entries k line (all_both (HasLine (outside w)) es h.0 each h.2) s.each (sym h.1) (stops_on w es h.0 k stops) s.stops
         | inr h ↦ one_entry w wired es (s.entries ++ h.0) k line each (all_both (HasLine (outside w)) s.entries h.0 s.each h.2) h.1 stops (stops_on w s.entries h.0 line s.stops)
       ]

@@ -99,6 +99,7 @@ fn read_text<R: Read>(
     requires opened { IsToldBy net.old [] }
     requires left { net.old.left ≡ max_entries }
     ensures concludes { IfOk result (λ said. IfSome (R.remaining input.old) (λ text. ConcludesTo to_first net.old.wiring text net.new said)) }
+    ensures whole { IfOk result (λ said. to_first ≡ false → said.early ≡ false) }
     ensures wired { WellWired net.old.wiring }
     ensures wiring { OnOk result (net.new.wiring ≡ net.old.wiring) }
     ensures long { IfErr result (λ e. e ≡ TooLong → IfSome (R.remaining input.old) (IsTooLong net.old.wiring)) }
@@ -154,6 +155,7 @@ fn check_lines_of<R: Read>(
     requires wired { WellWired net.old.wiring }
     ensures concludes { IfOk result (λ said. IfSome (R.remaining input.old)
         (λ more. ConcludesTo to_first net.old.wiring (first_line version ++ (front.items ++ more)) net.new said)) }
+    ensures whole { IfOk result (λ said. to_first ≡ false → said.early ≡ false) }
     ensures wiring { OnOk result (net.new.wiring ≡ net.old.wiring) }
     ensures long { IfErr result (λ e. e ≡ TooLong → IfSome (R.remaining input.old)
         (λ more. IsTooLong net.old.wiring (first_line version ++ (front.items ++ more)))) }

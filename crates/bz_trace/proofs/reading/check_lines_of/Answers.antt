@@ -8,6 +8,13 @@ use Rattle.bz_trace.proofs.reading.check_lines_of.Goals as goal
 pub following-init : goal.following-init
 following-init g c = held_start _ c.args.names.now c.args.net.now c.args.front.items c.requires.names c.requires.wired c.requires.opened c.requires.left
 
+pub overflow_add-followed : goal.overflow_add-followed
+overflow_add-followed g c =
+    let l = c.following in
+    let text = c.args.front.items ++ l.invariant.got in
+    let most = within c.args.names.now c.args.net.now.wiring c.follow_held.new.net text c.follow_held.new.held.items c.in_ok-followed.followed (c.in_ok-followed.ensures.follows c.args.net.now.wiring text l.invariant.follows) in
+    omega (arith, most)
+
 pub overflow_add-result : goal.overflow_add-result
 overflow_add-result g c =
     let l = c.following in
