@@ -44,6 +44,10 @@ ALONE = BEGUN % (b"both", CELL.split(b"\n")[0], b"the first line") + (
     b"breezesim: note: expected: a line that is exactly trace 1 or trace 2\n"
     b"breezesim: note: help: the file of --trace has the trace alone\n"
 )
+ENDED = (
+    b"breezesim: note: wait Variable 1 v         for the host: collect:w\n"
+    b"breezesim: note: at rest with 1 handshake under way: 0 wait, 0 can move, 1 idle\n"
+)
 INPUT = BEGUN % (b"standard input", b"x", b"the first line") + (
     b"breezesim: note: expected: a line that is exactly trace 1 or trace 2\n"
     b"breezesim: note: help: the file of --trace has the trace alone\n"
@@ -72,7 +76,7 @@ def add_traced(cases):
         ("beside a netlist, both from one", ["check", *PART, "--trace", "-"], CELL, Ran(2, b"", SHARED)),
         ("of a net that is refused", ["check", "-p", "q", "--trace", "spoilt.trace"], CELL, Ran(1, b"", b"breezesim: E1 NoPart q\n")),
         ("with --explain", [*CHECK, "spoilt.trace", "--explain"], b"", Ran(1, b"not a run: line 3\n", NOTES)),
-        ("with --explain, of a run", [*CHECK, "cell.trace", "--explain"], b"", Ran(0, RUN, b"")),
+        ("with --explain, of a run", [*CHECK, "cell.trace", "--explain"], b"", Ran(0, RUN, ENDED)),
         ("with --explain, a CR", [*CHECK, "cr.trace", "--explain"], b"", Ran(1, b"not a trace: line 1\n", RETURN)),
         ("with --explain, a netlist", [*CHECK, "both", "--explain"], b"", Ran(1, b"not a trace: line 1\n", ALONE)),
         ("with --explain, not a file", [*CHECK, "-", "--explain"], b"x", Ran(1, b"not a trace: line 1\n", INPUT)),

@@ -2,8 +2,11 @@
 use Rattle.std.proofs.Common.{◌≡◌, ◌≤◌, ℕ, Bool, true, false, List, [], Option, Some, None, length, ◌⊎◌, inl, inr, refl, subst, sym}
 use Rattle.std.proofs.KnownBytes.{Keeps-refl}
 use Rattle.std.proofs.lemmas.Option.{IfSome_then}
-use Rattle.std.specs.Prelude.{Result, Ok, Err, IfOk, IfSome}
-use Rattle.bz_model.specs.Nets.{Wiring}
+use Rattle.std.specs.Prelude.{Result, Ok, Err, IfOk, IfSome, MatchOption, is_some}
+use Rattle.bz_model.specs.Nets.{Site, State, Wiring}
+use Rattle.bz_model.specs.Runs.{CanStep, IsNext, Rest}
+use Rattle.bz_net.specs.Progress.{Progress}
+use Rattle.bz_trace.specs.declared.checking.Verdict.{Verdict}
 use Rattle.bz_trace.specs.declared.checking.Verdict.TheVariants as verdict
 use Rattle.bz_trace.specs.Reading.{JudgesTo, LeavesTo, StopsInFront}
 use Rattle.bz_trace.specs.Verdicts.{CountsRun, Judges, Leaves}
@@ -16,6 +19,12 @@ use Rattle.bz_cli_input.proofs.Answered.{failed_as, sent_as, whatever}
 use Rattle.bz_cli_source.specs.Surveys.{IsRead}
 use Rattle.bz_cli_trace.specs.declared.checked.Checked.{Checked}
 use Rattle.bz_cli_trace.specs.Checking.{ChecksApart, ChecksTrace, IsChecked, IsCheckedTo, IsVerdict, SaysVerdict, TellsRest, TellsVerdict, finding_of}
+
+-- whether some component can move where a run ends
+pub rest_told : (to_rest : Bool) (v : Verdict) (net : Progress) (sites : List Site) (s : State) (next : Option ℕ) → to_rest ≡ true → v ≡ verdict.Run → MatchOption next (Rest sites s) (IsNext (CanStep sites s) 1) → sites ≡ net.wiring.sites → s ≡ net.state
+    → TellsRest to_rest v net (is_some next)
+rest_told to_rest v net sites s None so run none a b = λ x y. subst (λ t. Rest net.wiring.sites t) b (subst (λ l. Rest l s) a none)
+rest_told to_rest v net sites s (Some c) so run next a b = (so, run, (c, subst (λ t. CanStep net.wiring.sites t c) b (subst (λ l. CanStep l s c) a next.is_in)))
 
 -- two readers, of which the one has the netlist
 pub checks_apart : (to_first to_rest : Bool) (known had : Option (List ℕ)) (items : List ℕ) (asked : Option (List ℕ)) (old new : Option (List ℕ)) (answer : Result Checked Fault) → IfSome known (λ xs. items ≡ xs) → length items ≤ input_limit

@@ -15,12 +15,13 @@ use Rattle.bz_cli_trace.specs.Checking.{SaysVerdict, TellsRest, TellsVerdict}
 use Rattle.bz_cli_trace.specs.Several.{ChecksNamed, IsFound}
 use Rattle.bz_cli_trace.specs.declared.several.Traced.{Traced}
 
-pub found_read : (to_first to_rest : Bool) (w : Wiring) (t : Traced) (had : Option (List ℕ)) → t.net.wiring ≡ w → IfSome had (λ text. JudgesTo t.found.early w text t.found.verdict) → (to_first ≡ false → t.found.early ≡ false)
-    → (to_first ≡ true → IfSome had (λ text. (line : ℕ) → StopsInFront w text line → (t.found.early ≡ true) × (t.found.verdict ≡ verdict.Not line)))
-    → IfSome had (λ text. t.found.verdict ≡ verdict.Run → CountsRun w text t.found.counts) → IfSome had (λ text. LeavesTo t.found.early w text t.net t.found.verdict) → TellsRest to_rest t.found.verdict t.net t.found.unrested
+-- of the net that was opened, which is that of the flat one
+pub found_read : (to_first to_rest : Bool) (v w : Wiring) (t : Traced) (had : Option (List ℕ)) → v ≡ w → t.net.wiring ≡ v → IfSome had (λ text. JudgesTo t.found.early v text t.found.verdict) → (to_first ≡ false → t.found.early ≡ false)
+    → (to_first ≡ true → IfSome had (λ text. (line : ℕ) → StopsInFront v text line → (t.found.early ≡ true) × (t.found.verdict ≡ verdict.Not line)))
+    → IfSome had (λ text. t.found.verdict ≡ verdict.Run → CountsRun v text t.found.counts) → IfSome had (λ text. LeavesTo t.found.early v text t.net t.found.verdict) → TellsRest to_rest t.found.verdict t.net t.found.unrested
     → IfSome had (λ text. IsFound to_first to_rest w text t)
-found_read to_first to_rest w t None same judged whole first counted leaves rests = tt
-found_read to_first to_rest w t (Some text) same judged whole first counted leaves rests = record {
+found_read to_first to_rest v w t None is same judged whole first counted leaves rests = tt
+found_read to_first to_rest v w t (Some text) is same judged whole first counted leaves rests = subst (λ u. IsFound to_first to_rest u text t) is (record {
   wiring = same;
   judged = judged;
   whole = whole;
@@ -28,7 +29,7 @@ found_read to_first to_rest w t (Some text) same judged whole first counted leav
   counted = counted;
   leaves = leaves;
   rests = rests;
-}
+})
 
 module _ (to_first to_rest : Bool) (w : Wiring) (front : List ℕ) (had : Option (List ℕ)) where
   -- a trace that its reader doesn't give

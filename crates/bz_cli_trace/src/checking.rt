@@ -168,10 +168,10 @@ fn line_end(early: bool) -> &'static [u8]
     }
 }
 
-fn put_counts<W: Write>(
+fn put_counts<'t, W: Write>(
     output: &mut W,
-    front: &[u8],
-    words: &[u8],
+    front: &'t [u8],
+    words: &'t [u8],
     counts: Counts,
 ) -> Result<(), WriteFault>
     ensures { Writes (W.contents output.old) (W.contents output.new) result (front.now ++ (words.now ++ counts_text counts)) }
@@ -189,12 +189,12 @@ fn put_counts<W: Write>(
     put_pieces(output, &pieces)
 }
 
-fn put_line<W: Write>(
+fn put_line<'t, W: Write>(
     output: &mut W,
-    front: &[u8],
-    words: &[u8],
+    front: &'t [u8],
+    words: &'t [u8],
     line: usize,
-    end: &[u8],
+    end: &'t [u8],
 ) -> Result<(), WriteFault>
     ensures { Writes (W.contents output.old) (W.contents output.new) result (front.now ++ (words.now ++ (decimal line ++ end.now))) }
 {
