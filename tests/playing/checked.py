@@ -1,5 +1,6 @@
-"""What `check` is asked beside one trace: of its end, of its first line that no run allows, of several traces, and why."""
+"""What `check` is asked beside one trace: of its end, of its first line that no run allows, of several traces, and as JSON."""
 
+import json
 import os
 import subprocess
 import threading
@@ -18,12 +19,12 @@ TAKEN = BEGUN + b"w1 fire 1 take 1 1\n"
 WRONG = BEGUN + b"w1 fire 1 take 1 2\n"
 FILES = {
     "good.trace": CELL_TRACE,
-    "begun.trace": BEGUN,
+    "front.trace": BEGUN,
     "wrong.trace": WRONG,
     "twice.trace": WRONG + b"w1 fire 1 take\n",
     "bad.trace": b"trace 2\nh1 offer w 1 don\n",
     "clash.trace": CELL_TRACE + b"clash 1\n",
-    "names": b"good.trace\nwrong.trace\n\nbegun.trace\n",
+    "names": b"good.trace\nwrong.trace\n\nfront.trace\n",
     "nul": b"good.trace\0odd\nname\0",
     "odd\nname": CELL_TRACE,
 }
@@ -61,6 +62,7 @@ def add_checked(cases):
     add_ends(cases)
     add_first(cases)
     add_several(cases)
+    add_objects(cases)
 
 
 def add_ends(cases):
@@ -72,14 +74,14 @@ def add_ends(cases):
         ("without a trace, with notes", ["check", *NET, "--explain"], b"", Ran(2, b"", NO_TRACE + NO_TRACE_NOTES)),
         ("of a file with a trace", ["check", *PART, "-n", "both"], b"", Ran(0, RUN, b"")),
         ("of an input without a trace", ["check", *PART], CELL, Ran(1, b"not a trace: line 1\n", b"")),
-        ("of a front of a run", [*CHECK, "begun.trace"], b"", Ran(0, b"run: " + STARTED, b"")),
+        ("of a front of a run", [*CHECK, "front.trace"], b"", Ran(0, b"run: " + STARTED, b"")),
         ("--to-rest", [*CHECK, "good.trace", "--to-rest"], b"", Ran(0, RUN, b"")),
-        ("--to-rest of a front", [*CHECK, "begun.trace", "--to-rest"], b"", Ran(1, UNRESTED, b"")),
+        ("--to-rest of a front", [*CHECK, "front.trace", "--to-rest"], b"", Ran(1, UNRESTED, b"")),
         ("--to-rest behind the netlist", ["check", *PART, "--to-rest"], behind(CELL_TRACE), Ran(0, RUN, b"")),
         ("--to-rest of a front behind it", ["check", *PART, "--to-rest"], behind(BEGUN), Ran(1, UNRESTED, b"")),
-        ("--to-rest with notes", [*CHECK, "begun.trace", "--to-rest", "--explain"], b"", Ran(1, UNRESTED, MOVES)),
+        ("--to-rest with notes", [*CHECK, "front.trace", "--to-rest", "--explain"], b"", Ran(1, UNRESTED, MOVES)),
         ("--to-rest of no run", [*CHECK, "wrong.trace", "--to-rest"], b"", Ran(1, b"not a run: line 3\n", b"")),
-        ("of a run with notes, which goes on", [*CHECK, "begun.trace", "--explain"], b"", Ran(0, b"run: " + STARTED, b"")),
+        ("of a run with notes, which goes on", [*CHECK, "front.trace", "--explain"], b"", Ran(0, b"run: " + STARTED, b"")),
         ("of what is not read twice", [*CHECK, "-", "--explain"], WRONG, Ran(1, b"not a run: line 3\n", WHY % b"standard input")),
     ]:
         cases.gives(f"check {name}", words, given, wanted)
@@ -138,24 +140,24 @@ def open_differs(cases, pieces):
 def add_several(cases):
     """Several traces, named by words or by a text."""
     check = ["check", *NET]
-    good, wrong, begun = b"good.trace: " + RUN, b"wrong.trace: not a run: line 3\n", b"begun.trace: run: " + STARTED
+    good, wrong, begun = b"good.trace: " + RUN, b"wrong.trace: not a run: line 3\n", b"front.trace: run: " + STARTED
     count = b"%d traces: %d passed, %d failed, %d not read\n"
     three = good + wrong + begun + count % (3, 2, 1, 0)
     for name, words, given, wanted in [
         ("of one", [*check, "good.trace"], b"", Ran(0, good + count % (1, 1, 0, 0), b"")),
-        ("in their order", [*check, "good.trace", "wrong.trace", "begun.trace"], b"", Ran(1, three, b"")),
+        ("in their order", [*check, "good.trace", "wrong.trace", "front.trace"], b"", Ran(1, three, b"")),
         ("from a file", [*check, "--traces-from", "names"], b"", Ran(1, three, b"")),
         ("from standard input", [*check, "--traces-from", "-"], FILES["names"], Ran(1, three, b"")),
         ("whose names end in NUL", [*check, "--traces-from", "nul"], b"",
          Ran(0, good + b"odd\nname: " + RUN + count % (2, 2, 0, 0), b"")),
         ("of no names", [*check, "--traces-from", "-"], b"", Ran(0, count % (0, 0, 0, 0), b"")),
-        ("one of standard input", [*check, "begun.trace", "-"], CELL_TRACE,
+        ("one of standard input", [*check, "front.trace", "-"], CELL_TRACE,
          Ran(0, begun + b"-: " + RUN + count % (2, 2, 0, 0), b"")),
         ("of a netlist on standard input", ["check", *PART, "good.trace"], CELL, Ran(0, good + count % (1, 1, 0, 0), b"")),
         ("one that is not there", [*check, "gone", "good.trace"], b"",
          Ran(2, b"gone: not read\n" + good + count % (2, 1, 0, 1), GONE)),
-        ("to rest", [*check, "--to-rest", "good.trace", "begun.trace"], b"",
-         Ran(1, good + b"begun.trace: " + UNRESTED + count % (2, 1, 1, 0), b"")),
+        ("to rest", [*check, "--to-rest", "good.trace", "front.trace"], b"",
+         Ran(1, good + b"front.trace: " + UNRESTED + count % (2, 1, 1, 0), b"")),
         ("to the first line", [*check, "--first", "twice.trace", "bad.trace"], b"",
          Ran(1, b"twice.trace: not a run: line 3" + EARLY + b"bad.trace: not a trace: line 2\n" + count % (2, 0, 2, 0), b"")),
         ("with notes", [*check, "good.trace", "wrong.trace", "--explain"], b"",
@@ -174,6 +176,42 @@ def add_several(cases):
          b"error: standard input cannot have both the netlist and the names of the traces\n"),
     ]:  # fmt: skip
         cases.add(f"several traces {name}", partial(refused_differs, cases, words, line))
+
+
+def add_objects(cases):
+    """Objects of JSON, one for each trace."""
+    take = {"component": 1, "kind": "Variable", "port": 1, "move": "take", "channel": 1, "value": "1"}
+    waits = ["wait Variable 1 v         for the host: collect:w", "at rest with 1 handshake under way: 0 wait, 0 can move, 1 idle"]
+    state = {"at_rest": False, "expected": [take], "host_words": ["offer:r"], "waits": []}
+    begun = {"verdict": "run", "fired": 0, "host": 1, "rests": 0, **state}
+    good = {
+        "verdict": "run", "fired": 2, "host": 1, "rests": 1, "at_rest": True, "expected": [],
+        "host_words": ["collect:w", "offer:r"], "waits": waits,
+    }  # fmt: skip
+    wrong = {"verdict": "not-a-run", "line": 3, "text": "w1 fire 1 take 1 2", "early": False, **state}
+    bad = {"verdict": "not-a-trace", "line": 2, "text": "h1 offer w 1 don"}
+    short = {"verdict": "not-a-run", "line": 6, "text": "clash 1", "early": False, **{name: good[name] for name in state}}
+    check = ["check", *NET, "--format", "json"]
+    for name, words, given, status, wanted in [
+        ("of a run", [*check, "--trace", "good.trace"], b"", 0, [("good.trace", good)]),
+        ("of a front", [*check, "--trace", "front.trace", "--to-rest"], b"", 1, [("front.trace", begun)]),
+        ("of standard input", [*check, "--trace", "-"], WRONG, 1, [("-", wrong)]),
+        ("of a first line", [*check, "--trace", "twice.trace", "--first"], b"", 1, [("twice.trace", {**wrong, "early": True})]),
+        ("of no trace", [*check, "--trace", "bad.trace"], b"", 1, [("bad.trace", bad)]),
+        ("of a clash line", [*check, "--trace", "clash.trace"], b"", 1, [("clash.trace", short)]),
+        ("behind a netlist", ["check", *PART, "--format", "json"], CELL + b"\n" + WRONG, 1, [(None, wrong)]),
+        ("of several", [*check, "good.trace", "wrong.trace"], b"", 1, [("good.trace", good), ("wrong.trace", wrong)]),
+        ("with notes", [*check, "--trace", "wrong.trace", "--explain"], b"", 1, [("wrong.trace", wrong)]),
+    ]:  # fmt: skip
+        cases.add(f"check --format json {name}", partial(object_differs, cases, words, given, (status, wanted)))
+
+
+def object_differs(cases, words, given, wanted):
+    """The status, and the objects, each on a line of its own."""
+    ran = cases.run(words, given)
+    found = [json.loads(line) for line in ran.output.decode().splitlines()]
+    told = [{"version": 1, "trace": trace, **rest} for trace, rest in wanted[1]]
+    return differ((wanted[0], told, b""), (ran.status, found, ran.errors))
 
 
 def refused_differs(cases, words, line):

@@ -130,9 +130,15 @@ def long_differs(cases):
     limit = partial(resource.setrlimit, resource.RLIMIT_AS, (MEMORY, MEMORY))
     ran = cases.run([*words, "spin.trace"], preexec_fn=limit)
     with open(path, "r+b") as file:
+        file.seek(-2, os.SEEK_END)
+        file.write(b"9")
+    with open(path, "rb") as file:
+        last = cases.run([*words, "-", "--explain"], file, preexec_fn=limit)
+    with open(path, "r+b") as file:
         file.seek(1000)
         file.write(b"\n")
     spoilt = cases.run([*words, "spin.trace"], preexec_fn=limit)
     os.remove(path)
-    wanted = (True, Ran(0, b"run: 8999990 fired, 1 host, 0 rest\n", b""), (1, True, b""))
-    return differ(wanted, (size > 2 * LIMIT, ran, (spoilt.status, spoilt.output.startswith(b"not a trace: line "), spoilt.errors)))
+    wanted = (True, Ran(0, b"run: 8999990 fired, 1 host, 0 rest\n", b""), (1, b"not a run: line 8999992\n", True), (1, True, b""))
+    why = b"breezesim: note: at line 8999992, column " in last.errors
+    return differ(wanted, (size > 2 * LIMIT, ran, (last.status, last.output, why), (spoilt.status, spoilt.output.startswith(b"not a trace: line "), spoilt.errors)))
