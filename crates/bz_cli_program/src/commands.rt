@@ -1,6 +1,6 @@
 //! What each command does. The status with which the program ends, or the fault that it tells.
 
-ghost use Rattle.std.specs.Prelude.{◌≡◌, ◌≢◌, ◌≤◌, ◌<◌, false, true, is_some, length, IfSome, MatchBool};
+ghost use Rattle.std.specs.Prelude.{◌≡◌, ◌≢◌, ◌≤◌, ◌<◌, false, true, ℕ, is_some, length, IfSome, List, MatchBool, Option};
 ghost use Rattle.std.specs.Option.{option_copied, option_map};
 ghost use Rattle.bz_cli.specs.Pooling.{Pools};
 ghost use Rattle.bz_cli_core.specs.Running.{Runs};
@@ -8,7 +8,7 @@ ghost use Rattle.bz_cli_input.specs.Listed.{Lists};
 ghost use Rattle.bz_cli_input.specs.Reading.{ReadsWithin};
 ghost use Rattle.bz_cli_program.specs.Endings.{AreWorkers, Does, IsDone, IsJournal, IsRefused};
 ghost use Rattle.bz_cli_program.specs.Endings.{of_check, of_done, of_drawing, of_made, of_run, of_told, of_unmade};
-ghost use Rattle.bz_cli_program.specs.Programs.{ChartEnds, CheckBehind, CheckEnds, CheckTells, PageEnds, WaitsEnds};
+ghost use Rattle.bz_cli_program.specs.Programs.{ChartEnds, CheckBehind, CheckEnds, PageEnds, WaitsEnds};
 ghost use Rattle.bz_cli_source.specs.Listed as placed;
 ghost use Rattle.bz_cli_source.specs.PartLists.{ListsParts};
 ghost use Rattle.bz_draw.specs.Drawing.{Draws};
@@ -132,8 +132,12 @@ pub(crate) fn check<R: Read, T: Read, W: Write, E: Write>(
     output: &mut W,
     errors: &mut E,
 ) -> Outcome
-    ensures checks { CheckTells options.entry (is_some given.now.file) (option_copied given.now.part) (R.remaining input.old)
-        (option_map (λ apart. T.remaining apart.now) trace.entry) (W.contents output.old) (W.contents output.new) result.status }
+    ensures plainly { options.entry.json ≡ false → CheckEnds options.entry (is_some given.now.file) (option_copied given.now.part)
+        (R.remaining input.old) (option_map (λ apart. T.remaining apart.now) trace.entry)
+        (W.contents output.old) (W.contents output.new) result.status }
+    ensures object { options.entry.json ≡ true → (from to : Option (List ℕ)) ×
+        CheckEnds options.entry (is_some given.now.file) (option_copied given.now.part)
+        (R.remaining input.old) (option_map (λ apart. T.remaining apart.now) trace.entry) from to result.status }
 
     // Whatever comes of it, it reads at most one byte past the limit.
     ensures bounded { ReadsWithin (R.remaining input.old) (R.remaining input.new) }
@@ -166,7 +170,7 @@ fn check_into<R: Read, T: Read, W: Write, E: Write>(
             let way = CheckWay {
                 to_first: options.first,
                 to_rest: options.to_rest,
-                keeps: given.explains || options.json,
+                keeps: keeps_line(given.explains, options.json),
             };
             judged(check_trace_cmd(alloc, given.part, way, input, trace, output))
         }
@@ -183,6 +187,11 @@ fn check_into<R: Read, T: Read, W: Write, E: Write>(
             )
         }
     }
+}
+
+// Whether the line that a verdict names is kept: for notes, or for an object.
+fn keeps_line(explains: bool, json: bool) -> bool {
+    explains || json
 }
 
 // Reports whether the trace after the netlist is that of a run. Where the netlist is that of a file, there has to be one.
@@ -203,17 +212,20 @@ fn check_behind<R: Read, W: Write, E: Write>(
         Ok(texts) => texts,
         Err(fault) => return Outcome::of(Err(Fault::from(fault))),
     };
-    if is_file && has_no_trace(&texts) {
+    if misses_trace(is_file, &texts) {
         let _ = put(errors, NO_TRACE.as_bytes());
         return Outcome::of(Ok(BAD_COMMAND_LINE));
     }
     judged(check_texts(alloc, part, to_rest, &texts, output))
 }
 
-// Whether no line of a text begins a trace.
-fn has_no_trace(texts: &Texts) -> bool
-    ensures { MatchBool result (length texts.now.trace ≡ 0) (length texts.now.trace ≢ 0) }
+// Whether no line of the text that a file has begins a trace.
+fn misses_trace(is_file: bool, texts: &Texts) -> bool
+    ensures { MatchBool result ((is_file ≡ true) × (length texts.now.trace ≡ 0)) (is_file ≡ true → length texts.now.trace ≢ 0) }
 {
+    if !is_file {
+        return false;
+    }
     let (_, trace) = texts.both();
     trace.len() == 0
 }

@@ -9,4 +9,4 @@ returns-in-Some-clause-checks g c =
     rw c.in-Some.is (does_apart of_check _ _ (λ netlist text answer. ChecksApart c.args.options.first c.args.options.to_rest netlist text (option_copied c.args.given.now.part) _ _ answer) c.check_trace_cmd.result _ c.check_trace_cmd.ensures.checks c.judged.ensures)
 
 pub returns-in-None-clause-checks : goal.returns-in-None-clause-checks
-returns-in-None-clause-checks g c = rw (c.in-None.is, c.is_some.ensures) c.check_behind.ensures.checks
+returns-in-None-clause-checks g c = rw c.in-None.is (rw c.is_some-is_file.ensures at c.check_behind.ensures.checks)

@@ -7,7 +7,7 @@ pub returns-in-Explore-clause-does : goal.returns-in-Explore-clause-does
 returns-in-Explore-clause-does g c = rw c.in-Explore.is tt
 
 pub returns-in-Check-clause-does : goal.returns-in-Check-clause-does
-returns-in-Check-clause-does g c = rw c.in-Check.is c.check.ensures.checks
+returns-in-Check-clause-does g c = rw c.in-Check.is (c.check.ensures.plainly, c.check.ensures.object)
 
 pub returns-in-Waits-clause-does : goal.returns-in-Waits-clause-does
 returns-in-Waits-clause-does g c = rw (c.in-Waits.is, c.of-in-Waits.ensures) c.waits.ensures.waits
