@@ -44,7 +44,14 @@ ALONE = BEGUN % (b"both", CELL.split(b"\n")[0], b"the first line") + (
     b"breezesim: note: expected: a line that is exactly trace 1 or trace 2\n"
     b"breezesim: note: help: the file of --trace has the trace alone\n"
 )
-UNTOLD = b"breezesim: note: the reason is told only where the trace is a regular file of at most 67108864 bytes\n"
+ENDED = (
+    b"breezesim: note: wait Variable 1 v         for the host: collect:w\n"
+    b"breezesim: note: at rest with 1 handshake under way: 0 wait, 0 can move, 1 idle\n"
+)
+INPUT = BEGUN % (b"standard input", b"x", b"the first line") + (
+    b"breezesim: note: expected: a line that is exactly trace 1 or trace 2\n"
+    b"breezesim: note: help: the file of --trace has the trace alone\n"
+)
 
 
 def add_traced(cases):
@@ -69,10 +76,10 @@ def add_traced(cases):
         ("beside a netlist, both from one", ["check", *PART, "--trace", "-"], CELL, Ran(2, b"", SHARED)),
         ("of a net that is refused", ["check", "-p", "q", "--trace", "spoilt.trace"], CELL, Ran(1, b"", b"breezesim: E1 NoPart q\n")),
         ("with --explain", [*CHECK, "spoilt.trace", "--explain"], b"", Ran(1, b"not a run: line 3\n", NOTES)),
-        ("with --explain, of a run", [*CHECK, "cell.trace", "--explain"], b"", Ran(0, RUN, b"")),
+        ("with --explain, of a run", [*CHECK, "cell.trace", "--explain"], b"", Ran(0, RUN, ENDED)),
         ("with --explain, a CR", [*CHECK, "cr.trace", "--explain"], b"", Ran(1, b"not a trace: line 1\n", RETURN)),
         ("with --explain, a netlist", [*CHECK, "both", "--explain"], b"", Ran(1, b"not a trace: line 1\n", ALONE)),
-        ("with --explain, not a file", [*CHECK, "-", "--explain"], b"x", Ran(1, b"not a trace: line 1\n", UNTOLD)),
+        ("with --explain, not a file", [*CHECK, "-", "--explain"], b"x", Ran(1, b"not a trace: line 1\n", INPUT)),
         (
             "of a chart of no run", ["chart", *CHECK[1:], "spoilt.trace", "--explain"], b"",
             Ran(1, b"", b"error: not a run: line 3\n" + NOTES),
@@ -123,9 +130,15 @@ def long_differs(cases):
     limit = partial(resource.setrlimit, resource.RLIMIT_AS, (MEMORY, MEMORY))
     ran = cases.run([*words, "spin.trace"], preexec_fn=limit)
     with open(path, "r+b") as file:
+        file.seek(-2, os.SEEK_END)
+        file.write(b"9")
+    with open(path, "rb") as file:
+        last = cases.run([*words, "-", "--explain"], file, preexec_fn=limit)
+    with open(path, "r+b") as file:
         file.seek(1000)
         file.write(b"\n")
     spoilt = cases.run([*words, "spin.trace"], preexec_fn=limit)
     os.remove(path)
-    wanted = (True, Ran(0, b"run: 8999990 fired, 1 host, 0 rest\n", b""), (1, True, b""))
-    return differ(wanted, (size > 2 * LIMIT, ran, (spoilt.status, spoilt.output.startswith(b"not a trace: line "), spoilt.errors)))
+    wanted = (True, Ran(0, b"run: 8999990 fired, 1 host, 0 rest\n", b""), (1, b"not a run: line 8999992\n", True), (1, True, b""))
+    why = b"breezesim: note: at line 8999992, column " in last.errors
+    return differ(wanted, (size > 2 * LIMIT, ran, (last.status, last.output, why), (spoilt.status, spoilt.output.startswith(b"not a trace: line "), spoilt.errors)))

@@ -5,13 +5,13 @@ mod files;
 
 use crate::files::SystemFiles;
 use bz_cli_args::{
-    ArgsFault, BAD_COMMAND_LINE, Error, Request, Source, Told, request_of, shared_stdin,
-    tell_error, words_of,
+    ArgsFault, BAD_COMMAND_LINE, Error, Request, Source, Told, mistake_in, request_of,
+    shared_stdin, tell_error, words_of,
 };
 use bz_cli_input::Fault;
 use bz_cli_program::{
-    Copying, Given, KeptTexts, Outcome, Refusal, Texts, cover, end, open_file, program,
-    tell_unread, tip,
+    Copying, Given, KeptTexts, Outcome, Refusal, Texts, check_several, cover, end, open_file,
+    program, tell_object, tell_unread, tip,
 };
 use bz_explain_notes::Keeping;
 use std::io::{BufWriter, IsTerminal, Read, Write};
@@ -54,6 +54,7 @@ fn perform<P: Threads + Wait + Sync, R: Read + Drop, T: Read + Drop>(
         &mut output,
         &mut rt.stderr(),
     );
+    let outcome = tell_object(alloc, given, input.kept(), outcome, &mut output);
     let texts = texts_kept(&*input, trace.as_ref(), &output);
     cover(alloc, given, texts, outcome, &mut files, &mut rt.stderr())
 }
@@ -106,7 +107,9 @@ fn play_on<P: Threads + Wait + Sync, R: Read + Drop>(
     request: &Request<'_>,
     input: R,
 ) -> u8 {
-    let keeps = request.explains || request.command.cover_file().is_some();
+    let keeps = request.explains
+        || request.command.cover_file().is_some()
+        || request.command.answers_findings();
     let input = &mut Keeping::new(rt.alloc(), input, keeps);
     let texts = match Texts::of(rt, rt.alloc(), request) {
         Ok(texts) => texts,
@@ -117,7 +120,39 @@ fn play_on<P: Threads + Wait + Sync, R: Read + Drop>(
     };
     let prompts = rt.stdin().is_terminal() && rt.stdout().is_terminal();
     let given = texts.given(request, words.as_slice(), prompts);
+    if given.command.is_of_several() {
+        return play_several(rt, request, &texts, &given, input);
+    }
     play(rt, threads, &given, input)
+}
+
+// Checks several traces. The status of the program.
+fn play_several<R: Read + Drop>(
+    rt: &HostRuntime,
+    request: &Request<'_>,
+    texts: &Texts,
+    given: &Given<'_, '_>,
+    input: &mut Keeping<R>,
+) -> u8 {
+    let Ok(names) = texts.traces(rt.alloc(), request) else {
+        return refuse(rt, Refusal::Memory);
+    };
+    let outcome = several_of(rt, given, names.as_slice(), input);
+    let kept = kept_for_notes(&*input, given.explains);
+    end(rt, rt.alloc(), given, kept, outcome, &mut rt.stderr())
+}
+
+fn several_of<R: Read + Drop>(
+    rt: &HostRuntime,
+    given: &Given<'_, '_>,
+    names: &[&str],
+    input: &mut Keeping<R>,
+) -> Outcome {
+    let Ok(mut output) = BufWriter::with_capacity(rt.alloc(), BUFFER_SIZE, io::writer(rt)) else {
+        return Outcome::from(Fault::Memory);
+    };
+    let (alloc, errors) = (rt.alloc(), &mut rt.stderr());
+    check_several(rt, alloc, given, names, input, &mut output, errors)
 }
 
 // The same on the netlist of the file that is named, or of standard input; or on several.
@@ -132,6 +167,9 @@ fn play_request<P: Threads + Wait + Sync>(
     }
     if request.command.is_by_hand() && matches!(request.command.trace_file(), Some(Source::Stdin)) {
         let why = "standard input cannot have both the lines and the trace";
+        return refuse(rt, Refusal::Line(why));
+    }
+    if let Some(why) = mistake_in(request) {
         return refuse(rt, Refusal::Line(why));
     }
     if let Some(other) = shared_stdin(request) {

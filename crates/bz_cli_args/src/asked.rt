@@ -45,6 +45,16 @@ pub struct CheckOptions<'a> {
     pub trace: Option<Source<'a>>,
     /// The file to which is written what the run exercised, if that is asked for.
     pub cover: Option<&'a str>,
+    /// Whether no more of the trace is read once a line is that of no run.
+    pub first: bool,
+    /// Whether a run has to end at rest.
+    pub to_rest: bool,
+    /// Whether several traces are named, each of which is checked by itself.
+    pub several: bool,
+    /// Whether JSON is asked for.
+    pub json: bool,
+    /// Where the names of the traces come from, if they don't stand on the command line.
+    pub traces_from: Option<Source<'a>>,
 }
 
 /// The options of another command that reads a trace.
@@ -204,6 +214,24 @@ impl<'a> Command<'a> {
         }
     }
 
+    /// Where the names of several traces come from, if they don't stand on the command line.
+    pub fn trace_names(self) -> Option<Source<'a>> {
+        match self {
+            Command::Check(options) => options.traces_from,
+            _ => None,
+        }
+    }
+
+    /// Whether what is found of a trace is answered as an object of JSON.
+    pub fn answers_findings(self) -> bool {
+        matches!(self, Command::Check(options) if options.json)
+    }
+
+    /// Whether several traces are named, each of which is checked by itself.
+    pub fn is_of_several(self) -> bool {
+        matches!(self, Command::Check(options) if options.several)
+    }
+
     /// The file to which is written what a run exercised, if that is asked for.
     pub fn cover_file(self) -> Option<&'a str> {
         match self {
@@ -242,10 +270,7 @@ pub(crate) fn command_in<'a>(name: &str, matches: &ArgMatches<'a>) -> Option<Com
     Some(match name {
         "run" => Command::Run(run_options(matches)),
         "explore" => Command::Explore(trace_options(matches)),
-        "check" => Command::Check(CheckOptions {
-            trace: source_named(matches, "trace"),
-            cover: matches.get_str("cover"),
-        }),
+        "check" => Command::Check(check_options(matches)),
         "complete" => Command::Complete(short_options(matches)),
         "waits" => Command::Waits(waits_options(matches)),
         "list" => Command::List(ListOptions {
@@ -269,6 +294,18 @@ fn run_options<'a>(matches: &ArgMatches<'a>) -> RunOptions<'a> {
         strict: matches.get_flag("strict"),
         cover: matches.get_str("cover"),
         word_file: source_named(matches, "word-file"),
+    }
+}
+
+fn check_options<'a>(matches: &ArgMatches<'a>) -> CheckOptions<'a> {
+    CheckOptions {
+        trace: source_named(matches, "trace"),
+        cover: matches.get_str("cover"),
+        first: matches.get_flag("first"),
+        to_rest: matches.get_flag("to-rest"),
+        several: matches.get_strs("traces").is_some() || matches.get_str("traces-from").is_some(),
+        json: format_options(matches).json,
+        traces_from: source_named(matches, "traces-from"),
     }
 }
 

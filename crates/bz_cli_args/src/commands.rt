@@ -1,10 +1,15 @@
 //! The program with its commands.
 
 use crate::help::{
-    ALL_COMMANDS, CHART, CHECK, COMPLETE, DRAW, EXPLORE, KINDS, LINT, LIST, PAGE, PARTS, POOL, PROGRAM, RUN, TEST, VERSION, WAITS,
+    ALL_COMMANDS, CHART, CHECK, COMPLETE, DRAW, EXPLORE, KINDS, LINT, LIST, PAGE, PARTS, POOL,
+    PROGRAM, RUN, TEST, VERSION, WAITS,
 };
 use crate::options::{
-    AROUND, BEGUN_TRACE, BENCHES, BENCH_FORM, BENCH_FUEL, BENCH_JOURNAL, BENCH_NETLIST, BENCH_PART, BENCH_TRACES, COMPONENT, COVER, DEPTH, EXPLAIN, FILES, FORMAT, FROM, FUEL, HOPS, JOURNAL, LINE, MEANT_PART, MOST, NETLIST, Opt, PART, PART_FORM, PATHS, REQUIRED_NETLIST, SEED, SEEDS, SESSIONS, SHORT, STRICT, STRICT_WAITS, TO, TRACE, WORDS, WORD_FILE, WORKERS, arg_of,
+    AROUND, BEGUN_TRACE, BENCH_FORM, BENCH_FUEL, BENCH_JOURNAL, BENCH_NETLIST, BENCH_PART,
+    BENCH_TRACES, BENCHES, COMPONENT, COVER, DEPTH, EXPLAIN, FILES, FIRST, FORMAT, FROM, FUEL,
+    HOPS, JOURNAL, LINE, MEANT_PART, MOST, NETLIST, Opt, PART, PART_FORM, PATHS, REQUIRED_NETLIST,
+    SEED, SEEDS, SESSIONS, SHORT, STRICT, STRICT_WAITS, TO, TO_REST, TRACE, TRACES, TRACES_FROM,
+    WORD_FILE, WORDS, WORKERS, arg_of,
 };
 use clap::{Arg, Command};
 use std::alloc::{AllocError, Global};
@@ -20,7 +25,7 @@ struct Sub {
 }
 
 /// The commands, in the order of the help.
-const SUBS: [Sub; 13] = [
+const SUBS: [Sub; 14] = [
     Sub {
         name: "run",
         about: "Play words on a part's net, and write the trace",
@@ -39,7 +44,18 @@ const SUBS: [Sub; 13] = [
         name: "check",
         about: "Tell whether a trace is that of a run of a part's net",
         after: CHECK,
-        options: &[PART, PART_FORM, NETLIST, TRACE, COVER],
+        options: &[
+            PART,
+            PART_FORM,
+            NETLIST,
+            TRACE,
+            TRACES_FROM,
+            FIRST,
+            TO_REST,
+            FORMAT,
+            COVER,
+            TRACES,
+        ],
     },
     Sub {
         name: "complete",

@@ -52,15 +52,21 @@ Example:
 /// What stands behind the options of `check`.
 pub(crate) const CHECK: &str = "\
 The netlist comes from --netlist or from standard input. The trace comes from --trace, or else stands behind the netlist, as
-cat makes one text of two files. With --trace it may have any length. One line is written:
+cat makes one text of two files. With --trace it may be longer than memory. It has at most 16777216 entries. One
+line is written:
   run: F fired, H host, R rest  the trace is that of a run, with so many entries of each kind
+  run, and not at rest: ..      the same with --to-rest, where some component can move at its end
   not a run: line L             line L is the first that no run allows
   not a trace: line L           line L is the first malformed line
+With --first no more is read after a line that no run allows, and the line of the verdict says so.
+Of several traces, named by TRACES or in the file of --traces-from, each one is checked by itself. A line NAME: with what is
+told above is written for each, in their order, and then how many passed. JSON is one object for each trace, on a line of its own.
 
 Statuses:
   0  the trace is that of a run
-  1  it is not, or the netlist is refused (S, B and E faults)
-  2  the command line is bad, or a file cannot be opened or made
+  1  it is not (of several: one is not), with --to-rest it does not end at rest, or the netlist is refused (S, B and E faults)
+  2  the command line is bad, a file cannot be opened or made, one of several traces cannot be read, or the netlist of a file has
+     no trace after it and none is named
   3  input or output failed (F1, F2), or memory ran out (F3)
 
 Examples:

@@ -15,7 +15,7 @@ pub use asked::{
 pub use commands::command_line;
 pub use options::{MAX_JOURNAL, MAX_WORKERS};
 pub use request::{
-    BAD_COMMAND_LINE, Error, PartName, Request, Told, request_of, shared_stdin, stray_word,
-    tell_error,
+    BAD_COMMAND_LINE, Error, PartName, Request, Told, mistake_in, request_of, shared_stdin,
+    stray_word, tell_error,
 };
-pub use words::{ArgsFault, split_words, word_starts, words_of};
+pub use words::{ArgsFault, split_names, split_words, word_starts, words_of};

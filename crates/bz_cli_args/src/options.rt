@@ -158,6 +158,39 @@ pub(crate) const COVER: Opt = Opt {
     ..TEXT
 };
 
+pub(crate) const FIRST: Opt = Opt {
+    id: "first",
+    name: Name::Long("first"),
+    help: "Read no more of a trace once a line is that of no run",
+    ..FLAG
+};
+
+pub(crate) const TRACES: Opt = Opt {
+    id: "traces",
+    name: Name::Words,
+    value: &["TRACES"],
+    help: "The traces, each checked by itself, with a line for each; - is standard input",
+    action: ArgAction::Append,
+    takes_hyphens: false,
+    conflicts: &["trace", "traces-from", "cover"],
+    ..TEXT
+};
+
+pub(crate) const TRACES_FROM: Opt = Opt {
+    id: "traces-from",
+    name: Name::Long("traces-from"),
+    help: "Check the traces that FILE names, each on a line or ended by a NUL; - is standard input",
+    conflicts: &["trace", "cover"],
+    ..TEXT
+};
+
+pub(crate) const TO_REST: Opt = Opt {
+    id: "to-rest",
+    name: Name::Long("to-rest"),
+    help: "End with status 1 also where the run does not end at rest",
+    ..FLAG
+};
+
 pub(crate) const WORD_FILE: Opt = Opt {
     id: "word-file",
     name: Name::Short("words", 'w'),

@@ -35,6 +35,8 @@ pub struct Request<'a> {
     pub words: Vec<&'a str>,
     /// The netlists that are looked at one after another, in place of `netlist`.
     pub files: Vec<&'a str>,
+    /// The traces that are checked one after another, in place of one.
+    pub traces: Vec<&'a str>,
 }
 
 /// What the words of the command line ask for, the first of which is the program's name; `None` where they name no command. An
@@ -56,6 +58,7 @@ fn request_in<'a>(
     };
     let words = Vec::from_slice(alloc, matches.get_strs("words").unwrap_or(&[]))?;
     let files = Vec::from_slice(alloc, matches.get_strs("files").unwrap_or(&[]))?;
+    let traces = Vec::from_slice(alloc, matches.get_strs("traces").unwrap_or(&[]))?;
     Ok(Some(Request {
         command,
         part: part_in(matches),
@@ -63,6 +66,7 @@ fn request_in<'a>(
         explains: matches.get_flag("explain"),
         words,
         files,
+        traces,
     }))
 }
 
@@ -111,14 +115,32 @@ pub fn stray_word(alloc: Global, error: &Error) -> Option<String> {
     String::from_str(alloc, word).ok()
 }
 
+/// What is wrong with options that may each be given, if something is.
+pub fn mistake_in(request: &Request<'_>) -> Option<&'static str> {
+    match request.command {
+        Command::Check(options) if options.first && options.trace.is_none() && !options.several => {
+            Some(
+                "--first takes a trace with a text of its own: --trace FILE, --trace -, or traces that are named",
+            )
+        }
+        _ => None,
+    }
+}
+
 /// What would have to be read from standard input twice, if there is such: the words, the lines or the trace beside the netlist.
 pub fn shared_stdin(request: &Request<'_>) -> Option<&'static str> {
-    if request.files.iter().filter(|file| **file == "-").count() > 1 {
+    if count_stdin(&request.files) > 1 || count_stdin(&request.traces) > 1 {
         return Some("next one");
     }
     let Source::Stdin = request.netlist else {
         return None;
     };
+    if count_stdin(&request.traces) > 0 {
+        return Some("trace");
+    }
+    if let Some(Source::Stdin) = request.command.trace_names() {
+        return Some("names of the traces");
+    }
     if request.command.is_by_hand() {
         return Some("lines");
     }
@@ -127,6 +149,11 @@ pub fn shared_stdin(request: &Request<'_>) -> Option<&'static str> {
         (_, Some(Source::Stdin)) => Some("trace"),
         _ => None,
     }
+}
+
+// How many of these files are standard input.
+fn count_stdin(files: &[&str]) -> usize {
+    files.iter().filter(|file| **file == "-").count()
 }
 
 /// The status of a bad command line.

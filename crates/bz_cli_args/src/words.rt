@@ -37,6 +37,18 @@ pub fn split_words<'t>(alloc: Global, text: &'t str) -> Result<Vec<&'t str>, All
     Ok(words)
 }
 
+/// The names that a text has, each on a line, or each ended by a NUL where it has one. Empty ones are skipped.
+pub fn split_names<'t>(alloc: Global, text: &'t str) -> Result<Vec<&'t str>, AllocError> {
+    let end = if text.contains('\0') { '\0' } else { '\n' };
+    let mut names = Vec::new(alloc);
+    for name in text.split(end) {
+        if !name.is_empty() {
+            names.push(name)?;
+        }
+    }
+    Ok(names)
+}
+
 /// Where these words of a text begin, each by how many bytes stand before it.
 pub fn word_starts(alloc: Global, text: &str) -> Result<Vec<usize>, AllocError> {
     let mut starts = Vec::new(alloc);

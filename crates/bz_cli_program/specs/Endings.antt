@@ -10,7 +10,7 @@ use Rattle.bz_cli_core.specs.declared.run.Played.{Played}
 use Rattle.bz_cli_trace.specs.declared.fault.TraceFault.{TraceFault}
 use Rattle.bz_cli_trace.specs.declared.fault.TraceFault.TheVariants.{Command}
 use Rattle.bz_cli_trace.specs.Making.{status_of}
-use Rattle.bz_cli_trace.specs.Checking.{is_run}
+use Rattle.bz_cli_trace.specs.Checking.{passes}
 use Rattle.bz_cli_trace.specs.declared.checked.Checked.{Checked}
 use Rattle.bz_cli_args.specs.declared.asked.ChartOptions.{ChartOptions}
 use Rattle.bz_cli_args.specs.declared.asked.WaitsOptions.{WaitsOptions}
@@ -38,9 +38,9 @@ abbrev pub of_run : Result Played Fault → Result ℕ Fault
 of_run (Ok played) = Ok (of_halt played.halt)
 of_run (Err fault) = Err fault
 
--- 0 where the trace is that of a run, and else 1
+-- 0 where the trace is that of a run, which ends at rest where it has to, and else 1
 abbrev pub of_check : Result Checked Fault → Result ℕ Fault
-of_check (Ok checked) = Ok (if is_run checked.verdict then 0 else 1)
+of_check (Ok checked) = Ok (if passes checked then 0 else 1)
 of_check (Err fault) = Err fault
 
 -- 0 where there is a drawing, and else 2

@@ -1,9 +1,10 @@
 -- What the program does of each command, with these words and this input: with what status or fault it ends, and what went out.
-use Rattle.std.specs.Prelude.{◌≡◌, ℕ, ⊤, false, true, length, Option, None, Some, Result, List, IfSome}
+use Rattle.std.specs.Prelude.{◌≡◌, ◌⊎◌, ℕ, ⊤, Bool, false, true, length, Option, None, Some, Result, List, IfSome, IsErrAnd}
 use Rattle.bz_chart.specs.Charting.{Charts, ChartsApart}
 use Rattle.bz_cli.specs.Pooling.{Pools}
 use Rattle.bz_cli_bench.specs.Cases.{Tests}
 use Rattle.bz_cli_args.specs.declared.asked.ChartOptions.{ChartOptions}
+use Rattle.bz_cli_args.specs.declared.asked.CheckOptions.{CheckOptions}
 use Rattle.bz_cli_args.specs.declared.asked.Command.{Command}
 use Rattle.bz_cli_args.specs.declared.asked.Command.TheVariants as asked
 use Rattle.bz_cli_args.specs.declared.asked.ListOptions.{ListOptions}
@@ -16,7 +17,9 @@ use Rattle.bz_cli_input.specs.Listed.{Lists}
 use Rattle.bz_cli_input.specs.declared.fault.Fault.{Fault}
 use Rattle.bz_cli_source.specs.Listed as placed
 use Rattle.bz_cli_source.specs.PartLists.{ListsParts}
+use Rattle.bz_cli_input.specs.Stopping.{IsOfInput}
 use Rattle.bz_cli_trace.specs.Checking.{Checks, ChecksApart}
+use Rattle.bz_cli_trace.specs.Splitting.{IsTraceAt}
 use Rattle.bz_cli_waits.specs.Telling.{Waits, WaitsApart}
 use Rattle.bz_draw.specs.Drawing.{Draws}
 use Rattle.bz_draw.specs.declared.fault.NoDrawing.{NoDrawing}
@@ -30,11 +33,27 @@ RunEnds options words part known old new result =
     ((IsJournal options.journal → ⊥) → IsRefused old new result)
     × (IsJournal options.journal → IfSome known (λ text. Does of_run (Runs text words part options.journal options.strict old new) result))
 
+-- a netlist of a file, after which no line begins a trace
+abbrev pub HasNoTrace : Bool → List ℕ → Type 0
+HasNoTrace is_file text = (is_file ≡ true) × ((place : ℕ) → IsTraceAt text place → ⊥)
+
+-- `check` of the trace after the netlist: without one the command line is refused, where the text is taken at all
+abbrev pub CheckBehind : Bool → Bool → List ℕ → Option (List ℕ) → Option (List ℕ) → Option (List ℕ) → Result ℕ Fault → Type 0
+CheckBehind is_file to_rest text part old new result =
+    (HasNoTrace is_file text × IsRefused old new result)
+    ⊎ ((HasNoTrace is_file text → IsErrAnd result IsOfInput) × Does of_check (Checks to_rest text part old new) result)
+
 -- `check`, of the trace after the netlist, or of one that a reader of its own gives
-abbrev pub CheckEnds : Option (List ℕ) → Option (List ℕ) → Option (Option (List ℕ)) → Option (List ℕ) → Option (List ℕ) → Result ℕ Fault → Type 0
-CheckEnds part known None old new result = IfSome known (λ text. Does of_check (Checks text part old new) result)
-CheckEnds part known (Some apart) old new result =
-    IfSome known (λ netlist. IfSome apart (λ text. Does of_check (ChecksApart netlist text part old new) result))
+abbrev pub CheckEnds : CheckOptions → Bool → Option (List ℕ) → Option (List ℕ) → Option (Option (List ℕ)) → Option (List ℕ) → Option (List ℕ) → Result ℕ Fault → Type 0
+CheckEnds options is_file part known None old new result = IfSome known (λ text. CheckBehind is_file options.to_rest text part old new result)
+CheckEnds options is_file part known (Some apart) old new result =
+    IfSome known (λ netlist. IfSome apart (λ text. Does of_check (ChecksApart options.first options.to_rest netlist text part old new) result))
+
+-- the same with the line that is written; or with an object in its place, of which nothing is said
+abbrev pub CheckTells : CheckOptions → Bool → Option (List ℕ) → Option (List ℕ) → Option (Option (List ℕ)) → Option (List ℕ) → Option (List ℕ) → Result ℕ Fault → Type 0
+CheckTells options is_file part known trace old new result =
+    (options.json ≡ false → CheckEnds options is_file part known trace old new result)
+    × (options.json ≡ true → (from to : Option (List ℕ)) × CheckEnds options is_file part known trace from to result)
 
 -- `complete`, of the short trace that a reader of its own gives
 abbrev pub CompleteEnds : Option (List ℕ) → Option (List ℕ) → Option (Option (List ℕ)) → Option (List ℕ) → Option (List ℕ) → Result ℕ Fault → Type 0
@@ -76,21 +95,21 @@ PoolEnds options words part known old new result =
     × (AreWorkers options.workers → IsJournal options.journal
     → IfSome known (λ text. Does of_done (Pools text words part options.workers options.fuel options.journal old new) result))
 
--- What the program does of a command, its words, which for `test` are the benches, the part that is asked for, the input where it is known, and the bytes of a trace
--- apart where there is one. Of `explore`, `lint` and `kinds` nothing is said.
-abbrev pub ProgramDoes : Command → List (List ℕ) → Option (List ℕ) → Option (List ℕ) → Option (Option (List ℕ)) → Option (List ℕ) → Option (List ℕ) → Result ℕ Fault → Type 0
-ProgramDoes (asked.Run options) words part known trace old new result = RunEnds options words part known old new result
-ProgramDoes (asked.Explore options) words part known trace old new result = ⊤
-ProgramDoes (asked.Check options) words part known trace old new result = CheckEnds part known trace old new result
-ProgramDoes (asked.Complete options) words part known trace old new result = CompleteEnds part known trace old new result
-ProgramDoes (asked.Waits options) words part known trace old new result = WaitsEnds options part known trace old new result
-ProgramDoes (asked.List options) words part known trace old new result = ListEnds options part known old new result
-ProgramDoes (asked.Lint options) words part known trace old new result = ⊤
-ProgramDoes asked.Parts words part known trace old new result = IfSome known (λ text. IsDone (ListsParts text old new) result)
-ProgramDoes (asked.Kinds options) words part known trace old new result = ⊤
-ProgramDoes (asked.Draw options) words part known trace old new result =
+-- What the program does of a command, its words, which for `test` are the benches, whether the netlist is that of a file, the part that is asked for, the input where
+-- it is known, and the bytes of a trace apart where there is one. Of `explore`, `lint` and `kinds` nothing is said.
+abbrev pub ProgramDoes : Command → List (List ℕ) → Bool → Option (List ℕ) → Option (List ℕ) → Option (Option (List ℕ)) → Option (List ℕ) → Option (List ℕ) → Result ℕ Fault → Type 0
+ProgramDoes (asked.Run options) words is_file part known trace old new result = RunEnds options words part known old new result
+ProgramDoes (asked.Explore options) words is_file part known trace old new result = ⊤
+ProgramDoes (asked.Check options) words is_file part known trace old new result = CheckTells options is_file part known trace old new result
+ProgramDoes (asked.Complete options) words is_file part known trace old new result = CompleteEnds part known trace old new result
+ProgramDoes (asked.Waits options) words is_file part known trace old new result = WaitsEnds options part known trace old new result
+ProgramDoes (asked.List options) words is_file part known trace old new result = ListEnds options part known old new result
+ProgramDoes (asked.Lint options) words is_file part known trace old new result = ⊤
+ProgramDoes asked.Parts words is_file part known trace old new result = IfSome known (λ text. IsDone (ListsParts text old new) result)
+ProgramDoes (asked.Kinds options) words is_file part known trace old new result = ⊤
+ProgramDoes (asked.Draw options) words is_file part known trace old new result =
     IfSome known (λ text. Does of_drawing (Draws {N = NoDrawing} text part old new) result)
-ProgramDoes (asked.Chart options) words part known trace old new result = ChartEnds options part known trace old new result
-ProgramDoes (asked.Page options) words part known trace old new result = PageEnds part known trace old new result
-ProgramDoes (asked.Pool options) words part known trace old new result = PoolEnds options words part known old new result
-ProgramDoes (asked.Test options) words part known trace old new result = Tests (length words) result
+ProgramDoes (asked.Chart options) words is_file part known trace old new result = ChartEnds options part known trace old new result
+ProgramDoes (asked.Page options) words is_file part known trace old new result = PageEnds part known trace old new result
+ProgramDoes (asked.Pool options) words is_file part known trace old new result = PoolEnds options words part known old new result
+ProgramDoes (asked.Test options) words is_file part known trace old new result = Tests (length words) result

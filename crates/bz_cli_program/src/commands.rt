@@ -1,6 +1,6 @@
 //! What each command does. The status with which the program ends, or the fault that it tells.
 
-ghost use Rattle.std.specs.Prelude.{◌≡◌, ◌≤◌, ◌<◌, false, length, true, IfSome};
+ghost use Rattle.std.specs.Prelude.{◌≡◌, ◌≢◌, ◌≤◌, ◌<◌, false, true, ℕ, is_some, length, IfSome, List, MatchBool, Option};
 ghost use Rattle.std.specs.Option.{option_copied, option_map};
 ghost use Rattle.bz_cli.specs.Pooling.{Pools};
 ghost use Rattle.bz_cli_bench.specs.Cases.{Tests};
@@ -9,7 +9,7 @@ ghost use Rattle.bz_cli_input.specs.Listed.{Lists};
 ghost use Rattle.bz_cli_input.specs.Reading.{ReadsWithin};
 ghost use Rattle.bz_cli_program.specs.Endings.{AreWorkers, Does, IsDone, IsJournal, IsRefused};
 ghost use Rattle.bz_cli_program.specs.Endings.{of_check, of_completed, of_done, of_drawing, of_made, of_run, of_told, of_unmade};
-ghost use Rattle.bz_cli_program.specs.Programs.{ChartEnds, CheckEnds, CompleteEnds, PageEnds, WaitsEnds};
+ghost use Rattle.bz_cli_program.specs.Programs.{ChartEnds, CheckBehind, CheckEnds, CompleteEnds, PageEnds, WaitsEnds};
 ghost use Rattle.bz_cli_source.specs.Listed as placed;
 ghost use Rattle.bz_cli_source.specs.PartLists.{ListsParts};
 ghost use Rattle.bz_draw.specs.Drawing.{Draws};
@@ -21,9 +21,9 @@ use crate::outcome::{DONE, Ended, NO_RUN, Outcome};
 use bz_chart::{LineRange, chart_cmd, chart_trace_cmd};
 use bz_cli::{Pooled, pool_cmd};
 use bz_cli_args::{
-    BAD_COMMAND_LINE, ChartOptions, DrawOptions, FormatOptions, LintOptions, ListOptions,
-    MAX_JOURNAL, MAX_WORKERS, PoolOptions, RunOptions, SeedsAsked, TestForm, TestOptions,
-    WaitsOptions,
+    BAD_COMMAND_LINE, ChartOptions, CheckOptions, DrawOptions, FormatOptions, LintOptions,
+    ListOptions, MAX_JOURNAL, MAX_WORKERS, PoolOptions, RunOptions, SeedsAsked, TestForm,
+    TestOptions, WaitsOptions,
 };
 use bz_cli_bench::{Asked, BenchFiles, Form, Seeds, test_cmd};
 use bz_cli_complete::{CompleteFault, complete_cmd};
@@ -31,7 +31,7 @@ use bz_cli_core::{Halt, Played, run_cmd};
 use bz_cli_input::{Fault, list_cmd};
 use bz_cli_kinds::kinds_cmd;
 use bz_cli_source::{list_paths_cmd, parts_cmd};
-use bz_cli_trace::{Checked, TraceFault, check_cmd, check_trace_cmd};
+use bz_cli_trace::{CheckWay, Checked, Texts, TraceFault, check_texts, check_trace_cmd};
 use bz_cli_waits::{WaitsAsked, waits_cmd, waits_trace_cmd};
 use bz_draw::{NoDrawing, View, draw_cmd};
 use bz_explain_lint::{Lint, lint_cmd};
@@ -39,14 +39,19 @@ use bz_explore::{Files, explore_cmd};
 use bz_model::Reply;
 use bz_page::{page_cmd, page_trace_cmd};
 use bz_session::End;
+use bz_text::put;
 use std::alloc::Global;
 use std::fmt::Display;
-use std::io::{BufRead, Read, Write};
+use std::io::{BufRead, Read, Write, sink};
 use std::sync::Wait;
 use std::thread::Threads;
 
 /// The status of a strict run that met a host command that was not done.
 pub(crate) const REFUSED: u8 = 3;
+
+/// What is printed where no trace is named, and none stands after the netlist of a file.
+const NO_TRACE: &str = "\
+error: there is no trace after the netlist: --trace FILE takes it from a file, --trace - from standard input\n";
 
 /// The status of a strict look at a trace behind which something can never move again.
 const STUCK: u8 = 3;
@@ -120,24 +125,113 @@ fn tell_halt<E: Write>(halt: Halt, errors: &mut E) {
 }
 
 /// Reports whether a trace is that of a run: the one that is given, or the one after the netlist. The net that was checked goes
-/// with the status.
-pub(crate) fn check<R: Read, T: Read, W: Write>(
+/// with the status. That there is no trace after the netlist of a file goes to `errors`. Where an object is asked for, nothing is
+/// written: what was found goes with the status.
+pub(crate) fn check<R: Read, T: Read, W: Write, E: Write>(
     alloc: Global,
-    part: Option<&[u8]>,
+    given: &Given<'_, '_>,
+    options: CheckOptions<'_>,
     input: &mut R,
     trace: Option<&mut T>,
     output: &mut W,
+    errors: &mut E,
 ) -> Outcome
-    ensures checks { CheckEnds (option_copied part.entry) (R.remaining input.old) (option_map (λ apart. T.remaining apart.now) trace.entry)
+    ensures plainly { options.entry.json ≡ false → CheckEnds options.entry (is_some given.now.file) (option_copied given.now.part)
+        (R.remaining input.old) (option_map (λ apart. T.remaining apart.now) trace.entry)
         (W.contents output.old) (W.contents output.new) result.status }
+    ensures object { options.entry.json ≡ true → (from to : Option (List ℕ)) ×
+        CheckEnds options.entry (is_some given.now.file) (option_copied given.now.part)
+        (R.remaining input.old) (option_map (λ apart. T.remaining apart.now) trace.entry) from to result.status }
+
+    // Whatever comes of it, it reads at most one byte past the limit.
+    ensures bounded { ReadsWithin (R.remaining input.old) (R.remaining input.new) }
+{
+    if options.json {
+        check_into(alloc, given, options, input, trace, &mut sink(), errors)
+    } else {
+        check_into(alloc, given, options, input, trace, output, errors)
+    }
+}
+
+// The same, with the line that is written.
+fn check_into<R: Read, T: Read, W: Write, E: Write>(
+    alloc: Global,
+    given: &Given<'_, '_>,
+    options: CheckOptions<'_>,
+    input: &mut R,
+    trace: Option<&mut T>,
+    output: &mut W,
+    errors: &mut E,
+) -> Outcome
+    ensures checks { CheckEnds options.entry (is_some given.now.file) (option_copied given.now.part) (R.remaining input.old)
+        (option_map (λ apart. T.remaining apart.now) trace.entry) (W.contents output.old) (W.contents output.new) result.status }
 
     // Whatever comes of it, it reads at most one byte past the limit.
     ensures bounded { ReadsWithin (R.remaining input.old) (R.remaining input.new) }
 {
     match trace {
-        Some(trace) => judged(check_trace_cmd(alloc, part, input, trace, output)),
-        None => judged(check_cmd(alloc, part, input, output)),
+        Some(trace) => {
+            let way = CheckWay {
+                to_first: options.first,
+                to_rest: options.to_rest,
+                keeps: keeps_line(given.explains, options.json),
+            };
+            judged(check_trace_cmd(alloc, given.part, way, input, trace, output))
+        }
+        None => {
+            let is_file = given.file.is_some();
+            check_behind(
+                alloc,
+                given.part,
+                is_file,
+                options.to_rest,
+                input,
+                output,
+                errors,
+            )
+        }
     }
+}
+
+// Whether the line that a verdict names is kept: for notes, or for an object.
+fn keeps_line(explains: bool, json: bool) -> bool {
+    explains || json
+}
+
+// Reports whether the trace after the netlist is that of a run. Where the netlist is that of a file, there has to be one.
+fn check_behind<R: Read, W: Write, E: Write>(
+    alloc: Global,
+    part: Option<&[u8]>,
+    is_file: bool,
+    to_rest: bool,
+    input: &mut R,
+    output: &mut W,
+    errors: &mut E,
+) -> Outcome
+    ensures checks { IfSome (R.remaining input.old) (λ text.
+        CheckBehind is_file to_rest text (option_copied part.entry) (W.contents output.old) (W.contents output.new) result.status) }
+    ensures bounded { ReadsWithin (R.remaining input.old) (R.remaining input.new) }
+{
+    let texts = match Texts::read(alloc, input) {
+        Ok(texts) => texts,
+        Err(fault) => return Outcome::of(Err(Fault::from(fault))),
+    };
+    if misses_trace(is_file, &texts) {
+        let _ = put(errors, NO_TRACE.as_bytes());
+        return Outcome::of(Ok(BAD_COMMAND_LINE));
+    }
+    judged(check_texts(alloc, part, to_rest, &texts, output))
+}
+
+// Whether no line of the text that a file has begins a trace.
+fn misses_trace(is_file: bool, texts: &Texts) -> bool
+    ensures { MatchBool result ((is_file ≡ true) × (length texts.now.trace ≡ 0)) (is_file ≡ true → length texts.now.trace ≢ 0) }
+{
+    if !is_file {
+        return false;
+    }
+    let (_, trace) = texts.both();
+    trace.len() == 0
 }
 
 // The status of a check, with the net that was checked.
@@ -146,7 +240,7 @@ fn judged(checked: Result<Checked, Fault>) -> Outcome
 {
     match checked {
         Ok(checked) => {
-            let status = if checked.is_run() { DONE } else { NO_RUN };
+            let status = if checked.passes() { DONE } else { NO_RUN };
             Outcome {
                 status: Ok(status),
                 checked: Some(checked),

@@ -41,13 +41,13 @@ pub fn cover<F: Files, E: Write>(
     let Some(path) = given.command.cover_file() else {
         return outcome;
     };
+    if !matches!(outcome.status, Ok(DONE | REFUSED)) {
+        return outcome;
+    }
     let (status, checked, ended) = outcome.into_parts();
-    let status = match status {
-        Ok(DONE | REFUSED) => match exercised(alloc, given, texts, checked) {
-            Ok(covered) => told(covered, path, status, files, errors),
-            Err(fault) => Err(fault),
-        },
-        _ => status,
+    let status = match exercised(alloc, given, texts, checked) {
+        Ok(covered) => told(covered, path, status, files, errors),
+        Err(fault) => Err(fault),
     };
     Outcome {
         status,

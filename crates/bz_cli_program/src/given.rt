@@ -4,7 +4,7 @@
 
 use crate::files::{open_file, text_of};
 use crate::refusal::Refusal;
-use bz_cli_args::{Command, PartName, Request, Source, split_words};
+use bz_cli_args::{Command, PartName, Request, Source, split_names, split_words};
 use bz_cli_trace::split_trace;
 use std::alloc::{AllocError, Global};
 use std::io::Input;
@@ -27,10 +27,12 @@ pub struct Given<'a, 't> {
     pub prompts: bool,
 }
 
-/// The text of the words, if that is a file's, and the name of the part, if one is named.
+/// The text of the words, if that is a file's, that of the names of traces, and the name of the part, if one is named.
 #[derive(Drop)]
 pub struct Texts {
     words: Option<String>,
+    /// The names of traces, where a file has them.
+    traces: Option<String>,
     part: Option<Vec<u8>>,
 }
 
@@ -45,8 +47,28 @@ impl Texts {
             Some(source) => Some(words_in(rt, alloc, source)?),
             None => None,
         };
+        let traces = match request.command.trace_names() {
+            Some(source) => Some(words_in(rt, alloc, source)?),
+            None => None,
+        };
         let part = part_named(alloc, request.part)?;
-        Ok(Texts { words, part })
+        Ok(Texts {
+            words,
+            traces,
+            part,
+        })
+    }
+
+    /// The names of traces that the text has, or else those of the command line.
+    pub fn traces<'t>(
+        &'t self,
+        alloc: Global,
+        request: &'t Request<'_>,
+    ) -> Result<Vec<&'t str>, AllocError> {
+        match &self.traces {
+            Some(text) => split_names(alloc, text.as_str()),
+            None => Vec::from_slice(alloc, request.traces.as_slice()),
+        }
     }
 
     /// The words of the text, or else those of the command line.
@@ -86,7 +108,7 @@ impl Texts {
     }
 }
 
-// The words of a file, or of standard input.
+// The text of words or names that a file has, or standard input.
 fn words_in<'a, F: Files + Input>(
     rt: &F,
     alloc: Global,
@@ -121,7 +143,7 @@ fn part_named<'a>(alloc: Global, part: PartName<'_>) -> Result<Option<Vec<u8>>, 
 
 /// The netlist of a command's input: what stands in front of the trace where the command reads one there.
 pub(crate) fn netlist_in<'t>(command: Command<'_>, input: &'t [u8]) -> &'t [u8] {
-    if command.reads_trace() && command.trace_file().is_none() {
+    if command.reads_trace() && command.trace_file().is_none() && !command.is_of_several() {
         split_trace(input).0
     } else {
         input

@@ -1,18 +1,18 @@
 //! How the program ends once its command has: a fault is reported, and notes are made where they were asked for.
 //!
-//! A trace with a file of its own is not kept for notes, since it may be long: the file is opened and read again, where it is
-//! a file and no pipe.
+//! Of a trace that `check` reads from a file of its own only the line that its verdict names is kept, since it may be long. Of
+//! other commands such a file is opened and read again, where it is a file and no pipe.
 
 use crate::files::{is_file, open_file};
 use crate::given::{Given, netlist_in};
 use crate::outcome::{Ended, NO_RUN, Outcome};
-use crate::resting::note_rest;
-use bz_cli_args::{Source, word_starts};
+use crate::resting::{note_end, note_rest};
+use bz_cli_args::{BAD_COMMAND_LINE, Command, Source, word_starts};
 use bz_cli_input::{Fault, INPUT_LIMIT, read_input};
-use bz_cli_trace::{Checked, check_trace};
+use bz_cli_trace::{Checked, check_trace, split_trace};
 use bz_explain::{Asked, Explained, WordFile, Words, explain};
 use bz_explain_notes::{Notes, tell, tell_findings, tell_notes};
-use bz_explain_trace::{Suspect, explain_trace};
+use bz_explain_trace::{Suspect, explain_no_trace, explain_trace, explain_unrested};
 use bz_view::Piece::{Number, Text};
 use std::alloc::Global;
 use std::io::Write;
@@ -30,11 +30,11 @@ pub fn end<F: Files, E: Write>(
     let (status, checked, ended) = outcome.into_parts();
     match status {
         Ok(status) => {
-            if status == NO_RUN && given.command.reads_trace() {
-                note_trace(files, alloc, &*given, kept, checked, errors);
-            }
-            if let Some(ended) = ended {
-                note_ended(alloc, given, kept, &ended, errors);
+            if let Some(kept) = kept {
+                note_status(files, alloc, given, status, kept, checked, errors);
+                if let Some(ended) = ended {
+                    note_ended(alloc, given, kept, &ended, errors);
+                }
             }
             status
         }
@@ -42,58 +42,112 @@ pub fn end<F: Files, E: Write>(
     }
 }
 
+// Notes what a command on a trace came to.
+fn note_status<F: Files, E: Write>(
+    files: &F,
+    alloc: Global,
+    given: &Given<'_, '_>,
+    status: u8,
+    kept: &[u8],
+    checked: Option<Checked>,
+    errors: &mut E,
+) {
+    if let Some(checked) = checked {
+        note_checked(alloc, given, kept, checked, errors);
+    } else if status == NO_RUN && makes_of_trace(given.command) {
+        note_trace(files, alloc, given, kept, errors);
+    } else if status == BAD_COMMAND_LINE && misses_trace(given, kept) {
+        let _ = tell_notes(alloc, &explain_no_trace(alloc, kept), errors);
+    }
+}
+
 // Notes why what was played goes no further, where it rests.
 fn note_ended<E: Write>(
     alloc: Global,
     given: &Given<'_, '_>,
-    kept: Option<&[u8]>,
+    kept: &[u8],
     ended: &Ended,
     errors: &mut E,
 ) {
-    if let Some(kept) = kept {
-        let netlist = netlist_in(given.command, kept);
-        note_rest(alloc, given.part, netlist, ended.net(), errors);
+    let netlist = netlist_in(given.command, kept);
+    note_rest(alloc, given.part, netlist, ended.net(), errors);
+}
+
+// Whether something is made of a trace, which is not just checked.
+fn makes_of_trace(command: Command<'_>) -> bool {
+    command.reads_trace() && !matches!(command, Command::Check(_))
+}
+
+// Whether a trace is asked for after the netlist of a file, and there is none.
+fn misses_trace(given: &Given<'_, '_>, kept: &[u8]) -> bool {
+    match given.command {
+        Command::Check(options) => {
+            options.trace.is_none() && !options.several && split_trace(kept).1.is_empty()
+        }
+        _ => false,
     }
 }
 
-// Notes why a trace is not that of a run. Without a net that refused it, it is checked once more.
-fn note_trace<'a, F: Files, E: Write>(
-    files: &F,
+// Notes on a trace by the net that it was checked against: why it is not that of a run, or why that goes no further.
+fn note_checked<E: Write>(
     alloc: Global,
-    given: &Given<'a, '_>,
-    kept: Option<&'a [u8]>,
-    checked: Option<Checked>,
+    given: &Given<'_, '_>,
+    kept: &[u8],
+    mut checked: Checked,
     errors: &mut E,
 ) {
-    let Some(kept) = kept else {
-        return;
-    };
-    let netlist = netlist_in(given.command, kept);
+    if checked.passes() {
+        return note_end(alloc, checked, errors);
+    }
+    let lines = checked.take_kept(alloc);
     let notes = match given.command.trace_file() {
-        None => {
-            let (_, trace) = kept.split_at(netlist.len().min(kept.len()));
-            let suspect = Suspect {
-                netlist,
-                trace,
-                file: None,
-            };
-            notes_on(alloc, given.part, suspect, checked)
-        }
-        Some(source) => notes_of(files, alloc, given.part, netlist, source, checked),
+        _ if checked.unrested => explain_unrested(alloc, checked),
+        None => explain_trace(alloc, suspect_behind(given.command, kept), checked),
+        Some(source) => match lines.lines() {
+            Some(trace) => {
+                let suspect = Suspect {
+                    netlist: kept,
+                    trace,
+                    first: lines.first(),
+                    file: Some(source.file().unwrap_or("standard input")),
+                };
+                explain_trace(alloc, suspect, checked)
+            }
+            None => Notes::new(alloc),
+        },
     };
     let _ = tell_notes(alloc, &notes, errors);
 }
 
-// The notes of a trace by the net that refused it, or else by one that checks it once more.
-fn notes_on(
-    alloc: Global,
-    part: Option<&[u8]>,
-    suspect: Suspect<'_>,
-    checked: Option<Checked>,
-) -> Notes {
-    if let Some(checked) = checked {
-        return explain_trace(alloc, suspect, checked);
+/// The trace after a netlist.
+pub(crate) fn suspect_behind<'t>(command: Command<'_>, kept: &'t [u8]) -> Suspect<'t> {
+    let netlist = netlist_in(command, kept);
+    let (_, trace) = kept.split_at(netlist.len().min(kept.len()));
+    Suspect {
+        netlist,
+        trace,
+        first: 1,
+        file: None,
     }
+}
+
+// Notes why a trace is not that of a run, of which nothing is made: it is checked once more.
+fn note_trace<F: Files, E: Write>(
+    files: &F,
+    alloc: Global,
+    given: &Given<'_, '_>,
+    kept: &[u8],
+    errors: &mut E,
+) {
+    let notes = match given.command.trace_file() {
+        None => notes_on(alloc, given.part, suspect_behind(given.command, kept)),
+        Some(source) => notes_of(files, alloc, given.part, kept, source),
+    };
+    let _ = tell_notes(alloc, &notes, errors);
+}
+
+// The notes of a trace by a net that checks it once more.
+fn notes_on(alloc: Global, part: Option<&[u8]>, suspect: Suspect<'_>) -> Notes {
     match check_trace(alloc, part, suspect.netlist, suspect.trace) {
         Ok(checked) => explain_trace(alloc, suspect, checked),
         Err(_) => Notes::new(alloc),
@@ -107,15 +161,15 @@ fn notes_of<'a, F: Files>(
     part: Option<&'a [u8]>,
     netlist: &'a [u8],
     source: Source<'a>,
-    checked: Option<Checked>,
 ) -> Notes {
     if let Some((path, trace)) = read_again(files, alloc, source) {
         let suspect = Suspect {
             netlist,
             trace: trace.as_slice(),
+            first: 1,
             file: Some(path),
         };
-        return notes_on(alloc, part, suspect, checked);
+        return notes_on(alloc, part, suspect);
     }
     let mut notes = Notes::new(alloc);
     notes.say(

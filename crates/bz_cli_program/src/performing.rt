@@ -1,6 +1,6 @@
 //! From what was asked to a status: each command with what it reads and writes.
 
-ghost use Rattle.std.specs.Prelude.{◌≡◌};
+ghost use Rattle.std.specs.Prelude.{◌≡◌, is_some};
 ghost use Rattle.std.specs.Option.{option_copied, option_map};
 ghost use Rattle.bz_cli_input.specs.Reading.{ReadsWithin};
 ghost use Rattle.bz_cli_program.specs.Programs.{ProgramDoes};
@@ -42,7 +42,8 @@ pub fn program<
     output: &mut W,
     errors: &mut E,
 ) -> Outcome
-    ensures does { ProgramDoes given.now.command (texts given.now.words.now) (option_copied given.now.part) (R.remaining input.old)
+    ensures does { ProgramDoes given.now.command (texts given.now.words.now) (is_some given.now.file)
+        (option_copied given.now.part) (R.remaining input.old)
         (option_map (λ apart. T.remaining apart.now) trace.entry) (W.contents output.old) (W.contents output.new) result.status }
 
     // Whatever comes of it, it reads at most one byte past the limit.
@@ -54,7 +55,7 @@ pub fn program<
         Command::Explore(_) => of(explore(
             alloc, given, input, trace, lines, files, output, errors,
         )),
-        Command::Check(_) => check(alloc, part, input, trace, output),
+        Command::Check(options) => { check(alloc, given, options, input, trace, output, errors) }
         Command::Complete(_) => of(complete(alloc, part, input, trace, output, errors)),
         Command::Waits(options) => of(waits(alloc, part, options, input, trace, output, errors)),
         Command::List(options) => of(list(alloc, part, options, input, output)),

@@ -1,6 +1,7 @@
 //! Notes on a net at rest: what can never move again, and the words of the host that would go on.
 
 use bz_cli_source::survey_of;
+use bz_cli_trace::Checked;
 use bz_explain_notes::{Notes, tell_notes};
 use bz_model::Phase;
 use bz_net::Core;
@@ -19,14 +20,34 @@ pub(crate) fn note_rest<W: Write>(
     net: &Core,
     errors: &mut W,
 ) {
-    if net.next_ready(1).is_some() || is_quiet(net) {
+    if !is_waiting(net) {
         return;
     }
     if let Ok((_, survey, _)) = survey_of(alloc, part, netlist) {
-        let mut text = Text::new(alloc);
-        put_rest(Seen::of(net, &survey), &mut text);
-        tell_lines(alloc, &text, errors);
+        tell_rest(alloc, Seen::of(net, &survey), errors);
     }
+}
+
+/// The same of a net that the trace of a run was checked against. The netlist is not read once more.
+pub(crate) fn note_end<W: Write>(alloc: Global, checked: Checked, errors: &mut W) {
+    if !is_waiting(checked.net.core()) {
+        return;
+    }
+    let (net, source, part) = checked.into_parts();
+    if let Ok(survey) = source.survey(alloc, part.as_slice()) {
+        tell_rest(alloc, Seen::of(net.core(), &survey), errors);
+    }
+}
+
+// Whether a handshake is under way, and no component can move.
+fn is_waiting(net: &Core) -> bool {
+    net.next_ready(1).is_none() && !is_quiet(net)
+}
+
+fn tell_rest<W: Write>(alloc: Global, seen: Seen<'_>, errors: &mut W) {
+    let mut text = Text::new(alloc);
+    put_rest(seen, &mut text);
+    tell_lines(alloc, &text, errors);
 }
 
 // Whether no handshake is under way.

@@ -1,3 +1,4 @@
 pub mod Splits
 pub mod Makes
 pub mod Checks
+pub mod Found

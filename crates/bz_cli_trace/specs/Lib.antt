@@ -3,3 +3,4 @@ pub mod Texts
 pub mod Taking
 pub mod Making
 pub mod Checking
+pub mod Several

@@ -1,32 +1,41 @@
 //! A net that a trace was checked against.
 
-ghost use Rattle.std.specs.Prelude.{◌≡◌, ◌⊎◌, [], IfErr, IfOk, IfSome};
+ghost use Rattle.std.specs.Prelude.{◌≡◌, ◌⊎◌, [], false, IfErr, IfOk, IfSome};
 ghost use Rattle.std.specs.Option.{option_copied};
 ghost use Rattle.bz_model.specs.Limits.{max_entries};
 ghost use Rattle.bz_net.specs.Progress.{IsToldBy};
 ghost use Rattle.bz_cli_input.specs.Opening.{Denotes, RefusesNet};
 ghost use Rattle.bz_cli_source.specs.Surveys.{IsRead};
 ghost use Rattle.bz_cli_input.specs.Stopping.{IsOfInput};
-ghost use Rattle.bz_cli_trace.specs.Checking.{IsChecked, is_run};
+ghost use Rattle.bz_cli_trace.specs.Checking.{IsChecked, IsCheckedTo, TellsRest, finding_of, is_run, passes};
 
+use crate::finding::Finding;
+use crate::way::CheckWay;
 use bz_cli_input::Fault;
 use bz_cli_source::net_of;
 use bz_flat::Flat;
 use bz_net::Play;
 use bz_source::Source;
-use bz_trace::{Counts, MAX_ENTRIES, ReadFault, Verdict, check, check_read};
+use bz_trace::{Counts, KeptLines, MAX_ENTRIES, ReadFault, Verdict, check, check_read};
 use std::alloc::{AllocError, Global};
 use std::io::Read;
+use std::mem;
 
 /// A net that a trace was checked against, and the verdict.
 pub struct Checked {
     pub verdict: Verdict,
     pub counts: Counts,
+    /// Whether nothing was looked at but lines up to the one that no run allows.
+    pub early: bool,
+    /// Whether it is the trace of a run that was to end at rest, and doesn't.
+    pub unrested: bool,
     /// Where the trace ends that is that of a run, or before the line that no run allows.
     pub net: Play,
     pub source: Source,
     /// The name of the part whose net it is.
     pub part: Vec<u8>,
+    /// The line that the verdict names, where it was to be kept.
+    pub kept: KeptLines,
 }
 
 // Written by hand: callers then prove one drop instead of one for each field.
@@ -35,9 +44,12 @@ impl Drop for Checked {
         let Checked {
             verdict: _,
             counts: _,
+            early: _,
+            unrested: _,
             net: _,
             source: _,
             part: _,
+            kept: _,
         } = self;
     }
 }
@@ -50,6 +62,30 @@ impl Checked {
         matches!(self.verdict, Verdict::Run)
     }
 
+    /// Whether the trace is that of a run, which ends at rest where it was to.
+    pub fn passes(&self) -> bool
+        ensures { result ≡ passes self.now }
+    {
+        self.finding().passes()
+    }
+
+    /// What is said of the trace.
+    pub fn finding(&self) -> Finding
+        ensures { result ≡ finding_of self.now }
+    {
+        Finding {
+            verdict: self.verdict,
+            counts: self.counts,
+            early: self.early,
+            unrested: self.unrested,
+        }
+    }
+
+    /// The line that the verdict names, where it was to be kept. None is left.
+    pub fn take_kept(&mut self, alloc: Global) -> KeptLines {
+        mem::replace(&mut self.kept, KeptLines::new(alloc, false))
+    }
+
     /// The net, the text that it comes of, and the name of its part.
     pub fn into_parts(self) -> (Play, Source, Vec<u8>)
         ensures net { result.0 ≡ self.net }
@@ -59,9 +95,12 @@ impl Checked {
         let Checked {
             verdict: _,
             counts: _,
+            early: _,
+            unrested: _,
             net,
             source,
             part,
+            kept: _,
         } = self;
         (net, source, part)
     }
@@ -102,6 +141,19 @@ fn open(
     }
 }
 
+/// Whether a trace is that of a run that was to end at rest, and doesn't: the net is where it ends.
+pub(crate) fn moves_on(net: &Play, verdict: Verdict, to_rest: bool) -> bool
+    ensures { TellsRest to_rest verdict net.now result }
+{
+    if !to_rest {
+        return false;
+    }
+    match verdict {
+        Verdict::Run => net.core().next_ready(1).is_some(),
+        _ => false,
+    }
+}
+
 /// Checks a trace against the net of a part of the netlist.
 pub fn check_trace(
     alloc: Global,
@@ -112,17 +164,35 @@ pub fn check_trace(
     ensures ok { IfOk result (IsChecked netlist.now trace.now (option_copied asked.entry)) }
     ensures err { IfErr result (RefusesNet netlist.now (option_copied asked.entry)) }
 {
+    check_text(alloc, asked, netlist, trace, false)
+}
+
+/// The same, and where that is asked for, whether a run ends at rest.
+pub(crate) fn check_text(
+    alloc: Global,
+    asked: Option<&[u8]>,
+    netlist: &[u8],
+    trace: &[u8],
+    to_rest: bool,
+) -> Result<Checked, Fault>
+    ensures ok { IfOk result (IsCheckedTo false to_rest netlist.now trace.now (option_copied asked.entry)) }
+    ensures err { IfErr result (RefusesNet netlist.now (option_copied asked.entry)) }
+{
     let (mut net, source, part) = match open(alloc, asked, netlist) {
         Ok(opened) => opened,
         Err(fault) => return Err(fault),
     };
     let (verdict, counts) = check(alloc, &mut net, trace);
+    let unrested = moves_on(&net, verdict, to_rest);
     Ok(Checked {
         verdict,
         counts,
+        early: false,
+        unrested,
         net,
         source,
         part,
+        kept: KeptLines::new(alloc, false),
     })
 }
 
@@ -132,22 +202,31 @@ pub(crate) fn check_reader<T: Read>(
     asked: Option<&[u8]>,
     netlist: &[u8],
     trace: &mut T,
+    way: CheckWay,
 ) -> Result<Checked, Fault>
-    ensures ok { IfOk result (λ checked. IfSome (T.remaining trace.old) (λ text. IsChecked netlist.now text (option_copied asked.entry) checked)) }
+    ensures ok { IfOk result (λ checked. IfSome (T.remaining trace.old) (λ text.
+        IsCheckedTo way.to_first way.to_rest netlist.now text (option_copied asked.entry) checked)) }
     ensures err { IfErr result (λ fault. IsOfInput fault ⊎ RefusesNet netlist.now (option_copied asked.entry) fault) }
 {
     let (mut net, source, part) = match open(alloc, asked, netlist) {
         Ok(opened) => opened,
         Err(fault) => return Err(fault),
     };
-    match check_read(alloc, &mut net, trace) {
-        Ok((verdict, counts)) => Ok(Checked {
-            verdict,
-            counts,
-            net,
-            source,
-            part,
-        }),
+    let mut kept = KeptLines::new(alloc, way.keeps);
+    match check_read(alloc, &mut net, trace, way.to_first, &mut kept) {
+        Ok(said) => {
+            let unrested = moves_on(&net, said.verdict, way.to_rest);
+            Ok(Checked {
+                verdict: said.verdict,
+                counts: said.counts,
+                early: said.early,
+                unrested,
+                net,
+                source,
+                part,
+                kept,
+            })
+        }
         Err(ReadFault::Read | ReadFault::TooLong) => Err(Fault::Read),
         Err(ReadFault::Memory) => Err(Fault::Memory),
     }

@@ -1,15 +1,17 @@
 //! The command `check`: whether a trace is that of a run of a part's net.
 
-ghost use Rattle.std.specs.Prelude.{◌⊎◌, ◌++◌, OnOk, OnErr, IfSome, codes, decimal};
+ghost use Rattle.std.specs.Prelude.{◌≡◌, ◌⊎◌, ◌++◌, false, OnOk, OnErr, IfSome, decimal};
 ghost use Rattle.std.specs.Option.{option_copied};
 ghost use Rattle.std.specs.Io.KnownBytes.{Appends};
 ghost use Rattle.bz_text.specs.Writing.{Writes};
 ghost use Rattle.bz_cli_input.specs.Reading.{ReadsWithin};
 ghost use Rattle.bz_cli_input.specs.Stopping.{AppendsSome, StopsAtInput};
-ghost use Rattle.bz_cli_trace.specs.Checking.{Checks, ChecksApart, ChecksTrace, TellsVerdict, run_text, verdict_text};
+ghost use Rattle.bz_cli_trace.specs.Checking.{Checks, ChecksApart, ChecksTrace, TellsVerdict, counts_text, line_end_text, run_words_text, verdict_text};
 
-use crate::checked::{Checked, check_reader, check_trace};
+use crate::checked::{Checked, check_reader, check_text};
+use crate::finding::Finding;
 use crate::texts::Texts;
+use crate::way::CheckWay;
 use bz_cli_input::{Fault, read_input};
 use bz_model::Value;
 use bz_text::{Piece, WriteFault, put_pieces};
@@ -22,35 +24,37 @@ use std::io::{Read, Write};
 pub fn check_cmd<R: Read, W: Write>(
     alloc: Global,
     asked: Option<&[u8]>,
+    to_rest: bool,
     input: &mut R,
     output: &mut W,
 ) -> Result<Checked, Fault>
-    ensures checks { IfSome (R.remaining input.old) (λ text. Checks text (option_copied asked.entry) (W.contents output.old) (W.contents output.new) result) }
+    ensures checks { IfSome (R.remaining input.old) (λ text. Checks to_rest text (option_copied asked.entry) (W.contents output.old) (W.contents output.new) result) }
 
     // Whatever comes of it, it reads at most one byte past the limit.
     ensures bounded { ReadsWithin (R.remaining input.old) (R.remaining input.new) }
 {
     match Texts::read(alloc, input) {
-        Ok(texts) => check_texts(alloc, asked, &texts, output),
+        Ok(texts) => check_texts(alloc, asked, to_rest, &texts, output),
         Err(fault) => Err(Fault::from(fault)),
     }
 }
 
-// Checks a trace against a netlist.
-fn check_texts<W: Write>(
+/// Checks a trace against a netlist, writes the verdict, and answers the net that was checked.
+pub fn check_texts<W: Write>(
     alloc: Global,
     asked: Option<&[u8]>,
+    to_rest: bool,
     texts: &Texts,
     output: &mut W,
 ) -> Result<Checked, Fault>
-    ensures { ChecksTrace texts.now.netlist texts.now.trace (option_copied asked.entry) (W.contents output.old) (W.contents output.new) result }
+    ensures { ChecksTrace false to_rest texts.now.netlist texts.now.trace (option_copied asked.entry) (W.contents output.old) (W.contents output.new) result }
 {
     let (netlist, trace) = texts.both();
-    let checked = match check_trace(alloc, asked, netlist, trace) {
+    let checked = match check_text(alloc, asked, netlist, trace, to_rest) {
         Ok(checked) => checked,
         Err(fault) => return Err(fault),
     };
-    match tell(checked.verdict, checked.counts, output) {
+    match tell(b"", checked.finding(), output) {
         Ok(()) => Ok(checked),
         Err(fault) => Err(fault),
     }
@@ -60,12 +64,13 @@ fn check_texts<W: Write>(
 pub fn check_trace_cmd<R: Read, T: Read, W: Write>(
     alloc: Global,
     asked: Option<&[u8]>,
+    way: CheckWay,
     input: &mut R,
     trace: &mut T,
     output: &mut W,
 ) -> Result<Checked, Fault>
     ensures checks { IfSome (R.remaining input.old) (λ netlist. IfSome (T.remaining trace.old)
-        (λ text. ChecksApart netlist text (option_copied asked.entry) (W.contents output.old) (W.contents output.new) result)) }
+        (λ text. ChecksApart way.to_first way.to_rest netlist text (option_copied asked.entry) (W.contents output.old) (W.contents output.new) result)) }
 
     // Whatever comes of it, it reads at most one byte of the netlist past the limit.
     ensures bounded { ReadsWithin (R.remaining input.old) (R.remaining input.new) }
@@ -74,49 +79,50 @@ pub fn check_trace_cmd<R: Read, T: Read, W: Write>(
         Ok(netlist) => netlist,
         Err(fault) => return Err(Fault::from(fault)),
     };
-    check_netlist(alloc, asked, netlist.as_slice(), trace, output)
+    check_netlist(alloc, asked, way, netlist.as_slice(), trace, output)
 }
 
 // Checks the trace that a reader gives against this netlist.
 fn check_netlist<T: Read, W: Write>(
     alloc: Global,
     asked: Option<&[u8]>,
+    way: CheckWay,
     netlist: &[u8],
     trace: &mut T,
     output: &mut W,
 ) -> Result<Checked, Fault>
     ensures { IfSome (T.remaining trace.old) (λ text. StopsAtInput (W.contents output.old) (W.contents output.new) result
-        ⊎ ChecksTrace netlist.now text (option_copied asked.entry) (W.contents output.old) (W.contents output.new) result) }
+        ⊎ ChecksTrace way.to_first way.to_rest netlist.now text (option_copied asked.entry) (W.contents output.old) (W.contents output.new) result) }
 {
-    let checked = match check_reader(alloc, asked, netlist, trace) {
+    let checked = match check_reader(alloc, asked, netlist, trace, way) {
         Ok(checked) => checked,
         Err(fault) => return Err(fault),
     };
-    match tell(checked.verdict, checked.counts, output) {
+    match tell(b"", checked.finding(), output) {
         Ok(()) => Ok(checked),
         Err(fault) => Err(fault),
     }
 }
 
-// Writes a verdict.
-fn tell<W: Write>(verdict: Verdict, counts: Counts, output: &mut W) -> Result<(), Fault>
-    ensures { TellsVerdict verdict counts (W.contents output.old) (W.contents output.new) result }
+/// Writes a verdict behind what stands in front of it.
+pub(crate) fn tell<W: Write>(front: &[u8], found: Finding, output: &mut W) -> Result<(), Fault>
+    ensures { TellsVerdict front.now found (W.contents output.old) (W.contents output.new) result }
 {
-    if let Verdict::Memory = verdict {
+    if let Verdict::Memory = found.verdict {
         return Err(Fault::Memory);
     }
-    match write_out(verdict, counts, output) {
+    match write_out(front, found, output) {
         Ok(()) => Ok(()),
         Err(WriteFault) => Err(Fault::Write),
     }
 }
 
 // Writes a verdict, down to the last byte.
-fn write_out<W: Write>(verdict: Verdict, counts: Counts, output: &mut W) -> Result<(), WriteFault>
-    ensures ok { OnOk result (Appends (W.contents output.old) (W.contents output.new) (verdict_text verdict counts)) }
-    ensures err { OnErr result (AppendsSome (W.contents output.old) (W.contents output.new) (verdict_text verdict counts)) }
+fn write_out<W: Write>(front: &[u8], found: Finding, output: &mut W) -> Result<(), WriteFault>
+    ensures ok { OnOk result (Appends (W.contents output.old) (W.contents output.new) (front.now ++ verdict_text found)) }
+    ensures err { OnErr result (AppendsSome (W.contents output.old) (W.contents output.new) (front.now ++ verdict_text found)) }
 {
-    match put_verdict(verdict, counts, output) {
+    match put_verdict(front, found, output) {
         Ok(()) => {}
         Err(fault) => return Err(fault),
     }
@@ -126,22 +132,53 @@ fn write_out<W: Write>(verdict: Verdict, counts: Counts, output: &mut W) -> Resu
     }
 }
 
-fn put_verdict<W: Write>(verdict: Verdict, counts: Counts, output: &mut W) -> Result<(), WriteFault>
-    ensures { Writes (W.contents output.old) (W.contents output.new) result (verdict_text verdict counts) }
+fn put_verdict<W: Write>(front: &[u8], found: Finding, output: &mut W) -> Result<(), WriteFault>
+    ensures { Writes (W.contents output.old) (W.contents output.new) result (front.now ++ verdict_text found) }
 {
-    match verdict {
-        Verdict::Run => put_counts(output, counts),
-        Verdict::Not(line) => put_line(output, b"not a run: line ", line),
-        Verdict::Bad(line) => put_line(output, b"not a trace: line ", line),
-        Verdict::Memory => put_pieces(output, &[]),
+    match found.verdict {
+        Verdict::Run => put_counts(output, front, run_words(found.unrested), found.counts),
+        Verdict::Not(line) => {
+            let end = line_end(found.early);
+            put_line(output, front, b"not a run: line ", line, end)
+        }
+        Verdict::Bad(line) => put_line(output, front, b"not a trace: line ", line, b"\n"),
+        Verdict::Memory => put_pieces(output, &[Piece::Bytes(front)]),
     }
 }
 
-fn put_counts<W: Write>(output: &mut W, counts: Counts) -> Result<(), WriteFault>
-    ensures { Writes (W.contents output.old) (W.contents output.new) result (run_text counts) }
+// How the line of a run begins, which was to end at rest and doesn't, or else is just that.
+fn run_words(unrested: bool) -> &'static [u8]
+    ensures { result.now ≡ run_words_text unrested }
+{
+    if unrested {
+        b"run, and not at rest: "
+    } else {
+        b"run: "
+    }
+}
+
+// How the line of a trace of no run ends, of which no more was looked at, or else all.
+fn line_end(early: bool) -> &'static [u8]
+    ensures { result.now ≡ line_end_text early }
+{
+    if early {
+        b", and the rest was not looked at\n"
+    } else {
+        b"\n"
+    }
+}
+
+fn put_counts<'t, W: Write>(
+    output: &mut W,
+    front: &'t [u8],
+    words: &'t [u8],
+    counts: Counts,
+) -> Result<(), WriteFault>
+    ensures { Writes (W.contents output.old) (W.contents output.new) result (front.now ++ (words.now ++ counts_text counts)) }
 {
     let pieces = [
-        Piece::Bytes(b"run: "),
+        Piece::Bytes(front),
+        Piece::Bytes(words),
         Piece::Number(counts.fired as Value),
         Piece::Bytes(b" fired, "),
         Piece::Number(counts.host as Value),
@@ -152,13 +189,20 @@ fn put_counts<W: Write>(output: &mut W, counts: Counts) -> Result<(), WriteFault
     put_pieces(output, &pieces)
 }
 
-fn put_line<W: Write>(output: &mut W, words: &[u8], line: usize) -> Result<(), WriteFault>
-    ensures { Writes (W.contents output.old) (W.contents output.new) result (words.now ++ (decimal line ++ codes "\n")) }
+fn put_line<'t, W: Write>(
+    output: &mut W,
+    front: &'t [u8],
+    words: &'t [u8],
+    line: usize,
+    end: &'t [u8],
+) -> Result<(), WriteFault>
+    ensures { Writes (W.contents output.old) (W.contents output.new) result (front.now ++ (words.now ++ (decimal line ++ end.now))) }
 {
     let pieces = [
+        Piece::Bytes(front),
         Piece::Bytes(words),
         Piece::Number(line as Value),
-        Piece::Bytes(b"\n"),
+        Piece::Bytes(end),
     ];
     put_pieces(output, &pieces)
 }

@@ -5,14 +5,20 @@
 mod checked;
 mod checking;
 mod fault;
+mod finding;
 mod held;
 mod run;
+mod several;
 mod splitting;
 mod texts;
+mod way;
 
 pub use checked::{Checked, check_trace};
-pub use checking::{check_cmd, check_trace_cmd};
+pub use checking::{check_cmd, check_texts, check_trace_cmd};
 pub use fault::TraceFault;
+pub use finding::Finding;
 pub use run::run_of;
+pub use several::{Opened, Traced, check_named};
 pub use splitting::split_trace;
 pub use texts::Texts;
+pub use way::CheckWay;

@@ -17,6 +17,6 @@ pub use finding::{Finding, Findings, Severity, tell_findings, tell_json, tell_re
 pub use keeping::Keeping;
 pub use nearest::{nearest_name, port_names};
 pub use notes::{NEAREST, Notes, Place};
-pub use source::put_source;
+pub use source::{put_source, put_source_from};
 pub use spot::{before_in_line, spot_of};
 pub use telling::{tell, tell_notes};

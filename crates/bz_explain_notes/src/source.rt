@@ -28,7 +28,13 @@ struct Window<'t> {
 /// Tells where a byte of a text stands: its line and column, with `of` behind them or the name of the file in front, then the
 /// line itself, and goes on behind a caret below it.
 pub fn put_source(notes: &mut Notes, text: &[u8], at: usize, of: &str) {
-    let spot = spot_of(text, at);
+    put_source_from(notes, text, at, 1, of);
+}
+
+/// The same of a piece of a text, whose first line has this number in it.
+pub fn put_source_from(notes: &mut Notes, text: &[u8], at: usize, first: usize, of: &str) {
+    let mut spot = spot_of(text, at);
+    spot.line = spot.line.saturating_add(first.saturating_sub(1));
     let place = Place { byte: at, spot };
     let window = window_of(text, at);
     let (before, behind) = (Text(window.before), Text(window.behind));

@@ -53,8 +53,8 @@ fn explain_first(notes: &mut Notes, trace: &[u8], line: &[u8]) {
     }
 }
 
-// The notes of a netlist behind which no line begins a trace.
-fn explain_netlist(notes: &mut Notes, netlist: &[u8]) {
+/// The notes of a netlist behind which no line begins a trace.
+pub(crate) fn explain_netlist(notes: &mut Notes, netlist: &[u8]) {
     notes.say(
         "found: no line that is exactly trace 1 or trace 2\n\
         expected: such a line behind the netlist, and then the trace",

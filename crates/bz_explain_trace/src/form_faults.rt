@@ -1,15 +1,16 @@
 //! Lines that have none of the forms of a trace.
 
 use crate::forms::{Line, Misfit, Want};
-use crate::items::{LineAt, item_of, line_of, start_of_line};
+use crate::items::{LineAt, item_of, line_of};
+use crate::suspect::Suspect;
 use bz_explain_notes::{Notes, port_names};
 use bz_model::Names;
 use bz_trace_text::MAX_ENTRIES;
 use bz_view::Piece::{Count, Number, Shown};
 
 /// The notes of a line, by its number, that has none of the forms, or stands where none of its form may.
-pub(crate) fn explain_form(notes: &mut Notes, names: &Names, trace: &[u8], number: usize) {
-    let at = LineAt::of(trace, start_of_line(trace, number));
+pub(crate) fn explain_form(notes: &mut Notes, names: &Names, suspect: Suspect<'_>, number: usize) {
+    let at = LineAt::of(suspect, number);
     let text = line_of(at.rest);
     let line = Line {
         alloc: notes.alloc(),

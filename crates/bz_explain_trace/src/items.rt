@@ -1,33 +1,50 @@
 //! The lines of a trace, and their items, which are one space apart.
 
-use bz_explain_notes::{Notes, put_source};
+use crate::suspect::Suspect;
+use bz_explain_notes::{Notes, put_source_from};
 
 /// A line of a trace.
 #[derive(Clone, Copy)]
 pub(crate) struct LineAt<'t> {
+    /// Lines of the trace, this one among them.
     trace: &'t [u8],
-    /// The byte at which it begins.
+    /// The number of the first of them.
+    first: usize,
+    /// The byte at which this one begins.
     at: usize,
-    /// What the trace has from there on.
+    /// What stands from there on.
     pub(crate) rest: &'t [u8],
 }
 
 impl<'t> LineAt<'t> {
-    /// The line that begins at a byte.
-    pub(crate) fn of(trace: &'t [u8], at: usize) -> LineAt<'t> {
+    /// A line of a trace, by its number.
+    pub(crate) fn of(suspect: Suspect<'t>, number: usize) -> LineAt<'t> {
+        let Suspect { trace, first, .. } = suspect;
+        let within = number.saturating_sub(first).saturating_add(1);
+        let at = start_of_line(trace, within);
         let (_, rest) = trace.split_at(at.min(trace.len()));
-        LineAt { trace, at, rest }
+        LineAt {
+            trace,
+            first,
+            at,
+            rest,
+        }
+    }
+
+    /// The lines that stand in front of it, as far as they are there.
+    pub(crate) fn before(self) -> &'t [u8] {
+        self.trace.get(..self.at).unwrap_or(self.trace)
     }
 
     /// Tells where the line stands, and goes on behind a caret below one of its items.
     pub(crate) fn put(self, notes: &mut Notes, item: usize) {
         let at = self.at.saturating_add(start_of(self.rest, item));
-        put_source(notes, self.trace, at, " of the trace");
+        put_source_from(notes, self.trace, at, self.first, " of the trace");
     }
 }
 
-/// The byte at which a line begins, by its number from 1; the end of the trace where it has no such line.
-pub(crate) fn start_of_line(trace: &[u8], number: usize) -> usize {
+// The byte at which a line begins, by its number from 1; the end of the text where it has no such line.
+fn start_of_line(trace: &[u8], number: usize) -> usize {
     let mut line = 1usize;
     for (place, byte) in trace.iter().enumerate() {
         if line == number {

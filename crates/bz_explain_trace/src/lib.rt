@@ -11,10 +11,12 @@ mod form_faults;
 mod forms;
 mod items;
 mod moves;
+mod object;
 mod replies;
 mod scene;
 mod stops;
 mod suspect;
 
-pub use explaining::explain_trace;
+pub use explaining::{explain_found, explain_no_trace, explain_trace, explain_unrested};
+pub use object::put_found;
 pub use suspect::Suspect;

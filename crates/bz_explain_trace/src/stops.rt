@@ -2,29 +2,26 @@
 
 use crate::clashes::explain_clash;
 use crate::firings::{Firing, explain_firing, explain_rest};
-use crate::items::{LineAt, start_of_line};
+use crate::items::LineAt;
 use crate::replies::{Command, explain_refused, explain_reply, reply_of};
 use crate::scene::{Scene, phase_of};
-use bz_cli_trace::Checked;
+use crate::suspect::Suspect;
 use bz_explain_notes::Notes;
 use bz_model::{Entry, NetError};
-use bz_net::Play;
+use bz_net::{Core, Play};
 use bz_source::Survey;
 use bz_trace_text::{LineNames, clash_at, line_at};
 use std::alloc::AllocError;
 
-/// Says why no run has a line, by its number, where the net that was checked has played the lines before it.
-pub(crate) fn explain_stop(notes: &mut Notes, checked: Checked, trace: &[u8], number: usize) {
-    let (mut net, source, part) = checked.into_parts();
-    match source.survey(notes.alloc(), part.as_slice()) {
-        Ok(survey) => explain_line(notes, &mut net, &survey, trace, number),
-        Err(_) => notes.fail(),
-    }
-}
-
-fn explain_line(notes: &mut Notes, net: &mut Play, survey: &Survey, trace: &[u8], number: usize) {
-    let start = start_of_line(trace, number);
-    let line = LineAt::of(trace, start);
+/// Says why no run has a line, by its number, where a net has played the lines before it.
+pub(crate) fn explain_line(
+    notes: &mut Notes,
+    net: &mut Play,
+    survey: &Survey,
+    suspect: Suspect<'_>,
+    number: usize,
+) {
+    let line = LineAt::of(suspect, number);
     match line_entry(notes, net, line) {
         Ok(Some(entry)) => {
             if explain_entry(notes, net, survey, line, entry).is_none() {
@@ -32,7 +29,7 @@ fn explain_line(notes: &mut Notes, net: &mut Play, survey: &Survey, trace: &[u8]
             }
         }
         Ok(None) => {
-            let before = clash_count(trace.get(..start).unwrap_or(trace));
+            let before = clash_count(line.before());
             let due = net.clashes().get(before).copied();
             let found = match clash_at(line.rest) {
                 Some((found, _)) => Some(found),
@@ -42,6 +39,19 @@ fn explain_line(notes: &mut Notes, net: &mut Play, survey: &Survey, trace: &[u8]
         }
         Err(_) => notes.fail(),
     }
+}
+
+/// Says what can move in a net at the end of a run.
+pub(crate) fn explain_end(notes: &mut Notes, net: &Core, survey: &Survey) {
+    let nothing = Suspect {
+        netlist: b"",
+        trace: b"",
+        first: 1,
+        file: None,
+    };
+    notes.put("the end of the trace\nfound: what can move: ", &[]);
+    Scene::of(net, survey, LineAt::of(nothing, 1)).put_moves(notes);
+    notes.say("\nexpected: a run that ends at rest", &[]);
 }
 
 // The entry of a line, if it is that of one.

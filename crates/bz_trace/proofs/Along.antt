@@ -94,7 +94,7 @@ pub run_pop : (w : Wiring) (s : State) (es : List Entry) (e : Entry) (t : State)
 run_pop w s [] e t (next, step, last) = (s, refl, subst (λ o. Follows w s e o) (sym last) step)
 run_pop w s (x ∷ es) e t (next, step, run) = let (m, front, after) = run_pop w next es e t run in (m, (next, step, front), after)
 
-run_along : (w : Wiring) (net : Progress) (entries : List Entry) (along : Along w net entries) → Run w (opening w) along.journal net.state
+pub run_along : (w : Wiring) (net : Progress) (entries : List Entry) (along : Along w net entries) → Run w (opening w) along.journal net.state
 run_along w net entries along = subst (λ (v : Wiring). Run v (opening v) along.journal net.state) along.wiring along.of_net.run
 
 told_nil : (es : List Entry) → map told es ≡ [] → es ≡ []
@@ -338,7 +338,7 @@ leaves w text net counts (verdict.Bad line) by = by.1
 leaves w text net counts verdict.Memory by = tt
 
 -- the entries in front of a line
-taken_front : (es before rest : List Entry) (line : ℕ) → es ≡ before ++ rest → line ≡ length before + 2 → take (line - 2) es ≡ before
+pub taken_front : (es before rest : List Entry) (line : ℕ) → es ≡ before ++ rest → line ≡ length before + 2 → take (line - 2) es ≡ before
 taken_front es before rest line is at =
     let long : line - 2 ≡ length before = omega (arith, at) in
     ap₂ (λ n xs. take n xs) long is ∙ take-append_seam before rest

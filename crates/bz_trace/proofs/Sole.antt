@@ -86,7 +86,7 @@ module _ (w : Wiring) (wired : WellWired w) where
       }
 
   -- where all entries are those of a run, no line of an entry stops
-  none_stops : (es fs : List Entry) (n : ℕ) (t : State) → StopsAtEntry w fs n → AllByRecursion HasWho es → Run w (opening w) es t → map told es ≡ map told fs → ⊥
+  pub none_stops : (es fs : List Entry) (n : ℕ) (t : State) → StopsAtEntry w fs n → AllByRecursion HasWho es → Run w (opening w) es t → map told es ≡ map told fs → ⊥
   none_stops es fs n t s by run alike =
       s.fails (front_runs es (s.before ++ s.here ∷ []) s.after t by run (alike ∙ ap (map told) (s.entries_are ∙ sym (append_assoc s.before (s.here ∷ []) s.after))))
 
@@ -103,7 +103,7 @@ module _ (w : Wiring) (wired : WellWired w) where
       let same = sym (told_by t.before r.entries r.last own r.by r.run r.text_is) in
       s.fails (front_runs r.entries (s.before ++ s.here ∷ []) ys r.last r.by r.run (same ∙ is))
 
-  one_entry : (es fs : List Entry) (n m : ℕ) → AllByRecursion (HasLine (outside w)) es → AllByRecursion (HasLine (outside w)) fs → map told es ≡ map told fs → StopsAtEntry w es n → StopsAtEntry w fs m → n ≡ m
+  pub one_entry : (es fs : List Entry) (n m : ℕ) → AllByRecursion (HasLine (outside w)) es → AllByRecursion (HasLine (outside w)) fs → map told es ≡ map told fs → StopsAtEntry w es n → StopsAtEntry w fs m → n ≡ m
   one_entry es fs n m each own alike a b =
       elim (compare (length a.before) (length b.before)) [
         | inl less ↦ absurd (not_earlier es fs n m a b own alike less)

@@ -17,10 +17,11 @@ use Rattle.bz_trace_text.specs.declared.tally.Counts.{Counts}
 use Rattle.bz_trace.specs.declared.checking.Verdict.{Verdict}
 use Rattle.bz_trace.specs.declared.checking.Verdict.TheVariants as verdict
 use Rattle.bz_trace.specs.declared.reading.ReadFault.{ReadFault}
-use Rattle.bz_trace.specs.Verdicts.{Concludes, CountsRun, Judges, Leaves}
+use Rattle.bz_trace.specs.declared.reading.Said.{Said}
+use Rattle.bz_trace.specs.Verdicts.{Concludes, CountsRun, Judges}
 use Rattle.bz_trace.specs.Following.{FollowsText, GetsOn, NoneToFollow}
 use Rattle.bz_trace.specs.declared.reading.ReadFault.TheVariants as fault
-use Rattle.bz_trace.specs.Reading.{AwaitsMore, Comes, HasEnd, IsOther, IsTooLong, ReadsMore}
+use Rattle.bz_trace.specs.Reading.{AwaitsMore, Comes, ConcludesAs, ConcludesTo, HasEnd, IsEarly, IsOther, IsTooLong, JudgesTo, LeavesTo, ReadsMore, StopsInFront}
 use Rattle.bz_trace.proofs.Along.{bad_here, cons_same, counts_run, follows_longer, follows_start, judges, leaves, told_here}
 use Rattle.bz_trace.proofs.Ends.{no_entry_on}
 use Rattle.bz_trace.proofs.Sole.{one_verdict_or_memory}
@@ -74,7 +75,7 @@ no_end : (text more : List ℕ) → HasEnd text → text ++ more ≡ [] → ⊥
 no_end [] more h e = cc
 no_end (b ∷ text) more h e = cc
 
-no_entry : (names net : Outside) (text more : List ℕ) (followed : Followed) → names ≡ net → HasEnd text → NoneToFollow names text followed → NoEntry net followed.count (text ++ more)
+pub no_entry : (names net : Outside) (text more : List ℕ) (followed : Followed) → names ≡ net → HasEnd text → NoneToFollow names text followed → NoEntry net followed.count (text ++ more)
 no_entry names net text more followed named h (inl none) = no_entry_on net followed.count text more h (subst (λ n. line_at n text ≡ None) named none)
 no_entry names net text more followed named h (inr full) = λ e after has is. full
 
@@ -145,30 +146,64 @@ falls old new text rest piece later (inr more) is some fits within =
 
 -- ---- what is said of all that the reader had
 
-each : (o : Option (List ℕ)) (P Q : List ℕ → Type 0) → ((text : List ℕ) → P text → Q text) → IfSome o P → IfSome o Q
+pub each : (o : Option (List ℕ)) (P Q : List ℕ → Type 0) → ((text : List ℕ) → P text → Q text) → IfSome o P → IfSome o Q
 each None P Q all p = tt
 each (Some text) P Q all p = all text p
 
-abbrev pub IsSaid : Wiring → Option (List ℕ) → Progress → Result (Verdict × Counts) ReadFault → Type 0
-IsSaid w old net result = IfOk result (λ said. IfSome old (λ text. Concludes w text net said.1 said.0))
+pub both : (o : Option (List ℕ)) (P Q R : List ℕ → Type 0) → ((text : List ℕ) → P text → Q text → R text) → IfSome o P → IfSome o Q → IfSome o R
+both None P Q R all p q = tt
+both (Some text) P Q R all p q = all text p q
 
-module _ (w : Wiring) (old : Option (List ℕ)) (net : Progress) where
-  pub right_of : (r : Result (Verdict × Counts) ReadFault) → IsSaid w old net r → IfOk r (λ said. IfSome old (λ text. Judges w text said.0))
-  right_of (Ok said) by = each old _ _ (λ text. judges w text net said.1 said.0) by
+judges_as : (early : Bool) (w : Wiring) (text : List ℕ) (net : Progress) (counts : Counts) (v : Verdict) → ConcludesAs early w text net counts v → JudgesTo early w text v
+judges_as false w text net counts v by = judges w text net counts v by
+judges_as true w text net counts verdict.Run by = absurd by
+judges_as true w text net counts (verdict.Not line) by = by.0
+judges_as true w text net counts (verdict.Bad line) by = absurd by
+judges_as true w text net counts verdict.Memory by = absurd by
+
+leaves_as : (early : Bool) (w : Wiring) (text : List ℕ) (net : Progress) (counts : Counts) (v : Verdict) → ConcludesAs early w text net counts v → LeavesTo early w text net v
+leaves_as false w text net counts v by = leaves w text net counts v by
+leaves_as true w text net counts v by = by
+
+counts_as : (early : Bool) (w : Wiring) (text : List ℕ) (net : Progress) (counts : Counts) (v : Verdict) → ConcludesAs early w text net counts v → v ≡ verdict.Run → CountsRun w text counts
+counts_as false w text net counts v by is = counts_run w text net counts v by is
+counts_as true w text net counts verdict.Run by is = absurd by
+counts_as true w text net counts (verdict.Not line) by is = absurd (let e = is in cc)
+counts_as true w text net counts (verdict.Bad line) by is = absurd by
+counts_as true w text net counts verdict.Memory by is = absurd by
+
+only_as : (early : Bool) (w : Wiring) (text : List ℕ) (net : Progress) (counts : Counts) (v : Verdict) → WellWired w → ConcludesAs early w text net counts v → early ≡ false
+    → (u : Verdict) → Judges w text u → u ≢ verdict.Memory → (v ≡ u) ⊎ (v ≡ verdict.Memory)
+only_as false w text net counts v wired by whole u holds some = one_verdict_or_memory w text v u (λ other. wired) (judges w text net counts v by) holds some
+only_as true w text net counts v wired by whole u holds some = absurd (let e = whole in cc)
+
+abbrev pub IsSaid : Bool → Wiring → Option (List ℕ) → Progress → Result Said ReadFault → Type 0
+IsSaid to_first w old net result = IfOk result (λ said. IfSome old (λ text. ConcludesTo to_first w text net said))
+
+module _ (to_first : Bool) (w : Wiring) (old : Option (List ℕ)) (net : Progress) where
+  pub right_of : (r : Result Said ReadFault) → IsSaid to_first w old net r → IfOk r (λ said. IfSome old (λ text. JudgesTo said.early w text said.verdict))
+  right_of (Ok said) by = each old _ _ (λ text c. judges_as said.early w text net said.counts said.verdict c.concludes) by
   right_of (Err f) by = tt
 
-  pub counted_of : (r : Result (Verdict × Counts) ReadFault) → IsSaid w old net r → IfOk r (λ said. IfSome old (λ text. said.0 ≡ verdict.Run → CountsRun w text said.1))
-  counted_of (Ok said) by = each old _ _ (λ text. counts_run w text net said.1 said.0) by
+  pub counted_of : (r : Result Said ReadFault) → IsSaid to_first w old net r → IfOk r (λ said. IfSome old (λ text. said.verdict ≡ verdict.Run → CountsRun w text said.counts))
+  counted_of (Ok said) by = each old _ _ (λ text c. counts_as said.early w text net said.counts said.verdict c.concludes) by
   counted_of (Err f) by = tt
 
-  pub leaves_of : (r : Result (Verdict × Counts) ReadFault) → IsSaid w old net r → IfOk r (λ said. IfSome old (λ text. Leaves w text net said.0))
-  leaves_of (Ok said) by = each old _ _ (λ text. leaves w text net said.1 said.0) by
+  pub leaves_of : (r : Result Said ReadFault) → IsSaid to_first w old net r → IfOk r (λ said. IfSome old (λ text. LeavesTo said.early w text net said.verdict))
+  leaves_of (Ok said) by = each old _ _ (λ text c. leaves_as said.early w text net said.counts said.verdict c.concludes) by
   leaves_of (Err f) by = tt
 
-  pub only_of : (r : Result (Verdict × Counts) ReadFault) → WellWired w → IsSaid w old net r
-      → IfOk r (λ said. IfSome old (λ text. (v : Verdict) → Judges w text v → v ≢ verdict.Memory → (said.0 ≡ v) ⊎ (said.0 ≡ verdict.Memory)))
-  only_of (Ok said) wired by = each old _ _ (λ text one v holds some. one_verdict_or_memory w text said.0 v (λ other. wired) (judges w text net said.1 said.0 one) holds some) by
+  pub only_of : (r : Result Said ReadFault) → WellWired w → IsSaid to_first w old net r
+      → IfOk r (λ said. IfSome old (λ text. said.early ≡ false → (v : Verdict) → Judges w text v → v ≢ verdict.Memory → (said.verdict ≡ v) ⊎ (said.verdict ≡ verdict.Memory)))
+  only_of (Ok said) wired by = each old _ _ (λ text c. only_as said.early w text net said.counts said.verdict wired c.concludes) by
   only_of (Err f) wired by = tt
+
+  first_in : (o : Option (List ℕ)) (said : Said) → to_first ≡ true → IfSome o (λ text. ConcludesTo to_first w text net said) → IfSome o (λ text. (line : ℕ) → StopsInFront w text line → IsEarly line said)
+  first_in o said so by = each o _ _ (λ text c. c.first so) by
+
+  pub first_of : (r : Result Said ReadFault) → IsSaid to_first w old net r → IfOk r (λ said. to_first ≡ true → IfSome old (λ text. (line : ℕ) → StopsInFront w text line → IsEarly line said))
+  first_of (Ok said) by = λ so. first_in old said so by
+  first_of (Err f) by = tt
 
 -- ---- a piece more, or the end
 
@@ -202,23 +237,28 @@ first_bad_of old new net held later text came empty r is none =
     let taken = subst (λ p. Consumes old new p) (sym (r.2 ∙ ap (λ h. h ++ r.0) empty)) r.1 in
     first_bad old new net later taken (comes_long new came r.0 later 8 r.3) (λ v rest e. none v rest (is ∙ e))
 
+-- without a first line no line stops
+none_in_bad : (w : Wiring) (text : List ℕ) (line : ℕ) → IsBad (outside w) text 1 → StopsInFront w text line → ⊥
+none_in_bad w text line (inl bad) stops = bad.1 stops.version _ stops.text_is
+none_in_bad w text line (inr later) stops = let is = later.line_is in absurd (omega (arith, is))
+
 -- so nothing was played
-pub begins_badly : (old new : Option (List ℕ)) (w : Wiring) (net : Progress) (counts : Counts) (held later text : List ℕ) (came : Bool) → IsToldBy net [] → held ≡ [] → ReadsMore old new held later 8 came → text ≡ later → ((v : Version) (rest : List ℕ) → text ≡ first_line v ++ rest → ⊥)
-    → IfSome old (λ t. Concludes w t net counts (verdict.Bad 1))
-begins_badly old new w net counts held later text came opened empty r is none =
-    each old _ _ (λ t bad. (bad, ([], opened))) (first_bad_of old new (outside w) held later text came empty r is none)
+pub begins_badly : (to_first : Bool) (old new : Option (List ℕ)) (w : Wiring) (net : Progress) (counts : Counts) (held later text : List ℕ) (came : Bool) → IsToldBy net [] → held ≡ [] → ReadsMore old new held later 8 came → text ≡ later → ((v : Version) (rest : List ℕ) → text ≡ first_line v ++ rest → ⊥)
+    → IfSome old (λ t. ConcludesTo to_first w t net (record { verdict = verdict.Bad 1; counts = counts; early = false }))
+begins_badly to_first old new w net counts held later text came opened empty r is none =
+    each old _ _ (λ t bad. record { concludes = (bad, ([], opened)); first = λ so line stops. absurd (none_in_bad w t line bad stops) }) (first_bad_of old new (outside w) held later text came empty r is none)
 
 -- what was said of the lines behind the first one, of which a front was held, holds of all that the reader had
-pub said_behind : (w : Wiring) (net : Progress) (old mid : Option (List ℕ)) (held later text lines front : List ℕ) (version : Version) (goal : ℕ) (came : Bool) (answer : Result (Verdict × Counts) ReadFault)
+pub said_behind : {A : Type 0} (P : List ℕ → A → Type 0) (old mid : Option (List ℕ)) (held later text lines front : List ℕ) (version : Version) (goal : ℕ) (came : Bool) (answer : Result A ReadFault)
     → held ≡ [] → ReadsMore old mid held later goal came → text ≡ later → text ≡ first_line version ++ lines → front ≡ lines
-    → IfOk answer (λ said. IfSome mid (λ more. Concludes w (first_line version ++ (front ++ more)) net said.1 said.0))
-    → IfOk answer (λ said. IfSome old (λ text. Concludes w text net said.1 said.0))
-said_behind w net old mid held later text lines front version goal came (Err e) empty reads whole begins front_is judged = tt
-said_behind w net None mid held later text lines front version goal came (Ok said) empty reads whole begins front_is judged = tt
-said_behind w net (Some xs) None held later text lines front version goal came (Ok said) empty (piece, taken, is, comes) whole begins front_is judged = absurd taken
-said_behind w net (Some xs) (Some ys) held later text lines front version goal came (Ok said) empty (piece, taken, is, comes) whole begins front_is judged =
+    → IfOk answer (λ said. IfSome mid (λ more. P (first_line version ++ (front ++ more)) said))
+    → IfOk answer (λ said. IfSome old (λ text. P text said))
+said_behind P old mid held later text lines front version goal came (Err e) empty reads whole begins front_is judged = tt
+said_behind P None mid held later text lines front version goal came (Ok said) empty reads whole begins front_is judged = tt
+said_behind P (Some xs) None held later text lines front version goal came (Ok said) empty (piece, taken, is, comes) whole begins front_is judged = absurd taken
+said_behind P (Some xs) (Some ys) held later text lines front version goal came (Ok said) empty (piece, taken, is, comes) whole begins front_is judged =
     let piece_is : piece ≡ first_line version ++ front = ap (λ (l : List ℕ). l ++ piece) (sym empty) ∙ sym is ∙ sym whole ∙ begins ∙ ap (λ (l : List ℕ). first_line version ++ l) (sym front_is) in
-    subst (λ (t : List ℕ). Concludes w t net said.1 said.0) (sym (taken ∙ ap (λ (l : List ℕ). l ++ ys) piece_is ∙ append_assoc (first_line version) front ys)) judged
+    subst (λ (t : List ℕ). P t said) (sym (taken ∙ ap (λ (l : List ℕ). l ++ ys) piece_is ∙ append_assoc (first_line version) front ys)) judged
 
 -- and so does that they are too long
 pub long_behind : {A : Type 0} (w : Wiring) (old mid : Option (List ℕ)) (held later text lines front : List ℕ) (version : Version) (goal : ℕ) (came : Bool) (answer : Result A ReadFault)

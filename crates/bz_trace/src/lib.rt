@@ -3,6 +3,7 @@
 
 mod checking;
 mod following;
+mod kept;
 mod laws;
 mod lines;
 mod reading;
@@ -12,5 +13,6 @@ pub use bz_trace_text::{
     put_first_line, read_trace, write_trace, write_trace_1,
 };
 pub use checking::{Verdict, check};
+pub use kept::KeptLines;
 pub use laws::plays_are_accepted;
-pub use reading::{ReadFault, check_read};
+pub use reading::{ReadFault, Said, check_read};

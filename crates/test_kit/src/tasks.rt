@@ -92,5 +92,5 @@ pub(crate) fn check_over<R: Read, W: Write>(
     input: &mut R,
     output: &mut W,
 ) -> Result<bool, Fault> {
-    Ok(check_cmd(alloc, Some(part.as_bytes()), input, output)?.is_run())
+    Ok(check_cmd(alloc, Some(part.as_bytes()), false, input, output)?.is_run())
 }

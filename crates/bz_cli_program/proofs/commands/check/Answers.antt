@@ -1,13 +1,7 @@
-use Rattle.std.specs.Option.{option_copied}
-use Rattle.bz_cli_trace.specs.Checking.{Checks, ChecksApart}
-use Rattle.bz_cli_program.specs.Endings.{of_check}
-use Rattle.bz_cli_program.proofs.Ended.{does, does_apart}
 use Rattle.bz_cli_program.proofs.commands.check.Goals as goal
 
-pub returns-in-Some-clause-checks : goal.returns-in-Some-clause-checks
-returns-in-Some-clause-checks g c =
-    rw c.in-Some.is (does_apart of_check _ _ (λ netlist text answer. ChecksApart netlist text (option_copied c.args.part) _ _ answer) c.check_trace_cmd.result _ c.check_trace_cmd.ensures.checks c.judged.ensures)
+pub returns-then-options-clause-object : goal.returns-then-options-clause-object
+returns-then-options-clause-object g c = λ so. (_, _, c.check_into.ensures.checks)
 
-pub returns-in-None-clause-checks : goal.returns-in-None-clause-checks
-returns-in-None-clause-checks g c =
-    rw c.in-None.is (does of_check _ (λ text answer. Checks text (option_copied c.args.part) _ _ answer) c.check_cmd.result _ c.check_cmd.ensures.checks c.judged-in-None.ensures)
+pub returns-else-options-clause-plainly : goal.returns-else-options-clause-plainly
+returns-else-options-clause-plainly g c = λ plainly. c.check_into-else-options.ensures.checks

@@ -7,7 +7,7 @@ pub returns-in-Explore-clause-does : goal.returns-in-Explore-clause-does
 returns-in-Explore-clause-does g c = rw c.in-Explore.is tt
 
 pub returns-in-Check-clause-does : goal.returns-in-Check-clause-does
-returns-in-Check-clause-does g c = rw c.in-Check.is c.check.ensures.checks
+returns-in-Check-clause-does g c = rw c.in-Check.is (c.check.ensures.plainly, c.check.ensures.object)
 
 pub returns-in-Complete-clause-does : goal.returns-in-Complete-clause-does
 returns-in-Complete-clause-does g c = rw (c.in-Complete.is, c.of-in-Complete.ensures) c.complete.ensures.completes

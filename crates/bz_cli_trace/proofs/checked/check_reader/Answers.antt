@@ -6,4 +6,4 @@ pub returns-in-Ok-check_read-clause-ok : goal.returns-in-Ok-check_read-clause-ok
 returns-in-Ok-check_read-clause-ok g c =
     let opened = c.in-Ok.ensures in
     let said = c.in-Ok-check_read.ensures in
-    checked_read _ c.args.netlist.now _ _ c.in-Ok.opened.0.wiring (sym said.wiring) opened.net opened.read said.right said.counted said.leaves
+    checked_read c.args.way.to_first c.args.way.to_rest c.args.netlist.now _ _ c.in-Ok.opened.0.wiring (sym said.wiring) opened.net opened.read said.whole c.moves_on-unrested.ensures _ said.right said.first said.counted said.leaves

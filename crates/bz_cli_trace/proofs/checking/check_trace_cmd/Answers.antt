@@ -11,4 +11,4 @@ returns-in-Err-clause-checks g c = rw c.from.ensures (not_both Checked IsOfInput
 pub returns-clause-checks : goal.returns-clause-checks
 returns-clause-checks g c =
     let checks = rw c.as_slice.ensures.value at c.check_netlist.ensures in
-    checks_apart _ _ c.in-Ok.netlist.items _ _ _ _ c.in-Ok.ensures.whole (omega (arith, c.in-Ok.netlist.ok.0, c.in-Ok.ensures.limit)) checks
+    checks_apart c.args.way.to_first c.args.way.to_rest _ _ c.in-Ok.netlist.items _ _ _ _ c.in-Ok.ensures.whole (omega (arith, c.in-Ok.netlist.ok.0, c.in-Ok.ensures.limit)) checks

@@ -1,11 +1,19 @@
 use Rattle.std.proofs.Common.{◌≡◌, ◌++◌, ◌∙◌, ℕ, true, false, List, refl, rules, sym, subst, arith}
-use Rattle.bz_trace.specs.Following.{FollowsText}
+use Rattle.bz_trace.specs.Following.{FollowsText, NoneToFollow}
 use Rattle.bz_trace.proofs.Along.{wiring_is, within}
-use Rattle.bz_trace.proofs.Streams.{bad_line, falls, held_on, held_start, none_came, said_at_end, some_came, too_long}
+use Rattle.bz_trace.proofs.Streams.{falls, held_on, held_start, none_came, some_came, too_long}
+use Rattle.bz_trace.proofs.Early.{bad_to, end_to, stop_to}
 use Rattle.bz_trace.proofs.reading.check_lines_of.Goals as goal
 
 pub following-init : goal.following-init
 following-init g c = held_start _ c.args.names.now c.args.net.now c.args.front.items c.requires.names c.requires.wired c.requires.opened c.requires.left
+
+pub overflow_add-followed : goal.overflow_add-followed
+overflow_add-followed g c =
+    let l = c.following in
+    let text = c.args.front.items ++ l.invariant.got in
+    let most = within c.args.names.now c.args.net.now.wiring c.follow_held.new.net text c.follow_held.new.held.items c.in_ok-followed.followed (c.in_ok-followed.ensures.follows c.args.net.now.wiring text l.invariant.follows) in
+    omega (arith, most)
 
 pub overflow_add-result : goal.overflow_add-result
 overflow_add-result g c =
@@ -19,7 +27,7 @@ returns-then-is_other-clause-concludes g c =
     let l = c.following in
     let text = c.args.front.items ++ l.invariant.got in
     let other = rw c.as_slice.ensures.value at (c.if-is_other.ensures.other refl) in
-    bad_line _ _ c.args.names.now c.args.net.now.wiring c.follow_held.new.net c.args.version c.args.front.items l.invariant.got c.follow_held.new.held.items c.in_ok-followed.followed l.invariant.taken (c.in_ok-followed.ensures.follows c.args.net.now.wiring text l.invariant.follows) c.in_ok-followed.ensures.no_more other
+    bad_to c.args.to_first _ _ c.args.names.now c.args.net.now.wiring c.follow_held.new.net c.args.version c.args.front.items l.invariant.got c.follow_held.new.held.items c.in_ok-followed.followed l.invariant.taken (c.in_ok-followed.ensures.follows c.args.net.now.wiring text l.invariant.follows) c.in_ok-followed.ensures.no_more other c.in_default.ensures
 
 pub returns-then-is_other-clause-wiring : goal.returns-then-is_other-clause-wiring
 returns-then-is_other-clause-wiring g c =
@@ -37,8 +45,8 @@ pub verdict_behind-verdict-requires-clause-followed : goal.verdict_behind-verdic
 verdict_behind-verdict-requires-clause-followed g c =
     let l = c.following in
     let text = c.args.front.items ++ l.invariant.got in
-    let never : c.in_ok-read_more.field-0 ≡ false = search rules in
-    let none = none_came _ _ _ _ _ c.in_ok-read_more.field-0 never c.in_ok-read_more.ensures.more in
+    let never : c.in_ok-read_lines.field-0 ≡ false = search rules in
+    let none = none_came _ _ _ _ _ c.in_ok-read_lines.field-0 never c.in_ok-read_lines.ensures.more in
     let follows = c.in_ok-followed.ensures.follows c.args.net.now.wiring text l.invariant.follows in
     (c.args.net.now.wiring, text, subst (λ (r : List ℕ). FollowsText c.args.names.now c.args.net.now.wiring c.follow_held.new.net text r c.in_ok-followed.followed) (sym (c.as_slice-then-not-branch.ensures.value ∙ none.1)) follows)
 
@@ -46,27 +54,28 @@ pub returns-then-not-branch-clause-concludes : goal.returns-then-not-branch-clau
 returns-then-not-branch-clause-concludes g c =
     let l = c.following in
     let text = c.args.front.items ++ l.invariant.got in
-    let never : c.in_ok-read_more.field-0 ≡ false = search rules in
-    let none = none_came _ _ _ _ _ c.in_ok-read_more.field-0 never c.in_ok-read_more.ensures.more in
+    let never : c.in_ok-read_lines.field-0 ≡ false = search rules in
+    let none = none_came _ _ _ _ _ c.in_ok-read_lines.field-0 never c.in_ok-read_lines.ensures.more in
     let follows = c.in_ok-followed.ensures.follows c.args.net.now.wiring text l.invariant.follows in
     let here = subst (λ (r : List ℕ). FollowsText c.args.names.now c.args.net.now.wiring c.follow_held.new.net text r c.in_ok-followed.followed) (sym (c.as_slice-then-not-branch.ensures.value ∙ none.1)) follows in
-    said_at_end _ _ _ c.args.net.now.wiring c.follow_held.new.net c.args.version c.args.front.items l.invariant.got c.in_ok-followed.followed.counts c.verdict_behind-verdict.result l.invariant.taken none.0 none.2 (c.verdict_behind-verdict.ensures c.args.net.now.wiring text here)
+    let no_more = subst (λ (r : List ℕ). NoneToFollow c.args.names.now r c.in_ok-followed.followed) (sym (c.as_slice-then-not-branch.ensures.value ∙ none.1)) c.in_ok-followed.ensures.no_more in
+    end_to c.args.to_first _ _ _ c.args.names.now c.args.net.now.wiring c.follow_held.new.net c.args.version c.args.front.items l.invariant.got _ c.in_ok-followed.followed l.invariant.taken none.0 none.2 here no_more c.in_default.ensures c.verdict_behind-verdict.result (c.verdict_behind-verdict.ensures c.args.net.now.wiring text here)
 
 pub following-smaller : goal.following-smaller
 following-smaller g c =
     let l = c.following in
     let text = c.args.front.items ++ l.invariant.got in
-    let so : c.in_ok-read_more.field-0 ≡ true = search rules in
-    let came = some_came _ _ _ _ _ c.in_ok-read_more.field-0 so c.in_ok-read_more.ensures.more in
+    let so : c.in_ok-read_lines.field-0 ≡ true = search rules in
+    let came = some_came _ _ _ _ _ c.in_ok-read_lines.field-0 so c.in_ok-read_lines.ensures.more in
     let most = within c.args.names.now c.args.net.now.wiring c.follow_held.new.net text c.follow_held.new.held.items c.in_ok-followed.followed (c.in_ok-followed.ensures.follows c.args.net.now.wiring text l.invariant.follows) in
-    falls l.followed c.in_ok-followed.followed l.held.items c.follow_held.new.held.items came.0 c.read_more.new.held.items c.in_ok-followed.ensures.gets_on came.2 came.3 (omega (arith, c.if-len-gt-MOST_HELD.false, c.len.ensures)) most
+    falls l.followed c.in_ok-followed.followed l.held.items c.follow_held.new.held.items came.0 c.read_lines.new.held.items c.in_ok-followed.ensures.gets_on came.2 came.3 (omega (arith, c.if-len-gt-MOST_HELD.false, c.len.ensures)) most
 
 pub following-preserved : goal.following-preserved
 following-preserved g c =
     let l = c.following in
     let text = c.args.front.items ++ l.invariant.got in
-    let so : c.in_ok-read_more.field-0 ≡ true = search rules in
-    held_on _ _ _ c.args.names.now c.args.net.now.wiring c.follow_held.new.net c.args.front.items l.invariant.got c.follow_held.new.held.items c.read_more.new.held.items _ c.in_ok-read_more.field-0 c.in_ok-followed.followed so c.in_ok-read_more.ensures.more l.invariant.taken (c.in_ok-followed.ensures.follows c.args.net.now.wiring text l.invariant.follows)
+    let so : c.in_ok-read_lines.field-0 ≡ true = search rules in
+    held_on _ _ _ c.args.names.now c.args.net.now.wiring c.follow_held.new.net c.args.front.items l.invariant.got c.follow_held.new.held.items c.read_lines.new.held.items _ c.in_ok-read_lines.field-0 c.in_ok-followed.followed so c.in_ok-read_lines.ensures.more l.invariant.taken (c.in_ok-followed.ensures.follows c.args.net.now.wiring text l.invariant.follows)
 
 pub returns-then-len-gt-MOST_HELD-clause-long : goal.returns-then-len-gt-MOST_HELD-clause-long
 returns-then-len-gt-MOST_HELD-clause-long g c is =
@@ -74,3 +83,15 @@ returns-then-len-gt-MOST_HELD-clause-long g c is =
     let text = c.args.front.items ++ l.invariant.got in
     let awaits = rw c.as_slice.ensures.value at (c.if-is_other.ensures.none refl) in
     too_long _ _ c.args.names.now c.args.net.now.wiring c.follow_held.new.net c.args.version c.args.front.items l.invariant.got c.follow_held.new.held.items c.in_ok-followed.followed l.invariant.taken (c.in_ok-followed.ensures.follows c.args.net.now.wiring text l.invariant.follows) (omega (arith, c.if-len-gt-MOST_HELD.true, c.len.ensures)) awaits
+
+pub returns-in-Some-clause-concludes : goal.returns-in-Some-clause-concludes
+returns-in-Some-clause-concludes g c =
+    let l = c.following in
+    let text = c.args.front.items ++ l.invariant.got in
+    stop_to c.args.to_first _ _ c.args.names.now c.args.net.now.wiring c.follow_held.new.net c.args.version c.args.front.items l.invariant.got c.follow_held.new.held.items c.in_ok-followed.followed l.invariant.taken (c.in_ok-followed.ensures.follows c.args.net.now.wiring text l.invariant.follows) c.in-Some.line c.in-Some.ensures.1
+
+pub returns-in-Some-clause-wiring : goal.returns-in-Some-clause-wiring
+returns-in-Some-clause-wiring g c =
+    let l = c.following in
+    let text = c.args.front.items ++ l.invariant.got in
+    wiring_is c.args.names.now c.args.net.now.wiring c.follow_held.new.net text c.follow_held.new.held.items c.in_ok-followed.followed (c.in_ok-followed.ensures.follows c.args.net.now.wiring text l.invariant.follows)

@@ -1,14 +1,17 @@
-use Rattle.bz_trace.proofs.Streams.{counted_of, leaves_of, only_of, right_of}
+use Rattle.bz_trace.proofs.Streams.{counted_of, first_of, leaves_of, only_of, right_of}
 use Rattle.bz_trace.proofs.reading.check_read.Goals as goal
 
 pub returns-clause-right : goal.returns-clause-right
-returns-clause-right g c = right_of c.args.net.now.wiring _ c.read_text.new.net c.read_text.result c.read_text.ensures.concludes
+returns-clause-right g c = right_of c.args.to_first c.args.net.now.wiring _ c.read_text.new.net c.read_text.result c.read_text.ensures.concludes
 
 pub returns-clause-only : goal.returns-clause-only
-returns-clause-only g c = only_of c.args.net.now.wiring _ c.read_text.new.net c.read_text.result c.read_text.ensures.wired c.read_text.ensures.concludes
+returns-clause-only g c = only_of c.args.to_first c.args.net.now.wiring _ c.read_text.new.net c.read_text.result c.read_text.ensures.wired c.read_text.ensures.concludes
 
 pub returns-clause-counted : goal.returns-clause-counted
-returns-clause-counted g c = counted_of c.args.net.now.wiring _ c.read_text.new.net c.read_text.result c.read_text.ensures.concludes
+returns-clause-counted g c = counted_of c.args.to_first c.args.net.now.wiring _ c.read_text.new.net c.read_text.result c.read_text.ensures.concludes
 
 pub returns-clause-leaves : goal.returns-clause-leaves
-returns-clause-leaves g c = leaves_of c.args.net.now.wiring _ c.read_text.new.net c.read_text.result c.read_text.ensures.concludes
+returns-clause-leaves g c = leaves_of c.args.to_first c.args.net.now.wiring _ c.read_text.new.net c.read_text.result c.read_text.ensures.concludes
+
+pub returns-clause-first : goal.returns-clause-first
+returns-clause-first g c = first_of c.args.to_first c.args.net.now.wiring _ c.read_text.new.net c.read_text.result c.read_text.ensures.concludes

@@ -1,0 +1,77 @@
+//! What is found of a trace, as an object of JSON.
+
+use crate::given::Given;
+use crate::noting::suspect_behind;
+use crate::outcome::Outcome;
+use bz_cli_input::Fault;
+use bz_cli_trace::Checked;
+use bz_explain_trace::{Suspect, put_found};
+use bz_text::{Text, put};
+use bz_view::Seen;
+use std::alloc::Global;
+use std::io::Write;
+
+/// Writes what was found of a trace as an object, where that is asked for. `kept` is the input, where it was kept.
+pub fn tell_object<W: Write>(
+    alloc: Global,
+    given: &Given<'_, '_>,
+    kept: Option<&[u8]>,
+    outcome: Outcome,
+    output: &mut W,
+) -> Outcome {
+    if !given.command.answers_findings() {
+        return outcome;
+    }
+    let (status, checked, ended) = outcome.into_parts();
+    let status = match (status, checked) {
+        (Ok(status), Some(checked)) => match put_checked(alloc, given, kept, checked, output) {
+            Ok(()) => Ok(status),
+            Err(fault) => Err(fault),
+        },
+        (status, _) => status,
+    };
+    Outcome {
+        status,
+        checked: None,
+        ended,
+    }
+}
+
+// Writes the object of a trace that was checked.
+fn put_checked<W: Write>(
+    alloc: Global,
+    given: &Given<'_, '_>,
+    kept: Option<&[u8]>,
+    mut checked: Checked,
+    output: &mut W,
+) -> Result<(), Fault> {
+    let found = checked.finding();
+    let lines = checked.take_kept(alloc);
+    let suspect = match given.command.trace_file() {
+        None => suspect_behind(given.command, kept.unwrap_or(b"")),
+        Some(source) => Suspect {
+            netlist: b"",
+            trace: lines.lines().unwrap_or(b""),
+            first: lines.first(),
+            file: Some(source.file().unwrap_or("-")),
+        },
+    };
+    let (net, source, part) = checked.into_parts();
+    let mut text = Text::new(alloc);
+    match source.survey(alloc, part.as_slice()) {
+        Ok(survey) => put_found(suspect, found, Seen::of(net.core(), &survey), &mut text),
+        Err(_) => text.lose(),
+    }
+    put_text(&text, output)
+}
+
+/// Writes a text, down to the last byte.
+pub(crate) fn put_text<W: Write>(text: &Text, output: &mut W) -> Result<(), Fault> {
+    let Ok(whole) = text.whole() else {
+        return Err(Fault::Memory);
+    };
+    if put(output, whole).is_err() || output.flush().is_err() {
+        return Err(Fault::Write);
+    }
+    Ok(())
+}
