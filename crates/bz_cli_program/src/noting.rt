@@ -31,7 +31,7 @@ pub fn end<F: Files, E: Write>(
     match status {
         Ok(status) => {
             if let Some(kept) = kept {
-                note_status(files, alloc, given, status, kept, checked, errors);
+                note_status(files, alloc, &*given, status, kept, checked, errors);
                 if let Some(ended) = ended {
                     note_ended(alloc, given, kept, &ended, errors);
                 }
@@ -43,19 +43,19 @@ pub fn end<F: Files, E: Write>(
 }
 
 // Notes what a command on a trace came to.
-fn note_status<F: Files, E: Write>(
+fn note_status<'a, F: Files, E: Write>(
     files: &F,
     alloc: Global,
-    given: &Given<'_, '_>,
+    given: &Given<'a, '_>,
     status: u8,
-    kept: &[u8],
+    kept: &'a [u8],
     checked: Option<Checked>,
     errors: &mut E,
 ) {
     if let Some(checked) = checked {
-        note_checked(alloc, given, kept, checked, errors);
+        note_checked(alloc, &*given, kept, checked, errors);
     } else if status == NO_RUN && makes_of_trace(given.command) {
-        note_trace(files, alloc, given, kept, errors);
+        note_trace(files, alloc, &*given, kept, errors);
     } else if status == BAD_COMMAND_LINE && misses_trace(given, kept) {
         let _ = tell_notes(alloc, &explain_no_trace(alloc, kept), errors);
     }
@@ -89,10 +89,10 @@ fn misses_trace(given: &Given<'_, '_>, kept: &[u8]) -> bool {
 }
 
 // Notes on a trace by the net that it was checked against: why it is not that of a run, or why that goes no further.
-fn note_checked<E: Write>(
+fn note_checked<'a, E: Write>(
     alloc: Global,
-    given: &Given<'_, '_>,
-    kept: &[u8],
+    given: &Given<'a, '_>,
+    kept: &'a [u8],
     mut checked: Checked,
     errors: &mut E,
 ) {
@@ -132,11 +132,11 @@ pub(crate) fn suspect_behind<'t>(command: Command<'_>, kept: &'t [u8]) -> Suspec
 }
 
 // Notes why a trace is not that of a run, of which nothing is made: it is checked once more.
-fn note_trace<F: Files, E: Write>(
+fn note_trace<'a, F: Files, E: Write>(
     files: &F,
     alloc: Global,
-    given: &Given<'_, '_>,
-    kept: &[u8],
+    given: &Given<'a, '_>,
+    kept: &'a [u8],
     errors: &mut E,
 ) {
     let notes = match given.command.trace_file() {

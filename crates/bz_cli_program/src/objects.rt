@@ -45,17 +45,31 @@ fn put_checked<W: Write>(
     mut checked: Checked,
     output: &mut W,
 ) -> Result<(), Fault> {
-    let found = checked.finding();
     let lines = checked.take_kept(alloc);
-    let suspect = match given.command.trace_file() {
-        None => suspect_behind(given.command, kept.unwrap_or(b"")),
-        Some(source) => Suspect {
-            netlist: b"",
-            trace: lines.lines().unwrap_or(b""),
-            first: lines.first(),
-            file: Some(source.file().unwrap_or("-")),
-        },
-    };
+    match given.command.trace_file() {
+        None => {
+            let suspect = suspect_behind(given.command, kept.unwrap_or(b""));
+            put_suspect(alloc, suspect, checked, output)
+        }
+        Some(source) => {
+            let suspect = Suspect {
+                netlist: b"",
+                trace: lines.lines().unwrap_or(b""),
+                first: lines.first(),
+                file: Some(source.file().unwrap_or("-")),
+            };
+            put_suspect(alloc, suspect, checked, output)
+        }
+    }
+}
+
+fn put_suspect<W: Write>(
+    alloc: Global,
+    suspect: Suspect<'_>,
+    checked: Checked,
+    output: &mut W,
+) -> Result<(), Fault> {
+    let found = checked.finding();
     let (net, source, part) = checked.into_parts();
     let mut text = Text::new(alloc);
     match source.survey(alloc, part.as_slice()) {

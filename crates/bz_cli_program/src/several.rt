@@ -42,12 +42,11 @@ impl Tally {
     };
 
     fn add(&mut self, fate: Fate) {
-        let count = match fate {
-            Fate::Passed => &mut self.passed,
-            Fate::Failed => &mut self.failed,
-            Fate::Unread => &mut self.unread,
-        };
-        *count = count.saturating_add(1);
+        match fate {
+            Fate::Passed => self.passed = self.passed.saturating_add(1),
+            Fate::Failed => self.failed = self.failed.saturating_add(1),
+            Fate::Unread => self.unread = self.unread.saturating_add(1),
+        }
     }
 
     // The status with which the program ends.

@@ -84,13 +84,13 @@ fn put_state(seen: Seen<'_>, text: &mut Text) {
 fn put_moves(seen: Seen<'_>, text: &mut Text) {
     let mut told = 0usize;
     let mut from = 1u32;
-    while told < MOST_TOLD {
+    for _ in 0..MOST_TOLD {
         match seen.net.next_ready(from) {
-            Some(comp) if comp >= from => {
-                told = put_moves_of(seen, comp, told, text).max(told.saturating_add(1));
+            Some(comp) if comp >= from && told < MOST_TOLD => {
+                told = put_moves_of(seen, comp, told, text);
                 from = comp.saturating_add(1);
             }
-            _ => return,
+            _ => break,
         }
     }
 }
@@ -129,8 +129,9 @@ fn put_move(seen: Seen<'_>, at: (u32, u32), made: (u32, Move, Option<Value>), te
 // The words of the host that would be answered by a move.
 fn put_words(seen: Seen<'_>, text: &mut Text) {
     let mut told = 0usize;
-    for place in 0..seen.net.names().ports().len().min(MOST_TOLD) {
-        let port = place as u32 + 1;
+    let mut port = 0u32;
+    for _ in seen.net.names().ports().iter().take(MOST_TOLD) {
+        port = port.saturating_add(1);
         if let Some(verb) = verb_at(seen, port) {
             put_comma(told, text);
             put_shown(seen.host_word(verb, port), text);
