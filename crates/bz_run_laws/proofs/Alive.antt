@@ -1,19 +1,13 @@
 -- What each state of a run keeps, from the opening on: phases are tied to components, and each component goes on in turn.
-use Rattle.std.proofs.Common.{◌≡◌, ◌≢◌, ℕ, zero, suc, ◌-◌, ◌<◌, ◌≤◌, false, Option, Some, None, List, [], ◌∷◌, length, map, get_or, set, replicate, inl, inr, refl, sym, ap, subst, ◌∙◌, arith, length-set}
+use Rattle.std.proofs.Common.{◌≡◌, ℕ, zero, suc, ◌-◌, ◌<◌, ◌≤◌, false, Option, List, [], ◌∷◌, length, map, get_or, set, inl, inr, refl, sym, ap, subst, ◌∙◌, arith, length-set}
 use Rattle.std.proofs.lemmas.Bool.{cases_eq}
 use Rattle.std.proofs.lemmas.List.{length-map, length-replicate, map-set}
 use Rattle.bz_model.specs.declared.channel.Move.{Move}
 use Rattle.bz_model.specs.declared.channel.Phase.{Phase}
-use Rattle.bz_model.specs.declared.channel.Phase.TheVariants.{Idle}
 use Rattle.bz_model.specs.declared.event.Entry.{Entry}
 use Rattle.bz_model.specs.declared.event.Entry.TheVariants.{Fired, Host, Rested}
-use Rattle.bz_model.specs.declared.event.Reply.{Reply}
-use Rattle.bz_model.specs.declared.event.Verb.{Verb}
-use Rattle.bz_model.specs.Phases.{phase_after}
 use Rattle.bz_model.specs.Heads.{Component, HasOneHead, Moves, Proc, opens}
-use Rattle.bz_model.specs.Nets.{Site, State, Step, Wiring, chan_in, no_site, opening, proc_at, site_at}
-use Rattle.bz_model.specs.Hosts.{HostStep, host_after}
-use Rattle.bz_model.specs.Processes.{start_of}
+use Rattle.bz_model.specs.Nets.{State, Step, Wiring, chan_in, no_site, opening, proc_at, site_at}
 use Rattle.bz_model.specs.Runs.{Follows, Run}
 use Rattle.bz_flat.specs.Wires.{WellWired}
 use Rattle.bz_net.specs.Keeping.{Started, Tied, comp_at, no_comp, phase_in, proc_of, state_of}

@@ -1,18 +1,17 @@
 -- A component of which each port goes on in turn: it does at its start, and after every move.
-use Rattle.std.proofs.Common.{◌≡◌, ◌≢◌, ◌⊎◌, inl, inr, ℕ, zero, suc, ◌<◌, Bool, true, false, Option, Some, None, List, length, get_or, set, replicate, refl, sym, ap, subst, ◌∙◌, arith, IsTrue}
+use Rattle.std.proofs.Common.{◌≡◌, ◌≢◌, ◌⊎◌, inl, inr, ℕ, zero, suc, ◌<◌, Bool, true, false, Option, Some, List, length, get_or, set, replicate, refl, sym, ap, subst, ◌∙◌}
 use Rattle.std.specs.Prelude.{not, ◌==◌}
 use Rattle.std.proofs.lemmas.Bool.{cases_eq}
 use Rattle.std.proofs.lemmas.List.{get_or-set_same, get_or-set_other}
 use Rattle.bz_model.specs.declared.channel.Chan.{Chan}
 use Rattle.bz_model.specs.declared.channel.Move.{Move}
-use Rattle.bz_model.specs.declared.channel.Move.TheVariants.{Ask, Take, Reply, Got}
 use Rattle.bz_model.specs.declared.channel.Phase.{Phase}
 use Rattle.bz_model.specs.declared.spans.Span.{Span}
 use Rattle.bz_model.specs.declared.kind.Kind.{Kind}
-use Rattle.bz_model.specs.declared.kind.Kind.TheVariants.{Loop, Sequence, SequenceOptimised, Concur, Fork, WireFork, ForkPush, While, Case, CaseFetch, Fetch, Variable, Constant, UnaryFunc, BinaryFunc, BinaryFuncConstR, Slice, Combine, CombineEqual, Adapt, Split, Halt, HaltPush, Continue, ContinuePush, Call, CallMux, CallDemux, Passivator, PassivatorPush, Synch, SynchPull, DecisionWait, Arbiter, FalseVariable, Bar}
+use Rattle.bz_model.specs.declared.kind.Kind.TheVariants.{CaseFetch}
 use Rattle.bz_model.specs.Phases.{incoming}
 use Rattle.bz_model.specs.Terms.{Store, stored}
-use Rattle.bz_model.specs.Heads.{Component, Head, HasOneHead, IsHead, Moves, Proc, Turns, open_at, opens, tidy}
+use Rattle.bz_model.specs.Heads.{Component, HasOneHead, Moves, Proc, Turns, open_at, opens}
 use Rattle.bz_model.specs.Rows.{MeetsRow}
 use Rattle.bz_model.specs.Processes.{process, size, slots, start_of}
 use Rattle.bz_kinds.proofs.StartLaws.{bounded-sizes}

@@ -1,19 +1,16 @@
 -- Each kind makes its moves at each port in turn, from a port that is closed.
-use Rattle.std.proofs.Common.{◌≡◌, ◌≢◌, ◌⊎◌, inl, inr, ℕ, zero, suc, ◌+◌, ◌<◌, ◌≤◌, Bool, true, false, Option, Some, None, List, get_or, refl, sym, ap, subst, ◌∙◌, arith, IsTrue, replicate}
-use Rattle.std.specs.Prelude.{◌==◌, ⊤, nat_eq}
+use Rattle.std.proofs.Common.{◌≡◌, ◌≢◌, inl, inr, ℕ, zero, suc, ◌+◌, ◌<◌, true, false, Some, None, List, refl, sym, subst, ◌∙◌, arith}
+use Rattle.std.specs.Prelude.{⊤}
 use Rattle.std.proofs.lemmas.Bool.{cases_eq, cases_lt, eq-eqb, ne_eqb}
-use Rattle.std.proofs.lemmas.List.{get_or-set_other}
 use Rattle.bz_model.specs.declared.channel.Chan.{Chan}
 use Rattle.bz_model.specs.declared.expr.Expr.{Expr}
 use Rattle.bz_model.specs.declared.expr.Expr.TheVariants.{Nothing, Slot, Fixed, SomeOne}
 use Rattle.bz_model.specs.declared.spans.Span.{Span}
 use Rattle.bz_model.specs.declared.kind.Kind.{Kind}
 use Rattle.bz_model.specs.declared.kind.Kind.TheVariants.{Loop, Sequence, SequenceOptimised, Concur, Fork, WireFork, ForkPush, While, Case, CaseFetch, Fetch, Variable, Constant, UnaryFunc, BinaryFunc, BinaryFuncConstR, Slice, Combine, CombineEqual, Adapt, Split, Halt, HaltPush, Continue, ContinuePush, Call, CallMux, CallDemux, Passivator, PassivatorPush, Synch, SynchPull, DecisionWait, Arbiter, FalseVariable, Bar}
-use Rattle.bz_model.specs.Specifications.{set_of}
-use Rattle.bz_model.specs.Terms.{Store, stored, picks, leads, Term, Terms, ask, take, reply, got, seq, par, choice, forever, while, when, done, no_terms, term, all, in_turn}
+use Rattle.bz_model.specs.Terms.{picks, leads, Term, ask, take, reply, got, seq, par, choice, forever, while, when, done, no_terms, term, all, in_turn}
 use Rattle.bz_model.specs.Processes.{process, size, call, pull, enclosed, member, after, first, behind, into_last, from_last}
 use Rattle.bz_run_laws.proofs.Alternating.{Port, Ends, Is, Passes, Runs, Beside, Idle, Each, Apart, lead, lead_at, mono}
-use Rattle.bz_run_laws.proofs.Steering.{If, Steers}
 
 abbrev pub Any : Ends
 Any a = ⊤

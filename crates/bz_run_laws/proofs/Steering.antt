@@ -1,12 +1,12 @@
 -- The same of a term that makes one move at a time, where what is kept decides which it makes.
-use Rattle.std.proofs.Common.{◌≡◌, ◌≢◌, ℕ, Bool, true, false, Option, Some, None, refl, sym, ap, subst, ◌∙◌, cond}
+use Rattle.std.proofs.Common.{◌≡◌, ℕ, Bool, true, false, Option, Some, None, refl, sym, ap, subst, ◌∙◌, cond}
 use Rattle.std.specs.Prelude.{◌==◌, ⊤}
 use Rattle.bz_model.specs.declared.channel.Move.{Move}
 use Rattle.bz_model.specs.declared.channel.Move.TheVariants.{Ask, Take, Reply, Got}
 use Rattle.bz_model.specs.declared.channel.Phase.{Phase}
 use Rattle.bz_model.specs.declared.channel.Phase.TheVariants.{Idle, Asked, Taken, Replied, Broken}
 use Rattle.bz_model.specs.Phases.{incoming}
-use Rattle.bz_model.specs.Terms.{Store, stored, is_met, Term, Terms, ask, take, reply, got, seq, par, choice, forever, while, when, done}
+use Rattle.bz_model.specs.Terms.{Store, stored, is_met, Term, ask, take, reply, got, seq, par, choice, forever, while, when, done}
 use Rattle.bz_model.specs.Heads.{Head, IsHead, before, sequence, tidy}
 use Rattle.bz_run_laws.proofs.Alternating.{Port, Passes, after, InTurn, leaf}
 

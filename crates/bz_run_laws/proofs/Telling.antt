@@ -1,5 +1,5 @@
 -- What tells a run: its entries its states, and its lines its entries.
-use Rattle.std.proofs.Common.{◌≡◌, ◌≢◌, ℕ, Option, Some, None, List, [], ◌∷◌, map, refl, sym, ap, ap₂, subst, ◌∙◌}
+use Rattle.std.proofs.Common.{◌≡◌, ℕ, Option, List, [], ◌∷◌, map, refl, sym, ap, ap₂, subst, ◌∙◌}
 use Rattle.std.specs.List.{AllByRecursion}
 use Rattle.bz_model.specs.declared.channel.Move.{Move}
 use Rattle.bz_model.specs.declared.event.Entry.{Entry}
@@ -8,9 +8,8 @@ use Rattle.bz_model.specs.Entries.{HasWho, told}
 use Rattle.bz_model.specs.Nets.{State, Step, Wiring, opening, outside}
 use Rattle.bz_model.specs.Runs.{Follows, Run}
 use Rattle.bz_flat.specs.Wires.{IsEnd, WellWired}
-use Rattle.bz_net.specs.Keeping.{state_of}
 use Rattle.bz_net.specs.Sides.{answers}
-use Rattle.bz_net.specs.Unbroken.{IsUnbroken, UnbrokenRun}
+use Rattle.bz_net.specs.Unbroken.{UnbrokenRun}
 use Rattle.bz_net.proofs.Lines.{run_has_lines}
 use Rattle.bz_net.proofs.Soles.{same_step, step_end}
 use Rattle.bz_trace_text.specs.Texts.{HasText, Trace, lines}

@@ -1,4 +1,4 @@
-//! Nets that a netlist denotes are such wirings.
+//! Nets that are well wired: that of a netlist, and one that a trace was checked against.
 
 ghost use Rattle.std.specs.Prelude.{ℕ, List, IfOk};
 ghost use Rattle.std.specs.Option.{option_copied};
@@ -13,7 +13,7 @@ use bz_flat::Flat;
 use bz_net::Play;
 use std::alloc::Global;
 
-/// The net that a text denotes: each of its channels has its ends, as the laws of this crate ask.
+/// The net that a text denotes: it is well wired, as the laws of this crate ask.
 pub fn well_wired_net(alloc: Global, asked: Option<&[u8]>, text: &[u8]) -> Result<Flat, Fault>
     ensures denotes { IfOk result (λ flat. Denotes text.now (option_copied asked.entry) flat.wiring) }
     ensures wired { IfOk result (λ flat. WellWired flat.wiring) }

@@ -1,4 +1,4 @@
-//! Runs of any wiring in which each channel has its ends. These functions do nothing: what they ensure is proved.
+//! Runs of any net that is well wired. These functions do nothing: what they ensure is proved.
 
 ghost use Rattle.std.specs.Prelude.{◌≡◌, ◌<◌, ◌≤◌, ℕ, List, length};
 ghost use Rattle.bz_model.specs.declared.event.Entry.{Entry};

@@ -1,4 +1,4 @@
-//! Traces of runs of any wiring in which each channel has its ends. These functions do nothing: what they ensure is proved.
+//! Traces of runs of any net that is well wired. These functions do nothing: what they ensure is proved.
 
 ghost use Rattle.std.specs.Prelude.{◌≡◌, ◌≤◌, ℕ, List, length};
 ghost use Rattle.std.specs.List.{AllByRecursion};
