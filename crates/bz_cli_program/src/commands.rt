@@ -3,7 +3,6 @@
 ghost use Rattle.std.specs.Prelude.{◌≡◌, ◌≢◌, ◌≤◌, ◌<◌, false, true, ℕ, is_some, length, IfSome, List, MatchBool, Option};
 ghost use Rattle.std.specs.Option.{option_copied, option_map};
 ghost use Rattle.bz_cli.specs.Pooling.{Pools};
-ghost use Rattle.bz_cli_bench.specs.Cases.{Tests};
 ghost use Rattle.bz_cli_core.specs.Running.{Runs};
 ghost use Rattle.bz_cli_input.specs.Listed.{Lists};
 ghost use Rattle.bz_cli_input.specs.Reading.{ReadsWithin};
@@ -22,10 +21,8 @@ use bz_chart::{LineRange, chart_cmd, chart_trace_cmd};
 use bz_cli::{Pooled, pool_cmd};
 use bz_cli_args::{
     BAD_COMMAND_LINE, ChartOptions, CheckOptions, DrawOptions, FormatOptions, LintOptions,
-    ListOptions, MAX_JOURNAL, MAX_WORKERS, PoolOptions, RunOptions, SeedsAsked, TestForm,
-    TestOptions, WaitsOptions,
+    ListOptions, MAX_JOURNAL, MAX_WORKERS, PoolOptions, RunOptions, WaitsOptions,
 };
-use bz_cli_bench::{Asked, BenchFiles, Form, Seeds, test_cmd};
 use bz_cli_complete::{CompleteFault, complete_cmd};
 use bz_cli_core::{Halt, Played, run_cmd};
 use bz_cli_input::{Fault, list_cmd};
@@ -672,53 +669,5 @@ fn done(answer: Result<(), Fault>) -> Result<u8, Fault>
     match answer {
         Ok(()) => Ok(DONE),
         Err(fault) => Err(fault),
-    }
-}
-
-/// Plays benches, whose files are the words, and tells what each case came to. That a trace could not be kept goes to `errors`.
-pub(crate) fn test<R: Read, F: BenchFiles, W: Write, E: Write>(
-    alloc: Global,
-    given: &Given<'_, '_>,
-    options: TestOptions<'_>,
-    input: &mut R,
-    files: &mut F,
-    output: &mut W,
-    errors: &mut E,
-) -> Result<u8, Fault>
-    ensures tests { Tests (length (texts given.now.words.now)) result }
-
-    // Whatever comes of it, it reads at most one byte past the limit.
-    ensures bounded { ReadsWithin (R.remaining input.old) (R.remaining input.new) }
-{
-    let asked = Asked {
-        benches: given.words,
-        netlist: if options.has_netlist {
-            Some(given.file.unwrap_or("-"))
-        } else {
-            None
-        },
-        part: given.part,
-        seeds: seeds_of(options.seeds),
-        fuel: options.fuel,
-        journal: options.journal,
-        traces: options.traces,
-        form: form_of(options.form),
-    };
-    test_cmd(alloc, asked, input, files, output, errors)
-}
-
-fn seeds_of(seeds: SeedsAsked) -> Seeds {
-    match seeds {
-        SeedsAsked::None => Seeds::Without,
-        SeedsAsked::One(seed) => Seeds::One(seed),
-        SeedsAsked::Upto(last) => Seeds::Upto(last),
-    }
-}
-
-fn form_of(form: TestForm) -> Form {
-    match form {
-        TestForm::Text => Form::Text,
-        TestForm::Json => Form::Json,
-        TestForm::Junit => Form::Junit,
     }
 }

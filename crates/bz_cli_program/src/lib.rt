@@ -4,6 +4,7 @@
 //! command line.
 #![tactic(auto)]
 
+mod benching;
 mod commands;
 mod copying;
 mod covering;

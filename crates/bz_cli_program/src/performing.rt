@@ -6,8 +6,9 @@ ghost use Rattle.bz_cli_input.specs.Reading.{ReadsWithin};
 ghost use Rattle.bz_cli_program.specs.Programs.{ProgramDoes};
 ghost use Rattle.bz_words.specs.Words.{texts};
 
+use crate::benching::test;
 use crate::commands::{
-    chart, check, complete, draw, explore, kinds, lint, list, page, parts, pool, run, test, waits,
+    chart, check, complete, draw, explore, kinds, lint, list, page, parts, pool, run, waits,
 };
 use crate::given::Given;
 use crate::outcome::Outcome;

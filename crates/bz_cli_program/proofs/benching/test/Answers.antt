@@ -1,7 +1,7 @@
 use Rattle.std.proofs.Common.{sym, subst}
 use Rattle.std.proofs.lemmas.List.{length-map}
 use Rattle.bz_cli_bench.specs.Cases.{Tests}
-use Rattle.bz_cli_program.proofs.commands.test.Goals as goal
+use Rattle.bz_cli_program.proofs.benching.test.Goals as goal
 
 pub returns-clause-tests : goal.returns-clause-tests
 returns-clause-tests g c =
