@@ -283,9 +283,9 @@ fn completed_or_not<E: Write>(
     match completed {
         Ok(()) => Ok(DONE),
         Err(CompleteFault::Command(fault)) => Err(fault),
-        Err(why) => {
-            let _ = writeln!(errors, "error: {why}");
-            Ok(why.status())
+        Err(cause) => {
+            let _ = writeln!(errors, "error: {cause}");
+            Ok(cause.status())
         }
     }
 }
