@@ -42,7 +42,7 @@ pub(crate) fn explain_line(
 }
 
 /// Says what can move in a net at the end of a run.
-pub(crate) fn explain_end(notes: &mut Notes, net: &Core, survey: &Survey) {
+pub(crate) fn explain_end<'s>(notes: &mut Notes, net: &'s Core, survey: &'s Survey) {
     let nothing = Suspect {
         netlist: b"",
         trace: b"",
