@@ -151,6 +151,24 @@ int close(int fd) { return (int)done(host_close(fd)); }
 i64 lseek(int fd, i64 by, int whence) { return done(host_seek(fd, by, whence)); }
 int ftruncate(int fd, i64 length) { return (int)done(host_truncate(fd, length)); }
 int isatty(int fd) { return host_tty(fd); }
+
+// What puts a file in the place of another (`test --bless`), of which the host has nothing. `realpath` is asked first, and as it
+// fails no file is made.
+static int unable(void) {
+    error = ENOSYS;
+    return -1;
+}
+int fsync(int fd) { return unable(); }
+int fdatasync(int fd) { return unable(); }
+int flock(int fd, int operation) { return unable(); }
+int fchmod(int fd, u32 mode) { return unable(); }
+int rename(const char *from, const char *to) { return unable(); }
+int unlink(const char *path) { return unable(); }
+char *realpath(const char *path, char *to) {
+    unable();
+    return 0;
+}
+
 // (std asks for one command alone: a second descriptor of the same file)
 int fcntl(int fd, int command, ...) { return (int)done(host_dup(fd)); }
 

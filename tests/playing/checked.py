@@ -27,6 +27,15 @@ FILES = {
     "names": b"good.trace\nwrong.trace\n\nfront.trace\n",
     "nul": b"good.trace\0odd\nname\0",
     "odd\nname": CELL_TRACE,
+    "next.trace": b"trace 2\n" + CELL_TRACE.removeprefix(BEGUN),
+    "old.trace": b"trace 1\n" + CELL_TRACE.removeprefix(BEGUN),
+    "none.trace": b"trace 2\n",
+    "other.trace": b"trace 2\nw1 fire 1 take 1 2\n",
+    "odder.trace": b"trace 2\nw1 fire 1 take 1 2\nw1 fire 1 take\n",
+    "pieces": b"front.trace\nnext.trace\n",
+    "a.trace": b"trace 2\nh1 offer a done\n",
+    "b.trace": b"trace 2\nh1 offer b done\nw1 fire 1 take 1\nclash 1\n",
+    "b-.trace": b"trace 2\nh1 offer b done\nw1 fire 1 take 1\n",
 }
 RUN = b"run: 2 fired, 1 host, 1 rest\n"
 STARTED = b"0 fired, 1 host, 0 rest\n"
@@ -51,6 +60,10 @@ breezesim: note: found: take on channel 1, which is asked 1, and the value 2
 breezesim: note: expected: what Variable 1 can do: fire 1 take 1 1
 """
 GONE = b"error: cannot read gone: there is no such file\n"
+UNNAMED = b"error: --joined takes traces that are named, as words or in the file of --traces-from\n"
+CLASH_BEFORE = (
+    b"breezesim: note: the trace is that of b.trace, and a trace comes after it: clash lines stand in the last one alone\n"
+)
 OWN = b"error: --first takes a trace with a text of its own: --trace FILE, --trace -, or traces that are named\n"
 
 
@@ -62,6 +75,7 @@ def add_checked(cases):
     add_ends(cases)
     add_first(cases)
     add_several(cases)
+    add_joined(cases)
     add_objects(cases)
 
 
@@ -169,7 +183,6 @@ def add_several(cases):
         cases.gives(f"several traces {name}", words, given, wanted)
     for name, words, line in [
         ("beside --trace", [*check, "--trace", "good.trace", "good.trace"], b"error: the argument '--trace <FILE>' cannot be used with"),
-        ("beside --cover", [*check, "--cover", "new.json", "good.trace"], b"error: the argument '--cover <FILE>' cannot be used with"),
         ("by words and a file", [*check, "--traces-from", "names", "good.trace"],
          b"error: the argument '--traces-from <FILE>' cannot be used with"),
         ("from one input with the netlist", ["check", *PART, "--traces-from", "-"],
@@ -178,10 +191,46 @@ def add_several(cases):
         cases.add(f"several traces {name}", partial(refused_differs, cases, words, line))
 
 
+def add_joined(cases):
+    """Traces that are pieces of one run."""
+    check = ["check", *NET, "--joined"]
+    pair = ["check", "-p", "careless", "-n", f"{EXAMPLES}/careless.breeze", "--joined"]
+    why = (WHY % b"other.trace").replace(b"at line 3", b"at line 2").replace(b"3 | w1", b"2 | w1")
+    for name, words, given, wanted in [
+        ("of two", [*check, "front.trace", "next.trace"], b"", Ran(0, RUN, b"")),
+        ("of one", [*check, "good.trace"], b"", Ran(0, RUN, b"")),
+        ("with one that has no entries", [*check, "none.trace", "front.trace", "none.trace", "next.trace"], b"", Ran(0, RUN, b"")),
+        ("of two versions", [*check, "front.trace", "old.trace"], b"", Ran(0, RUN, b"")),
+        ("in another order", [*check, "next.trace", "front.trace"], b"", Ran(1, b"next.trace: not a run: line 2\n", b"")),
+        ("that begins twice", [*check, "front.trace", "front.trace"], b"", Ran(1, b"front.trace: not a run: line 2\n", b"")),
+        ("with a bad one", [*check, "front.trace", "odder.trace"], b"", Ran(1, b"odder.trace: not a trace: line 3\n", b"")),
+        ("to its first line", [*check, "--first", "front.trace", "odder.trace"], b"",
+         Ran(1, b"odder.trace: not a run: line 2" + EARLY, b"")),
+        ("and what is behind a stop", [*check, "front.trace", "other.trace", "gone"], b"",
+         Ran(1, b"other.trace: not a run: line 2\n", b"")),
+        ("with one that is not there", [*check, "front.trace", "gone", "next.trace"], b"", Ran(2, b"gone: not read\n", GONE)),
+        ("from a file", [*check, "--traces-from", "pieces"], b"", Ran(0, RUN, b"")),
+        ("of standard input", [*check, "front.trace", "-"], FILES["next.trace"], Ran(0, RUN, b"")),
+        ("of no names", [*check, "--traces-from", "-"], b"", Ran(2, b"", b"error: --joined: no trace is named\n")),
+        ("without names", check, b"", Ran(2, b"", UNNAMED)),
+        ("that ends early", [*check, "none.trace", "front.trace"], b"", Ran(0, b"run: " + STARTED, b"")),
+        ("to rest", [*check, "--to-rest", "front.trace", "next.trace"], b"", Ran(0, RUN, b"")),
+        ("to rest, which ends early", [*check, "--to-rest", "--explain", "none.trace", "front.trace"], b"", Ran(1, UNRESTED, MOVES)),
+        ("with notes", [*check, "--explain", "front.trace", "other.trace"], b"", Ran(1, b"other.trace: not a run: line 2\n", why)),
+        ("with clashes", [*pair, "a.trace", "b.trace"], b"", Ran(0, b"run: 1 fired, 2 host, 0 rest\n", b"")),
+        ("without its clashes", [*pair, "a.trace", "b-.trace"], b"", Ran(1, b"b-.trace: not a run: line 4\n", b"")),
+        ("with clashes too early", [*pair, "a.trace", "b.trace", "none.trace", "--explain"], b"",
+         Ran(1, b"b.trace: not a run: line 4\n", CLASH_BEFORE)),
+        ("and clashes behind an empty piece", [*pair, "a.trace", "b-.trace", "none.trace"], b"",
+         Ran(1, b"none.trace: not a run: line 2\n", b"")),
+    ]:  # fmt: skip
+        cases.gives(f"joined traces {name}", words, given, wanted)
+
+
 def add_objects(cases):
     """Objects of JSON, one for each trace."""
     take = {"component": 1, "kind": "Variable", "port": 1, "move": "take", "channel": 1, "value": "1"}
-    waits = ["wait Variable 1 v         for the host: collect:w", "at rest with 1 handshake under way: 0 wait, 0 can move, 1 idle"]
+    waits = ["idle Variable 1 v         for the host: collect:w", "at rest with 1 handshake under way: 0 wait, 0 can move, 1 idle"]
     state = {"at_rest": False, "expected": [take], "host_words": ["offer:r"], "waits": []}
     begun = {"verdict": "run", "fired": 0, "host": 1, "rests": 0, **state}
     good = {
@@ -202,6 +251,8 @@ def add_objects(cases):
         ("behind a netlist", ["check", *PART, "--format", "json"], CELL + b"\n" + WRONG, 1, [(None, wrong)]),
         ("of several", [*check, "good.trace", "wrong.trace"], b"", 1, [("good.trace", good), ("wrong.trace", wrong)]),
         ("with notes", [*check, "--trace", "wrong.trace", "--explain"], b"", 1, [("wrong.trace", wrong)]),
+        ("of pieces", [*check, "--joined", "front.trace", "next.trace"], b"", 0, [("next.trace", good)]),
+        ("of a piece", [*check, "--joined", "front.trace", "other.trace"], b"", 1, [("other.trace", {**wrong, "line": 2})]),
     ]:  # fmt: skip
         cases.add(f"check --format json {name}", partial(object_differs, cases, words, given, (status, wanted)))
 

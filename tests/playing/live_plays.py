@@ -269,6 +269,58 @@ def sessions(stage):
         stage.trace(f"the session of {name}", stage.explored(name, played))
 
 
+def hosts_that_stand_by(stage):
+    """Hosts that stand by go on at rest, and a run with words of theirs is one command; it is taken back, also in part, as a whole.
+    `redo` makes again what the last `undo` took back as it was, typed, in a session, and one by one. Words behind lines are no
+    part of them."""
+    stage.start("buffer")
+    lines = ["feed i 5 6", "drain o", "offer:activate", "run"]
+    for line in lines:
+        stage.command(line)
+    fed, begun = stage.explored("buffer", lines), stage.explored("buffer", lines[:3])
+    steps = "breezesim.live.steps.map(it => [it.line, it.before])"
+    stage.trace("fed", fed)
+    stage.faults += is_same("values passed", [fed.count(" 5\n") > 1, fed.count(" 6\n") > 1], [True, True])
+    stage.found("steps", steps, [["offer:activate", 1], ["run", 2]])
+    stage.verdict("buffer")
+    stage.button("undo")
+    stage.trace("undone", begun)
+    stage.command("redo")
+    stage.trace("made again", fed)
+    stage.command("undo 2")
+    stage.trace("both undone", "trace 2\n")
+    stage.command("redo")
+    stage.trace("both made again", fed)
+    stage.found("steps again", steps, [["offer:activate", 1], ["run", 2]])
+    stage.command("redo")
+    stage.found("no more", ANSWER, "error: there is nothing to redo")
+    stage.scrub(8)
+    stage.page.key("b")
+    stage.trace("taken back as a whole", begun)
+    stage.found("which is said", f"{ANSWER}.endsWith('taken back as a whole.')", True)
+    stage.command("names on")
+    stage.command("run 3")
+    stage.found("in words", f"{ANSWER}.includes(' asks ')", True)
+    stage.trace("without the words", stage.explored("buffer", [*lines[:3], "run 3"]))
+    session = ["names on", *lines, "undo 2", "redo", "undo", "redo", "feed i 7", "run", "watch:i"]
+    with tempfile.TemporaryDirectory() as room:
+        with open(f"{room}/fed.session", "w", encoding="utf-8") as file:
+            file.write("\n".join(session))
+        stage.choose(f"{room}/fed.session")
+    stage.trace("of a session", stage.explored("buffer", session))
+    fed_more = stage.explored("buffer", session[:-1])
+    ends = [["offer:activate", 1], ["run", 2], ["run", fed.count("\n")], ["watch:i", fed_more.count("\n")]]
+    stage.found("steps of a session", steps, ends)
+    stage.button("undo")
+    stage.command("undo 3")
+    stage.trace("all undone", "trace 2\n")
+    stage.button("redo", "redo")
+    stage.trace("made again as it was, though there is a 7 too", fed)
+    stage.button("redo", "redo")
+    stage.trace("all made again", stage.explored("buffer", session))
+    stage.found("the steps as they were", steps, ends)
+
+
 def sources(stage):
     """A source that places of the net name is shown where control is, also on a page that is saved; streams grow with the trace,
     and are drawn anew where it becomes another."""
@@ -343,7 +395,9 @@ def refusals(stage):
     stage.button("return")
     stage.found("the start is left", "getComputedStyle(document.getElementById('start')).display", "none")
     stage.trace("the other one is open", "trace 2\nh1 offer activate done\n")
-    for line, wanted in [("answer:i:999", "error: "), ("mvoes", "error: "), ("quit", "error: "), ("waits 2", "Loop 2 can move")]:
+    # (an answer that reads as a line of a trace is none)
+    answered = {"answer:i:999": "error: ", "mvoes": "error: ", "quit": "error: ", "waits 2": "Loop 2 can move"}
+    for line, wanted in {**answered, "say h1 offer activate done": "h1 offer activate done"}.items():
         stage.command(line)
         stage.found(line, f"{ANSWER}.includes('{wanted}')", True)
         stage.trace(f"after {line}", "trace 2\nh1 offer activate done\n")
@@ -450,6 +504,7 @@ def narrow(stage):
 
 # The plays, and whether each is played in all ways of calling.
 PLAYS = {both_outcomes: True, values: True, deadlock: True, stuck: True, clashes: True, saved_pages: True, sessions: True}
+PLAYS.update({hosts_that_stand_by: True})
 PLAYS.update({traces: True, long_runs: True, refusals: False, parts: False, pasted: False, hostile_names: False})
 PLAYS.update({stopped: False, narrow: False, sources: False, keys_that_are_taken: False})
 # Those that look at the picture.

@@ -32,13 +32,15 @@ def look_differs(case, program, words, part, want):
 
 
 def charts(case, program):
-    """`FROM..TO`, a `|`, and the size of the chart of these lines of the trace, or how the command ends."""
+    """`FROM..TO`, further options, a `|`, and the size of the chart of these lines of the trace, its signs or its lines, or how the
+    command ends."""
     for line in case.item.body:
-        lines, told = case.item.halves(line)
+        asked, told = case.item.halves(line)
+        lines, *more = asked.split()
         start, dots, to = lines.partition("..")
         if not dots:
             case.item.fail("a range of lines is wanted")
-        words = ["chart", *(["--from", start] if start else []), *(["--to", to] if to else [])]
+        words = ["chart", *(["--from", start] if start else []), *(["--to", to] if to else []), *more]
         for part in case.parts:
             yield partial(chart_differs, case, program, words, part, told)
 
@@ -49,9 +51,18 @@ def chart_differs(case, program, words, part, told):
         want = Want()
         want.tell(case.item, told)
         return want.differs(ran)
+    if told.startswith("lines "):
+        return differ((0, told, b""), (ran.status, " ".join(["lines", *lines_shown(ran.output)]), ran.errors))
     size = re.search(rb' viewBox="0 0 (\S+) ([^"]+)"', ran.output.partition(b"\n")[2].partition(b"\n")[0])
     found = b" by ".join(size.groups()).decode() if size else "no picture"
     return differ((0, told, b""), (ran.status, found, ran.errors))
+
+
+def lines_shown(chart):
+    """The numbers of the lines of a trace that a chart has on rows, and behind them the lifelines by their names."""
+    numbers = re.findall(rb'text-anchor="end" fill="#666666">(\d+)</text>', chart)
+    heads = re.findall(rb"<g>\n<title>(component|port) (\d+)", chart)
+    return [it.decode() for it in numbers] + ["of", *(f"{kind.decode()[0]}{number.decode()}" for kind, number in heads)]
 
 
 def refused(case, program):

@@ -1,5 +1,6 @@
 """What is done on pages in a browser with streams, the source, the list, groups, counts and fingers."""
 
+import os
 import re
 import time
 
@@ -301,11 +302,13 @@ TEE = "type word is 16 bits\n\n\n\nprocedure tee (\n  sync tick;\n  input i : wo
 
 
 def with_source(ground, name, source, files, more=()):
-    """A page with the texts of another one and with these sources."""
-    listed, rows, trace = ground.texts(source)
-    added = b"".join(b"source %s\n" % file.encode() + b"".join(b"text %s\n" % line for line in text.encode().splitlines())
-                     for file, text in files.items())
-    added += "".join(f"{line}\n" for line in more).encode()
+    """A page of the netlist and the trace of another one with these files of the source, and with more rows."""
+    part, *paths = ground.made[source]
+    for file, text in files.items():
+        os.makedirs(os.path.dirname(f"{ground.room}/{file}"), exist_ok=True)
+        part = [*part, "--source", ground.file(file, text.encode())]
+    listed, rows, trace = pages.texts_of(pages.page_of(ground.program, part, *paths).output, ground.template)
+    added = "".join(f"{line}\n" for line in more).encode()
     return ground.put(name, pages.page_text(ground.template, [listed, rows + added, trace]))
 
 

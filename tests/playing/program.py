@@ -27,6 +27,10 @@ class Program:
         self.path = os.path.abspath(path)
         self._module = Module(self.path) if path.endswith(".wasm") else None
 
+    @property
+    def is_module(self):
+        return self._module is not None
+
     def run_as(self, name):
         """Calls it by this name, with no words."""
         if self._module:

@@ -45,7 +45,7 @@ ALONE = BEGUN % (b"both", CELL.split(b"\n")[0], b"the first line") + (
     b"breezesim: note: help: the file of --trace has the trace alone\n"
 )
 ENDED = (
-    b"breezesim: note: wait Variable 1 v         for the host: collect:w\n"
+    b"breezesim: note: idle Variable 1 v         for the host: collect:w\n"
     b"breezesim: note: at rest with 1 handshake under way: 0 wait, 0 can move, 1 idle\n"
 )
 INPUT = BEGUN % (b"standard input", b"x", b"the first line") + (

@@ -1,5 +1,6 @@
 """`waits` of a trace, `waits since` and `--trace` of `explore`: beside what `explore` says line by line."""
 
+import os
 from functools import partial
 
 from .netlists import CELL, CELL_TRACE
@@ -11,7 +12,7 @@ WAITS = ["waits", *PART, "--netlist", "cell.breeze", "--trace"]
 CROSS = ["-p", "cross", "--netlist", f"{EXAMPLES}/cross.breeze"]
 IDLE = b"0 wait, 0 can move, 1 idle\n"
 # The cell at the end of its trace: the host has not got the reply.
-DONE = b"wait Variable 1 v         for the host: collect:w\n" + IDLE
+DONE = b"idle Variable 1 v         for the host: collect:w\n" + IDLE
 HUNG = b"idle Variable 1 v         for the host: collect:w\n  or                      for the host: offer:r\n"
 READ = b"breezesim: F1 Read\n"
 SHARED = b"error: standard input cannot have both the netlist and the trace\n"
@@ -21,6 +22,23 @@ STUCK = b"stuck since line 11 of 12: w1 fire 5 take 6\nstuck: 5 of 5 components 
 ROUND = b'''(breeze-part "round" (ports) (channels (sync) (sync))
  (components (component "$BrzLoop" () (1 2)) (component "$BrzLoop" () (2 1))))
 '''
+# Behind line 9 the net waits for the host, at a Fetch of line 7 of its source.
+TWO_PLACE = ["-p", "two_place", "--netlist", f"{EXAMPLES}/two_place.breeze", "--trace", f"{EXAMPLES}/two_place.trace", "--line", "9"]
+ASKED = b"wait Fetch 5 (two_place.balsa:7:7%s)  for the host: accept:i\n3 wait, 0 can move, 4 idle\n"
+UNNAMED = b"breezesim: note: no place of the net is in the source %s\n"
+# Files of a source, by their names: what stands in line 7, and whether a line feed ends it.
+SOURCES = {
+    "two_place.balsa": "    i -> x ;\n",
+    "lib/two_place.balsa": "\t i -> x ; \r\n",
+    "other/two_place.balsa": "    o <- y\n",
+    "other.balsa": "    o <- y\n",
+    "blank/two_place.balsa": " \t\n",
+    "short/two_place.balsa": "",
+    "last/two_place.balsa": "i -> x",
+    "odd/two_place.balsa": "i\t-> x ; (\u00e9)\n",
+    "most/two_place.balsa": "x" * 100 + "\n",
+    "more/two_place.balsa": "x" * 101 + "\n",
+}
 # The cell's trace, as `session` of `explore` writes it, and what its lines are answered.
 FULL = b"offer:w:1\nexpect done\nfire 1 1\nfire 1 1\nrun 1\n"
 
@@ -59,10 +77,67 @@ def add_waited(cases):
         cases.gives(f"waits, {name}", words, given, wanted)
     for line in range(1, cross_trace().count(b"\n") + 1):
         cases.add(f"waits, line {line} of cross", partial(line_differs, cases, line))
+    for net in ("pipeline", "arbiter_tree", "two_place", "tee"):
+        cases.add(f"waits, the names of {net}", partial(names_differ, cases, net))
     cases.add("waits, what explore told of cross", partial(since_differs, cases))
     cases.add("waits, strict", partial(strict_differs, cases))
     cases.add("waits, at the opening", partial(opening_differs, cases))
+    add_sourced(cases)
     add_begun(cases)
+
+
+def add_sourced(cases):
+    """The text of the source behind a place, and files that can't be taken."""
+    for name, text in SOURCES.items():
+        path = f"{cases.room}/source/{name}"
+        os.makedirs(os.path.dirname(path), exist_ok=True)
+        with open(path, "w", encoding="utf-8", newline="") as file:
+            file.write("\n" * 6 + text)
+    for name, files, text, unnamed in [
+        ("by its name", ["two_place.balsa"], b": i -> x ;", []),
+        ("by the last part of its name", ["lib/two_place.balsa"], b": i -> x ;", []),
+        ("that two files may be", ["lib/two_place.balsa", "other/two_place.balsa"], b"", ["lib/two_place.balsa", "other/two_place.balsa"]),
+        ("that no place names", ["other.balsa"], b"", ["other.balsa"]),
+        ("and one that no place names", ["other.balsa", "two_place.balsa"], b": i -> x ;", ["other.balsa"]),
+        ("of blanks", ["blank/two_place.balsa"], b"", []),
+        ("that is too short", ["short/two_place.balsa"], b"", []),
+        ("without a last line feed", ["last/two_place.balsa"], b": i -> x", []),
+        ("with other bytes", ["odd/two_place.balsa"], b": i?-> x ; (??)", []),
+        ("of a hundred bytes", ["most/two_place.balsa"], b": " + b"x" * 100, []),
+        ("of more", ["more/two_place.balsa"], b": " + b"x" * 100 + b"..", []),
+    ]:
+        words = [word for file in files for word in ("--source", f"{cases.room}/source/{file}")]
+        told = b"".join(UNNAMED % f"{cases.room}/source/{file}".encode() for file in unnamed)
+        cases.gives(f"waits --source, a file {name}", ["waits", *TWO_PLACE, *words], b"", Ran(0, ASKED % text, told))
+    file = f"{cases.room}/source/two_place.balsa"
+    for name, words, wanted in [
+        ("of no such line", [*WAITS, "cell.trace", "--line", "90"], Ran(2, b"", b"error: --line 90: the trace has 5 lines\n")),
+        ("of a net without places", [*WAITS, "cell.trace"], Ran(0, DONE, UNNAMED % file.encode())),
+    ]:
+        cases.gives(f"waits --source, {name}", [*words, "--source", file], b"", wanted)
+    told = b"error: --source names more than 100 files\n"
+    cases.gives("waits of 101 sources", [*WAITS, "cell.trace", *["--source", "gone"] * 101], b"", Ran(2, b"", told))
+    cases.add("waits --source, each place", partial(sourced_differs, cases))
+
+
+def sourced_differs(cases):
+    """At each line of a trace, of each component and of all: each place has its line's text behind it, and nothing else changes."""
+    lines = ["", "", "", "procedure", "x, y : byte", "loop", "i -> x ;", "x -> y ;", "o <- y"]
+    path = f"{cases.room}/source/each/two_place.balsa"
+    os.makedirs(os.path.dirname(path), exist_ok=True)
+    with open(path, "w", encoding="utf-8") as file:
+        file.write("\n".join(lines))
+    for line in range(1, 40, 3):
+        for comp in ([], ["2"], ["4"], ["7"]):
+            words = ["waits", *TWO_PLACE[:-1], str(line), *comp]
+            plain, told = cases.run(words), cases.run([*words, "--source", path])
+            wanted = plain.output.decode()
+            for number, text in enumerate(lines, 1):
+                for column in range(1, 40):
+                    wanted = wanted.replace(f"two_place.balsa:{number}:{column})", f"two_place.balsa:{number}:{column}: {text})")
+            if fault := differ(Ran(0, wanted.encode(), b""), told):
+                return f"line {line} {comp}: {fault}"
+    return None
 
 
 def add_begun(cases):
@@ -90,6 +165,24 @@ def line_differs(cases, line):
     explored = cases.run(["explore", *CROSS, "--trace", f"cross-{line}.trace"], b"waits\n")
     front = STUCK.splitlines(True)[0] if line > 10 else b""
     return differ(Ran(0, front + explored.output, b""), told)
+
+
+def names_differ(cases, net):
+    """Of copies and of things with names and sources `waits` tells what `explore` does, which has a survey of the whole net."""
+    netlist = ["-p", net, "--netlist", f"{EXAMPLES}/{net}.breeze"]
+    with open(f"{EXAMPLES}/{net}.trace", "rb") as file:
+        lines = file.read().splitlines(True)
+    count = cases.run(["list", *netlist]).output.count(b"\ncomponent ")
+    for line in range(1, len(lines) + 1, max(1, len(lines) // 8)):
+        with open(f"{cases.room}/{net}-{line}.trace", "wb") as file:
+            file.write(b"".join(lines[:line]))
+        for comp in ([], [str(1 + line % count)]):
+            told = cases.run(["waits", *netlist, "--trace", f"{EXAMPLES}/{net}.trace", "--line", str(line), *comp])
+            asked = " ".join(["waits", *comp]).encode() + b"\n"
+            explored = cases.run(["explore", *netlist, "--trace", f"{net}-{line}.trace"], asked)
+            if fault := differ(explored, told):
+                return f"line {line} {comp}: {fault}"
+    return None
 
 
 def since_differs(cases):

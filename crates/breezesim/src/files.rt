@@ -12,6 +12,9 @@ use std::fs::{File, Metadata, OpenOptions};
 use std::io::{BufWriter, ErrorKind, Write};
 use std::os::unix::fs::MetadataExt;
 
+/// Why there is no file.
+const UNWRITTEN: &str = "it can't be written";
+
 /// How many bytes are gathered before they go out.
 const BUFFER_SIZE: usize = 65_536;
 
@@ -51,15 +54,68 @@ impl BenchFiles for SystemFiles<'_, '_> {
         match self.made(path) {
             Ok(mut file) => match file.write_all(bytes) {
                 Ok(()) => Ok(()),
-                Err(_) => Err("it can't be written"),
+                Err(_) => Err(UNWRITTEN),
             },
             Err(NoFile::Exists) => Err("it exists, and nothing is written over it"),
-            Err(NoFile::Netlist | NoFile::Unwritable) => Err("it can't be written"),
+            Err(NoFile::Netlist | NoFile::Unwritable) => Err(UNWRITTEN),
+        }
+    }
+
+    // A link to a file stays one: what it leads to is replaced.
+    fn replace(&mut self, path: &str, bytes: &[u8]) -> Result<(), &'static str> {
+        match fs::canonicalize(self.rt, path) {
+            Ok(path) => self.put_in_place(path.as_str(), bytes),
+            Err(_) => Err(UNWRITTEN),
         }
     }
 }
 
 impl SystemFiles<'_, '_> {
+    // Writes a new file beside one, and gives it that one's name and rights. Only a file that may be written is replaced.
+    fn put_in_place(&self, path: &str, bytes: &[u8]) -> Result<(), &'static str> {
+        let Ok(beside) = format!(in self.rt.alloc(); "{path}.blessed") else {
+            return Err("out of memory");
+        };
+        let Ok(metadata) = self.writable(path) else {
+            return Err(UNWRITTEN);
+        };
+        match self.made(beside.as_str()) {
+            Ok(file) => self.filled(file, &metadata, bytes, beside.as_str(), path),
+            Err(NoFile::Exists) => Err("a file of its name and .blessed is there"),
+            Err(NoFile::Netlist | NoFile::Unwritable) => Err(UNWRITTEN),
+        }
+    }
+
+    // What is known of a file that may be written.
+    fn writable(&self, path: &str) -> Result<Metadata, NoFile> {
+        match OpenOptions::new().write(true).open(self.rt, path) {
+            Ok(file) => match file.metadata() {
+                Ok(metadata) if metadata.is_file() => Ok(metadata),
+                _ => Err(NoFile::Unwritable),
+            },
+            Err(_) => Err(NoFile::Unwritable),
+        }
+    }
+
+    // Writes a file, and puts it in place of another one; or removes it.
+    fn filled(
+        &self,
+        mut file: File,
+        metadata: &Metadata,
+        bytes: &[u8],
+        path: &str,
+        to: &str,
+    ) -> Result<(), &'static str> {
+        let is_whole = file.write_all(bytes).is_ok()
+            && file.set_permissions(metadata.permissions()).is_ok()
+            && file.sync_all().is_ok();
+        if is_whole && fs::rename(self.rt, path, to).is_ok() {
+            return Ok(());
+        }
+        let _ = fs::remove_file(self.rt, path);
+        Err(UNWRITTEN)
+    }
+
     // A new file.
     fn made(&self, path: &str) -> Result<File, NoFile> {
         match File::create_new(self.rt, path) {

@@ -38,10 +38,7 @@ fn perform<P: Threads + Wait + Sync, R: Read + Drop, T: Read + Drop>(
     let (alloc, netlist) = (rt.alloc(), given.file);
     let covers = given.command.cover_file().is_some();
     let mut output = Copying::new(alloc, output, covers);
-    let mut trace = match trace {
-        Some(trace) => Some(Keeping::new(alloc, trace, covers)),
-        None => None,
-    };
+    let mut trace = trace;
     let mut files = SystemFiles { rt, netlist };
     let outcome = program(
         threads,
@@ -55,25 +52,11 @@ fn perform<P: Threads + Wait + Sync, R: Read + Drop, T: Read + Drop>(
         &mut rt.stderr(),
     );
     let outcome = tell_object(alloc, given, input.kept(), outcome, &mut output);
-    let texts = texts_kept(&*input, trace.as_ref(), &output);
-    cover(alloc, given, texts, outcome, &mut files, &mut rt.stderr())
-}
-
-// What was read and written, where it was kept.
-fn texts_kept<'t, R: Read + Drop, T: Read + Drop, W: Write + Drop>(
-    input: &'t Keeping<R>,
-    trace: Option<&'t Keeping<T>>,
-    output: &'t Copying<W>,
-) -> KeptTexts<'t> {
-    let trace = match trace {
-        Some(trace) => trace.kept(),
-        None => None,
-    };
-    KeptTexts {
+    let texts = KeptTexts {
         input: input.kept(),
-        trace,
         output: output.copy(),
-    }
+    };
+    cover(alloc, given, texts, outcome, &mut files, &mut rt.stderr())
 }
 
 // The same with the trace of the file that is named, or of standard input. The status of the program.
@@ -151,8 +134,19 @@ fn several_of<R: Read + Drop>(
     let Ok(mut output) = BufWriter::with_capacity(rt.alloc(), BUFFER_SIZE, io::writer(rt)) else {
         return Outcome::from(Fault::Memory);
     };
-    let (alloc, errors) = (rt.alloc(), &mut rt.stderr());
-    check_several(rt, alloc, given, names, input, &mut output, errors)
+    let (alloc, netlist) = (rt.alloc(), given.file);
+    let mut files = SystemFiles { rt, netlist };
+    let errors = &mut rt.stderr();
+    check_several(
+        rt,
+        alloc,
+        given,
+        names,
+        &mut files,
+        input,
+        &mut output,
+        errors,
+    )
 }
 
 // The same on the netlist of the file that is named, or of standard input; or on several.

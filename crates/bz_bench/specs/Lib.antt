@@ -1,3 +1,4 @@
 pub mod Streams
 pub mod Tallies
 pub mod Dues
+pub mod Items

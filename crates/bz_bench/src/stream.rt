@@ -70,6 +70,14 @@ impl Stream {
         upto
     }
 
+    /// Whether the port has a line in a group, or all its lines stand above that.
+    pub fn is_open(&self, group: usize) -> bool {
+        match self.steps.last() {
+            None => true,
+            Some(last) => last.group < group || self.steps.iter().any(|step| step.group == group),
+        }
+    }
+
     /// Whether a handshake may begin after so many, where this group has begun.
     pub fn may_begin(&self, group: usize, begun: usize) -> bool
         ensures { result ≡ may_begin self.now group begun }

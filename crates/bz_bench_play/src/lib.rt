@@ -2,10 +2,12 @@
 #![tactic(auto)]
 
 mod judging;
+mod learning;
 mod plan;
 mod playing;
 mod verdict;
 
-pub use plan::{Plan, plan_of};
-pub use playing::{Played, play};
+pub use learning::Came;
+pub use plan::{Plan, is_from_net, plan_of};
+pub use playing::{Played, learn, play};
 pub use verdict::Verdict;

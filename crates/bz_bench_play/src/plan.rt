@@ -4,7 +4,7 @@ ghost use Rattle.std.specs.Prelude.{◌≡◌, IfOk, length};
 
 use bz_bench::{Bench, BenchFault, Cause, Due, Item, Line, PortLine, Step, Stream};
 use bz_flat::Flat;
-use bz_model::{Chan, ChanKind, fits};
+use bz_model::{Chan, ChanKind, fits, numbered};
 use std::alloc::{AllocError, Global};
 
 /// What is to pass at each port of a net, by its number, and how many groups of lines there are.
@@ -60,20 +60,19 @@ fn add_line(
     let Some(port) = flat.port(line.name.as_slice()) else {
         return Err(BenchFault::At(line.at, Cause::NoPort));
     };
-    let chan = flat.chan(port);
-    let passive = flat.ports().get((port as usize).saturating_sub(1));
-    let (Some(chan), Some(port_at)) = (chan, passive) else {
+    let Some(side) = side_of(flat, port) else {
         return Err(BenchFault::At(line.at, Cause::NoPort));
-    };
-    let side = Side {
-        chan,
-        passive: port_at.passive,
     };
     side.check(line)?;
     match streams.get_mut((port as usize).saturating_sub(1)) {
         Some(stream) => extend(stream, line, group),
         None => Ok(()),
     }
+}
+
+/// Whether values of a port come from the net: at an active push and at a passive pull.
+pub fn is_from_net(flat: &Flat, port: u32) -> bool {
+    side_of(flat, port).is_some_and(|side| side.is_from_net())
 }
 
 // The kind and the sense of a port.
@@ -83,7 +82,22 @@ struct Side {
     passive: bool,
 }
 
+fn side_of(flat: &Flat, port: u32) -> Option<Side> {
+    let chan = flat.chan(port)?;
+    let passive = numbered(flat.ports(), port)?.passive;
+    Some(Side { chan, passive })
+}
+
 impl Side {
+    // Whether its values come from the net.
+    fn is_from_net(self) -> bool {
+        match self.chan.kind {
+            ChanKind::Sync => false,
+            ChanKind::Push => !self.passive,
+            ChanKind::Pull => self.passive,
+        }
+    }
+
     // Whether each item of a line belongs at the port.
     fn check(self, line: &PortLine) -> Result<(), BenchFault> {
         for due in &line.items {
@@ -102,10 +116,9 @@ impl Side {
 
     fn check_item(self, due: Due) -> Result<(), BenchFault> {
         let is_sync = self.chan.kind == ChanKind::Sync;
-        let is_from_net = self.passive == (self.chan.kind == ChanKind::Pull);
         match due.item {
             Item::Handshake if is_sync => Ok(()),
-            Item::Any if !is_sync && is_from_net => Ok(()),
+            Item::Any if self.is_from_net() => Ok(()),
             Item::Value(value) if !is_sync => {
                 if fits(self.chan.width, value) {
                     Ok(())

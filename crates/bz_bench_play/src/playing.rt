@@ -11,12 +11,13 @@ ghost use Rattle.bz_model.specs.Nets.{opening};
 ghost use Rattle.bz_model.specs.Runs.{Run};
 
 use crate::judging::{judge, next_word};
+use crate::learning::{Came, add_value, no_values};
 use crate::plan::Plan;
 use crate::verdict::Verdict;
-use bz_bench::{Item, Tally, fits, no_tallies, note};
+use bz_bench::{Item, Stream, Tally, fits, no_tallies, note};
 use bz_explore_net::{Picker, Stepping};
 use bz_flat::Flat;
-use bz_model::{Entry, HostCmd, NetError, Reply, Value, Verb, Who, numbered};
+use bz_model::{ChanKind, Entry, HostCmd, NetError, Reply, Value, Verb, Who, numbered};
 use bz_net::{Net, RunEnd};
 use std::alloc::Global;
 
@@ -64,6 +65,8 @@ struct Session<'p> {
     // The group of lines that has begun last.
     group: usize,
     fuel: u64,
+    // Where any value may come: those that came at each port.
+    learnt: Option<Vec<Vec<Came>>>,
 }
 
 impl Drop for Session<'_> {
@@ -74,6 +77,7 @@ impl Drop for Session<'_> {
             tallies: _,
             group: _,
             fuel: _,
+            learnt: _,
         } = self;
     }
 }
@@ -103,6 +107,28 @@ pub fn play(
     session.judged(alloc)
 }
 
+/// Plays a bench on a net with any values in place of those that are due, and as many as come. Those that came at each port, if all
+/// that is given has passed then and nothing moves.
+pub fn learn(
+    alloc: Global,
+    flat: Flat,
+    plan: &Plan,
+    seed: Option<u64>,
+    fuel: u64,
+    journal: u32,
+) -> Result<Option<Vec<Vec<Came>>>, NetError>
+    requires least { 0 < journal }
+    requires most { journal ≤ 16777216 }
+{
+    let mut session = Session::open(alloc, flat, plan, fuel, journal)?;
+    session.learnt = Some(no_values(alloc, plan.streams.len())?);
+    match seed {
+        None => session.play_in_order(alloc)?,
+        Some(seed) => session.play_by_chance(alloc, seed)?,
+    }
+    Ok(session.into_learnt())
+}
+
 impl<'p> Session<'p> {
     fn open(
         alloc: Global,
@@ -126,6 +152,7 @@ impl<'p> Session<'p> {
             tallies,
             group: 0,
             fuel,
+            learnt: None,
         })
     }
 
@@ -143,6 +170,7 @@ impl<'p> Session<'p> {
             tallies,
             group,
             fuel: _,
+            learnt: _,
         } = self;
         let net = stepping.net();
         let _ = net.journal();
@@ -154,6 +182,28 @@ impl<'p> Session<'p> {
             }),
             Err(_) => Err(NetError::Memory),
         }
+    }
+
+    // What came at each port, if the play is at its end.
+    fn into_learnt(self) -> Option<Vec<Vec<Came>>> {
+        let is_last = self.group.saturating_add(1) >= self.plan.groups;
+        let has_ended = is_last && self.is_over(self.group);
+        let Session {
+            stepping: _,
+            plan: _,
+            tallies: _,
+            group: _,
+            fuel: _,
+            learnt,
+        } = self;
+        if has_ended { learnt } else { None }
+    }
+
+    // Whether all of a group of lines is done, and nothing moves any more before the next one begins.
+    fn is_over(&self, group: usize) -> bool {
+        self.is_done(group)
+            && self.stepping.net().next_ready(1).is_none()
+            && self.nth_word(0).is_none()
     }
 
     // Plays to the end: at rest the first word that would be done is given.
@@ -264,16 +314,48 @@ impl<'p> Session<'p> {
     fn word_at(&self, port: u32) -> Option<Verb> {
         let stream = numbered(&self.plan.streams, port)?;
         let tally = numbered(&self.tallies, port)?;
-        next_word(self.stepping.net(), port, stream, tally, self.group)
+        if self.hears(port) {
+            self.word_heard(port, stream)
+        } else {
+            next_word(self.stepping.net(), port, stream, tally, self.group)
+        }
     }
 
-    // Begins the next group of lines where all of one is done.
+    // Whether any value that the net asks with may come at a port.
+    fn hears(&self, port: u32) -> bool {
+        if self.learnt.is_none() {
+            return false;
+        }
+        let names = self.stepping.net().names();
+        let is_push = names
+            .chan(port)
+            .is_some_and(|chan| chan.kind == ChanKind::Push);
+        is_push && names.passive(port) == Some(false)
+    }
+
+    // The word of such a port that would be done: it may begin in the groups in which the port has a line, and after them.
+    fn word_heard(&self, port: u32, stream: &Stream) -> Option<Verb> {
+        let net = self.stepping.net();
+        if stream.is_open(self.group) && net.would_answer(Verb::Accept, port) {
+            return Some(Verb::Accept);
+        }
+        if net.would_answer(Verb::Answer, port) {
+            return Some(Verb::Answer);
+        }
+        None
+    }
+
+    // Begins the next group of lines where all of one is done. Where any value may come, nothing moves any more then.
     fn begin_groups(&mut self)
         ensures wiring { self.new.stepping.net.wiring ≡ self.old.stepping.net.wiring }
         ensures plan { self.new.plan.now ≡ self.old.plan.now }
     {
         for group in self.group..self.plan.groups.saturating_sub(1) {
-            if !self.is_done(group) {
+            let is_done = match self.learnt {
+                None => self.is_done(group),
+                Some(_) => self.is_over(group),
+            };
+            if !is_done {
                 break;
             }
             self.group = group.saturating_add(1);
@@ -282,9 +364,12 @@ impl<'p> Session<'p> {
 
     // Whether all of a group of lines is done.
     fn is_done(&self, group: usize) -> bool {
-        for (stream, tally) in self.plan.streams.iter().zip(self.tallies.iter()) {
+        let streams = self.plan.streams.iter();
+        for (place, (stream, tally)) in streams.zip(self.tallies.iter()).enumerate() {
             let upto = stream.upto(group);
-            if tally.begun.len() < upto || tally.ended.len() < upto.min(stream.to_end()) {
+            let is_short = tally.begun.len() < upto
+                || tally.ended.len() < upto.min(stream.to_end());
+            if is_short && !self.hears(port_of(place)) {
                 return false;
             }
         }
@@ -364,8 +449,23 @@ impl<'p> Session<'p> {
             return Err(NetError::Memory);
         }
         match reply {
-            Reply::Value(came) => Ok(fits(item, Some(came))),
+            Reply::Value(came) => self.takes(port, item, came),
             _ => Ok(true),
+        }
+    }
+
+    // Takes a value that came: whether it is due, or any may come.
+    fn takes(&mut self, port: u32, item: Option<Item>, value: Value) -> Result<bool, NetError>
+        ensures wiring { self.new.stepping.net.wiring ≡ self.old.stepping.net.wiring }
+        ensures plan { self.new.plan.now ≡ self.old.plan.now }
+    {
+        let group = self.group;
+        match &mut self.learnt {
+            None => Ok(fits(item, Some(value))),
+            Some(learnt) => match add_value(learnt, port, Came { group, value }) {
+                Ok(()) => Ok(true),
+                Err(_) => Err(NetError::Memory),
+            },
         }
     }
 

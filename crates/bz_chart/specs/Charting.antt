@@ -1,5 +1,5 @@
 -- What the command `chart` reads and writes: a netlist, a trace, and a drawing.
-use Rattle.std.specs.Prelude.{ℕ, List, Option, Result, Ok, Err}
+use Rattle.std.specs.Prelude.{ℕ, ⊤, List, Option, Result, Ok, Err}
 use Rattle.bz_model.specs.Nets.{Wiring}
 use Rattle.bz_trace.specs.declared.checking.Verdict.TheVariants as verdict
 use Rattle.bz_cli_input.specs.declared.fault.Fault.TheVariants.{Write}
@@ -8,6 +8,8 @@ use Rattle.bz_cli_trace.specs.declared.fault.TraceFault.{TraceFault}
 use Rattle.bz_cli_trace.specs.declared.fault.TraceFault.TheVariants.{Command}
 use Rattle.bz_cli_trace.specs.Making.{IsJudged, MakesNone, RefusesMaking}
 use Rattle.bz_cli_trace.specs.Taking.{AnswersText, AnswersTwo, IsOfInput}
+use Rattle.bz_chart.specs.declared.chart.Undrawn.{Undrawn}
+use Rattle.bz_chart.specs.declared.chart.Undrawn.TheVariants.{Memory, Piece}
 use Rattle.bz_chart.specs.declared.range.LineRange.{LineRange}
 use Rattle.bz_chart.specs.declared.range.PieceFault.{PieceFault}
 use Rattle.bz_chart.specs.Pieces.{IsPiece, IsNoPiece, line_count}
@@ -24,6 +26,11 @@ RefusesPiece range trace w fault = IsNoPiece range (line_count trace) fault
 abbrev pub DrawsPiece : {A : Type 0} → LineRange → List ℕ → Result A (TraceFault PieceFault) → Type 0
 DrawsPiece range trace (Ok drawing) = HasPiece range trace
 DrawsPiece range trace (Err fault) = RefusesMaking (IsNoPiece range (line_count trace)) fault
+
+-- Why lines are not drawn that are there.
+abbrev pub IsUndrawn : LineRange → Undrawn → Type 0
+IsUndrawn range Memory = ⊤
+IsUndrawn range (Piece fault) = (lines : ℕ) → IsNoPiece range lines fault
 
 -- The trace is that of a run of the net that the netlist denotes, and the lines that are asked for are there.
 abbrev pub HasChart : List ℕ → List ℕ → Option (List ℕ) → LineRange → Type 0

@@ -4,9 +4,11 @@
 mod circuit;
 mod event;
 mod layout;
+mod picks;
 mod piece;
 
 pub use circuit::{Circuit, Lifeline};
 pub use event::{Denial, Event, Line, Step, read_line};
 pub use layout::Layout;
+pub use picks::Picks;
 pub use piece::Piece;

@@ -60,11 +60,23 @@ pub(crate) fn put_arrow(pen: &mut Pen, layout: Layout, sent: Sent, row: Option<u
     }
 }
 
-// Where it leaves. One that comes in at the lifeline that it left goes round by the right.
+/// Draws where one leaves on this row that goes to a lifeline that is not shown: a short stroke to the right, with its head.
+pub(crate) fn put_leaving(pen: &mut Pen, layout: Layout, sent: Sent, row: u32) {
+    let (x, y) = (layout.column(sent.to), layout.row(row));
+    pen.put(START, &[x + 4, y, x + 18], "");
+    put_style(pen, sent);
+    let (rise, width) = (if sent.is_request { 0 } else { 4 }, 1);
+    let tip = if sent.is_request { x + 24 } else { x + 18 };
+    pen.put(head_form(sent), &[tip, y - rise, width], colour(sent.kind));
+}
+
+// Where it leaves. One that comes in at the lifeline that it left goes round by the right, and one from a lifeline that is not shown
+// comes from the right.
 fn start_of(layout: Layout, sent: Sent) -> u64 {
     match sent.from {
         Some(from) if from != sent.to => sent.heading.from(layout.column(from), 4),
-        _ => layout.column(sent.to) + 4,
+        Some(_) => layout.column(sent.to) + 4,
+        None => layout.column(sent.to) + 44,
     }
 }
 

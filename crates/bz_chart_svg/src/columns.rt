@@ -5,8 +5,9 @@
 
 use crate::rows::shown;
 use crate::scene::Chart;
-use bz_chart_layout::{Event, Lifeline, read_line};
+use bz_chart_layout::{Circuit, Event, Lifeline, Picks, Piece, read_line};
 use bz_model::{Port, numbered};
+use bz_trace_text::LineNames;
 use std::alloc::{AllocError, Global};
 
 /// The least letters that a line of the trace has room for.
@@ -22,6 +23,8 @@ pub(crate) struct Columns {
     pub shown: Vec<Lifeline>,
     /// How many letters the longest of the lines has.
     pub letters: u32,
+    /// How many lines are shown.
+    pub rows: u32,
     // whether memory was refused
     is_short: bool,
 }
@@ -37,6 +40,7 @@ impl Columns {
             ports: u32::try_from(ports).unwrap_or(u32::MAX),
             shown: Vec::new(alloc),
             letters: LEAST_LETTERS,
+            rows: 0,
             is_short: false,
         };
         columns.mark_lines(chart);
@@ -73,19 +77,26 @@ impl Columns {
         let piece = chart.piece;
         let texts = chart.trace.split_inclusive(|byte| *byte == b'\n');
         for (number, text) in (piece.first..=piece.last()).zip(texts.skip(piece.first - 1)) {
-            if let Some(line) = read_line(chart.circuit, chart.names, number, text) {
-                self.letters = self.letters.max(shown(&line).letters());
-                self.mark_event(line.event);
+            match read_line(chart.circuit, chart.names, number, text) {
+                Some(line) if is_shown(chart.picks, line.event) => {
+                    self.rows = self.rows.saturating_add(1);
+                    self.letters = self.letters.max(shown(&line).letters());
+                    self.mark_event(chart.picks, line.event);
+                }
+                _ => {}
             }
         }
     }
 
-    // Whoever takes part is in the first column for now.
-    fn mark_event(&mut self, event: Event) {
+    // Whoever takes part, and is shown, is in the first column for now.
+    fn mark_event(&mut self, picks: Option<&Picks>, event: Event) {
         match event {
             Event::Moved(step) => {
-                self.set(step.maker, 0);
-                self.set(step.other, 0);
+                for lifeline in [step.maker, step.other] {
+                    if has(picks, lifeline, step.chan) {
+                        self.set(lifeline, 0);
+                    }
+                }
             }
             Event::Watched { port, .. } | Event::Refused { port, .. } => {
                 self.set(Lifeline::Port(port), 0)
@@ -124,6 +135,42 @@ impl Columns {
             }
         }
     }
+}
+
+/// Whether a line that tells this is shown.
+pub(crate) fn is_shown(picks: Option<&Picks>, event: Event) -> bool {
+    match picks {
+        Some(picks) => picks.shows(event),
+        None => true,
+    }
+}
+
+// Whether a lifeline is shown where something moves on this channel.
+fn has(picks: Option<&Picks>, lifeline: Lifeline, chan: u32) -> bool {
+    match picks {
+        Some(picks) => picks.has(lifeline, chan),
+        None => true,
+    }
+}
+
+/// How many lines of a piece of a trace show something of what is picked.
+pub fn count_rows(
+    alloc: Global,
+    circuit: &Circuit,
+    trace: &[u8],
+    piece: Piece,
+    picks: &Picks,
+) -> usize {
+    let names = LineNames::new(alloc, circuit.names());
+    let texts = trace.split_inclusive(|byte| *byte == b'\n');
+    let mut rows = 0usize;
+    for (number, text) in (piece.first..=piece.last()).zip(texts.skip(piece.first - 1)) {
+        match read_line(circuit, &names, number, text) {
+            Some(line) if picks.shows(line.event) => rows = rows.saturating_add(1),
+            _ => {}
+        }
+    }
+    rows
 }
 
 /// Sets the element of this number, counted from 1, where there is one.

@@ -10,12 +10,15 @@ use crate::legend::{Signs, put_legend};
 use crate::scene::{Chart, Scene, TOP};
 use crate::svg::{GROUND, Pen};
 use crate::words::{Cut, digits};
-use bz_chart_layout::{Circuit, Layout, Piece};
+use bz_chart_layout::{Circuit, Layout, Picks, Piece};
 use bz_source::Survey;
 use bz_trace_text::LineNames;
 use std::alloc::{AllocError, Global};
 
 const TITLE: &str = ": lines % to % of the trace";
+
+/// How many of these lines are shown, where not all are.
+const SHOWN: &str = ", % shown";
 
 const LIFELINE: &str = "<path d=\"M% %V%\" stroke=\"#999999\" stroke-width=\"1\"/>\n";
 
@@ -24,6 +27,9 @@ const MOST_PART: usize = 40;
 
 /// The letters of a title behind the part's name, but for the numbers of the lines.
 const TITLE_LETTERS: u32 = 25;
+
+/// The letters that say how many lines are shown, but for the number.
+const SHOWN_LETTERS: u32 = 8;
 
 const HEAD: &str = "<?xml version=\"1.0\" encoding=\"UTF-8\"?>
 <svg xmlns=\"http://www.w3.org/2000/svg\" version=\"1.1\" width=\"%\" height=\"%\" viewBox=\"0 0 % %\" \
@@ -36,7 +42,7 @@ and for each component that takes part, by number. Time goes down, a line of the
 <rect x=\"0.5\" y=\"0.5\" width=\"%\" height=\"%\" rx=\"4\" fill=\"$\" stroke=\"#999999\"/>
 <text x=\"8\" y=\"17\" font-size=\"12\" font-weight=\"bold\">";
 
-/// The chart of a piece of a trace, as SVG in UTF-8.
+/// The chart of a piece of a trace, as SVG in UTF-8: of all its lines, or of those that show something of what is picked.
 pub fn draw(
     alloc: Global,
     circuit: &Circuit,
@@ -44,6 +50,7 @@ pub fn draw(
     part: &[u8],
     trace: &[u8],
     piece: Piece,
+    picks: Option<&Picks>,
 ) -> Result<Vec<u8>, AllocError> {
     let names = LineNames::new(alloc, circuit.names());
     let chart = Chart {
@@ -53,6 +60,7 @@ pub fn draw(
         part,
         trace,
         piece,
+        picks,
     };
     match Columns::of(alloc, chart) {
         Ok(columns) => draw_columns(alloc, chart, &columns),
@@ -78,7 +86,7 @@ fn draw_flow(
     let mut scene = Scene {
         chart,
         columns,
-        layout: layout_of(chart.piece, columns, part),
+        layout: layout_of(chart, columns, part),
     };
     flow.follow(scene);
     let signs = flow.signs();
@@ -88,14 +96,21 @@ fn draw_flow(
 }
 
 // What the places go by, but for the legend.
-fn layout_of(piece: Piece, columns: &Columns, part: Cut<'_>) -> Layout {
+fn layout_of(chart: Chart<'_>, columns: &Columns, part: Cut<'_>) -> Layout {
+    let piece = chart.piece;
     let numbers = digits(piece.first).saturating_add(digits(piece.last()));
+    let shown = match chart.picks {
+        Some(_) => digits(columns.rows as usize).saturating_add(SHOWN_LETTERS),
+        None => 0,
+    };
     Layout {
-        rows: piece.rows,
+        rows: columns.rows,
         columns: columns.count(),
         digits: digits(piece.last()),
         letters: columns.letters,
-        title: (part.letters().saturating_add(TITLE_LETTERS)).saturating_add(numbers),
+        title: (part.letters().saturating_add(TITLE_LETTERS))
+            .saturating_add(numbers)
+            .saturating_add(shown),
         signs: 0,
     }
 }
@@ -114,19 +129,23 @@ fn put_all(pen: &mut Pen, scene: Scene<'_>, part: Cut<'_>, flow: &Flow, signs: S
 fn put_frame(pen: &mut Pen, scene: Scene<'_>, part: Cut<'_>) {
     let (width, height) = (scene.layout.width(), scene.layout.height());
     pen.put(HEAD, &[width, height, width, height], "");
-    put_title(pen, scene.chart.piece, part);
+    put_title(pen, scene, part);
     pen.put(
         DESCRIPTION,
         &[width.saturating_sub(1), height.saturating_sub(1)],
         GROUND,
     );
-    put_title(pen, scene.chart.piece, part);
+    put_title(pen, scene, part);
     pen.put("</text>\n", &[], "");
 }
 
-fn put_title(pen: &mut Pen, piece: Piece, part: Cut<'_>) {
+fn put_title(pen: &mut Pen, scene: Scene<'_>, part: Cut<'_>) {
+    let piece = scene.chart.piece;
     pen.put_word(part);
     pen.put(TITLE, &[piece.first as u64, piece.last() as u64], "");
+    if scene.chart.picks.is_some() {
+        pen.put(SHOWN, &[u64::from(scene.layout.rows)], "");
+    }
 }
 
 fn put_lifelines(pen: &mut Pen, layout: Layout) {

@@ -1,8 +1,8 @@
 //! What goes on between the lifelines, line by line.
 
-use crate::arrows::{Sent, colour, put_arrow};
+use crate::arrows::{Sent, colour, put_arrow, put_leaving};
 use crate::bars::Held;
-use crate::columns::set;
+use crate::columns::{is_shown, set};
 use crate::labels::{Word, channel_label, channel_title, denial_word, phase_word, put_label};
 use crate::lanes::{Lanes, Side};
 use crate::legend::{Sign, Signs};
@@ -10,7 +10,7 @@ use crate::meetings::{Meeting, is_shared};
 use crate::rows::put_row;
 use crate::scene::{Chart, Scene};
 use crate::svg::{DARK, Pen, RED, put_circle, put_cross, put_triangle};
-use bz_chart_layout::{Event, Layout, Lifeline, Piece, Step, read_line};
+use bz_chart_layout::{Event, Layout, Lifeline, Line, Step, read_line};
 use bz_model::{ChanKind, Move, numbered};
 use std::alloc::{AllocError, Global};
 
@@ -76,18 +76,37 @@ impl Flow {
         }
     }
 
-    /// Goes on by the lines of the trace, and draws those of the piece.
+    /// Goes on by the lines of the trace, and draws those of the piece that are shown.
     pub fn follow(&mut self, scene: Scene<'_>) {
         let chart = scene.chart;
         let texts = chart.trace.split_inclusive(|byte| *byte == b'\n');
+        let mut rows = 0;
         for (number, text) in (1..=chart.piece.last()).zip(texts) {
             if let Some(line) = read_line(chart.circuit, chart.names, number, text) {
-                let row = row_of(chart.piece, number);
-                if let Some(row) = row {
-                    put_row(&mut self.rows, scene.layout, row, &line);
-                }
-                self.note(scene, line.event, row);
+                rows = self.follow_line(scene, &line, rows);
             }
+        }
+    }
+
+    // Goes on by a line, which is drawn on the row of this number where it is one of the piece and shown; the number of the next row.
+    fn follow_line(&mut self, scene: Scene<'_>, line: &Line<'_>, next: u32) -> u32 {
+        if !is_shown(scene.chart.picks, line.event) {
+            self.pass(scene, line.event);
+            return next;
+        }
+        if line.number < scene.chart.piece.first {
+            self.note(scene, line.event, None);
+            return next;
+        }
+        put_row(&mut self.rows, scene.layout, next, line);
+        self.note(scene, line.event, Some(next));
+        next.saturating_add(1)
+    }
+
+    // Goes on by an event that is not shown: requests that end no longer meet others.
+    fn pass(&mut self, scene: Scene<'_>, event: Event) {
+        if let Event::Moved(step) = event {
+            self.meet(scene, step, None);
         }
     }
 
@@ -179,32 +198,63 @@ impl Flow {
     }
 
     fn send(&mut self, scene: Scene<'_>, step: Step, row: Option<u32>) {
-        if let Some(to) = scene.columns.place(step.other) {
-            let from = scene.columns.place(step.maker);
-            let heading = match from {
-                Some(from) if from < to => Side::Right,
-                _ => Side::Left,
-            };
-            let sent = Sent {
-                order: self.count,
-                row,
-                from,
-                to,
-                heading,
-                lane: match self.lanes(to, heading.other()) {
-                    Some(lanes) => lanes.take(),
-                    None => 0,
-                },
-                is_request: matches!(step.mv, Move::Ask),
-                carries: step.value.is_some(),
-                kind: scene.chart.circuit.chan(step.chan).kind,
-            };
-            self.count = self.count.saturating_add(1);
-            set(&mut self.sent, step.chan, Some(sent));
-            if let (Some(from), Some(row)) = (from, row) {
-                self.put_channel(scene, step, sent, from, row);
-            }
+        let from = scene.columns.place(step.maker);
+        match (scene.columns.place(step.other), from, row) {
+            (Some(to), _, _) => self.send_to(scene, step, row, to, from),
+            (None, Some(from), Some(row)) => self.send_away(scene, step, row, from),
+            _ => {}
         }
+    }
+
+    fn send_to(
+        &mut self,
+        scene: Scene<'_>,
+        step: Step,
+        row: Option<u32>,
+        to: u32,
+        from: Option<u32>,
+    ) {
+        let heading = match from {
+            Some(from) if from < to => Side::Right,
+            _ => Side::Left,
+        };
+        let sent = Sent {
+            order: self.count,
+            row,
+            from,
+            to,
+            heading,
+            lane: match self.lanes(to, heading.other()) {
+                Some(lanes) => lanes.take(),
+                None => 0,
+            },
+            is_request: matches!(step.mv, Move::Ask),
+            carries: step.value.is_some(),
+            kind: scene.chart.circuit.chan(step.chan).kind,
+        };
+        self.count = self.count.saturating_add(1);
+        set(&mut self.sent, step.chan, Some(sent));
+        if let Some(row) = row {
+            self.put_channel(scene, step, sent, from.unwrap_or(to), row);
+        }
+    }
+
+    // What goes to a lifeline that is not shown: where it leaves, and nothing more.
+    fn send_away(&mut self, scene: Scene<'_>, step: Step, row: u32, from: u32) {
+        let sent = Sent {
+            order: self.count,
+            row: Some(row),
+            from: Some(from),
+            to: from,
+            heading: Side::Right,
+            lane: 0,
+            is_request: matches!(step.mv, Move::Ask),
+            carries: step.value.is_some(),
+            kind: scene.chart.circuit.chan(step.chan).kind,
+        };
+        add_arrow(&mut self.signs, sent);
+        put_leaving(&mut self.arrows, scene.layout, sent, row);
+        self.put_channel(scene, step, sent, from, row);
     }
 
     // Names the channel, and the value, beside the lifeline that it leaves.
@@ -335,11 +385,6 @@ fn add_arrow(signs: &mut Signs, sent: Sent) {
         ChanKind::Push => signs.add(Sign::Push),
         ChanKind::Pull => signs.add(Sign::Pull),
     }
-}
-
-// The row of a line of the piece.
-fn row_of(piece: Piece, number: usize) -> Option<u32> {
-    u32::try_from(number.checked_sub(piece.first)?).ok()
 }
 
 // Whether a lifeline is a port whose host is the caller.

@@ -16,4 +16,5 @@ mod scene;
 mod svg;
 mod words;
 
+pub use columns::count_rows;
 pub use drawing::draw;

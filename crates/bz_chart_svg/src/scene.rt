@@ -1,7 +1,7 @@
 //! What all parts of a drawing go by.
 
 use crate::columns::Columns;
-use bz_chart_layout::{Circuit, Layout, Piece};
+use bz_chart_layout::{Circuit, Layout, Picks, Piece};
 use bz_source::Survey;
 use bz_trace_text::LineNames;
 
@@ -14,6 +14,8 @@ pub(crate) struct Chart<'a> {
     pub part: &'a [u8],
     pub trace: &'a [u8],
     pub piece: Piece,
+    /// What is shown of it, where not all is.
+    pub picks: Option<&'a Picks>,
 }
 
 /// The lifelines that are shown of it, and the places of all.

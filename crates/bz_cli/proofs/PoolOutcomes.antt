@@ -93,11 +93,11 @@ pools_on (Some xs) items words asked workers fuel journal sessions old new answe
     inr (sessions, are, inr (subst (λ text. (length text ≤ input_limit) × PoolsText text asked fuel journal sessions workers old new answer) whole (fits, plays)))
 
 -- why a pool came to no close
-pub of_a_pool : (t : Terms) (workers : ℕ) (e : PoolError) → RefusesPool t workers e → IsOfPool t workers (of_pool e)
-of_a_pool t workers (pool.Close (close.Discord who at)) is = is
-of_a_pool t workers (pool.Close close.Memory) is = tt
-of_a_pool t workers pool.Memory is = tt
-of_a_pool t workers pool.NoThread is = tt
+pub of_a_pool : (e : PoolError) → RefusesPool e → IsOfPool (of_pool e)
+of_a_pool (pool.Close (close.Discord who at)) is = absurd is
+of_a_pool (pool.Close close.Memory) is = tt
+of_a_pool pool.Memory is = tt
+of_a_pool pool.NoThread is = tt
 
 -- the words are refused
 pub unfit : (words : List (List ℕ)) (e : SessionError) → SpellsHosts words (Err e) → RefusesSessions words (of_words e)
@@ -115,10 +115,8 @@ same_terms v w l m fuel j k of_wiring of_limit of_sessions =
     ap (λ (x : Wiring). terms x l fuel j) of_wiring ∙ ap (λ (n : ℕ). terms w n fuel j) of_limit ∙ ap (λ (n : ℕ). terms w m fuel n) of_sessions
 
 -- the pool came to no close
-pub no_close : (text : List ℕ) (asked : Option (List ℕ)) (fuel journal : ℕ) (lists : List (Vec HostCmd Global)) (workers : ℕ) (w : Wiring) (t : Terms) → Denotes text asked w → t ≡ terms w journal fuel (length lists) → (old : Option (List ℕ)) (fault : Fault) (e : PoolError) → RefusesPool t workers e → fault ≡ of_pool e → PoolsText text asked fuel journal lists workers old old (Err fault)
-no_close text asked fuel journal lists workers w t denotes same old fault e why is =
-    let told = of_a_pool (terms w journal fuel (length lists)) workers e (subst (λ (u : Terms). RefusesPool u workers e) same why) in
-    inr (w, denotes, inl (subst (λ f. IsOfPool (terms w journal fuel (length lists)) workers f) (sym is) told, Keeps-refl old))
+pub no_close : (text : List ℕ) (asked : Option (List ℕ)) (fuel journal : ℕ) (lists : List (Vec HostCmd Global)) (workers : ℕ) (w : Wiring) → Denotes text asked w → (old : Option (List ℕ)) (fault : Fault) (e : PoolError) → RefusesPool e → fault ≡ of_pool e → PoolsText text asked fuel journal lists workers old old (Err fault)
+no_close text asked fuel journal lists workers w denotes old fault e why is = inr (w, denotes, inl (subst IsOfPool (sym is) (of_a_pool e why), Keeps-refl old))
 
 -- it was closed
 pub closed_so : (text : List ℕ) (asked : Option (List ℕ)) (fuel journal : ℕ) (lists : List (Vec HostCmd Global)) (workers : ℕ) (w : Wiring) (t : Terms) (old new : Option (List ℕ)) (answer : Result Pooled Fault) → Denotes text asked w → t ≡ terms w journal fuel (length lists) → WritesClosed t lists workers old new answer → PoolsText text asked fuel journal lists workers old new answer

@@ -18,7 +18,7 @@ use Rattle.bz_locked.specs.Terms.{Terms, terms}
 use Rattle.bz_past.specs.Moments.{moment}
 use Rattle.bz_past.specs.declared.view.Moment.{Moment}
 use Rattle.bz_locked.specs.Journal.{fired_count}
-use Rattle.bz_pool.specs.Pooled.{ArePlayed, Differs}
+use Rattle.bz_pool.specs.Pooled.{ArePlayed}
 use Rattle.bz_words.specs.HostWords.{hosts_of, IsFirstUnfit}
 use Rattle.bz_words.specs.Words.{Spell}
 use Rattle.bz_session.specs.declared.playing.End.{End}
@@ -29,7 +29,7 @@ use Rattle.bz_cli_input.specs.Limits.{input_limit}
 use Rattle.bz_cli_input.specs.Opening.{Denotes, RefusesNet}
 use Rattle.bz_cli_input.specs.Stopping.{AppendsSome, StopsAtInput}
 use Rattle.bz_cli_input.specs.declared.fault.Fault.{Fault}
-use Rattle.bz_cli_input.specs.declared.fault.Fault.TheVariants.{Word, Ended, Discord, NoThread, Write, Memory}
+use Rattle.bz_cli_input.specs.declared.fault.Fault.TheVariants.{Word, Ended, NoThread, Write, Memory}
 
 abbrev pub RefusesSessions : List (List ℕ) → Fault → Type 0
 RefusesSessions words (Word at) = IsFirstUnfit words at
@@ -37,8 +37,8 @@ RefusesSessions words Memory = ⊤
 RefusesSessions words fault = ⊥
 
 -- The trace of a run of the net of these terms from its opening, which has no more entries and no more firings than these allow,
--- went out as `Out` says. In it each session has played its list of commands, and these are the ends of the sessions and of so
--- many workers. All that they were told has led to the end of this run.
+-- went out as `Out` says. In it each session has played its list of commands, these are the ends of the sessions and of so many
+-- workers, and no entry is of anybody else. All that they were told has led to the end of this run.
 pub record WritesPlay (t : Terms) (lists : List (Vec HostCmd Global)) (workers : ℕ) (ends : List End) (Out : List ℕ → Type 0) : Type 0 where
   pub entries : List Entry
   pub to : State
@@ -113,12 +113,11 @@ WritesOf net ends sessions fuel old new answer =
     → ArePlayed (terms net.wiring net.limit fuel (length lists)) lists workers (moment net stopped) ends
     → WritesClosed (terms net.wiring net.limit fuel (length lists)) lists workers old new answer
 
--- Why a pool came to no close: memory or a thread was wanting, or what was handed in at the end differs, first there.
-abbrev pub IsOfPool : Terms → ℕ → Fault → Type 0
-IsOfPool t workers (Discord who at) = Differs t workers who at
-IsOfPool t workers NoThread = ⊤
-IsOfPool t workers Memory = ⊤
-IsOfPool t workers fault = ⊥
+-- Why a pool came to no close: memory or a thread was wanting. What is handed in at the end always agrees.
+abbrev pub IsOfPool : Fault → Type 0
+IsOfPool NoThread = ⊤
+IsOfPool Memory = ⊤
+IsOfPool fault = ⊥
 
 -- No net was opened, or the pool came to no close, and nothing went out; or it was closed, on the net that the text denotes,
 -- with a journal of so many entries.
@@ -126,7 +125,7 @@ abbrev pub PoolsText : List ℕ → Option (List ℕ) → ℕ → ℕ → List (
 PoolsText text asked fuel journal lists workers old new answer =
     IsErrAnd answer (λ fault. RefusesNet text asked fault × Keeps old new)
     ⊎ ((w : Wiring) × Denotes text asked w
-    × (IsErrAnd answer (λ fault. IsOfPool (terms w journal fuel (length lists)) workers fault × Keeps old new)
+    × (IsErrAnd answer (λ fault. IsOfPool fault × Keeps old new)
     ⊎ WritesClosed (terms w journal fuel (length lists)) lists workers old new answer))
 
 -- The command `pool`: the words are refused; or they spell sessions, and the input is not taken, or they are played on it.

@@ -9,7 +9,7 @@ use clap::ArgMatches;
 #[derive(Clone, Copy)]
 pub enum Command<'a> {
     Run(RunOptions<'a>),
-    Explore(TraceOptions<'a>),
+    Explore(ExploreOptions<'a>),
     Check(CheckOptions<'a>),
     /// Of which the trace is the short one.
     Complete(TraceOptions<'a>),
@@ -18,7 +18,7 @@ pub enum Command<'a> {
     Lint(LintOptions),
     Parts,
     Kinds(FormatOptions),
-    Draw(DrawOptions),
+    Draw(DrawOptions<'a>),
     Chart(ChartOptions<'a>),
     Page(TraceOptions<'a>),
     Pool(PoolOptions<'a>),
@@ -51,10 +51,21 @@ pub struct CheckOptions<'a> {
     pub to_rest: bool,
     /// Whether several traces are named, each of which is checked by itself.
     pub several: bool,
+    /// Whether these are pieces of one run.
+    pub joined: bool,
     /// Whether JSON is asked for.
     pub json: bool,
     /// Where the names of the traces come from, if they don't stand on the command line.
     pub traces_from: Option<Source<'a>>,
+}
+
+/// The options of `explore`.
+#[derive(Clone, Copy)]
+pub struct ExploreOptions<'a> {
+    /// The trace behind which it begins, if it doesn't begin at the opening.
+    pub trace: Option<Source<'a>>,
+    /// Whether answers are objects of JSON.
+    pub json: bool,
 }
 
 /// The options of another command that reads a trace.
@@ -102,13 +113,17 @@ pub struct FormatOptions {
 
 /// The options of `draw`.
 #[derive(Clone, Copy)]
-pub struct DrawOptions {
+pub struct DrawOptions<'a> {
     /// Instances within so many others are drawn as boxes.
     pub depth: Option<u32>,
     /// The component around which a net is drawn.
     pub around: Option<u32>,
     /// How many channels away from that component what is drawn may be.
     pub hops: u32,
+    /// Where the trace comes from whose state is drawn, if one is.
+    pub trace: Option<Source<'a>>,
+    /// The line of the trace behind which that is.
+    pub line: Option<u64>,
 }
 
 /// The options of `chart`.
@@ -120,6 +135,10 @@ pub struct ChartOptions<'a> {
     pub from: Option<u64>,
     /// The last line of it that is drawn.
     pub to: Option<u64>,
+    /// What alone is shown, by words with commas between.
+    pub only: Option<&'a str>,
+    /// Whether the ports are shown, and nothing else that isn't named.
+    pub ports: bool,
 }
 
 /// The options of `pool`.
@@ -130,6 +149,8 @@ pub struct PoolOptions<'a> {
     pub fuel: u64,
     /// The most entries of the journal.
     pub journal: u32,
+    /// Whether each session has to come to the end of its words.
+    pub strict: bool,
     /// Where the words come from, if they don't stand on the command line.
     pub word_file: Option<Source<'a>>,
 }
@@ -146,7 +167,11 @@ pub struct TestOptions<'a> {
     pub journal: u32,
     /// The folder in which traces are kept, if that is asked for.
     pub traces: Option<&'a str>,
+    /// The file to which is written what the plays exercised, if that is asked for.
+    pub cover: Option<&'a str>,
     pub form: TestForm,
+    /// Whether what came is written into benches that don't pass.
+    pub bless: bool,
 }
 
 /// The seeds by which benches are played.
@@ -208,6 +233,7 @@ impl<'a> Command<'a> {
             Command::Check(options) => options.trace,
             Command::Complete(options) => options.trace,
             Command::Waits(options) => options.trace,
+            Command::Draw(options) => options.trace,
             Command::Chart(options) => options.trace,
             Command::Page(options) => options.trace,
             _ => None,
@@ -227,7 +253,7 @@ impl<'a> Command<'a> {
         matches!(self, Command::Check(options) if options.json)
     }
 
-    /// Whether several traces are named, each of which is checked by itself.
+    /// Whether several traces are named.
     pub fn is_of_several(self) -> bool {
         matches!(self, Command::Check(options) if options.several)
     }
@@ -269,7 +295,7 @@ impl<'a> Command<'a> {
 pub(crate) fn command_in<'a>(name: &str, matches: &ArgMatches<'a>) -> Option<Command<'a>> {
     Some(match name {
         "run" => Command::Run(run_options(matches)),
-        "explore" => Command::Explore(trace_options(matches)),
+        "explore" => Command::Explore(explore_options(matches)),
         "check" => Command::Check(check_options(matches)),
         "complete" => Command::Complete(short_options(matches)),
         "waits" => Command::Waits(waits_options(matches)),
@@ -304,8 +330,16 @@ fn check_options<'a>(matches: &ArgMatches<'a>) -> CheckOptions<'a> {
         first: matches.get_flag("first"),
         to_rest: matches.get_flag("to-rest"),
         several: matches.get_strs("traces").is_some() || matches.get_str("traces-from").is_some(),
+        joined: matches.get_flag("joined"),
         json: format_options(matches).json,
         traces_from: source_named(matches, "traces-from"),
+    }
+}
+
+fn explore_options<'a>(matches: &ArgMatches<'a>) -> ExploreOptions<'a> {
+    ExploreOptions {
+        trace: source_named(matches, "trace"),
+        json: format_options(matches).json,
     }
 }
 
@@ -343,11 +377,13 @@ fn lint_options(matches: &ArgMatches<'_>) -> LintOptions {
     }
 }
 
-fn draw_options(matches: &ArgMatches<'_>) -> DrawOptions {
+fn draw_options<'a>(matches: &ArgMatches<'a>) -> DrawOptions<'a> {
     DrawOptions {
         depth: matches.get_one("depth"),
         around: matches.get_one("around"),
         hops: matches.get_one("hops").unwrap_or(HOPS_BY_DEFAULT),
+        trace: source_named(matches, "trace"),
+        line: matches.get_one("line"),
     }
 }
 
@@ -356,6 +392,8 @@ fn chart_options<'a>(matches: &ArgMatches<'a>) -> ChartOptions<'a> {
         trace: source_named(matches, "trace"),
         from: matches.get_one("from"),
         to: matches.get_one("to"),
+        only: matches.get_str("only"),
+        ports: matches.get_flag("ports"),
     }
 }
 
@@ -364,6 +402,7 @@ fn pool_options<'a>(matches: &ArgMatches<'a>) -> PoolOptions<'a> {
         workers: matches.get_one("workers").unwrap_or(WORKERS_BY_DEFAULT),
         fuel: matches.get_one("fuel").unwrap_or(FUEL_BY_DEFAULT),
         journal: matches.get_one("journal").unwrap_or(JOURNAL_BY_DEFAULT),
+        strict: matches.get_flag("strict"),
         word_file: source_named(matches, "word-file"),
     }
 }
@@ -375,11 +414,13 @@ fn test_options<'a>(matches: &ArgMatches<'a>) -> TestOptions<'a> {
         fuel: matches.get_one("fuel").unwrap_or(FUEL_BY_DEFAULT),
         journal: matches.get_one("journal").unwrap_or(JOURNAL_BY_DEFAULT),
         traces: matches.get_str("traces"),
+        cover: matches.get_str("cover"),
         form: match matches.get_str("format") {
             Some("json") => TestForm::Json,
             Some("junit") => TestForm::Junit,
             _ => TestForm::Text,
         },
+        bless: matches.get_flag("bless"),
     }
 }
 

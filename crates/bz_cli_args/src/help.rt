@@ -38,7 +38,8 @@ Example:
 
 /// What stands behind the options of `explore`.
 pub(crate) const EXPLORE: &str = "\
-Standard input has a command on each line. The line `help` lists them. On a terminal each has a prompt.
+Standard input has a command on each line. The line `help` lists them. On a terminal each has a prompt. With --format json each
+line is answered by an object of JSON on a line, at once.
 
 Statuses:
   0  each line was followed, and each reply was as expected
@@ -61,6 +62,8 @@ line is written:
 With --first no more is read after a line that no run allows, and the line of the verdict says so.
 Of several traces, named by TRACES or in the file of --traces-from, each one is checked by itself. A line NAME: with what is
 told above is written for each, in their order, and then how many passed. JSON is one object for each trace, on a line of its own.
+With --joined they are pieces of one run, each with a first line and a limit of its own; only the last may have clash lines. One
+line is written: on the whole run, or after the name of the first piece that does not go on with it.
 
 Statuses:
   0  the trace is that of a run
@@ -96,12 +99,15 @@ Example:
 pub(crate) const WAITS: &str = "\
 The netlist comes from --netlist or from standard input. The trace comes from --trace, or else stands behind the netlist, as
 cat makes one text of two files. What is told is what `waits` of explore tells behind that line, with C `waits C`. Where
-something can never move again, the first line of the trace behind which that is so is told before.
+something can never move again, the first line of the trace behind which that is so is told before. With --source a place in
+that file has the text of its line behind it. There may be up to 100 such files, with 4194304 bytes together. Which of these no
+place of the net names is told on standard error.
 
 Statuses:
   0  it was told
   1  the trace is not that of a run, or the netlist is refused (S, B and E faults)
-  2  the command line is bad, a file cannot be opened, or the line or the component asked for is not there
+  2  the command line is bad, a file cannot be opened, the source is too large, or the line or the component asked for is not
+     there
   3  with --strict something can never move again, input or output failed (F1, F2), or memory ran out (F3)
 
 Example:
@@ -166,11 +172,12 @@ pub(crate) const DRAW: &str = "\
 The netlist comes from FILE or from standard input. The graph is in the DOT language.
 Without --depth the greatest depth is taken at which at most 300 components and boxes are drawn, or else 0.
 A drawing holds 5000 components and boxes: of a larger net, --around C draws what is near component C.
+With --trace each channel that is not idle behind that line has the colour of its phase, and the value that is on it.
 
 Statuses:
   0  the graph was written
-  1  the netlist is refused (S, B and E faults)
-  2  the command line is bad, a file cannot be opened, or there is no such drawing
+  1  the netlist is refused (S, B and E faults), or the trace is not that of a run
+  2  the command line is bad, a file cannot be opened, there is no such drawing, or the line asked for is not there
   3  input or output failed (F1, F2), or memory ran out (F3)
 
 Example:
@@ -179,12 +186,13 @@ Example:
 /// What stands behind the options of `chart`.
 pub(crate) const CHART: &str = "\
 The netlist comes from --netlist or from standard input. The trace comes from --trace, or else stands behind the netlist, as
-cat makes one text of two files. A chart holds 2000 lines.
+cat makes one text of two files. A chart holds 2000 lines. With --only or --ports it has the lifelines of what is named, at a
+channel those at its ends, and the lines in which these do something or something is sent to them.
 
 Statuses:
   0  the chart was written
   1  the trace is not that of a run, or the netlist is refused (S, B and E faults)
-  2  the command line is bad, a file cannot be opened, or the lines asked for are not there or too many
+  2  the command line is bad, a file cannot be opened, the lines asked for are not there or too many, or what is named is not there
   3  input or output failed (F1, F2), or memory ran out (F3)
 
 Example:
@@ -193,12 +201,13 @@ Example:
 /// What stands behind the options of `page`.
 pub(crate) const PAGE: &str = "\
 The netlist comes from --netlist or from standard input. The trace comes from --trace, or else stands behind the netlist, as
-cat makes one text of two files. The page is one file, and opens in any browser. It holds nets of up to 100000 components.
+cat makes one text of two files. The page is one file, and opens in any browser. It holds nets of up to 100000 components, and
+up to 100 files of the source with 4194304 bytes together. Which of these no place of the net names is told on standard error.
 
 Statuses:
   0  the page was written
   1  the trace is not that of a run, or the netlist is refused (S, B and E faults)
-  2  the command line is bad, a file cannot be opened, or the net is too large
+  2  the command line is bad, a file cannot be opened, the net is too large, or the source is
   3  input or output failed (F1, F2), or memory ran out (F3)
 
 Example:
@@ -217,11 +226,11 @@ Words of up to 16 sessions, a / alone between one session's words and the next o
 P is a port's name, in which %3A stands for a colon. V is a decimal number below 2^128.
 
 Statuses:
-  0  all came to an end, also where a session still waited: a note on standard error tells it
+  0  all came to an end; without --strict also where a session still waited: a note on standard error tells it
   1  the netlist is refused (S, B and E faults)
   2  the command line or a word is bad (H1), a file cannot be opened, or a file of words cannot be read
-  3  an event was refused (N faults), records disagree (C1), a thread could not be started (P3),
-     input or output failed (F1, F2), or memory ran out (F3)
+  3  an event was refused (N faults), or with --strict a session still waited, records disagree (C1), a thread could
+     not be started (P3), input or output failed (F1, F2), or memory ran out (F3)
 
 Example:
   breezesim pool --part two --netlist examples/two.breeze --words examples/two.words";
@@ -240,11 +249,12 @@ elsewhere they are given:
   :part P               its part
   :then                 what stands above is done before what follows begins
 A # begins a comment. Without a seed the net runs to rest before each word.
+With --bless a bench that does not pass is written anew: with what came, in place of what was due, and all else as it is.
 
 Statuses:
   0  all passed
   1  values were others than due, some did not come, or more came
-  2  a bench is none (T faults), a netlist is refused, a file cannot be read or made, or the command line is bad
+  2  a bench is none (T faults), a netlist is refused, a file cannot be read or written, or the command line is bad
   3  nothing worse, and a play did not come to an end; input or output failed (F1, F2), or memory ran out (F3)
 
 Example:

@@ -9,8 +9,9 @@ mod request;
 mod words;
 
 pub use asked::{
-    ChartOptions, CheckOptions, Command, DrawOptions, FormatOptions, LintOptions, ListOptions,
-    PoolOptions, RunOptions, SeedsAsked, Source, TestForm, TestOptions, TraceOptions, WaitsOptions,
+    ChartOptions, CheckOptions, Command, DrawOptions, ExploreOptions, FormatOptions, LintOptions,
+    ListOptions, PoolOptions, RunOptions, SeedsAsked, Source, TestForm, TestOptions, TraceOptions,
+    WaitsOptions,
 };
 pub use commands::command_line;
 pub use options::{MAX_JOURNAL, MAX_WORKERS};

@@ -172,7 +172,7 @@ pub(crate) const TRACES: Opt = Opt {
     help: "The traces, each checked by itself, with a line for each; - is standard input",
     action: ArgAction::Append,
     takes_hyphens: false,
-    conflicts: &["trace", "traces-from", "cover"],
+    conflicts: &["trace", "traces-from"],
     ..TEXT
 };
 
@@ -180,8 +180,15 @@ pub(crate) const TRACES_FROM: Opt = Opt {
     id: "traces-from",
     name: Name::Long("traces-from"),
     help: "Check the traces that FILE names, each on a line or ended by a NUL; - is standard input",
-    conflicts: &["trace", "cover"],
+    conflicts: &["trace"],
     ..TEXT
+};
+
+pub(crate) const JOINED: Opt = Opt {
+    id: "joined",
+    name: Name::Long("joined"),
+    help: "Check the traces that are named as pieces of one run: each goes on where the one before ended",
+    ..FLAG
 };
 
 pub(crate) const TO_REST: Opt = Opt {
@@ -291,6 +298,11 @@ pub(crate) const STRICT_WAITS: Opt = Opt {
     ..STRICT
 };
 
+pub(crate) const STRICT_POOL: Opt = Opt {
+    help: "End with status 3 where a session has not come to the end of its words",
+    ..STRICT
+};
+
 pub(crate) const WORKERS: Opt = Opt {
     id: "workers",
     name: Name::Long("workers"),
@@ -325,11 +337,50 @@ pub(crate) const TO: Opt = Opt {
     ..FROM
 };
 
+pub(crate) const PAGE_SOURCES: Opt = Opt {
+    id: "sources",
+    name: Name::Long("source"),
+    help: "Put FILE of the compiler's source into the page; several are named by a --source for each",
+    action: ArgAction::Append,
+    ..TEXT
+};
+
+pub(crate) const WAITS_SOURCES: Opt = Opt {
+    help: "Write behind each place that is in FILE of the compiler's source the text there; a --source for each file",
+    ..PAGE_SOURCES
+};
+
+pub(crate) const ONLY: Opt = Opt {
+    id: "only",
+    name: Name::Long("only"),
+    value: &["NAMES"],
+    help: "Show these alone, with commas between: component C, channel kN, port P",
+    ..TEXT
+};
+
+pub(crate) const PORTS: Opt = Opt {
+    id: "ports",
+    name: Name::Long("ports"),
+    help: "Show the ports alone, with what --only names",
+    ..FLAG
+};
+
 pub(crate) const LINE: Opt = Opt {
     id: "line",
     name: Name::Long("line"),
     help: "The line of the trace behind which it is told; by default the last",
     ..FROM
+};
+
+pub(crate) const DRAWN_TRACE: Opt = Opt {
+    help: "Show what is on the channels behind a line of the trace in FILE; - is standard input",
+    ..TRACE
+};
+
+pub(crate) const DRAWN_LINE: Opt = Opt {
+    needs: &["trace"],
+    help: "The line of the trace behind which it is shown; by default the last",
+    ..LINE
 };
 
 pub(crate) const COMPONENT: Opt = Opt {
@@ -402,9 +453,21 @@ pub(crate) const BENCH_TRACES: Opt = Opt {
     ..TEXT
 };
 
+pub(crate) const BENCH_COVER: Opt = Opt {
+    help: "Write what the plays exercised to the new file FILE: as LCOV where it ends in .info, else as JSON",
+    ..COVER
+};
+
 pub(crate) const BENCH_FORM: Opt = Opt {
     parser: ValueParser::Names(&["text", "json", "junit"]),
     ..FORMAT
+};
+
+pub(crate) const BLESS: Opt = Opt {
+    id: "bless",
+    name: Name::Long("bless"),
+    help: "Write what came into the benches that do not pass, in place of what was due",
+    ..FLAG
 };
 
 pub(crate) const BENCHES: Opt = Opt {

@@ -12,6 +12,9 @@ pub use clap::Error;
 use clap::error::ErrorKind;
 use std::alloc::{AllocError, Global};
 
+/// The most files of the source that are shown.
+const MOST_SOURCES: usize = 100;
+
 /// How a part is named.
 #[derive(Clone, Copy)]
 pub enum PartName<'a> {
@@ -37,6 +40,8 @@ pub struct Request<'a> {
     pub files: Vec<&'a str>,
     /// The traces that are checked one after another, in place of one.
     pub traces: Vec<&'a str>,
+    /// The files of the source that are shown.
+    pub sources: Vec<&'a str>,
 }
 
 /// What the words of the command line ask for, the first of which is the program's name; `None` where they name no command. An
@@ -59,6 +64,7 @@ fn request_in<'a>(
     let words = Vec::from_slice(alloc, matches.get_strs("words").unwrap_or(&[]))?;
     let files = Vec::from_slice(alloc, matches.get_strs("files").unwrap_or(&[]))?;
     let traces = Vec::from_slice(alloc, matches.get_strs("traces").unwrap_or(&[]))?;
+    let sources = Vec::from_slice(alloc, matches.get_strs("sources").unwrap_or(&[]))?;
     Ok(Some(Request {
         command,
         part: part_in(matches),
@@ -67,6 +73,7 @@ fn request_in<'a>(
         words,
         files,
         traces,
+        sources,
     }))
 }
 
@@ -117,11 +124,17 @@ pub fn stray_word(alloc: Global, error: &Error) -> Option<String> {
 
 /// What is wrong with options that may each be given, if something is.
 pub fn mistake_in(request: &Request<'_>) -> Option<&'static str> {
+    if request.sources.len() > MOST_SOURCES {
+        return Some("--source names more than 100 files");
+    }
     match request.command {
         Command::Check(options) if options.first && options.trace.is_none() && !options.several => {
             Some(
                 "--first takes a trace with a text of its own: --trace FILE, --trace -, or traces that are named",
             )
+        }
+        Command::Check(options) if options.joined && !options.several => {
+            Some("--joined takes traces that are named, as words or in the file of --traces-from")
         }
         _ => None,
     }

@@ -37,3 +37,7 @@ first_more cases n ended before one after within was passes fails which none fir
 pub first_all : (cases : List Ended) (n status : ℕ) → length cases ≤ n → IsFirst cases n status → IsStatus cases status
 first_all cases n status all first =
     (λ zero place ended is. first.passed zero place ended (let within = slice_get_within cases place ended is in omega (arith, within, all)) is, first.failed)
+
+-- a status of neither says nothing
+pub refused_says : (cases : List Ended) → IsStatus cases 2
+refused_says cases = (λ zero. absurd (omega (arith, zero)), λ one. absurd (omega (arith, one)))

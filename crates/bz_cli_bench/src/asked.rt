@@ -1,5 +1,6 @@
 //! What `test` is asked.
 
+use crate::blessing::Blessing;
 use std::alloc::Global;
 
 /// How cases are told.
@@ -55,7 +56,11 @@ pub struct Asked<'a> {
     pub journal: u32,
     /// The folder in which the traces of cases that failed are kept, where that is asked for.
     pub traces: Option<&'a str>,
+    /// The file to which is written what the plays exercised, where that is asked for.
+    pub cover: Option<&'a str>,
     pub form: Form,
+    /// Whether what came is written into benches that don't pass.
+    pub blesses: bool,
 }
 
 /// What is the same for all benches.
@@ -72,4 +77,5 @@ pub(crate) struct Trial<'a> {
 pub(crate) struct At<'a> {
     pub place: usize,
     pub path: &'a str,
+    pub blessing: Blessing,
 }

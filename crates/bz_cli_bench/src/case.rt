@@ -3,6 +3,7 @@
 ghost use Rattle.std.specs.Prelude.{◌≡◌};
 ghost use Rattle.bz_cli_bench.specs.Cases.{IsFailed, IsPassed, IsPlayed};
 
+use crate::blessing::Blessing;
 use crate::ended::{Ended, REFUSED, Unlike};
 use bz_bench::{Cause, Spot};
 use bz_bench_play::Verdict;
@@ -34,6 +35,8 @@ pub struct Told {
     pub words: usize,
     /// Why its trace was not kept.
     pub unkept: Option<&'static str>,
+    /// What came of its bench's blessing; of several cases of a bench the first has it.
+    pub blessing: Blessing,
 }
 
 impl Told {
@@ -47,7 +50,13 @@ impl Told {
             fired: 0,
             words: 0,
             unkept: None,
+            blessing: Blessing::None,
         }
+    }
+
+    // Whether a file is missing that was to be written.
+    fn is_unwritten(&self) -> bool {
+        self.unkept.is_some() || matches!(self.blessing, Blessing::Unwritten(_))
     }
 }
 
@@ -162,9 +171,11 @@ impl Case {
         ensures passed { result ≡ 0 → IsPassed self.now }
         ensures failed { result ≡ 1 → IsFailed self.now }
     {
-        match self.told.unkept {
-            Some(_) => REFUSED,
-            None => self.ended.status(),
+        let ended = self.ended();
+        if self.told.is_unwritten() {
+            REFUSED
+        } else {
+            ended.status()
         }
     }
 }

@@ -17,4 +17,7 @@ pub trait BenchFiles {
 
     /// Makes a file of these bytes, or says why there is none. One that is there is left as it is.
     fn make(&mut self, path: &str, bytes: &[u8]) -> Result<(), &'static str>;
+
+    /// Puts a file of these bytes in place of one that is there, as a whole; or leaves that as it is, and says why.
+    fn replace(&mut self, path: &str, bytes: &[u8]) -> Result<(), &'static str>;
 }

@@ -1,5 +1,6 @@
 //! Cases as objects of JSON, one a line. Values are strings, since many readers of JSON keep 53 bits of a number.
 
+use crate::blessing::Blessing;
 use crate::case::{Case, Short, Told};
 use crate::ended::{Ended, Unlike};
 use crate::lines::{path_of, put_came, put_due};
@@ -25,6 +26,9 @@ fn put_object(text: &mut Text, path: &str, case: &Case) {
     text.put(",\"verdict\":\"");
     text.put(word_of(case.ended()));
     text.put("\"");
+    if let Blessing::Written = told.blessing {
+        text.put(",\"blessed\":true");
+    }
     put_members(text, case.ended(), told);
     put_number(text, ",\"fired\":", told.fired as u64);
     put_number(text, ",\"words\":", told.words as u64);

@@ -3,8 +3,11 @@
 //! All cases are decided before anything is written, so that a form that begins with their number can be had.
 #![tactic(auto)]
 
+mod amending;
 mod asked;
+mod blessing;
 mod case;
+mod counted;
 mod ended;
 mod files;
 mod forms;

@@ -1,5 +1,6 @@
 //! Cases as lines of text.
 
+use crate::blessing::Blessing;
 use crate::case::{Case, Short, Told};
 use crate::ended::{Ended, Unlike};
 use bz_bench::Item;
@@ -8,14 +9,18 @@ use bz_model::Value;
 use bz_text::Text;
 use bz_view::Piece;
 
-/// Adds a line for each case that did not pass, and last how many did and how many did not.
+/// Adds a line for each bench that was blessed and each case that did not pass, and last how many did and how many did not.
 pub(crate) fn put_lines(text: &mut Text, benches: &[&str], cases: &[Case]) {
     let mut passed = 0usize;
     for case in cases {
+        let path = path_of(benches, case);
+        if let Blessing::Written = case.told().blessing {
+            text.say("%: blessed\n", &[Piece::Text(path)]);
+        }
         if case.is_passed() {
             passed = passed.saturating_add(1);
         } else {
-            put_line(text, path_of(benches, case), case);
+            put_line(text, path, case);
         }
     }
     let failed = cases.len().saturating_sub(passed);

@@ -1,6 +1,7 @@
 //! The nets that are opened, each once, by the netlist and the part that are named.
 
 use crate::asked::Trial;
+use crate::counted::Counted;
 use crate::files::BenchFiles;
 use crate::opened::Opened;
 use crate::reading::{Refusal, bytes_of, unread};
@@ -9,6 +10,7 @@ use bz_model::NameSet;
 use bz_text::Text;
 use std::alloc::{AllocError, Global};
 use std::io::Write;
+use std::mem;
 
 /// What a netlist and the name of a part come to.
 #[derive(Drop)]
@@ -24,6 +26,9 @@ pub(crate) struct Nets {
     // Netlists and parts, as they were named, in the order in which they came.
     names: NameSet,
     found: Vec<Found>,
+    // What each is called, and what was exercised of it.
+    labels: Vec<Vec<u8>>,
+    counted: Vec<Counted>,
 }
 
 impl Nets {
@@ -31,12 +36,47 @@ impl Nets {
         Nets {
             names: NameSet::new(alloc),
             found: Vec::new(alloc),
+            labels: Vec::new(alloc),
+            counted: Vec::new(alloc),
         }
+    }
+
+    /// How many there are.
+    pub(crate) fn count(&self) -> usize {
+        self.found.len()
     }
 
     /// What is at a place.
     pub(crate) fn at(&self, place: usize) -> Option<&Found> {
         self.found.get(place)
+    }
+
+    /// What the one at a place is called.
+    pub(crate) fn name(&self, place: usize) -> &[u8] {
+        match self.labels.get(place) {
+            Some(label) => label.as_slice(),
+            None => b"",
+        }
+    }
+
+    /// What was exercised of the one at a place.
+    pub(crate) fn counted(&self, place: usize) -> Option<&Counted> {
+        self.counted.get(place)
+    }
+
+    /// The same, to be put back once more was counted.
+    pub(crate) fn take_counted(&mut self, place: usize) -> Counted {
+        match self.counted.get_mut(place) {
+            Some(counted) => mem::replace(counted, Counted::none()),
+            None => Counted::none(),
+        }
+    }
+
+    /// Puts back what was exercised of the one at a place.
+    pub(crate) fn put_counted(&mut self, place: usize, counted: Counted) {
+        if let Some(here) = self.counted.get_mut(place) {
+            *here = counted;
+        }
     }
 
     /// The place of the net of a part of a netlist, which is opened where it was not yet.
@@ -52,6 +92,8 @@ impl Nets {
             return Ok(place);
         }
         self.names.insert(trial.alloc, name.as_slice())?;
+        self.labels.push(label_of(trial.alloc, netlist, part)?)?;
+        self.counted.push(Counted::none())?;
         self.add(found_in(trial, netlist, part, files))
     }
 
@@ -61,6 +103,16 @@ impl Nets {
         self.found.push(found?)?;
         Ok(place)
     }
+}
+
+// What the net of a part of a netlist is called.
+fn label_of(alloc: Global, netlist: &str, part: Option<&[u8]>) -> Result<Vec<u8>, AllocError> {
+    let mut label = Vec::from_slice(alloc, netlist.as_bytes())?;
+    if let Some(part) = part {
+        label.push(b' ')?;
+        label.extend_from_slice(part)?;
+    }
+    Ok(label)
 }
 
 // A netlist and a part as one name.

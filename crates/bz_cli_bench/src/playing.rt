@@ -5,13 +5,14 @@ ghost use Rattle.bz_cli_bench.specs.Cases.{IsPlayed};
 
 use crate::asked::{At, Trial};
 use crate::case::Case;
+use crate::counted::Counted;
 use crate::files::BenchFiles;
 use crate::opened::Opened;
 use crate::told::told_of;
 use crate::traces::keep_trace;
 use crate::unlike::first_unlike;
 use bz_bench::Tally;
-use bz_bench_play::{Plan, Played, Verdict, play};
+use bz_bench_play::{Came, Plan, Played, Verdict, learn, play};
 use bz_cli_input::Fault;
 
 /// The most entries that the journal of a play may have.
@@ -38,18 +39,39 @@ pub(crate) fn case_of<F: BenchFiles>(
     setting: Setting<'_>,
     seed: Option<u64>,
     had: &mut Option<Had>,
+    counted: &mut Counted,
     files: &mut F,
 ) -> Result<Case, Fault>
     requires { length setting.plan.now.streams.items ≡ length setting.opened.now.ports }
 {
     match played(setting, seed) {
-        Ok(played) => case_in(setting, seed, played, had, files),
+        Ok(played) => case_in(setting, seed, played, had, counted, files),
         Err(fault) => Err(fault),
     }
 }
 
-// Plays the bench.
-fn played(setting: Setting<'_>, seed: Option<u64>) -> Result<Played, Fault>
+/// What comes at each port of a net where any values may come in place of those that are due, if the play comes to its end.
+pub(crate) fn learnt(setting: Setting<'_>) -> Result<Option<Vec<Vec<Came>>>, Fault> {
+    let Trial { alloc, asked, .. } = setting.trial;
+    let journal = asked.journal.max(1).min(MAX_JOURNAL);
+    let Ok(flat) = setting.opened.flat().dup(alloc) else {
+        return Err(Fault::Memory);
+    };
+    match learn(
+        alloc,
+        flat,
+        setting.plan,
+        asked.seeds.at(0),
+        asked.fuel,
+        journal,
+    ) {
+        Ok(learnt) => Ok(learnt),
+        Err(_) => Err(Fault::Memory),
+    }
+}
+
+/// Plays the bench.
+pub(crate) fn played(setting: Setting<'_>, seed: Option<u64>) -> Result<Played, Fault>
     requires { length setting.plan.now.streams.items ≡ length setting.opened.now.ports }
     ensures { IfOk result (λ p. IsPlayed p.verdict) }
 {
@@ -70,10 +92,14 @@ fn case_in<F: BenchFiles>(
     seed: Option<u64>,
     played: Played,
     had: &mut Option<Had>,
+    counted: &mut Counted,
     files: &mut F,
 ) -> Result<Case, Fault>
     requires { IsPlayed played.verdict }
 {
+    if setting.trial.asked.cover.is_some() {
+        counted.add(setting.trial.alloc, played.stepping.net())?;
+    }
     let mut case = told_case(setting, seed, &played, had.as_ref())?;
     if !case.is_passed() {
         case.note_unkept(keep_trace(setting, seed, &played, files)?);

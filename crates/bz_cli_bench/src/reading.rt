@@ -72,7 +72,8 @@ pub(crate) fn bench_of<F: BenchFiles>(
     }
 }
 
-fn bench_in<F: BenchFiles>(
+/// The bench that a text spells.
+pub(crate) fn bench_in<F: BenchFiles>(
     alloc: Global,
     path: &str,
     text: &str,

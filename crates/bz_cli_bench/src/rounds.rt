@@ -3,7 +3,9 @@
 ghost use Rattle.std.specs.Prelude.{◌≡◌, ◌<◌, length, IfOk};
 
 use crate::asked::{At, Trial};
+use crate::blessing::{Blessing, bless};
 use crate::case::{Case, Told};
+use crate::counted::Counted;
 use crate::files::BenchFiles;
 use crate::nets::{Found, Nets};
 use crate::opened::Opened;
@@ -13,8 +15,25 @@ use bz_bench::Bench;
 use bz_bench_play::{Plan, plan_of};
 use bz_cli_input::Fault;
 
-/// Adds the cases of a bench: one for each seed, or the one that says why it is not played.
+/// Adds the cases of a bench: one for each seed, or the one that says why it is not played. Where that is asked for, what comes is
+/// written into it before.
 pub(crate) fn add_cases<F: BenchFiles>(
+    trial: Trial<'_>,
+    at: At<'_>,
+    nets: &mut Nets,
+    files: &mut F,
+    cases: &mut Vec<Case>,
+) -> Result<(), Fault>
+    ensures { IfOk result (λ _. length cases.old.items < length cases.new.items) }
+{
+    match bless(trial, at, nets, files) {
+        Ok(blessing) => add_bench(trial, At { blessing, ..at }, nets, files, cases),
+        Err(fault) => Err(fault),
+    }
+}
+
+// Adds the cases of a bench as its file has it.
+fn add_bench<F: BenchFiles>(
     trial: Trial<'_>,
     at: At<'_>,
     nets: &mut Nets,
@@ -41,13 +60,19 @@ fn add_read<F: BenchFiles>(
     ensures { IfOk result (λ _. length cases.old.items < length cases.new.items) }
 {
     match place_of(trial, at, bench, nets, files) {
-        Ok(place) => add_found(trial, at, bench, nets.at(place), files, cases),
+        Ok(place) => {
+            let mut counted = nets.take_counted(place);
+            let found = nets.at(place);
+            let added = add_found(trial, at, bench, found, &mut counted, files, cases);
+            nets.put_counted(place, counted);
+            added
+        }
         Err(why) => add_refused(trial, at, why, cases),
     }
 }
 
-// The place of the net of a bench.
-fn place_of<F: BenchFiles>(
+/// The place of the net of a bench.
+pub(crate) fn place_of<F: BenchFiles>(
     trial: Trial<'_>,
     at: At<'_>,
     bench: &Bench,
@@ -82,13 +107,14 @@ fn add_found<F: BenchFiles>(
     at: At<'_>,
     bench: &Bench,
     found: Option<&Found>,
+    counted: &mut Counted,
     files: &mut F,
     cases: &mut Vec<Case>,
 ) -> Result<(), Fault>
     ensures { IfOk result (λ _. length cases.old.items < length cases.new.items) }
 {
     match found {
-        Some(Found::Net(opened)) => add_planned(trial, at, bench, opened, files, cases),
+        Some(Found::Net(opened)) => add_planned(trial, at, bench, opened, counted, files, cases),
         Some(Found::Refused(why)) => match Vec::from_slice(trial.alloc, why.as_slice()) {
             Ok(why) => add_refused(trial, at, Refusal::NoNet(why), cases),
             Err(_) => Err(Fault::Memory),
@@ -103,13 +129,14 @@ fn add_planned<F: BenchFiles>(
     at: At<'_>,
     bench: &Bench,
     opened: &Opened,
+    counted: &mut Counted,
     files: &mut F,
     cases: &mut Vec<Case>,
 ) -> Result<(), Fault>
     ensures { IfOk result (λ _. length cases.old.items < length cases.new.items) }
 {
     match plan_of(trial.alloc, opened.flat(), bench) {
-        Ok(plan) => add_plays(trial, at, opened, &plan, files, cases),
+        Ok(plan) => add_plays(trial, at, opened, &plan, counted, files, cases),
         Err(fault) => add_refused(trial, at, Refusal::from(fault), cases),
     }
 }
@@ -120,6 +147,7 @@ fn add_plays<F: BenchFiles>(
     at: At<'_>,
     opened: &Opened,
     plan: &Plan,
+    counted: &mut Counted,
     files: &mut F,
     cases: &mut Vec<Case>,
 ) -> Result<(), Fault>
@@ -133,9 +161,26 @@ fn add_plays<F: BenchFiles>(
         plan,
     };
     let mut had = None;
-    add_play(setting, 0, &mut had, files, cases)?;
+    add_play(setting, 0, &mut had, counted, files, cases)?;
+    let at = At {
+        blessing: Blessing::None,
+        ..at
+    };
+    let setting = Setting {
+        trial,
+        at,
+        opened,
+        plan,
+    };
     for round in 0..trial.asked.seeds.more() {
-        add_play(setting, round.saturating_add(1), &mut had, files, cases)?;
+        add_play(
+            setting,
+            round.saturating_add(1),
+            &mut had,
+            counted,
+            files,
+            cases,
+        )?;
     }
     Ok(())
 }
@@ -145,6 +190,7 @@ fn add_play<F: BenchFiles>(
     setting: Setting<'_>,
     round: u32,
     had: &mut Option<Had>,
+    counted: &mut Counted,
     files: &mut F,
     cases: &mut Vec<Case>,
 ) -> Result<(), Fault>
@@ -152,7 +198,7 @@ fn add_play<F: BenchFiles>(
     ensures { IfOk result (λ _. length cases.old.items < length cases.new.items) }
 {
     let seed = setting.trial.asked.seeds.at(round);
-    add_case(case_of(setting, seed, had, files), cases)
+    add_case(case_of(setting, seed, had, counted, files), cases)
 }
 
 // Adds a case, if there is one.

@@ -4,9 +4,21 @@ ghost use Rattle.std.specs.Prelude.{◌≡◌, ◌⊎◌};
 ghost use Rattle.bz_cli_bench.specs.Cases.{IsStatus};
 
 use crate::case::Case;
+use crate::ended::REFUSED;
 
-/// The status of a call: of the statuses of its cases the gravest.
-pub(crate) fn status_of(cases: &[Case]) -> u8
+/// The status of a call: that of its cases, where what they exercised was written, if that is asked for.
+#[tactic(auto, using(crate::proofs::Statuses::refused_says))]
+pub(crate) fn status_behind(cases: &[Case], is_written: bool) -> u8
+    ensures { IsStatus cases.now result }
+{
+    if !is_written {
+        return REFUSED;
+    }
+    status_of(cases)
+}
+
+// Of the statuses of cases the gravest.
+fn status_of(cases: &[Case]) -> u8
     ensures { IsStatus cases.now result }
 {
     let mut status = 0;

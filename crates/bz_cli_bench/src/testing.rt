@@ -5,11 +5,13 @@ ghost use Rattle.bz_cli_bench.specs.Cases.{Tests};
 ghost use Rattle.bz_cli_input.specs.Reading.{ReadsWithin};
 
 use crate::asked::{Asked, At, Trial};
+use crate::blessing::Blessing;
 use crate::case::Case;
+use crate::counted::tell_counted;
 use crate::files::BenchFiles;
 use crate::nets::Nets;
 use crate::rounds::add_cases;
-use crate::status::status_of;
+use crate::status::status_behind;
 use crate::telling::tell;
 use crate::traces::tell_unkept;
 use bz_cli_input::{Fault, InputFault, read_input};
@@ -83,28 +85,39 @@ fn test<F: BenchFiles, W: Write, E: Write>(
 ) -> Result<u8, Fault>
     ensures { Tests (length trial.entry.asked.benches.now) result }
 {
-    match cases_of(trial, files) {
-        Ok(cases) => told(trial, &cases, output, errors),
+    let mut nets = Nets::new(trial.alloc);
+    match cases_of(trial, &mut nets, files) {
+        Ok(cases) => told(trial, &cases, &nets, files, output, errors),
         Err(fault) => Err(fault),
     }
 }
 
 // All cases: for each bench there is one at least.
-fn cases_of<F: BenchFiles>(trial: Trial<'_>, files: &mut F) -> Result<Vec<Case>, Fault>
+fn cases_of<F: BenchFiles>(
+    trial: Trial<'_>,
+    nets: &mut Nets,
+    files: &mut F,
+) -> Result<Vec<Case>, Fault>
     ensures { IfOk result (λ cases. length trial.entry.asked.benches.now ≤ length cases.items) }
 {
-    let mut nets = Nets::new(trial.alloc);
     let mut cases = Vec::new(trial.alloc);
     for (place, path) in trial.asked.benches.iter().enumerate() {
-        add_cases(trial, At { place, path }, &mut nets, files, &mut cases)?;
+        let at = At {
+            place,
+            path,
+            blessing: Blessing::None,
+        };
+        add_cases(trial, at, nets, files, &mut cases)?;
     }
     Ok(cases)
 }
 
 // Tells what all cases came to. Their status.
-fn told<W: Write, E: Write>(
+fn told<F: BenchFiles, W: Write, E: Write>(
     trial: Trial<'_>,
     cases: &[Case],
+    nets: &Nets,
+    files: &mut F,
     output: &mut W,
     errors: &mut E,
 ) -> Result<u8, Fault>
@@ -113,7 +126,10 @@ fn told<W: Write, E: Write>(
 {
     tell_unkept(trial.alloc, trial.asked, cases, errors);
     match tell(trial, cases, output) {
-        Ok(()) => Ok(status_of(cases)),
+        Ok(()) => match tell_counted(trial, nets, files, errors) {
+            Ok(is_written) => Ok(status_behind(cases, is_written)),
+            Err(fault) => Err(fault),
+        },
         Err(fault) => Err(fault),
     }
 }

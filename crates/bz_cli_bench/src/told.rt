@@ -20,6 +20,7 @@ pub(crate) fn told_of(
 ) -> Result<Told, AllocError> {
     let mut told = Told::none(setting.trial.alloc);
     let totals = counts(played.stepping.net().journal());
+    told.blessing = setting.at.blessing;
     told.fired = totals.fired;
     told.words = totals.host;
     if let Some(unlike) = unlike {

@@ -1,6 +1,7 @@
 //! The traces of cases that failed.
 
 use crate::asked::Asked;
+use crate::blessing::Blessing;
 use crate::case::Case;
 use crate::files::BenchFiles;
 use crate::playing::Setting;
@@ -81,7 +82,7 @@ fn seed_text(alloc: Global, seed: u64) -> Result<String, AllocError> {
     }
 }
 
-/// Tells which traces were not kept, and why.
+/// Tells which benches were not blessed and which traces not kept, and why.
 pub(crate) fn tell_unkept<E: Write>(
     alloc: Global,
     asked: Asked<'_>,
@@ -89,20 +90,23 @@ pub(crate) fn tell_unkept<E: Write>(
     errors: &mut E,
 ) {
     for case in cases {
+        let bench = asked.benches.get(case.bench()).copied().unwrap_or("");
+        if let Blessing::Kept(why) | Blessing::Unwritten(why) = case.told().blessing {
+            tell_line(alloc, "bless", bench, why, errors);
+        }
         if let Some(why) = case.told().unkept {
-            let bench = asked.benches.get(case.bench()).copied().unwrap_or("");
             let folder = asked.traces.unwrap_or("");
             if let Ok(path) = path_of(alloc, folder, bench, case.seed()) {
-                tell_line(alloc, path.as_str(), why, errors);
+                tell_line(alloc, "trace", path.as_str(), why, errors);
             }
         }
     }
 }
 
-fn tell_line<E: Write>(alloc: Global, path: &str, why: &str, errors: &mut E) {
+fn tell_line<E: Write>(alloc: Global, option: &str, path: &str, why: &str, errors: &mut E) {
     let mut text = Text::new(alloc);
-    let pieces = [Piece::Text(path), Piece::Text(why)];
-    text.say("error: --trace: %: %\n", &pieces);
+    let pieces = [Piece::Text(option), Piece::Text(path), Piece::Text(why)];
+    text.say("error: --%: %: %\n", &pieces);
     if let Ok(line) = text.whole() {
         let _ = bz_text::put(errors, line);
     }

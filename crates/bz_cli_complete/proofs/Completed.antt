@@ -12,10 +12,11 @@ use Rattle.bz_complete.specs.declared.names.ChanName.{ChanName}
 use Rattle.bz_complete.specs.declared.short.ShortMove.{ShortMove}
 use Rattle.bz_complete.specs.Completing.{IsCompleted, IsMade}
 use Rattle.bz_complete.specs.ShortTexts.{Spells}
+use Rattle.bz_complete.specs.Stopping.{IsDeadEndAt}
 use Rattle.bz_cli_input.specs.Opening.{Denotes, RefusesNet}
 use Rattle.bz_cli_complete.specs.declared.fault.CompleteFault.{CompleteFault}
 use Rattle.bz_cli_complete.specs.declared.fault.CompleteFault.TheVariants.{Command, NotShort, Stopped, TooLong}
-use Rattle.bz_cli_complete.specs.Completions.{Completes, Finds, FindsIn, HasRun, IsWhole, Makes}
+use Rattle.bz_cli_complete.specs.Completions.{Completes, Finds, FindsIn, IsWhole, Makes, RunsTo}
 
 -- the trace of a net on which moves were made
 pub whole_of : (w : Wiring) (moves : List ShortMove) (net : Simulation) (comps : List ℕ) → Run net.wiring (opening net.wiring) net.journal net.state → length net.journal ≤ net.limit → AreClashed net.wiring net.journal comps → IsMade w moves net
@@ -36,14 +37,18 @@ whole_of w moves net comps run within clashed made =
       shows = made.shows;
     })
 
--- a run that shows the moves that were made
-pub run_of : (w : Wiring) (moves : List ShortMove) (net : Simulation) → Run net.wiring (opening net.wiring) net.journal net.state → IsMade w moves net → HasRun w moves
-run_of w moves net run made = record {
-  entries = net.journal;
-  last = net.state;
-  run = subst (λ (v : Wiring). Run v (opening v) net.journal net.state) made.wiring run;
-  shows = made.shows;
-}
+-- a run that shows the moves that were made, and goes on to show no more
+pub run_of : (w : Wiring) (moves front : List ShortMove) (line : ℕ) (net : Simulation) → Run net.wiring (opening net.wiring) net.journal net.state → IsMade w front net → IsDeadEndAt net.wiring net.state moves line
+    → RunsTo w moves line front
+run_of w moves front line net run made refuted = (
+  record {
+    entries = net.journal;
+    last = net.state;
+    run = subst (λ (v : Wiring). Run v (opening v) net.journal net.state) made.wiring run;
+    shows = made.shows;
+  },
+  subst (λ (v : Wiring). IsDeadEndAt v net.state moves line) made.wiring refuted,
+)
 
 -- the moves of a text were made
 pub read_so : (w : Wiring) (names : List ChanName) (short : List ℕ) (moves : List ShortMove) (answer : Result Simulation CompleteFault) → Spells names short moves → Makes w moves answer → FindsIn w names short answer

@@ -1,10 +1,8 @@
 -- What the command `complete` reads and writes: a netlist, a short trace, and the trace of a run that shows the same.
 use Rattle.std.specs.Prelude.{◌≡◌, ⊤, ℕ, List, Option, Result, Ok, Err}
 use Rattle.std.specs.Io.KnownBytes.{Appends}
-use Rattle.bz_model.specs.declared.event.Entry.{Entry}
 use Rattle.bz_model.specs.Clashes.{AreClashed}
-use Rattle.bz_model.specs.Nets.{Wiring, State, opening}
-use Rattle.bz_model.specs.Runs.{Run}
+use Rattle.bz_model.specs.Nets.{Wiring}
 use Rattle.bz_model.specs.Traces.{trace_text}
 use Rattle.bz_net.specs.Simulation.{Simulation}
 use Rattle.bz_trace.specs.Verdicts.{IsRunText}
@@ -13,6 +11,7 @@ use Rattle.bz_complete.specs.declared.short.ShortMove.{ShortMove}
 use Rattle.bz_complete.specs.Completing.{IsFront, IsMade}
 use Rattle.bz_complete.specs.ShortTexts.{Spells}
 use Rattle.bz_complete.specs.Shown.{shown}
+use Rattle.bz_complete.specs.Stopping.{HasRun, IsDeadEndAt, IsRefuted}
 use Rattle.bz_cli_input.specs.declared.fault.Fault.TheVariants.{Memory, Write}
 use Rattle.bz_cli_input.specs.Answering.{Answers}
 use Rattle.bz_cli_input.specs.Opening.{Denotes, RefusesNet}
@@ -33,18 +32,16 @@ pub record IsWhole (w : Wiring) (moves : List ShortMove) (text : List ℕ) : Typ
   pub run : IsRunText w text
   pub shows : shown run.entries ≡ moves
 
--- A run of the net shows these moves, and no others.
-pub record HasRun (w : Wiring) (moves : List ShortMove) : Type 0 where
-  pub entries : List Entry
-  pub last : State
-  pub run : Run w (opening w) entries last
-  pub shows : shown entries ≡ moves
+-- A run of the net shows these moves, and none goes on from there to show the move of a line.
+abbrev pub RunsTo : Wiring → List ShortMove → ℕ → List ShortMove → Type 0
+RunsTo w moves line front = (run : HasRun w front) × IsDeadEndAt w run.last moves line
 
--- Why these moves are not made on the net. Those before line number `line`, from 1, are. That they all can't be is not said.
+-- Why these moves are not made on the net: a run shows those before line number `line`, from 1, and goes on to show no more. Where
+-- the move of that line is plain, no run shows those up to it; of other moves that is not said.
 abbrev pub RefusesMoves : Wiring → List ShortMove → CompleteFault → Type 0
 RefusesMoves w moves (Command fault) = fault ≡ Memory
 RefusesMoves w moves (NotShort line) = ⊥
-RefusesMoves w moves (Stopped line why) = IsFront (HasRun w) moves line
+RefusesMoves w moves (Stopped line why) = IsFront (RunsTo w moves line) moves line × IsRefuted w moves line
 RefusesMoves w moves TooLong = ⊤
 
 abbrev pub Makes : Wiring → List ShortMove → Result Simulation CompleteFault → Type 0

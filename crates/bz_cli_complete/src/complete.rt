@@ -7,6 +7,7 @@ ghost use Rattle.std.specs.Option.{option_copied};
 ghost use Rattle.bz_cli_input.specs.Reading.{ReadsWithin};
 ghost use Rattle.bz_cli_complete.specs.Completions.{CompletesApart, CompletesTexts, Finds, FindsIn, Makes, SendsTrace, SendsTraceSome};
 ghost use Rattle.bz_complete.specs.Completing.{IsCompleted};
+ghost use Rattle.bz_complete.specs.Stopping.{IsDeadEndAt, IsRefuted};
 ghost use Rattle.bz_model.specs.Nets.{Wiring};
 
 use crate::fault::CompleteFault;
@@ -145,7 +146,9 @@ fn make(alloc: Global, flat: Flat, moves: &[ShortMove]) -> Result<Net, CompleteF
 
 // The net, if all moves were made on it.
 fn made(alloc: Global, completed: Completed, moves: &[ShortMove]) -> Result<Net, CompleteFault>
-    ensures { (w : Wiring) → IsCompleted w moves.now completed → Makes w moves.now result }
+    ensures { (w : Wiring) → IsCompleted w moves.now completed
+        → IfSome completed.stop (IsDeadEndAt completed.net.wiring completed.net.state moves.now)
+        → IfSome completed.stop (IsRefuted w moves.now) → Makes w moves.now result }
 {
     match completed.stop {
         None => Ok(completed.into_net()),

@@ -1,6 +1,7 @@
 -- How the program ends: with a status, or with the fault of its command, which it tells.
-use Rattle.std.specs.Prelude.{◌≡◌, ℕ, ◌<◌, ◌≤◌, ◌&&◌, ⊤, Bool, if◌then◌else◌, Option, None, Some, Result, Ok, Err, List}
+use Rattle.std.specs.Prelude.{◌≡◌, ℕ, ◌<◌, ◌≤◌, ◌&&◌, ◌||◌, ⊤, is_some, Bool, if◌then◌else◌, Option, None, Some, Result, Ok, Err, List}
 use Rattle.std.specs.Io.KnownBytes.{Keeps}
+use Rattle.bz_cli.specs.declared.pooling.Pooled.{Pooled}
 use Rattle.bz_cli_input.specs.declared.fault.Fault.{Fault}
 use Rattle.bz_cli_complete.specs.declared.fault.CompleteFault.{CompleteFault}
 use Rattle.bz_cli_complete.specs.declared.fault.CompleteFault.TheVariants as complete
@@ -54,7 +55,7 @@ abbrev pub of_unmade : {C : Type 0} → TraceFault C → Result ℕ Fault
 of_unmade (Command fault) = Err fault
 of_unmade fault = Ok (status_of fault)
 
--- 0 where a chart or a page is made of a trace, and else the status that says why none is
+-- 0 where a drawing, a chart or a page is made of a trace, and else the status that says why none is
 abbrev pub of_made : {A C : Type 0} → Result A (TraceFault C) → Result ℕ Fault
 of_made (Ok u) = Ok 0
 of_made (Err fault) = of_unmade fault
@@ -70,9 +71,17 @@ abbrev pub of_told : {C : Type 0} → Bool → Result Bool (TraceFault C) → Re
 of_told strict (Ok is) = Ok (if (is && strict) then 3 else 0)
 of_told strict (Err fault) = of_unmade fault
 
--- the lines of a trace that are asked for
+-- 0 where a pool was closed, or 3 where a session has not played all its words and that is asked for
+abbrev pub pooled_status : Bool → Bool → ℕ
+pooled_status strict is_done = if is_done then 0 else (if strict then 3 else 0)
+
+abbrev pub of_pooled : Bool → Result Pooled Fault → Result ℕ Fault
+of_pooled strict (Ok pooled) = Ok (pooled_status strict pooled.is_done)
+of_pooled strict (Err fault) = Err fault
+
+-- the lines of a trace that are asked for; only some of these are drawn where something is picked
 abbrev pub lines_asked : ChartOptions → LineRange
-lines_asked options = record { from = options.from; to = options.to }
+lines_asked options = record { from = options.from; to = options.to; picks = is_some options.only || options.ports }
 
 -- the line and the component that are asked for
 abbrev pub waits_asked : WaitsOptions → WaitsAsked

@@ -39,7 +39,9 @@ pub(crate) fn test<R: Read, F: BenchFiles, W: Write, E: Write>(
         fuel: options.fuel,
         journal: options.journal,
         traces: options.traces,
+        cover: options.cover,
         form: form_of(options.form),
+        blesses: options.bless,
     };
     test_cmd(alloc, asked, input, files, output, errors)
 }

@@ -1,41 +1,46 @@
 //! What each command does. The status with which the program ends, or the fault that it tells.
 
-ghost use Rattle.std.specs.Prelude.{◌≡◌, ◌≢◌, ◌≤◌, ◌<◌, false, true, ℕ, is_some, length, IfSome, List, MatchBool, Option};
+ghost use Rattle.std.specs.Prelude.{◌≡◌, ◌≢◌, ◌≤◌, ◌<◌, ◌||◌, false, true, ℕ, is_some, length, IfSome, List, MatchBool, Option};
 ghost use Rattle.std.specs.Option.{option_copied, option_map};
 ghost use Rattle.bz_cli.specs.Pooling.{Pools};
 ghost use Rattle.bz_cli_core.specs.Running.{Runs};
 ghost use Rattle.bz_cli_input.specs.Listed.{Lists};
 ghost use Rattle.bz_cli_input.specs.Reading.{ReadsWithin};
 ghost use Rattle.bz_cli_program.specs.Endings.{AreWorkers, Does, IsDone, IsJournal, IsRefused};
-ghost use Rattle.bz_cli_program.specs.Endings.{of_check, of_completed, of_done, of_drawing, of_made, of_run, of_told, of_unmade};
-ghost use Rattle.bz_cli_program.specs.Programs.{ChartEnds, CheckBehind, CheckEnds, CompleteEnds, PageEnds, WaitsEnds};
+ghost use Rattle.bz_cli_program.specs.Endings.{of_check, of_completed, of_done, of_drawing, of_made, of_pooled, of_run, of_told, of_unmade, pooled_status};
+ghost use Rattle.bz_cli_program.specs.Programs.{ChartEnds, CheckBehind, CheckEnds, CompleteEnds, DrawEnds, PageEnds, WaitsEnds};
+ghost use Rattle.bz_cli_trace.specs.Checking.{ChecksApart};
 ghost use Rattle.bz_cli_source.specs.Listed as placed;
 ghost use Rattle.bz_cli_source.specs.PartLists.{ListsParts};
 ghost use Rattle.bz_draw.specs.Drawing.{Draws};
 ghost use Rattle.bz_draw.specs.declared.fault.NoDrawing.{NoDrawing};
 ghost use Rattle.bz_words.specs.Words.{texts};
 
+use crate::counted::Counted;
 use crate::given::Given;
 use crate::outcome::{DONE, Ended, NO_RUN, Outcome};
-use bz_chart::{LineRange, chart_cmd, chart_trace_cmd};
+use bz_chart::{LineRange, Picked, chart_cmd, chart_trace_cmd};
 use bz_cli::{Pooled, pool_cmd};
 use bz_cli_args::{
-    BAD_COMMAND_LINE, ChartOptions, CheckOptions, DrawOptions, FormatOptions, LintOptions,
-    ListOptions, MAX_JOURNAL, MAX_WORKERS, PoolOptions, RunOptions, WaitsOptions,
+    BAD_COMMAND_LINE, ChartOptions, CheckOptions, DrawOptions, ExploreOptions, FormatOptions,
+    LintOptions, ListOptions, MAX_JOURNAL, MAX_WORKERS, PoolOptions, RunOptions, WaitsOptions,
 };
 use bz_cli_complete::{CompleteFault, complete_cmd};
 use bz_cli_core::{Halt, Played, run_cmd};
 use bz_cli_input::{Fault, list_cmd};
 use bz_cli_kinds::kinds_cmd;
 use bz_cli_source::{list_paths_cmd, parts_cmd};
-use bz_cli_trace::{CheckWay, Checked, Texts, TraceFault, check_texts, check_trace_cmd};
+use bz_cli_trace::{
+    CheckWay, Checked, Texts, TraceFault, check_texts, check_trace_cmd, check_trace_watched,
+};
 use bz_cli_waits::{WaitsAsked, waits_cmd, waits_trace_cmd};
-use bz_draw::{NoDrawing, View, draw_cmd};
+use bz_draw::{NoDrawing, View, draw_cmd, draw_trace_cmd};
 use bz_explain_lint::{Lint, lint_cmd};
-use bz_explore::{Files, explore_cmd};
+use bz_explore::{Files, Manner, explore_cmd};
 use bz_model::Reply;
 use bz_page::{page_cmd, page_trace_cmd};
 use bz_session::End;
+use bz_source_files::SourceFile;
 use bz_text::put;
 use std::alloc::Global;
 use std::fmt::Display;
@@ -52,6 +57,9 @@ error: there is no trace after the netlist: --trace FILE takes it from a file, -
 
 /// The status of a strict look at a trace behind which something can never move again.
 const STUCK: u8 = 3;
+
+/// The status of a strict pool in which a session has not played all its words.
+const UNPLAYED: u8 = 3;
 
 /// Plays the words on a net, and writes the trace. A strict run halts at the first host command that is not done, and reports it
 /// to `errors`. Where notes are asked for, the net goes with the status.
@@ -103,7 +111,7 @@ fn ended<E: Write>(explains: bool, played: Result<Played, Fault>, errors: &mut E
             tell_halt(halt, errors);
             Outcome::of(Ok(REFUSED))
         }
-        None => Outcome::played(Ended::Run(played), explains),
+        None => Outcome::played(DONE, Ended::Run(played), explains),
     }
 }
 
@@ -173,7 +181,8 @@ fn check_into<R: Read, T: Read, W: Write, E: Write>(
                 to_rest: options.to_rest,
                 keeps: keeps_line(given.explains, options.json),
             };
-            judged(check_trace_cmd(alloc, given.part, way, input, trace, output))
+            let covers = options.cover.is_some();
+            check_apart(alloc, given.part, way, covers, input, trace, output)
         }
         None => {
             let is_file = given.file.is_some();
@@ -188,6 +197,29 @@ fn check_into<R: Read, T: Read, W: Write, E: Write>(
             )
         }
     }
+}
+
+// Reports whether the trace that a reader of its own gives is that of a run. What it exercises is counted where that is asked for.
+fn check_apart<R: Read, T: Read, W: Write>(
+    alloc: Global,
+    part: Option<&[u8]>,
+    way: CheckWay,
+    covers: bool,
+    input: &mut R,
+    trace: &mut T,
+    output: &mut W,
+) -> Outcome
+    ensures checks { IfSome (R.remaining input.old) (λ netlist. IfSome (T.remaining trace.old) (λ text.
+        Does of_check (ChecksApart way.to_first way.to_rest netlist text (option_copied part.entry)
+        (W.contents output.old) (W.contents output.new)) result.status)) }
+    ensures bounded { ReadsWithin (R.remaining input.old) (R.remaining input.new) }
+{
+    if !covers {
+        return judged(check_trace_cmd(alloc, part, way, input, trace, output));
+    }
+    let mut counted = Counted::new();
+    let checked = check_trace_watched(alloc, part, way, input, trace, output, &mut counted);
+    judged(checked).counted(counted.into_coverage())
 }
 
 // Whether the line that a verdict names is kept: for notes, or for an object.
@@ -242,6 +274,7 @@ fn judged(checked: Result<Checked, Fault>) -> Outcome
                 status: Ok(status),
                 checked: Some(checked),
                 ended: None,
+                coverage: None,
             }
         }
         Err(unchecked) => Outcome::of(Err(unchecked)),
@@ -364,6 +397,7 @@ pub(crate) fn lint<R: Read, W: Write>(
 pub(crate) fn explore<R: Read, T: Read, L: BufRead, F: Files, W: Write, E: Write>(
     alloc: Global,
     given: &Given<'_, '_>,
+    options: ExploreOptions<'_>,
     input: &mut R,
     trace: Option<&mut T>,
     lines: &mut L,
@@ -377,7 +411,7 @@ pub(crate) fn explore<R: Read, T: Read, L: BufRead, F: Files, W: Write, E: Write
     let explored = explore_cmd(
         alloc,
         given.part,
-        given.prompts,
+        manner_of(options, given.prompts),
         input,
         trace,
         lines,
@@ -390,28 +424,48 @@ pub(crate) fn explore<R: Read, T: Read, L: BufRead, F: Files, W: Write, E: Write
     }
 }
 
-/// Draws a net. Why there is no drawing is printed on `errors`, but for a fault that other commands have too.
-pub(crate) fn draw<R: Read, W: Write, E: Write>(
+// How the answers of `explore` are written.
+fn manner_of(options: ExploreOptions<'_>, prompts: bool) -> Manner {
+    match (options.json, prompts) {
+        (true, _) => Manner::Objects,
+        (false, true) => Manner::Prompted,
+        (false, false) => Manner::Plain,
+    }
+}
+
+/// Draws a net, with what is on its channels behind a line of the trace where one is given. Why there is no drawing is printed on
+/// `errors`, but for a fault that other commands have too.
+pub(crate) fn draw<R: Read, T: Read, W: Write, E: Write>(
     alloc: Global,
     part: Option<&[u8]>,
-    options: DrawOptions,
+    options: DrawOptions<'_>,
     input: &mut R,
+    trace: Option<&mut T>,
     output: &mut W,
     errors: &mut E,
 ) -> Result<u8, Fault>
-    ensures draws { IfSome (R.remaining input.old)
-        (λ text. Does of_drawing (Draws {N = NoDrawing} text (option_copied part.entry)
-        (W.contents output.old) (W.contents output.new)) result) }
+    ensures draws { DrawEnds options.entry (option_copied part.entry) (R.remaining input.old)
+        (option_map (λ apart. T.remaining apart.now) trace.entry) (W.contents output.old) (W.contents output.new) result }
 
     // Whatever comes of it, it reads at most one byte past the limit.
     ensures bounded { ReadsWithin (R.remaining input.old) (R.remaining input.new) }
 {
-    let drawn = draw_cmd(alloc, part, view_of(options), input, output);
-    drawn_or_told(drawn, errors)
+    let view = view_of(options);
+    match trace {
+        Some(trace) => {
+            let line = place_of(options.line);
+            let drawn = draw_trace_cmd(alloc, part, view, line, input, trace, output);
+            made(drawn, errors)
+        }
+        None => {
+            let drawn = draw_cmd(alloc, part, view, input, output);
+            drawn_or_told(drawn, errors)
+        }
+    }
 }
 
 // How much of a net is drawn.
-fn view_of(options: DrawOptions) -> View {
+fn view_of(options: DrawOptions<'_>) -> View {
     match options.around {
         Some(comp) => View::Around {
             comp,
@@ -460,14 +514,29 @@ pub(crate) fn chart<R: Read, T: Read, W: Write, E: Write>(
     let lines = LineRange {
         from: place_of(options.from),
         to: place_of(options.to),
+        picks: is_picked(options),
+    };
+    let picked = Picked {
+        words: options.only,
+        ports: options.ports,
     };
     match trace {
         Some(trace) => {
-            let drawn = chart_trace_cmd(alloc, part, lines, input, trace, output);
+            let drawn = chart_trace_cmd(alloc, part, lines, picked, input, trace, output);
             made(drawn, errors)
         }
-        None => made(chart_cmd(alloc, part, lines, input, output), errors),
+        None => {
+            let drawn = chart_cmd(alloc, part, lines, picked, input, output);
+            made(drawn, errors)
+        }
     }
+}
+
+// Whether only some lifelines are asked for.
+fn is_picked(options: ChartOptions<'_>) -> bool
+    ensures { result ≡ (is_some options.entry.only || options.entry.ports) }
+{
+    options.only.is_some() || options.ports
 }
 
 fn place_of(line: Option<u64>) -> Option<usize>
@@ -505,11 +574,13 @@ fn unmade<C: Display + Drop, E: Write>(why: TraceFault<C>, errors: &mut E) -> Re
     }
 }
 
-/// Tells who waits for whom behind a line of a trace: of the one that is given, or of the one after the netlist. Why that isn't
-/// told goes to `errors`, but for a fault that other commands have too.
+/// Tells who waits for whom behind a line of a trace: of the one that is given, or of the one after the netlist. Behind a place of
+/// these files of the source is the text there. Why that isn't told goes to `errors`, but for a fault that other commands have too,
+/// and so does which of the files no place names.
 pub(crate) fn waits<R: Read, T: Read, W: Write, E: Write>(
     alloc: Global,
     part: Option<&[u8]>,
+    sources: &[SourceFile],
     options: WaitsOptions<'_>,
     input: &mut R,
     trace: Option<&mut T>,
@@ -528,14 +599,13 @@ pub(crate) fn waits<R: Read, T: Read, W: Write, E: Write>(
     };
     match trace {
         Some(trace) => {
-            let told = waits_trace_cmd(alloc, part, asked, input, trace, output);
+            let told = waits_trace_cmd(alloc, part, asked, sources, input, trace, output, errors);
             told_or_not(told, options.strict, errors)
         }
-        None => told_or_not(
-            waits_cmd(alloc, part, asked, input, output),
-            options.strict,
-            errors,
-        ),
+        None => {
+            let told = waits_cmd(alloc, part, asked, sources, input, output, errors);
+            told_or_not(told, options.strict, errors)
+        }
     }
 }
 
@@ -554,33 +624,37 @@ fn told_or_not<C: Display + Drop, E: Write>(
     }
 }
 
-/// Writes a page on which a trace plays: the one that is given, or the one after the netlist. Why there is no page is printed on
-/// `errors`, but for a fault that other commands have too.
+/// Writes a page on which a trace plays: the one that is given, or the one after the netlist. It has these files of the source. Why
+/// there is no page is printed on `errors`, but for a fault that other commands have too, and so is which of the files no place names.
 pub(crate) fn page<R: Read, T: Read, W: Write, E: Write>(
     alloc: Global,
-    part: Option<&[u8]>,
+    given: &Given<'_, '_>,
     input: &mut R,
     trace: Option<&mut T>,
     output: &mut W,
     errors: &mut E,
 ) -> Result<u8, Fault>
-    ensures pages { PageEnds (option_copied part.entry) (R.remaining input.old) (option_map (λ apart. T.remaining apart.now) trace.entry)
-        (W.contents output.old) (W.contents output.new) result }
+    ensures pages { PageEnds (option_copied given.now.part) given.now.sources.now (R.remaining input.old)
+        (option_map (λ apart. T.remaining apart.now) trace.entry) (W.contents output.old) (W.contents output.new) result }
 
     // Whatever comes of it, it reads at most one byte past the limit.
     ensures bounded { ReadsWithin (R.remaining input.old) (R.remaining input.new) }
 {
+    let (part, sources) = (given.part, given.sources);
     match trace {
         Some(trace) => {
-            let written = page_trace_cmd(alloc, part, input, trace, output);
+            let written = page_trace_cmd(alloc, part, sources, input, trace, output, errors);
             made(written, errors)
         }
-        None => made(page_cmd(alloc, part, input, output), errors),
+        None => {
+            let written = page_cmd(alloc, part, sources, input, output, errors);
+            made(written, errors)
+        }
     }
 }
 
-/// Plays sessions beside workers, writes the trace, and notes on `errors` which sessions still waited. If notes are asked for and
-/// a session still waited at rest, the net goes with the status.
+/// Plays sessions beside workers, writes the trace, and notes on `errors` which sessions still waited. Where it is strict, the
+/// status says so too. If notes are asked for and a session still waited at rest, the net goes with the status.
 pub(crate) fn pool<T: Threads + Wait + Sync, R: Read, W: Write, E: Write>(
     threads: &T,
     alloc: Global,
@@ -593,7 +667,7 @@ pub(crate) fn pool<T: Threads + Wait + Sync, R: Read, W: Write, E: Write>(
     ensures refused { (AreWorkers options.entry.workers × IsJournal options.entry.journal → ⊥)
         → IsRefused (W.contents output.old) (W.contents output.new) result.status }
     ensures pools { AreWorkers options.entry.workers → IsJournal options.entry.journal
-        → IfSome (R.remaining input.old) (λ text. Does of_done
+        → IfSome (R.remaining input.old) (λ text. Does (of_pooled options.entry.strict)
         (Pools text (texts given.now.words.now) (option_copied given.now.part) options.entry.workers options.entry.fuel
         options.entry.journal (W.contents output.old) (W.contents output.new))
         result.status) }
@@ -621,20 +695,39 @@ pub(crate) fn pool<T: Threads + Wait + Sync, R: Read, W: Write, E: Write>(
         input,
         output,
     );
-    closed(given.explains, pooled, errors)
+    closed(given.explains, options.strict, pooled, errors)
 }
 
 // The status of a pool. Which sessions still waited is noted; where one of them was at rest, the net goes with the status if
 // notes are asked for.
-fn closed<E: Write>(explains: bool, pooled: Result<Pooled, Fault>, errors: &mut E) -> Outcome
-    ensures { result.status ≡ of_done pooled }
+fn closed<E: Write>(
+    explains: bool,
+    strict: bool,
+    pooled: Result<Pooled, Fault>,
+    errors: &mut E,
+) -> Outcome
+    ensures { result.status ≡ of_pooled strict pooled }
 {
     match pooled {
         Ok(pooled) => {
+            let status = status_of(strict, pooled.is_done);
             let rests = note_ends(pooled.ends.as_slice(), errors) && explains;
-            Outcome::played(Ended::Pool(pooled), rests)
+            Outcome::played(status, Ended::Pool(pooled), rests)
         }
         Err(fault) => Outcome::of(Err(fault)),
+    }
+}
+
+// The status of a pool whose trace went out, by whether each session has played all its words.
+fn status_of(strict: bool, is_done: bool) -> u8
+    ensures { result ≡ pooled_status strict is_done }
+{
+    if is_done {
+        DONE
+    } else if strict {
+        UNPLAYED
+    } else {
+        DONE
     }
 }
 

@@ -2,13 +2,17 @@
 //!
 //! Words that a file has are read before the netlist, and so is the name of the part: what is wrong with them is known first.
 
-use crate::files::{open_file, text_of};
+use crate::files::{bytes_of_file, open_file, text_of};
 use crate::refusal::Refusal;
 use bz_cli_args::{Command, PartName, Request, Source, split_names, split_words};
 use bz_cli_trace::split_trace;
+use bz_source_files::SourceFile;
 use std::alloc::{AllocError, Global};
 use std::io::Input;
 use std::rt::Files;
+
+/// The most bytes that files of the source may have together.
+const MOST_SOURCE: usize = 4_194_304;
 
 /// What a command is given beside its input.
 #[derive(Clone, Copy)]
@@ -17,6 +21,8 @@ pub struct Given<'a, 't> {
     /// The name of the part to open. Where none is given, that is the one part that no other part uses.
     pub part: Option<&'a [u8]>,
     pub words: &'a [&'t str],
+    /// The files of the source that are shown.
+    pub sources: &'a [SourceFile],
     /// The text in which the words stand, if that is a file's.
     pub word_text: Option<&'a str>,
     /// The name of the netlist's file, if it is one's.
@@ -27,13 +33,15 @@ pub struct Given<'a, 't> {
     pub prompts: bool,
 }
 
-/// The text of the words, if that is a file's, that of the names of traces, and the name of the part, if one is named.
+/// The text of the words, if that is a file's, that of the names of traces, the name of the part, if one is named, and the files of
+/// the source.
 #[derive(Drop)]
 pub struct Texts {
     words: Option<String>,
     /// The names of traces, where a file has them.
     traces: Option<String>,
     part: Option<Vec<u8>>,
+    sources: Vec<SourceFile>,
 }
 
 impl Texts {
@@ -52,10 +60,12 @@ impl Texts {
             None => None,
         };
         let part = part_named(alloc, request.part)?;
+        let sources = sources_in(rt, alloc, request.sources.as_slice())?;
         Ok(Texts {
             words,
             traces,
             part,
+            sources,
         })
     }
 
@@ -97,6 +107,7 @@ impl Texts {
                 None => None,
             },
             words,
+            sources: self.sources.as_slice(),
             word_text: match &self.words {
                 Some(text) => Some(text.as_str()),
                 None => None,
@@ -125,6 +136,57 @@ fn words_in<'a, F: Files + Input>(
         Ok(text) => Ok(text),
         Err(cause) => Err(Refusal::File(source.file().unwrap_or("-"), cause)),
     }
+}
+
+// The files of the source of these names.
+fn sources_in<'a, F: Files>(
+    files: &F,
+    alloc: Global,
+    names: &[&'a str],
+) -> Result<Vec<SourceFile>, Refusal<'a>> {
+    let mut sources = Vec::new(alloc);
+    for name in names {
+        push_source(&mut sources, source_of(files, alloc, *name))?;
+    }
+    Ok(sources)
+}
+
+// Adds one, where it could be read and all are not too large.
+fn push_source<'a>(
+    sources: &mut Vec<SourceFile>,
+    source: Result<SourceFile, Refusal<'a>>,
+) -> Result<(), Refusal<'a>> {
+    if sources.push(source?).is_err() {
+        return Err(Refusal::Memory);
+    }
+    if size_of(sources.as_slice()) > MOST_SOURCE {
+        return Err(Refusal::Line("the files of --source have more than 4194304 bytes together"));
+    }
+    Ok(())
+}
+
+fn source_of<'a, F: Files>(
+    files: &F,
+    alloc: Global,
+    path: &'a str,
+) -> Result<SourceFile, Refusal<'a>> {
+    let text = match bytes_of_file(files, alloc, path) {
+        Ok(text) => text,
+        Err(cause) => return Err(Refusal::File(path, cause)),
+    };
+    match Vec::from_slice(alloc, path.as_bytes()) {
+        Ok(name) => Ok(SourceFile { name, text }),
+        Err(_) => Err(Refusal::Memory),
+    }
+}
+
+// How many bytes files have together.
+fn size_of(sources: &[SourceFile]) -> usize {
+    let mut size = 0usize;
+    for source in sources {
+        size = size.saturating_add(source.text.len());
+    }
+    size
 }
 
 // The name of the part to open, if one is named.

@@ -7,9 +7,11 @@
 mod benching;
 mod commands;
 mod copying;
+mod counted;
 mod covering;
 mod files;
 mod given;
+mod joining;
 mod noting;
 mod objects;
 mod outcome;

@@ -27,7 +27,7 @@ pub fn end<F: Files, E: Write>(
     outcome: Outcome,
     errors: &mut E,
 ) -> u8 {
-    let (status, checked, ended) = outcome.into_parts();
+    let (status, checked, ended, _) = outcome.into_parts();
     match status {
         Ok(status) => {
             if let Some(kept) = kept {
@@ -75,7 +75,11 @@ fn note_ended<E: Write>(
 
 // Whether something is made of a trace, which is not just checked.
 fn makes_of_trace(command: Command<'_>) -> bool {
-    command.reads_trace() && !matches!(command, Command::Check(_))
+    match command {
+        Command::Check(_) => false,
+        Command::Draw(options) => options.trace.is_some(),
+        command => command.reads_trace(),
+    }
 }
 
 // Whether a trace is asked for after the netlist of a file, and there is none.

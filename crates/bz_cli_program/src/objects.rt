@@ -22,7 +22,7 @@ pub fn tell_object<W: Write>(
     if !given.command.answers_findings() {
         return outcome;
     }
-    let (status, checked, ended) = outcome.into_parts();
+    let (status, checked, ended, coverage) = outcome.into_parts();
     let status = match (status, checked) {
         (Ok(status), Some(checked)) => match put_checked(alloc, given, kept, checked, output) {
             Ok(()) => Ok(status),
@@ -34,6 +34,7 @@ pub fn tell_object<W: Write>(
         status,
         checked: None,
         ended,
+        coverage,
     }
 }
 

@@ -6,6 +6,7 @@ use bz_cli::Pooled;
 use bz_cli_core::Played;
 use bz_cli_input::Fault;
 use bz_cli_trace::Checked;
+use bz_cover::Coverage;
 use bz_net::Core;
 
 /// The status of a command that was done.
@@ -22,6 +23,8 @@ pub struct Outcome {
     pub checked: Option<Checked>,
     /// What was played to its end, for notes where it rests.
     pub ended: Option<Ended>,
+    /// What a trace exercised that was checked, where it was counted.
+    pub coverage: Option<Coverage>,
 }
 
 /// What was played to its end.
@@ -48,6 +51,7 @@ impl Drop for Outcome {
             status: _,
             checked: _,
             ended: _,
+            coverage: _,
         } = self;
     }
 }
@@ -61,28 +65,56 @@ impl Outcome {
             status,
             checked: None,
             ended: None,
+            coverage: None,
         }
     }
 
-    /// All was played; where notes are asked for, what was played goes with the status.
-    pub(crate) fn played(ended: Ended, explains: bool) -> Outcome
-        ensures { result.status ≡ Ok 0 }
+    /// All was played, which ends with this status; where notes are asked for, what was played goes with it.
+    pub(crate) fn played(status: u8, ended: Ended, explains: bool) -> Outcome
+        ensures { result.status ≡ Ok status }
     {
         Outcome {
-            status: Ok(DONE),
+            status: Ok(status),
             checked: None,
             ended: if explains { Some(ended) } else { None },
+            coverage: None,
         }
     }
 
-    /// The status, the net that was checked, and what was played.
-    pub(crate) fn into_parts(self) -> (Result<u8, Fault>, Option<Checked>, Option<Ended>) {
+    /// The same with what was counted of the trace.
+    pub(crate) fn counted(self, coverage: Option<Coverage>) -> Outcome
+        ensures { result.status ≡ self.status }
+    {
         let Outcome {
             status,
             checked,
             ended,
+            coverage: _,
         } = self;
-        (status, checked, ended)
+        Outcome {
+            status,
+            checked,
+            ended,
+            coverage,
+        }
+    }
+
+    /// The status, the net that was checked, what was played, and what was counted.
+    pub(crate) fn into_parts(
+        self,
+    ) -> (
+        Result<u8, Fault>,
+        Option<Checked>,
+        Option<Ended>,
+        Option<Coverage>,
+    ) {
+        let Outcome {
+            status,
+            checked,
+            ended,
+            coverage,
+        } = self;
+        (status, checked, ended, coverage)
     }
 }
 

@@ -43,7 +43,7 @@ pub fn program<
     output: &mut W,
     errors: &mut E,
 ) -> Outcome
-    ensures does { ProgramDoes given.now.command (texts given.now.words.now) (is_some given.now.file)
+    ensures does { ProgramDoes given.now.command (texts given.now.words.now) given.now.sources.now (is_some given.now.file)
         (option_copied given.now.part) (R.remaining input.old)
         (option_map (λ apart. T.remaining apart.now) trace.entry) (W.contents output.old) (W.contents output.new) result.status }
 
@@ -53,19 +53,28 @@ pub fn program<
     let part = given.part;
     match given.command {
         Command::Run(options) => run(alloc, given, options, input, output, errors),
-        Command::Explore(_) => of(explore(
-            alloc, given, input, trace, lines, files, output, errors,
+        Command::Explore(options) => of(explore(
+            alloc, given, options, input, trace, lines, files, output, errors,
         )),
         Command::Check(options) => { check(alloc, given, options, input, trace, output, errors) }
         Command::Complete(_) => of(complete(alloc, part, input, trace, output, errors)),
-        Command::Waits(options) => of(waits(alloc, part, options, input, trace, output, errors)),
+        Command::Waits(options) => of(waits(
+            alloc,
+            part,
+            given.sources,
+            options,
+            input,
+            trace,
+            output,
+            errors,
+        )),
         Command::List(options) => of(list(alloc, part, options, input, output)),
         Command::Lint(options) => of(lint(alloc, given, options, input, output)),
         Command::Parts => of(parts(alloc, input, output)),
         Command::Kinds(options) => of(kinds(alloc, options, output)),
-        Command::Draw(options) => of(draw(alloc, part, options, input, output, errors)),
+        Command::Draw(options) => of(draw(alloc, part, options, input, trace, output, errors)),
         Command::Chart(options) => of(chart(alloc, part, options, input, trace, output, errors)),
-        Command::Page(_) => of(page(alloc, part, input, trace, output, errors)),
+        Command::Page(_) => of(page(alloc, given, input, trace, output, errors)),
         Command::Pool(options) => pool(threads, alloc, given, options, input, output, errors),
         Command::Test(options) => of(test(alloc, given, options, input, files, output, errors)),
     }

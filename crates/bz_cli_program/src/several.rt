@@ -1,17 +1,22 @@
 //! Several traces, each checked by itself against one net.
 
+use crate::covering::Exercise;
 use crate::files::open_file;
 use crate::given::Given;
+use crate::joining::check_joined;
 use crate::objects::put_text;
 use crate::outcome::{DONE, NO_RUN, Outcome};
 use bz_cli_args::{BAD_COMMAND_LINE, CheckOptions, Command, Source};
 use bz_cli_input::{Fault, read_input};
 use bz_cli_trace::{CheckWay, Finding, Opened, Traced, check_named};
-use bz_explain_notes::tell_notes;
+use bz_explain_notes::{Keeping, tell_notes};
 use bz_explain_trace::{Suspect, explain_found, put_found};
+use bz_explore::Files as NewFiles;
 use bz_flat::Flat;
+use bz_net::Play;
 use bz_source::Survey;
 use bz_text::{Piece, Text, put_pieces};
+use bz_trace::{KeptLines, Verdict};
 use bz_view::Seen;
 use std::alloc::Global;
 use std::fmt::Display;
@@ -63,23 +68,57 @@ impl Tally {
 
 /// What each trace is checked against, and what is asked of it.
 #[derive(Clone, Copy)]
-struct Judge<'t> {
-    flat: &'t Flat,
-    /// Where everything in the net stands in its text, where notes or objects are asked for.
-    survey: Option<&'t Survey>,
-    way: CheckWay,
+pub(crate) struct Judge<'t> {
+    pub(crate) flat: &'t Flat,
+    /// Where everything in the net stands in its text, where notes, objects or counts are asked for.
+    pub(crate) survey: Option<&'t Survey>,
+    pub(crate) way: CheckWay,
     /// Whether an object is written for each trace, in place of a line.
-    json: bool,
+    pub(crate) json: bool,
+    /// The file to which is written what the traces exercised, if that is asked for.
+    pub(crate) cover: Option<&'t str>,
 }
 
-/// Checks traces by their names, each by itself, against the net of the netlist that a reader gives. A line for each one goes to
-/// `output`, in the order of the names, and then how many passed; notes on those that didn't, and why one could not be read, to
-/// `errors`.
-pub fn check_several<F: Files + Input, R: Read, W: Write, E: Write>(
+// What is at hand from one trace to the next.
+struct Held {
+    // The net at its opening, if a trace has left one.
+    flat: Option<Flat>,
+    // What is counted of the traces, where that is asked for.
+    exercise: Option<Exercise>,
+}
+
+// By hand, so that who lets one go has one call to show and not all its parts.
+impl Drop for Held {
+    fn drop(self) {
+        let Held {
+            flat: _,
+            exercise: _,
+        } = self;
+    }
+}
+
+impl Held {
+    // The net at its opening: the one that a trace has left, or else a copy of this one.
+    fn flat(&mut self, alloc: Global, flat: &Flat) -> Result<Flat, Fault> {
+        match self.flat.take() {
+            Some(flat) => Ok(flat),
+            None => match flat.dup(alloc) {
+                Ok(flat) => Ok(flat),
+                Err(_) => Err(Fault::Memory),
+            },
+        }
+    }
+}
+
+/// Checks traces by their names against the net of the netlist that a reader gives: each by itself, or as the pieces of one run.
+/// What is said of them goes to `output`; notes on those that didn't pass, and why one could not be read, to `errors`. What they
+/// exercised goes to a file that `files` makes, where that is asked for.
+pub fn check_several<F: Files + Input, N: NewFiles, R: Read, W: Write, E: Write>(
     rt: &F,
     alloc: Global,
     given: &Given<'_, '_>,
     names: &[&str],
+    files: &mut N,
     input: &mut R,
     output: &mut W,
     errors: &mut E,
@@ -95,24 +134,27 @@ pub fn check_several<F: Files + Input, R: Read, W: Write, E: Write>(
         Ok(opened) => opened,
         Err(fault) => return Outcome::of(Err(fault)),
     };
-    let judged = check_opened(rt, alloc, given, options, opened, names, output, errors);
+    let judged = check_opened(
+        rt, alloc, given, options, opened, names, files, output, errors,
+    );
     Outcome::of(judged)
 }
 
 // Checks them against a net that was opened. The status of the program.
-fn check_opened<F: Files + Input, W: Write, E: Write>(
+fn check_opened<F: Files + Input, N: NewFiles, W: Write, E: Write>(
     rt: &F,
     alloc: Global,
     given: &Given<'_, '_>,
     options: CheckOptions<'_>,
     opened: Opened,
     names: &[&str],
+    files: &mut N,
     output: &mut W,
     errors: &mut E,
 ) -> Result<u8, Fault> {
     let (flat, source, part) = opened.into_parts();
     let keeps = given.explains || options.json;
-    let survey = if keeps {
+    let survey = if keeps || options.cover.is_some() {
         source.survey(alloc, part.as_slice()).ok()
     } else {
         None
@@ -126,21 +168,53 @@ fn check_opened<F: Files + Input, W: Write, E: Write>(
             keeps,
         },
         json: options.json,
+        cover: options.cover,
     };
-    check_all(rt, alloc, judge, names, output, errors)
+    let mut held = match exercise_of(alloc, judge) {
+        Ok(exercise) => Held {
+            flat: None,
+            exercise,
+        },
+        Err(fault) => return Err(fault),
+    };
+    let checked = if options.joined {
+        let exercise = &mut held.exercise;
+        check_joined(rt, alloc, judge, names, exercise, output, errors)
+    } else {
+        check_all(rt, alloc, judge, names, &mut held, output, errors)
+    };
+    match (checked, &held.exercise, options.cover) {
+        (Ok(status), Some(exercise), Some(path)) => {
+            exercise.tell(alloc, survey.as_ref(), path, status, files, errors)
+        }
+        (checked, _, _) => checked,
+    }
 }
 
+// What is counted of the traces, where that is asked for.
+fn exercise_of(alloc: Global, judge: Judge<'_>) -> Result<Option<Exercise>, Fault> {
+    if judge.cover.is_none() {
+        return Ok(None);
+    }
+    match Exercise::open(alloc, judge.flat) {
+        Ok(exercise) => Ok(Some(exercise)),
+        Err(fault) => Err(fault),
+    }
+}
+
+// Checks each by itself: a line for each one, in the order of the names, and then how many passed.
 fn check_all<F: Files + Input, W: Write, E: Write>(
     rt: &F,
     alloc: Global,
     judge: Judge<'_>,
     names: &[&str],
+    held: &mut Held,
     output: &mut W,
     errors: &mut E,
 ) -> Result<u8, Fault> {
     let mut tally = Tally::NONE;
     for name in names {
-        match check_one(rt, alloc, judge, name, output, errors) {
+        match check_one(rt, alloc, judge, name, held, output, errors) {
             Ok(fate) => tally.add(fate),
             Err(fault) => return Err(fault),
         }
@@ -160,24 +234,29 @@ fn check_one<F: Files + Input, W: Write, E: Write>(
     alloc: Global,
     judge: Judge<'_>,
     name: &str,
+    held: &mut Held,
     output: &mut W,
     errors: &mut E,
 ) -> Result<Fate, Fault> {
     match Source::named(name) {
-        Source::Stdin => check_from(alloc, judge, name, &mut rt.reader(), output, errors),
+        Source::Stdin => check_from(alloc, judge, name, rt.reader(), held, output, errors),
         Source::File(path) => match open_file(rt, path) {
-            Ok(mut file) => check_from(alloc, judge, name, &mut file, output, errors),
-            Err(cause) => put_unread(name, cause, judge.json, output, errors),
+            Ok(file) => check_from(alloc, judge, name, file, held, output, errors),
+            Err(cause) => {
+                put_unread(name, cause, judge.json, output, errors)?;
+                Ok(Fate::Unread)
+            }
         },
     }
 }
 
 // Checks the trace that a reader gives.
-fn check_from<T: Read, W: Write, E: Write>(
+fn check_from<T: Read + Drop, W: Write, E: Write>(
     alloc: Global,
     judge: Judge<'_>,
     name: &str,
-    trace: &mut T,
+    trace: T,
+    held: &mut Held,
     output: &mut W,
     errors: &mut E,
 ) -> Result<Fate, Fault> {
@@ -187,31 +266,77 @@ fn check_from<T: Read, W: Write, E: Write>(
     let Ok(front) = front.whole() else {
         return Err(Fault::Memory);
     };
+    let mut trace = Keeping::new(alloc, trace, held.exercise.is_some());
+    let flat = held.flat(alloc, judge.flat)?;
     let checked = if judge.json {
-        check_named(alloc, judge.flat, front, trace, judge.way, &mut sink())
+        check_named(alloc, flat, front, &mut trace, judge.way, &mut sink())
     } else {
-        check_named(alloc, judge.flat, front, trace, judge.way, output)
+        check_named(alloc, flat, front, &mut trace, judge.way, output)
     };
     match checked {
-        Ok(traced) if judge.json => put_object(alloc, judge.survey, name, traced, output),
-        Ok(traced) => Ok(note_found(alloc, judge.survey, name, traced, errors)),
+        Ok(traced) => {
+            count_run(alloc, &mut held.exercise, traced.found, &trace)?;
+            tell_traced(alloc, judge, name, traced, held, output, errors)
+        }
         Err(Fault::Read) => {
             let why = "reading failed, or a line of it is too long";
-            put_unread(name, why, judge.json, output, errors)
+            put_unread(name, why, judge.json, output, errors)?;
+            Ok(Fate::Unread)
         }
         Err(fault) => Err(fault),
     }
 }
 
-// Writes the object of a trace that was checked.
-fn put_object<W: Write>(
+// Counts a trace that is that of a run, where that is asked for.
+fn count_run<T: Read + Drop>(
+    alloc: Global,
+    exercise: &mut Option<Exercise>,
+    found: Finding,
+    trace: &Keeping<T>,
+) -> Result<(), Fault> {
+    match exercise {
+        Some(exercise) if matches!(found.verdict, Verdict::Run) => {
+            exercise.add_trace();
+            exercise.count(alloc, trace.kept())
+        }
+        _ => Ok(()),
+    }
+}
+
+// What became of a trace that was checked: its object is written where that is asked for, or else why it didn't pass is noted.
+fn tell_traced<W: Write, E: Write>(
+    alloc: Global,
+    judge: Judge<'_>,
+    name: &str,
+    traced: Traced,
+    held: &mut Held,
+    output: &mut W,
+    errors: &mut E,
+) -> Result<Fate, Fault> {
+    let (found, mut net, kept) = traced.into_parts();
+    if judge.json {
+        put_object(alloc, judge.survey, name, found, &net, &kept, output)?;
+    } else {
+        note_found(alloc, judge.survey, name, found, &mut net, &kept, errors);
+    }
+    held.flat = net.into_flat(alloc).ok();
+    Ok(if found.passes() {
+        Fate::Passed
+    } else {
+        Fate::Failed
+    })
+}
+
+/// Writes the object of a trace that was checked.
+pub(crate) fn put_object<W: Write>(
     alloc: Global,
     survey: Option<&Survey>,
     name: &str,
-    traced: Traced,
+    found: Finding,
+    net: &Play,
+    kept: &KeptLines,
     output: &mut W,
-) -> Result<Fate, Fault> {
-    let (found, net, kept) = traced.into_parts();
+) -> Result<(), Fault> {
     let (Some(survey), Some(trace)) = (survey, kept.lines()) else {
         return Err(Fault::Memory);
     };
@@ -223,31 +348,21 @@ fn put_object<W: Write>(
     };
     let mut text = Text::new(alloc);
     put_found(suspect, found, Seen::of(net.core(), survey), &mut text);
-    match put_text(&text, output) {
-        Ok(()) => Ok(fate_of(found)),
-        Err(fault) => Err(fault),
-    }
+    put_text(&text, output)
 }
 
-fn fate_of(found: Finding) -> Fate {
-    if found.passes() {
-        Fate::Passed
-    } else {
-        Fate::Failed
-    }
-}
-
-// What became of a trace that was checked. Why it didn't pass is noted where that is asked for.
-fn note_found<E: Write>(
+/// Notes why a trace that was checked didn't pass, where that is asked for.
+pub(crate) fn note_found<E: Write>(
     alloc: Global,
     survey: Option<&Survey>,
     name: &str,
-    traced: Traced,
+    found: Finding,
+    net: &mut Play,
+    kept: &KeptLines,
     errors: &mut E,
-) -> Fate {
-    let (found, mut net, kept) = traced.into_parts();
+) {
     if found.passes() {
-        return Fate::Passed;
+        return;
     }
     if let (Some(survey), Some(trace)) = (survey, kept.lines()) {
         let suspect = Suspect {
@@ -256,29 +371,28 @@ fn note_found<E: Write>(
             first: kept.first(),
             file: Some(name),
         };
-        let notes = explain_found(alloc, suspect, found, &mut net, survey);
+        let notes = explain_found(alloc, suspect, found, net, survey);
         let _ = tell_notes(alloc, &notes, errors);
     }
-    Fate::Failed
 }
 
-// Tells that a trace could not be read, and why.
-fn put_unread<C: Display + Drop, W: Write, E: Write>(
+/// Tells that a trace could not be read, and why.
+pub(crate) fn put_unread<C: Display + Drop, W: Write, E: Write>(
     name: &str,
     why: C,
     json: bool,
     output: &mut W,
     errors: &mut E,
-) -> Result<Fate, Fault> {
+) -> Result<(), Fault> {
     let _ = writeln!(errors, "error: cannot read {name}: {why}");
     if json {
-        return Ok(Fate::Unread);
+        return Ok(());
     }
     let pieces = [Piece::Bytes(name.as_bytes()), Piece::Bytes(b": not read\n")];
     if put_pieces(output, &pieces).is_err() || output.flush().is_err() {
         return Err(Fault::Write);
     }
-    Ok(Fate::Unread)
+    Ok(())
 }
 
 fn put_tally<W: Write>(tally: Tally, output: &mut W) -> Result<(), Fault> {

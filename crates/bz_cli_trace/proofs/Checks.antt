@@ -3,6 +3,7 @@ use Rattle.std.proofs.Common.{◌≡◌, ◌≤◌, ℕ, Bool, true, false, List
 use Rattle.std.proofs.KnownBytes.{Keeps-refl}
 use Rattle.std.proofs.lemmas.Option.{IfSome_then}
 use Rattle.std.specs.Prelude.{Result, Ok, Err, IfOk, IfSome, MatchOption, is_some}
+use Rattle.bz_model.specs.declared.event.Entry.{Entry}
 use Rattle.bz_model.specs.Nets.{Site, State, Wiring}
 use Rattle.bz_model.specs.Runs.{CanStep, IsNext, Rest}
 use Rattle.bz_net.specs.Progress.{Progress}
@@ -10,6 +11,7 @@ use Rattle.bz_trace.specs.declared.checking.Verdict.{Verdict}
 use Rattle.bz_trace.specs.declared.checking.Verdict.TheVariants as verdict
 use Rattle.bz_trace.specs.Reading.{JudgesTo, LeavesTo, StopsInFront}
 use Rattle.bz_trace.specs.Verdicts.{CountsRun, Judges, Leaves}
+use Rattle.bz_trace.specs.Watching.{ShowsTrace, WatchesTrace}
 use Rattle.bz_cli_input.specs.declared.fault.Fault.{Fault}
 use Rattle.bz_cli_input.specs.declared.fault.Fault.TheVariants.{Memory, Write}
 use Rattle.bz_cli_input.specs.Limits.{input_limit}
@@ -100,3 +102,9 @@ whole_checked to_rest netlist trace asked c is = record {
 pub whole_checked_of : (netlist trace : List ℕ) (asked : Option (List ℕ)) (r : Result Checked Fault) → IfOk r (IsCheckedTo false false netlist trace asked) → IfOk r (IsChecked netlist trace asked)
 whole_checked_of netlist trace asked (Ok c) is = whole_checked false netlist trace asked c is
 whole_checked_of netlist trace asked (Err f) is = tt
+
+-- what was shown of the trace of a run
+pub watched : {A : Type 0} (begins : Wiring → A → Type 0) (sees : A → Entry → A → Type 0) (w v : Wiring) (start now : A) (had : Option (List ℕ)) (said : Verdict) → v ≡ w → begins w start → IfSome had (λ text. said ≡ verdict.Run → ShowsTrace sees w start text now)
+    → IfSome had (λ text. said ≡ verdict.Run → WatchesTrace begins sees v text now)
+watched begins sees w v start now None said same begun shows = tt
+watched begins sees w v start now (Some text) said same begun shows = λ is. subst (λ u. WatchesTrace begins sees u text now) (sym same) (start, begun, shows is)

@@ -4,3 +4,4 @@ pub mod Taking
 pub mod Making
 pub mod Checking
 pub mod Several
+pub mod Joining

@@ -4,6 +4,7 @@ ghost use Rattle.std.specs.Prelude.{◌≡◌, ◌⊎◌, [], false, IfErr, IfOk
 ghost use Rattle.std.specs.Option.{option_copied};
 ghost use Rattle.bz_model.specs.Limits.{max_entries};
 ghost use Rattle.bz_net.specs.Progress.{IsToldBy};
+ghost use Rattle.bz_trace.specs.Watching.{WatchesTrace};
 ghost use Rattle.bz_cli_input.specs.Opening.{Denotes, RefusesNet};
 ghost use Rattle.bz_cli_source.specs.Surveys.{IsRead};
 ghost use Rattle.bz_cli_input.specs.Stopping.{IsOfInput};
@@ -16,7 +17,9 @@ use bz_cli_source::net_of;
 use bz_flat::Flat;
 use bz_net::Play;
 use bz_source::Source;
-use bz_trace::{Counts, KeptLines, MAX_ENTRIES, ReadFault, Verdict, check, check_read};
+use bz_trace::{
+    Counts, KeptLines, MAX_ENTRIES, ReadFault, Verdict, Watch, check, check_read_watched,
+};
 use std::alloc::{AllocError, Global};
 use std::io::Read;
 use std::mem;
@@ -196,24 +199,28 @@ pub(crate) fn check_text(
     })
 }
 
-/// The same of a trace that a reader gives, which may be longer than memory.
-pub(crate) fn check_reader<T: Read>(
+/// The same of a trace that a reader gives, which may be longer than memory. Its entries are shown to who watches.
+pub(crate) fn check_reader<T: Read, S: Watch>(
     alloc: Global,
     asked: Option<&[u8]>,
     netlist: &[u8],
     trace: &mut T,
     way: CheckWay,
+    watch: &mut S,
 ) -> Result<Checked, Fault>
     ensures ok { IfOk result (λ checked. IfSome (T.remaining trace.old) (λ text.
         IsCheckedTo way.to_first way.to_rest netlist.now text (option_copied asked.entry) checked)) }
     ensures err { IfErr result (λ fault. IsOfInput fault ⊎ RefusesNet netlist.now (option_copied asked.entry) fault) }
+    ensures watches { IfOk result (λ checked. IfSome (T.remaining trace.old) (λ text. checked.verdict ≡ Verdict.Run
+        → WatchesTrace S.begins S.sees checked.net.wiring text watch.new)) }
 {
     let (mut net, source, part) = match open(alloc, asked, netlist) {
         Ok(opened) => opened,
         Err(fault) => return Err(fault),
     };
+    watch.begin(alloc, &net);
     let mut kept = KeptLines::new(alloc, way.keeps);
-    match check_read(alloc, &mut net, trace, way.to_first, &mut kept) {
+    match check_read_watched(alloc, &mut net, trace, way.to_first, &mut kept, watch) {
         Ok(said) => {
             let unrested = moves_on(&net, said.verdict, way.to_rest);
             Ok(Checked {

@@ -1,9 +1,10 @@
 //! The command `check`: whether a trace is that of a run of a part's net.
 
-ghost use Rattle.std.specs.Prelude.{◌≡◌, ◌⊎◌, ◌++◌, false, OnOk, OnErr, IfSome, decimal};
+ghost use Rattle.std.specs.Prelude.{◌≡◌, ◌⊎◌, ◌++◌, false, IfOk, OnOk, OnErr, IfSome, decimal};
 ghost use Rattle.std.specs.Option.{option_copied};
 ghost use Rattle.std.specs.Io.KnownBytes.{Appends};
 ghost use Rattle.bz_text.specs.Writing.{Writes};
+ghost use Rattle.bz_trace.specs.Watching.{WatchesTrace};
 ghost use Rattle.bz_cli_input.specs.Reading.{ReadsWithin};
 ghost use Rattle.bz_cli_input.specs.Stopping.{AppendsSome, StopsAtInput};
 ghost use Rattle.bz_cli_trace.specs.Checking.{Checks, ChecksApart, ChecksTrace, TellsVerdict, counts_text, line_end_text, run_words_text, verdict_text};
@@ -15,7 +16,7 @@ use crate::way::CheckWay;
 use bz_cli_input::{Fault, read_input};
 use bz_model::Value;
 use bz_text::{Piece, WriteFault, put_pieces};
-use bz_trace::{Counts, Verdict};
+use bz_trace::{Counts, Unwatched, Verdict, Watch};
 use std::alloc::Global;
 use std::io::{Read, Write};
 
@@ -75,26 +76,50 @@ pub fn check_trace_cmd<R: Read, T: Read, W: Write>(
     // Whatever comes of it, it reads at most one byte of the netlist past the limit.
     ensures bounded { ReadsWithin (R.remaining input.old) (R.remaining input.new) }
 {
+    check_trace_watched(alloc, asked, way, input, trace, output, &mut Unwatched)
+}
+
+/// The same, with the entries of the trace shown to who watches.
+pub fn check_trace_watched<R: Read, T: Read, W: Write, S: Watch>(
+    alloc: Global,
+    asked: Option<&[u8]>,
+    way: CheckWay,
+    input: &mut R,
+    trace: &mut T,
+    output: &mut W,
+    watch: &mut S,
+) -> Result<Checked, Fault>
+    ensures checks { IfSome (R.remaining input.old) (λ netlist. IfSome (T.remaining trace.old)
+        (λ text. ChecksApart way.to_first way.to_rest netlist text (option_copied asked.entry) (W.contents output.old) (W.contents output.new) result)) }
+
+    // Of the trace of a run all entries were shown, and no others.
+    ensures watches { IfOk result (λ checked. IfSome (T.remaining trace.old) (λ text. checked.verdict ≡ Verdict.Run
+        → WatchesTrace S.begins S.sees checked.net.wiring text watch.new)) }
+    ensures bounded { ReadsWithin (R.remaining input.old) (R.remaining input.new) }
+{
     let netlist = match read_input(alloc, input) {
         Ok(netlist) => netlist,
         Err(fault) => return Err(Fault::from(fault)),
     };
-    check_netlist(alloc, asked, way, netlist.as_slice(), trace, output)
+    check_netlist(alloc, asked, way, netlist.as_slice(), trace, output, watch)
 }
 
 // Checks the trace that a reader gives against this netlist.
-fn check_netlist<T: Read, W: Write>(
+fn check_netlist<T: Read, W: Write, S: Watch>(
     alloc: Global,
     asked: Option<&[u8]>,
     way: CheckWay,
     netlist: &[u8],
     trace: &mut T,
     output: &mut W,
+    watch: &mut S,
 ) -> Result<Checked, Fault>
-    ensures { IfSome (T.remaining trace.old) (λ text. StopsAtInput (W.contents output.old) (W.contents output.new) result
+    ensures checks { IfSome (T.remaining trace.old) (λ text. StopsAtInput (W.contents output.old) (W.contents output.new) result
         ⊎ ChecksTrace way.to_first way.to_rest netlist.now text (option_copied asked.entry) (W.contents output.old) (W.contents output.new) result) }
+    ensures watches { IfOk result (λ checked. IfSome (T.remaining trace.old) (λ text. checked.verdict ≡ Verdict.Run
+        → WatchesTrace S.begins S.sees checked.net.wiring text watch.new)) }
 {
-    let checked = match check_reader(alloc, asked, netlist, trace, way) {
+    let checked = match check_reader(alloc, asked, netlist, trace, way, watch) {
         Ok(checked) => checked,
         Err(fault) => return Err(fault),
     };

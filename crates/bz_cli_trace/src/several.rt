@@ -88,16 +88,16 @@ impl Traced {
 }
 
 /// Checks a trace that a reader gives against a net at its opening, and writes the verdict behind what stands in front of it, as the name of
-/// the trace.
+/// the trace. Whoever checks more traces has the flat net of what was found again.
 pub fn check_named<T: Read, W: Write>(
     alloc: Global,
-    flat: &Flat,
+    flat: Flat,
     front: &[u8],
     trace: &mut T,
     way: CheckWay,
     output: &mut W,
 ) -> Result<Traced, Fault>
-    ensures { IfSome (T.remaining trace.old) (λ text. ChecksNamed way.to_first way.to_rest flat.now.wiring front.now text
+    ensures { IfSome (T.remaining trace.old) (λ text. ChecksNamed way.to_first way.to_rest flat.wiring front.now text
         (W.contents output.old) (W.contents output.new) result) }
 {
     let traced = match check_opened(alloc, flat, trace, way) {
@@ -113,17 +113,14 @@ pub fn check_named<T: Read, W: Write>(
 // What is found of a trace that a reader gives.
 fn check_opened<T: Read>(
     alloc: Global,
-    flat: &Flat,
+    flat: Flat,
     trace: &mut T,
     way: CheckWay,
 ) -> Result<Traced, Fault>
     ensures ok { IfOk result (λ traced. IfSome (T.remaining trace.old) (λ text.
-        IsFound way.to_first way.to_rest flat.now.wiring text traced)) }
+        IsFound way.to_first way.to_rest flat.wiring text traced)) }
     ensures err { IfErr result IsOfInput }
 {
-    let Ok(flat) = flat.dup(alloc) else {
-        return Err(Fault::Memory);
-    };
     let Ok(mut net) = Play::open(alloc, flat, MAX_ENTRIES as u32) else {
         return Err(Fault::Memory);
     };

@@ -1,1 +1,2 @@
 pub mod Waited
+pub mod Ending

@@ -1,6 +1,7 @@
 -- What the command `waits` reads and answers: a netlist, a trace, and whether something can never move again behind a line of it.
-use Rattle.std.specs.Prelude.{ℕ, ◌-◌, Bool, MatchBool, List, length, Option, Result, Ok, Err}
+use Rattle.std.specs.Prelude.{◌≡◌, ℕ, ◌-◌, ◌≤◌, Bool, MatchBool, List, length, Option, Result, Ok, Err}
 use Rattle.bz_model.specs.Nets.{Wiring, State}
+use Rattle.bz_net.specs.Progress.{Progress}
 use Rattle.bz_trace.specs.declared.checking.Verdict.TheVariants as verdict
 use Rattle.bz_trace.specs.Verdicts.{IsRunText}
 use Rattle.bz_since.specs.Since.{HasStuck, IsBehind}
@@ -18,6 +19,11 @@ use Rattle.bz_cli_waits.specs.Asking.{IsLine, IsNone, line_count}
 -- whether something is stuck behind this line of each run that the text is the trace of
 abbrev pub IsTold : Wiring → List ℕ → ℕ → Bool → Type 0
 IsTold w trace line is = (run : IsRunText w trace) → (s : State) × IsBehind w run.entries run.last (line - 1) s × MatchBool is (HasStuck w s) (HasStuck w s → ⊥)
+
+-- the net is where each run ends whose trace the text is, and each has so many entries at most
+pub record EndsRun (net : Progress) (trace : List ℕ) (entries : ℕ) : Type 0 where
+  pub state : (run : IsRunText net.wiring trace) → run.last ≡ net.state
+  pub few : (run : IsRunText net.wiring trace) → length run.entries ≤ entries
 
 -- of the line that is asked for
 abbrev pub IsToldOf : Wiring → List ℕ → WaitsAsked → Bool → Type 0

@@ -2,6 +2,8 @@
 #![tactic(auto)]
 
 mod asked;
+mod played;
+mod sourced;
 mod told;
 mod waits;
 

@@ -1,15 +1,18 @@
 //! What is told behind a line of a run.
 
-ghost use Rattle.std.specs.Prelude.{IfOk};
-ghost use Rattle.bz_cli_waits.specs.Telling.{IsTold};
+ghost use Rattle.std.specs.Prelude.{◌≡◌, ◌<◌, IfOk, MatchBool};
+ghost use Rattle.bz_since.specs.Since.{HasStuck};
+ghost use Rattle.bz_cli_waits.specs.Telling.{EndsRun, IsTold};
 
-use bz_cli_trace::Checked;
-use bz_flat::Flat;
-use bz_since::{Behind, NoSince, put_since};
-use bz_source::Survey;
+use crate::played::Played;
+use bz_net::{Core, Play};
+use bz_since::{Behind, put_first, put_opening};
+use bz_source::Records;
+use bz_stuck::Stuck;
 use bz_text::Text;
-use bz_view::{Seen, put_chain, put_waits};
+use bz_view::{Shown, put_chain_of, put_waits_of};
 use std::alloc::{AllocError, Global};
+use std::mem::forget;
 
 /// What is told behind a line, and whether something can never move again there.
 #[derive(Drop)]
@@ -18,81 +21,131 @@ pub(crate) struct Told {
     pub is_stuck: bool,
 }
 
-/// What is told of a component, or of all, behind a line of a trace that has so many.
+/// What is wanted of a run: behind which line of so many, and of which component, or of all.
+#[derive(Clone, Copy)]
+pub(crate) struct Wanted {
+    pub line: usize,
+    pub lines: usize,
+    pub comp: Option<u32>,
+}
+
+/// What is told of a run.
 pub(crate) fn told_of(
     alloc: Global,
-    checked: Checked,
+    played: Played<'_>,
     trace: &[u8],
-    line: usize,
-    lines: usize,
-    comp: Option<u32>,
+    wanted: Wanted,
 ) -> Result<Told, AllocError>
-    ensures { IfOk result (λ told. IsTold checked.net.wiring trace.now line told.is_stuck) }
+    requires { EndsRun played.net trace.now played.entries }
+    ensures { IfOk result (λ told. IsTold played.entry.net.wiring trace.now wanted.line told.is_stuck) }
 {
-    let (flat, source, part) = match checked.into_flat(alloc) {
-        Ok(parts) => parts,
-        Err(fault) => return Err(fault),
-    };
-    // a part that has a net has places, so nothing but memory can be wanting
-    match source.survey(alloc, part.as_slice()) {
-        Ok(survey) => told_in(alloc, flat, &survey, trace, line, lines, comp),
-        Err(_) => Err(AllocError),
+    let entries = played.entries;
+    let (net, records) = played.into_parts();
+    if wanted.line > entries {
+        told_at_end(alloc, net, records, entries, trace, wanted)
+    } else {
+        told_before(alloc, net, records, trace, wanted)
     }
 }
 
-fn told_in(
+// The same where the run ends: the net is there.
+fn told_at_end(
     alloc: Global,
-    flat: Flat,
-    survey: &Survey,
+    net: Play,
+    records: Records<'_>,
+    _entries: usize,
     trace: &[u8],
-    line: usize,
-    lines: usize,
-    comp: Option<u32>,
+    wanted: Wanted,
 ) -> Result<Told, AllocError>
-    ensures { IfOk result (λ told. IsTold flat.wiring trace.now line told.is_stuck) }
+    requires ends { EndsRun net trace.now _entries }
+    requires behind { _entries < wanted.line }
+    ensures { IfOk result (λ told. IsTold net.wiring trace.now wanted.line told.is_stuck) }
 {
+    let (is_stuck, told) = look(alloc, net.core(), &records, wanted.comp)?;
+    let text = first_at_end(alloc, net, records, trace, wanted, is_stuck)?;
+    whole(alloc, text, &told, is_stuck)
+}
+
+// Since which line something is stuck at the end of a run, if anything is.
+fn first_at_end(
+    alloc: Global,
+    net: Play,
+    records: Records<'_>,
+    trace: &[u8],
+    wanted: Wanted,
+    is_stuck: bool,
+) -> Result<Text, AllocError> {
+    let mut text = Text::new(alloc);
+    if is_stuck && wanted.line > 1 {
+        // the search for the line wants room
+        drop(records);
+        let flat = net.into_flat(alloc)?;
+        put_first(flat, trace, wanted.line, wanted.lines, &mut text);
+        return Ok(text);
+    }
+    // The command ends here, and its memory goes with it. To give it back piece by piece would take a twentieth of the time.
+    forget(net);
+    forget(records);
+    if is_stuck {
+        put_opening(wanted.lines, &mut text);
+    }
+    Ok(text)
+}
+
+// The same behind an earlier line, to which the net is played anew.
+fn told_before(
+    alloc: Global,
+    net: Play,
+    records: Records<'_>,
+    trace: &[u8],
+    wanted: Wanted,
+) -> Result<Told, AllocError>
+    ensures { IfOk result (λ told. IsTold net.wiring trace.now wanted.line told.is_stuck) }
+{
+    let flat = net.into_flat(alloc)?;
     let Ok(opened) = flat.dup(alloc) else {
         return Err(AllocError);
     };
     // of a run nothing but memory can be wanting
-    let Ok(behind) = Behind::of(alloc, flat, trace, line) else {
+    let Ok(behind) = Behind::of(alloc, flat, trace, wanted.line) else {
         return Err(AllocError);
     };
-    let is_stuck = behind.is_stuck(alloc)?;
-    let text = text_of(alloc, &behind, is_stuck, opened, survey, lines, comp);
+    let (is_stuck, told) = look(alloc, behind.net.core(), &records, wanted.comp)?;
+    drop(behind);
+    drop(records);
+    let mut text = Text::new(alloc);
+    if is_stuck {
+        put_first(opened, trace, wanted.line, wanted.lines, &mut text);
+    }
+    whole(alloc, text, &told, is_stuck)
+}
+
+// What waits in a net, and whether something in it can never move again.
+fn look(
+    alloc: Global,
+    net: &Core,
+    records: &Records<'_>,
+    comp: Option<u32>,
+) -> Result<(bool, Text), AllocError>
+    ensures { IfOk result (λ r. MatchBool r.0 (HasStuck net.now.wiring net.now.state) (HasStuck net.now.wiring net.now.state → ⊥)) }
+{
+    let stuck = Stuck::of(alloc, net)?;
+    let mut text = Text::new(alloc);
+    let shown = Shown::by_records(net, records);
+    match comp {
+        Some(comp) => put_chain_of(shown, &stuck, comp, &mut text),
+        None => put_waits_of(shown, &stuck, &mut text),
+    }
+    Ok((stuck.len() > 0, text))
+}
+
+// The text with what is told behind it.
+fn whole(alloc: Global, mut text: Text, told: &Text, is_stuck: bool) -> Result<Told, AllocError>
+    ensures { IfOk result (λ told. told.is_stuck ≡ is_stuck) }
+{
+    text.put_bytes(told.whole()?);
     Ok(Told {
         text: Vec::from_slice(alloc, text.whole()?)?,
         is_stuck,
     })
-}
-
-// The text.
-fn text_of(
-    alloc: Global,
-    behind: &Behind,
-    is_stuck: bool,
-    flat: Flat,
-    survey: &Survey,
-    lines: usize,
-    comp: Option<u32>,
-) -> Text {
-    let mut text = Text::new(alloc);
-    if is_stuck {
-        put_first(behind, flat, lines, &mut text);
-    }
-    let seen = Seen::of(behind.net.core(), survey);
-    match comp {
-        Some(comp) => put_chain(seen, comp, &mut text),
-        None => put_waits(seen, &mut text),
-    }
-    text
-}
-
-// Adds since which line something can never move again.
-fn put_first(behind: &Behind, flat: Flat, lines: usize, text: &mut Text) {
-    match behind.since(text.alloc(), flat) {
-        Ok(Some(since)) => put_since(&since, &behind.entries, lines, text),
-        Ok(None) | Err(NoSince::NotRun) => {}
-        Err(NoSince::Memory) => text.lose(),
-    }
 }

@@ -85,7 +85,7 @@ gains_silent old new true xs none gains = subst (Gains old new) none gains
 gains_silent old new false xs none gains = gains
 
 -- a net that was just opened, and what it gained
-made_of : (w : Wiring) (opened net : Simulation) (moves : List ShortMove) → IsOpened w max_entries opened → Gains opened net moves → IsMade w moves net
+pub made_of : (w : Wiring) (opened net : Simulation) (moves : List ShortMove) → IsOpened w max_entries opened → Gains opened net moves → IsMade w moves net
 made_of w opened net moves is gains = record {
   wiring = gains.wiring ∙ is.wiring;
   limit = gains.limit ∙ is.limit_is;

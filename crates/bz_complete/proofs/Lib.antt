@@ -1,2 +1,15 @@
+pub mod Alone
+pub mod DeadEnds
+pub mod Free
+pub mod FreeKinds
 pub mod Gaining
+pub mod HostEnds
+pub mod Joined
+pub mod Noticing
+pub mod Parts
+pub mod Plain
+pub mod Refusals
+pub mod Rows
+pub mod Sending
 pub mod Spelling
+pub mod Unshown

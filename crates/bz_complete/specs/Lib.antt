@@ -1,3 +1,5 @@
 pub mod Shown
 pub mod ShortTexts
 pub mod Completing
+pub mod Choosing
+pub mod Stopping

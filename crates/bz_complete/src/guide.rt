@@ -1,24 +1,28 @@
-//! What comes later in a short trace: which request a component has taken that takes one of several.
+//! What comes later in a short trace: which request a component has taken that takes one of several, and what a Bar's activation
+//! leads to.
 
 use crate::making::{Maker, maker_of};
+use crate::pending::is_guarding;
 use crate::short::{Sent, ShortMove};
+use bz_flat::FlatComp;
 use bz_model::Kind;
 use bz_net::Net;
 use std::alloc::{AllocError, Global};
 
-/// A reply of a component that takes one request of several.
+/// A move that tells what a component has noticed: a reply where it takes one request of several, and a Bar's move behind its
+/// activation.
 #[derive(Clone, Copy)]
 struct Later {
     port: u32,
-    /// The place in the list of the component's reply after it.
+    /// The place in the list of the component's move after it.
     after: Option<usize>,
 }
 
-/// The replies that are still to come of components that take one request of several.
+/// The moves still to come that tell what components have noticed.
 #[derive(Drop)]
 pub(crate) struct Guide {
-    replies: Vec<Later>,
-    /// By the number of a component the place of the first of its replies that is still to come.
+    moves: Vec<Later>,
+    /// By the number of a component the place of the first of its moves that is still to come.
     next: Vec<Option<usize>>,
 }
 
@@ -27,31 +31,31 @@ impl Guide {
     pub(crate) fn of(alloc: Global, net: &Net, moves: &[ShortMove]) -> Result<Guide, AllocError> {
         let comps = (net.core().comp_count() as usize).saturating_add(1);
         let mut guide = Guide {
-            replies: Vec::new(alloc),
+            moves: Vec::new(alloc),
             next: vec![in alloc; None; comps]?,
         };
         let mut last: Vec<Option<usize>> = vec![in alloc; None; comps]?;
         for due in moves {
-            if let Some((comp, port)) = chosen_reply(net, *due) {
+            if let Some((comp, port)) = telling(net, *due) {
                 guide.add(comp as usize, port, last.as_mut_slice())?;
             }
         }
         Ok(guide)
     }
 
-    // Adds a reply of a component behind the last of it.
+    // Adds a move of a component behind the last of it.
     fn add(
         &mut self,
         comp: usize,
         port: u32,
         last: &mut [Option<usize>],
     ) -> Result<(), AllocError> {
-        let place = self.replies.len();
+        let place = self.moves.len();
         let before = last.get(comp).copied().flatten();
-        self.replies.push(Later { port, after: None })?;
+        self.moves.push(Later { port, after: None })?;
         match before {
-            Some(before) => match self.replies.get_mut(before) {
-                Some(reply) => reply.after = Some(place),
+            Some(before) => match self.moves.get_mut(before) {
+                Some(told) => told.after = Some(place),
                 None => {}
             },
             None => match self.next.get_mut(comp) {
@@ -65,36 +69,45 @@ impl Guide {
         Ok(())
     }
 
-    /// The port at which a component replies next.
+    /// The port at which a component makes its next move that tells what it has noticed.
     pub(crate) fn next_port(&self, comp: u32) -> Option<u32> {
-        Some(self.next_reply(comp)?.port)
+        Some(self.next_move(comp)?.port)
     }
 
-    /// Goes on behind the next reply of a component.
-    pub(crate) fn pass(&mut self, comp: u32) {
-        if let Some(reply) = self.next_reply(comp) {
+    /// Goes on behind a move of a component, if it is one of those.
+    pub(crate) fn pass(&mut self, net: &Net, comp: u32, port: u32, sent: Sent) {
+        match net.core().comp(comp) {
+            Some(site) if tells(site, port, sent) => {}
+            _ => return,
+        }
+        if let Some(told) = self.next_move(comp) {
             if let Some(next) = self.next.get_mut(comp as usize) {
-                *next = reply.after;
+                *next = told.after;
             }
         }
     }
 
-    fn next_reply(&self, comp: u32) -> Option<Later> {
+    fn next_move(&self, comp: u32) -> Option<Later> {
         let place = self.next.get(comp as usize).copied().flatten()?;
-        self.replies.get(place).copied()
+        self.moves.get(place).copied()
     }
 }
 
-// The component and the port, where a move is the reply of a component that takes one request of several.
-fn chosen_reply(net: &Net, due: ShortMove) -> Option<(u32, u32)> {
-    if due.sent == Sent::Ask {
-        return None;
-    }
+// The component and the port, where a move tells what the component has noticed.
+fn telling(net: &Net, due: ShortMove) -> Option<(u32, u32)> {
     match maker_of(net, due) {
-        Maker::Comp { comp, port } => match net.core().comp(comp)?.kind {
-            Kind::Call | Kind::CallMux | Kind::CallDemux => Some((comp, port)),
-            _ => None,
-        },
-        Maker::Host | Maker::Nobody => None,
+        Maker::Comp { comp, port } if tells(net.core().comp(comp)?, port, due.sent) => {
+            Some((comp, port))
+        }
+        _ => None,
+    }
+}
+
+fn tells(site: &FlatComp, port: u32, sent: Sent) -> bool {
+    let [size, _] = site.sizes;
+    match site.kind {
+        Kind::Call | Kind::CallMux | Kind::CallDemux => sent == Sent::Reply,
+        Kind::Bar => !is_guarding(size, port),
+        _ => false,
     }
 }

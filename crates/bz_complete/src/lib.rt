@@ -8,6 +8,7 @@ mod making;
 mod names;
 mod pending;
 mod reading;
+mod refusing;
 mod short;
 
 pub use completing::{Completed, complete};

@@ -1,16 +1,19 @@
 //! One move more of a net.
 
-ghost use Rattle.std.specs.Prelude.{◌≡◌, ℕ, Option, ◌<◌, ◌≤◌, ◌∷◌, [], length, None, false, IfOk, IsTrue, if◌then◌else◌};
+ghost use Rattle.std.specs.Prelude.{◌≡◌, ℕ, Option, ◌<◌, ◌≤◌, ◌∷◌, ◌↔◌, [], length, None, false, IfOk, IsTrue, if◌then◌else◌};
 ghost use Rattle.bz_complete.specs.Completing.{Gains};
 ghost use Rattle.bz_complete.specs.Shown.{is_done, shown_move, shown_word};
+ghost use Rattle.bz_complete.specs.declared.making.Maker.TheVariants as Maker;
+ghost use Rattle.bz_complete.specs.Stopping.{IsMaker, IsStop, word_of};
 ghost use Rattle.bz_model.specs.declared.event.Reply.TheVariants.{Done};
 
+use crate::refusing::{refuse_turn, refuse_word};
 use crate::short::{Sent, ShortMove};
 use bz_model::{Move, NetError, Reply, Value, Verb, Who};
 use bz_net::Net;
 
 /// Who makes the moves of components.
-const WORKER: Who = Who::Worker(1);
+pub(crate) const WORKER: Who = Who::Worker(1);
 
 /// Who gives the host's words.
 const HOST: Who = Who::Host(1);
@@ -27,7 +30,11 @@ pub enum Maker {
 }
 
 /// Who makes a move: what stands at the active end asks, and what stands at the passive one replies.
-pub fn maker_of(net: &Net, due: ShortMove) -> Maker {
+pub fn maker_of(net: &Net, due: ShortMove) -> Maker
+    ensures { IsMaker net.now.wiring due result }
+{
+    // (the wiring tells that no port is on a channel that the net doesn't have)
+    let _ = net.names();
     if due.chan == 0 || due.chan > net.core().chan_count() {
         return Maker::Nobody;
     }
@@ -60,8 +67,8 @@ pub(crate) fn sends(net: &mut Net, comp: u32, port: u32, due: ShortMove) -> Resu
 }
 
 // Whether a move shows what is due.
-fn is_due(due: ShortMove, chan: u32, mv: Move, value: Option<Value>) -> bool
-    ensures { IsTrue result → shown_move chan mv value ≡ due ∷ [] }
+pub(crate) fn is_due(due: ShortMove, chan: u32, mv: Move, value: Option<Value>) -> bool
+    ensures { IsTrue result ↔ shown_move chan mv value ≡ due ∷ [] }
 {
     let is_sent = match mv {
         Move::Ask => due.sent == Sent::Ask,
@@ -98,19 +105,41 @@ fn is_silent(mv: Move) -> bool
 
 /// Makes the move of the host that is due at an external port, and before it notices what the net has sent there. Whether it could.
 pub(crate) fn hosts(net: &mut Net, due: ShortMove) -> Result<bool, NetError>
-    requires from { 0 < due.chan }
-    requires to { due.chan ≤ length net.old.wiring.ports }
-    ensures { IfOk result (λ is. Gains net.old net.new (if is then due ∷ [] else [])) }
+    requires maker { IsMaker net.old.wiring due Maker.Host }
+    ensures gains { IfOk result (λ is. Gains net.old net.new (if is then due ∷ [] else [])) }
+    ensures stop { IfOk result (λ is. is ≡ false → IsStop net.new due) }
 {
     match due.sent {
-        Sent::Ask => {
-            notes(net, Verb::Collect, due.chan)?;
-            gives(net, Verb::Offer, due.chan, due.value)
+        Sent::Ask => notes(net, Verb::Collect, due.chan)?,
+        Sent::Reply => notes(net, Verb::Accept, due.chan)?,
+    }
+    says(net, due)
+}
+
+// Gives the word that sends a move. Whether it is done.
+fn says(net: &mut Net, due: ShortMove) -> Result<bool, NetError>
+    requires maker { IsMaker net.old.wiring due Maker.Host }
+    ensures gains { IfOk result (λ is. Gains net.old net.new (if is then due ∷ [] else [])) }
+    ensures stop { IfOk result (λ is. is ≡ false → IsStop net.new due) }
+{
+    match net.host_at(HOST, word_of(due.sent), due.chan, due.value) {
+        Ok(reply) => {
+            if is_done(reply) {
+                return Ok(true);
+            }
+            refuse_turn(&*net, due)
         }
-        Sent::Reply => {
-            notes(net, Verb::Accept, due.chan)?;
-            gives(net, Verb::Answer, due.chan, due.value)
-        }
+        Err(error) => refuse_word(&*net, due, error),
+    }
+}
+
+// The word of the host that sends this.
+fn word_of(sent: Sent) -> Verb
+    ensures { result ≡ word_of sent }
+{
+    match sent {
+        Sent::Ask => Verb::Offer,
+        Sent::Reply => Verb::Answer,
     }
 }
 

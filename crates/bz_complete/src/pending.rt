@@ -2,7 +2,7 @@
 //!
 //! Nothing is claimed of the choice. Of a component's own port comes first, so a variable that is read takes no write for it.
 //! Where one of several requests is taken, the output that is asked at tells which, or else the component's next reply, or else
-//! the value. The two halves of a Bar go each by itself.
+//! the value. The two halves of a Bar go each by itself, but that inputs are got as the activation's next move tells.
 
 use crate::guide::Guide;
 use crate::short::ShortMove;
@@ -22,6 +22,9 @@ impl Way {
     /// The port of the take or got that comes next: of several the first from a number on, and then from the first port on.
     pub(crate) fn next(self, net: &Net, guide: &Guide, from: u32) -> Option<u32> {
         let site = net.core().comp(self.comp)?;
+        if let Some(port) = self.leading(net, guide, site) {
+            return Some(port);
+        }
         if self.is_open(net, self.port) {
             return Some(self.port);
         }
@@ -59,6 +62,41 @@ impl Way {
             }
         }
         None
+    }
+
+    // What a Bar notices before its activation is taken, or before it replies at its guard: each input that makes the output the
+    // first with a 1 that asks next, or leaves none with a 1 where the activation is replied; and then, at the guard, the
+    // activation, where another input would hinder that.
+    fn leading(self, net: &Net, guide: &Guide, site: &FlatComp) -> Option<u32> {
+        let [size, _] = site.sizes;
+        if !matches!(site.kind, Kind::Bar) || !self.is_open(net, 2) {
+            return None;
+        }
+        let told = match self.port {
+            1 => guide.next_port(self.comp)?,
+            port if is_guarding(size, port) => return None,
+            port => port,
+        };
+        let asks = told.checked_sub(size.saturating_add(3));
+        let inputs = match asks {
+            Some(output) => size.min(output.saturating_add(1)),
+            None => size,
+        };
+        let mut hinders = false;
+        for before in 0..inputs {
+            let port = before.saturating_add(3);
+            let wanted: Value = if asks == Some(before) { 1 } else { 0 };
+            match self.brings(net, port) {
+                Some(Some(value)) if value == wanted => return Some(port),
+                Some(_) => hinders = true,
+                None => {}
+            }
+        }
+        if hinders && self.port == 1 {
+            Some(2)
+        } else {
+            None
+        }
     }
 
     // The first port with a take or a got, from a number on and then from the first on.
@@ -102,8 +140,8 @@ impl Way {
     }
 }
 
-// Whether a port of a Bar with so many inputs is its guard or one of the inputs.
-fn is_guarding(size: u32, port: u32) -> bool {
+/// Whether a port of a Bar with so many inputs is its guard or one of the inputs.
+pub(crate) fn is_guarding(size: u32, port: u32) -> bool {
     port == 1 || (port > 2 && port <= size.saturating_add(2))
 }
 

@@ -9,7 +9,12 @@ use std::alloc::{AllocError, Global};
 /// Adds one object: how much was exercised, which kinds there are, what was never used, and the counts, one component a line.
 pub fn put_report(alloc: Global, text: &mut Text, report: Report<'_>) -> Result<(), AllocError> {
     let (comps, ports) = (report.comps(), report.ports());
-    put_number(text, "{\"version\":1,\"traces\":", report.traces as u64);
+    text.put("{\"version\":1");
+    if let Some(name) = report.name {
+        text.put(",\"net\":");
+        put_string(text, name);
+    }
+    put_number(text, ",\"traces\":", report.traces as u64);
     put_number(text, ",\"components\":", comps.all as u64);
     put_number(text, ",\"moved\":", comps.exercised as u64);
     put_number(text, ",\"ports\":", ports.all as u64);

@@ -12,6 +12,8 @@ pub struct Report<'r> {
     pub seen: Seen<'r>,
     pub coverage: &'r Coverage,
     pub traces: usize,
+    /// What the net is called, where there may be more than one.
+    pub name: Option<&'r [u8]>,
 }
 
 /// How many there are, and how many of them were exercised.

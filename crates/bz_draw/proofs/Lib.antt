@@ -1,3 +1,4 @@
 pub mod Ends
 pub mod EdgeLaws
 pub mod NodeLaws
+pub mod Moments

@@ -1,3 +1,4 @@
 pub mod Drawn
 pub mod Edges
 pub mod Drawing
+pub mod Behind

@@ -10,6 +10,9 @@ use bz_kind_rows::{PortAt, port_at, port_table};
 /// The most ports of a component whose arrays have a cell for each port.
 const MOST_CELLS: usize = 16;
 
+/// The most passive ports of a component that is no hub.
+const MOST_CALLERS: u32 = 4;
+
 /// Where an edge ends at a component.
 #[derive(Clone, Copy)]
 pub(crate) enum Cell {
@@ -37,6 +40,16 @@ pub(crate) fn cell_of(comp: &FlatComp, port: u32) -> Cell {
 
 /// Whether a side has cells: more than one port.
 pub(crate) fn has_cells(comp: &FlatComp, passive: bool) -> bool {
+    count_ports(comp, passive) > 1
+}
+
+/// Whether edges come to a component from many sides, as to a variable that is read in many places.
+pub(crate) fn is_hub(comp: &FlatComp) -> bool {
+    count_ports(comp, true) > MOST_CALLERS
+}
+
+// How many ports a side has.
+fn count_ports(comp: &FlatComp, passive: bool) -> u32 {
     let mut sizes = comp.sizes.iter();
     let mut count = 0u32;
     for row in port_table(&comp.kind) {
@@ -49,7 +62,7 @@ pub(crate) fn has_cells(comp: &FlatComp, passive: bool) -> bool {
             count = count.saturating_add(members);
         }
     }
-    count > 1
+    count
 }
 
 /// The port of this number, where it begins a cell of that side: each does, or the first of each row.

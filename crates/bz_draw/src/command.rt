@@ -15,11 +15,11 @@ use crate::fault::{MOST_DRAWN, NoDrawing};
 use crate::folding::boxes_at;
 use crate::graph::put_graph;
 use crate::near::Near;
-use crate::view::{Scene, View};
+use crate::view::{Moment, Scene, View};
 use bz_cli_input::{Fault, read_input};
 use bz_cli_source::survey_of;
 use bz_flat::Pieces;
-use bz_source::Places;
+use bz_source::{Places, Survey};
 use bz_text::{Text, WriteFault, put};
 use std::alloc::{AllocError, Global};
 use std::io::{Read, Write};
@@ -73,16 +73,34 @@ fn graph_of(
 {
     let (flat, survey, name) = survey_of(alloc, asked, text)?;
     let net = flat.into_pieces();
-    match drawing_at(alloc, &net, &survey.places, view)? {
+    let made = graph_in(alloc, view, &net, &survey, name.as_slice(), None)?;
+    Ok(made)
+}
+
+/// The graph of a net under this name, at a moment where one is to be shown.
+pub(crate) fn graph_in(
+    alloc: Global,
+    view: View,
+    net: &Pieces,
+    survey: &Survey,
+    name: &[u8],
+    moment: Option<Moment<'_>>,
+) -> Result<Result<Text, NoDrawing>, AllocError>
+    requires wired { WellWired (wiring_in net.now) }
+    requires ends { EndsOf (wiring_in net.now) net.now.ends.items }
+    ensures { IfOk result (λ made. IfOk made (λ graph. IfSome graph IsWhole)) }
+{
+    match drawing_at(alloc, net, &survey.places, view)? {
         Ok(drawing) => {
             let scene = Scene {
-                net: &net,
-                survey: &survey,
+                net,
+                survey,
                 view,
                 drawing: &drawing,
+                moment,
             };
             let mut graph = Text::new(alloc);
-            put_graph(&mut graph, name.as_slice(), scene);
+            put_graph(&mut graph, name, scene);
             Ok(Ok(graph))
         }
         Err(why) => Ok(Err(why)),
@@ -115,8 +133,8 @@ fn drawing_at(
     Ok(Ok(drawing))
 }
 
-// Writes a graph, down to the last byte.
-fn write_out<W: Write>(output: &mut W, graph: &[u8]) -> Result<(), WriteFault>
+/// Writes a graph, down to the last byte.
+pub(crate) fn write_out<W: Write>(output: &mut W, graph: &[u8]) -> Result<(), WriteFault>
     ensures ok { OnOk result (Appends (W.contents output.old) (W.contents output.new) graph.now) }
     ensures err { OnErr result (AppendsSome (W.contents output.old) (W.contents output.new) graph.now) }
 {

@@ -27,3 +27,23 @@ impl fmt::Display for NoDrawing {
         }
     }
 }
+
+/// Why nothing is drawn of a net behind a line of a trace.
+#[derive(Clone, Copy, Debug, PartialEq, Eq)]
+pub enum NoMoment {
+    /// The trace has no such line, but so many.
+    NoLine { line: usize, lines: usize },
+    /// There is no such drawing.
+    Undrawn(NoDrawing),
+}
+
+impl fmt::Display for NoMoment {
+    fn fmt<W: fmt::Write>(&self, f: &mut fmt::Formatter<W>) -> fmt::Result {
+        match self {
+            NoMoment::NoLine { line, lines } => {
+                write!(f, "--line {line}: the trace has {lines} lines")
+            }
+            NoMoment::Undrawn(why) => write!(f, "{why}"),
+        }
+    }
+}

@@ -6,7 +6,7 @@
 ghost use Rattle.std.specs.Prelude.{IfSome};
 ghost use Rattle.bz_draw.specs.Drawing.{IsWhole};
 
-use crate::cells::{Cell, cell_of, is_wide};
+use crate::cells::{Cell, cell_of, is_hub, is_wide};
 use crate::drawing::{Edge, Tip};
 use crate::labels::{put_name, put_source};
 use crate::nodes::{put_nodes, put_place};
@@ -14,7 +14,7 @@ use crate::piece::Piece;
 use crate::view::{Scene, View};
 use bz_flat::FlatComp;
 use bz_kind_rows::{kind_word, port_at};
-use bz_model::{Chan, ChanKind, node_of};
+use bz_model::{Chan, ChanKind, Phase, Value, node_of, numbered};
 use bz_source::PathAt;
 use bz_text::Text;
 
@@ -33,16 +33,29 @@ const ENDS: &str = "\\nfilled dot: asks; open dot: answers";
 
 const VALUES: &str = "\\narrow: where the value goes; /8: its bits";
 
-/// How the edges of channels look that carry no value, and of those that push or pull one.
+const PHASES: &str =
+    "\\norange dashes: asked; blue: taken; green dots: replied; blue box: holds a request";
+
+/// How the ends of channels look that carry no value, and of those that push or pull one.
 const SYNC: &str = "arrowtail=dot, arrowhead=odot";
 
-const PUSH: &str =
-    "arrowtail=dot, arrowhead=odotnormal, color=\"#3c78c8\", fontcolor=\"#3c78c8\", penwidth=2, \
-labeldistance=2.3, labelangle=24";
+const PUSH: &str = "arrowtail=dot, arrowhead=odotnormal";
 
-const PULL: &str =
-    "arrowtail=dotnormal, arrowhead=odot, color=\"#b86018\", fontcolor=\"#b86018\", penwidth=2, \
-labeldistance=2.3, labelangle=24";
+const PULL: &str = "arrowtail=dotnormal, arrowhead=odot";
+
+/// The colours of those that push or pull a value, where no moment is shown, and where their labels are.
+const PUSHED: &str = ", color=\"#3c78c8\", fontcolor=\"#3c78c8\", penwidth=2";
+
+const PULLED: &str = ", color=\"#b86018\", fontcolor=\"#b86018\", penwidth=2";
+
+const FARTHER: &str = ", labeldistance=2.3, labelangle=24";
+
+/// The colours of channels that are not idle at the moment that is shown.
+const ASKED: &str = ", color=\"#c25e00\", fontcolor=\"#c25e00\", penwidth=3, style=dashed";
+
+const TAKEN: &str = ", color=\"#3c78c8\", fontcolor=\"#3c78c8\", penwidth=3";
+
+const REPLIED: &str = ", color=\"#00866a\", fontcolor=\"#00866a\", penwidth=3, style=dotted";
 
 /// Adds the graph of what is drawn of a net, under the name of its part.
 pub(crate) fn put_graph(text: &mut Text, name: &[u8], s: Scene<'_>)
@@ -83,6 +96,9 @@ fn put_head(text: &mut Text, name: &[u8], s: Scene<'_>) {
     if s.drawing.edges.iter().any(|edge| carries(s, edge)) {
         text.put(VALUES);
     }
+    if s.moment.is_some() {
+        text.put(PHASES);
+    }
     text.put("\";\n");
 }
 
@@ -100,6 +116,10 @@ fn put_title<'s>(text: &mut Text, name: Piece<'s>, s: Scene<'s>) {
         text.say(" what is at most % away", &[away]);
     } else {
         text.say("%: %, %", &[name, comps, chans]);
+    }
+    if let Some(moment) = s.moment {
+        let (line, lines) = (Piece::Number(moment.line), Piece::Number(moment.lines));
+        text.say(", line % of %", &[line, lines]);
     }
 }
 
@@ -157,21 +177,62 @@ fn put_edge(text: &mut Text, s: Scene<'_>, edge: &Edge) {
     text.put(" to ");
     put_end_word(text, s, to);
     put_source(text, s.survey.chan_source(edge.chan));
-    text.say("\", %=\"%", &[Piece::Text(label_word(from, to)), number]);
-    put_look(text, node_of(&s.net.chans, edge.chan));
+    let (chan, phase) = (node_of(&s.net.chans, edge.chan), s.phase(edge.chan));
+    // (what a label says that would lie over another one is in the tooltip)
+    if !is_covered(s, from, to) {
+        text.say("\", %=\"%", &[Piece::Text(label_word(from, to)), number]);
+    }
+    put_carried(text, chan, phase);
+    text.put("\", ");
+    put_look(text, chan, phase);
 }
 
-// The width of a channel, and how its edge looks.
-fn put_look(text: &mut Text, chan: Option<&Chan>) {
-    let (width, look) = match chan {
-        Some(chan) if chan.kind == ChanKind::Push => (Some(chan.width), PUSH),
-        Some(chan) if chan.kind == ChanKind::Pull => (Some(chan.width), PULL),
-        _ => (None, SYNC),
-    };
-    if let Some(width) = width {
-        text.say(" /%", &[Piece::Number(width as usize)]);
+// The width of a channel, and the value that is on it at the moment that is shown.
+fn put_carried(text: &mut Text, chan: Option<&Chan>, phase: Option<Phase>) {
+    match chan {
+        Some(chan) if chan.kind != ChanKind::Sync => {
+            text.say(" /%", &[Piece::Number(chan.width as usize)]);
+        }
+        _ => {}
     }
-    text.say("\", %];\n", &[Piece::Text(look)]);
+    if let Some(value) = value_on(phase) {
+        text.say(" = %", &[Piece::Value(value)]);
+    }
+}
+
+// How the edge of a channel looks.
+fn put_look(text: &mut Text, chan: Option<&Chan>, phase: Option<Phase>) {
+    let (ends, colour, place) = match chan {
+        Some(chan) if chan.kind == ChanKind::Push => (PUSH, PUSHED, FARTHER),
+        Some(chan) if chan.kind == ChanKind::Pull => (PULL, PULLED, FARTHER),
+        _ => (SYNC, "", ""),
+    };
+    let colour = match phase {
+        Some(phase) => colour_of(phase),
+        None => colour,
+    };
+    text.say(
+        "%%%];\n",
+        &[Piece::Text(ends), Piece::Text(colour), Piece::Text(place)],
+    );
+}
+
+// The value that is on a channel.
+fn value_on(phase: Option<Phase>) -> Option<Value> {
+    match phase {
+        Some(Phase::Asked(value)) | Some(Phase::Replied(value)) => value,
+        _ => None,
+    }
+}
+
+// The colour of a channel by what is on it.
+fn colour_of(phase: Phase) -> &'static str {
+    match phase {
+        Phase::Asked(_) => ASKED,
+        Phase::Taken => TAKEN,
+        Phase::Replied(_) => REPLIED,
+        Phase::Idle | Phase::Broken => "",
+    }
 }
 
 fn carries(s: Scene<'_>, edge: &Edge) -> bool {
@@ -220,6 +281,40 @@ fn label_word(from: End<'_>, to: End<'_>) -> &'static str {
         "headlabel"
     } else {
         "label"
+    }
+}
+
+// Whether the label of an edge may lie over another one: from ports that are next to each other at one component edges go to hubs,
+// and bend on their way.
+fn is_covered(s: Scene<'_>, from: End<'_>, to: End<'_>) -> bool {
+    match (from, to) {
+        (End::Comp(_, node, port), End::Comp(_, hub, _)) if is_hub(hub) => {
+            !is_wide(node)
+                && (goes_to_hub(s, node, port.saturating_sub(1))
+                    || goes_to_hub(s, node, port.saturating_add(1)))
+        }
+        _ => false,
+    }
+}
+
+// Whether a component asks a hub at a port.
+fn goes_to_hub(s: Scene<'_>, comp: &FlatComp, port: u32) -> bool {
+    let Some(chan) = numbered(comp.chans.as_slice(), port) else {
+        return false;
+    };
+    match s.net.ends.get((*chan as usize).wrapping_sub(1)) {
+        Some(ends) if is_active(comp, port) => match ends.passive {
+            Some(number) => node_of(&s.net.comps, number).is_some_and(|hub| is_hub(hub)),
+            None => false,
+        },
+        _ => false,
+    }
+}
+
+fn is_active(comp: &FlatComp, port: u32) -> bool {
+    match port_at(&comp.kind, comp.sizes, port) {
+        Some(at) => !at.row.passive,
+        None => false,
     }
 }
 

@@ -1,6 +1,7 @@
 //! The command `draw`: the net of a part as a graph in the DOT language, for Graphviz.
 #![tactic(auto)]
 
+mod behind;
 mod cells;
 mod command;
 mod drawing;
@@ -14,8 +15,9 @@ mod nodes;
 mod piece;
 mod view;
 
+pub use behind::draw_trace_cmd;
 pub use command::draw_cmd;
 pub use drawing::{Drawing, Edge, Tip, drawing_of};
-pub use fault::NoDrawing;
+pub use fault::{NoDrawing, NoMoment};
 pub use folding::Folding;
 pub use view::View;

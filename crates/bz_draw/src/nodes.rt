@@ -5,10 +5,13 @@ use crate::labels::{put_detail, put_name, put_source};
 use crate::piece::Piece;
 use crate::view::{Scene, View};
 use bz_flat::FlatComp;
-use bz_kind_rows::{PortAt, kind_word};
-use bz_model::node_of;
+use bz_kind_rows::{PortAt, kind_word, port_at};
+use bz_model::{Phase, node_of};
 use bz_source::PathAt;
 use bz_text::Text;
+
+/// What ends the node of a component that holds a request at the moment that is shown.
+const HOLDING: &str = "}\", fillcolor=\"#dcebf7\", color=\"#3c78c8\", penwidth=2];\n";
 
 /// Adds the nodes of the components and of the boxes, each copy's own before those of the instances in it. Of a part
 /// of a net the instances that have none of it are left out.
@@ -115,7 +118,27 @@ fn put_comp(text: &mut Text, s: Scene<'_>, number: u32, level: usize) {
         text.say("% %", &[place, kind]);
         put_detail(text, s, number, comp);
         put_cells(text, comp, false);
-        text.put("}\"];\n");
+        text.put(if holds_request(s, comp) {
+            HOLDING
+        } else {
+            "}\"];\n"
+        });
+    }
+}
+
+// Whether a component holds a request at the moment that is shown.
+fn holds_request(s: Scene<'_>, comp: &FlatComp) -> bool {
+    let mut ports = comp.chans.iter().enumerate();
+    ports.any(|(place, chan)| is_passive(comp, place)
+        && matches!(s.phase(*chan), Some(Phase::Taken)))
+}
+
+// Whether the port at a place, counted from 0, is passive.
+fn is_passive(comp: &FlatComp, place: usize) -> bool {
+    let port = u32::try_from(place).unwrap_or(u32::MAX).saturating_add(1);
+    match port_at(&comp.kind, comp.sizes, port) {
+        Some(at) => at.row.passive,
+        None => false,
     }
 }
 

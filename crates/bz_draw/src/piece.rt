@@ -1,6 +1,7 @@
 //! What stands for a mark in a form.
 
 use bz_kind_rows::PortAt;
+use bz_model::Value;
 use bz_source::PathAt;
 use bz_text::{Piece as Part, Put, Text};
 
@@ -19,6 +20,7 @@ pub(crate) enum Piece<'a> {
     Text(&'a str),
     Bytes(&'a [u8]),
     Number(usize),
+    Value(Value),
     /// A number of things, as `1 port` and `2 ports`.
     Count(usize, &'static str),
     /// A name in name form, as a label has it, cut where it is too long.
@@ -37,6 +39,7 @@ impl Put for Piece<'_> {
             Piece::Text(words) => text.put(words),
             Piece::Bytes(bytes) => text.put_bytes(bytes),
             Piece::Number(number) => text.put_pieces(&[Part::Number(number as u128)]),
+            Piece::Value(value) => text.put_pieces(&[Part::Number(value)]),
             Piece::Count(count, thing) => text.put_count(count, thing),
             Piece::Label(name) => put_label(text, name),
             Piece::Port(at) => put_port(text, at),

@@ -5,6 +5,8 @@
 
 use crate::drawing::Drawing;
 use bz_flat::Pieces;
+use bz_model::Phase;
+use bz_net::Core;
 use bz_source::Survey;
 
 /// Which part of a net is drawn.
@@ -27,11 +29,30 @@ impl View {
     }
 }
 
-/// The net that is drawn, where everything in it stands, and what is drawn of it.
+/// A net behind a line of a trace, which has so many.
+#[derive(Clone, Copy)]
+pub(crate) struct Moment<'a> {
+    pub net: &'a Core,
+    pub line: usize,
+    pub lines: usize,
+}
+
+/// The net that is drawn, where everything in it stands, what is drawn of it, and the moment that is shown, if one is.
 #[derive(Clone, Copy)]
 pub(crate) struct Scene<'a> {
     pub net: &'a Pieces,
     pub survey: &'a Survey,
     pub view: View,
     pub drawing: &'a Drawing,
+    pub moment: Option<Moment<'a>>,
+}
+
+impl Scene<'_> {
+    /// What is on a channel, where a moment is shown.
+    pub fn phase(self, chan: u32) -> Option<Phase> {
+        match self.moment {
+            Some(moment) => Some(moment.net.phase(chan)),
+            None => None,
+        }
+    }
 }

@@ -1,26 +1,58 @@
 //! The answer of a line.
 
 use crate::explored::Ending;
+use crate::object::{put_flag, put_number};
 use crate::table::{Form, words_of_commands};
+use crate::words::put_worded;
 use bz_explain_notes::nearest_name;
-use bz_net::Net;
+use bz_model::Entry;
 use bz_text::Text;
 use bz_trace_text::put_entries;
-use bz_view::{HALVES, MORE, Piece, gathered, put_left_out};
+use bz_view::{HALVES, MORE, Piece, Seen, gathered, put_left_out};
+use std::alloc::Global;
 
 /// What is told of a line, and how the session went up to it.
 #[derive(Drop)]
 pub(crate) struct Answer {
     pub text: Text,
+    /// The members of its object, where answers are objects.
+    pub members: Text,
+    pub is_object: bool,
+    /// Whether the line can't be followed.
+    pub is_fault: bool,
     /// The number of the line, where it is not typed at a prompt.
     pub line: Option<u64>,
     pub ending: Ending,
 }
 
 impl Answer {
+    /// An answer of nothing.
+    pub fn new(alloc: Global, is_object: bool) -> Answer {
+        Answer {
+            text: Text::new(alloc),
+            members: Text::new(alloc),
+            is_object,
+            is_fault: false,
+            line: None,
+            ending: Ending::Well,
+        }
+    }
+
+    /// Forgets what was told of the line before.
+    pub fn begin(&mut self) {
+        let alloc = self.text.alloc();
+        self.text = Text::new(alloc);
+        self.members = Text::new(alloc);
+        self.is_fault = false;
+    }
+
     /// Begins to tell why the line can't be followed.
     pub fn begin_error(&mut self) {
         self.ending = Ending::Bad;
+        self.is_fault = true;
+        if self.is_object {
+            return;
+        }
         self.text.put("error: ");
         if let Some(line) = self.line {
             self.text.say("line %: ", &[Piece::Wide(line.into())]);
@@ -31,6 +63,23 @@ impl Answer {
     pub fn complain(&mut self, form: &str, pieces: &[Piece<'_>]) {
         self.begin_error();
         self.text.say(form, pieces);
+    }
+
+    /// Tells that what was compared is as expected.
+    pub fn agree(&mut self) {
+        self.text.put("as expected\n");
+        if self.is_object {
+            put_flag("as_expected", true, &mut self.members);
+        }
+    }
+
+    /// Begins to tell that what was compared is not as expected.
+    pub fn differ(&mut self) {
+        self.ending = self.ending.or(Ending::Differed);
+        if self.is_object {
+            put_flag("as_expected", false, &mut self.members);
+            put_number("status", 1, &mut self.members);
+        }
     }
 
     /// Tells that a word doesn't fit a command of this form, and what it is instead.
@@ -60,11 +109,19 @@ pub(crate) fn add<T: Drop>(list: &mut Vec<T>, item: T, text: &mut Text) {
     }
 }
 
-/// Adds the lines of the entries behind the first `before`; of more than forty the first and the last twenty.
-pub(crate) fn put_added(net: &Net, before: usize, text: &mut Text) {
-    let entries = net.journal().get(before..).unwrap_or(&[]);
+/// Adds the lines of entries; of more than forty the first and the last twenty.
+pub(crate) fn put_added(seen: Seen<'_>, entries: &[Entry], is_worded: bool, text: &mut Text) {
     let (first, end) = HALVES.left_out(entries.len());
-    let _ = put_entries(text, net.names(), entries.get(..first).unwrap_or(&[]));
+    put_lines(seen, entries.get(..first).unwrap_or(&[]), is_worded, text);
     put_left_out(end.saturating_sub(first), MORE, text);
-    let _ = put_entries(text, net.names(), entries.get(end..).unwrap_or(&[]));
+    put_lines(seen, entries.get(end..).unwrap_or(&[]), is_worded, text);
+}
+
+// Adds the lines of entries, each move with its words behind it where they are asked for.
+fn put_lines(seen: Seen<'_>, entries: &[Entry], is_worded: bool, text: &mut Text) {
+    if is_worded {
+        put_worded(seen, entries, text);
+    } else {
+        let _ = put_entries(text, seen.net.names(), entries);
+    }
 }

@@ -1,10 +1,11 @@
 //! Lines as commands.
 //!
-//! `run:N` is no line, since it would begin at component 1 again. A run that fills the journal is answered as far as it went,
-//! and then that the journal is full.
+//! `run:N` is taken as `run N`, which goes on where the last run ended and doesn't begin at component 1 again. A run that fills
+//! the journal is answered as far as it went, and then that the journal is full.
 
 use crate::answer::Answer;
 use crate::table::Form;
+use bz_kind_rows::kind_names;
 use bz_view::Piece;
 use std::alloc::{AllocError, Global};
 
@@ -14,9 +15,13 @@ pub(crate) struct Call<'w> {
     pub form: Form,
     /// Whether a file is written over.
     pub over: bool,
-    /// The first word behind that of the command; of what the host does the one word that it is.
+    /// The kind that stands in front of a component's number.
+    pub kind: Option<&'w str>,
+    /// The first word behind those of the command and a kind; of what the host does the one word that it is.
     pub first: Option<&'w str>,
     pub second: Option<&'w str>,
+    /// All words behind those of the command.
+    pub rest: &'w [&'w str],
 }
 
 impl Call<'_> {
@@ -26,47 +31,113 @@ impl Call<'_> {
     }
 }
 
-/// The words of a line, up to a `#`.
+/// The words of a line, up to a `#`. A `run:N` is two of them.
 pub(crate) fn words_of<'l>(alloc: Global, line: &'l str) -> Result<Vec<&'l str>, AllocError> {
+    let mut words = Vec::new(alloc);
     let before = line.split('#').next().unwrap_or("");
-    before.split_whitespace().collect(alloc)
+    for (place, word) in before.split_whitespace().enumerate() {
+        let rest = match word.strip_prefix("run:") {
+            Some(count) if place == 0 && number(count).is_some() => {
+                words.push("run")?;
+                count
+            }
+            _ => word,
+        };
+        words.push(rest)?;
+    }
+    Ok(words)
 }
 
 /// The command that words ask for, if they ask for one; why they ask for none is told.
 pub(crate) fn call_of<'w>(
-    words: &[&'w str],
+    words: &'w [&'w str],
     typed: &[u8],
     answer: &mut Answer,
 ) -> Option<Call<'w>> {
     let [head, rest @ ..] = words else {
         return None;
     };
-    let (over, first, second) = (head.ends_with('!'), rest.first(), rest.get(1));
-    let (form, first) = match (Form::begun_by(head), Form::of_host(head)) {
-        (Some(form), _) if is_misfit(form, rest, answer) => return None,
-        (Some(form), _) => (form, first.copied()),
-        (None, Some(form)) if is_more(form, rest, answer) => return None,
-        (None, Some(form)) => (form, Some(*head)),
+    match (Form::begun_by(head), Form::of_host(head)) {
+        (Some(form), _) => command_of(form, head.ends_with('!'), rest, answer),
+        (None, Some(form)) => word_of(form, head, rest, answer),
         (None, None) => {
             answer.no_command(head, typed);
-            return None;
+            None
         }
+    }
+}
+
+// The call of a command, with the words behind its first one.
+fn command_of<'w>(
+    form: Form,
+    over: bool,
+    rest: &'w [&'w str],
+    answer: &mut Answer,
+) -> Option<Call<'w>> {
+    let form = form.followed_by(rest.first().copied());
+    let rest = match (form.second(), rest) {
+        (Some(_), [_, behind @ ..]) => behind,
+        _ => rest,
     };
+    let (kind, given) = kind_before(form, rest);
+    if is_misfit(form, given, answer) {
+        return None;
+    }
     Some(Call {
         form,
         over,
-        first,
-        second: second.copied(),
+        kind,
+        first: given.first().copied(),
+        second: given.get(1).copied(),
+        rest,
     })
 }
 
-// Whether words stand behind that of the host, which is one word; that is told.
-fn is_more(form: Form, words: &[&str], answer: &mut Answer) -> bool {
-    match words.first() {
-        Some(more) => answer.misfit(form, more, "too much"),
-        None => return false,
+// The call of what the host does, unless more words stand behind it.
+fn word_of<'w>(
+    form: Form,
+    head: &'w str,
+    rest: &'w [&'w str],
+    answer: &mut Answer,
+) -> Option<Call<'w>> {
+    if let Some(more) = rest.first() {
+        answer.misfit(form, more, "too much");
+        return None;
     }
-    true
+    Some(Call {
+        form,
+        over: false,
+        kind: None,
+        first: Some(head),
+        second: None,
+        rest,
+    })
+}
+
+// The kind that stands in front of a component's number, if one does, and the words behind it.
+fn kind_before<'w>(form: Form, words: &'w [&'w str]) -> (Option<&'w str>, &'w [&'w str]) {
+    match words {
+        [kind, behind @ ..] if form.takes_thing() && is_kind(kind) && has_number(behind) => {
+            (Some(*kind), behind)
+        }
+        _ => (None, words),
+    }
+}
+
+fn is_kind(word: &str) -> bool {
+    for (name, _) in kind_names() {
+        if name.strip_prefix("$Brz") == Some(word) {
+            return true;
+        }
+    }
+    false
+}
+
+fn has_number(words: &[&str]) -> bool {
+    match words.first() {
+        Some(word) => number(word).is_some(),
+        None => false,
+    }
 }
 
 // Whether the words behind that of a command aren't those that belong there, which is told.
@@ -84,8 +155,7 @@ fn is_misfit(form: Form, words: &[&str], answer: &mut Answer) -> bool {
             let pieces = [Piece::Text(form.0), Piece::Text(wanting)];
             answer.complain("%: % is missing\n", &pieces);
         }
-        // (a reply may be of two words)
-        (_, Some(more)) if form.word() != "expect" => answer.misfit(form, more, "too much"),
+        (_, Some(more)) if !form.takes_many() => answer.misfit(form, more, "too much"),
         _ => return lacks_number(form, words, answer),
     }
     true
@@ -94,13 +164,23 @@ fn is_misfit(form: Form, words: &[&str], answer: &mut Answer) -> bool {
 // Whether a word that stands for a number is none, which is told.
 fn lacks_number(form: Form, words: &[&str], answer: &mut Answer) -> bool {
     for (place, word) in words.iter().enumerate() {
-        let is_number = matches!(form.taken_at(place), Some("C" | "N" | "[P]" | "[N]"));
+        let is_number = match form.taken_at(place) {
+            Some("C") => chan_number(word).is_none(),
+            Some("[P]") => form.word() == "fire",
+            Some("N" | "[N]") => true,
+            _ => false,
+        };
         if is_number && number(word).is_none() {
             answer.misfit(form, word, "no number");
             return true;
         }
     }
     false
+}
+
+/// The number of a channel that a word is, as `k133`.
+pub(crate) fn chan_number(word: &str) -> Option<u64> {
+    number(word.strip_prefix('k')?)
 }
 
 /// The number that a word is.

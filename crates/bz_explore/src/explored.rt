@@ -12,7 +12,9 @@ ghost use Rattle.bz_cli_input.specs.Reading.{ReadsWithin};
 ghost use Rattle.bz_explore.specs.Statuses.{status_of};
 
 use crate::answer::Answer;
-use crate::session::Session;
+use crate::object::put_object;
+use crate::redoing::Redo;
+use crate::session::{Hand, Session};
 use bz_cli_input::{Fault, read_input};
 use bz_cli_source::survey_of;
 use bz_cli_trace::{TraceFault, run_of};
@@ -79,6 +81,16 @@ impl Ending {
     }
 }
 
+/// How answers are written.
+#[derive(Clone, Copy, Debug, PartialEq, Eq)]
+pub enum Manner {
+    /// Behind prompts, at a terminal.
+    Prompted,
+    Plain,
+    /// As an object of JSON for each line that is read.
+    Objects,
+}
+
 /// What else there is for which a session doesn't begin behind a trace: nothing.
 #[derive(Clone, Copy, Debug, PartialEq, Eq)]
 pub struct NoOther;
@@ -91,11 +103,11 @@ impl fmt::Display for NoOther {
 
 /// Opens the net of the part that is asked for by name, or else of the only one that no other uses, in the netlist that a reader
 /// gives, behind a trace where one is given, and follows the lines of another, each with its answer. At a prompt a greeting and
-/// prompts are written too, else a line that can't be followed is told by its number.
+/// prompts are written too, else a line that can't be followed is told by its number. Answers are written at once.
 pub fn explore_cmd<R: Read, T: Read, L: BufRead, W: Write, F: Files>(
     alloc: Global,
     asked: Option<&[u8]>,
-    prompts: bool,
+    manner: Manner,
     netlist: &mut R,
     trace: Option<&mut T>,
     lines: &mut L,
@@ -117,7 +129,7 @@ pub fn explore_cmd<R: Read, T: Read, L: BufRead, W: Write, F: Files>(
         None => None,
     };
     let text = text.as_slice();
-    match explore_text(alloc, asked, text, trace, prompts, lines, files, output) {
+    match explore_text(alloc, asked, text, trace, manner, lines, files, output) {
         Ok(ending) => Ok(ending),
         Err(fault) => Err(TraceFault::Command(fault)),
     }
@@ -146,7 +158,7 @@ fn explore_text<L: BufRead, W: Write, F: Files>(
     asked: Option<&[u8]>,
     text: &[u8],
     trace: Option<Vec<u8>>,
-    prompts: bool,
+    manner: Manner,
     lines: &mut L,
     files: &mut F,
     output: &mut W,
@@ -158,15 +170,18 @@ fn explore_text<L: BufRead, W: Write, F: Files>(
         survey: &survey,
         part: part.as_slice(),
         typed: Vec::new(alloc),
-        answer: Answer {
-            text: Text::new(alloc),
-            line: None,
-            ending: Ending::Well,
-        },
+        answer: Answer::new(alloc, manner == Manner::Objects),
+        hosts: Vec::new(alloc),
         reply: None,
         undone: 0,
+        redo: Redo::new(alloc),
+        hand: Hand {
+            is_numbered: manner == Manner::Prompted,
+            is_worded: manner == Manner::Prompted,
+            is_listed: false,
+        },
     };
-    play(prompts, &mut session, lines, files, output)
+    play(manner, &mut session, lines, files, output)
 }
 
 // The net at its opening, or behind a trace.
@@ -206,12 +221,13 @@ fn behind(alloc: Global, flat: Flat, trace: &[u8]) -> Result<Stepping, AllocErro
 
 // Follows the lines, behind a greeting at a prompt.
 fn play<L: BufRead, W: Write, F: Files>(
-    prompts: bool,
+    manner: Manner,
     session: &mut Session<'_>,
     lines: &mut L,
     files: &mut F,
     output: &mut W,
 ) -> Result<Ending, Fault> {
+    let prompts = manner == Manner::Prompted;
     if prompts {
         greet(
             session.part,
@@ -223,12 +239,26 @@ fn play<L: BufRead, W: Write, F: Files>(
     for number in 1..u64::MAX {
         session.answer.line = if prompts { None } else { Some(number) };
         let line = read_line(session.answer.text.alloc(), prompts, lines, output)?;
-        if line.is_empty() || !session.follows(files, line.as_slice()) {
+        if line.is_empty() {
             break;
         }
-        tell(output, session.answer.text.whole()?)?;
+        let goes_on = session.follows(files, line.as_slice());
+        tell_answer(output, &session.answer, number)?;
+        if !goes_on {
+            break;
+        }
     }
     Ok(session.answer.ending)
+}
+
+// Writes the answer of the line of this number.
+fn tell_answer<W: Write>(output: &mut W, answer: &Answer, number: u64) -> Result<(), Fault> {
+    if !answer.is_object {
+        return tell(output, answer.text.whole()?);
+    }
+    let mut object = Text::new(answer.text.alloc());
+    put_object(answer, number, &mut object);
+    tell(output, object.whole()?)
 }
 
 fn greet(part: &[u8], flat: &Flat, text: &mut Text) {

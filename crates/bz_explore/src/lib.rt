@@ -4,12 +4,22 @@
 mod answer;
 mod commands;
 mod explored;
+mod feeding;
+mod hosts;
 mod looking;
+mod object;
+mod passing;
+mod picking;
+mod redoing;
 mod refusals;
+mod running;
 mod saving;
 mod session;
 mod table;
+mod telling;
 mod things;
+mod totals;
+mod words;
 
-pub use explored::{Ending, Files, NoFile, NoOther, explore_cmd};
+pub use explored::{Ending, Files, Manner, NoFile, NoOther, explore_cmd};
 pub use saving::save;

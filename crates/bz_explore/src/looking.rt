@@ -2,8 +2,10 @@
 
 use crate::answer::Answer;
 use crate::commands::Call;
+use crate::object;
 use crate::saving::since_of;
 use crate::things::asked;
+use crate::totals::{put_counts, put_unmoved, put_values};
 use bz_explore_moves::put_moves;
 use bz_explore_net::{Stepping, busy_chans};
 use bz_flat::FlatComp;
@@ -28,13 +30,21 @@ clashes:";
 pub(crate) fn look(stepping: &Stepping, survey: &Survey, call: Call<'_>, answer: &mut Answer) {
     let seen = Seen::of(stepping.net().core(), survey);
     match (call.form.word(), call.first) {
+        ("moves", _) if answer.is_object => {
+            object::put_moves(stepping, seen, &mut answer.members);
+        }
         ("moves", _) => put_moves(stepping, survey, &mut answer.text),
+        ("values", _) => put_values(stepping, seen, &mut answer.text),
+        ("counts", _) if call.form.second().is_some() => {
+            put_unmoved(stepping, seen, &mut answer.text);
+        }
+        ("counts", _) => put_counts(stepping, seen, call.number(), &mut answer.text),
         ("waits", None) => put_waits(seen, &mut answer.text),
         ("waits", Some("since")) => put_first(stepping, survey, &mut answer.text),
         ("waits", Some("all")) => put_all_waits(seen, &mut answer.text),
         (_, None) => put_totals(stepping, seen, &mut answer.text),
-        (command, Some(word)) => {
-            for thing in &asked(seen, call.form, word, answer) {
+        (command, Some(_)) => {
+            for thing in &asked(seen, call, answer) {
                 put_thing(stepping, seen, command == "waits", *thing, &mut answer.text);
             }
         }

@@ -1,6 +1,6 @@
 //! Why the net doesn't follow a line.
 
-use bz_model::{HostCmd, Names, NetError, Value, low_bits};
+use bz_model::{Chan, HostCmd, Names, NetError, Value, low_bits};
 use bz_text::Text;
 use bz_view::{Piece, Seen, chan_at, port_count, port_of};
 use std::io::Write;
@@ -34,21 +34,25 @@ pub(crate) fn put_refusal(seen: Seen<'_>, error: NetError, cmd: &HostCmd, text: 
             &[verb, name, Piece::Text(chan.kind.word())],
         ),
         NetError::TooLarge => {
-            let value = Piece::Wide(cmd.value.unwrap_or(0));
-            let bits = Piece::Count(chan.width as usize, "bit");
-            let greatest = Piece::Wide(low_bits(Value::MAX, chan.width));
-            text.say(
-                "% is too large: port % has %, and the greatest value is %",
-                &[value, name, bits, greatest],
-            );
+            put_too_large(cmd.value.unwrap_or(0), cmd.port.as_slice(), chan, text);
         }
         _ => {}
     }
     text.put("\n");
 }
 
-// No port has the name; the ports that there are.
-fn put_unknown(names: &Names, name: &[u8], text: &mut Text) {
+/// Adds that a value is too large for the port of this name.
+pub(crate) fn put_too_large(value: Value, name: &[u8], chan: Chan, text: &mut Text) {
+    let bits = Piece::Count(chan.width as usize, "bit");
+    let greatest = Piece::Wide(low_bits(Value::MAX, chan.width));
+    text.say(
+        "% is too large: port % has %, and the greatest value is %",
+        &[Piece::Wide(value), Piece::Typed(name), bits, greatest],
+    );
+}
+
+/// Adds that no port has the name, and the ports that there are.
+pub(crate) fn put_unknown(names: &Names, name: &[u8], text: &mut Text) {
     text.say("no port is called %; the ports are", &[Piece::Called(name)]);
     for port in names.ports().iter().take(MOST_PORTS) {
         text.say(" %", &[Piece::Called(port.name.as_slice())]);

@@ -125,14 +125,35 @@ pub(crate) fn put_undone(stepping: &Stepping, left: usize, count: usize, text: &
     let mut upto = entries_of(stepping, left);
     let marks = stepping.marks().get(..left).unwrap_or(&[]);
     for mark in marks.iter().rev().take(count) {
-        let command = match mark.command.as_slice() {
-            [] => Piece::Text("--trace"),
-            command => Piece::Bytes(command),
-        };
-        let lines = Piece::Count(upto.saturating_sub(mark.entries), "line");
-        text.say("undone: % (%)\n", &[command, lines]);
+        let lines = upto.saturating_sub(mark.entries);
+        put_command_lines("undone", mark.command.as_slice(), lines, text);
         upto = mark.entries;
     }
+}
+
+/// Adds the first `count` of the commands behind the first `left`, which are no more to be taken back.
+pub(crate) fn put_redone(stepping: &Stepping, left: usize, count: usize, text: &mut Text) {
+    let marks = stepping.marks().get(left..).unwrap_or(&[]);
+    for (place, mark) in marks.iter().enumerate().take(count) {
+        let upto = entries_of(stepping, left.saturating_add(place).saturating_add(1));
+        let lines = upto.saturating_sub(mark.entries);
+        put_command_lines("redone", mark.command.as_slice(), lines, text);
+    }
+}
+
+/// Adds what was done with a command, and how many lines it has added.
+pub(crate) fn put_command_lines<'x>(
+    deed: &'x str,
+    command: &'x [u8],
+    lines: usize,
+    text: &mut Text,
+) {
+    let command = match command {
+        [] => Piece::Text("--trace"),
+        command => Piece::Bytes(command),
+    };
+    let lines = Piece::Count(lines, "line");
+    text.say("%: % (%)\n", &[Piece::Text(deed), command, lines]);
 }
 
 // How many entries the journal has once so many commands are left.
@@ -159,10 +180,40 @@ fn put_command(names: &Names, mark: &Mark, added: &[Entry], text: &mut Text) {
         }
         return;
     }
+    if is_written_out(mark.command.as_slice(), added) {
+        put_runs(names, added, text);
+        return;
+    }
     text.put_bytes(mark.command.as_slice());
     text.put("\n");
     if let Some(Entry::Host { reply, .. }) = added.first() {
         let _ = writeln!(text, "expect {reply}");
+    }
+}
+
+// Whether a command is a run in which hosts that stood by went on, or one to something that may have a name.
+fn is_written_out(command: &[u8], added: &[Entry]) -> bool {
+    let has_words = added
+        .iter()
+        .any(|entry| matches!(entry, Entry::Host { .. }));
+    command.starts_with(b"run to ") || command == b"run".as_slice() && has_words
+}
+
+// The lines of such a command: runs, and the words between them.
+fn put_runs(names: &Names, added: &[Entry], text: &mut Text) {
+    let mut fired = 0;
+    for entry in added {
+        match entry {
+            Entry::Fired { .. } => fired = usize::saturating_add(fired, 1),
+            Entry::Rested { .. } => {
+                text.put("run\n");
+                fired = 0;
+            }
+            Entry::Host { .. } => put_entry(names, entry, text),
+        }
+    }
+    if fired > 0 {
+        text.say("run %\n", &[Piece::Number(fired)]);
     }
 }
 

@@ -1,14 +1,23 @@
 //! A session: a net that is played line by line.
 
-use crate::answer::{Answer, put_added};
+use crate::answer::Answer;
 use crate::commands::{Call, call_of, number, words_of};
-use crate::explored::{Ending, Files, NoFile};
+use crate::explored::{Files, NoFile};
+use crate::feeding::{drain, feed};
+use crate::hosts::{StandBy, forget, put_hosts};
 use crate::looking::look;
+use crate::passing::{expect_passed, tell_passed};
+use crate::picking::{Picked, cmd_of, move_picked, picked_at, put_numbered, word_picked};
+use crate::redoing::Redo;
 use crate::refusals::{put_refusal, put_stuck};
-use crate::saving::{MOST_COMPS, put_script, put_trace_page, put_undone, save, save_text};
+use crate::running::{Goal, RanTo, run_up_to, things_asked};
+use crate::saving::{
+    MOST_COMPS, put_redone, put_script, put_trace_page, put_undone, save, save_text,
+};
 use crate::table::{Form, put_help};
+use crate::telling::{put_fired, put_played, put_said, put_stop};
 use crate::things::place_asked;
-use bz_explore_net::Stepping;
+use bz_explore_net::{HostOffer, Stepping};
 use bz_model::{Cmd, HostCmd, NetError, Reply};
 use bz_net::RunEnd;
 use bz_page::TooLarge;
@@ -16,8 +25,12 @@ use bz_source::Survey;
 use bz_text::Text;
 use bz_view::{Piece, Seen, count_lines, gathered};
 use std::io::Write;
+use std::mem;
 
 const NO_REPLY: &str = "there is no reply to compare: the last command was none of the host's\n";
+
+const NOT_LISTED: &str =
+    "a number is that of a line of `moves`, as long as nothing has moved since\n";
 
 const FULL: &str = "N7 JournalFull: the trace holds % lines; `undo` makes room\n";
 
@@ -31,16 +44,32 @@ pub(crate) struct Session<'s> {
     /// The words of the line, with a blank between.
     pub typed: Vec<u8>,
     pub answer: Answer,
+    /// The hosts that stand by, in the order of their ports.
+    pub hosts: Vec<StandBy>,
     /// What the host was told last, where nothing was played since.
     pub reply: Option<Reply>,
     /// How many of the last commands are undone. The net goes back only where it is looked at again.
     pub undone: usize,
+    pub redo: Redo,
+    /// What a hand at a terminal is shown besides.
+    pub hand: Hand,
+}
+
+/// What a hand at a terminal is shown besides.
+#[derive(Clone, Copy)]
+pub(crate) struct Hand {
+    /// Whether `moves` numbers its lines, so that a number can be typed.
+    pub is_numbered: bool,
+    /// Whether each move that is played has its words behind it.
+    pub is_worded: bool,
+    /// Whether the lines of `moves` are those of the net as it is.
+    pub is_listed: bool,
 }
 
 impl<'s> Session<'s> {
     /// Follows a line, so that its answer is told; whether the session goes on.
     pub fn follows<F: Files>(&mut self, files: &mut F, line: &[u8]) -> bool {
-        self.answer.text = Text::new(self.answer.text.alloc());
+        self.answer.begin();
         match str::from_utf8(line) {
             Ok(line) => self.follows_words(files, line),
             Err(_) => {
@@ -55,29 +84,90 @@ impl<'s> Session<'s> {
         let words = gathered(words_of(alloc, line), &mut self.answer.text);
         let typed = words.as_slice().join(alloc, " ").map(String::into_bytes);
         self.typed = gathered(typed, &mut self.answer.text);
+        let first = number(words.first().copied().unwrap_or(""));
+        if let (true, Some(number)) = (self.hand.is_numbered, first) {
+            self.pick(number, words.get(1).copied());
+            return true;
+        }
         match call_of(words.as_slice(), self.typed.as_slice(), &mut self.answer) {
             Some(call) => self.follow(files, call),
             None => true,
         }
     }
 
+    // Makes what has this number among the lines of `moves`, which are those of the net as it is; a value may stand behind it.
+    fn pick(&mut self, number: u64, given: Option<&str>) {
+        if !self.hand.is_listed {
+            self.answer.complain(NOT_LISTED, &[]);
+            return;
+        }
+        match picked_at(self.answer.text.alloc(), &*self.stepping, number) {
+            Ok(Some(Picked::Move(_))) if given.is_some() => {
+                let given = Piece::Shown(given.unwrap_or("").as_bytes());
+                self.answer
+                    .complain("`%` is too much: a move has its value\n", &[given]);
+            }
+            Ok(Some(Picked::Move(offer))) => {
+                self.typed = move_picked(offer, &mut self.answer.text);
+                self.fire_at(offer.comp, Some(offer.port));
+            }
+            Ok(Some(Picked::Word(offer))) => self.pick_word(offer, given),
+            Ok(None) => self
+                .answer
+                .complain("`moves` has no line %\n", &[Piece::Wide(number.into())]),
+            Err(_) => self.answer.text.lose(),
+        }
+    }
+
+    fn pick_word(&mut self, offer: HostOffer, given: Option<&str>) {
+        let seen = Seen::of(self.stepping.net().core(), self.survey);
+        self.typed = word_picked(seen, offer, given, &mut self.answer.text);
+        match cmd_of(self.answer.text.alloc(), self.typed.as_slice()) {
+            Ok(Some(Cmd::Host(cmd))) => self.host(&cmd),
+            Ok(_) => {
+                let given = Piece::Shown(given.unwrap_or("").as_bytes());
+                self.answer.complain("`%` is no value\n", &[given]);
+            }
+            Err(_) => self.answer.text.lose(),
+        }
+    }
+
+    // Adds the moves behind their numbers, by which they can be made as long as nothing else has moved.
+    fn list_moves(&mut self, call: Call<'_>) {
+        let mut lines = Text::new(self.answer.text.alloc());
+        mem::swap(&mut self.answer.text, &mut lines);
+        look(&*self.stepping, self.survey, call, &mut self.answer);
+        mem::swap(&mut self.answer.text, &mut lines);
+        put_numbered(&lines, &mut self.answer.text);
+        self.hand.is_listed = true;
+    }
+
     // Does what a line asks for; whether the session goes on.
     fn follow<F: Files>(&mut self, files: &mut F, call: Call<'_>) -> bool {
         let word = call.form.word();
-        if !matches!(word, "help" | "undo" | "quit") {
+        if !matches!(word, "help" | "undo" | "redo" | "quit") {
             self.go_back();
         }
         match word {
             "fire" => self.fire(call),
-            "run" => self.run(false, call.number().unwrap_or(u64::MAX)),
-            "random" => self.run(true, call.number().unwrap_or(0)),
+            "run" => self.run(call),
+            "random" => self.random(call.number().unwrap_or(0)),
             "seed" => self.seed(call.number().unwrap_or(0)),
+            "feed" | "drain" | "hosts" => self.stand_by(call),
+            "passed" => tell_passed(self.stepping.net(), self.survey, call, &mut self.answer),
+            "expect" if call.form.second().is_some() => {
+                expect_passed(self.stepping.net(), call, &mut self.answer);
+            }
             "expect" => self.expect(),
+            "say" => put_said(self.typed.as_slice(), &mut self.answer.text),
             "undo" => self.undo(call.number().unwrap_or(1)),
+            "redo" => self.redo(),
+            "names" => self.word_moves(call),
             "trace" | "session" => self.write(files, call),
             "page" => self.page(files, call),
             "help" => self.help(call.first),
-            "moves" | "waits" | "state" => {
+            "moves" if self.hand.is_numbered => self.list_moves(call),
+            "moves" | "waits" | "state" | "values" | "counts" => {
                 look(&*self.stepping, self.survey, call, &mut self.answer);
             }
             "quit" => {}
@@ -89,8 +179,12 @@ impl<'s> Session<'s> {
     // Takes back in the net what is undone: of several commands in a row it is played but once again.
     fn go_back(&mut self) {
         let (alloc, undone) = (self.answer.text.alloc(), self.undone);
-        if undone > 0 && self.stepping.undo(alloc, undone).is_err() {
-            self.answer.text.lose();
+        if undone > 0 {
+            self.redo
+                .keep(&*self.stepping, undone, &mut self.answer.text);
+            if self.stepping.undo(alloc, undone).is_err() {
+                self.answer.text.lose();
+            }
         }
         self.undone = 0;
     }
@@ -116,7 +210,10 @@ impl<'s> Session<'s> {
         let before = self.entries();
         let (alloc, typed) = (self.answer.text.alloc(), self.typed.as_slice());
         match self.stepping.command(alloc, typed, cmd) {
-            Ok(reply) => self.played(before, Some(reply)),
+            Ok(reply) => {
+                forget(self.hosts.as_mut_slice(), before);
+                self.played(before, Some(reply));
+            }
             Err(error) => {
                 if !self.is_spent(error) {
                     self.answer.begin_error();
@@ -129,11 +226,7 @@ impl<'s> Session<'s> {
 
     fn fire(&mut self, call: Call<'_>) {
         let seen = Seen::of(self.stepping.net().core(), self.survey);
-        let (comp, port) = (
-            call.number().unwrap_or(0),
-            number(call.second.unwrap_or("")),
-        );
-        match place_asked(seen, comp, port, &mut self.answer) {
+        match place_asked(seen, call, &mut self.answer) {
             Some((comp, port)) => self.fire_at(comp, port),
             None => {}
         }
@@ -143,7 +236,10 @@ impl<'s> Session<'s> {
         let before = self.entries();
         let (alloc, typed) = (self.answer.text.alloc(), self.typed.as_slice());
         match self.stepping.fire(alloc, typed, comp, port) {
-            Ok(()) => self.played(before, None),
+            Ok(()) => {
+                forget(self.hosts.as_mut_slice(), before);
+                self.played(before, None);
+            }
             Err(error) => {
                 if !self.is_spent(error) {
                     self.answer.begin_error();
@@ -154,23 +250,63 @@ impl<'s> Session<'s> {
         }
     }
 
-    // Fires up to `count` times, by chance or in turn, and adds what was fired and how it ended.
-    fn run(&mut self, by_chance: bool, count: u64) {
+    // Fires in turn: up to a number of times, or until something has moved, or to rest and on with hosts that stand by.
+    fn run(&mut self, call: Call<'_>) {
+        let things = match call.form.second() {
+            Some(_) => things_asked(self, call),
+            None => Vec::new(self.answer.text.alloc()),
+        };
+        let count = match call.form.second() {
+            Some(_) if things.is_empty() => return,
+            Some(_) => call.second,
+            None => call.first,
+        };
+        let goal = Goal {
+            things: things.as_slice(),
+            most: number(count.unwrap_or("")).unwrap_or(u64::MAX),
+            is_served: count.is_none(),
+        };
+        self.run_up_to(goal);
+    }
+
+    fn run_up_to(&mut self, goal: Goal<'_>) {
+        let before = self.entries();
+        let (fired, end) = run_up_to(
+            &mut *self.stepping,
+            self.hosts.as_mut_slice(),
+            goal,
+            self.typed.as_slice(),
+            &mut self.answer,
+        );
+        self.played(before, None);
+        match end {
+            RanTo::End => {
+                let seen = Seen::of(self.stepping.net().core(), self.survey);
+                put_fired(seen, fired, &mut self.answer);
+            }
+            RanTo::Thing(thing) => {
+                let seen = Seen::of(self.stepping.net().core(), self.survey);
+                put_stop(seen, fired, thing, &mut self.answer);
+            }
+            RanTo::Refused(error) => {
+                self.is_spent(error);
+            }
+        }
+    }
+
+    // Fires up to `count` times by chance.
+    fn random(&mut self, count: u64) {
         let before = self.entries();
         let (alloc, typed) = (self.answer.text.alloc(), self.typed.as_slice());
-        let end = if by_chance {
-            self.stepping.random(alloc, typed, count)
-        } else {
-            self.stepping.run(alloc, typed, count)
-        };
+        let end = self.stepping.random(alloc, typed, count);
+        if self.entries() > before {
+            forget(self.hosts.as_mut_slice(), before);
+        }
         self.played(before, None);
         match end {
             Ok(RunEnd::Rest(fired) | RunEnd::Spent(fired)) => {
-                let form = match self.stepping.net().next_ready(1) {
-                    None => "% fired, at rest\n",
-                    Some(_) => "% fired, not at rest\n",
-                };
-                self.answer.text.say(form, &[Piece::Wide(fired.into())]);
+                let seen = Seen::of(self.stepping.net().core(), self.survey);
+                put_fired(seen, fired, &mut self.answer);
             }
             Ok(RunEnd::Refused(_, error)) => {
                 self.is_spent(error);
@@ -179,10 +315,32 @@ impl<'s> Session<'s> {
         }
     }
 
+    // Lets a host stand by at a port, or leave it, or tells of all that stand by.
+    fn stand_by(&mut self, call: Call<'_>) {
+        let entries = self.entries();
+        match call.form.word() {
+            "feed" => feed(self.stepping.net(), &mut self.hosts, call, &mut self.answer),
+            "drain" => drain(self.stepping.net(), &mut self.hosts, call, &mut self.answer),
+            _ => put_hosts(self.hosts.as_slice(), entries, &mut self.answer),
+        }
+    }
+
     // Adds what was played behind the first `before` entries, of which the host was told this.
     fn played(&mut self, before: usize, reply: Option<Reply>) {
         self.reply = reply;
-        put_added(self.stepping.net(), before, &mut self.answer.text);
+        if self.entries() > before {
+            self.redo.forget();
+            self.hand.is_listed = false;
+        }
+        let is_worded = self.hand.is_worded;
+        put_played(
+            &*self.stepping,
+            self.survey,
+            before,
+            reply,
+            is_worded,
+            &mut self.answer,
+        );
     }
 
     // Whether there is no memory for an entry, or no room in the journal, which is told.
@@ -216,7 +374,38 @@ impl<'s> Session<'s> {
         let count = count as usize;
         put_undone(&*self.stepping, left, count, &mut self.answer.text);
         self.undone = self.undone.saturating_add(count);
+        self.redo.note(count, &mut self.answer.text);
         self.reply = None;
+        self.hand.is_listed = false;
+    }
+
+    // Makes what the last `undo` took back again.
+    fn redo(&mut self) {
+        let Some(count) = self.redo.take_count() else {
+            self.answer.complain("there is nothing to redo\n", &[]);
+            return;
+        };
+        self.reply = None;
+        self.hand.is_listed = false;
+        if self.undone >= count {
+            let left = self.stepping.marks().len().saturating_sub(self.undone);
+            put_redone(&*self.stepping, left, count, &mut self.answer.text);
+            self.undone -= count;
+        } else {
+            self.go_back();
+            self.redo.make(&mut *self.stepping, count, &mut self.answer);
+        }
+    }
+
+    // Says whether each move that is played has its words behind it.
+    fn word_moves(&mut self, call: Call<'_>) {
+        match call.first {
+            Some("on") => self.hand.is_worded = true,
+            Some("off") => self.hand.is_worded = false,
+            word => self
+                .answer
+                .misfit(call.form, word.unwrap_or(""), "neither on nor off"),
+        }
     }
 
     // Compares the reply with the one that is typed behind `expect`.
@@ -227,9 +416,9 @@ impl<'s> Session<'s> {
         };
         let wanted = self.typed.get(b"expect ".len()..).unwrap_or(&[]);
         match format!(in self.answer.text.alloc(); "{reply}") {
-            Ok(had) if had.as_bytes() == wanted => self.answer.text.put("as expected\n"),
+            Ok(had) if had.as_bytes() == wanted => self.answer.agree(),
             Ok(had) => {
-                self.answer.ending = self.answer.ending.or(Ending::Differed);
+                self.answer.differ();
                 let pieces = [Piece::Shown(wanted), Piece::Text(had.as_str())];
                 self.answer
                     .text

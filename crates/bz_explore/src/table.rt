@@ -8,7 +8,8 @@ use std::alloc::{AllocError, Global};
 const COMMANDS: &str = "\
 moves             what can come next: the moves of components, and the host's words that would be done
 fire C [P]        make the move of component C at port P; without P at its lowest port that can
-run [N]           fire up to N times, going on where the last run ended; without N until rest
+run [N]           fire up to N times, going on where the last run ended; without N until rest, and on with hosts that stand by
+run to THING [N]  the same until something has moved at a component, on a channel or at a port THING, N times at most
 random N          fire N moves picked by the seed
 seed N            begin the picking anew
 offer:P[:V]       begin a handshake at a port P declared passive, with a value V at a push port
@@ -17,21 +18,33 @@ accept:P          take the request at a port P declared active, with its value a
 answer:P[:V]      reply to it, with a value V at a pull port
 watch:P           read the phase of a port P
 expect REPLY      compare the host's last reply; a difference makes the status 1
+feed P [V..]      let a host stand by at a port P that gives these values, A..B from A to B; without any let it leave
+drain P [N]       let a host stand by at a port P that takes what comes, N times or always
+hosts             the hosts that stand by
+passed [P]        the values that passed at each port, or at a port P
+expect passed P [V..]  compare them; a difference makes the status 1
 waits [C]         why nothing moves: what is stuck, what has halted, and where the host is waited for; what C hangs on
 waits all         who holds each channel that is not idle, and for whom each component waits
 waits since       the first line of the trace behind which something can never move again
 state [C]         how far it is; of component C its place, its ports and what is due there
+values            what each variable keeps, and the values that are on channels
+counts [N]        how many handshakes have ended on channels, the N with the most first, and how many components never moved
+counts never      the components that have never moved
+names on|off      write what each move is in words behind its line, or leave it
 undo [N]          take back the last N commands that moved something; without N one
+redo              make again what the last undo took back, until something else has moved
 trace[!] FILE     write the trace so far; only with the `!` over a file that is there
 page[!] FILE      write a page on which the trace so far plays in a browser, with who waits for whom at its end
 session[!] FILE   write the commands that stand, each host word with its reply to `expect`
+say TEXT          answer TEXT
 help [COMMAND]    the list of commands, or one of them; also `?`
 quit              leave, as the end of the input does; also `exit` and `q`
 ";
 
 /// What is told behind them all.
 const BEHIND: &str = "\
-C is a component's number; of `waits` and `state` also a name of the source, or FILE:LINE or FILE:LINE:COLUMN
+C is a component's number, also behind its kind, or a channel's behind a `k`: `12`, `Fetch 12`, `k133`; of `waits` and `state`
+also a name of the source, or FILE:LINE or FILE:LINE:COLUMN; THING is any of these, or a port
 # begins a comment
 ";
 
@@ -50,6 +63,33 @@ impl Form {
             }
         }
         None
+    }
+
+    /// The form of this word whose second word stands behind it, as in `run to`, else this form.
+    pub fn followed_by(self, second: Option<&str>) -> Form {
+        let second = second.unwrap_or("");
+        for line in COMMANDS.lines() {
+            let form = form_of(line);
+            if form.word() == self.word() && form.second() == Some(second) {
+                return form;
+            }
+        }
+        self
+    }
+
+    /// The second word of the command, where it has one: that of a form which takes more than one word behind it.
+    pub fn second(self) -> Option<&'static str> {
+        let word = self.0.split(' ').nth(1)?;
+        if matches!(word, "to" | "passed" | "never") {
+            Some(word)
+        } else {
+            None
+        }
+    }
+
+    // How many words are its own.
+    fn own(self) -> usize {
+        if self.second().is_some() { 2 } else { 1 }
     }
 
     /// That of the host's word which stands in front of a colon.
@@ -77,12 +117,22 @@ impl Form {
 
     /// How many words can stand behind its own.
     pub fn most(self) -> usize {
-        self.0.split_whitespace().skip(1).count()
+        self.0.split_whitespace().skip(self.own()).count()
     }
 
-    /// What belongs at a place behind its word, in brackets where it may be left out.
+    /// What belongs at a place behind its own words, in brackets where it may be left out.
     pub fn taken_at(self, place: usize) -> Option<&'static str> {
-        self.0.split_whitespace().skip(1).nth(place)
+        self.0.split_whitespace().skip(self.own()).nth(place)
+    }
+
+    /// Whether as many words may stand behind its own as one likes: a reply may be of two.
+    pub fn takes_many(self) -> bool {
+        matches!(self.0.split(' ').last(), Some("REPLY" | "[V..]" | "TEXT"))
+    }
+
+    /// Whether what comes first behind its own words is a component or a channel.
+    pub fn takes_thing(self) -> bool {
+        matches!(self.taken_at(0), Some("C" | "[C]" | "THING"))
     }
 }
 

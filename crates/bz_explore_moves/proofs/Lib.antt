@@ -1,1 +1,2 @@
 mod Offered
+mod Wanted

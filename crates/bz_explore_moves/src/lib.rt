@@ -1,5 +1,5 @@
-//! What `moves` writes of a net that is played by hand: the moves that components can make, and the words of the host that would
-//! be answered.
+//! What `moves` and `passed` write of a net that is played by hand: the moves that components can make, the words of the host
+//! that would be answered, and the values that passed at ports.
 //!
 //! This is a crate of its own so that its wrong bodies are tried without the many functions of `bz_explore` that have no
 //! contract. It takes `put_pieces` and not `say`: the text of an array of pieces is known at the call, without a lemma for
@@ -7,5 +7,7 @@
 #![tactic(auto)]
 
 mod moves;
+mod passed;
 
 pub use moves::put_moves;
+pub use passed::{first_other, passed_at, put_came, put_passed};

@@ -19,7 +19,7 @@ use crate::chance::run_by_chance;
 use crate::picker::Picker;
 use crate::replaying::replay;
 use bz_flat::Flat;
-use bz_model::{Entry, HostCmd, NetError, Reply, Who};
+use bz_model::{Entry, HostCmd, NetError, Reply, Value, Verb, Who};
 use bz_net::{Answer, Event, Net, RunEnd};
 use std::alloc::{AllocError, Global};
 use std::marker::Model;
@@ -243,6 +243,35 @@ impl Stepping {
         Ok(end)
     }
 
+    /// Fires up to `fuel` times more, as a part of the last command: it leaves no mark of its own.
+    pub fn run_on(&mut self, fuel: u64) -> RunEnd
+        ensures ran { Ran self.old.net self.new.net (who.Worker 1) self.old.next fuel result }
+        ensures next { self.new.next ≡ goes_on self.old.next (added self.old self.new) }
+        ensures marks { self.new.marks ≡ self.old.marks }
+        ensures picker { self.new.picker ≡ self.old.picker }
+    {
+        let before = self.net.journal().len();
+        let ran = self.net.run(WORKER, self.next, fuel);
+        self.next = goes_on(self.next, &self.net.journal()[before..]);
+        ran
+    }
+
+    /// Makes a command of the host, as a part of the last command: it leaves no mark of its own.
+    pub fn command_on(&mut self, cmd: &HostCmd) -> Result<Reply, NetError>
+        ensures replies { IfOk result (Replies self.old.net self.new.net (who.Host 1) cmd.now.verb cmd.now.port.items cmd.now.value) }
+        ensures marks { self.new.marks ≡ self.old.marks }
+        ensures next { self.new.next ≡ self.old.next }
+        ensures picker { self.new.picker ≡ self.old.picker }
+        ensures cause { IfErr result (RefusesCommand self.old.net cmd.now.verb cmd.now.port.items cmd.now.value) }
+        ensures err { OnErr result (self.new ≡ self.old) }
+    {
+        match self.net.serve(HOST, Event::Host(cmd)) {
+            Ok(Answer::Host(reply)) => Ok(reply),
+            Ok(_) => unreachable!(),
+            Err(error) => Err(error),
+        }
+    }
+
     /// Fires a component at a port, or at the lowest at which it can move.
     pub fn fire(
         &mut self,
@@ -296,6 +325,42 @@ impl Stepping {
         Ok(reply)
     }
 
+    /// Begins a command whose events are yet to come.
+    pub fn begin(&mut self, alloc: Global, command: &[u8]) -> Result<(), AllocError>
+        ensures marked { OnOk result (IsMarked self.old command.now self.new) }
+        ensures net { self.new.net ≡ self.old.net }
+        ensures next { self.new.next ≡ self.old.next }
+        ensures picker { self.new.picker ≡ self.old.picker }
+        ensures err { OnErr result (self.new ≡ self.old) }
+    {
+        let begun = self.mark(alloc, command)?;
+        self.marks.reserve(1)?;
+        self.marks.push(begun).unwrap();
+        Ok(())
+    }
+
+    /// Makes the event of an entry, as a part of the last command, and answers the entry that it gave.
+    pub fn repeat_on(&mut self, entry: Entry) -> Result<Entry, NetError>
+        ensures adds { IfOk result (λ made. Adds self.old.net made self.new.net) }
+        ensures marks { self.new.marks ≡ self.old.marks }
+        ensures next { self.new.next ≡ self.old.next }
+        ensures picker { self.new.picker ≡ self.old.picker }
+        ensures err { OnErr result (self.new ≡ self.old) }
+    {
+        make(&mut self.net, entry)
+    }
+
+    /// Lets the next run and the picking go on from elsewhere.
+    pub fn go_on_from(&mut self, from: u32, picking: Picker)
+        ensures net { self.new.net ≡ self.old.net }
+        ensures marks { self.new.marks ≡ self.old.marks }
+        ensures next { self.new.next ≡ from }
+        ensures picker { self.new.picker ≡ picking }
+    {
+        self.next = from;
+        self.picker = picking;
+    }
+
     /// Begins the picking anew.
     pub fn seed(&mut self, seed: u64)
         ensures net { self.new.net ≡ self.old.net }
@@ -328,6 +393,53 @@ impl Stepping {
         }
         Ok(end)
     }
+}
+
+// Makes the event of an entry, and answers the entry that it gave.
+fn make(net: &mut Net, entry: Entry) -> Result<Entry, NetError>
+    ensures adds { IfOk result (λ made. Adds net.old made net.new) }
+    ensures err { OnErr result (net.new ≡ net.old) }
+{
+    match entry {
+        Entry::Fired {
+            who,
+            comp,
+            port,
+            ..
+        } => net.fire_move(who, comp, port),
+        Entry::Host {
+            who,
+            verb,
+            port,
+            value,
+            ..
+        } => make_word(net, who, verb, port, value),
+        Entry::Rested { who } => net.step(who, 1),
+    }
+}
+
+// Makes a word of the host at an external port, if there is one of this number.
+fn make_word(
+    net: &mut Net,
+    who: Who,
+    verb: Verb,
+    port: u32,
+    value: Option<Value>,
+) -> Result<Entry, NetError>
+    ensures adds { IfOk result (λ entry. Adds net.old entry net.new) }
+    ensures err { OnErr result (net.new ≡ net.old) }
+{
+    if port == 0 || port as usize > net.names().ports().len() {
+        return Err(NetError::UnknownPort);
+    }
+    let reply = net.host_at(who, verb, port, value)?;
+    Ok(Entry::Host {
+        who,
+        verb,
+        port,
+        value,
+        reply,
+    })
 }
 
 // From which component on a run looks next, after these entries of one that looked from `from` on.

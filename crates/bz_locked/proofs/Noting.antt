@@ -1,20 +1,24 @@
--- What a call on the locked value did leads on to what is seen after it, and is told of that.
-use Rattle.std.proofs.Common.{◌≡◌, ℕ, ◌+◌, ◌<◌, Bool, true, List, length, refl, sym, ◌∙◌, subst, inl, inr, Option, Some, None, arith, Result, Ok, Err}
+-- What a call on the locked value did leads on, by an entry of its owner or by none, and is told of that moment.
+use Rattle.std.proofs.Common.{true≢false, false, ◌⊎◌, ◌≡◌, ℕ, ◌+◌, ◌<◌, Bool, true, List, length, refl, sym, ap, ◌∙◌, subst, inl, inr, Option, Some, None, arith, Result, Ok, Err}
 use Rattle.std.specs.Prelude.{IfOk, IfErr, OnOk, OnErr, MatchOption, MatchResult}
 use Rattle.bz_model.specs.declared.event.Who.{Who}
+use Rattle.bz_model.specs.declared.event.Who.TheVariants as who
 use Rattle.bz_model.specs.declared.event.Reply.{Reply}
 use Rattle.bz_model.specs.declared.event.HostCmd.{HostCmd}
 use Rattle.bz_model.specs.declared.event.Entry.{Entry}
 use Rattle.bz_model.specs.declared.event.Entry.TheVariants.{Fired as FiredAt, Host, Rested}
 use Rattle.bz_model.specs.declared.event.NetError.{NetError}
 use Rattle.bz_model.specs.declared.event.NetError.TheVariants as neterr
+use Rattle.bz_model.specs.Names.{External}
 use Rattle.bz_net.specs.declared.event.RestReply.{RestReply}
 use Rattle.bz_net.specs.declared.event.RestReply.TheVariants as rest
 use Rattle.bz_net.specs.Simulation.{Simulation, Adds}
 use Rattle.bz_net.specs.Replies.{IsLowestFiring, RefusesEntry}
 use Rattle.bz_past.specs.Moments.{moment, Leads}
+use Rattle.bz_past.specs.Owners.{who_of, is_host, LeadsBy, LeadsWithout, MayMake}
+use Rattle.bz_past.specs.Stopping.{IsRefused}
 use Rattle.bz_past.specs.declared.view.Moment.{Moment}
-use Rattle.bz_past.proofs.Leading.{here}
+use Rattle.bz_past.proofs.Leading.{here, onward}
 use Rattle.bz_model.specs.Runs.{Rest}
 use Rattle.bz_locked.specs.declared.standing.Standing.{Standing}
 use Rattle.bz_locked.specs.declared.locked.FireError.{FireError}
@@ -25,62 +29,57 @@ use Rattle.bz_locked.specs.declared.locked.Polled.{Polled}
 use Rattle.bz_locked.specs.declared.locked.Polled.TheVariants as told
 use Rattle.bz_locked.specs.Terms.{Terms}
 use Rattle.bz_locked.specs.Commands.{IsEntryOf}
+use Rattle.bz_locked.specs.Making.{MadeNone, MadeOne, MadeTold}
 use Rattle.bz_locked.specs.Waking.{FiresFor, Wakes}
-use Rattle.bz_locked.specs.Working.{IsHeld, Once, HasFired, IsTurn, MustWait, PollIs, RefusesRest, TellsFirst, WasAdded, WasFirst, WorkIs, stops}
-use Rattle.bz_locked.proofs.Seeing.{known, leads_added, leads_same, once}
+use Rattle.bz_locked.specs.Working.{IsHeld, During, HasFired, IsTurn, MatchRest, MustWait, PollIs, RefusesFiring, RefusesRest, TellsFirst, WasAdded, WasFirst, WorkIs, stops}
+use Rattle.bz_locked.proofs.Making.{made_none, made_one}
+use Rattle.bz_locked.proofs.Seeing.{by_added, by_none, during, known}
 
 -- what the keeper knew leads on, where what lay there does
-pub from_keeper : (now : Moment) (old : Simulation) (a : Bool) (m : Moment) → now.net ≡ old → now.stopped ≡ a → Leads (moment old a) m → Leads now m
-from_keeper now old a m n s leads = subst (λ x. Leads x m) (known now old a n s) leads
+pub from_keeper : (P : Moment → Type 0) (now : Moment) (old : Simulation) (a : Bool) → now.net ≡ old → now.stopped ≡ a → P (moment old a) → P now
+from_keeper P now old a n s is = subst P (known now old a n s) is
+
+pub to_keeper : (P : Moment → Type 0) (now : Moment) (old : Simulation) (a : Bool) → now.net ≡ old → now.stopped ≡ a → P now → P (moment old a)
+to_keeper P now old a n s is = subst P (sym (known now old a n s)) is
+
+-- what the owner had seen has led to what it sees
+pub seen_on : (v w : Who) (had now n saw : Moment) → LeadsWithout v had now → LeadsBy w now n → saw ≡ n → Leads had saw
+seen_on v w had now n saw led by is = subst (λ m. Leads had m) (sym is) (onward had now n led.0 by.0)
+
+-- whose entry it is
+pub entry_of : (ports : List External) (w : Who) (cmd : HostCmd) (reply : Reply) (entry : Entry) → IsEntryOf ports w cmd reply entry → who_of entry ≡ w
+entry_of ports w cmd reply entry is = ap who_of is.entry_is
+
+-- a command of a host
+may_command : (ports : List External) (w : Who) (cmd : HostCmd) (reply : Reply) (entry : Entry) → is_host w ≡ true → IsEntryOf ports w cmd reply entry → MayMake w entry
+may_command ports w cmd reply entry host is = subst (MayMake w) (sym is.entry_is) host
+
+may_fire : (net : Simulation) (w : Who) (c : ℕ) (entry : Entry) → IsLowestFiring net w c entry → MayMake w entry
+may_fire net w c (FiredAt v d p k mv value) is = tt
+may_fire net w c (Host v verb port value reply) is = absurd is
+may_fire net w c (Rested v) is = absurd is
+
+firing_of : (net : Simulation) (w : Who) (c : ℕ) (entry : Entry) → IsLowestFiring net w c entry → who_of entry ≡ w
+firing_of net w c (FiredAt v d p k mv value) is = is.0
+firing_of net w c (Host v verb port value reply) is = absurd is
+firing_of net w c (Rested v) is = absurd is
 
 -- a command that was carried out at once
-pub host_leads : (old new : Simulation) (a b : Bool) (r : Result (Entry × Reply × ℕ) NetError) → b ≡ a → IfOk r (λ x. Adds old x.0 new) → OnErr r (new ≡ old) → Leads (moment old a) (moment new b)
-host_leads old new a b (Ok x) same adds err = leads_added old new x.0 a b adds same
-host_leads old new a b (Err e) same adds err = leads_same old new a b err (λ h. same ∙ h)
-
-pub host_added : (t : Terms) (saw : Moment) (old new : Simulation) (fuel : ℕ) (a b : Bool) (standings : List Standing) (r : Result (Entry × Reply × ℕ) NetError) → IsHeld t old fuel standings → b ≡ a → saw ≡ moment new b
-    → IfOk r (λ x. Adds old x.0 new) → IfOk r (λ x. x.2 ≡ length new.journal) → IfOk r (λ x. WasAdded t saw x.0 x.2)
-host_added t saw old new fuel a b standings (Ok x) held same is adds len =
-    subst (λ m. WasAdded t m x.0 x.2) (sym is)
-    (once t (moment new b) _ old fuel a standings held (leads_added old new x.0 a b adds same) (new, adds, subst (λ s. Leads (moment new s) (moment new b)) same (here (moment new b)), len))
-host_added t saw old new fuel a b standings (Err e) held same is adds len = tt
-
--- why it was refused
-pub refused_so : {A E : Type 0} (t : Terms) (saw : Moment) (old new : Simulation) (fuel : ℕ) (a b : Bool) (standings : List Standing) (Refuses : Simulation → ℕ → E → Type 0) (r : Result A E) → IsHeld t old fuel standings → saw ≡ moment new b
-    → Leads (moment old a) (moment new b) → IfErr r (Refuses old fuel) → IfErr r (λ e. Once t saw (λ net fuel stopped standings. Refuses net fuel e))
-refused_so t saw old new fuel a b standings Refuses (Ok x) held is leads cause = tt
-refused_so t saw old new fuel a b standings Refuses (Err e) held is leads cause =
-    subst (λ m. Once t m (λ net fuel stopped standings. Refuses net fuel e)) (sym is) (once t (moment new b) (λ net fuel stopped standings. Refuses net fuel e) old fuel a standings held leads cause)
+pub host_by : (ports : List External) (who : Who) (cmd : HostCmd) (old new : Simulation) (a b : Bool) (r : Result (Entry × Reply × ℕ) NetError) → is_host who ≡ true → b ≡ a → IfOk r (λ x. IsEntryOf ports who cmd x.1 x.0) → IfOk r (λ x. Adds old x.0 new) → OnErr r (new ≡ old) → LeadsBy who (moment old a) (moment new b)
+host_by ports who cmd old new a b (Ok x) host same entry adds err = by_added who old new x.0 a b adds same (entry_of ports who cmd x.1 x.0 entry) (may_command ports who cmd x.1 x.0 host entry)
+host_by ports who cmd old new a b (Err e) host same entry adds err = by_none who old new a b err (λ h. same ∙ h)
 
 -- what a waiting session was told
-polled_leads : (old new : Simulation) (fuel : ℕ) (a b : Bool) (standings : List Standing) (who : Who) (cmd : HostCmd) (p : Polled) → b ≡ a → PollIs old new fuel a standings who cmd p → Leads (moment old a) (moment new b)
-polled_leads old new fuel a b standings who cmd (told.Answered entry reply len) same is = leads_added old new entry a b is.2 same
-polled_leads old new fuel a b standings who cmd told.Resting same is = leads_same old new a b is.1 (λ h. same ∙ h)
-polled_leads old new fuel a b standings who cmd told.Spent same is = leads_same old new a b is.1 (λ h. same ∙ h)
-polled_leads old new fuel a b standings who cmd told.Stopped same is = leads_same old new a b is.1 (λ h. same ∙ h)
-polled_leads old new fuel a b standings who cmd told.Wait same is = leads_same old new a b is.1 (λ h. same ∙ h)
+polled_by : (old new : Simulation) (fuel : ℕ) (a b : Bool) (standings : List Standing) (who : Who) (cmd : HostCmd) (p : Polled) → is_host who ≡ true → b ≡ a → PollIs old new fuel a standings who cmd p → LeadsBy who (moment old a) (moment new b)
+polled_by old new fuel a b standings who cmd (told.Answered entry reply len) host same is = by_added who old new entry a b is.2 same (entry_of old.wiring.ports who cmd reply entry is.1) (may_command old.wiring.ports who cmd reply entry host is.1)
+polled_by old new fuel a b standings who cmd told.Resting host same is = by_none who old new a b is.1 (λ h. same ∙ h)
+polled_by old new fuel a b standings who cmd told.Spent host same is = by_none who old new a b is.1 (λ h. same ∙ h)
+polled_by old new fuel a b standings who cmd told.Stopped host same is = by_none who old new a b is.1 (λ h. same ∙ h)
+polled_by old new fuel a b standings who cmd told.Wait host same is = by_none who old new a b is.1 (λ h. same ∙ h)
 
-pub turn_leads : (old new : Simulation) (fuel : ℕ) (a b : Bool) (standings : List Standing) (who : Who) (cmd : HostCmd) (r : Result Polled NetError) → b ≡ a → IfOk r (PollIs old new fuel a standings who cmd) → OnErr r (new ≡ old) → Leads (moment old a) (moment new b)
-turn_leads old new fuel a b standings who cmd (Ok p) same ok err = polled_leads old new fuel a b standings who cmd p same ok
-turn_leads old new fuel a b standings who cmd (Err e) same ok err = leads_same old new a b err (λ h. same ∙ h)
-
-polled_told : (t : Terms) (old new : Simulation) (fuel : ℕ) (a b : Bool) (standings : List Standing) (who : Who) (cmd : HostCmd) (p : Polled) → IsHeld t old fuel standings → b ≡ a → PollIs old new fuel a standings who cmd p → IsTurn t (moment new b) who cmd p
-polled_told t old new fuel a b standings who cmd (told.Answered entry reply len) held same is =
-    let entry_is : IsEntryOf t.wiring.ports who cmd reply entry = subst (λ w. IsEntryOf w.ports who cmd reply entry) held.wiring is.1 in
-    inr (is.0, entry_is, once t (moment new b) _ old fuel a standings held (leads_added old new entry a b is.2 same) (new, is.2, subst (λ s. Leads (moment new s) (moment new b)) same (here (moment new b)), is.3))
-polled_told t old new fuel a b standings who cmd told.Resting held same is =
-    inr (once t (moment new b) _ old fuel a standings held (leads_same old new a b is.1 (λ h. same ∙ h)) (is.0, is.2))
-polled_told t old new fuel a b standings who cmd told.Spent held same is =
-    inr (once t (moment new b) _ old fuel a standings held (leads_same old new a b is.1 (λ h. same ∙ h)) (is.0, is.2))
-polled_told t old new fuel a b standings who cmd told.Stopped held same is =
-    inr (once t (moment new b) _ old fuel a standings held (leads_same old new a b is.1 (λ h. same ∙ h)) (is.0, is.2))
-polled_told t old new fuel a b standings who cmd told.Wait held same is =
-    inl (refl, once t (moment new b) _ old fuel a standings held (leads_same old new a b is.1 (λ h. same ∙ h)) (is.0, is.2))
-
-pub turn_told : (t : Terms) (saw : Moment) (old new : Simulation) (fuel : ℕ) (a b : Bool) (standings : List Standing) (who : Who) (cmd : HostCmd) (r : Result Polled NetError) → IsHeld t old fuel standings → b ≡ a → saw ≡ moment new b
-    → IfOk r (PollIs old new fuel a standings who cmd) → IfOk r (IsTurn t saw who cmd)
-turn_told t saw old new fuel a b standings who cmd (Ok p) held same is ok = subst (λ m. IsTurn t m who cmd p) (sym is) (polled_told t old new fuel a b standings who cmd p held same ok)
-turn_told t saw old new fuel a b standings who cmd (Err e) held same is ok = tt
+pub turn_by : (old new : Simulation) (fuel : ℕ) (a b : Bool) (standings : List Standing) (who : Who) (cmd : HostCmd) (r : Result Polled NetError) → is_host who ≡ true → b ≡ a → IfOk r (PollIs old new fuel a standings who cmd) → OnErr r (new ≡ old) → LeadsBy who (moment old a) (moment new b)
+turn_by old new fuel a b standings who cmd (Ok p) host same ok err = polled_by old new fuel a b standings who cmd p host same ok
+turn_by old new fuel a b standings who cmd (Err e) host same ok err = by_none who old new a b err (λ h. same ∙ h)
 
 -- a firing
 stops_on : (a b : Bool) (e : FireError) → b ≡ stops a e → a ≡ true → b ≡ true
@@ -94,9 +93,38 @@ stops_on a b (refused.Net neterr.TooLarge) is h = is
 stops_on a b (refused.Net neterr.JournalFull) is h = is
 stops_on a b (refused.Net neterr.Memory) is h = is
 
-pub fire_leads : (X : Type 0) (old new : Simulation) (a b : Bool) (r : Result (Fired × ℕ) FireError) → IfOk r (λ f. Adds old f.0.entry new) → OnErr r ((new ≡ old) × X) → MatchResult r (λ f. b ≡ a) (λ e. b ≡ stops a e) → Leads (moment old a) (moment new b)
-fire_leads X old new a b (Ok f) adds err stop = leads_added old new f.0.entry a b adds stop
-fire_leads X old new a b (Err e) adds err stop = leads_same old new a b err.0 (stops_on a b e stop)
+-- what is refused to a worker
+refused_one : (v : Who) (old : Simulation) (e : NetError) → is_host v ≡ false → RefusesEntry old e → IsRefused v old
+refused_one (who.Host k) old e hand refuses = absurd (true≢false hand)
+refused_one (who.Worker k) old e hand refuses = (e, refuses)
+
+-- Why all is stopped after a call of a worker, by what the keeper knew before it.
+module _ (now : Moment) (w v : Who) (old : Simulation) (a b : Bool) where
+  refused_to : (e : NetError) → is_host v ≡ false → w ≡ v → now.net ≡ old → RefusesEntry old e → (now.stopped ≡ true) ⊎ IsRefused w now.net
+  refused_to e hand same is refuses = inr (subst (λ u. IsRefused u now.net) (sym same) (subst (IsRefused v) (sym is) (refused_one v old e hand refuses)))
+
+  firing_why : (fuel c : ℕ) → is_host v ≡ false → w ≡ v → now.net ≡ old → now.stopped ≡ a → (e : FireError) → b ≡ stops a e → RefusesFiring old fuel c e → b ≡ true → (now.stopped ≡ true) ⊎ IsRefused w now.net
+  firing_why fuel c hand same is stop refused.Spent then cause s = inl (stop ∙ sym then ∙ s)
+  firing_why fuel c hand same is stop (refused.Net neterr.NotEnabled) then cause s = inl (stop ∙ sym then ∙ s)
+  firing_why fuel c hand same is stop (refused.Net neterr.UnknownPort) then cause s = absurd cause.1
+  firing_why fuel c hand same is stop (refused.Net neterr.WrongSide) then cause s = absurd cause.1
+  firing_why fuel c hand same is stop (refused.Net neterr.ValueMissing) then cause s = absurd cause.1
+  firing_why fuel c hand same is stop (refused.Net neterr.ValueUnwanted) then cause s = absurd cause.1
+  firing_why fuel c hand same is stop (refused.Net neterr.TooLarge) then cause s = absurd cause.1
+  firing_why fuel c hand same is stop (refused.Net neterr.JournalFull) then cause s = refused_to neterr.JournalFull hand same is cause.1.1
+  firing_why fuel c hand same is stop (refused.Net neterr.Memory) then cause s = refused_to neterr.Memory hand same is cause.1.1
+
+  pub fire_why : (fuel c : ℕ) → is_host v ≡ false → w ≡ v → now.net ≡ old → now.stopped ≡ a → (r : Result (Fired × ℕ) FireError) → MatchResult r (λ f. b ≡ a) (λ e. b ≡ stops a e) → IfErr r (RefusesFiring old fuel c) → b ≡ true → (now.stopped ≡ true) ⊎ IsRefused w now.net
+  fire_why fuel c hand same is stop (Ok f) then cause s = inl (stop ∙ sym then ∙ s)
+  fire_why fuel c hand same is stop (Err e) then cause s = firing_why fuel c hand same is stop e then cause s
+
+  pub first_why : is_host v ≡ false → w ≡ v → now.net ≡ old → now.stopped ≡ a → (r : Result (RestReply × ℕ) NetError) → OnOk r (b ≡ a) → IfErr r (RefusesEntry old) → b ≡ true → (now.stopped ≡ true) ⊎ IsRefused w now.net
+  first_why hand same is stop (Ok x) then cause s = inl (stop ∙ sym then ∙ s)
+  first_why hand same is stop (Err e) then cause s = refused_to e hand same is cause
+
+pub fire_by : (X : Type 0) (old new : Simulation) (a b : Bool) (who : Who) (c : ℕ) (r : Result (Fired × ℕ) FireError) → IfOk r (λ f. IsLowestFiring old who c f.0.entry) → IfOk r (λ f. Adds old f.0.entry new) → OnErr r ((new ≡ old) × X) → MatchResult r (λ f. b ≡ a) (λ e. b ≡ stops a e) → LeadsBy who (moment old a) (moment new b)
+fire_by X old new a b who c (Ok f) lowest adds err stop = by_added who old new f.0.entry a b adds stop (firing_of old who c f.0.entry lowest) (may_fire old who c f.0.entry lowest)
+fire_by X old new a b who c (Err e) lowest adds err stop = by_none who old new a b err.0 (stops_on a b e stop)
 
 -- the entry of a firing tells its worker and its component
 fires_for : (net : Simulation) (who : Who) (c : ℕ) (entry : Entry) → IsLowestFiring net who c entry → FiresFor who c entry
@@ -104,46 +132,109 @@ fires_for net who c (FiredAt w d p k mv value) is = (is.0, is.1)
 fires_for net who c (Host w verb port value reply) is = absurd is
 fires_for net who c (Rested w) is = absurd is
 
-pub fire_told : (t : Terms) (saw : Moment) (old new : Simulation) (fuel left : ℕ) (a b : Bool) (standings : List Standing) (who : Who) (c : ℕ) (r : Result (Fired × ℕ) FireError) → IsHeld t old fuel standings → saw ≡ moment new b
-    → IfOk r (λ f. IsLowestFiring old who c f.0.entry) → IfOk r (λ f. Adds old f.0.entry new) → IfOk r (λ f. Wakes new f.0.entry f.0.wake) → IfOk r (λ f. f.1 ≡ length new.journal)
-    → OnOk r (left + 1 ≡ fuel) → MatchResult r (λ f. b ≡ a) (λ e. b ≡ stops a e) → IfOk r (λ f. FiresFor who c f.0.entry × HasFired t saw who c f.0.entry f.0.wake f.1)
-fire_told t saw old new fuel left a b standings who c (Ok f) held is lowest adds wake len spent stop =
-    let had : 0 < fuel = omega arith in (
-      fires_for old who c f.0.entry lowest,
-      subst (λ m. HasFired t m who c f.0.entry f.0.wake f.1) (sym is)
-          (once t (moment new b) _ old fuel a standings held (leads_added old new f.0.entry a b adds stop) (had, lowest, (new, adds, wake, subst (λ s. Leads (moment new s) (moment new b)) stop (here (moment new b)), len))),
-    )
-fire_told t saw old new fuel left a b standings who c (Err e) held is lowest adds wake len spent stop = tt
-
 -- the next component, or rest
-first_on : (old new : Simulation) (a b : Bool) (who : Who) (from : ℕ) (x : RestReply) → b ≡ a → TellsFirst old new who from x → Leads (moment old a) (moment new b)
-first_on old new a b who from rest.Rest same is = leads_added old new (Rested who) a b is same
-first_on old new a b who from (rest.Ready c) same is = leads_same old new a b is.1 (λ h. same ∙ h)
+first_on : (old new : Simulation) (a b : Bool) (who : Who) (from : ℕ) (x : RestReply) → b ≡ a → TellsFirst old new who from x → LeadsBy who (moment old a) (moment new b)
+first_on old new a b who from rest.Rest same is = by_added who old new (Rested who) a b is same refl tt
+first_on old new a b who from (rest.Ready c) same is = by_none who old new a b is.1 (λ h. same ∙ h)
 
-pub first_leads : (old new : Simulation) (a b : Bool) (who : Who) (from : ℕ) (r : Result (RestReply × ℕ) NetError) → IfOk r (λ x. TellsFirst old new who from x.0) → OnErr r ((new ≡ old) × (b ≡ true)) → OnOk r (b ≡ a) → Leads (moment old a) (moment new b)
-first_leads old new a b who from (Ok x) ok err same = first_on old new a b who from x.0 same ok
-first_leads old new a b who from (Err e) ok err same = leads_same old new a b err.0 (λ h. err.1)
+pub first_by : (old new : Simulation) (a b : Bool) (who : Who) (from : ℕ) (r : Result (RestReply × ℕ) NetError) → IfOk r (λ x. TellsFirst old new who from x.0) → OnErr r ((new ≡ old) × (b ≡ true)) → OnOk r (b ≡ a) → LeadsBy who (moment old a) (moment new b)
+first_by old new a b who from (Ok x) ok err same = first_on old new a b who from x.0 same ok
+first_by old new a b who from (Err e) ok err same = by_none who old new a b err.0 (λ h. err.1)
 
-pub first_told : (t : Terms) (saw : Moment) (old new : Simulation) (fuel : ℕ) (a b : Bool) (standings : List Standing) (who : Who) (from : ℕ) (r : Result (RestReply × ℕ) NetError) → IsHeld t old fuel standings → saw ≡ moment new b
-    → IfOk r (λ x. TellsFirst old new who from x.0) → IfOk r (λ x. x.1 ≡ length new.journal) → OnOk r (b ≡ a) → IfOk r (λ x. WasFirst t saw who from x.0 x.1)
-first_told t saw old new fuel a b standings who from (Ok x) held is ok len same =
-    subst (λ m. WasFirst t m who from x.0 x.1) (sym is)
-    (once t (moment new b) _ old fuel a standings held (first_on old new a b who from x.0 same ok) (new, ok, subst (λ s. Leads (moment new s) (moment new b)) same (here (moment new b)), len))
-first_told t saw old new fuel a b standings who from (Err e) held is ok len same = tt
+-- Below lie the net and whether all was stopped, before a call and after it, with the fuel and the standings before it. Who called
+-- had seen `had`, and sees what comes of the call.
+module _ (t : Terms) (who : Who) (had saw : Moment) (old new : Simulation) (fuel : ℕ) (a b : Bool) (standings : List Standing) (held : IsHeld t old fuel standings) (led : LeadsWithout who had (moment old a)) (is : saw ≡ moment new b) where
+  -- what held before the call
+  was : (P : Simulation → ℕ → Bool → List Standing → Type 0) → LeadsBy who (moment old a) (moment new b) → P old fuel a standings → During t had saw P
+  was P by fact = during t had saw P old fuel a standings held led.0 (subst (λ m. Leads (moment old a) m) (sym is) by.0) fact
 
-pub rest_refused : (t : Terms) (saw : Moment) (old new : Simulation) (fuel : ℕ) (a b : Bool) (standings : List Standing) (r : Result (RestReply × ℕ) NetError) → IsHeld t old fuel standings → saw ≡ moment new b → Leads (moment old a) (moment new b)
-    → OnErr r (Rest old.wiring.sites old.state) → IfErr r (RefusesEntry old) → IfErr r (λ e. Once t saw (λ net fuel stopped standings. RefusesRest net e))
-rest_refused t saw old new fuel a b standings (Ok x) held is leads resting cause = tt
-rest_refused t saw old new fuel a b standings (Err e) held is leads resting cause =
-    subst (λ m. Once t m (λ net fuel stopped standings. RefusesRest net e)) (sym is) (once t (moment new b) (λ net fuel stopped standings. RefusesRest net e) old fuel a standings held leads (resting, cause))
+  reaches : b ≡ a → Leads (moment new a) saw
+  reaches same = subst (λ m. Leads (moment new a) m) (sym is) (subst (λ s. Leads (moment new s) (moment new b)) same (here (moment new b)))
 
--- what a waiting worker was told
-pub work_told : (t : Terms) (saw : Moment) (net : Simulation) (fuel : ℕ) (stopped : Bool) (standings : List Standing) (r : Option Work) → IsHeld t net fuel standings → saw ≡ moment net stopped
-    → MatchOption r (MustWait net fuel stopped standings) (WorkIs net fuel stopped standings)
-    → MatchOption r (Once t saw (λ net fuel stopped standings. MustWait net fuel stopped standings)) (λ work. Once t saw (λ net fuel stopped standings. WorkIs net fuel stopped standings work))
-work_told t saw net fuel stopped standings None held is told =
-    subst (λ m. Once t m (λ net fuel stopped standings. MustWait net fuel stopped standings)) (sym is)
-    (once t (moment net stopped) (λ net fuel stopped standings. MustWait net fuel stopped standings) net fuel stopped standings held (here (moment net stopped)) told)
-work_told t saw net fuel stopped standings (Some work) held is told =
-    subst (λ m. Once t m (λ net fuel stopped standings. WorkIs net fuel stopped standings work)) (sym is)
-    (once t (moment net stopped) (λ net fuel stopped standings. WorkIs net fuel stopped standings work) net fuel stopped standings held (here (moment net stopped)) told)
+  one_entry : (e : Entry) (len : ℕ) → Adds old e new → who_of e ≡ who → len ≡ length new.journal → MadeOne who e len had saw
+  one_entry e len adds of long = subst (MadeOne who e len had) (sym is) (made_one who e len had (moment old a) (moment new b) led adds.journal of long)
+
+  no_entry : new ≡ old → MadeNone who had saw
+  no_entry same = subst (MadeNone who had) (sym is) (made_none who had (moment old a) (moment new b) led (ap (λ (n : Simulation). n.journal) same))
+
+  -- why it was refused
+  pub refused_so : {A E : Type 0} (Refuses : Simulation → ℕ → E → Type 0) (r : Result A E) → LeadsBy who (moment old a) (moment new b) → IfErr r (Refuses old fuel) → IfErr r (λ e. During t had saw (λ net fuel stopped standings. Refuses net fuel e))
+  refused_so Refuses (Ok x) by cause = tt
+  refused_so Refuses (Err e) by cause = was (λ net fuel stopped standings. Refuses net fuel e) by cause
+
+  -- a command that was carried out at once
+  pub host_added : (ports : List External) (cmd : HostCmd) (r : Result (Entry × Reply × ℕ) NetError) → is_host who ≡ true → b ≡ a → IfOk r (λ x. IsEntryOf ports who cmd x.1 x.0) → IfOk r (λ x. Adds old x.0 new) → IfOk r (λ x. x.2 ≡ length new.journal) → IfOk r (λ x. WasAdded t had saw x.0 x.2)
+  host_added ports cmd (Ok x) host same entry adds len = was _ (by_added who old new x.0 a b adds same (entry_of ports who cmd x.1 x.0 entry) (may_command ports who cmd x.1 x.0 host entry)) (new, adds, reaches same, len)
+  host_added ports cmd (Err e) host same entry adds len = tt
+
+  pub host_made : (ports : List External) (cmd : HostCmd) (r : Result (Entry × Reply × ℕ) NetError) → IfOk r (λ x. IsEntryOf ports who cmd x.1 x.0) → IfOk r (λ x. Adds old x.0 new) → IfOk r (λ x. x.2 ≡ length new.journal) → OnErr r (new ≡ old)
+      → MatchResult r (λ x. MadeOne who x.0 x.2 had saw) (λ _. MadeNone who had saw)
+  host_made ports cmd (Ok x) entry adds len err = one_entry x.0 x.2 adds (entry_of ports who cmd x.1 x.0 entry) len
+  host_made ports cmd (Err e) entry adds len err = no_entry err
+
+  -- what a waiting session was told
+  polled_told : (cmd : HostCmd) (p : Polled) → is_host who ≡ true → b ≡ a → PollIs old new fuel a standings who cmd p → IsTurn t had saw who cmd p
+  polled_told cmd (told.Answered entry reply len) host same polled =
+      let entry_is : IsEntryOf t.wiring.ports who cmd reply entry = subst (λ w. IsEntryOf w.ports who cmd reply entry) held.wiring polled.1 in
+      inr (polled.0, entry_is, was _ (by_added who old new entry a b polled.2 same (entry_of old.wiring.ports who cmd reply entry polled.1) (may_command old.wiring.ports who cmd reply entry host polled.1)) (new, polled.2, reaches same, polled.3))
+  polled_told cmd told.Resting host same polled = inr (was _ (by_none who old new a b polled.1 (λ h. same ∙ h)) (polled.0, polled.2))
+  polled_told cmd told.Spent host same polled = inr (was _ (by_none who old new a b polled.1 (λ h. same ∙ h)) (polled.0, polled.2))
+  polled_told cmd told.Stopped host same polled = inr (was _ (by_none who old new a b polled.1 (λ h. same ∙ h)) (polled.0, polled.2))
+  polled_told cmd told.Wait host same polled = inl (refl, was _ (by_none who old new a b polled.1 (λ h. same ∙ h)) (polled.0, polled.2))
+
+  pub turn_told : (cmd : HostCmd) (r : Result Polled NetError) → is_host who ≡ true → b ≡ a → IfOk r (PollIs old new fuel a standings who cmd) → IfOk r (IsTurn t had saw who cmd)
+  turn_told cmd (Ok p) host same ok = polled_told cmd p host same ok
+  turn_told cmd (Err e) host same ok = tt
+
+  polled_made : (cmd : HostCmd) (p : Polled) → PollIs old new fuel a standings who cmd p → MadeTold who p had saw
+  polled_made cmd (told.Answered entry reply len) polled = one_entry entry len polled.2 (entry_of old.wiring.ports who cmd reply entry polled.1) polled.3
+  polled_made cmd told.Resting polled = no_entry polled.1
+  polled_made cmd told.Spent polled = no_entry polled.1
+  polled_made cmd told.Stopped polled = no_entry polled.1
+  polled_made cmd told.Wait polled = no_entry polled.1
+
+  pub turn_made : (cmd : HostCmd) (r : Result Polled NetError) → IfOk r (PollIs old new fuel a standings who cmd) → OnErr r (new ≡ old) → MatchResult r (λ p. MadeTold who p had saw) (λ _. MadeNone who had saw)
+  turn_made cmd (Ok p) ok err = polled_made cmd p ok
+  turn_made cmd (Err e) ok err = no_entry err
+
+  -- a firing
+  pub fire_told : (left c : ℕ) (r : Result (Fired × ℕ) FireError) → IfOk r (λ f. IsLowestFiring old who c f.0.entry) → IfOk r (λ f. Adds old f.0.entry new) → IfOk r (λ f. Wakes new f.0.entry f.0.wake) → IfOk r (λ f. f.1 ≡ length new.journal)
+      → OnOk r (left + 1 ≡ fuel) → MatchResult r (λ f. b ≡ a) (λ e. b ≡ stops a e) → IfOk r (λ f. FiresFor who c f.0.entry × HasFired t had saw who c f.0.entry f.0.wake f.1)
+  fire_told left c (Ok f) lowest adds wake len spent stop =
+      let fueled : 0 < fuel = omega (arith, spent) in (
+        fires_for old who c f.0.entry lowest,
+        was _ (by_added who old new f.0.entry a b adds stop (firing_of old who c f.0.entry lowest) (may_fire old who c f.0.entry lowest)) (fueled, lowest, (new, adds, wake, reaches stop, len)),
+      )
+  fire_told left c (Err e) lowest adds wake len spent stop = tt
+
+  pub fire_made : (X : Type 0) (c : ℕ) (r : Result (Fired × ℕ) FireError) → IfOk r (λ f. IsLowestFiring old who c f.0.entry) → IfOk r (λ f. Adds old f.0.entry new) → IfOk r (λ f. f.1 ≡ length new.journal) → OnErr r ((new ≡ old) × X)
+      → MatchResult r (λ f. MadeOne who f.0.entry f.1 had saw) (λ _. MadeNone who had saw)
+  fire_made X c (Ok f) lowest adds len err = one_entry f.0.entry f.1 adds (firing_of old who c f.0.entry lowest) len
+  fire_made X c (Err e) lowest adds len err = no_entry err.0
+
+  -- the next component, or rest
+  pub first_told : (from : ℕ) (r : Result (RestReply × ℕ) NetError) → IfOk r (λ x. TellsFirst old new who from x.0) → IfOk r (λ x. x.1 ≡ length new.journal) → OnOk r (b ≡ a) → IfOk r (λ x. WasFirst t had saw who from x.0 x.1)
+  first_told from (Ok x) ok len same = was _ (first_on old new a b who from x.0 same ok) (new, ok, reaches same, len)
+  first_told from (Err e) ok len same = tt
+
+  first_so : (from : ℕ) (x : RestReply) (len : ℕ) → TellsFirst old new who from x → len ≡ length new.journal → MatchRest x (MadeOne who (Rested who) len had saw) (MadeNone who had saw)
+  first_so from rest.Rest len ok long = one_entry (Rested who) len ok refl long
+  first_so from (rest.Ready c) len ok long = no_entry ok.1
+
+  pub first_made : (from : ℕ) (r : Result (RestReply × ℕ) NetError) → IfOk r (λ x. TellsFirst old new who from x.0) → IfOk r (λ x. x.1 ≡ length new.journal) → OnErr r ((new ≡ old) × (b ≡ true))
+      → MatchResult r (λ x. MatchRest x.0 (MadeOne who (Rested who) x.1 had saw) (MadeNone who had saw)) (λ _. MadeNone who had saw)
+  first_made from (Ok x) ok len err = first_so from x.0 x.1 ok len
+  first_made from (Err e) ok len err = no_entry err.0
+
+  pub rest_refused : (r : Result (RestReply × ℕ) NetError) → LeadsBy who (moment old a) (moment new b) → OnErr r (Rest old.wiring.sites old.state) → IfErr r (RefusesEntry old) → IfErr r (λ e. During t had saw (λ net fuel stopped standings. RefusesRest net e))
+  rest_refused (Ok x) by resting cause = tt
+  rest_refused (Err e) by resting cause = was (λ net fuel stopped standings. RefusesRest net e) by (resting, cause)
+
+  -- what a waiting worker was told
+  pub work_told : (r : Option Work) → LeadsBy who (moment old a) (moment new b) → MatchOption r (MustWait old fuel a standings) (WorkIs old fuel a standings)
+      → MatchOption r (During t had saw (λ net fuel stopped standings. MustWait net fuel stopped standings)) (λ work. During t had saw (λ net fuel stopped standings. WorkIs net fuel stopped standings work))
+  work_told None by fact = was (λ net fuel stopped standings. MustWait net fuel stopped standings) by fact
+  work_told (Some work) by fact = was (λ net fuel stopped standings. WorkIs net fuel stopped standings work) by fact
+
+  pub work_made : new ≡ old → MadeNone who had saw
+  work_made same = no_entry same

@@ -1,20 +1,22 @@
-//! What lies under the lock, with the keeper of its past: what each call saw there is told to a witness.
+//! What lies under the lock, with the keeper of its past: each call is one that an owner makes there.
 
-ghost use Rattle.std.specs.Prelude.{◌≡◌, ◌+◌, ◌<◌, ◌≤◌, ◌⊎◌, true, length, IfOk, IfErr, OnErr, OnOk, MatchOption};
+ghost use Rattle.std.specs.Prelude.{◌≡◌, ◌+◌, ◌<◌, ◌≤◌, true, false, IfOk, IfErr, OnErr, OnOk, MatchOption, MatchResult};
 ghost use Rattle.std.specs.Coded.{codes};
 ghost use Rattle.bz_model.specs.Codes.{term_code};
-ghost use Rattle.bz_past.specs.Moments.{moment, Leads};
-ghost use Rattle.bz_net.specs.Simulation.{Simulation};
+ghost use Rattle.bz_model.specs.declared.event.Entry.TheVariants.{Rested};
+ghost use Rattle.bz_past.specs.Moments.{Leads};
+ghost use Rattle.bz_past.specs.Owners.{is_host};
 ghost use Rattle.bz_net.specs.Replies.{RefusesCommand};
 ghost use Rattle.bz_locked.specs.Commands.{IsEntryOf, RefusesPoll};
 ghost use Rattle.bz_locked.specs.Waking.{FiresFor};
-ghost use Rattle.bz_locked.specs.Working.{Once, HasFired, IsTurn, WasAdded, WasFirst, MustWait, WorkIs, RefusesFiring, RefusesRest};
+ghost use Rattle.bz_locked.specs.Making.{MadeNone, MadeOne, MadeTold};
+ghost use Rattle.bz_locked.specs.Working.{During, HasFired, IsTurn, MatchRest, WasAdded, WasFirst, MustWait, WorkIs, RefusesFiring, RefusesRest};
 
 use crate::ledger::NetLedger;
 use crate::locked::{FireError, Fired, Locked, Polled, Work};
 use bz_model::{Entry, HostCmd, NetError, Reply, Who};
 use bz_net::RestReply;
-use bz_past::{Keeper, Past, Witness};
+use bz_past::{Keeper, Owner, Past, Stopper};
 use std::sync::ledger::{Ledger, Share};
 
 /// The locked value and the keeper, which knows its net and whether all was stopped.
@@ -23,20 +25,11 @@ pub struct Kept<L: NetLedger> {
     pub locked: Locked<L>,
     pub keeper: Keeper,
     ghost of_past: { keeper.table ≡ L.past },
+    ghost hosts: { keeper.hosts ≡ L.terms.sessions },
+    ghost workers: { keeper.workers ≡ L.workers },
+    ghost none_taken_in: { (keeper.out ≡ L.terms.sessions + L.workers) × (keeper.last ≡ 0) },
     ghost net_is: { keeper.now.net ≡ locked.net } by { Prim.hlevel (codes, term_code) },
     ghost stopped_is: { keeper.now.stopped ≡ locked.stopped },
-}
-
-/// The keeper learns what lies there now, and the witness sees it.
-fn note<L: NetLedger>(past: &Past, keeper: &mut Keeper, locked: &Locked<L>, witness: &mut Witness)
-    requires tables { (keeper.old.table ≡ past.now) × (witness.old.table ≡ past.now) }
-    requires onward { Leads keeper.old.now (moment locked.now.net locked.now.stopped) }
-    ensures keeper { (keeper.new.table ≡ keeper.old.table) × (keeper.new.now ≡ moment locked.now.net locked.now.stopped) }
-    ensures witness { (witness.new.table ≡ witness.old.table) × (witness.new.seen ≡ moment locked.now.net locked.now.stopped) }
-    ensures leads { Leads witness.old.seen witness.new.seen }
-{
-    past.advance(keeper, &locked.net, locked.stopped);
-    past.show(keeper, witness);
 }
 
 impl<L: NetLedger> Kept<L> {
@@ -44,18 +37,24 @@ impl<L: NetLedger> Kept<L> {
     pub fn host(
         &mut self,
         past: &Past,
-        witness: &mut Witness,
+        owner: &mut Owner,
         who: Who,
         cmd: &HostCmd,
     ) -> Result<(Entry, Reply, u64), NetError>
-        requires { (past.now ≡ L.past) × (witness.old.table ≡ L.past) }
-        ensures witness { (witness.new.table ≡ witness.old.table) × Leads witness.old.seen witness.new.seen }
+        requires { (past.now ≡ L.past) × (owner.old.table ≡ L.past) × (owner.old.who ≡ who) × (is_host who ≡ true) }
+        ensures owner { (owner.new.table ≡ owner.old.table) × (owner.new.who ≡ owner.old.who) × Leads owner.old.seen owner.new.seen }
         ensures entry { IfOk result (λ r. IsEntryOf L.terms.wiring.ports who cmd.now r.1 r.0) }
-        ensures added { IfOk result (λ r. WasAdded L.terms witness.new.seen r.0 r.2) }
-        ensures cause { IfErr result (λ e. Once L.terms witness.new.seen (λ net fuel stopped standings. RefusesCommand net cmd.now.verb cmd.now.port.items cmd.now.value e)) }
+        ensures added { IfOk result (λ r. WasAdded L.terms owner.old.seen owner.new.seen r.0 r.2) }
+        ensures made { MatchResult result (λ r. MadeOne who r.0 r.2 owner.old.seen owner.new.seen) (λ _. MadeNone who owner.old.seen owner.new.seen) }
+        ensures cause { IfErr result (λ e. During L.terms owner.old.seen owner.new.seen (λ net fuel stopped standings. RefusesCommand net cmd.now.verb cmd.now.port.items cmd.now.value e)) }
     {
         let answered = self.locked.host(who, cmd);
-        note(past, &mut self.keeper, &self.locked, witness);
+        past.act(
+            &mut self.keeper,
+            owner,
+            &self.locked.net,
+            self.locked.stopped,
+        );
         answered
     }
 
@@ -63,17 +62,23 @@ impl<L: NetLedger> Kept<L> {
     pub fn turn(
         &mut self,
         past: &Past,
-        witness: &mut Witness,
+        owner: &mut Owner,
         who: Who,
         cmd: &HostCmd,
     ) -> Result<Polled, NetError>
-        requires { (past.now ≡ L.past) × (witness.old.table ≡ L.past) }
-        ensures witness { (witness.new.table ≡ witness.old.table) × Leads witness.old.seen witness.new.seen }
-        ensures told { IfOk result (IsTurn L.terms witness.new.seen who cmd.now) }
-        ensures cause { IfErr result (λ e. Once L.terms witness.new.seen (λ net fuel stopped standings. RefusesPoll net cmd.now e)) }
+        requires { (past.now ≡ L.past) × (owner.old.table ≡ L.past) × (owner.old.who ≡ who) × (is_host who ≡ true) }
+        ensures owner { (owner.new.table ≡ owner.old.table) × (owner.new.who ≡ owner.old.who) × Leads owner.old.seen owner.new.seen }
+        ensures told { IfOk result (IsTurn L.terms owner.old.seen owner.new.seen who cmd.now) }
+        ensures made { MatchResult result (λ told. MadeTold who told owner.old.seen owner.new.seen) (λ _. MadeNone who owner.old.seen owner.new.seen) }
+        ensures cause { IfErr result (λ e. During L.terms owner.old.seen owner.new.seen (λ net fuel stopped standings. RefusesPoll net cmd.now e)) }
     {
         let told = self.locked.turn(who, cmd);
-        note(past, &mut self.keeper, &self.locked, witness);
+        past.act(
+            &mut self.keeper,
+            owner,
+            &self.locked.net,
+            self.locked.stopped,
+        );
         told
     }
 
@@ -81,20 +86,26 @@ impl<L: NetLedger> Kept<L> {
     pub fn fire(
         &mut self,
         past: &Past,
-        witness: &mut Witness,
+        owner: &mut Owner,
         who: Who,
         share: &mut Share<L>,
         comp: u32,
     ) -> Result<(Fired, u64), FireError>
-        requires { (past.now ≡ L.past) × (witness.old.table ≡ L.past) × (0 < share.old.parts) }
-        ensures witness { (witness.new.table ≡ witness.old.table) × Leads witness.old.seen witness.new.seen }
-        ensures fired { IfOk result (λ f. FiresFor who comp f.0.entry × HasFired L.terms witness.new.seen who comp f.0.entry f.0.wake f.1) }
-        ensures cause { IfErr result (λ e. Once L.terms witness.new.seen (λ net fuel stopped standings. RefusesFiring net fuel comp e)) }
+        requires { (past.now ≡ L.past) × (owner.old.table ≡ L.past) × (owner.old.who ≡ who) × (is_host who ≡ false) × (0 < share.old.parts) }
+        ensures owner { (owner.new.table ≡ owner.old.table) × (owner.new.who ≡ owner.old.who) × Leads owner.old.seen owner.new.seen }
+        ensures fired { IfOk result (λ f. FiresFor who comp f.0.entry × HasFired L.terms owner.old.seen owner.new.seen who comp f.0.entry f.0.wake f.1) }
+        ensures made { MatchResult result (λ f. MadeOne who f.0.entry f.1 owner.old.seen owner.new.seen) (λ _. MadeNone who owner.old.seen owner.new.seen) }
+        ensures cause { IfErr result (λ e. During L.terms owner.old.seen owner.new.seen (λ net fuel stopped standings. RefusesFiring net fuel comp e)) }
         ensures share { (share.new.parts ≡ share.old.parts) × OnOk result (share.new.amount ≡ share.old.amount + 1) × OnErr result (share.new.amount ≡ share.old.amount) }
         ensures bound { IfOk result (λ f. share.new.amount ≤ f.1) }
     {
         let fired = self.locked.fire(who, share, comp);
-        note(past, &mut self.keeper, &self.locked, witness);
+        past.act(
+            &mut self.keeper,
+            owner,
+            &self.locked.net,
+            self.locked.stopped,
+        );
         fired
     }
 
@@ -102,39 +113,57 @@ impl<L: NetLedger> Kept<L> {
     pub fn first_ready(
         &mut self,
         past: &Past,
-        witness: &mut Witness,
+        owner: &mut Owner,
         who: Who,
         from: u32,
     ) -> Result<(RestReply, u64), NetError>
-        requires { (past.now ≡ L.past) × (witness.old.table ≡ L.past) }
-        ensures witness { (witness.new.table ≡ witness.old.table) × Leads witness.old.seen witness.new.seen }
-        ensures told { IfOk result (λ r. WasFirst L.terms witness.new.seen who from r.0 r.1) }
-        ensures cause { IfErr result (λ e. Once L.terms witness.new.seen (λ net fuel stopped standings. RefusesRest net e)) }
+        requires { (past.now ≡ L.past) × (owner.old.table ≡ L.past) × (owner.old.who ≡ who) × (is_host who ≡ false) }
+        ensures owner { (owner.new.table ≡ owner.old.table) × (owner.new.who ≡ owner.old.who) × Leads owner.old.seen owner.new.seen }
+        ensures told { IfOk result (λ r. WasFirst L.terms owner.old.seen owner.new.seen who from r.0 r.1) }
+        ensures made { MatchResult result (λ r. MatchRest r.0 (MadeOne who (Rested who) r.1 owner.old.seen owner.new.seen) (MadeNone who owner.old.seen owner.new.seen)) (λ _. MadeNone who owner.old.seen owner.new.seen) }
+        ensures cause { IfErr result (λ e. During L.terms owner.old.seen owner.new.seen (λ net fuel stopped standings. RefusesRest net e)) }
     {
         let first = self.locked.first_ready(who, from);
-        note(past, &mut self.keeper, &self.locked, witness);
+        past.act(
+            &mut self.keeper,
+            owner,
+            &self.locked.net,
+            self.locked.stopped,
+        );
         first
     }
 
     /// What a waiting worker is told: nothing where it has to wait.
-    pub fn work(&mut self, past: &Past, witness: &mut Witness) -> Option<Work>
-        requires { (past.now ≡ L.past) × (witness.old.table ≡ L.past) }
-        ensures witness { (witness.new.table ≡ witness.old.table) × Leads witness.old.seen witness.new.seen }
+    pub fn work(&mut self, past: &Past, owner: &mut Owner, who: Who) -> Option<Work>
+        requires { (past.now ≡ L.past) × (owner.old.table ≡ L.past) × (owner.old.who ≡ who) }
+        ensures owner { (owner.new.table ≡ owner.old.table) × (owner.new.who ≡ owner.old.who) × Leads owner.old.seen owner.new.seen }
+        ensures made { MadeNone who owner.old.seen owner.new.seen }
         ensures told { MatchOption result
-            (Once L.terms witness.new.seen (λ net fuel stopped standings. MustWait net fuel stopped standings))
-            (λ work. Once L.terms witness.new.seen (λ net fuel stopped standings. WorkIs net fuel stopped standings work)) }
+            (During L.terms owner.old.seen owner.new.seen (λ net fuel stopped standings. MustWait net fuel stopped standings))
+            (λ work. During L.terms owner.old.seen owner.new.seen (λ net fuel stopped standings. WorkIs net fuel stopped standings work)) }
     {
         let work = self.locked.work();
-        note(past, &mut self.keeper, &self.locked, witness);
+        past.act(
+            &mut self.keeper,
+            owner,
+            &self.locked.net,
+            self.locked.stopped,
+        );
         work
     }
 
     /// No worker and no waiting session moves on.
-    pub fn stop(&mut self, past: &Past)
-        requires { past.now ≡ L.past }
-        ensures { self.new.locked.stopped ≡ true }
+    pub fn stop(&mut self, past: &Past, stopper: &mut Stopper)
+        requires { (past.now ≡ L.past) × (stopper.old.table ≡ L.past) }
+        ensures stopped { self.new.locked.stopped ≡ true }
+        ensures stopper { (stopper.new.table ≡ stopper.old.table) × (stopper.new.used ≡ true) }
     {
         self.locked.stop();
-        past.advance(&mut self.keeper, &self.locked.net, self.locked.stopped);
+        past.halt(
+            &mut self.keeper,
+            stopper,
+            &self.locked.net,
+            self.locked.stopped,
+        );
     }
 }

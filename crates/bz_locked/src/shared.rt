@@ -4,12 +4,16 @@ ghost use Rattle.std.specs.Prelude.{◌≡◌, ℕ, ◌+◌, ◌-◌, ◌<◌, �
 ghost use Rattle.std.specs.Vec.{vec_capacity};
 ghost use Rattle.bz_net.specs.Answering.{is_answer};
 ghost use Rattle.bz_past.specs.Moments.{moment, Leads};
-ghost use Rattle.bz_locked.specs.Parts.{SessionView, WorkerView, tables, new_session, new_worker, Stays, IsSilent, Tells};
+ghost use Rattle.bz_past.specs.Owners.{is_host};
+ghost use Rattle.bz_past.specs.Seen.{IsFresh};
+ghost use Rattle.bz_model.specs.declared.event.Entry.TheVariants.{Rested};
+ghost use Rattle.bz_locked.specs.Making.{MadeNone, MadeOne, MadeTold};
+ghost use Rattle.bz_locked.specs.Parts.{HasMade, HasMadeNone, SessionView, WorkerView, tables, new_session, new_worker, Stays, IsSilent, Tells};
 ghost use Rattle.bz_locked.specs.Commands.{IsEntryOf, RefusesPoll};
 ghost use Rattle.bz_locked.specs.Waking.{FiresFor};
 ghost use Rattle.bz_net.specs.Simulation.{Simulation};
 ghost use Rattle.bz_net.specs.Replies.{RefusesCommand};
-ghost use Rattle.bz_locked.specs.Working.{MatchWait, MatchRest, IsLast, Once, HasFired, Notes, WasAdded, WasFirst, WasRefused, WorkIs, RefusesFiring, RefusesRest};
+ghost use Rattle.bz_locked.specs.Working.{During, is_wait, MatchWait, MatchRest, IsLast, HasFired, Notes, WasAdded, WasFirst, WasRefused, WorkIs, RefusesFiring, RefusesRest};
 
 use crate::audience::Audience;
 use crate::closing::CloseError;
@@ -21,11 +25,22 @@ use crate::standing::Standing;
 use bz_front::{Front, FrontSeat};
 use bz_model::{Entry, HostCmd, NetError, Reply, Who};
 use bz_net::{Net, RestReply};
-use bz_past::{Keeper, Past, Witness};
+use bz_past::{Keeper, Owner, Past, Stopper};
 use std::alloc::{AllocError, Global};
 use std::marker::Model;
 use std::sync::ledger::{Blank, Book, Ledger, Share};
 use std::sync::{Condvar, Mutex, Wait};
+
+/// Whether a session is told to wait on.
+fn is_wait(told: Result<Polled, NetError>) -> bool
+    ensures { result ≡ is_wait told }
+{
+    match told {
+        Ok(Polled::Wait) => true,
+        Ok(Polled::Answered(_, _, _) | Polled::Resting | Polled::Spent | Polled::Stopped)
+        | Err(_) => false,
+    }
+}
 
 /// A net that host sessions and workers share. Its one lock is held for one event at a time; a call that waits waits for a
 /// condition variable alone, which lets the lock go: sessions for `answers`, workers for `work`.
@@ -60,7 +75,7 @@ impl<L: NetLedger> Model for SharedNet<L> {
 
     ghost view = { λ n. record { table = tables n.front.table n.past; sessions = n.sessions; workers = n.workers } };
 
-    ghost invariant = { λ n. (n.past ≡ L.past) × (n.front.parts ≡ n.sessions + n.workers) × (0 < n.sessions) × (n.records.items ≡ []) × (n.shares.items ≡ []) × (n.sessions ≤ vec_capacity n.records) × (n.workers ≤ vec_capacity n.shares) };
+    ghost invariant = { λ n. (n.past ≡ L.past) × (n.front.parts ≡ n.sessions + n.workers) × (0 < n.sessions) × (n.sessions ≡ L.terms.sessions) × (n.workers ≡ L.workers) × (n.records.items ≡ []) × (n.shares.items ≡ []) × (n.sessions ≤ vec_capacity n.records) × (n.workers ≤ vec_capacity n.shares) };
 }
 
 /// The sessions, each with one part of the seat.
@@ -72,10 +87,11 @@ fn new_sessions(
     seat: FrontSeat,
     count: u8,
 ) -> Result<Vec<Session>, AllocError>
-    requires keeper { keeper.old.table ≡ past.now }
+    requires keeper { (keeper.old.table ≡ past.now) × (keeper.old.hosts ≡ 0) × (keeper.old.now.net.journal ≡ []) }
     requires seat { (seat.table ≡ front.now.table) × (seat.seen ≡ 0) × (seat.published ≡ 0) }
     requires parts { (seat.parts ≡ count) × (0 < count) }
-    ensures keeper { keeper.new ≡ keeper.old }
+    ensures keeper { (keeper.new.table ≡ keeper.old.table) × (keeper.new.now ≡ keeper.old.now) × (keeper.new.workers ≡ keeper.old.workers) × (keeper.new.last ≡ keeper.old.last) }
+    ensures owners { OnOk result ((keeper.new.hosts ≡ count) × (keeper.new.out ≡ keeper.old.out + count)) }
     ensures sessions { IfOk result (λ v. (vec_len v ≡ count) × ((k : ℕ) (d : SessionView) → k < count → slice_index_or v.items k d ≡ new_session (tables front.now.table past.now) keeper.old.now (k + 1))) }
 {
     let mut seat = seat;
@@ -85,14 +101,14 @@ fn new_sessions(
         sessions.push(Session {
             who: Who::Host(k),
             seat: part,
-            witness: past.witness(keeper),
+            owner: past.next_host(keeper),
             own: Vec::new(alloc),
         })?;
     }
     sessions.push(Session {
         who: Who::Host(count),
         seat,
-        witness: past.witness(keeper),
+        owner: past.next_host(keeper),
         own: Vec::new(alloc),
     })?;
     Ok(sessions)
@@ -107,10 +123,11 @@ fn new_worker<L: NetLedger>(
     share: &mut Share<L>,
     number: u8,
 ) -> Worker<L>
-    requires keeper { (keeper.old.table ≡ past.now) × (past.now ≡ L.past) }
+    requires keeper { (keeper.old.table ≡ past.now) × (past.now ≡ L.past) × (keeper.old.workers + 1 ≡ number) × (keeper.old.now.net.journal ≡ []) }
     requires seat { (seat.old.table ≡ front.now.table) × (seat.old.seen ≡ 0) × (seat.old.published ≡ 0) × (1 < seat.old.parts) }
     requires share { (0 < share.old.parts) × (share.old.amount ≡ 0) }
-    ensures keeper { keeper.new ≡ keeper.old }
+    ensures keeper { (keeper.new.table ≡ keeper.old.table) × (keeper.new.now ≡ keeper.old.now) × (keeper.new.hosts ≡ keeper.old.hosts) × (keeper.new.last ≡ keeper.old.last) }
+    ensures owners { (keeper.new.workers ≡ number) × (keeper.new.out ≡ keeper.old.out + 1) }
     ensures worker { result ≡ new_worker (tables front.now.table past.now) keeper.old.now number }
     ensures seat { (seat.new.table ≡ seat.old.table) × (seat.new.seen ≡ 0) × (seat.new.published ≡ 0) × (seat.new.parts + 1 ≡ seat.old.parts) }
     ensures share { (share.new.parts + 1 ≡ share.old.parts) × (share.new.amount ≡ 0) }
@@ -118,7 +135,7 @@ fn new_worker<L: NetLedger>(
     Worker {
         who: Who::Worker(number),
         seat: front.split(seat),
-        witness: past.witness(keeper),
+        owner: past.next_worker(keeper),
         share: share.split_off(1, 0),
         fired: 0,
     }
@@ -134,12 +151,13 @@ fn new_workers<L: NetLedger>(
     share: &mut Share<L>,
     count: u8,
 ) -> Result<Vec<Worker<L>>, AllocError>
-    requires keeper { (keeper.old.table ≡ past.now) × (past.now ≡ L.past) }
+    requires keeper { (keeper.old.table ≡ past.now) × (past.now ≡ L.past) × (keeper.old.workers ≡ 0) × (keeper.old.now.net.journal ≡ []) }
     requires seat { (seat.old.table ≡ front.now.table) × (seat.old.seen ≡ 0) × (seat.old.published ≡ 0) × (count < seat.old.parts) }
     requires share { (share.old.parts ≡ count) × (share.old.amount ≡ 0) }
     ensures seat { OnOk result ((seat.new.table ≡ seat.old.table) × (seat.new.seen ≡ 0) × (seat.new.published ≡ 0) × (seat.new.parts + count ≡ seat.old.parts)) }
     ensures share { OnOk result ((share.new.parts ≡ 0) × (share.new.amount ≡ 0)) }
-    ensures keeper { keeper.new ≡ keeper.old }
+    ensures keeper { (keeper.new.table ≡ keeper.old.table) × (keeper.new.now ≡ keeper.old.now) × (keeper.new.hosts ≡ keeper.old.hosts) × (keeper.new.last ≡ keeper.old.last) }
+    ensures owners { OnOk result ((keeper.new.workers ≡ count) × (keeper.new.out ≡ keeper.old.out + count)) }
     ensures workers { IfOk result (λ v. (vec_len v ≡ count) × ((k : ℕ) (d : WorkerView) → k < count → slice_index_or v.items k d ≡ new_worker (tables front.now.table past.now) keeper.old.now (k + 1))) }
 {
     let mut workers = Vec::new(alloc);
@@ -192,9 +210,10 @@ impl<L: NetLedger> Made<L> {
         workers: u8,
     ) -> Result<Made<L>, CloseError>
         requires ledger { (blank.name ≡ L.name) × (blank.parts ≡ L.parts) × (L.parts ≡ workers) }
-        requires keeper { (keeper.old.table ≡ past.now) × (past.now ≡ L.past) }
+        requires keeper { (keeper.old.table ≡ past.now) × (past.now ≡ L.past) × (keeper.old.hosts ≡ 0) × (keeper.old.workers ≡ 0) × (keeper.old.out ≡ 0) × (keeper.old.now.net.journal ≡ []) }
         requires counts { (1 ≤ sessions) × (sessions ≤ 16) × (1 ≤ workers) × (workers ≤ 8) }
-        ensures keeper { keeper.new ≡ keeper.old }
+        ensures keeper { (keeper.new.table ≡ keeper.old.table) × (keeper.new.now ≡ keeper.old.now) × (keeper.new.last ≡ keeper.old.last) }
+        ensures owners { OnOk result ((keeper.new.hosts ≡ sessions) × (keeper.new.workers ≡ workers) × (keeper.new.out ≡ sessions + workers)) }
         ensures front { IfOk result (λ r. r.front.parts ≡ sessions + workers) }
         ensures fired { IfOk result (λ r. r.fired.total ≡ 0) }
         ensures root { IfOk result (λ r. (r.root.parts ≡ 0) × (r.root.amount ≡ 0)) }
@@ -233,8 +252,8 @@ impl<L: NetLedger> SharedNet<L> {
         sessions: u8,
         workers: u8,
     ) -> Result<(SharedNet<L>, Vec<Session>, Vec<Worker<L>>), CloseError>
-        requires ledger { (blank.name ≡ L.name) × (blank.parts ≡ L.parts) × (L.parts ≡ workers) }
-        requires past { (opened.0 ≡ L.past) × (opened.1.table ≡ L.past) × (opened.1.now ≡ moment net false) }
+        requires ledger { (blank.name ≡ L.name) × (blank.parts ≡ L.parts) × (L.parts ≡ workers) × (L.workers ≡ workers) }
+        requires past { (opened.0 ≡ L.past) × IsFresh L.past net opened.1 }
         requires opening { (net.wiring ≡ L.terms.wiring) × (net.limit ≡ L.terms.limit) × (fuel ≡ L.terms.fuel) × (sessions ≡ L.terms.sessions) }
         requires counts { (1 ≤ sessions) × (sessions ≤ 16) × (1 ≤ workers) × (workers ≤ 8) }
         requires unused { net.journal ≡ [] }
@@ -288,13 +307,13 @@ impl<L: NetLedger> SharedNet<L> {
         requires { session.old.seat.table ≡ self.now.table }
         ensures who { (session.new.who ≡ session.old.who) × Stays session.old.seat session.new.seat }
         ensures notes { IfOk result (λ r. Notes L.terms cmd.now r session.old session.new) }
-        ensures cause { IfErr result (WasRefused L.terms session.new.seat.saw (λ net e. RefusesCommand net cmd.now.verb cmd.now.port.items cmd.now.value e)) }
-        ensures err { OnErr result ((session.new.own ≡ session.old.own) × IsSilent session.old.seat session.new.seat) }
+        ensures cause { IfErr result (WasRefused L.terms session.old.seat.saw session.new.seat.saw (λ net e. RefusesCommand net cmd.now.verb cmd.now.port.items cmd.now.value e)) }
+        ensures err { OnErr result ((session.new.own ≡ session.old.own) × IsSilent session.old.seat session.new.seat × HasMadeNone session.old.who session.old.seat session.new.seat) }
     {
         if session.own.reserve(1).is_err() {
             return Err(NetError::Memory);
         }
-        let (entry, reply, len) = self.answer(rt, &mut session.witness, session.who, cmd)?;
+        let (entry, reply, len) = self.answer(rt, &mut session.owner, session.who, cmd)?;
         self.front.publish(&mut session.seat, len);
         session.own.push_reserved(entry);
         Ok(reply)
@@ -304,18 +323,19 @@ impl<L: NetLedger> SharedNet<L> {
     fn answer<R: Wait>(
         &self,
         rt: &R,
-        witness: &mut Witness,
+        owner: &mut Owner,
         who: Who,
         cmd: &HostCmd,
     ) -> Result<(Entry, Reply, u64), NetError>
-        requires { witness.old.table ≡ self.now.table.past }
-        ensures witness { (witness.new.table ≡ witness.old.table) × Leads witness.old.seen witness.new.seen }
+        requires { (owner.old.table ≡ self.now.table.past) × (owner.old.who ≡ who) × (is_host who ≡ true) }
+        ensures owner { (owner.new.table ≡ owner.old.table) × (owner.new.who ≡ owner.old.who) × Leads owner.old.seen owner.new.seen }
         ensures entry { IfOk result (λ r. IsEntryOf L.terms.wiring.ports who cmd.now r.1 r.0) }
-        ensures added { IfOk result (λ r. WasAdded L.terms witness.new.seen r.0 r.2) }
-        ensures cause { IfErr result (λ e. Once L.terms witness.new.seen (λ net fuel stopped standings. RefusesCommand net cmd.now.verb cmd.now.port.items cmd.now.value e)) }
+        ensures added { IfOk result (λ r. WasAdded L.terms owner.old.seen owner.new.seen r.0 r.2) }
+        ensures made { MatchResult result (λ r. MadeOne who r.0 r.2 owner.old.seen owner.new.seen) (λ _. MadeNone who owner.old.seen owner.new.seen) }
+        ensures cause { IfErr result (λ e. During L.terms owner.old.seen owner.new.seen (λ net fuel stopped standings. RefusesCommand net cmd.now.verb cmd.now.port.items cmd.now.value e)) }
     {
         let mut kept = self.locked.lock(rt);
-        let answered = kept.host(&self.past, witness, who, cmd);
+        let answered = kept.host(&self.past, owner, who, cmd);
         let audience = kept.locked.audience_of_command(answered);
         drop(kept);
         self.wake(audience);
@@ -331,16 +351,16 @@ impl<L: NetLedger> SharedNet<L> {
     ) -> Result<WaitReply, NetError>
         requires { session.old.seat.table ≡ self.now.table }
         ensures who { (session.new.who ≡ session.old.who) × Stays session.old.seat session.new.seat }
-        ensures answered { IfOk result (λ w. MatchWait L.terms session.new.seat.saw cmd.now w
+        ensures answered { IfOk result (λ w. MatchWait L.terms session.old.seat.saw session.new.seat.saw cmd.now w
             (λ r. (is_answer r ≡ true) × Notes L.terms cmd.now r session.old session.new)
-            ((session.new.own ≡ session.old.own) × IsSilent session.old.seat session.new.seat)) }
-        ensures cause { IfErr result (WasRefused L.terms session.new.seat.saw (λ net e. RefusesPoll net cmd.now e)) }
-        ensures err { OnErr result ((session.new.own ≡ session.old.own) × IsSilent session.old.seat session.new.seat) }
+            ((session.new.own ≡ session.old.own) × IsSilent session.old.seat session.new.seat × HasMadeNone session.old.who session.old.seat session.new.seat)) }
+        ensures cause { IfErr result (WasRefused L.terms session.old.seat.saw session.new.seat.saw (λ net e. RefusesPoll net cmd.now e)) }
+        ensures err { OnErr result ((session.new.own ≡ session.old.own) × IsSilent session.old.seat session.new.seat × HasMadeNone session.old.who session.old.seat session.new.seat) }
     {
         if session.own.reserve(1).is_err() {
             return Err(NetError::Memory);
         }
-        match self.wait_for(rt, &mut session.witness, session.who, cmd)? {
+        match self.wait_for(rt, &mut session.owner, session.who, cmd)? {
             Polled::Answered(entry, reply, len) => {
                 self.front.publish(&mut session.seat, len);
                 session.own.push_reserved(entry);
@@ -357,27 +377,27 @@ impl<L: NetLedger> SharedNet<L> {
     fn wait_for<R: Wait>(
         &self,
         rt: &R,
-        witness: &mut Witness,
+        owner: &mut Owner,
         who: Who,
         cmd: &HostCmd,
     ) -> Result<Polled, NetError>
-        requires { witness.old.table ≡ self.now.table.past }
-        ensures witness { (witness.new.table ≡ witness.old.table) × Leads witness.old.seen witness.new.seen }
-        ensures last { IfOk result (IsLast L.terms witness.new.seen who cmd.now) }
-        ensures cause { IfErr result (λ e. Once L.terms witness.new.seen (λ net fuel stopped standings. RefusesPoll net cmd.now e)) }
+        requires { (owner.old.table ≡ self.now.table.past) × (owner.old.who ≡ who) × (is_host who ≡ true) }
+        ensures owner { (owner.new.table ≡ owner.old.table) × (owner.new.who ≡ owner.old.who) × Leads owner.old.seen owner.new.seen }
+        ensures last { IfOk result (IsLast L.terms owner.old.seen owner.new.seen who cmd.now) }
+        ensures made { MatchResult result (λ told. MadeTold who told owner.old.seen owner.new.seen) (λ _. MadeNone who owner.old.seen owner.new.seen) }
+        ensures cause { IfErr result (λ e. During L.terms owner.old.seen owner.new.seen (λ net fuel stopped standings. RefusesPoll net cmd.now e)) }
     {
         let mut kept = self.locked.lock(rt);
         kept.locked.begin(who, cmd);
         for _ in rt.forever() {
-            match kept.turn(&self.past, witness, who, cmd) {
-                Ok(Polled::Wait) => kept = self.answers.wait(rt, kept),
-                told => {
-                    let audience = kept.locked.audience_of_answer(told);
-                    drop(kept);
-                    self.wake(audience);
-                    return told;
-                }
+            let told = kept.turn(&self.past, owner, who, cmd);
+            if !is_wait(told) {
+                let audience = kept.locked.audience_of_answer(told);
+                drop(kept);
+                self.wake(audience);
+                return told;
             }
+            kept = self.answers.wait(rt, kept);
         }
         unreachable!()
     }
@@ -393,15 +413,16 @@ impl<L: NetLedger> SharedNet<L> {
         ensures who { (worker.new.who ≡ worker.old.who) × Stays worker.old.seat worker.new.seat }
         ensures fired { IfOk result (λ f. FiresFor worker.old.who comp f.entry) }
         ensures lawful { IfOk result (λ f. (n : ℕ) × Tells n worker.old.seat worker.new.seat
-            × HasFired L.terms worker.new.seat.saw worker.old.who comp f.entry f.wake n) }
-        ensures cause { IfErr result (λ e. Once L.terms worker.new.seat.saw (λ net fuel stopped standings. RefusesFiring net fuel comp e)) }
+            × HasFired L.terms worker.old.seat.saw worker.new.seat.saw worker.old.who comp f.entry f.wake n) }
+        ensures cause { IfErr result (λ e. During L.terms worker.old.seat.saw worker.new.seat.saw (λ net fuel stopped standings. RefusesFiring net fuel comp e)) }
+        ensures made { MatchResult result (λ f. HasMade worker.old.who (f.entry ∷ []) worker.old.seat worker.new.seat) (λ _. HasMadeNone worker.old.who worker.old.seat worker.new.seat) }
         ensures ok { OnOk result (worker.new.fired ≡ worker.old.fired + 1) }
         ensures err { OnErr result ((worker.new.fired ≡ worker.old.fired) × IsSilent worker.old.seat worker.new.seat) }
     {
         let mut kept = self.locked.lock(rt);
         let answered = kept.fire(
             &self.past,
-            &mut worker.witness,
+            &mut worker.owner,
             worker.who,
             &mut worker.share,
             comp,
@@ -426,14 +447,15 @@ impl<L: NetLedger> SharedNet<L> {
         requires { worker.old.seat.table ≡ self.now.table }
         ensures who { (worker.new.who ≡ worker.old.who) × Stays worker.old.seat worker.new.seat × (worker.new.fired ≡ worker.old.fired) }
         ensures told { IfOk result (λ r. (n : ℕ) × MatchRest r (Tells n worker.old.seat worker.new.seat) (IsSilent worker.old.seat worker.new.seat)
-            × WasFirst L.terms worker.new.seat.saw worker.old.who from r n) }
-        ensures cause { IfErr result (λ e. Once L.terms worker.new.seat.saw (λ net fuel stopped standings. RefusesRest net e)) }
+            × WasFirst L.terms worker.old.seat.saw worker.new.seat.saw worker.old.who from r n) }
+        ensures cause { IfErr result (λ e. During L.terms worker.old.seat.saw worker.new.seat.saw (λ net fuel stopped standings. RefusesRest net e)) }
+        ensures made { MatchResult result (λ r. MatchRest r (HasMade worker.old.who (Rested worker.old.who ∷ []) worker.old.seat worker.new.seat) (HasMadeNone worker.old.who worker.old.seat worker.new.seat)) (λ _. HasMadeNone worker.old.who worker.old.seat worker.new.seat) }
         ensures err { OnErr result (IsSilent worker.old.seat worker.new.seat) }
     {
         let answered = self
             .locked
             .lock(rt)
-            .first_ready(&self.past, &mut worker.witness, worker.who, from);
+            .first_ready(&self.past, &mut worker.owner, worker.who, from);
         self.wake(Audience::of_rest(answered));
         let (reply, len) = answered?;
         match reply {
@@ -449,20 +471,22 @@ impl<L: NetLedger> SharedNet<L> {
     pub fn wait_work<R: Wait>(&self, rt: &R, worker: &mut Worker<L>) -> Work
         ensures who { (worker.new.who ≡ worker.old.who) × Stays worker.old.seat worker.new.seat × (worker.new.fired ≡ worker.old.fired) }
         ensures silent { IsSilent worker.old.seat worker.new.seat }
-        ensures told { Once L.terms worker.new.seat.saw (λ net fuel stopped standings. WorkIs net fuel stopped standings result) }
+        ensures made { HasMadeNone worker.old.who worker.old.seat worker.new.seat }
+        ensures told { During L.terms worker.old.seat.saw worker.new.seat.saw (λ net fuel stopped standings. WorkIs net fuel stopped standings result) }
     {
-        self.wait_told(rt, &mut worker.witness)
+        self.wait_told(rt, &mut worker.owner, worker.who)
     }
 
     /// Waits under the lock until a worker is told something.
-    fn wait_told<R: Wait>(&self, rt: &R, witness: &mut Witness) -> Work
-        requires { witness.old.table ≡ L.past }
-        ensures witness { (witness.new.table ≡ witness.old.table) × Leads witness.old.seen witness.new.seen }
-        ensures told { Once L.terms witness.new.seen (λ net fuel stopped standings. WorkIs net fuel stopped standings result) }
+    fn wait_told<R: Wait>(&self, rt: &R, owner: &mut Owner, who: Who) -> Work
+        requires { (owner.old.table ≡ L.past) × (owner.old.who ≡ who) }
+        ensures owner { (owner.new.table ≡ owner.old.table) × (owner.new.who ≡ owner.old.who) × Leads owner.old.seen owner.new.seen }
+        ensures made { MadeNone who owner.old.seen owner.new.seen }
+        ensures told { During L.terms owner.old.seen owner.new.seen (λ net fuel stopped standings. WorkIs net fuel stopped standings result) }
     {
         let mut kept = self.locked.lock(rt);
         for _ in rt.forever() {
-            if let Some(work) = kept.work(&self.past, witness) {
+            if let Some(work) = kept.work(&self.past, owner, who) {
                 return work;
             }
             kept = self.work.wait(rt, kept);
@@ -471,8 +495,11 @@ impl<L: NetLedger> SharedNet<L> {
     }
 
     /// Stops all workers, and the sessions that wait, which are woken.
-    pub fn stop<R: Wait>(&self, rt: &R) {
-        self.locked.lock(rt).stop(&self.past);
+    pub fn stop<R: Wait>(&self, rt: &R, stopper: &mut Stopper)
+        requires { stopper.old.table ≡ L.past }
+        ensures { (stopper.new.table ≡ stopper.old.table) × (stopper.new.used ≡ true) }
+    {
+        self.locked.lock(rt).stop(&self.past, stopper);
         self.wake(Audience::ALL);
     }
 

@@ -1,8 +1,9 @@
 // ---- live: the engine, on a thread of its own where the browser gives one to a file ----------------------------------
 
-// What is open. `steps` are the commands that stand, each with how many lines the trace had before it; `undone` those that were
-// taken back, the last one first; `log` all lines that the session was told and that moved something. `moves` is what can come
-// next, `circle` who waits in one, and `links` the channels between those.
+// What is open. `steps` are the commands that stand, each with how many lines the trace had before it; `undone` how many of them
+// each `undo` took back, the last `undo` last; `log` all lines that the session was told and that moved something, or
+// changed what later ones do or are answered. `moves` is what can come next, `circle` who waits in one, and `links` the channels
+// between those.
 const live = {worker: null, waiting: new Map(), calls: 0, bytes: null, how: {}, name: '', netlist: null, part: '', isOpen: false,
   isBusy: false, isStopped: false, end: 1, steps: [], undone: [], log: [], moves: [], circle: new Set(), links: new Set(),
   values: new Map(), sources: new Map(), times: {}};
@@ -102,8 +103,9 @@ const ofPart = part => ['--part-form', part, '-n', NETLIST];
 const openSession = () => ask('open', {words: ['explore', ...ofPart(live.part)], files: {[NETLIST]: live.netlist},
   isReplayed: live.how.isReplayed});
 
-// Lines as the session takes them: those that move something are played before each later one where the call can't be held.
-const isMoving = line => /^\s*(fire|run|random|seed|undo|offer|accept|answer|collect|watch)\b/.test(line);
+// Lines as the session takes them: those that move something, or change what later ones do or are answered, are played before
+// each later one where the call can't be held.
+const isMoving = line => /^\s*(fire|run|random|seed|undo|redo|feed|drain|names|offer|accept|answer|collect|watch)\b/.test(line);
 const saidLines = lines => lines.map(line => ({line, isKept: isMoving(line)}));
 
 // Says lines. That the session ended (memory was refused, say) is a fault, with the program's own words.

@@ -55,8 +55,11 @@ const MOST_WAITS = 300, MOST_TOLD = 1000;
 
 // Says lines, and then asks for what the page shows. Answers the answers to the lines.
 async function sayLines(lines) {
-  const began = performance.now(), {answers, memory} = await sayPlainly([...lines, 'moves', 'state']);
-  const told = answers.slice(0, lines.length).map(it => it.output), [moves, state] = answers.slice(-2).map(it => it.output);
+  const began = performance.now(), asked = withLengths(lines);
+  const {answers, memory} = await sayPlainly([...asked.map(it => it.line), 'moves', 'state']);
+  const outputs = answers.map(it => it.output);
+  const told = outputs.filter((_, at) => asked[at] && !asked[at].isLength), [moves, state] = outputs.slice(-2);
+  const ends = asked.flatMap(({isLength}, at) => (isLength ? [] : [asked[at + 1]?.isLength ? lengthIn(outputs[at + 1]) : 0]));
   live.moves = movesIn(moves);
   const isAsked = all.components.length <= MOST_WAITS || !live.moves.some(it => !it.isHost);
   const isWhole = lines.every((line, i) => isWholly(line, told[i]));
@@ -67,39 +70,75 @@ async function sayLines(lines) {
   Object.assign(live.times, {memory, engine: performance.now() - began});
   takeWaits(waits);
   takeStuck(stuck);
-  lines.forEach((line, i) => noteLine(line, told[i]));
-  if (isWhole) growTrace(told.map(output => entriesIn(output).map(line => `${line}\n`).join('')).join(''), clashesIn(state));
+  lines.forEach((line, i) => noteLine(line, told[i], ends[i]));
+  const came = lines.flatMap((line, i) => (isMoving(line) ? entriesIn(told[i]) : []));
+  if (isWhole) growTrace(came.map(line => `${line}\n`).join(''), clashesIn(state));
   else renewTrace(more.files[TRACE]);
   live.end = trace.count - trace.clashes.length;
   view.line = live.end;
   return told;
 }
 
-const entriesIn = output => output.split('\n').filter(line => /^[hw]\d+ /.test(line));
+// Lines, and behind each run on which hosts may stand by the question how long the trace is then: its answer doesn't say it.
+function withLengths(lines) {
+  let isServed = live.log.some(isStanding);
+  return lines.flatMap(line => {
+    isServed = isServed || isStanding(line);
+    return isServed && /^\s*run\b/.test(line) ? [{line}, {line: 'state', isLength: true}] : [{line}];
+  });
+}
+const isStanding = line => /^\s*(feed|drain)\b/.test(line);
+
+// How many lines the trace has, but for clashes, as `state` tells it.
+function lengthIn(state) {
+  const counts = /^trace: (\d+) fired, (\d+) host, (\d+) rest$/m.exec(state);
+  return counts ? counts.slice(1).reduce((sum, count) => sum + Number(count), 1) : 0;
+}
+
+// The lines of the trace in an answer. (With `names on` each move has its words behind it, which begin with a kind.)
+const entryOf = line => (/^w\d+ fire \d+ [a-z]+ \d+(?: \d+)?/.exec(line) || [line])[0];
+const entriesIn = output => output.split('\n').filter(line => /^[hw]\d+ /.test(line)).map(entryOf);
 const firedIn = output => Number((/^(\d+) fired, /m.exec(output) || [0, 0])[1]);
 const isRest = line => line.endsWith(' rest');
 
-// Whether an answer has each line that a command added to the trace. (Of a long run it has the first and the last ones.)
+// Whether an answer has each line that a command added to the trace. (Of a long run it has the first and the last ones, and of
+// what is taken back or made again none.)
 function isWholly(line, output) {
-  if (/^\s*undo\b/.test(line)) return /^error: /.test(output);
-  const fired = firedIn(output);
-  return fired === 0 || entriesIn(output).filter(it => !isRest(it)).length === fired;
+  if (/^\s*(un|re)do\b/.test(line)) return /^error: /.test(output);
+  return !isMoving(line) || !/^\.\. \d+ lines more$/m.test(output);
 }
 
-// Notes a line that stands, and what it changed: how many lines it added to the trace, or how many commands it took back.
-function noteLine(line, output) {
+// Notes a line that stands, and what it changed: how many lines it added to the trace, which then had so many where that was
+// asked, or which commands it took back or made again.
+function noteLine(line, output, end) {
   if (!isMoving(line) || /^error: /.test(output)) return;
   live.log.push(line);
-  const undo = /^\s*undo\b\s*(\d*)/.exec(line), before = live.end;
-  if (undo) {
-    const gone = live.steps.splice(-Number(undo[1] || 1));
-    live.undone.push(...gone.map(it => it.line).reverse());
-    if (gone.length) live.end = gone[0].before;
-    return;
-  }
+  if (/^\s*undo\b/.test(line)) return noteUndo(Number(/\d+/.exec(line) || 1));
+  if (/^\s*redo\b/.test(line)) return noteRedo(output);
   const entries = entriesIn(output), fired = firedIn(output);
-  live.end += fired ? fired + entries.filter(isRest).length : entries.length;
-  if (live.end > before) live.steps.push({line, before});
+  noteStep(line, end || live.end + (fired ? fired + entries.filter(isRest).length : entries.length));
+}
+
+// A command after which the trace has so many lines. What was undone can't be made again then.
+function noteStep(line, end) {
+  if (end <= live.end) return;
+  live.steps.push({line, before: live.end});
+  live.end = end;
+  live.undone = [];
+}
+
+function noteUndo(count) {
+  const gone = live.steps.splice(live.steps.length - count);
+  if (gone.length === 0) return;
+  live.undone.push(gone.length);
+  live.end = gone[0].before;
+}
+
+// `redone: run (12 lines)`
+function noteRedo(output) {
+  const undone = live.undone.slice(0, -1);
+  for (const [, line, count] of output.matchAll(/^redone: (.*) \((\d+) lines?\)$/gm)) noteStep(line, live.end + Number(count));
+  live.undone = undone;
 }
 
 // The clash lines of the trace, by the numbers that `state` writes.
@@ -176,30 +215,43 @@ function takeStuck(stuck) {
 
 // ---- what the reader does ---------------------------------------------------------------------------------------------
 
-// Makes one command. `isRedone`: it was undone before, and what was undone after it stays so.
-const make = (line, isRedone = false) => live.isOpen && busily(async () => {
-  const wanted = /^\s*(trace|page|session)!?\s+(\S+)\s*$/.exec(line), {undone} = live;
+// Makes one command.
+const make = line => live.isOpen && busily(async () => {
+  const wanted = /^\s*(trace|page|session)!?\s+(\S+)\s*$/.exec(line);
   if (/^\s*(quit|exit|q)\s*$/.test(line)) return say('error: this page has no end: close it, or open another netlist');
+  if (/^\s*redo\s*$/.test(line)) return makeAgain(lastUndone());
   if (wanted) return saveWritten(wanted[1], wanted[2]);
-  const before = live.steps.length, [told] = await sayLines([line]);
-  if (live.steps.length > before) live.undone = isRedone ? undone : [];
+  const [told] = await sayLines([line]);
   say(told);
   return show();
 });
 const undo = () => live.steps.length > 0 && make('undo');
-const redo = () => live.undone.length > 0 && make(live.undone.pop(), true);
+const redo = () => live.undone.length > 0 && busily(() => makeAgain(1));
+const lastUndone = () => live.undone[live.undone.length - 1] || 0;
+
+// Makes the first so many commands of the last `undo` again; what else was undone stays so. (The session's `redo` makes all of
+// them, as they were. A `run` that is said again could give what a host has got since.)
+async function makeAgain(count) {
+  if (count === 0) return say('error: there is nothing to redo');
+  const rest = lastUndone() - count, [told] = await sayLines(rest ? ['redo', `undo ${rest}`] : ['redo']);
+  say(told.split('\n').slice(0, count).join('\n'));
+  return show();
+}
 
 // Goes on from an earlier line: takes back what came after it, and of a run that it is in the part after it.
 const goOnFrom = line => busily(async () => {
   const {steps} = live, endOf = i => (i + 1 < steps.length ? steps[i + 1].before : live.end);
   const first = steps.findIndex((_, i) => endOf(i) > line), lines = [];
   if (first < 0) return;
-  const {line: cut, before} = steps[first];
+  const {line: cut, before} = steps[first], hasHosts = trace.hostLines.some(it => it > before && it <= endOf(first));
   lines.push(`undo ${steps.length - first}`);
-  if (before < line) lines.push(`${cut.trim().startsWith('random') ? 'random' : 'run'} ${line - before}`);
+  // (a run on which hosts stood by is taken back whole: else they would give again what they gave in its first part)
+  const isParted = before < line && !hasHosts;
+  if (isParted) lines.push(`${cut.trim().startsWith('random') ? 'random' : 'run'} ${line - before}`);
   await sayLines(lines);
   live.undone = [];
-  say(`This is line ${live.end} again.`);
+  const why = live.end < line ? ' A run with words of hosts in it is taken back as a whole.' : '';
+  say(`This is line ${live.end} again.${why}`);
   show();
 });
 

@@ -1,3 +1,4 @@
 pub mod Escapes
 pub mod Grown
 pub mod Paged
+pub mod Told

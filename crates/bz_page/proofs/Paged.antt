@@ -1,5 +1,5 @@
 -- What the command `page` answers.
-use Rattle.std.proofs.Common.{◌≡◌, ◌≤◌, ◌∙◌, ℕ, List, Option, length, ap, sym, subst}
+use Rattle.std.proofs.Common.{◌≡◌, ◌≤◌, ◌∙◌, ◌++◌, ℕ, List, Option, length, ap, sym, subst}
 use Rattle.std.specs.declared.alloc.Global.{Global}
 use Rattle.std.specs.declared.vec.Vec.{Vec}
 use Rattle.std.specs.Prelude.{Result, Ok, Err}
@@ -11,6 +11,7 @@ use Rattle.bz_source.specs.Found.{Locates}
 use Rattle.bz_source.specs.Net.{FindsNamed}
 use Rattle.bz_source.specs.declared.source.Source.{Source}
 use Rattle.bz_source.specs.declared.survey.Survey.{Survey}
+use Rattle.bz_source_files.specs.declared.file.SourceFile.{SourceFile}
 use Rattle.bz_trace.specs.declared.checking.Verdict.TheVariants as verdict
 use Rattle.bz_trace.specs.Verdicts.{Judges}
 use Rattle.bz_cli_input.specs.declared.fault.Fault.{Fault}
@@ -26,6 +27,7 @@ use Rattle.bz_cli_trace.specs.Making.{MakesNone}
 use Rattle.bz_cli_trace.proofs.Makes.{none_of_run, run_judged}
 use Rattle.bz_page.specs.declared.fault.TooLarge.{TooLarge}
 use Rattle.bz_page.specs.Pages.{Blank, page_text}
+use Rattle.bz_page.specs.Sources.{files_rows}
 use Rattle.bz_page.specs.Paging.{Finds, HasPage, IsInPieces, IsPage, IsPlacedOf, IsTooLarge, PagesNet, PagesTrace, Places, net_page}
 
 -- a page of texts that are known to be these
@@ -60,11 +62,11 @@ found netlist trace asked c (Ok (net, s, part, ends)) checked run places =
 found netlist trace asked c (Err f) checked run places = none_of_run IsTooLarge netlist trace asked c.net.wiring f (run_judged netlist trace asked c checked run) places
 
 -- what went out of the page of a net that has one, and what was answered
-module _ (b : Blank) (netlist trace : List ℕ) (asked : Option (List ℕ)) (name : List ℕ) (net : Pieces) (s : Survey) (ends : List ℕ) (has : HasPage netlist trace asked name net s) (old new : Option (List ℕ)) where
-  pub paged : PagesNet {A = Unit {0}} b name net s trace ends old new (Ok tt) → PagesTrace {A = Unit {0}} b netlist trace asked old new (Ok tt)
-  paged out = sent_as Command fault.Write (λ (u : Unit {0}) page. page ≡ net_page b name net s trace ends) (λ f. f ≡ fault.Memory) (λ (u : Unit {0}) page. IsPage b netlist trace asked page) (MakesNone IsTooLarge netlist trace asked) old new tt tt
+module _ (b : Blank) (netlist trace : List ℕ) (asked : Option (List ℕ)) (name : List ℕ) (net : Pieces) (s : Survey) (files : List SourceFile) (ends : List ℕ) (has : HasPage netlist trace asked name net s) (old new : Option (List ℕ)) where
+  pub paged : PagesNet {A = Unit {0}} b name net s trace (files_rows files ++ ends) old new (Ok tt) → PagesTrace {A = Unit {0}} b netlist trace asked files old new (Ok tt)
+  paged out = sent_as Command fault.Write (λ (u : Unit {0}) page. page ≡ net_page b name net s trace (files_rows files ++ ends)) (λ f. f ≡ fault.Memory) (λ (u : Unit {0}) page. IsPage b netlist trace asked files page) (MakesNone IsTooLarge netlist trace asked) old new tt tt
       (λ page is. (name, net, s, ends, has, is)) out
 
-  pub paged_short : (f : Fault) → PagesNet {A = Unit {0}} b name net s trace ends old new (Err f) → PagesTrace {A = Unit {0}} b netlist trace asked old new (Err (Command f))
-  paged_short f out = failed_as Command fault.Write (λ (u : Unit {0}) page. page ≡ net_page b name net s trace ends) (λ f. f ≡ fault.Memory) (λ (u : Unit {0}) page. IsPage b netlist trace asked page) (MakesNone IsTooLarge netlist trace asked) old new f tt
+  pub paged_short : (f : Fault) → PagesNet {A = Unit {0}} b name net s trace (files_rows files ++ ends) old new (Err f) → PagesTrace {A = Unit {0}} b netlist trace asked files old new (Err (Command f))
+  paged_short f out = failed_as Command fault.Write (λ (u : Unit {0}) page. page ≡ net_page b name net s trace (files_rows files ++ ends)) (λ f. f ≡ fault.Memory) (λ (u : Unit {0}) page. IsPage b netlist trace asked files page) (MakesNone IsTooLarge netlist trace asked) old new f tt
       (λ u page is. (name, net, s, ends, has, is)) (λ is. subst (RefusesNet netlist asked) (sym is) tt) out

@@ -1,5 +1,5 @@
 -- What the command `page` reads and writes: a netlist, a trace, and a page.
-use Rattle.std.specs.Prelude.{◌≡◌, ◌<◌, ◌≤◌, ℕ, List, length, map, Option, Result, Ok, Err}
+use Rattle.std.specs.Prelude.{◌≡◌, ◌<◌, ◌≤◌, ◌++◌, ℕ, List, length, map, Option, Result, Ok, Err}
 use Rattle.std.specs.declared.alloc.Global.{Global}
 use Rattle.std.specs.declared.vec.Vec.{Vec}
 use Rattle.bz_model.specs.Nets.{Wiring}
@@ -9,6 +9,7 @@ use Rattle.bz_flat.specs.declared.flat.Pieces.{Pieces}
 use Rattle.bz_source.specs.Found.{Locates}
 use Rattle.bz_source.specs.Net.{FindsNamed}
 use Rattle.bz_source.specs.declared.survey.Survey.{Survey}
+use Rattle.bz_source_files.specs.declared.file.SourceFile.{SourceFile}
 use Rattle.bz_trace.specs.declared.checking.Verdict.TheVariants as verdict
 use Rattle.bz_trace.specs.Verdicts.{Judges}
 use Rattle.bz_cli_input.specs.declared.fault.Fault.{Fault}
@@ -24,6 +25,7 @@ use Rattle.bz_cli_trace.specs.Taking.{AnswersText, AnswersTwo, IsOfInput}
 use Rattle.bz_page.specs.declared.fault.TooLarge.{TooLarge}
 use Rattle.bz_page.specs.Pages.{Blank, page_text}
 use Rattle.bz_page.specs.Rows.{rows_text}
+use Rattle.bz_page.specs.Sources.{files_rows}
 
 -- a net has so many components, and that is more than a page holds
 abbrev pub IsTooLarge : Wiring → TooLarge → Type 0
@@ -69,20 +71,21 @@ net_page b part net s trace ends = page_text b (paths_text net s part) (rows_tex
 abbrev pub PagesNet : {A : Type 0} → Blank → List ℕ → Pieces → Survey → List ℕ → List ℕ → Option (List ℕ) → Option (List ℕ) → Result A Fault → Type 0
 PagesNet b part net s trace ends old new answer = Answers Write (λ u page. page ≡ net_page b part net s trace ends) (λ fault. fault ≡ Memory) old new answer
 
--- the page of the net that a netlist denotes, with a trace that is that of a run of it; which lines tell how the run ended is not
--- said
-abbrev pub IsPage : Blank → List ℕ → List ℕ → Option (List ℕ) → List ℕ → Type 0
-IsPage b netlist trace asked page =
-    (name : List ℕ) × (net : Pieces) × (s : Survey) × (ends : List ℕ) × HasPage netlist trace asked name net s × (page ≡ net_page b name net s trace ends)
+-- the page of the net that a netlist denotes, with a trace that is that of a run of it, and with these files of the source; which
+-- lines tell how the run ended is not said
+abbrev pub IsPage : Blank → List ℕ → List ℕ → Option (List ℕ) → List SourceFile → List ℕ → Type 0
+IsPage b netlist trace asked files page =
+    (name : List ℕ) × (net : Pieces) × (s : Survey) × (ends : List ℕ) × HasPage netlist trace asked name net s
+    × (page ≡ net_page b name net s trace (files_rows files ++ ends))
 
 -- Only the trace of a run is played.
-abbrev pub PagesTrace : {A : Type 0} → Blank → List ℕ → List ℕ → Option (List ℕ) → Option (List ℕ) → Option (List ℕ) → Result A (TraceFault TooLarge) → Type 0
-PagesTrace b netlist trace asked old new answer = Answers (Command Write) (λ u page. IsPage b netlist trace asked page) (MakesNone IsTooLarge netlist trace asked) old new answer
+abbrev pub PagesTrace : {A : Type 0} → Blank → List ℕ → List ℕ → Option (List ℕ) → List SourceFile → Option (List ℕ) → Option (List ℕ) → Result A (TraceFault TooLarge) → Type 0
+PagesTrace b netlist trace asked files old new answer = Answers (Command Write) (λ u page. IsPage b netlist trace asked files page) (MakesNone IsTooLarge netlist trace asked) old new answer
 
 -- The command `page`.
-abbrev pub Pages : {A : Type 0} → Blank → List ℕ → Option (List ℕ) → Option (List ℕ) → Option (List ℕ) → Result A (TraceFault TooLarge) → Type 0
-Pages b text asked old new answer = AnswersText IsOfInput (λ netlist trace. PagesTrace b netlist trace asked old new answer) text old new answer
+abbrev pub Pages : {A : Type 0} → Blank → List ℕ → Option (List ℕ) → List SourceFile → Option (List ℕ) → Option (List ℕ) → Result A (TraceFault TooLarge) → Type 0
+Pages b text asked files old new answer = AnswersText IsOfInput (λ netlist trace. PagesTrace b netlist trace asked files old new answer) text old new answer
 
 -- The same of a netlist and a trace apart.
-abbrev pub PagesApart : {A : Type 0} → Blank → List ℕ → List ℕ → Option (List ℕ) → Option (List ℕ) → Option (List ℕ) → Result A (TraceFault TooLarge) → Type 0
-PagesApart b netlist trace asked old new answer = AnswersTwo IsOfInput (λ n t. PagesTrace b n t asked old new answer) netlist trace old new answer
+abbrev pub PagesApart : {A : Type 0} → Blank → List ℕ → List ℕ → Option (List ℕ) → List SourceFile → Option (List ℕ) → Option (List ℕ) → Result A (TraceFault TooLarge) → Type 0
+PagesApart b netlist trace asked files old new answer = AnswersTwo IsOfInput (λ n t. PagesTrace b n t asked files old new answer) netlist trace old new answer

@@ -14,97 +14,118 @@ ghost use Rattle.bz_page.specs.Paging.{Finds, IsInPieces, Pages, PagesApart, Pag
 use crate::around::Template;
 use crate::ends::Ended;
 use crate::fault::TooLarge;
-use crate::net_page::{put_net_page, template};
+use crate::net_page::{put_told_page, template};
 use crate::template::{HEAD, MID1, MID2, TAIL};
 use bz_cli_input::Fault;
 use bz_cli_trace::{Checked, Texts, TraceFault, run_of};
 use bz_flat::Pieces;
 use bz_net::Play;
 use bz_source::Survey;
+use bz_source_files::{SourceFile, tell_unnamed};
 use std::alloc::{AllocError, Global};
 use std::io::{Read, Write};
 
 /// The most components of a net that a page holds.
 const MOST_COMPS: usize = 100_000;
 
-/// Writes a page on which the trace after the netlist plays that the reader gives. Only the trace of a run is played, and nothing
-/// is written where there is no page.
-pub fn page_cmd<R: Read, W: Write>(
+/// Writes a page on which the trace after the netlist plays that the reader gives, with these files of the source. Only the trace of
+/// a run is played, and nothing is written where there is no page. Of a page that was written it goes to `errors` which of the files
+/// no place of the net names.
+pub fn page_cmd<R: Read, W: Write, E: Write>(
     alloc: Global,
     asked: Option<&[u8]>,
+    files: &[SourceFile],
     input: &mut R,
     output: &mut W,
+    errors: &mut E,
 ) -> Result<(), TraceFault<TooLarge>>
-    ensures pages { IfSome (R.remaining input.old) (λ text. Pages (blank HEAD.now MID1.now MID2.now TAIL.now) text (option_copied asked.entry) (W.contents output.old) (W.contents output.new) result) }
+    ensures pages { IfSome (R.remaining input.old) (λ text. Pages (blank HEAD.now MID1.now MID2.now TAIL.now) text (option_copied asked.entry) files.now (W.contents output.old) (W.contents output.new) result) }
 
     // Whatever comes of it, it reads at most one byte past the limit.
     ensures bounded { ReadsWithin (R.remaining input.old) (R.remaining input.new) }
 {
-    page_of_input(alloc, template(), asked, input, output)
+    page_of_input(alloc, template(), asked, files, input, output, errors)
 }
 
 /// The same of a trace that a reader of its own gives, with the limit for itself.
-pub fn page_trace_cmd<R: Read, T: Read, W: Write>(
+pub fn page_trace_cmd<R: Read, T: Read, W: Write, E: Write>(
     alloc: Global,
     asked: Option<&[u8]>,
+    files: &[SourceFile],
     input: &mut R,
     trace: &mut T,
     output: &mut W,
+    errors: &mut E,
 ) -> Result<(), TraceFault<TooLarge>>
     ensures pages { IfSome (R.remaining input.old) (λ netlist. IfSome (T.remaining trace.old)
-        (λ text. PagesApart (blank HEAD.now MID1.now MID2.now TAIL.now) netlist text (option_copied asked.entry) (W.contents output.old) (W.contents output.new) result)) }
+        (λ text. PagesApart (blank HEAD.now MID1.now MID2.now TAIL.now) netlist text (option_copied asked.entry) files.now (W.contents output.old) (W.contents output.new) result)) }
     ensures bounded { ReadsWithin (R.remaining input.old) (R.remaining input.new) }
     ensures bounded_trace { ReadsWithin (T.remaining trace.old) (T.remaining trace.new) }
 {
-    page_of_inputs(alloc, template(), asked, input, trace, output)
+    page_of_inputs(
+        alloc,
+        template(),
+        asked,
+        files,
+        input,
+        trace,
+        output,
+        errors,
+    )
 }
 
 // Writes a page of what the reader gives.
-fn page_of_input<R: Read, W: Write>(
+fn page_of_input<R: Read, W: Write, E: Write>(
     alloc: Global,
     template: Template<'_>,
     asked: Option<&[u8]>,
+    files: &[SourceFile],
     input: &mut R,
     output: &mut W,
+    errors: &mut E,
 ) -> Result<(), TraceFault<TooLarge>>
-    ensures pages { IfSome (R.remaining input.old) (λ text. Pages (blank_of template.entry) text (option_copied asked.entry) (W.contents output.old) (W.contents output.new) result) }
+    ensures pages { IfSome (R.remaining input.old) (λ text. Pages (blank_of template.entry) text (option_copied asked.entry) files.now (W.contents output.old) (W.contents output.new) result) }
     ensures bounded { ReadsWithin (R.remaining input.old) (R.remaining input.new) }
 {
     match Texts::read(alloc, input) {
-        Ok(texts) => page_of_texts(alloc, template, asked, &texts, output),
+        Ok(texts) => page_of_texts(alloc, template, asked, files, &texts, output, errors),
         Err(fault) => Err(TraceFault::Command(Fault::from(fault))),
     }
 }
 
 // Writes a page of what two readers give.
-fn page_of_inputs<R: Read, T: Read, W: Write>(
+fn page_of_inputs<R: Read, T: Read, W: Write, E: Write>(
     alloc: Global,
     template: Template<'_>,
     asked: Option<&[u8]>,
+    files: &[SourceFile],
     input: &mut R,
     trace: &mut T,
     output: &mut W,
+    errors: &mut E,
 ) -> Result<(), TraceFault<TooLarge>>
     ensures pages { IfSome (R.remaining input.old) (λ netlist. IfSome (T.remaining trace.old)
-        (λ text. PagesApart (blank_of template.entry) netlist text (option_copied asked.entry) (W.contents output.old) (W.contents output.new) result)) }
+        (λ text. PagesApart (blank_of template.entry) netlist text (option_copied asked.entry) files.now (W.contents output.old) (W.contents output.new) result)) }
     ensures bounded { ReadsWithin (R.remaining input.old) (R.remaining input.new) }
     ensures bounded_trace { ReadsWithin (T.remaining trace.old) (T.remaining trace.new) }
 {
     match Texts::read_apart(alloc, input, trace) {
-        Ok(texts) => page_of_texts(alloc, template, asked, &texts, output),
+        Ok(texts) => page_of_texts(alloc, template, asked, files, &texts, output, errors),
         Err(fault) => Err(TraceFault::Command(Fault::from(fault))),
     }
 }
 
 // Writes a page of a trace.
-fn page_of_texts<W: Write>(
+fn page_of_texts<W: Write, E: Write>(
     alloc: Global,
     template: Template<'_>,
     asked: Option<&[u8]>,
+    files: &[SourceFile],
     texts: &Texts,
     output: &mut W,
+    errors: &mut E,
 ) -> Result<(), TraceFault<TooLarge>>
-    ensures { PagesTrace (blank_of template.entry) texts.now.netlist texts.now.trace (option_copied asked.entry) (W.contents output.old) (W.contents output.new) result }
+    ensures { PagesTrace (blank_of template.entry) texts.now.netlist texts.now.trace (option_copied asked.entry) files.now (W.contents output.old) (W.contents output.new) result }
 {
     let (netlist, trace) = texts.both();
     let (net, survey, part, ends) = match run_net(alloc, asked, netlist, trace) {
@@ -112,8 +133,13 @@ fn page_of_texts<W: Write>(
         Err(fault) => return Err(fault),
     };
     let part = part.as_slice();
-    match put_net_page(alloc, template, part, &net, &survey, trace, &ends, output) {
-        Ok(()) => Ok(()),
+    match put_told_page(
+        alloc, template, part, &net, &survey, trace, files, &ends, output,
+    ) {
+        Ok(()) => {
+            tell_unnamed(alloc, files, &survey, errors);
+            Ok(())
+        }
         Err(fault) => Err(TraceFault::Command(fault)),
     }
 }

@@ -8,6 +8,7 @@ mod escaping;
 mod fault;
 mod net_page;
 mod rows;
+mod sources;
 mod template;
 
 pub use around::Template;

@@ -4,20 +4,23 @@
 //! The list and the rows are put together in memory before anything goes out, so nothing is written where memory is refused;
 //! the trace is escaped as it goes out, in stretches between bytes that are.
 
-ghost use Rattle.std.specs.Prelude.{◌≡◌, ◌≤◌, IfOk, OnOk, OnErr, length};
+ghost use Rattle.std.specs.Prelude.{◌≡◌, ◌≤◌, ◌++◌, IfOk, OnOk, OnErr, length};
 ghost use Rattle.std.specs.Io.KnownBytes.{Appends};
 ghost use Rattle.bz_cli_input.specs.Stopping.{AppendsSome};
 ghost use Rattle.bz_cli_source.specs.Listing.{paths_text};
 ghost use Rattle.bz_page.specs.Pages.{blank, blank_of, page_text};
 ghost use Rattle.bz_page.specs.Paging.{PagesNet};
+ghost use Rattle.bz_page.specs.Sources.{files_rows};
 
 use crate::around::{Template, put_around};
 use crate::rows::rows_of;
+use crate::sources::told_rows;
 use crate::template::{HEAD, MID1, MID2, TAIL};
 use bz_cli_input::Fault;
 use bz_cli_source::put_paths;
 use bz_flat::Pieces;
 use bz_source::Survey;
+use bz_source_files::SourceFile;
 use bz_text::WriteFault;
 use std::alloc::{AllocError, Global};
 use std::io::Write;
@@ -51,8 +54,30 @@ pub fn put_page<W: Write>(
     put_net_page(alloc, template(), part, net, survey, trace, ends, output)
 }
 
-/// The same around another template.
-pub(crate) fn put_net_page<W: Write>(
+/// The same around another template, with files of the source before the lines that tell how the run ended.
+pub(crate) fn put_told_page<W: Write>(
+    alloc: Global,
+    template: Template<'_>,
+    part: &[u8],
+    net: &Pieces,
+    survey: &Survey,
+    trace: &[u8],
+    files: &[SourceFile],
+    ends: &[u8],
+    output: &mut W,
+) -> Result<(), Fault>
+    requires { length net.now.comps ≤ 1000000 }
+    ensures { PagesNet (blank_of template.entry) part.now net.now survey.now trace.now (files_rows files.now ++ ends.now) (W.contents output.old) (W.contents output.new) result }
+{
+    let told = told_rows(alloc, files, ends);
+    let Ok(told) = told.whole() else {
+        return Err(Fault::Memory);
+    };
+    put_net_page(alloc, template, part, net, survey, trace, told, output)
+}
+
+// The same without files.
+fn put_net_page<W: Write>(
     alloc: Global,
     template: Template<'_>,
     part: &[u8],

@@ -12,10 +12,10 @@ pub run_on : (w : Wiring) (s : State) (xs ys : List Entry) (m t : State) → Run
 run_on w s [] ys m t one two = subst (λ x. Run w x ys t) one two
 run_on w s (x ∷ xs) ys m t one two = (one.0, one.1, run_on w one.0 xs ys m t one.2 two)
 
-pub here : (a : Moment) → Leads a a
+unfoldable pub here : (a : Moment) → Leads a a
 here a = record { wiring = refl; limit = refl; rest = []; journal = sym (append-nil a.net.journal); run = refl; stays = λ h. h }
 
-pub onward : (a b c : Moment) → Leads a b → Leads b c → Leads a c
+unfoldable pub onward : (a b c : Moment) → Leads a b → Leads b c → Leads a c
 onward a b c one two = record {
   wiring = two.wiring ∙ one.wiring;
   limit = two.limit ∙ one.limit;

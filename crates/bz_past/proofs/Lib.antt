@@ -1,2 +1,4 @@
+pub mod Causes
 pub mod Leading
+pub mod Owning
 pub mod Steps

@@ -1,3 +1,5 @@
 pub mod Moments
+pub mod Owners
 pub mod Rules
 pub mod Seen
+pub mod Stopping

@@ -1,4 +1,4 @@
-//! What lay under a lock, moment by moment: one keeper knows what lies there now, and each witness what it has seen there.
+//! What lay under a lock, moment by moment: one keeper knows what lies there now, and each owner all entries of its own.
 #![tactic(auto)]
 
 mod mark;
@@ -6,5 +6,5 @@ mod past;
 mod rule;
 mod view;
 
-pub use past::{Keeper, Memory, Past, Witness};
-pub use view::{Moment, View};
+pub use past::{Keeper, Memory, Owner, Past, Stopper};
+pub use view::{Moment, Roll, View};

@@ -1,5 +1,5 @@
 // The rule of all tokens of one past, and what each step tells its token.
-ghost use Rattle.bz_past.specs.Rules.{Holds, first, witness_of, keeper_of, compared, gone, Tells, Moves};
+ghost use Rattle.bz_past.specs.Rules.{Holds, first, keeper_of, nothing_of, gone, with_host, host_of, with_worker, worker_of, joined, keeper_again, other_again, Acted, Halted, TakenBack, TakenIn, Told};
 
 use crate::mark::Mark;
 use crate::view::View;
@@ -15,34 +15,82 @@ impl TableRule<(), View, Net> for Onward {
     ghost first = { first };
 }
 
-/// A new moment has come.
-pub struct Moved<B: Mark>(PhantomData<B>);
+/// A new moment has come, by an owner's entries.
+pub struct ByOwner<B: Mark>(PhantomData<B>);
 
-impl<B: Mark> Play<(), View> for Moved<B> {
-    ghost then = { λ s m found n. Moves B.moment m n };
+impl<B: Mark> Play<(), View> for ByOwner<B> {
+    ghost then = { λ s m found n. Acted B.moment m n };
 }
 
-/// The keeper is told that what a witness saw leads here.
-pub struct Told;
+/// A new moment has come, by no entry and by the stopper.
+pub struct ByStopper<B: Mark>(PhantomData<B>);
 
-impl Play<(), View> for Told {
-    ghost then = { λ s m found n. Tells m n };
+impl<B: Mark> Play<(), View> for ByStopper<B> {
+    ghost then = { λ s m found n. Halted B.moment m n };
 }
 
-/// A witness of this moment.
-pub struct Shown;
+/// The owner that the keeper has is taken in.
+pub struct TakesIn;
 
-impl Split<View> for Shown {
+impl Play<(), View> for TakesIn {
+    ghost then = { λ s m found n. TakenIn m n };
+}
+
+/// The stopper that the keeper has is taken in.
+pub struct TakesBack;
+
+impl Play<(), View> for TakesBack {
+    ghost then = { λ s m found n. TakenBack m n };
+}
+
+/// The keeper is told whose entries there are, and why all was stopped.
+pub struct Tells;
+
+impl Play<(), View> for Tells {
+    ghost then = { λ s m found n. Told m n };
+}
+
+/// A token of nothing, which keeps a place.
+pub struct Nothing;
+
+impl Split<View> for Nothing {
     ghost left = { keeper_of };
 
-    ghost right = { witness_of };
+    ghost right = { nothing_of };
 }
 
-/// What a witness saw, beside what is.
-pub struct Heard;
+/// The owner of the next host.
+pub struct NextHost;
 
-impl Join<View> for Heard {
-    ghost both = { compared };
+impl Split<View> for NextHost {
+    ghost left = { with_host };
+
+    ghost right = { host_of };
+}
+
+/// The owner of the next worker.
+pub struct NextWorker;
+
+impl Split<View> for NextWorker {
+    ghost left = { with_worker };
+
+    ghost right = { worker_of };
+}
+
+/// The keeper, and the owner that acted or the stopper.
+pub struct Parts;
+
+impl Split<View> for Parts {
+    ghost left = { keeper_again };
+
+    ghost right = { other_again };
+}
+
+/// The keeper, with an owner that acts or with the stopper.
+pub struct Joins;
+
+impl Join<View> for Joins {
+    ghost both = { joined };
 
     ghost spent = { gone };
 }

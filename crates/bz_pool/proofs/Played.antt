@@ -1,6 +1,6 @@
 -- The plays of all sessions, in turn.
-use Rattle.std.proofs.Common.{Result, Ok, Err, ◌≡◌, ℕ, suc, ◌+◌, List, [], ◌∷◌, ◌++◌, length, map, take, get_or, refl, sym, ap, subst, ◌∙◌, arith, inl, inr, ⊎_elim, length-append}
-use Rattle.std.specs.Prelude.{IfErr, IfOk}
+use Rattle.std.proofs.Common.{Bool, true, false, true≢false, sym, Result, Ok, Err, ◌≡◌, ℕ, suc, ◌+◌, List, [], ◌∷◌, ◌++◌, length, map, get_or, refl, ap, subst, ◌∙◌, arith, inl, inr, ⊎_elim, length-append}
+use Rattle.std.specs.Prelude.{IfErr, IfOk, OnErr}
 use Rattle.std.specs.List.{All}
 use Rattle.std.specs.declared.alloc.Global.{Global}
 use Rattle.std.specs.declared.vec.Vec.{Vec}
@@ -8,26 +8,21 @@ use Rattle.bz_model.specs.declared.event.Entry.{Entry}
 use Rattle.bz_model.specs.declared.event.HostCmd.{HostCmd}
 use Rattle.bz_model.specs.declared.event.Who.{Who}
 use Rattle.bz_model.specs.declared.event.Who.TheVariants.{Host}
-use Rattle.bz_locked.specs.Discords.{IsDiscord}
-use Rattle.bz_locked.specs.declared.closing.CloseError.{CloseError}
-use Rattle.bz_locked.specs.Closing.{FirstDiscord, Gathers, RecordAgrees}
+use Rattle.bz_locked.specs.Closing.{RecordAgrees}
 use Rattle.bz_locked.specs.Journal.{part_of}
 use Rattle.bz_locked.specs.Parts.{SessionView, WorkerView}
-use Rattle.bz_locked.specs.declared.closing.Closed.{Closed}
-use Rattle.bz_locked.specs.declared.closing.CloseError.TheVariants as close
-use Rattle.bz_pool.specs.declared.pool.PoolError.{PoolError}
-use Rattle.bz_pool.specs.declared.pool.PoolError.TheVariants.{Close}
 use Rattle.bz_session.specs.declared.playing.End.{End}
 use Rattle.bz_past.specs.Moments.{Leads}
+use Rattle.bz_past.specs.Owners.{AreNamed}
+use Rattle.bz_past.specs.Stopping.{HasCause, IsStoppedFor}
 use Rattle.bz_past.specs.declared.view.Moment.{Moment}
 use Rattle.bz_locked.proofs.Seeing.{once_on}
-use Rattle.bz_session.specs.Playing.{answered}
 use Rattle.bz_session.specs.declared.playing.End.TheVariants as end
 use Rattle.bz_words.specs.declared.words.SessionError.TheVariants as session
-use Rattle.bz_session.proofs.Turns.{answers_on, end_on}
-use Rattle.std.proofs.lemmas.List.Elements.{All-nil, All-cons, All-head, All-tail}
-use Rattle.bz_pool.specs.Crews.{AddsWork, EachPlayed, EachWorked, HavePlayed, TellsDiscord}
-use Rattle.bz_pool.specs.Pooled.{ArePlayed, Differs, IsPlayed, PlayInTurn, WorkEndIs, RefusesPool, hands, hosts, in_turn}
+use Rattle.bz_session.proofs.Turns.{played_on}
+use Rattle.std.proofs.lemmas.List.Elements.{All-append, All-nil, All-cons, All-head, All-tail, All-same}
+use Rattle.bz_pool.specs.Crews.{AddsWork, EachPlayed, EachWorked, HavePlayed}
+use Rattle.bz_pool.specs.Pooled.{ArePlayed, IsPlayed, PlayInTurn, StopsFor, WorkEndIs, in_turn}
 use Rattle.bz_locked.specs.Terms.{Terms}
 
 -- one session more
@@ -54,14 +49,10 @@ behind [] = []
 behind (x ∷ xs) = xs
 
 -- what led to this has led to what comes of it
-played_on : (t : Terms) (a b : Moment) (who : Who) (words : List HostCmd) (end : End) (own : List Entry) → Leads a b → IsPlayed t a who words end own → IsPlayed t b who words end own
-played_on t a b who words end own on is = record {
-  answers = record {
-    entries = is.answers.entries;
-    grown = is.answers.grown;
-    answers = answers_on t a b who (take (answered end (length words)) words) is.answers.entries on is.answers.answers;
-  };
-  why = end_on t a b words end on is.why;
+played_later : (t : Terms) (a b : Moment) (who : Who) (words : List HostCmd) (end : End) (own : List Entry) → Leads a b → IsPlayed t a who words end own → IsPlayed t b who words end own
+played_later t a b who words end own on is = record {
+  had = is.had;
+  answers = played_on t is.had a b who words end [] own on is.answers;
   word = is.word;
 }
 
@@ -100,7 +91,7 @@ in_turn_played w last k (z ∷ zs) (x ∷ xs) [] whos own saw all = absurd all
 in_turn_played w last k (z ∷ zs) (x ∷ xs) (y ∷ ys) whos own saw all =
     let who : x.who ≡ Host (suc k) = ap (λ (l : List Who). get_or l 0 x.who) whos in
     let mine : x.own ≡ part_of (Host (suc k)) last.net.journal = own 0 x (omega arith) ∙ ap (λ h. part_of h last.net.journal) who in
-    let later : IsPlayed w last x.who z.items y x.own = played_on w x.seat.saw last x.who z.items y x.own (saw 0 x (omega arith)) all.0 in
+    let later : IsPlayed w last x.who z.items y x.own = played_later w x.seat.saw last x.who z.items y x.own (saw 0 x (omega arith)) all.0 in
     let is : IsPlayed w last (Host (suc k)) z.items y x.own = subst (λ (h : Who). IsPlayed w last h z.items y x.own) who later in
     (subst (λ (l : List Entry). IsPlayed w last (Host (suc k)) z.items y l) mine is, in_turn_played w last (suc k) zs xs ys (ap behind whos) (λ i d lt. own (suc i) d (omega arith)) (λ i d lt. saw (suc i) d (omega arith)) all.1)
 
@@ -119,42 +110,59 @@ ends_count w lists ss vs m ends have =
     let grown = ap length have.then.grown ∙ length-append have.of_sessions have.then.of_workers in
     omega (arith, counts.1, grown, have.then.number)
 
+-- who was told to stop was told so of a moment that has led to the last, where all is still stopped
+module _ (t : Terms) (workers : ℕ) (last : Moment) (why : last.stopped ≡ true → HasCause workers last) where
+  host_stops : (who : Who) (words : List HostCmd) (e : End) (own : List Entry) → IsPlayed t last who words e own → StopsFor workers last e
+  host_stops who words end.Done own is = tt
+  host_stops who words (end.Resting word) own is = tt
+  host_stops who words (end.Spent word) own is = tt
+  host_stops who words (end.Stopped word) own is = let once = is.answers.why.2.0 in why (once.leads.stays once.fact.1)
+  host_stops who words (end.Refused word x) own is = tt
+
+  hosts_stop : (k : ℕ) (ls : List (Vec HostCmd Global)) (es : List End) → PlayInTurn t last k ls es → All (StopsFor workers last) es
+  hosts_stop k [] [] all = All-nil (StopsFor workers last)
+  hosts_stop k [] (e ∷ es) all = absurd all
+  hosts_stop k (l ∷ ls) [] all = absurd all
+  hosts_stop k (l ∷ ls) (e ∷ es) all = All-cons (StopsFor workers last) e es (host_stops (Host (suc k)) l.items e (part_of (Host (suc k)) last.net.journal) all.0) (hosts_stop (suc k) ls es all.1)
+
+  worker_stops : (e : End) → WorkEndIs t last e → StopsFor workers last e
+  worker_stops end.Done is = tt
+  worker_stops (end.Resting word) is = tt
+  worker_stops (end.Spent word) is = tt
+  worker_stops (end.Stopped word) is = why (is.1.leads.stays is.1.fact)
+  worker_stops (end.Refused word x) is = tt
+
+  workers_stop : (es : List End) → All (WorkEndIs t last) es → All (StopsFor workers last) es
+  workers_stop [] all = All-nil (StopsFor workers last)
+  workers_stop (e ∷ es) all = All-cons (StopsFor workers last) e es (worker_stops e (All-head (WorkEndIs t last) e es all)) (workers_stop es (All-tail (WorkEndIs t last) e es all))
+
+-- where the stopper was not used, an entry was refused
+pub unused : (u : Bool) (workers : ℕ) (now : Moment) → u ≡ false → IsStoppedFor u workers now → now.stopped ≡ true → HasCause workers now
+unused u workers now not why stopped = ⊎_elim (λ used. absurd (true≢false (sym used ∙ not))) (λ cause. cause) (why stopped)
+
 -- what the threads did, told of the journal
 pub all_played : (w : Terms) (last : Moment) (ls : List (Vec HostCmd Global)) (ss : List SessionView) (vs : List WorkerView) (workers : ℕ) (ends : List End) → map (λ s. s.who) ss ≡ in_turn Host 0 (length ls) → All (RecordAgrees last.net.journal) ss
-    → All (λ (s : SessionView). Leads s.seat.saw last) ss → All (λ (v : WorkerView). Leads v.seat.saw last) vs → HavePlayed w ls ss vs workers ends → ArePlayed w ls workers last ends
-all_played w last ls ss vs workers ends whos own saw seen have = record {
-  of_sessions = have.of_sessions;
-  of_workers = have.then.of_workers;
-  ends_are = have.then.grown;
-  played = in_turn_played w last 0 ls ss have.of_sessions whos own saw have.played;
-  count = have.then.number;
-  worked = all_worked w last vs have.then.of_workers seen have.then.worked;
-}
+    → All (λ (s : SessionView). Leads s.seat.saw last) ss → All (λ (v : WorkerView). Leads v.seat.saw last) vs → AreNamed (length ls) workers last.net.journal → (last.stopped ≡ true → HasCause workers last) → HavePlayed w ls ss vs workers ends → ArePlayed w ls workers last ends
+all_played w last ls ss vs workers ends whos own saw seen named why have =
+    let played = in_turn_played w last 0 ls ss have.of_sessions whos own saw have.played in
+    let worked = all_worked w last vs have.then.of_workers seen have.then.worked in record {
+      of_sessions = have.of_sessions;
+      of_workers = have.then.of_workers;
+      ends_are = have.then.grown;
+      played = played;
+      count = have.then.number;
+      worked = worked;
+      named = named;
+      why = why;
+      stops = All-same (StopsFor workers last) _ _ have.then.grown (All-append (StopsFor workers last) have.of_sessions have.then.of_workers (hosts_stop w workers last why 0 ls have.of_sessions played) (workers_stop w workers last why have.then.of_workers worked));
+    }
 
 -- what holds of an answer, by two clauses of it
 pub of_ok : {A E : Type 0} (P Q R : A → Type 0) (result : Result A E) → ((a : A) → P a → Q a → R a) → IfOk result P → IfOk result Q → IfOk result R
 of_ok P Q R (Ok a) f p q = f a p q
 of_ok P Q R (Err e) f p q = tt
 
-pub of_err : {A E : Type 0} (P Q : E → Type 0) (result : Result A E) → ((e : E) → P e → Q e) → IfErr result P → IfErr result Q
-of_err P Q (Ok a) f p = tt
-of_err P Q (Err e) f p = f e p
-
--- a discord of what was handed in
-pub all_refused : (t : Terms) (workers : ℕ) (ss : List SessionView) (vs : List WorkerView) (c : Closed) (e : PoolError) → map (λ s. s.who) ss ≡ hosts t.sessions → map (λ v. v.who) vs ≡ hands workers → Gathers t ss vs c → TellsDiscord ss vs c e → RefusesPool t workers e
-all_refused t workers ss vs c e hs ws gathers tells =
-    let differs : Differs t workers tells.who tells.at = record {
-      closed = c;
-      of_sessions = ss;
-      of_workers = vs;
-      sessions_are = hs;
-      workers_are = ws;
-      gathers = gathers;
-      first = tells.first;
-    } in
-    subst (RefusesPool t workers) (sym tells.told) differs
-
--- which error the close answers
-pub discord_told : (ss : List SessionView) (vs : List WorkerView) (c : Closed) (e : CloseError) → IsDiscord e (FirstDiscord ss vs c) → TellsDiscord ss vs c (Close e)
-discord_told ss vs c (close.Discord who at) is = record { who = who; at = at; told = refl; first = is }
-discord_told ss vs c close.Memory is = absurd is
+-- what is never answered has every cause
+pub of_never : {A E : Type 0} (P : E → Type 0) (result : Result A E) → OnErr result ⊥ → IfErr result P
+of_never P (Ok a) never = tt
+of_never P (Err e) never = absurd never

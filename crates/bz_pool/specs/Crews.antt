@@ -3,14 +3,8 @@ use Rattle.std.specs.Prelude.{◌≡◌, ℕ, ⊤, List, [], ◌∷◌, ◌++◌
 use Rattle.std.specs.declared.alloc.Global.{Global}
 use Rattle.std.specs.declared.vec.Vec.{Vec}
 use Rattle.bz_model.specs.declared.event.HostCmd.{HostCmd}
-use Rattle.bz_model.specs.declared.event.Who.{Who}
-use Rattle.bz_locked.specs.Closing.{FirstDiscord}
 use Rattle.bz_locked.specs.Parts.{SessionView, WorkerView}
-use Rattle.bz_locked.specs.declared.closing.Closed.{Closed}
-use Rattle.bz_locked.specs.declared.closing.CloseError.TheVariants.{Discord}
 use Rattle.bz_session.specs.declared.playing.End.{End}
-use Rattle.bz_pool.specs.declared.pool.PoolError.{PoolError}
-use Rattle.bz_pool.specs.declared.pool.PoolError.TheVariants.{Close}
 use Rattle.bz_pool.specs.Pooled.{IsPlayed, WorkEndIs}
 use Rattle.bz_locked.specs.Terms.{Terms}
 
@@ -42,10 +36,3 @@ pub record HavePlayed (t : Terms) (lists : List (Vec HostCmd Global)) (sessions 
   pub of_sessions : List End
   pub played : EachPlayed t lists sessions of_sessions
   pub then : AddsWork t crew workers of_sessions ends
-
--- the error is a discord, which is first there
-pub record TellsDiscord (sessions : List SessionView) (workers : List WorkerView) (closed : Closed) (error : PoolError) : Type 0 where
-  pub who : Who
-  pub at : ℕ
-  pub told : error ≡ Close (Discord who at)
-  pub first : FirstDiscord sessions workers closed who at

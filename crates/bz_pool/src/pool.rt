@@ -1,19 +1,20 @@
 //! The pool: a net, its sessions and its workers, from start to end.
 
-ghost use Rattle.std.specs.Prelude.{◌≡◌, ◌+◌, ◌≤◌, ◌<◌, [], false, length, map, vec_len, IfErr, IfOk, MatchResult};
+ghost use Rattle.std.specs.Prelude.{◌≡◌, ◌+◌, ◌≤◌, ◌<◌, [], true, false, length, map, vec_len, IfErr, IfOk, OnErr};
 ghost use Rattle.std.specs.List.{All};
 ghost use Rattle.std.specs.Vec.{vec_capacity};
 ghost use Rattle.bz_locked.specs.Closing.{Gathers, Agrees};
 ghost use Rattle.bz_locked.specs.Terms.{terms};
 ghost use Rattle.bz_past.specs.Moments.{moment};
-ghost use Rattle.bz_locked.specs.declared.closing.Closed.{Closed};
-ghost use Rattle.bz_pool.specs.Crews.{HavePlayed, TellsDiscord};
+ghost use Rattle.bz_past.specs.Seen.{IsFresh};
+ghost use Rattle.bz_past.specs.Stopping.{HasCause};
+ghost use Rattle.bz_pool.specs.Crews.{HavePlayed};
 ghost use Rattle.bz_pool.specs.Pooled.{ArePlayed, IsPooled, RefusesPool, hosts, hands};
 
 use crate::crew::{PlayOf, WorkOf, join_sessions, join_workers, start_session, start_worker};
 use crate::raids::{all_raids, decks};
 use crate::work::{Gate, Job};
-use bz_locked::{CloseError, Closed, Keeper, NetLedger, Past, Session, SharedNet, Worker};
+use bz_locked::{CloseError, Closed, Keeper, NetLedger, Past, Session, SharedNet, Stopper, Worker};
 use bz_model::HostCmd;
 use bz_net::Net;
 use bz_session::End;
@@ -43,12 +44,13 @@ enum Lack {
     NoThread,
 }
 
-// What the threads give back.
+// What the threads give back, and the stopper, which was not used.
 #[derive(Drop)]
 struct Crew<L: NetLedger> {
     sessions: Vec<Session>,
     workers: Vec<Worker<L>>,
     ends: Vec<End>,
+    stopper: Stopper,
 }
 
 // Each worker with its deque and its raids.
@@ -144,32 +146,37 @@ fn start_all<'s, E, L: NetLedger + Send + Sync, G: Gate + Sync, R: Wait + Sync>(
     sessions: Vec<Session>,
     lists: Vec<Vec<HostCmd>>,
     jobs: Vec<Job<L>>,
+    stopper: Stopper,
 ) -> Result<
     (
         Vec<PromisedHandle<(Session, End), PlayOf<L>>>,
         Vec<PromisedHandle<(Worker<L>, End), WorkOf<L>>>,
+        Stopper,
     ),
     Lack,
 >
     requires sessions { All (λ s. (s.seat.table ≡ shared.now.table) × (s.own ≡ [])) sessions.items }
     requires lists { vec_len lists ≡ vec_len sessions }
     requires jobs { All (λ j. j.worker.seat.table ≡ shared.now.table) jobs.items }
+    requires stopper { stopper.table ≡ L.past }
+    ensures stopper { IfOk result (λ r. r.2 ≡ stopper) }
     ensures sessions { IfOk result (λ r. (vec_len r.0 ≡ vec_len sessions) × All (λ h. h.promise.0.value ≡ shared.now) r.0.items) }
     ensures workers { IfOk result (λ r. (vec_len r.1 ≡ vec_len jobs) × All (λ h. h.promise.0.value ≡ shared.now) r.1.items) }
     ensures who { IfOk result (λ r. (map (λ h. h.promise.1) r.0.items ≡ map (λ s. s.who) sessions.items) × (map (λ h. h.promise.1) r.1.items ≡ map (λ j. j.worker.who) jobs.items)) }
     ensures lists { IfOk result (λ r. map (λ h. h.promise.2.value) r.0.items ≡ lists.items) }
 {
+    let mut stopper = stopper;
     let hosts = match start_sessions(scope, rt, alloc, shared, sessions, lists) {
         Ok(hosts) => hosts,
         Err(error) => {
-            shared.stop(rt);
+            shared.stop(rt, &mut stopper);
             return Err(error);
         }
     };
     match start_workers(scope, rt, alloc, shared, gate, jobs) {
-        Ok(hands) => Ok((hosts, hands)),
+        Ok(hands) => Ok((hosts, hands, stopper)),
         Err(error) => {
-            shared.stop(rt);
+            shared.stop(rt, &mut stopper);
             Err(error)
         }
     }
@@ -186,10 +193,13 @@ fn run_threads<'s, E, L: NetLedger + Send + Sync, G: Gate + Sync, R: Threads + W
     sessions: Vec<Session>,
     lists: Vec<Vec<HostCmd>>,
     workers: Vec<Worker<L>>,
+    stopper: Stopper,
 ) -> Result<Crew<L>, Lack>
     requires sessions { All (λ s. (s.seat.table ≡ shared.now.table) × (s.own ≡ [])) sessions.items }
     requires lists { vec_len lists ≡ vec_len sessions }
     requires workers { All (λ w. w.seat.table ≡ shared.now.table) workers.items }
+    requires stopper { stopper.table ≡ L.past }
+    ensures stopper { IfOk result (λ c. c.stopper ≡ stopper) }
     ensures sessions { IfOk result (λ c. (vec_len c.sessions ≡ vec_len sessions) × All (λ s. s.seat.table ≡ shared.now.table) c.sessions.items) }
     ensures workers { IfOk result (λ c. (vec_len c.workers ≡ vec_len workers) × All (λ w. w.seat.table ≡ shared.now.table) c.workers.items) }
     ensures played { IfOk result (λ c. HavePlayed L.terms lists.items c.sessions.items c.workers.items (vec_len workers) c.ends.items) }
@@ -207,13 +217,16 @@ fn run_threads<'s, E, L: NetLedger + Send + Sync, G: Gate + Sync, R: Threads + W
     let Ok(jobs) = jobs(alloc, shared, workers) else {
         return Err(Lack::Memory);
     };
-    let (hosts, hands) = start_all(scope, rt, alloc, shared, gate, sessions, lists, jobs)?;
+    let (hosts, hands, stopper) = start_all(
+        scope, rt, alloc, shared, gate, sessions, lists, jobs, stopper,
+    )?;
     join_sessions(rt, shared, hosts, &mut back, &mut ends);
     join_workers(rt, shared, hands, &mut crew, &mut ends);
     Ok(Crew {
         sessions: back,
         workers: crew,
         ends,
+        stopper,
     })
 }
 
@@ -226,10 +239,13 @@ fn in_scope<'x, L: NetLedger + Send + Sync, G: Gate + Sync, R: Threads + Wait + 
     sessions: Vec<Session>,
     lists: Vec<Vec<HostCmd>>,
     workers: Vec<Worker<L>>,
+    stopper: Stopper,
 ) -> Result<Crew<L>, Lack>
     requires sessions { All (λ s. (s.seat.table ≡ shared.now.table) × (s.own ≡ [])) sessions.items }
     requires lists { vec_len lists ≡ vec_len sessions }
     requires workers { All (λ w. w.seat.table ≡ shared.now.table) workers.items }
+    requires stopper { stopper.table ≡ L.past }
+    ensures stopper { IfOk result (λ c. c.stopper ≡ stopper) }
     ensures sessions { IfOk result (λ c. (vec_len c.sessions ≡ vec_len sessions) × All (λ s. s.seat.table ≡ shared.now.table) c.sessions.items) }
     ensures workers { IfOk result (λ c. (vec_len c.workers ≡ vec_len workers) × All (λ w. w.seat.table ≡ shared.now.table) c.workers.items) }
     ensures played { IfOk result (λ c. HavePlayed L.terms lists.items c.sessions.items c.workers.items (vec_len workers) c.ends.items) }
@@ -239,29 +255,36 @@ fn in_scope<'x, L: NetLedger + Send + Sync, G: Gate + Sync, R: Threads + Wait + 
         thread::scope_env(),
         rt,
         |scope| -> Result<Crew<L>, Lack>
-            requires { All (λ s. (s.seat.table ≡ shared.now.table) × (s.own ≡ [])) sessions.items × (vec_len lists ≡ vec_len sessions) × All (λ w. w.seat.table ≡ shared.now.table) workers.items }
+            requires { All (λ s. (s.seat.table ≡ shared.now.table) × (s.own ≡ [])) sessions.items × (vec_len lists ≡ vec_len sessions) × All (λ w. w.seat.table ≡ shared.now.table) workers.items × (stopper.table ≡ L.past) }
             ensures { IfOk result (λ c. (vec_len c.sessions ≡ vec_len sessions) × All (λ s. s.seat.table ≡ shared.entry.now.table) c.sessions.items × (vec_len c.workers ≡ vec_len workers) × All (λ w. w.seat.table ≡ shared.entry.now.table) c.workers.items
                 × (map (λ s. s.who) c.sessions.items ≡ map (λ s. s.who) sessions.items) × (map (λ w. w.who) c.workers.items ≡ map (λ w. w.who) workers.items)
-                × HavePlayed L.terms lists.items c.sessions.items c.workers.items (vec_len workers) c.ends.items) }
-        { run_threads(scope, rt, alloc, shared, gate, sessions, lists, workers) },
+                × HavePlayed L.terms lists.items c.sessions.items c.workers.items (vec_len workers) c.ends.items × (c.stopper ≡ stopper)) }
+        {
+            run_threads(
+                scope, rt, alloc, shared, gate, sessions, lists, workers, stopper,
+            )
+        },
     )
 }
 
-// The net at the end, with the ends; or the first place where the parts of it differ, which is all that can be refused here.
+// The net at the end, with the ends.
 fn close<L: NetLedger>(shared: SharedNet<L>, crew: Crew<L>) -> Result<(Closed, Vec<End>), PoolError>
     requires counts { (vec_len crew.sessions ≡ shared.sessions) × (vec_len crew.workers ≡ shared.workers) × (shared.workers ≡ L.parts) }
     requires seats { All (λ s. s.seat.table ≡ shared.table) crew.sessions.items × All (λ w. w.seat.table ≡ shared.table) crew.workers.items }
+    requires stopper { (crew.stopper.table ≡ L.past) × (crew.stopper.used ≡ false) }
+    ensures why { IfOk result (λ r. r.0.stopped ≡ true → HasCause (vec_len crew.workers) (moment r.0.net r.0.stopped)) }
     ensures gathers { IfOk result (λ r. Gathers L.terms crew.sessions.items crew.workers.items r.0) }
     ensures agrees { IfOk result (λ r. Agrees crew.sessions.items crew.workers.items r.0) }
     ensures ends { IfOk result (λ r. r.1 ≡ crew.ends) }
-    ensures discord { IfErr result (λ e. (c : Closed) × Gathers L.terms crew.sessions.items crew.workers.items c × TellsDiscord crew.sessions.items crew.workers.items c e) }
+    ensures never { OnErr result ⊥ }
 {
     let Crew {
         sessions,
         workers,
         ends,
+        stopper,
     } = crew;
-    match shared.close(sessions, workers) {
+    match shared.close(sessions, workers, stopper) {
         Ok(closed) => Ok((closed, ends)),
         Err((_, error)) => Err(PoolError::Close(error)),
     }
@@ -273,28 +296,30 @@ fn pool<L: NetLedger + Send + Sync, G: Gate + Sync, R: Threads + Wait + Sync>(
     alloc: Global,
     blank: Blank,
     opened: (Past, Keeper),
+    stopper: Stopper,
     net: Net,
     workers: u8,
     fuel: u64,
     gate: &G,
     lists: Vec<Vec<HostCmd>>,
 ) -> Result<(Closed, Vec<End>), PoolError>
-    requires ledger { (blank.name ≡ L.name) × (blank.parts ≡ L.parts) × (L.parts ≡ workers) }
+    requires ledger { (blank.name ≡ L.name) × (blank.parts ≡ L.parts) × (L.parts ≡ workers) × (L.workers ≡ workers) }
     requires counts { (1 ≤ vec_len lists) × (vec_len lists ≤ 16) × (1 ≤ workers) × (workers ≤ 8) }
-    requires past { (opened.0 ≡ L.past) × (opened.1.table ≡ L.past) × (opened.1.now ≡ moment net false) }
+    requires past { (opened.0 ≡ L.past) × IsFresh L.past net opened.1 }
+    requires stopper { (stopper.table ≡ L.past) × (stopper.used ≡ false) }
     requires opening { (net.wiring ≡ L.terms.wiring) × (net.limit ≡ L.terms.limit) × (fuel ≡ L.terms.fuel) × (vec_len lists ≡ L.terms.sessions) }
     requires unused { net.journal ≡ [] }
     ensures pooled { IfOk result (λ r. IsPooled L.terms workers r.0) }
     ensures played { IfOk result (λ r. ArePlayed L.terms lists.items workers (moment r.0.net r.0.stopped) r.1.items) }
     ensures ends { IfOk result (λ r. vec_len r.1 ≡ vec_len lists + workers) }
-    ensures refused { IfErr result (RefusesPool L.terms workers) }
+    ensures refused { IfErr result RefusesPool }
 {
     let made = SharedNet::<L>::new(alloc, blank, opened, net, fuel, lists.len() as u8, workers);
     let (net, sessions, crew) = match made {
         Ok(made) => made,
         Err(error) => return Err(PoolError::Close(error)),
     };
-    match in_scope(rt, alloc, &net, gate, sessions, lists, crew) {
+    match in_scope(rt, alloc, &net, gate, sessions, lists, crew, stopper) {
         Ok(crew) => close(net, crew),
         Err(Lack::Memory) => Err(PoolError::Memory),
         Err(Lack::NoThread) => Err(PoolError::NoThread),
@@ -318,16 +343,17 @@ pub fn run_pool<G: Gate + Sync, R: Threads + Wait + Sync>(
     ensures pooled { IfOk result (λ r. IsPooled (terms net.wiring net.limit fuel (vec_len lists)) workers r.0) }
     ensures played { IfOk result (λ r. ArePlayed (terms net.wiring net.limit fuel (vec_len lists)) lists.items workers (moment r.0.net r.0.stopped) r.1.items) }
     ensures ends { IfOk result (λ r. vec_len r.1 ≡ vec_len lists + workers) }
-    ensures refused { IfErr result (RefusesPool (terms net.wiring net.limit fuel (vec_len lists)) workers) }
+    ensures refused { IfErr result RefusesPool }
 {
-    let Ok(opened) = Past::open(alloc, &net) else {
+    let Ok((past, keeper, stopper)) = Past::open(alloc, &net) else {
         return Err(PoolError::Memory);
     };
     pool::<Brand, G, R>(
         rt,
         alloc,
         Blank::new(workers as u64),
-        opened,
+        (past, keeper),
+        stopper,
         net,
         workers,
         fuel,

@@ -7,6 +7,7 @@ use Rattle.bz_model.specs.declared.event.Entry.{Entry}
 use Rattle.bz_net.specs.Answering.{is_answer}
 use Rattle.bz_locked.specs.Commands.{IsEntryOf, RefusesPoll}
 use Rattle.bz_locked.specs.Terms.{Terms}
+use Rattle.bz_past.specs.Moments.{Leads}
 use Rattle.bz_past.specs.declared.view.Moment.{Moment}
 use Rattle.bz_locked.specs.Working.{WasAdded, WasTold, WasRefused}
 use Rattle.bz_locked.specs.declared.locked.Work.TheVariants as work
@@ -30,34 +31,38 @@ NamesWord (Spent word) count = (0 < word) × (word ≤ count)
 NamesWord (Stopped word) count = (0 < word) × (word ≤ count)
 NamesWord (Refused word e) count = (0 < word) × (word ≤ count)
 
--- the entry of a command that was answered, which was added to the journal and has led to what was seen
-abbrev pub IsAnswerTo : Terms → Moment → Who → HostCmd → Entry → Type 0
-IsAnswerTo t saw who cmd entry = (reply : Reply) × (is_answer reply ≡ true) × IsEntryOf t.wiring.ports who cmd reply entry × ((len : ℕ) × WasAdded t saw entry len)
+-- the entry of a command that was answered: it was added to the journal between what had been seen and what was seen
+abbrev pub IsAnswerTo : Terms → Moment → Moment → Who → HostCmd → Entry → Type 0
+IsAnswerTo t had saw who cmd entry = (reply : Reply) × (is_answer reply ≡ true) × IsEntryOf t.wiring.ports who cmd reply entry × ((len : ℕ) × WasAdded t had saw entry len)
 
--- an entry for each command, in order
-abbrev pub AreAnswers : Terms → Moment → Who → List HostCmd → List Entry → Type 0
-AreAnswers t saw who [] [] = ⊤
-AreAnswers t saw who [] (e ∷ es) = ⊥
-AreAnswers t saw who (cmd ∷ cmds) [] = ⊥
-AreAnswers t saw who (cmd ∷ cmds) (e ∷ es) = IsAnswerTo t saw who cmd e × AreAnswers t saw who cmds es
-
--- the record has grown by an entry for each command before the end, in order
-pub record Played (t : Terms) (saw : Moment) (who : Who) (words : List HostCmd) (end : End) (old new : List Entry) : Type 0 where
-  pub entries : List Entry
-  pub grown : new ≡ old ++ entries
-  pub answers : AreAnswers t saw who (take (answered end (length words)) words) entries
+-- an entry for each command, in order: each was added after what had been seen once the one before it was answered
+abbrev pub AreAnswers : Terms → Moment → Moment → Who → List HostCmd → List Entry → Type 0
+AreAnswers t had saw who [] [] = Leads had saw
+AreAnswers t had saw who [] (e ∷ es) = ⊥
+AreAnswers t had saw who (cmd ∷ cmds) [] = ⊥
+AreAnswers t had saw who (cmd ∷ cmds) (e ∷ es) = (mid : Moment) × IsAnswerTo t had mid who cmd e × AreAnswers t mid saw who cmds es
 
 -- what was found at the word that is named
 abbrev pub Found : (HostCmd → Type 0) → List HostCmd → ℕ → Type 0
 Found P words word = (cmd : HostCmd) × (slice_get words (word - 1) ≡ Some cmd) × P cmd
 
--- Why the play ended: at the word named the session was told so, or its command was refused, at a moment that has led to what
--- was seen.
-abbrev pub EndIs : Terms → Moment → List HostCmd → End → Type 0
-EndIs t saw words Done = ⊤
-EndIs t saw words (Resting word) = Found (λ cmd. WasTold t saw cmd work.Resting) words word
-EndIs t saw words (Spent word) = Found (λ cmd. WasTold t saw cmd work.Spent) words word
-EndIs t saw words (Stopped word) = Found (λ cmd. WasTold t saw cmd work.Stopped) words word
-EndIs t saw words (Refused word (Event e)) = Found (λ cmd. WasRefused t saw (λ net e. RefusesPoll net cmd e) e) words word
-EndIs t saw words (Refused word (BadWord at)) = ⊥
-EndIs t saw words (Refused word Memory) = ⊥
+-- Why the play ended: at the word named the session was told so, or its command was refused, at a moment between what had been
+-- seen and what was seen.
+abbrev pub EndIs : Terms → Moment → Moment → List HostCmd → End → Type 0
+EndIs t had saw words Done = ⊤
+EndIs t had saw words (Resting word) = Found (λ cmd. WasTold t had saw cmd work.Resting) words word
+EndIs t had saw words (Spent word) = Found (λ cmd. WasTold t had saw cmd work.Spent) words word
+EndIs t had saw words (Stopped word) = Found (λ cmd. WasTold t had saw cmd work.Stopped) words word
+EndIs t had saw words (Refused word (Event e)) = Found (λ cmd. WasRefused t had saw (λ net e. RefusesPoll net cmd e) e) words word
+EndIs t had saw words (Refused word (BadWord at)) = ⊥
+EndIs t had saw words (Refused word Memory) = ⊥
+
+-- The record has grown by an entry for each command before the end, in order. What was seen once they were answered has led on to
+-- the moment of the end.
+pub record Played (t : Terms) (had saw : Moment) (who : Who) (words : List HostCmd) (end : End) (old new : List Entry) : Type 0 where
+  pub entries : List Entry
+  pub grown : new ≡ old ++ entries
+  pub reached : Moment
+  pub answers : AreAnswers t had reached who (take (answered end (length words)) words) entries
+  pub why : EndIs t reached saw words end
+  pub on : Leads reached saw

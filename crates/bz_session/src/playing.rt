@@ -2,7 +2,7 @@
 
 ghost use Rattle.std.specs.Prelude.{◌≡◌, length};
 ghost use Rattle.bz_locked.specs.Parts.{Stays};
-ghost use Rattle.bz_session.specs.Playing.{Played, NamesWord, EndIs};
+ghost use Rattle.bz_session.specs.Playing.{Played, NamesWord};
 
 use bz_locked::{NetLedger, Session, SharedNet, WaitReply};
 use bz_model::HostCmd;
@@ -29,8 +29,7 @@ pub fn play<L: NetLedger, R: Wait>(
 ) -> End
     requires { session.old.seat.table ≡ shared.now.table }
     ensures who { (session.new.who ≡ session.old.who) × Stays session.old.seat session.new.seat }
-    ensures record { Played L.terms session.new.seat.saw session.old.who words.now result session.old.own session.new.own }
-    ensures why { EndIs L.terms session.new.seat.saw words.now result }
+    ensures record { Played L.terms session.old.seat.saw session.new.seat.saw session.old.who words.now result session.old.own session.new.own }
     ensures word { NamesWord result (length words.now) }
 {
     let end = play_words(shared, rt, session, words);
@@ -46,8 +45,7 @@ fn play_words<L: NetLedger, R: Wait>(
 ) -> End
     requires { session.old.seat.table ≡ shared.now.table }
     ensures who { (session.new.who ≡ session.old.who) × Stays session.old.seat session.new.seat }
-    ensures record { Played L.terms session.new.seat.saw session.old.who words.now result session.old.own session.new.own }
-    ensures why { EndIs L.terms session.new.seat.saw words.now result }
+    ensures record { Played L.terms session.old.seat.saw session.new.seat.saw session.old.who words.now result session.old.own session.new.own }
     ensures word { NamesWord result (length words.now) }
 {
     let mut word = 0;

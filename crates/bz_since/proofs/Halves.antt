@@ -1,7 +1,7 @@
 -- The bounds of the search, and what is found once they have met.
 use Rattle.std.proofs.Common.{◌≡◌, ℕ, zero, suc, ◌+◌, ◌-◌, ◌<◌, ◌≤◌, Bool, true, Option, Some, None, List, [], ◌∷◌, ◌++◌, length, map, take, drop, refl, sym, ap, ap₂, subst, ◌∙◌, arith}
 use Rattle.std.proofs.lemmas.Bool.{lt-ltb}
-use Rattle.std.specs.Prelude.{MatchBool, MatchOption, nat_lt}
+use Rattle.std.specs.Prelude.{MatchBool, nat_lt}
 use Rattle.std.proofs.Math.ListN.{length-map}
 use Rattle.std.proofs.lemmas.List.{take-append-drop}
 use Rattle.bz_model.specs.declared.event.Entry.{Entry}
@@ -16,7 +16,7 @@ use Rattle.bz_trace.proofs.Along.{cons_same, no_nil}
 use Rattle.bz_since.specs.declared.since.Since.{Since}
 use Rattle.bz_since.specs.declared.halving.Bounds.{Bounds}
 use Rattle.bz_since.specs.Since.{HasStuck, IsBehind, IsFirst, IsSince}
-use Rattle.bz_since.specs.Halving.{EndsIn, IsBetween, IsFound, LeadsOn}
+use Rattle.bz_since.specs.Halving.{EndsIn, EndsStuck, IsBetween, LeadsOn}
 use Rattle.bz_since.proofs.Playing.{ends_start}
 
 -- ---- whether there is a stuck set
@@ -102,76 +102,73 @@ module _ (w : Wiring) (wired : WellWired w) (entries es : List Entry) (last : St
       let stays = (stuck_stays w member t mid (take more rest) wired stuck on).1 in
       free (member, subst (λ (o : State). AreStuck w o member) same stays, (c, from, to, in_it))
 
-  first : (b : Bounds) (found : Since) → b.low.wiring ≡ w → EndsIn w (take b.from entries) b.low.state → (HasStuck w b.low.state → ⊥) → b.to ≡ b.from + 1 → IsFound w entries b.to found → IsFirst w es last b.to found
-  first b found is ends free next has = record {
-    line_is = has.line_is;
-    within =
-        let long = sym (length-map es told) ∙ ap length alike ∙ length-map entries told in
-        let within = has.within in
-        omega (arith, long, within);
-    wiring = has.wiring;
-    state = λ s behind. has.ends (take b.to es) s (told_take b.to es entries alike) behind.0;
-    stuck = has.stuck;
-    before = λ m s less behind. free_before b.from b.low.state ends free m s (omega (arith, next, less)) behind;
-  }
+  length_same : length es ≡ length entries
+  length_same = sym (length-map es told) ∙ ap length alike ∙ length-map entries told
 
-  since_of : (b : Bounds) (found : Option Since) → b.low.wiring ≡ w → EndsIn w (take b.from entries) b.low.state → (HasStuck w b.low.state → ⊥) → b.to ≡ b.from + 1 → MatchOption found (b.to ≡ length entries + 1) (IsFound w entries b.to) → IsSince w es last found
-  since_of b (Some found) is ends free next has = (b.to, first b found is ends free next has)
-  since_of b None is ends free next end = λ n s within behind. free_before b.from b.low.state ends free n s
-      (let long = sym (length-map es told) ∙ ap length alike ∙ length-map entries told in omega (arith, long, next, end, within)) behind
+  module _ (b : Bounds) (is : b.low.wiring ≡ w) (ends : EndsIn w (take b.from entries) b.low.state) (free : HasStuck w b.low.state → ⊥) (next : b.to ≡ b.from + 1) where
+    since_none : length entries < b.to → IsSince w es last None
+    since_none past n s within behind = free_before b.from b.low.state ends free n s (let long = length_same in omega (arith, long, next, past, within)) behind
 
-pub met : (entries : List Entry) (b : Bounds) (w : Wiring) → b.low.wiring ≡ w → IsBetween entries b → (b.from + 1 < b.to → ⊥) → (es : List Entry) (last : State) → map told es ≡ map told entries → Run w (opening w) es last → IsSince w es last b.found
-met entries b w is between closed es last alike run =
-    subst (λ (v : Wiring). IsSince v es last b.found) is
-    (since_of b.low.wiring between.wired entries es last alike b b.found refl between.ends between.free (let apart = between.ordered in omega (arith, apart, closed)) between.found)
+    since_one : (net : Simulation) → Run w (opening w) es last → b.to ≤ length entries → EndsStuck w (take b.to entries) → net.wiring ≡ w → EndsIn w (take b.to entries) net.state → IsSince w es last (Some (record { line = b.to + 1; net = net }))
+    since_one net run in_range stuck wiring there =
+        let alike_there = told_take b.to es entries alike in
+        let (mid, before, after) = run_apart w (opening w) (take b.to es) (drop b.to es) last (subst (λ xs. Run w (opening w) xs last) (sym (take-append-drop b.to es)) run) in (
+          b.to,
+          record {
+            line_is = refl;
+            within = let long = length_same in omega (arith, long, in_range);
+            wiring = wiring;
+            state = λ s behind. there (take b.to es) s alike_there behind.0;
+            stuck = subst (λ (o : State). HasStuck w o) (there (take b.to es) mid alike_there before) (stuck (take b.to es) mid alike_there before);
+            before = λ m s less behind. free_before b.from b.low.state ends free m s (omega (arith, next, less)) behind;
+          },
+        )
+
+module _ (entries : List Entry) (b : Bounds) (between : IsBetween entries b) (next : b.to ≡ b.from + 1) (es : List Entry) (last : State) (alike : map told es ≡ map told entries) where
+  pub met_none : length entries < b.to → IsSince b.low.wiring es last None
+  met_none past = since_none b.low.wiring between.wired entries es last alike b refl between.ends between.free next past
+
+  pub met_one : (net : Simulation) → Run b.low.wiring (opening b.low.wiring) es last → b.to ≤ length entries → LeadsOn entries b.from b.to b.low net → IsSince b.low.wiring es last (Some (record { line = b.to + 1; net = net }))
+  met_one net run in_range led = since_one b.low.wiring between.wired entries es last alike b refl between.ends between.free next net run in_range (between.above in_range) led.wiring (led.ends between.ends)
 
 -- ---- the bounds come closer
-
-pub within : (entries : List Entry) (b : Bounds) → IsBetween entries b → b.to ≤ length entries + 1
-within entries b between = go b.found between.found
-  where
-    go : (found : Option Since) → MatchOption found (b.to ≡ length entries + 1) (IsFound b.low.wiring entries b.to) → b.to ≤ length entries + 1
-    go None end = omega (arith, end)
-    go (Some found) has = let in_range = has.within in omega (arith, in_range)
 
 module _ (entries : List Entry) (b : Bounds) (half : ℕ) (net : Simulation) (between : IsBetween entries b) (more : b.from < half) (less : half < b.to) (led : LeadsOn entries b.from half b.low net) where
   ends : EndsIn b.low.wiring (take half entries) net.state
   ends = led.ends between.ends
 
   -- where something is stuck half-way, that is the bound above
-  pub found_half : HasStuck net.wiring net.state → IsBetween entries (record { low = b.low; from = b.from; found = Some (record { line = half + 1; net = net }); to = half })
+  pub found_half : HasStuck net.wiring net.state → IsBetween entries (record { low = b.low; from = b.from; to = half })
   found_half stuck = record {
     wired = between.wired;
     ordered = more;
+    within = let most = between.within in omega (arith, less, most);
     ends = between.ends;
     free = between.free;
-    found = record {
-      line_is = refl;
-      within = let most = within entries b between in omega (arith, less, most);
-      wiring = led.wiring;
-      ends = ends;
-      stuck = subst (λ (w : Wiring). HasStuck w net.state) led.wiring stuck;
-    };
+    above = λ in_range es t alike run.
+        subst (λ (o : State). HasStuck b.low.wiring o) (sym (ends es t alike run)) (subst (λ (w : Wiring). HasStuck w net.state) led.wiring stuck);
   }
 
   -- and where nothing is, that below
-  pub free_half : (HasStuck net.wiring net.state → ⊥) → IsBetween entries (record { low = net; from = half; found = b.found; to = b.to })
+  pub free_half : (HasStuck net.wiring net.state → ⊥) → IsBetween entries (record { low = net; from = half; to = b.to })
   free_half free = record {
     wired = subst WellWired (sym led.wiring) between.wired;
     ordered = less;
+    within = between.within;
     ends = subst (λ (w : Wiring). EndsIn w (take half entries) net.state) (sym led.wiring) ends;
     free = free;
-    found = subst (λ (w : Wiring). MatchOption b.found (b.to ≡ length entries + 1) (IsFound w entries b.to)) (sym led.wiring) between.found;
+    above = subst (λ (w : Wiring). b.to ≤ length entries → EndsStuck w (take b.to entries)) (sym led.wiring) between.above;
   }
 
 -- at first there are all entries between them
-pub begun : (entries : List Entry) (net : Simulation) (b : Bounds) → b.low ≡ net → b.from ≡ 0 → b.found ≡ None → b.to ≡ length entries + 1 → WellWired net.wiring → net.state ≡ opening net.wiring → (HasStuck net.wiring net.state → ⊥) → IsBetween entries b
-begun entries net b low from found to wired at free = record {
+pub begun : (entries : List Entry) (net : Simulation) (b : Bounds) → b.low ≡ net → b.from ≡ 0 → b.to ≡ length entries + 1 → WellWired net.wiring → net.state ≡ opening net.wiring → (HasStuck net.wiring net.state → ⊥) → IsBetween entries b
+begun entries net b low from to wired at free = record {
   wired = subst (λ (n : Simulation). WellWired n.wiring) (sym low) wired;
   ordered = omega (arith, from, to);
+  within = omega (arith, to);
   ends = subst (λ (n : Simulation). EndsIn n.wiring (take b.from entries) n.state) (sym low) (subst (λ (k : ℕ). EndsIn net.wiring (take k entries) net.state) (sym from) (ends_start net.wiring net.state at));
   free = subst (λ (n : Simulation). HasStuck n.wiring n.state → ⊥) (sym low) free;
-  found = subst (λ (o : Option Since). MatchOption o (b.to ≡ length entries + 1) (IsFound b.low.wiring entries b.to)) (sym found) to;
+  above = λ in_range. absurd (omega (arith, to, in_range));
 }
 
 -- what is stuck at the opening is so since line 1

@@ -1,12 +1,11 @@
 -- What the functions of the search tell one another.
-use Rattle.std.specs.Prelude.{◌≡◌, ℕ, ◌+◌, ◌<◌, ◌≤◌, List, length, map, take, MatchOption}
+use Rattle.std.specs.Prelude.{◌≡◌, ℕ, ◌+◌, ◌<◌, ◌≤◌, List, length, map, take}
 use Rattle.bz_model.specs.declared.event.Entry.{Entry}
 use Rattle.bz_model.specs.Entries.{told}
 use Rattle.bz_model.specs.Nets.{Wiring, State, opening}
 use Rattle.bz_model.specs.Runs.{Follows, Run}
 use Rattle.bz_flat.specs.Wires.{WellWired}
 use Rattle.bz_net.specs.Simulation.{Simulation}
-use Rattle.bz_since.specs.declared.since.Since.{Since}
 use Rattle.bz_since.specs.declared.halving.Bounds.{Bounds}
 use Rattle.bz_since.specs.Since.{HasStuck}
 
@@ -26,18 +25,15 @@ pub record LeadsOn (entries : List Entry) (from to : ℕ) (old new : Simulation)
   pub limit : new.limit ≡ old.limit
   pub ends : EndsIn old.wiring (take from entries) old.state → EndsIn old.wiring (take to entries) new.state
 
--- what was found is the net behind the first n entries, where something is stuck
-pub record IsFound (w : Wiring) (entries : List Entry) (n : ℕ) (found : Since) : Type 0 where
-  pub line_is : found.line ≡ n + 1
-  pub within : n ≤ length entries
-  pub wiring : found.net.wiring ≡ w
-  pub ends : EndsIn w (take n entries) found.net.state
-  pub stuck : HasStuck w found.net.state
+-- each run that is told as these entries ends where something is stuck
+abbrev pub EndsStuck : Wiring → List Entry → Type 0
+EndsStuck w entries = (es : List Entry) (t : State) → map told es ≡ map told entries → Run w (opening w) es t → HasStuck w t
 
--- the bounds of the search
+-- the bounds of the search: the one above is within the entries or one past the end
 pub record IsBetween (entries : List Entry) (b : Bounds) : Type 0 where
   pub wired : WellWired b.low.wiring
   pub ordered : b.from < b.to
+  pub within : b.to ≤ length entries + 1
   pub ends : EndsIn b.low.wiring (take b.from entries) b.low.state
   pub free : HasStuck b.low.wiring b.low.state → ⊥
-  pub found : MatchOption b.found (b.to ≡ length entries + 1) (IsFound b.low.wiring entries b.to)
+  pub above : b.to ≤ length entries → EndsStuck b.low.wiring (take b.to entries)

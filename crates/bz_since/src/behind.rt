@@ -1,29 +1,25 @@
 //! A net behind a line of a trace.
 
-ghost use Rattle.std.specs.Prelude.{◌≡◌, ◌-◌, IfOk, MatchBool};
+ghost use Rattle.std.specs.Prelude.{◌≡◌, ◌-◌, IfOk};
 ghost use Rattle.bz_trace.specs.Verdicts.{IsRunText};
-ghost use Rattle.bz_since.specs.Since.{HasStuck, IsBehind};
+ghost use Rattle.bz_since.specs.Since.{IsBehind};
 
 use crate::following::play;
-use crate::halving::has_stuck;
-use crate::since::{NoSince, Since, stuck_since};
+use crate::since::NoSince;
 use bz_flat::Flat;
-use bz_model::Entry;
 use bz_net::Net;
 use bz_trace_text::{MAX_ENTRIES, read_trace};
-use std::alloc::{AllocError, Global};
+use std::alloc::Global;
 
 /// A net behind a line of a trace.
 pub struct Behind {
     pub net: Net,
-    /// The entries of the trace up to that line. The port of each firing is 0.
-    pub entries: Vec<Entry>,
 }
 
 // By hand, so that who lets one go has one call to show and not all its parts.
 impl Drop for Behind {
     fn drop(self) {
-        let Behind { net: _, entries: _ } = self;
+        let Behind { net: _ } = self;
     }
 }
 
@@ -40,28 +36,14 @@ impl Behind {
         entries.truncate(line.saturating_sub(1));
         let kept = entries.as_slice();
         play(&mut net, kept, 0, kept.len())?;
-        Ok(Behind { net, entries })
+        Ok(Behind { net })
     }
 
     /// The net.
     pub fn into_net(self) -> Net
         ensures { result ≡ self.net }
     {
-        let Behind { net, entries: _ } = self;
+        let Behind { net } = self;
         net
-    }
-
-    /// Whether something can never move again there.
-    pub fn is_stuck(&self, alloc: Global) -> Result<bool, AllocError>
-        ensures { IfOk result (λ is. MatchBool is (HasStuck self.now.net.wiring self.now.net.state)
-            (HasStuck self.now.net.wiring self.now.net.state → ⊥)) }
-    {
-        has_stuck(alloc, self.net.core())
-    }
-
-    /// Since which line something can never move again, where that is so behind this one. The flat net is that of the trace.
-    pub fn since(&self, alloc: Global, flat: Flat) -> Result<Option<Since>, NoSince> {
-        let net = Net::open(alloc, flat, MAX_ENTRIES as u32)?;
-        stuck_since(alloc, net, &self.entries)
     }
 }

@@ -5,7 +5,7 @@ ghost use Rattle.bz_since.specs.Halving.{IsBetween, LeadsOn};
 ghost use Rattle.bz_since.specs.Since.{HasStuck};
 
 use crate::following::play;
-use crate::since::{NoSince, Since};
+use crate::since::NoSince;
 use bz_model::Entry;
 use bz_net::{Core, Net};
 use bz_stuck::Stuck;
@@ -17,8 +17,6 @@ pub(crate) struct Bounds {
     /// The net behind the entries before the first place.
     pub low: Net,
     pub from: usize,
-    /// That behind the entries before the second place, if it isn't past the end.
-    pub found: Option<Since>,
     pub to: usize,
 }
 
@@ -28,28 +26,27 @@ impl Drop for Bounds {
         let Bounds {
             low: _,
             from: _,
-            found: _,
             to: _,
         } = self;
     }
 }
 
 impl Bounds {
-    /// What was found.
-    pub fn into_found(self) -> Option<Since>
-        ensures { result ≡ self.found }
+    /// The net behind the entries before the first place.
+    pub fn into_low(self) -> Net
+        ensures { result ≡ self.low }
     {
         let Bounds {
-            low: _,
+            low,
             from: _,
-            found,
             to: _,
         } = self;
-        found
+        low
     }
 }
 
-/// Looks half-way between the bounds, and brings one of them there.
+/// Looks half-way between the bounds, and brings one of them there. Of the nets only the lower one is kept: of a large net no more
+/// than two are held at once.
 pub(crate) fn halve(alloc: Global, entries: &[Entry], bounds: &mut Bounds) -> Result<(), NoSince>
     requires between { IsBetween entries.now bounds.old }
     requires apart { bounds.old.from + 1 < bounds.old.to }
@@ -60,10 +57,6 @@ pub(crate) fn halve(alloc: Global, entries: &[Entry], bounds: &mut Bounds) -> Re
     let half = bounds.from + (bounds.to - bounds.from) / 2;
     let net = played(alloc, &bounds.low, entries, bounds.from, half)?;
     if has_stuck(alloc, net.core())? {
-        bounds.found = Some(Since {
-            line: half + 1,
-            net,
-        });
         bounds.to = half;
         return Ok(());
     }

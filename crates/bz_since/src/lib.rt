@@ -9,4 +9,4 @@ mod telling;
 
 pub use behind::Behind;
 pub use since::{NoSince, Since, stuck_since, stuck_since_in};
-pub use telling::put_since;
+pub use telling::{put_first, put_opening, put_since};

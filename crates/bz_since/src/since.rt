@@ -1,16 +1,18 @@
 //! The first line of a trace behind which something can never move again.
 //!
 //! What is stuck stays so, so the line is found by halving. The net behind the last line that was found to be too early is kept,
-//! and goes on from there: no more moves are made than the trace has.
+//! and goes on from there: no more moves are made than the trace has, and one.
 
-ghost use Rattle.std.specs.Prelude.{◌≡◌, IfOk, List, map};
+ghost use Rattle.std.specs.Prelude.{◌≡◌, ◌+◌, IfOk, List, map};
 ghost use Rattle.bz_model.specs.declared.event.Entry.{Entry};
 ghost use Rattle.bz_model.specs.Entries.{told};
 ghost use Rattle.bz_model.specs.Nets.{State, opening};
 ghost use Rattle.bz_model.specs.Runs.{Run};
 ghost use Rattle.bz_trace.specs.Verdicts.{IsRunText};
+ghost use Rattle.bz_since.specs.Halving.{IsBetween};
 ghost use Rattle.bz_since.specs.Since.{IsSince};
 
+use crate::following::play;
 use crate::halving::{Bounds, halve, has_stuck};
 use bz_flat::Flat;
 use bz_model::{Entry, NetError};
@@ -79,13 +81,31 @@ pub fn stuck_since(alloc: Global, net: Net, entries: &[Entry]) -> Result<Option<
     let mut bounds = Bounds {
         low: net,
         from: 0,
-        found: None,
         to: entries.len() + 1,
     };
     while bounds.from + 1 < bounds.to {
         halve(alloc, entries, &mut bounds)?;
     }
-    Ok(bounds.into_found())
+    match found_at(entries, bounds) {
+        Ok(found) => Ok(found),
+        Err(fault) => Err(fault),
+    }
+}
+
+// What is found once the bounds have met: the net goes on by one entry.
+fn found_at(entries: &[Entry], bounds: Bounds) -> Result<Option<Since>, NoSince>
+    requires between { IsBetween entries.now bounds }
+    requires met { bounds.to ≡ bounds.from + 1 }
+    ensures { IfOk result (λ found. (es : List Entry) (last : State) → map told es ≡ map told entries.now
+        → Run bounds.low.wiring (opening bounds.low.wiring) es last → IsSince bounds.low.wiring es last found) }
+{
+    let (from, to) = (bounds.from, bounds.to);
+    if to > entries.len() {
+        return Ok(None);
+    }
+    let mut net = bounds.into_low();
+    play(&mut net, entries, from, to)?;
+    Ok(Some(Since { line: to + 1, net }))
 }
 
 /// The same of a trace's text.

@@ -5,7 +5,7 @@ ghost use Rattle.std.specs.Option.{option_copied, option_map};
 ghost use Rattle.bz_sexpr.specs.Forms.{form_view, forms_view, text_view};
 ghost use Rattle.bz_text.specs.Pieces.{piece_text};
 ghost use Rattle.bz_text.specs.Writing.{Writes};
-ghost use Rattle.bz_source.specs.Labels.{behind, chan_name, first_name, first_source, label_text, labels, name_in, name_note, named, placed, source_in, source_note};
+ghost use Rattle.bz_source.specs.Labels.{behind, chan_name, comp_source, first_name, first_source, label_text, labels, name_in, name_note, named, placed, source_in, source_note};
 ghost use Rattle.bz_source.specs.Views.{label_of, labels_of_part, mark_at, source_at, written_at};
 
 use crate::lines::{headed, inside};
@@ -129,8 +129,8 @@ fn names_of(alloc: Global, channels: Forms<'_>) -> Result<Vec<Option<Vec<u8>>>, 
     Ok(names)
 }
 
-// The name of a channel, by the first member of its record that gives one.
-fn name_of(alloc: Global, channel: Form<'_>) -> Result<Option<Vec<u8>>, AllocError>
+/// The name of a channel, by the first member of its record that gives one.
+pub(crate) fn name_of(alloc: Global, channel: Form<'_>) -> Result<Option<Vec<u8>>, AllocError>
     ensures { IfOk result (λ o. option_map (λ name. name.items) o ≡ chan_name (form_view channel.entry)) }
 {
     match first_name(behind(channel, CHANNEL_FIELDS)) {
@@ -189,6 +189,17 @@ fn sources_of(
         rest = after;
     }
     Ok(sources)
+}
+
+/// Where a component comes from, as its record has it.
+pub(crate) fn comp_mark_of(
+    alloc: Global,
+    component: Form<'_>,
+) -> Result<Option<SourceMark>, AllocError>
+    ensures { IfOk result (λ mark. option_map mark_at mark ≡ comp_source (form_view component.entry)) }
+{
+    let source = first_source(behind(component, COMPONENT_FIELDS));
+    mark_of(alloc, source, &mut None)
 }
 
 // A source as it is kept. `file` is that of the record before, and then that of this one.

@@ -2,6 +2,7 @@
 #![tactic(auto)]
 
 mod bare;
+mod brought;
 mod detail;
 mod error;
 mod inner;
@@ -9,6 +10,8 @@ mod labels;
 mod lines;
 mod path_at;
 mod places;
+mod record_pieces;
+mod records;
 mod source;
 mod survey;
 mod text;
@@ -20,6 +23,8 @@ pub use labels::{Label, Labels, SourceAt, SourceMark, name_piece, put_label, sou
 pub use lines::{LineCounter, PartLines, lines_of};
 pub use path_at::PathAt;
 pub use places::Places;
+pub use record_pieces::{PartPieces, pieces_of};
+pub use records::{FoundComp, Records};
 pub use source::Source;
 pub use survey::Survey;
 pub use text::{LineAt, at_piece, chan_line_at, comp_line_at, put_comp, put_path};

@@ -159,8 +159,8 @@ fn after<'d>(head: &[u8], items: Forms<'d>) -> Option<Forms<'d>>
     }
 }
 
-// The members of the first of these lists that is headed so, or none.
-fn members<'d>(head: &[u8], items: Forms<'d>) -> Forms<'d>
+/// The members of the first of these lists that is headed so, or none.
+pub(crate) fn members<'d>(head: &[u8], items: Forms<'d>) -> Forms<'d>
     ensures { forms_view result ≡ members_of head.now (forms_view items.entry) }
 {
     let mut rest = items;

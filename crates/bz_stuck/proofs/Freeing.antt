@@ -7,7 +7,7 @@ use Rattle.std.proofs.lemmas.List.Elements.{All-push}
 use Rattle.std.proofs.lemmas.List.Sums.{sum_by-set}
 use Rattle.bz_model.specs.Nets.{Wiring, State, IsPort, chan_at}
 use Rattle.bz_model.specs.Runs.{CanStep}
-use Rattle.bz_stuck.specs.Freeing.{Covers, Frees, HasDueOn, HasHost, IsFree}
+use Rattle.bz_stuck.specs.Freeing.{Covers, Frees, HasDueOn, IsFree, IsOpen}
 use Rattle.bz_stuck.specs.Holding.{IsLoose}
 use Rattle.bz_stuck.specs.Stuck.{is_member}
 
@@ -43,7 +43,7 @@ fewer row c is =
     omega (arith, sum, one)
 
 module _ (w : Wiring) (s : State) where
-  -- what can move, and what waits for the host, is in no stuck set
+  -- what can move is in no stuck set
   pub free_ready : (c : ℕ) → 0 < c → c ≤ length w.sites → CanStep w.sites s c → IsFree w s c
   free_ready c from to (p, steps) = record {
     from = from;
@@ -51,19 +51,17 @@ module _ (w : Wiring) (s : State) where
     none = λ other stuck is. (stuck c is).still p steps;
   }
 
-  pub free_host : (c p : ℕ) → HasHost w s c p → IsFree w s c
-  free_host c p (mv, port, has, outer) = record {
+  -- nor is what waits for the host, or for one that is in none
+  pub free_waiting : (c k : ℕ) → IsOpen w s k → HasDueOn w s c k → IsFree w s c
+  free_waiting c k (inl outer) (p, mv, port, on, has) = record {
     from = port.comp_from;
     to = port.comp_to;
-    none = λ other stuck is. let inner = (stuck c is).inner p mv port has in omega (arith, inner, outer);
+    none = λ other stuck is. let inner = (stuck c is).inner p mv port has in omega (arith, inner, on, outer);
   }
-
-  -- nor is what waits for one that is in none
-  pub free_waiting : (c d q k : ℕ) → IsFree w s d → IsPort w.sites d q → k ≡ chan_at w.sites d q → HasDueOn w s c k → IsFree w s c
-  free_waiting c d q k free there chan (p, mv, port, on, has) = record {
+  free_waiting c k (inr (d, q, free, there, chan)) (p, mv, port, on, has) = record {
     from = port.comp_from;
     to = port.comp_to;
-    none = λ other stuck is. free.none other stuck ((stuck c is).among p mv port has d q there (sym chan ∙ sym on));
+    none = λ other stuck is. free.none other stuck ((stuck c is).among p mv port has d q there (chan ∙ sym on));
   }
 
   module _ (row : List Bool) (covers : Covers w s row) where

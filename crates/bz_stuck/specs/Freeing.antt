@@ -1,5 +1,5 @@
 -- Components that are in no stuck set: what the search takes out.
-use Rattle.std.specs.Prelude.{◌≡◌, ℕ, ◌+◌, ◌<◌, ◌≤◌, Bool, true, false, List, length}
+use Rattle.std.specs.Prelude.{◌≡◌, ◌⊎◌, ℕ, ◌+◌, ◌<◌, ◌≤◌, Bool, true, false, List, length}
 use Rattle.std.specs.List.{All}
 use Rattle.bz_model.specs.declared.channel.Move.{Move}
 use Rattle.bz_model.specs.Nets.{Wiring, State, IsPort, chan_at, proc_at}
@@ -23,10 +23,10 @@ pub record Frees (w : Wiring) (s : State) (row : List Bool) (freed : List ℕ) :
   pub covers : Covers w s row
   pub each : All (IsFree w s) freed
 
+-- a host reaches channel k, or a component that is in no stuck set
+abbrev pub IsOpen : Wiring → State → ℕ → Type 0
+IsOpen w s k = (k ≤ length w.ports) ⊎ ((d q : ℕ) × IsFree w s d × IsPort w.sites d q × (chan_at w.sites d q ≡ k))
+
 -- component c has a move due at a port on channel k
 abbrev pub HasDueOn : Wiring → State → ℕ → ℕ → Type 0
 HasDueOn w s c k = (p : ℕ) × (mv : Move) × IsPort w.sites c p × (chan_at w.sites c p ≡ k) × HasMove (proc_at s c) p mv
-
--- component c has a move due at port p, on the channel of an external port
-abbrev pub HasHost : Wiring → State → ℕ → ℕ → Type 0
-HasHost w s c p = (mv : Move) × IsPort w.sites c p × HasMove (proc_at s c) p mv × (chan_at w.sites c p ≤ length w.ports)

@@ -14,6 +14,10 @@ IsIn row (Some c) = is_member row c ≡ true
 abbrev pub AllIn : List Site → List Bool → ℕ → Type 0
 AllIn sites row k = (d q : ℕ) → IsPort sites d q → chan_at sites d q ≡ k → is_member row d ≡ true
 
+-- no host and nobody but members reach channel k
+abbrev pub IsKept : Wiring → List Bool → ℕ → Type 0
+IsKept w row k = (length w.ports < k) × AllIn w.sites row k
+
 -- port p keeps component c stuck
 pub record PortHolds (w : Wiring) (s : State) (member : ℕ → Bool) (c p : ℕ) : Type 0 where
   pub still : StepsAt w.sites s c p → ⊥

@@ -1,8 +1,9 @@
 //! A look at a set of components: whether none of them can ever move again.
 
 ghost use Rattle.std.specs.Prelude.{◌≡◌, ◌↔◌, ◌<◌, ◌≤◌, true, IsTrue, MatchBool, MatchOption, length};
-ghost use Rattle.bz_model.specs.Nets.{IsPort};
-ghost use Rattle.bz_stuck.specs.Holding.{AllIn, IsIn, IsLoose, PortHolds};
+ghost use Rattle.bz_model.specs.Nets.{IsPort, chan_at};
+ghost use Rattle.bz_model.specs.Runs.{CanStep};
+ghost use Rattle.bz_stuck.specs.Holding.{AllIn, IsIn, IsKept, IsLoose, PortHolds};
 ghost use Rattle.bz_stuck.specs.Stuck.{AreStuck, StuckAt, is_member};
 
 use bz_net::Core;
@@ -69,6 +70,9 @@ fn comp_holds(core: &Core, members: &[bool], comp: u32) -> bool
     requires to { comp ≤ length core.now.wiring.sites }
     ensures { IsTrue result ↔ StuckAt core.now.wiring core.now.state (is_member members.now) comp }
 {
+    if core.is_ready(comp) {
+        return false;
+    }
     for place in 0..port_count(core, comp) {
         if !port_holds(core, members, comp, place + 1) {
             return false;
@@ -77,22 +81,28 @@ fn comp_holds(core: &Core, members: &[bool], comp: u32) -> bool
     true
 }
 
-// Whether a port keeps its component stuck: nothing can be made there, and where something is due, no host and nobody but members
-// reach the channel.
+// Whether a port of a component that can't move keeps it stuck: where something is due, no host and nobody but members reach the
+// channel.
 fn port_holds(core: &Core, members: &[bool], comp: u32, port: u32) -> bool
-    requires { IsPort core.now.wiring.sites comp port }
+    requires port { IsPort core.now.wiring.sites comp port }
+    requires still { CanStep core.now.wiring.sites core.now.state comp → ⊥ }
     ensures { IsTrue result ↔ PortHolds core.now.wiring core.now.state (is_member members.now) comp port }
+{
+    match core.due(comp, port) {
+        None => true,
+        Some(_) => is_kept(core, members, comp, port),
+    }
+}
+
+// Whether no host and nobody but members reach the channel at a port.
+fn is_kept(core: &Core, members: &[bool], comp: u32, port: u32) -> bool
+    requires { IsPort core.now.wiring.sites comp port }
+    ensures { IsTrue result ↔ IsKept core.now.wiring members.now (chan_at core.now.wiring.sites comp port) }
 {
     // the wiring tells that the channel is one of the net's
     let _ = core.names();
-    if core.can_fire(comp, port) {
-        return false;
-    }
     let chan = chan_at(core, comp, port);
-    match core.due(comp, port) {
-        None => true,
-        Some(_) => is_inner(core, chan) && are_in(core, members, chan),
-    }
+    is_inner(core, chan) && are_in(core, members, chan)
 }
 
 /// Whether a channel is no external port.

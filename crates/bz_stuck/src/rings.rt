@@ -231,15 +231,18 @@ fn way(
     Ok(way)
 }
 
-// Whether a component waits for a reply or owes one.
+// Whether a component waits for a reply or owes one: then a channel of its isn't idle.
 fn holds_request(core: &Core, comp: u32) -> bool {
     if comp == 0 || comp > core.comp_count() {
         return false;
     }
     for place in 0..port_count(core, comp) {
-        if core.phase(chan_at(core, comp, place + 1)) == Phase::Taken
-            || core.due(comp, place + 1) == Some(Move::Got)
-        {
+        let holds = match core.phase(chan_at(core, comp, place + 1)) {
+            Phase::Idle => false,
+            Phase::Taken => true,
+            _ => core.due(comp, place + 1) == Some(Move::Got),
+        };
+        if holds {
             return true;
         }
     }

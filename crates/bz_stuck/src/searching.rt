@@ -2,14 +2,14 @@
 //! whoever waits for one that was taken out.
 
 ghost use Rattle.std.specs.Prelude.{◌≡◌, ◌<◌, ◌≤◌, IfOk, IsTrue, length, slice_get};
-ghost use Rattle.bz_model.specs.Nets.{IsPort, chan_at};
-ghost use Rattle.bz_stuck.specs.Freeing.{Covers, Frees, HasDueOn, HasHost, IsFree};
+ghost use Rattle.bz_model.specs.Nets.{IsPort, chan_at, site_at};
+ghost use Rattle.bz_stuck.specs.Freeing.{Covers, Frees, HasDueOn, IsFree, IsOpen};
 ghost use Rattle.bz_stuck.specs.Stuck.{AreStuck, is_member};
 
 use crate::looking::{first_loose, has, is_inner};
 use bz_model::Move;
 use bz_net::Core;
-use bz_waits::{chan_at, port_count};
+use bz_waits::{chans, port_count};
 use std::alloc::{AllocError, Global};
 
 /// The components that can never move again, as a row.
@@ -40,7 +40,8 @@ fn free(alloc: Global, core: &Core, members: &mut Vec<bool>) -> Result<(), Alloc
     ensures { IfOk result (λ _. Covers core.now.wiring core.now.state members.new.items) }
 {
     let mut freed = Vec::new(alloc);
-    begin(core, members, &mut freed)?;
+    free_ready(core, members, &mut freed)?;
+    free_outer(core, members, &mut freed)?;
     for turn in 0..core.comp_count() {
         let Some(comp) = at(freed.as_slice(), turn) else {
             break;
@@ -59,46 +60,31 @@ fn at(freed: &[u32], place: u32) -> Option<u32>
     }
 }
 
-// Takes out who can move, and who waits for the host.
-fn begin(core: &Core, members: &mut Vec<bool>, freed: &mut Vec<u32>) -> Result<(), AllocError>
+// Takes out who can move.
+fn free_ready(core: &Core, members: &mut Vec<bool>, freed: &mut Vec<u32>) -> Result<(), AllocError>
     requires { Frees core.now.wiring core.now.state members.old.items freed.old.items }
     ensures { IfOk result (λ _. Frees core.now.wiring core.now.state members.new.items freed.new.items) }
 {
     for place in 0..core.comp_count() {
-        if goes_on(core, place + 1) {
+        if core.is_ready(place + 1) {
             take_out(core, place + 1, members, freed)?;
         }
     }
     Ok(())
 }
 
-fn goes_on(core: &Core, comp: u32) -> bool
-    requires from { 0 < comp }
-    requires to { comp ≤ length core.now.wiring.sites }
-    ensures { IsTrue result → IsFree core.now.wiring core.now.state comp }
+// Takes out who waits for the host. The channels of external ports come first.
+fn free_outer(core: &Core, members: &mut Vec<bool>, freed: &mut Vec<u32>) -> Result<(), AllocError>
+    requires { Frees core.now.wiring core.now.state members.old.items freed.old.items }
+    ensures { IfOk result (λ _. Frees core.now.wiring core.now.state members.new.items freed.new.items) }
 {
-    if core.is_ready(comp) {
-        return true;
-    }
-    for place in 0..port_count(core, comp) {
-        if waits_for_host(core, comp, place + 1) {
-            return true;
+    for place in 0..core.chan_count() {
+        if is_inner(core, place + 1) {
+            break;
         }
+        free_on(core, place + 1, members, freed)?;
     }
-    false
-}
-
-fn waits_for_host(core: &Core, comp: u32, port: u32) -> bool
-    requires { IsPort core.now.wiring.sites comp port }
-    ensures { IsTrue result → HasHost core.now.wiring core.now.state comp port }
-{
-    if is_inner(core, chan_at(core, comp, port)) {
-        return false;
-    }
-    match core.due(comp, port) {
-        Some(_) => true,
-        None => false,
-    }
+    Ok(())
 }
 
 // Takes out who waits for a component that was taken out.
@@ -112,8 +98,9 @@ fn free_round(
     requires frees { Frees core.now.wiring core.now.state members.old.items freed.old.items }
     ensures { IfOk result (λ _. Frees core.now.wiring core.now.state members.new.items freed.new.items) }
 {
+    let chans = chans(core, comp);
     for place in 0..port_count(core, comp) {
-        free_at(core, comp, place + 1, members, freed)?;
+        free_at(core, comp, chans, place + 1, members, freed)?;
     }
     Ok(())
 }
@@ -122,49 +109,72 @@ fn free_round(
 fn free_at(
     core: &Core,
     comp: u32,
+    chans: &[u32],
     port: u32,
     members: &mut Vec<bool>,
     freed: &mut Vec<u32>,
 ) -> Result<(), AllocError>
     requires free { IsFree core.now.wiring core.now.state comp }
+    requires chans { chans.now ≡ (site_at core.now.wiring.sites comp).chans }
     requires port { IsPort core.now.wiring.sites comp port }
     requires frees { Frees core.now.wiring core.now.state members.old.items freed.old.items }
     ensures { IfOk result (λ _. Frees core.now.wiring core.now.state members.new.items freed.new.items) }
 {
     // the wiring tells that the channel is one of the net's
     let _ = core.names();
-    let chan = chan_at(core, comp, port);
+    let chan = chan_among(core, comp, chans, port);
+    free_on(core, chan, members, freed)
+}
+
+// The channel at a port of a component that has these.
+fn chan_among(core: &Core, comp: u32, chans: &[u32], port: u32) -> u32
+    requires chans { chans.now ≡ (site_at core.now.wiring.sites comp).chans }
+    requires port { IsPort core.now.wiring.sites comp port }
+    ensures { result ≡ chan_at core.now.wiring.sites comp port }
+{
+    chans[port as usize - 1]
+}
+
+// Takes out who waits on a channel that the host reaches, or somebody who is in no stuck set.
+fn free_on(
+    core: &Core,
+    chan: u32,
+    members: &mut Vec<bool>,
+    freed: &mut Vec<u32>,
+) -> Result<(), AllocError>
+    requires from { 0 < chan }
+    requires to { chan ≤ length core.now.wiring.chans }
+    requires open { IsOpen core.now.wiring core.now.state chan }
+    requires frees { Frees core.now.wiring core.now.state members.old.items freed.old.items }
+    ensures { IfOk result (λ _. Frees core.now.wiring core.now.state members.new.items freed.new.items) }
+{
     let [active, passive] = core.ends(chan);
-    if let Some(other) = active {
-        free_waiting(core, comp, port, other, Move::Ask, members, freed)?;
-    }
-    if let Some(other) = passive {
-        free_waiting(core, comp, port, other, Move::Take, members, freed)?;
-    }
+    free_end(core, chan, active, Move::Ask, members, freed)?;
+    free_end(core, chan, passive, Move::Take, members, freed)?;
     Ok(())
 }
 
-// Takes out a component that has a move due at its end of the channel, of the side of a move, at a port of one that was taken
-// out.
-fn free_waiting(
+// The same at the end of the side of a move.
+fn free_end(
     core: &Core,
-    comp: u32,
-    port: u32,
-    other: u32,
+    chan: u32,
+    end: Option<u32>,
     side: Move,
     members: &mut Vec<bool>,
     freed: &mut Vec<u32>,
 ) -> Result<(), AllocError>
-    requires free { IsFree core.now.wiring core.now.state comp }
-    requires port { IsPort core.now.wiring.sites comp port }
+    requires open { IsOpen core.now.wiring core.now.state chan }
     requires frees { Frees core.now.wiring core.now.state members.old.items freed.old.items }
     ensures { IfOk result (λ _. Frees core.now.wiring core.now.state members.new.items freed.new.items) }
 {
-    if !has(members.as_slice(), other) {
+    let Some(comp) = end else {
+        return Ok(());
+    };
+    if !has(members.as_slice(), comp) {
         return Ok(());
     }
-    if has_due_on(core, other, chan_at(core, comp, port), side) {
-        take_out(core, other, members, freed)?;
+    if has_due_on(core, comp, chan, side) {
+        take_out(core, comp, members, freed)?;
     }
     Ok(())
 }

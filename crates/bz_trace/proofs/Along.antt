@@ -2,7 +2,6 @@
 use Rattle.std.proofs.Common.{◌≡◌, ◌≢◌, Bool, cond, ℕ, zero, suc, ◌+◌, ◌-◌, ◌<◌, ◌≤◌, List, [], ◌∷◌, ◌++◌, length, map, take, Option, Some, None, refl, sym, ap, ap₂, subst, ◌∙◌, arith, append_assoc, ◌⊎◌, inl, inr, length-append}
 use Rattle.std.specs.List.{AllByRecursion, count_by}
 use Rattle.std.proofs.lemmas.List.Sums.{sum_by-cons}
-use Rattle.std.proofs.Math.ListN.{length-map}
 use Rattle.std.proofs.lemmas.List.{append-nil, map-append, take_all}
 use Rattle.std.proofs.Math.Seq.{take-append_seam}
 use Rattle.bz_model.specs.declared.event.Entry.{Entry}
@@ -18,18 +17,19 @@ use Rattle.bz_model.specs.Entries.{HasLine, HasWho, told}
 use Rattle.bz_flat.specs.Wires.{WellWired}
 use Rattle.bz_net.proofs.Lines.{run_has_lines}
 use Rattle.bz_trace_text.specs.Reading.{line_at}
-use Rattle.bz_trace_text.specs.Texts.{lines, clash_lines, first_line, Trace, HasText, IsBad, NoClash, NoEntry, ClashesFrom, OtherFrom, spelling}
+use Rattle.bz_trace_text.specs.Texts.{lines, first_line, Trace, HasText, IsBad, NoClash, NoEntry, ClashesFrom, OtherFrom, spelling}
 use Rattle.bz_trace_text.proofs.Lines.{line_takes}
 use Rattle.bz_trace_text.proofs.Strips.{none-some}
 use Rattle.bz_trace_text.proofs.Texts.{all_more, flat_more}
 use Rattle.bz_trace_text.proofs.Cuts.{Read, bad_behind, bad_most, lines_tell}
-use Rattle.bz_trace.specs.Verdicts.{AreDue, Concludes, CountsRun, DifferAt, StopsAtEntry, Judges, Leaves}
+use Rattle.bz_trace.specs.Pieces.{Along, AreDueBehind, ConcludesPiece, IsBehind, LeavesPiece, StandsSomewhere, StopsBehind}
+use Rattle.bz_trace.specs.Verdicts.{Concludes, CountsRun, DifferAt, Judges, Leaves}
 use Rattle.bz_trace.specs.declared.checking.Verdict.{Verdict}
 use Rattle.bz_trace.specs.declared.checking.Verdict.TheVariants as verdict
 use Rattle.bz_trace_text.specs.declared.tally.Counts.{Counts}
 use Rattle.bz_trace_text.specs.Counting.{AreFewer, Tells, is_fired, is_host, is_rest}
 use Rattle.bz_trace_text.proofs.Counted.{fewer}
-use Rattle.bz_trace.specs.Following.{Along, FollowsFront, FollowsText, Goes, IsLed, NoneToFollow, PlaysOn, Stands, Stops}
+use Rattle.bz_trace.specs.Following.{FollowsFront, FollowsText, Goes, IsLed, NoneToFollow, PlaysOn, Stands, Stops}
 use Rattle.bz_trace.specs.declared.lines.Followed.{Followed}
 
 -- a line is that of the entry as told
@@ -101,10 +101,9 @@ told_nil : (es : List Entry) → map told es ≡ [] → es ≡ []
 told_nil [] e = refl
 told_nil (x ∷ es) e = absurd (no_nil _ _ (sym e))
 
-along_start : (net : Progress) → IsToldBy net [] → net.left ≡ MAX_ENTRIES → Along net.wiring net []
-along_start net opened full = record {
+pub along_start : (net : Progress) → IsToldBy net [] → Along net.wiring net []
+along_start net opened = record {
   wiring = refl;
-  left = omega (arith, full);
   journal = [];
   tells = refl;
   each = tt;
@@ -112,17 +111,23 @@ along_start net opened full = record {
   sole = λ es t run alike. subst (λ xs. Run net.wiring (opening net.wiring) xs t) (told_nil es alike) run ∙ sym opened.run;
 }
 
+pub behind_start : (net : Progress) → IsToldBy net [] → IsBehind net.wiring net []
+behind_start net opened = record { each = tt; along = along_start net opened }
+
+pub all_both : {A : Type 0} (P : A → Type 0) (xs ys : List A) → AllByRecursion P xs → AllByRecursion P ys → AllByRecursion P (xs ++ ys)
+all_both P [] ys p q = q
+all_both P (x ∷ xs) ys p q = (p.0, all_both P xs ys p.1 q)
+
+pub all_front : {A : Type 0} (P : A → Type 0) (xs ys : List A) → AllByRecursion P (xs ++ ys) → AllByRecursion P xs
+all_front P [] ys all = tt
+all_front P (x ∷ xs) ys all = (all.0, all_front P xs ys all.1)
+
 along_more : (w : Wiring) (old new : Progress) (entries : List Entry) (line : Entry) → Along w old entries → HasLine (outside w) line → Goes old new line → Along w new (entries ++ line ∷ [])
 along_more w old new entries line along has goes =
     let adds = goes.enters.adds [] in
     let own : HasLine (outside w) goes.entry = has_told (outside w) goes.entry (subst (HasLine (outside w)) (sym goes.tells) (told_has (outside w) line has)) in
     record {
       wiring = adds.wiring ∙ along.wiring;
-      left =
-          let long = length-append entries (line ∷ []) in
-          let limit = adds.limit in
-          let left = along.left in
-          omega (arith, long, limit, left);
       journal = along.journal ++ goes.entry ∷ [];
       tells = map-append told along.journal (goes.entry ∷ []) ∙ ap₂ (λ x y. x ++ y ∷ []) along.tells goes.tells ∙ sym (map-append told entries (line ∷ []));
       each = all_more (HasLine (outside w)) along.journal goes.entry along.each own;
@@ -135,12 +140,12 @@ along_more w old new entries line along has goes =
     }
 
 -- the entries before a line that stops are those that the net is along
-abbrev pub Halts : Wiring → Progress → List Entry → ℕ → Type 0
-Halts w net entries number = (stops : StopsAtEntry w entries number) × Along w net stops.before
+abbrev pub Halts : Wiring → List Entry → Progress → List Entry → ℕ → Type 0
+Halts w past net entries number = (stops : StopsBehind w past entries number) × Along w net (past ++ stops.before)
 
-stops_here : (w : Wiring) (old : Progress) (entries : List Entry) (line : Entry) (number : ℕ) → WellWired w → AllByRecursion (HasLine (outside w)) entries → HasLine (outside w) line → Along w old entries → Stops old line
-    → number ≡ length entries + 2 → Halts w old (entries ++ line ∷ []) number
-stops_here w old entries line number wired each has along stops is = (
+stops_here : (w : Wiring) (past : List Entry) (old : Progress) (entries : List Entry) (line : Entry) (number : ℕ) → WellWired w → AllByRecursion (HasLine (outside w)) past → AllByRecursion (HasLine (outside w)) entries → HasLine (outside w) line
+    → Along w old (past ++ entries) → Stops old line → number ≡ length entries + 2 → Halts w past old (entries ++ line ∷ []) number
+stops_here w past old entries line number wired before each has along stops is = (
   record {
     before = entries;
     here = line;
@@ -151,13 +156,14 @@ stops_here w old entries line number wired each has along stops is = (
       entries = along.journal;
       by = all_who (outside w) along.journal along.each;
       last = old.state;
-      run = run_along w old entries along;
-      text_is = same_lines w.ports entries along.journal (sym along.tells);
+      run = run_along w old (past ++ entries) along;
+      text_is = same_lines w.ports (past ++ entries) along.journal (sym along.tells);
     };
     fails = λ r.
         let own = run_has_lines w r.entries r.last wired r.run r.by in
-        let alike = lines_tell (outside w) r.entries (entries ++ line ∷ []) own (all_more (HasLine (outside w)) entries line each has) (sym r.text_is) in
-        let l = last_of r.entries entries line alike in
+        let all = all_both (HasLine (outside w)) past (entries ++ line ∷ []) before (all_more (HasLine (outside w)) entries line each has) in
+        let alike = lines_tell (outside w) r.entries (past ++ (entries ++ line ∷ [])) own all (sym r.text_is) ∙ ap (map told) (sym (append_assoc past entries (line ∷ []))) in
+        let l = last_of r.entries (past ++ entries) line alike in
         let (m, front, after) = run_pop w (opening w) l.front l.last r.last (subst (λ xs. Run w (opening w) xs r.last) l.is r.run) in
         let same = along.sole l.front m front l.alike in
         stops l.last r.last l.last_alike (subst (λ o. Follows old.wiring o l.last r.last) same (subst (λ (v : Wiring). Follows v m l.last r.last) (sym along.wiring) after));
@@ -165,8 +171,8 @@ stops_here w old entries line number wired each has along stops is = (
   along,
 )
 
-stopped_before : (w : Wiring) (net : Progress) (entries : List Entry) (line : Entry) (number : ℕ) → Halts w net entries number → Halts w net (entries ++ line ∷ []) number
-stopped_before w net entries line number (stops, along) = (
+stopped_before : (w : Wiring) (past : List Entry) (net : Progress) (entries : List Entry) (line : Entry) (number : ℕ) → Halts w past net entries number → Halts w past net (entries ++ line ∷ []) number
+stopped_before w past net entries line number (stops, along) = (
   record {
     before = stops.before;
     here = stops.here;
@@ -179,13 +185,20 @@ stopped_before w net entries line number (stops, along) = (
   along,
 )
 
-stands_more : (w : Wiring) (old new : Progress) (entries : List Entry) (line : Entry) (number : ℕ) (stop later : Option ℕ) → WellWired w → AllByRecursion (HasLine (outside w)) entries → HasLine (outside w) line
-    → number ≡ length entries + 2 → Stands w old entries stop → PlaysOn old new line number stop later → Stands w new (entries ++ line ∷ []) later
-stands_more w old new entries line number None None wired each has is along plays = along_more w old new entries line along has plays
-stands_more w old new entries line number None (Some k) wired each has is along plays =
-    subst (λ (net : Progress). Halts w net (entries ++ line ∷ []) k) (sym plays.1) (stops_here w old entries line k wired each has along plays.0 (plays.2 ∙ is))
-stands_more w old new entries line number (Some k) later wired each has is stops plays =
-    subst (λ (o : Option ℕ). Stands w new (entries ++ line ∷ []) o) (sym plays.0) (subst (λ (net : Progress). Halts w net (entries ++ line ∷ []) k) (sym plays.1) (stopped_before w old entries line k stops))
+room_more : (old new : Progress) (entries : List Entry) (line : Entry) → Goes old new line → MAX_ENTRIES ≤ old.left + length entries → MAX_ENTRIES ≤ new.left + length (entries ++ line ∷ [])
+room_more old new entries line goes room =
+    let long = length-append entries (line ∷ []) in
+    let limit = (goes.enters.adds []).limit in
+    omega (arith, long, limit, room)
+
+stands_more : (w : Wiring) (past : List Entry) (old new : Progress) (entries : List Entry) (line : Entry) (number : ℕ) (stop later : Option ℕ) → WellWired w → AllByRecursion (HasLine (outside w)) past → AllByRecursion (HasLine (outside w)) entries → HasLine (outside w) line
+    → number ≡ length entries + 2 → Stands w past old entries stop → PlaysOn old new line number stop later → Stands w past new (entries ++ line ∷ []) later
+stands_more w past old new entries line number None None wired before each has is (along, room) plays =
+    (subst (Along w new) (append_assoc past entries (line ∷ [])) (along_more w old new (past ++ entries) line along has plays), room_more old new entries line plays room)
+stands_more w past old new entries line number None (Some k) wired before each has is (along, room) plays =
+    subst (λ (net : Progress). Halts w past net (entries ++ line ∷ []) k) (sym plays.1) (stops_here w past old entries line k wired before each has along plays.0 (plays.2 ∙ is))
+stands_more w past old new entries line number (Some k) later wired before each has is stops plays =
+    subst (λ (o : Option ℕ). Stands w past new (entries ++ line ∷ []) o) (sym plays.0) (subst (λ (net : Progress). Halts w past net (entries ++ line ∷ []) k) (sym plays.1) (stopped_before w past old entries line k stops))
 
 -- ---- what a line is counted as is what its entry is
 
@@ -212,7 +225,7 @@ count_told p same (e ∷ es) =
 same_count : (p : Entry → Bool) → ((e : Entry) → p e ≡ p (told e)) → (es fs : List Entry) → map told es ≡ map told fs → count_by p es ≡ count_by p fs
 same_count p same es fs alike = count_told p same es ∙ ap (count_by p) alike ∙ sym (count_told p same fs)
 
-tells_alike : (counts : Counts) (es fs : List Entry) → map told es ≡ map told fs → Tells counts es → Tells counts fs
+pub tells_alike : (counts : Counts) (es fs : List Entry) → map told es ≡ map told fs → Tells counts es → Tells counts fs
 tells_alike counts es fs alike tells = record {
   fired = tells.fired ∙ same_count is_fired fired_told es fs alike;
   host = tells.host ∙ same_count is_host host_told es fs alike;
@@ -220,13 +233,17 @@ tells_alike counts es fs alike tells = record {
 }
 
 -- as far as the lines of entries are read
-read_of : (names : Outside) (w : Wiring) (net : Progress) (v : Version) (text rest : List ℕ) (far : Followed) (f : FollowsText names w net text rest far) → Read (outside w) (first_line v ++ text) v f.entries rest
-read_of names w net v text rest far f = record { each = f.each; few = f.few; as_told = f.as_told; text_is = ap (λ s. first_line v ++ s) f.text_is }
+read_of : (names : Outside) (w : Wiring) (past : List Entry) (net : Progress) (v : Version) (text rest : List ℕ) (far : Followed) (f : FollowsText names w past net text rest far) → Read (outside w) (first_line v ++ text) v f.entries rest
+read_of names w past net v text rest far f = record { each = f.each; few = f.few; as_told = f.as_told; text_is = ap (λ s. first_line v ++ s) f.text_is }
 
-pub follows_start : (names : Outside) (net : Progress) (text : List ℕ) → names ≡ outside net.wiring → WellWired net.wiring → IsToldBy net [] → net.left ≡ MAX_ENTRIES → FollowsText names net.wiring net text text (record { counts = record { fired = 0; host = 0; rests = 0 }; count = 0; stop = None })
-follows_start names net text named wired opened full = record {
+abbrev pub nothing_yet : Followed
+nothing_yet = record { counts = record { fired = 0; host = 0; rests = 0 }; count = 0; stop = None }
+
+pub follows_start : (names : Outside) (w : Wiring) (past : List Entry) (net : Progress) (text : List ℕ) → names ≡ outside w → WellWired w → IsBehind w net past → MAX_ENTRIES ≤ net.left → FollowsText names w past net text text nothing_yet
+follows_start names w past net text named wired behind room = record {
   names_are = named;
   wired = wired;
+  before = behind.each;
   entries = [];
   each = tt;
   few = omega arith;
@@ -234,24 +251,33 @@ follows_start names net text named wired opened full = record {
   text_is = refl;
   tells = record { fired = refl; host = refl; rests = refl };
   count_is = refl;
-  stands = along_start net opened full;
+  stands = (subst (Along w net) (sym (append-nil past)) behind.along, omega (arith, room));
 }
 
-stands_wired : (w : Wiring) (net : Progress) (entries : List Entry) (stop : Option ℕ) → Stands w net entries stop → net.wiring ≡ w
-stands_wired w net entries None along = along.wiring
-stands_wired w net entries (Some line) (stops, along) = along.wiring
+stands_wired : (w : Wiring) (past : List Entry) (net : Progress) (entries : List Entry) (stop : Option ℕ) → Stands w past net entries stop → net.wiring ≡ w
+stands_wired w past net entries None (along, room) = along.wiring
+stands_wired w past net entries (Some line) (stops, along) = along.wiring
 
-stands_told : (w : Wiring) (net : Progress) (entries : List Entry) (stop : Option ℕ) → Stands w net entries stop → (journal : List Entry) × IsToldBy net journal
-stands_told w net entries None along = (along.journal, along.of_net)
-stands_told w net entries (Some line) (stops, along) = (along.journal, along.of_net)
+stands_told : (w : Wiring) (past : List Entry) (net : Progress) (entries : List Entry) (stop : Option ℕ) → Stands w past net entries stop → (journal : List Entry) × IsToldBy net journal
+stands_told w past net entries None (along, room) = (along.journal, along.of_net)
+stands_told w past net entries (Some line) (stops, along) = (along.journal, along.of_net)
+
+stands_behind : (w : Wiring) (past : List Entry) (net : Progress) (entries : List Entry) (stop : Option ℕ) → AllByRecursion (HasLine (outside w)) past → AllByRecursion (HasLine (outside w)) entries → Stands w past net entries stop → (es : List Entry) × IsBehind w net es
+stands_behind w past net entries None before each (along, room) = (past ++ entries, record { each = all_both (HasLine (outside w)) past entries before each; along = along })
+stands_behind w past net entries (Some line) before each (stops, along) =
+    let own = all_front (HasLine (outside w)) stops.before (stops.here ∷ stops.after) (subst (AllByRecursion (HasLine (outside w))) stops.entries_are each) in
+    (past ++ stops.before, record { each = all_both (HasLine (outside w)) past stops.before before own; along = along })
 
 some_left : (n : ℕ) → (n ≡ 0 → ⊥) → 0 < n
 some_left zero none = absurd (none refl)
 some_left (suc n) none = omega arith
 
-module _ (names : Outside) (w : Wiring) (net : Progress) (text rest : List ℕ) (far : Followed) (f : FollowsText names w net text rest far) where
-  goes_on : far.stop ≡ None → Along w net f.entries
-  goes_on none = subst (Stands w net f.entries) none f.stands
+module _ (names : Outside) (w : Wiring) (past : List Entry) (net : Progress) (text rest : List ℕ) (far : Followed) (f : FollowsText names w past net text rest far) where
+  plays_on : far.stop ≡ None → Along w net (past ++ f.entries) × (MAX_ENTRIES ≤ net.left + length f.entries)
+  plays_on none = subst (Stands w past net f.entries) none f.stands
+
+  goes_on : far.stop ≡ None → Along w net (past ++ f.entries)
+  goes_on none = (plays_on none).0
 
   named : (o : Option (Entry × List ℕ)) → line_at names rest ≡ o → line_at (outside w) rest ≡ o
   named o at = subst (λ n. line_at n rest ≡ o) f.names_are at
@@ -259,9 +285,10 @@ module _ (names : Outside) (w : Wiring) (net : Progress) (text rest : List ℕ) 
   -- where no line has stopped, one more can be played
   pub has_place : far.count ≢ MAX_ENTRIES → far.stop ≡ None → 0 < net.left
   has_place fewer none =
-      let left = (goes_on none).left in
+      let left = (plays_on none).1 in
       let is = f.count_is in
-      some_left net.left (λ zero. fewer (omega (arith, left, is, zero)))
+      let few = f.few in
+      some_left net.left (λ zero. fewer (omega (arith, left, is, zero, few)))
 
   pub line_of_net : (line : Entry) (after : List ℕ) → line_at names rest ≡ Some (line, after) → far.stop ≡ None → HasLine (outside net.wiring) line
   line_of_net line after at none = subst (λ (u : Wiring). HasLine (outside u) line) (sym (goes_on none).wiring) (line_takes (outside w) rest line after (named (Some (line, after)) at)).has_line
@@ -271,10 +298,16 @@ module _ (names : Outside) (w : Wiring) (net : Progress) (text rest : List ℕ) 
   led none = let along = goes_on none in (subst WellWired (sym along.wiring) f.wired, (along.journal, along.of_net))
 
   pub wiring_is : net.wiring ≡ w
-  wiring_is = stands_wired w net f.entries far.stop f.stands
+  wiring_is = stands_wired w past net f.entries far.stop f.stands
 
   pub told_here : (journal : List Entry) × IsToldBy net journal
-  told_here = stands_told w net f.entries far.stop f.stands
+  told_here = stands_told w past net f.entries far.stop f.stands
+
+  -- the net stands behind entries, whether a line has stopped or not
+  pub somewhere : StandsSomewhere net
+  somewhere =
+      let (es, behind) = stands_behind w past net f.entries far.stop f.before f.each f.stands in
+      (es, subst (λ (u : Wiring). IsBehind u net es) (sym wiring_is) behind)
 
   pub can_count : AreFewer far.counts 18446744073709551615
   can_count =
@@ -284,16 +317,17 @@ module _ (names : Outside) (w : Wiring) (net : Progress) (text rest : List ℕ) 
   pub within : far.count ≤ MAX_ENTRIES
   within = let is = f.count_is in let few = f.few in omega (arith, is, few)
 
-pub follows_more : (names : Outside) (w : Wiring) (old new : Progress) (text rest after : List ℕ) (far : Followed) (more : Counts) (later : Option ℕ) (line : Entry) → FollowsText names w old text rest far → line_at names rest ≡ Some (line, after) → far.count ≢ MAX_ENTRIES
-    → PlaysOn old new line (far.count + 2) far.stop later → ((entries : List Entry) → Tells far.counts entries → Tells more (entries ++ line ∷ [])) → FollowsText names w new text after (record { counts = more; count = far.count + 1; stop = later })
-follows_more names w old new text rest after far more later line f at fewer plays adds =
+pub follows_more : (names : Outside) (w : Wiring) (past : List Entry) (old new : Progress) (text rest after : List ℕ) (far : Followed) (more : Counts) (later : Option ℕ) (line : Entry) → FollowsText names w past old text rest far → line_at names rest ≡ Some (line, after) → far.count ≢ MAX_ENTRIES
+    → PlaysOn old new line (far.count + 2) far.stop later → ((entries : List Entry) → Tells far.counts entries → Tells more (entries ++ line ∷ [])) → FollowsText names w past new text after (record { counts = more; count = far.count + 1; stop = later })
+follows_more names w past old new text rest after far more later line f at fewer plays adds =
     let is = f.count_is in
     let long = length-append f.entries (line ∷ []) in
     let few = f.few in
-    let stands = line_takes (outside w) rest line after (named names w old text rest far f (Some (line, after)) at) in
+    let stands = line_takes (outside w) rest line after (named names w past old text rest far f (Some (line, after)) at) in
     record {
       names_are = f.names_are;
       wired = f.wired;
+      before = f.before;
       entries = f.entries ++ line ∷ [];
       each = all_more (HasLine (outside w)) f.entries line f.each stands.has_line;
       few = omega (arith, long, is, few, fewer);
@@ -301,14 +335,15 @@ follows_more names w old new text rest after far more later line f at fewer play
       text_is = f.text_is ∙ flat_more (line_text w.ports) f.entries line after rest stands.text;
       tells = adds f.entries f.tells;
       count_is = omega (arith, long, is);
-      stands = stands_more w old new f.entries line (far.count + 2) far.stop later f.wired f.each stands.has_line (omega (arith, is)) f.stands plays;
+      stands = stands_more w past old new f.entries line (far.count + 2) far.stop later f.wired f.before f.each stands.has_line (omega (arith, is)) f.stands plays;
     }
 
 -- what is read behind the rest stands behind the text
-pub follows_longer : (names : Outside) (w : Wiring) (net : Progress) (text rest : List ℕ) (far : Followed) (more : List ℕ) → FollowsText names w net text rest far → FollowsText names w net (text ++ more) (rest ++ more) far
-follows_longer names w net text rest far more f = record {
+pub follows_longer : (names : Outside) (w : Wiring) (past : List Entry) (net : Progress) (text rest : List ℕ) (far : Followed) (more : List ℕ) → FollowsText names w past net text rest far → FollowsText names w past net (text ++ more) (rest ++ more) far
+follows_longer names w past net text rest far more f = record {
   names_are = f.names_are;
   wired = f.wired;
+  before = f.before;
   entries = f.entries;
   each = f.each;
   few = f.few;
@@ -350,15 +385,15 @@ taken_all es line long = take_all (line - 2) es (omega (arith, long))
 abbrev trace_of : Version → List Entry → List ℕ → Trace
 trace_of v es cs = record { version = v; entries = es; clashes = cs }
 
-module _ (names : Outside) (w : Wiring) (net : Progress) (v : Version) (text rest : List ℕ) (far : Followed) (f : FollowsText names w net text rest far) where
+module _ (names : Outside) (w : Wiring) (past : List Entry) (net : Progress) (v : Version) (text rest : List ℕ) (far : Followed) (f : FollowsText names w past net text rest far) where
   pub too_many : (line : Entry) (after : List ℕ) → NoneToFollow names rest far → line_at names rest ≡ Some (line, after) → IsBad (outside w) (first_line v ++ text) 16777218
   too_many line after (inl none) at = absurd (none-some (line, after) (sym none ∙ at))
   too_many line after (inr full) at =
-      bad_most (outside w) (first_line v ++ text) v f.entries rest line after (read_of names w net v text rest far f) (sym f.count_is ∙ full) (named names w net text rest far f (Some (line, after)) at)
+      bad_most (outside w) (first_line v ++ text) v f.entries rest line after (read_of names w past net v text rest far f) (sym f.count_is ∙ full) (named names w past net text rest far f (Some (line, after)) at)
 
   pub other_behind : (line : ℕ) → line_at names rest ≡ None → OtherFrom v rest (far.count + 2) line → IsBad (outside w) (first_line v ++ text) line
   other_behind line none other =
-      bad_behind (outside w) (first_line v ++ text) v f.entries rest line (read_of names w net v text rest far f) (named names w net text rest far f None none) (subst (λ n. OtherFrom v rest (n + 2) line) f.count_is other)
+      bad_behind (outside w) (first_line v ++ text) v f.entries rest line (read_of names w past net v text rest far f) (named names w past net text rest far f None none) (subst (λ n. OtherFrom v rest (n + 2) line) f.count_is other)
 
   -- no entry and no clash line goes on from here
   pub bad_here : rest ≢ [] → NoEntry (outside w) far.count rest → NoClash v rest → IsBad (outside w) (first_line v ++ text) (far.count + 2)
@@ -380,56 +415,56 @@ module _ (names : Outside) (w : Wiring) (net : Progress) (v : Version) (text res
     text_is : first_line v ++ text ≡ spelling w.ports (trace_of v f.entries from.0)
     text_is = ap (λ s. first_line v ++ s) (f.text_is ∙ ap (λ s. lines w.ports f.entries ++ s) from.3)
 
-    pub stops_at : (line : ℕ) → far.stop ≡ Some line → Leaves w (first_line v ++ text) net (verdict.Not line)
-    stops_at line is =
-        let (stops, along) = subst (Stands w net f.entries) is f.stands in (
+    pub stops_at : (last : Bool) (line : ℕ) → far.stop ≡ Some line → LeavesPiece last w past (first_line v ++ text) net (verdict.Not line)
+    stops_at last line is =
+        let (stops, along) = subst (Stands w past net f.entries) is f.stands in (
           record {
             trace = trace_of v f.entries from.0;
             has_text = has_text;
             text_is = text_is;
             stops = inl stops;
           },
-          (along.journal, along.tells ∙ ap (map told) (sym (taken_front f.entries stops.before (stops.here ∷ stops.after) line stops.entries_are stops.line_is)), along.of_net),
+          (along.journal, along.tells ∙ ap (λ es. map told (past ++ es)) (sym (taken_front f.entries stops.before (stops.here ∷ stops.after) line stops.entries_are stops.line_is)), along.of_net),
         )
 
     -- no line of an entry has stopped
-    module _ (due : List ℕ) (plays : far.stop ≡ None) (are_due : (journal : List Entry) → IsToldBy net journal → AreDue net.wiring v journal due) where
-      along : Along w net f.entries
-      along = subst (Stands w net f.entries) plays f.stands
+    module _ (last : Bool) (due : List ℕ) (plays : far.stop ≡ None) (are_due : (journal : List Entry) → IsToldBy net journal → AreDueBehind last net.wiring v journal due) where
+      along : Along w net (past ++ f.entries)
+      along = goes_on names w past net text rest far f plays
 
-      own_due : AreDue w v along.journal due
-      own_due = subst (λ (u : Wiring). AreDue u v along.journal due) along.wiring (are_due along.journal along.of_net)
+      own_due : AreDueBehind last w v along.journal due
+      own_due = subst (λ (u : Wiring). AreDueBehind last u v along.journal due) along.wiring (are_due along.journal along.of_net)
 
-      pub run_text : from.0 ≡ due → Concludes w (first_line v ++ text) net far.counts verdict.Run
-      run_text same =
-          let long = sym (length-map along.journal told) ∙ ap length along.tells ∙ length-map f.entries told in (
-            record {
-              version = v;
-              entries = along.journal;
-              by = all_who (outside w) along.journal along.each;
-              few = let few = f.few in omega (arith, long);
-              last = net.state;
-              run = run_along w net f.entries along;
-              clashes = due;
-              due = own_due;
-              text_is = text_is ∙ ap₂ (λ x y. first_line v ++ (x ++ clash_lines y)) (same_lines w.ports f.entries along.journal (sym along.tells)) same;
-            },
-            tells_alike far.counts f.entries along.journal (sym along.tells) f.tells,
-            along.of_net,
-          )
+      pub run_text : from.0 ≡ due → ConcludesPiece last w past (first_line v ++ text) net far.counts verdict.Run
+      run_text same = record {
+        piece = record {
+          trace = trace_of v f.entries from.0;
+          has_text = has_text;
+          text_is = text_is;
+          journal = along.journal;
+          by = all_who (outside w) along.journal along.each;
+          alike = along.tells;
+          end = net.state;
+          run = run_along w net (past ++ f.entries) along;
+          due = subst (AreDueBehind last w v along.journal) (sym same) own_due;
+        };
+        told_by = along.of_net;
+        tells = f.tells;
+        behind = record { each = all_both (HasLine (outside w)) past f.entries f.before f.each; along = along };
+      }
 
-      pub no_run : (place : ℕ) → DifferAt from.0 due place → Leaves w (first_line v ++ text) net (verdict.Not (far.count + place + 2))
+      pub no_run : (place : ℕ) → DifferAt from.0 due place → LeavesPiece last w past (first_line v ++ text) net (verdict.Not (far.count + place + 2))
       no_run place differ = (
         record {
           trace = trace_of v f.entries from.0;
           has_text = has_text;
           text_is = text_is;
           stops = inr (record {
-            entries = along.journal;
+            journal = along.journal;
             by = all_who (outside w) along.journal along.each;
-            last = net.state;
-            run = run_along w net f.entries along;
-            alike = same_lines w.ports f.entries along.journal (sym along.tells);
+            end = net.state;
+            run = run_along w net (past ++ f.entries) along;
+            alike = along.tells;
             clashes = due;
             due = own_due;
             place = place;
@@ -437,7 +472,7 @@ module _ (names : Outside) (w : Wiring) (net : Progress) (v : Version) (text res
             line_is = ap (λ n. n + place + 2) f.count_is;
           });
         },
-        (along.journal, along.tells ∙ ap (map told) (sym (taken_all f.entries (far.count + place + 2) (let is = f.count_is in omega (arith, is)))), along.of_net),
+        (along.journal, along.tells ∙ ap (λ es. map told (past ++ es)) (sym (taken_all f.entries (far.count + place + 2) (let is = f.count_is in omega (arith, is)))), along.of_net),
       )
 
 -- one line more was followed
@@ -447,7 +482,7 @@ gets_on_more from count text rest after (inl same) less = let is = same.0 in (om
 gets_on_more from count text rest after (inr more) less = let m = more.0 in let n = more.1 in (omega (arith, m), omega (arith, n, less))
 
 -- the same of a line that was followed at the front
-pub follows_one : (names : Outside) (w : Wiring) (old new : Progress) (text rest after : List ℕ) (far to : Followed) → FollowsText names w old text rest far → far.count < MAX_ENTRIES → FollowsFront names old new rest after far to → FollowsText names w new text after to
-follows_one names w old new text rest after far to f fewer (line, at, one) =
-    subst (λ (n : ℕ). FollowsText names w new text after (record { counts = to.counts; count = n; stop = to.stop })) (sym one.count_is)
-    (follows_more names w old new text rest after far to.counts to.stop line f at (λ e. absurd (omega (arith, e, fewer))) one.plays one.counted)
+pub follows_one : (names : Outside) (w : Wiring) (past : List Entry) (old new : Progress) (text rest after : List ℕ) (far to : Followed) → FollowsText names w past old text rest far → far.count < MAX_ENTRIES → FollowsFront names old new rest after far to → FollowsText names w past new text after to
+follows_one names w past old new text rest after far to f fewer (line, at, one) =
+    subst (λ (n : ℕ). FollowsText names w past new text after (record { counts = to.counts; count = n; stop = to.stop })) (sym one.count_is)
+    (follows_more names w past old new text rest after far to.counts to.stop line f at (λ e. absurd (omega (arith, e, fewer))) one.plays one.counted)

@@ -13,7 +13,7 @@ use Rattle.bz_trace_text.proofs.Cuts.{SameCut, cut_of_whole, lines_tell, one_out
 use Rattle.bz_trace.specs.declared.checking.Verdict.{Verdict}
 use Rattle.bz_trace.specs.declared.checking.Verdict.TheVariants as verdict
 use Rattle.bz_trace.specs.Verdicts.{AreDue, AreRunLines, DifferAt, IsRunText, IsNoRun, StopsAtClash, StopsAtEntry, Judges}
-use Rattle.bz_trace.proofs.Along.{same_lines, cons_same, no_nil}
+use Rattle.bz_trace.proofs.Along.{all_front, same_lines, cons_same, no_nil}
 use Rattle.bz_trace.proofs.Clashes.{one_place, same_differ}
 use Rattle.bz_trace.proofs.Due.{due_numbers, due_without, one_due}
 
@@ -35,10 +35,6 @@ split (d ∷ es) (x ∷ xs) ys e =
 run_front : (w : Wiring) (s : State) (es fs : List Entry) (t : State) → Run w s (es ++ fs) t → (m : State) × Run w s es m
 run_front w s [] fs t run = (s, refl)
 run_front w s (e ∷ es) fs t (next, step, run) = let (m, front) = run_front w next es fs t run in (m, (next, step, front))
-
-all_front : {A : Type 0} (P : A → Type 0) (xs ys : List A) → AllByRecursion P (xs ++ ys) → AllByRecursion P xs
-all_front P [] ys all = tt
-all_front P (x ∷ xs) ys all = (all.0, all_front P xs ys all.1)
 
 -- of two cuts of lists told alike, the shorter one and its next entry are a front of the longer one
 shorter : (a b cs bs : List Entry) (x y : Entry) → map told (a ++ x ∷ cs) ≡ map told (b ++ y ∷ bs) → length a < length b → (ys : List Entry) × (map told b ≡ map told ((a ++ x ∷ []) ++ ys))

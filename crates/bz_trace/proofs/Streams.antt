@@ -6,6 +6,7 @@ use Rattle.std.proofs.lemmas.List.{append-nil}
 use Rattle.bz_model.specs.Names.{Outside}
 use Rattle.bz_model.specs.Nets.{Wiring, outside}
 use Rattle.bz_flat.specs.Wires.{WellWired}
+use Rattle.bz_model.specs.declared.event.Entry.{Entry}
 use Rattle.bz_net.specs.Progress.{Progress, IsToldBy}
 use Rattle.bz_trace_text.specs.declared.text.Version.{Version}
 use Rattle.bz_trace_text.specs.declared.text.Version.TheVariants.{One, Two}
@@ -18,12 +19,14 @@ use Rattle.bz_trace.specs.declared.checking.Verdict.{Verdict}
 use Rattle.bz_trace.specs.declared.checking.Verdict.TheVariants as verdict
 use Rattle.bz_trace.specs.declared.reading.ReadFault.{ReadFault}
 use Rattle.bz_trace.specs.declared.reading.Said.{Said}
-use Rattle.bz_trace.specs.Verdicts.{Concludes, CountsRun, Judges}
+use Rattle.bz_trace.specs.Verdicts.{CountsRun, Judges}
 use Rattle.bz_trace.specs.Following.{FollowsText, GetsOn, NoneToFollow}
+use Rattle.bz_trace.specs.Pieces.{ConcludesPiece, GoesOver, IsBehind, JudgesPieceTo, StopsInFrontBehind}
 use Rattle.bz_trace.specs.declared.reading.ReadFault.TheVariants as fault
-use Rattle.bz_trace.specs.Reading.{AwaitsMore, Comes, ConcludesAs, ConcludesTo, HasEnd, IsEarly, IsOther, IsTooLong, JudgesTo, LeavesTo, ReadsMore, StopsInFront}
-use Rattle.bz_trace.proofs.Along.{bad_here, cons_same, counts_run, follows_longer, follows_start, judges, leaves, told_here}
+use Rattle.bz_trace.specs.Reading.{AwaitsMore, Comes, ConcludesAs, ConcludesPieceAs, ConcludesPieceTo, ConcludesTo, HasEnd, IsEarly, IsOther, IsTooLong, JudgesTo, LeavesTo, ReadsMore, StopsInFront}
+use Rattle.bz_trace.proofs.Along.{bad_here, behind_start, cons_same, counts_run, follows_longer, follows_start, judges, leaves, nothing_yet, told_here}
 use Rattle.bz_trace.proofs.Ends.{no_entry_on}
+use Rattle.bz_trace.proofs.Pieces.{said_alone}
 use Rattle.bz_trace.proofs.Sole.{one_verdict_or_memory}
 
 -- two pieces, one after the other
@@ -49,26 +52,25 @@ nothing_comes None new got P taken end holds = tt
 nothing_comes (Some xs) None got P taken end holds = absurd taken
 nothing_comes (Some xs) (Some left) got P taken end holds = subst P (sym (taken ∙ ap (λ s. got ++ s) end ∙ append-nil got)) holds
 
--- Behind the front more was read, and all that was followed up to what is held.
-pub record Held (old new : Option (List ℕ)) (names : Outside) (w : Wiring) (net : Progress) (front held : List ℕ) (followed : Followed) : Type 0 where
+-- Behind the front more was read, and all that was followed up to what is held, by a net that stood where `start` does.
+pub record Held (old new : Option (List ℕ)) (names : Outside) (w : Wiring) (start net : Progress) (front held : List ℕ) (followed : Followed) : Type 0 where
   pub got : List ℕ
   pub taken : Consumes old new got
-  pub follows : FollowsText names w net (front ++ got) held followed
+  pub follows : (past : List Entry) → IsBehind w start past → FollowsText names w past net (front ++ got) held followed
 
-pub held_start : (old : Option (List ℕ)) (names : Outside) (net : Progress) (front : List ℕ) → names ≡ outside net.wiring → WellWired net.wiring → IsToldBy net [] → net.left ≡ MAX_ENTRIES
-    → Held old old names net.wiring net front front (record { counts = record { fired = 0; host = 0; rests = 0 }; count = 0; stop = None })
-held_start old names net front named wired opened full = record {
+pub held_start : (old : Option (List ℕ)) (names : Outside) (w : Wiring) (net : Progress) (front : List ℕ) → names ≡ outside w → WellWired w → MAX_ENTRIES ≤ net.left → Held old old names w net net front front nothing_yet
+held_start old names w net front named wired room = record {
   got = [];
   taken = consumes_none old;
-  follows = subst (λ t. FollowsText names net.wiring net t front (record { counts = record { fired = 0; host = 0; rests = 0 }; count = 0; stop = None })) (sym (append-nil front)) (follows_start names net front named wired opened full);
+  follows = λ past behind. subst (λ t. FollowsText names w past net t front nothing_yet) (sym (append-nil front)) (follows_start names w past net front named wired behind room);
 }
 
-pub held_more : (old new later : Option (List ℕ)) (names : Outside) (w : Wiring) (net : Progress) (front got held piece : List ℕ) (followed : Followed) → Consumes old new got → Consumes new later piece → FollowsText names w net (front ++ got) held followed
-    → Held old later names w net front (held ++ piece) followed
-held_more old new later names w net front got held piece followed taken more follows = record {
+pub held_more : (old new later : Option (List ℕ)) (names : Outside) (w : Wiring) (start net : Progress) (front got held piece : List ℕ) (followed : Followed) → Consumes old new got → Consumes new later piece → ((past : List Entry) → IsBehind w start past → FollowsText names w past net (front ++ got) held followed)
+    → Held old later names w start net front (held ++ piece) followed
+held_more old new later names w start net front got held piece followed taken more follows = record {
   got = got ++ piece;
   taken = consumes_then old new later got piece taken more;
-  follows = subst (λ t. FollowsText names w net t (held ++ piece) followed) (append_assoc front got piece) (follows_longer names w net (front ++ got) held followed piece follows);
+  follows = λ past behind. subst (λ t. FollowsText names w past net t (held ++ piece) followed) (append_assoc front got piece) (follows_longer names w past net (front ++ got) held followed piece (follows past behind));
 }
 
 no_end : (text more : List ℕ) → HasEnd text → text ++ more ≡ [] → ⊥
@@ -80,19 +82,19 @@ no_entry names net text more followed named h (inl none) = no_entry_on net follo
 no_entry names net text more followed named h (inr full) = λ e after has is. full
 
 -- where another line is whole, the trace is bad there, whatever comes
-pub bad_line : (old new : Option (List ℕ)) (names : Outside) (w : Wiring) (net : Progress) (v : Version) (front got held : List ℕ) (followed : Followed) → Consumes old new got → FollowsText names w net (front ++ got) held followed → NoneToFollow names held followed → IsOther v held
-    → IfSome old (λ more. Concludes w (first_line v ++ (front ++ more)) net followed.counts (verdict.Bad (followed.count + 2)))
-bad_line old new names w net v front got held followed taken follows none other =
-    whatever_comes old new got (λ more. Concludes w (first_line v ++ (front ++ more)) net followed.counts (verdict.Bad (followed.count + 2))) taken (λ left. (
+pub bad_line : (old new : Option (List ℕ)) (names : Outside) (last : Bool) (w : Wiring) (past : List Entry) (net : Progress) (v : Version) (front got held : List ℕ) (followed : Followed) → Consumes old new got → FollowsText names w past net (front ++ got) held followed → NoneToFollow names held followed → IsOther v held
+    → IfSome old (λ more. ConcludesPiece last w past (first_line v ++ (front ++ more)) net followed.counts (verdict.Bad (followed.count + 2)))
+bad_line old new names last w past net v front got held followed taken follows none other =
+    whatever_comes old new got (λ more. ConcludesPiece last w past (first_line v ++ (front ++ more)) net followed.counts (verdict.Bad (followed.count + 2))) taken (λ left. (
       subst (λ t. IsBad (outside w) (first_line v ++ t) (followed.count + 2)) (append_assoc front got left)
-          (bad_here names w net v ((front ++ got) ++ left) (held ++ left) followed (follows_longer names w net (front ++ got) held followed left follows) (no_end held left other.0) (no_entry names (outside w) held left followed follows.names_are other.0 none) (other.1 left)),
-      told_here names w net (front ++ got) held followed follows,
+          (bad_here names w past net v ((front ++ got) ++ left) (held ++ left) followed (follows_longer names w past net (front ++ got) held followed left follows) (no_end held left other.0) (no_entry names (outside w) held left followed follows.names_are other.0 none) (other.1 left)),
+      told_here names w past net (front ++ got) held followed follows,
     ))
 
 -- where more is held than can be, and it is no line yet, it is too long
-pub too_long : (old new : Option (List ℕ)) (names : Outside) (w : Wiring) (net : Progress) (v : Version) (front got held : List ℕ) (followed : Followed) → Consumes old new got → FollowsText names w net (front ++ got) held followed → 67108864 < length held → AwaitsMore v held
+pub too_long : (old new : Option (List ℕ)) (names : Outside) (w : Wiring) (past : List Entry) (net : Progress) (v : Version) (front got held : List ℕ) (followed : Followed) → Consumes old new got → FollowsText names w past net (front ++ got) held followed → 67108864 < length held → AwaitsMore v held
     → IfSome old (λ more. IsTooLong w (first_line v ++ (front ++ more)))
-too_long old new names w net v front got held followed taken follows long awaits =
+too_long old new names w past net v front got held followed taken follows long awaits =
     whatever_comes old new got (λ more. IsTooLong w (first_line v ++ (front ++ more))) taken (λ left. record {
       version = v;
       entries = follows.entries;
@@ -205,6 +207,48 @@ module _ (to_first : Bool) (w : Wiring) (old : Option (List ℕ)) (net : Progres
   first_of (Ok said) by = λ so. first_in old said so by
   first_of (Err f) by = tt
 
+-- ---- the same of pieces
+
+-- what was said of a reader's text, whatever pieces the net stood behind
+abbrev pub IsSaidBehind : Bool → Bool → Wiring → Progress → Option (List ℕ) → Progress → Result Said ReadFault → Type 0
+IsSaidBehind to_first last w start old net result = IfOk result (λ said. (past : List Entry) → IsBehind w start past → IfSome old (λ text. ConcludesPieceTo to_first last w past text net said))
+
+-- a trace that begins at the opening
+pub said_opened : (to_first : Bool) (start : Progress) (old : Option (List ℕ)) (net : Progress) (r : Result Said ReadFault) → IsToldBy start [] → IsSaidBehind to_first true start.wiring start old net r → IsSaid to_first start.wiring old net r
+said_opened to_first start old net (Ok said) opened by = each old _ _ (λ text c. said_alone to_first start.wiring text net said c) (by [] (behind_start start opened))
+said_opened to_first start old net (Err f) opened by = tt
+
+judges_piece : (early last : Bool) (w : Wiring) (past : List Entry) (text : List ℕ) (net : Progress) (counts : Counts) (v : Verdict) → ConcludesPieceAs early last w past text net counts v → JudgesPieceTo early last w past text v
+judges_piece false last w past text net counts verdict.Run by = by.piece
+judges_piece false last w past text net counts (verdict.Not line) by = by.0
+judges_piece false last w past text net counts (verdict.Bad line) by = by.0
+judges_piece false last w past text net counts verdict.Memory by = tt
+judges_piece true last w past text net counts verdict.Run by = absurd by
+judges_piece true last w past text net counts (verdict.Not line) by = by.0
+judges_piece true last w past text net counts (verdict.Bad line) by = absurd by
+judges_piece true last w past text net counts verdict.Memory by = absurd by
+
+goes_over : (early last : Bool) (w : Wiring) (past : List Entry) (text : List ℕ) (net : Progress) (counts : Counts) (v : Verdict) → ConcludesPieceAs early last w past text net counts v → v ≡ verdict.Run → GoesOver last w past text net counts
+goes_over false last w past text net counts verdict.Run by is = by
+goes_over false last w past text net counts (verdict.Not line) by is = absurd (let e = is in cc)
+goes_over false last w past text net counts (verdict.Bad line) by is = absurd (let e = is in cc)
+goes_over false last w past text net counts verdict.Memory by is = absurd (let e = is in cc)
+goes_over true last w past text net counts verdict.Run by is = absurd by
+goes_over true last w past text net counts (verdict.Not line) by is = absurd (let e = is in cc)
+goes_over true last w past text net counts (verdict.Bad line) by is = absurd by
+goes_over true last w past text net counts verdict.Memory by is = absurd by
+
+module _ (to_first last : Bool) (w : Wiring) (start : Progress) (old : Option (List ℕ)) (net : Progress) (said : Said)
+    (by : (past : List Entry) → IsBehind w start past → IfSome old (λ text. ConcludesPieceTo to_first last w past text net said)) where
+  pub right_behind : (past : List Entry) → IsBehind w start past → IfSome old (λ text. JudgesPieceTo said.early last w past text said.verdict)
+  right_behind past behind = each old _ _ (λ text c. judges_piece said.early last w past text net said.counts said.verdict c.concludes) (by past behind)
+
+  pub goes_behind : said.verdict ≡ verdict.Run → (past : List Entry) → IsBehind w start past → IfSome old (λ text. GoesOver last w past text net said.counts)
+  goes_behind is past behind = each old _ _ (λ text c. goes_over said.early last w past text net said.counts said.verdict c.concludes is) (by past behind)
+
+  pub first_behind : to_first ≡ true → (past : List Entry) → IsBehind w start past → IfSome old (λ text. (line : ℕ) → StopsInFrontBehind w past text line → IsEarly line said)
+  first_behind so past behind = each old _ _ (λ text c. c.first so) (by past behind)
+
 -- ---- a piece more, or the end
 
 pub none_came : (old new : Option (List ℕ)) (held later : List ℕ) (goal : ℕ) (came : Bool) → came ≡ false → ReadsMore old new held later goal came → Consumes old new [] × (later ≡ held) × IsAtEnd new
@@ -215,16 +259,16 @@ pub some_came : (old new : Option (List ℕ)) (held later : List ℕ) (goal : �
 some_came old new held later goal true so r = (r.0, r.1, r.2, r.3.0)
 some_came old new held later goal false so r = absurd (let e = so in cc)
 
-pub said_at_end : (old mid new : Option (List ℕ)) (w : Wiring) (net : Progress) (v : Version) (front got : List ℕ) (counts : Counts) (said : Verdict) → Consumes old mid got → Consumes mid new [] → IsAtEnd new → Concludes w (first_line v ++ (front ++ got)) net counts said
-    → IfSome old (λ more. Concludes w (first_line v ++ (front ++ more)) net counts said)
-said_at_end old mid new w net v front got counts said taken none end by =
-    nothing_comes old new got (λ more. Concludes w (first_line v ++ (front ++ more)) net counts said) (subst (λ t. Consumes old new t) (append-nil got) (consumes_then old mid new got [] taken none)) end by
+pub said_at_end : (old mid new : Option (List ℕ)) (last : Bool) (w : Wiring) (past : List Entry) (net : Progress) (v : Version) (front got : List ℕ) (counts : Counts) (said : Verdict) → Consumes old mid got → Consumes mid new [] → IsAtEnd new → ConcludesPiece last w past (first_line v ++ (front ++ got)) net counts said
+    → IfSome old (λ more. ConcludesPiece last w past (first_line v ++ (front ++ more)) net counts said)
+said_at_end old mid new last w past net v front got counts said taken none end by =
+    nothing_comes old new got (λ more. ConcludesPiece last w past (first_line v ++ (front ++ more)) net counts said) (subst (λ t. Consumes old new t) (append-nil got) (consumes_then old mid new got [] taken none)) end by
 
-pub held_on : (old mid new : Option (List ℕ)) (names : Outside) (w : Wiring) (net : Progress) (front got held later : List ℕ) (goal : ℕ) (came : Bool) (followed : Followed) → came ≡ true → ReadsMore mid new held later goal came → Consumes old mid got → FollowsText names w net (front ++ got) held followed
-    → Held old new names w net front later followed
-held_on old mid new names w net front got held later goal came followed so r taken follows =
+pub held_on : (old mid new : Option (List ℕ)) (names : Outside) (w : Wiring) (start net : Progress) (front got held later : List ℕ) (goal : ℕ) (came : Bool) (followed : Followed) → came ≡ true → ReadsMore mid new held later goal came → Consumes old mid got
+    → ((past : List Entry) → IsBehind w start past → FollowsText names w past net (front ++ got) held followed) → Held old new names w start net front later followed
+held_on old mid new names w start net front got held later goal came followed so r taken follows =
     let (piece, more, is, some) = some_came mid new held later goal came so r in
-    subst (λ h. Held old new names w net front h followed) (sym is) (held_more old mid new names w net front got held piece followed taken more follows)
+    subst (λ h. Held old new names w start net front h followed) (sym is) (held_more old mid new names w start net front got held piece followed taken more follows)
 
 -- what was held first is nothing
 
@@ -238,27 +282,33 @@ first_bad_of old new net held later text came empty r is none =
     first_bad old new net later taken (comes_long new came r.0 later 8 r.3) (λ v rest e. none v rest (is ∙ e))
 
 -- without a first line no line stops
-none_in_bad : (w : Wiring) (text : List ℕ) (line : ℕ) → IsBad (outside w) text 1 → StopsInFront w text line → ⊥
-none_in_bad w text line (inl bad) stops = bad.1 stops.version _ stops.text_is
-none_in_bad w text line (inr later) stops = let is = later.line_is in absurd (omega (arith, is))
+none_in_bad : (w : Wiring) (past : List Entry) (text : List ℕ) (line : ℕ) → IsBad (outside w) text 1 → StopsInFrontBehind w past text line → ⊥
+none_in_bad w past text line (inl bad) stops = bad.1 stops.version _ stops.text_is
+none_in_bad w past text line (inr later) stops = let is = later.line_is in absurd (omega (arith, is))
 
 -- so nothing was played
-pub begins_badly : (to_first : Bool) (old new : Option (List ℕ)) (w : Wiring) (net : Progress) (counts : Counts) (held later text : List ℕ) (came : Bool) → IsToldBy net [] → held ≡ [] → ReadsMore old new held later 8 came → text ≡ later → ((v : Version) (rest : List ℕ) → text ≡ first_line v ++ rest → ⊥)
-    → IfSome old (λ t. ConcludesTo to_first w t net (record { verdict = verdict.Bad 1; counts = counts; early = false }))
-begins_badly to_first old new w net counts held later text came opened empty r is none =
-    each old _ _ (λ t bad. record { concludes = (bad, ([], opened)); first = λ so line stops. absurd (none_in_bad w t line bad stops) }) (first_bad_of old new (outside w) held later text came empty r is none)
+pub begins_badly : (to_first last : Bool) (old new : Option (List ℕ)) (w : Wiring) (net : Progress) (counts : Counts) (held later text : List ℕ) (came : Bool) → held ≡ [] → ReadsMore old new held later 8 came → text ≡ later → ((v : Version) (rest : List ℕ) → text ≡ first_line v ++ rest → ⊥)
+    → (past : List Entry) → IsBehind w net past → IfSome old (λ t. ConcludesPieceTo to_first last w past t net (record { verdict = verdict.Bad 1; counts = counts; early = false }))
+begins_badly to_first last old new w net counts held later text came empty r is none past behind =
+    each old _ _ (λ t bad. record { concludes = (bad, (behind.along.journal, behind.along.of_net)); first = λ so line s. absurd (none_in_bad w past t line bad s) }) (first_bad_of old new (outside w) held later text came empty r is none)
 
 -- what was said of the lines behind the first one, of which a front was held, holds of all that the reader had
-pub said_behind : {A : Type 0} (P : List ℕ → A → Type 0) (old mid : Option (List ℕ)) (held later text lines front : List ℕ) (version : Version) (goal : ℕ) (came : Bool) (answer : Result A ReadFault)
+said_at : (P : List ℕ → Type 0) (old mid : Option (List ℕ)) (held later text lines front : List ℕ) (version : Version) (goal : ℕ) (came : Bool)
     → held ≡ [] → ReadsMore old mid held later goal came → text ≡ later → text ≡ first_line version ++ lines → front ≡ lines
-    → IfOk answer (λ said. IfSome mid (λ more. P (first_line version ++ (front ++ more)) said))
-    → IfOk answer (λ said. IfSome old (λ text. P text said))
-said_behind P old mid held later text lines front version goal came (Err e) empty reads whole begins front_is judged = tt
-said_behind P None mid held later text lines front version goal came (Ok said) empty reads whole begins front_is judged = tt
-said_behind P (Some xs) None held later text lines front version goal came (Ok said) empty (piece, taken, is, comes) whole begins front_is judged = absurd taken
-said_behind P (Some xs) (Some ys) held later text lines front version goal came (Ok said) empty (piece, taken, is, comes) whole begins front_is judged =
+    → IfSome mid (λ more. P (first_line version ++ (front ++ more))) → IfSome old P
+said_at P None mid held later text lines front version goal came empty reads whole begins front_is judged = tt
+said_at P (Some xs) None held later text lines front version goal came empty (piece, taken, is, comes) whole begins front_is judged = absurd taken
+said_at P (Some xs) (Some ys) held later text lines front version goal came empty (piece, taken, is, comes) whole begins front_is judged =
     let piece_is : piece ≡ first_line version ++ front = ap (λ (l : List ℕ). l ++ piece) (sym empty) ∙ sym is ∙ sym whole ∙ begins ∙ ap (λ (l : List ℕ). first_line version ++ l) (sym front_is) in
-    subst (λ (t : List ℕ). P t said) (sym (taken ∙ ap (λ (l : List ℕ). l ++ ys) piece_is ∙ append_assoc (first_line version) front ys)) judged
+    subst P (sym (taken ∙ ap (λ (l : List ℕ). l ++ ys) piece_is ∙ append_assoc (first_line version) front ys)) judged
+
+pub said_behind : {A : Type 0} (B : List Entry → Type 0) (P : List Entry → List ℕ → A → Type 0) (old mid : Option (List ℕ)) (held later text lines front : List ℕ) (version : Version) (goal : ℕ) (came : Bool) (answer : Result A ReadFault)
+    → held ≡ [] → ReadsMore old mid held later goal came → text ≡ later → text ≡ first_line version ++ lines → front ≡ lines
+    → IfOk answer (λ said. (past : List Entry) → B past → IfSome mid (λ more. P past (first_line version ++ (front ++ more)) said))
+    → IfOk answer (λ said. (past : List Entry) → B past → IfSome old (λ text. P past text said))
+said_behind B P old mid held later text lines front version goal came (Err e) empty reads whole begins front_is judged = tt
+said_behind B P old mid held later text lines front version goal came (Ok said) empty reads whole begins front_is judged =
+    λ past b. said_at (λ t. P past t said) old mid held later text lines front version goal came empty reads whole begins front_is (judged past b)
 
 -- and so does that they are too long
 pub long_behind : {A : Type 0} (w : Wiring) (old mid : Option (List ℕ)) (held later text lines front : List ℕ) (version : Version) (goal : ℕ) (came : Bool) (answer : Result A ReadFault)

@@ -5,14 +5,14 @@ use Rattle.bz_model.specs.declared.event.Entry.{Entry}
 use Rattle.bz_model.specs.Entries.{HasLine, told}
 use Rattle.bz_model.specs.Limits.{max_entries}
 use Rattle.bz_model.specs.Names.{Outside}
-use Rattle.bz_model.specs.Nets.{Wiring, State, opening, outside}
-use Rattle.bz_model.specs.Runs.{Follows, Run}
+use Rattle.bz_model.specs.Nets.{Wiring, State, outside}
+use Rattle.bz_model.specs.Runs.{Follows}
 use Rattle.bz_flat.specs.Wires.{WellWired}
 use Rattle.bz_net.specs.Progress.{Progress, IsToldBy, Enters}
 use Rattle.bz_trace_text.specs.Counting.{Tells}
 use Rattle.bz_trace_text.specs.Reading.{line_at}
 use Rattle.bz_trace_text.specs.Texts.{lines}
-use Rattle.bz_trace.specs.Verdicts.{StopsAtEntry}
+use Rattle.bz_trace.specs.Pieces.{Along, StopsBehind}
 use Rattle.bz_trace.specs.declared.following.Step.{Step}
 use Rattle.bz_trace.specs.declared.following.Step.TheVariants as step
 use Rattle.bz_trace.specs.declared.lines.Followed.{Followed}
@@ -43,25 +43,18 @@ PlaysOn old new line number (Some k) stop = (stop ≡ Some k) × (new ≡ old)
 abbrev pub IsLed : Progress → Type 0
 IsLed net = WellWired net.wiring × ((journal : List Entry) × IsToldBy net journal)
 
--- a journal of the net tells the entries, and each run that tells them ends in the net's state
-pub record Along (w : Wiring) (net : Progress) (entries : List Entry) : Type 0 where
-  pub wiring : net.wiring ≡ w
-  pub left : net.left + length entries ≡ max_entries
-  pub journal : List Entry
-  pub tells : map told journal ≡ map told entries
-  pub each : AllByRecursion (HasLine (outside w)) journal
-  pub of_net : IsToldBy net journal
-  pub sole : (es : List Entry) (t : State) → Run w (opening w) es t → map told es ≡ map told entries → t ≡ net.state
+-- the net is along the entries behind those of the pieces before, and has places for as many as a trace may have; or it is along
+-- those before the line that stopped it
+abbrev pub Stands : Wiring → List Entry → Progress → List Entry → Option ℕ → Type 0
+Stands w past net entries None = Along w net (past ++ entries) × (max_entries ≤ net.left + length entries)
+Stands w past net entries (Some line) = (stops : StopsBehind w past entries line) × Along w net (past ++ stops.before)
 
--- the net is along the entries, or along those before the line that stopped it
-abbrev pub Stands : Wiring → Progress → List Entry → Option ℕ → Type 0
-Stands w net entries None = Along w net entries
-Stands w net entries (Some line) = (stops : StopsAtEntry w entries line) × Along w net stops.before
-
--- The text behind the first line of a trace is lines of entries and, behind them, the rest; those lines were followed.
-pub record FollowsText (names : Outside) (w : Wiring) (net : Progress) (text rest : List ℕ) (followed : Followed) : Type 0 where
+-- The text behind the first line of a trace is lines of entries and, behind them, the rest; those lines were followed, by a net
+-- that stood behind the entries of the pieces before.
+pub record FollowsText (names : Outside) (w : Wiring) (past : List Entry) (net : Progress) (text rest : List ℕ) (followed : Followed) : Type 0 where
   pub names_are : names ≡ outside w
   pub wired : WellWired w
+  pub before : AllByRecursion (HasLine (outside w)) past
   pub entries : List Entry
   pub each : AllByRecursion (HasLine (outside w)) entries
   pub few : length entries ≤ max_entries
@@ -69,11 +62,11 @@ pub record FollowsText (names : Outside) (w : Wiring) (net : Progress) (text res
   pub text_is : text ≡ lines w.ports entries ++ rest
   pub tells : Tells followed.counts entries
   pub count_is : followed.count ≡ length entries
-  pub stands : Stands w net entries followed.stop
+  pub stands : Stands w past net entries followed.stop
 
 -- some text was followed up to here
 abbrev pub IsFollowed : Outside → Progress → List ℕ → Followed → Type 0
-IsFollowed names net rest followed = (w : Wiring) × (text : List ℕ) × FollowsText names w net text rest followed
+IsFollowed names net rest followed = (w : Wiring) × (past : List Entry) × (text : List ℕ) × FollowsText names w past net text rest followed
 
 -- no line of an entry stands here, or there are as many as a trace may have
 abbrev pub NoneToFollow : Outside → List ℕ → Followed → Type 0

@@ -13,6 +13,7 @@ use Rattle.bz_trace_text.specs.Texts.{NoClash, first_line, lines}
 use Rattle.bz_trace_text.specs.declared.tally.Counts.{Counts}
 use Rattle.bz_trace_text.specs.declared.text.Version.{Version}
 use Rattle.bz_trace_text.specs.declared.text.Version.TheVariants.{Two}
+use Rattle.bz_trace.specs.Pieces.{ConcludesPiece, LeavesPieceEarly, StopsInFrontBehind}
 use Rattle.bz_trace.specs.Verdicts.{Concludes, IsAfter, Judges, Leaves, StopsAtEntry}
 use Rattle.bz_trace.specs.declared.checking.Verdict.{Verdict}
 use Rattle.bz_trace.specs.declared.checking.Verdict.TheVariants as verdict
@@ -88,3 +89,12 @@ IsEarly line said = (said.early ≡ true) × (said.verdict ≡ verdict.Not line)
 pub record ConcludesTo (to_first : Bool) (w : Wiring) (text : List ℕ) (net : Progress) (said : Said) : Type 0 where
   pub concludes : ConcludesAs said.early w text net said.counts said.verdict
   pub first : to_first ≡ true → (line : ℕ) → StopsInFront w text line → IsEarly line said
+
+-- The same of a piece of a run.
+abbrev pub ConcludesPieceAs : Bool → Bool → Wiring → List Entry → List ℕ → Progress → Counts → Verdict → Type 0
+ConcludesPieceAs false last w past text net counts v = ConcludesPiece last w past text net counts v
+ConcludesPieceAs true last w past text net counts v = LeavesPieceEarly w past text net v
+
+pub record ConcludesPieceTo (to_first last : Bool) (w : Wiring) (past : List Entry) (text : List ℕ) (net : Progress) (said : Said) : Type 0 where
+  pub concludes : ConcludesPieceAs said.early last w past text net said.counts said.verdict
+  pub first : to_first ≡ true → (line : ℕ) → StopsInFrontBehind w past text line → IsEarly line said

@@ -8,9 +8,11 @@ ghost use Rattle.bz_net.specs.Progress.{IsToldBy};
 ghost use Rattle.bz_model.specs.Limits.{max_entries};
 ghost use Rattle.bz_trace_text.specs.Texts.{first_line};
 ghost use Rattle.bz_trace.specs.Following.{FollowsText, IsFollowed, NoneToFollow};
-ghost use Rattle.bz_trace.specs.Verdicts.{AreDue, Concludes, CountsRun, FirstDiffers, Judges, Leaves};
+ghost use Rattle.bz_trace.specs.Pieces.{AreDueBehind, ConcludesPiece};
+ghost use Rattle.bz_trace.specs.Verdicts.{Concludes, CountsRun, FirstDiffers, Judges, Leaves};
 
 use crate::lines::{Followed, play_lines};
+use crate::watching::Unwatched;
 use bz_net::Play;
 use bz_trace_text::{
     Counts, LineNames, MAX_ENTRIES, Version, clash_at, line_at, other_line, version_at,
@@ -81,23 +83,25 @@ fn check_lines(
     ensures concludes { Concludes net.old.wiring (first_line version ++ text.now) net.new result.1 result.0 }
     ensures wiring { net.new.wiring ≡ net.old.wiring }
 {
-    let (followed, rest) = play_lines(net, names, Followed::NONE, text);
-    let verdict = verdict_behind(net, names, version, followed, rest);
+    let (followed, rest) = play_lines(net, names, Followed::NONE, text, &mut Unwatched);
+    let verdict = verdict_behind(net, names, version, true, followed, rest);
     (verdict, followed.counts)
 }
 
-/// What is said of a trace that has this text behind the lines that were followed.
+/// What is said of a trace that has this text behind the lines that were followed. It is a piece of a run; where it isn't the
+/// last one, no clash lines are due.
 pub(crate) fn verdict_behind(
     net: &Play,
     names: &LineNames,
     version: Version,
+    is_last: bool,
     followed: Followed,
     rest: &[u8],
 ) -> Verdict
     requires followed { IsFollowed names.now net.now rest.now followed }
     requires no_more { NoneToFollow names.now rest.now followed }
-    ensures { (w : Wiring) (text : List ℕ) → FollowsText names.now w net.now text rest.now followed
-        → Concludes w (first_line version ++ text) net.now followed.counts result }
+    ensures { (w : Wiring) (past : List Entry) (text : List ℕ) → FollowsText names.now w past net.now text rest.now followed
+        → ConcludesPiece is_last w past (first_line version ++ text) net.now followed.counts result }
 {
     if let Some(_) = line_at(names, rest) {
         return Verdict::Bad(MAX_ENTRIES + 2);
@@ -108,16 +112,20 @@ pub(crate) fn verdict_behind(
     if let Some(line) = followed.stop {
         return Verdict::Not(line);
     }
-    match other_clash(rest, due(net, version)) {
+    match other_clash(rest, due(net, version, is_last)) {
         None => Verdict::Run,
         Some(place) => Verdict::Not(followed.count + place + 2),
     }
 }
 
-// The components whose clash lines are due behind the entries that the net has played.
-fn due(net: &Play, version: Version) -> &[u32]
-    ensures { (journal : List Entry) → IsToldBy net.now journal → AreDue net.now.wiring version journal result.now }
+// The components whose clash lines are due behind the entries that the net has played: behind the last piece of a run.
+fn due(net: &Play, version: Version, is_last: bool) -> &[u32]
+    ensures { (journal : List Entry) → IsToldBy net.now journal
+        → AreDueBehind is_last net.now.wiring version journal result.now }
 {
+    if !is_last {
+        return &[];
+    }
     match version {
         Version::One => &[],
         Version::Two => net.clashes(),

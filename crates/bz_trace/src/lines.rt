@@ -1,13 +1,16 @@
 //! The lines of entries at the front of a text, played on a net.
 
-ghost use Rattle.std.specs.Prelude.{◌≡◌, ◌<◌, None, List, ℕ, IfNone, IfSome};
+ghost use Rattle.std.specs.Prelude.{◌≡◌, ◌<◌, None, List, ℕ, IfNone, IfSome, MatchOption};
+ghost use Rattle.bz_model.specs.declared.event.Entry.{Entry};
 ghost use Rattle.bz_model.specs.Entries.{HasLine};
 ghost use Rattle.bz_model.specs.Nets.{Wiring, outside};
 ghost use Rattle.bz_trace_text.specs.Counting.{AreFewer};
 ghost use Rattle.bz_trace_text.specs.Reading.{line_at};
 ghost use Rattle.bz_trace.specs.Following.{FollowsFront, FollowsOne, FollowsText, GetsOn, IsFollowed, IsLed, NoneToFollow};
+ghost use Rattle.bz_trace.specs.Watching.{ShowsFront, ShowsLines};
 
 use crate::following::play_on;
+use crate::watching::Watch;
 use bz_model::Entry;
 use bz_net::Play;
 use bz_trace_text::{Counts, LineNames, MAX_ENTRIES, firing_at, line_at};
@@ -31,23 +34,26 @@ impl Followed {
     };
 }
 
-/// Follows the lines of entries at the front of a text, as many as a trace may have: how far, and what stands behind them.
-pub(crate) fn play_lines<'t>(
+/// Follows the lines of entries at the front of a text, as many as a trace may have: how far, and what stands behind them. Each
+/// entry is shown to who watches.
+pub(crate) fn play_lines<'t, S: Watch>(
     net: &mut Play,
     names: &LineNames,
     from: Followed,
     text: &'t [u8],
+    watch: &mut S,
 ) -> (Followed, &'t [u8])
     requires { IsFollowed names.now net.old text.now from }
-    ensures follows { (w : Wiring) (before : List ℕ) → FollowsText names.now w net.old before text.now from
-        → FollowsText names.now w net.new before result.1.now result.0 }
+    ensures follows { (w : Wiring) (past : List Entry) (before : List ℕ) → FollowsText names.now w past net.old before text.now from
+        → FollowsText names.now w past net.new before result.1.now result.0 }
     ensures no_more { NoneToFollow names.now result.1.now result.0 }
     ensures gets_on { GetsOn from result.0 text.now result.1.now }
+    ensures shows { ShowsLines S.sees names.now watch.old text.now result.1.now watch.new }
 {
     let mut rest = text;
     let mut followed = from;
     while followed.count < MAX_ENTRIES {
-        let Some(after) = follow_front(net, names, &mut followed, rest) else {
+        let Some(after) = follow_front(net, names, &mut followed, rest, watch) else {
             return (followed, rest);
         };
         rest = after;
@@ -57,54 +63,62 @@ pub(crate) fn play_lines<'t>(
 
 // Follows the line of an entry at the front, where one stands there: what stands behind it.
 #[inline(always)]
-fn follow_front<'t>(
+fn follow_front<'t, S: Watch>(
     net: &mut Play,
     names: &LineNames,
     followed: &mut Followed,
     text: &'t [u8],
+    watch: &mut S,
 ) -> Option<&'t [u8]>
     requires is { IsFollowed names.now net.old text.now followed.old }
     requires fewer { followed.old.count < MAX_ENTRIES }
     ensures some { IfSome result (λ after. FollowsFront names.now net.old net.new text.now after.now followed.old followed.new) }
     ensures none { IfNone result ((line_at names.now text.now ≡ None) × (net.new ≡ net.old) × (followed.new ≡ followed.old)) }
+    ensures shows { MatchOption result (watch.new ≡ watch.old)
+        (λ after. ShowsFront S.sees names.now watch.old text.now after.now watch.new) }
 {
     match firing_at(names, text) {
         Some((line, after)) => {
-            follow_one(net, followed, line);
+            follow_one(net, followed, line, watch);
             Some(after)
         }
-        None => follow_other(net, names, followed, text),
+        None => follow_other(net, names, followed, text, watch),
     }
 }
 
 // The same of any line.
 #[inline(never)]
-fn follow_other<'t>(
+fn follow_other<'t, S: Watch>(
     net: &mut Play,
     names: &LineNames,
     followed: &mut Followed,
     text: &'t [u8],
+    watch: &mut S,
 ) -> Option<&'t [u8]>
     requires is { IsFollowed names.now net.old text.now followed.old }
     requires fewer { followed.old.count < MAX_ENTRIES }
     ensures some { IfSome result (λ after. FollowsFront names.now net.old net.new text.now after.now followed.old followed.new) }
     ensures none { IfNone result ((line_at names.now text.now ≡ None) × (net.new ≡ net.old) × (followed.new ≡ followed.old)) }
+    ensures shows { MatchOption result (watch.new ≡ watch.old)
+        (λ after. ShowsFront S.sees names.now watch.old text.now after.now watch.new) }
 {
     let (line, after) = line_at(names, text)?;
-    follow_one(net, followed, line);
+    follow_one(net, followed, line, watch);
     Some(after)
 }
 
 // Follows one line more.
 #[inline(always)]
-fn follow_one(net: &mut Play, followed: &mut Followed, line: Entry)
+fn follow_one<S: Watch>(net: &mut Play, followed: &mut Followed, line: Entry, watch: &mut S)
     requires place { followed.old.stop ≡ None → 0 < net.old.left }
     requires has_line { followed.old.stop ≡ None → HasLine (outside net.old.wiring) line }
     requires led { followed.old.stop ≡ None → IsLed net.old }
     requires counts { AreFewer followed.old.counts 18446744073709551615 }
     requires fewer { followed.old.count < MAX_ENTRIES }
-    ensures { FollowsOne net.old net.new line followed.old followed.new }
+    ensures follows { FollowsOne net.old net.new line followed.old followed.new }
+    ensures sees { S.sees watch.old line watch.new }
 {
+    watch.see(&line);
     followed.stop = play_on(net, line, followed.count + 2, followed.stop);
     followed.counts.add(&line);
     followed.count += 1;

@@ -1,6 +1,7 @@
 //! The check of a trace that a reader gives, of which only a piece is held.
 
-ghost use Rattle.std.specs.Prelude.{◌≡◌, ◌≢◌, ◌⊎◌, ◌<◌, ◌++◌, ℕ, List, [], false, true, length, IfErr, IfOk, IfSome, IsTrue, MatchOption, None, OnOk, Some};
+ghost use Rattle.std.specs.Prelude.{◌≡◌, ◌≢◌, ◌⊎◌, ◌<◌, ◌≤◌, ◌++◌, ℕ, List, [], false, true, length, IfErr, IfOk, IfSome, IsTrue, MatchOption, None, OnOk, Some};
+ghost use Rattle.bz_model.specs.declared.event.Entry.{Entry};
 ghost use Rattle.bz_model.specs.Limits.{max_entries};
 ghost use Rattle.bz_model.specs.Nets.{Wiring, outside};
 ghost use Rattle.bz_flat.specs.Wires.{WellWired};
@@ -8,13 +9,16 @@ ghost use Rattle.bz_net.specs.Progress.{IsToldBy};
 ghost use Rattle.bz_trace_text.specs.Texts.{first_line};
 ghost use Rattle.bz_trace.specs.Following.{FollowsText, GetsOn, IsFollowed, NoneToFollow};
 ghost use Rattle.bz_trace.specs.Reading.{AwaitsMore, IsOther, IsTooLong, ReadsMore};
-ghost use Rattle.bz_trace.specs.Reading.{ConcludesTo, IsEarly, JudgesTo, LeavesTo, StopsInFront};
+ghost use Rattle.bz_trace.specs.Pieces.{IsBehind, StandsSomewhere};
+ghost use Rattle.bz_trace.specs.Reading.{ConcludesPieceTo, ConcludesTo, IsEarly, JudgesTo, LeavesTo, StopsInFront};
 ghost use Rattle.bz_trace.specs.Verdicts.{CountsRun, Judges};
+ghost use Rattle.bz_trace.specs.Watching.{ShowsAll, ShowsLines, ShowsTrace};
 ghost use Rattle.bz_trace.specs.declared.reading.ReadFault.TheVariants.{Memory, TooLong};
 
 use crate::checking::{Verdict, verdict_behind};
 use crate::kept::KeptLines;
 use crate::lines::{Followed, play_lines};
+use crate::watching::{Unwatched, Watch};
 use bz_net::Play;
 use bz_trace_text::{Counts, LineNames, Version, clash_at, version_at};
 use std::alloc::{AllocError, Global};
@@ -86,23 +90,62 @@ pub fn check_read<R: Read>(
     ensures wiring { OnOk result (net.new.wiring ≡ net.old.wiring) }
     ensures long { IfErr result (λ e. e ≡ TooLong → IfSome (R.remaining input.old) (IsTooLong net.old.wiring)) }
 {
-    read_text(alloc, net, input, to_first, kept)
+    check_read_watched(alloc, net, input, to_first, kept, &mut Unwatched)
 }
 
-fn read_text<R: Read>(
+/// The same, with each entry shown to who watches.
+pub fn check_read_watched<R: Read, S: Watch>(
     alloc: Global,
     net: &mut Play,
     input: &mut R,
     to_first: bool,
     kept: &mut KeptLines,
+    watch: &mut S,
 ) -> Result<Said, ReadFault>
     requires opened { IsToldBy net.old [] }
     requires left { net.old.left ≡ max_entries }
-    ensures concludes { IfOk result (λ said. IfSome (R.remaining input.old) (λ text. ConcludesTo to_first net.old.wiring text net.new said)) }
+    ensures right { IfOk result (λ said. IfSome (R.remaining input.old) (λ text.
+        JudgesTo said.early net.old.wiring text said.verdict)) }
+    ensures only { IfOk result (λ said. IfSome (R.remaining input.old) (λ text. said.early ≡ false →
+        (v : Verdict) → Judges net.old.wiring text v → v ≢ Verdict.Memory → (said.verdict ≡ v) ⊎ (said.verdict ≡ Verdict.Memory))) }
+    ensures whole { IfOk result (λ said. to_first ≡ false → said.early ≡ false) }
+    ensures first { IfOk result (λ said. to_first ≡ true → IfSome (R.remaining input.old) (λ text.
+        (line : ℕ) → StopsInFront net.old.wiring text line → IsEarly line said)) }
+    ensures counted { IfOk result (λ said. IfSome (R.remaining input.old) (λ text.
+        said.verdict ≡ Verdict.Run → CountsRun net.old.wiring text said.counts)) }
+    ensures leaves { IfOk result (λ said. IfSome (R.remaining input.old) (λ text.
+        LeavesTo said.early net.old.wiring text net.new said.verdict)) }
+    ensures wiring { OnOk result (net.new.wiring ≡ net.old.wiring) }
+    ensures long { IfErr result (λ e. e ≡ TooLong → IfSome (R.remaining input.old) (IsTooLong net.old.wiring)) }
+
+    // Of the trace of a run all entries were shown, and no others.
+    ensures shows { IfOk result (λ said. IfSome (R.remaining input.old) (λ text. said.verdict ≡ Verdict.Run
+        → ShowsTrace S.sees net.old.wiring watch.old text watch.new)) }
+{
+    read_text(alloc, net, input, true, to_first, kept, watch)
+}
+
+/// The same of a piece of a run, which is the last one or not. The net stands behind the pieces before it.
+pub(crate) fn read_text<R: Read, S: Watch>(
+    alloc: Global,
+    net: &mut Play,
+    input: &mut R,
+    is_last: bool,
+    to_first: bool,
+    kept: &mut KeptLines,
+    watch: &mut S,
+) -> Result<Said, ReadFault>
+    requires stands { StandsSomewhere net.old }
+    requires room { max_entries ≤ net.old.left }
+    ensures concludes { IfOk result (λ said. (past : List Entry) → IsBehind net.old.wiring net.old past → IfSome (R.remaining input.old)
+        (λ text. ConcludesPieceTo to_first is_last net.old.wiring past text net.new said)) }
+    ensures stands { OnOk result (StandsSomewhere net.new) }
     ensures whole { IfOk result (λ said. to_first ≡ false → said.early ≡ false) }
     ensures wired { WellWired net.old.wiring }
     ensures wiring { OnOk result (net.new.wiring ≡ net.old.wiring) }
     ensures long { IfErr result (λ e. e ≡ TooLong → IfSome (R.remaining input.old) (IsTooLong net.old.wiring)) }
+    ensures shows { IfOk result (λ said. IfSome (R.remaining input.old) (λ text. said.verdict ≡ Verdict.Run
+        → ShowsTrace S.sees net.old.wiring watch.old text watch.new)) }
 {
     let Ok(names) = net.names().dup(alloc) else {
         return Err(ReadFault::Memory);
@@ -113,7 +156,9 @@ fn read_text<R: Read>(
     match version_at(held.as_slice()) {
         Some((version, lines)) => {
             let front = Vec::from_slice(alloc, lines)?;
-            check_lines_of(alloc, net, &names, version, front, input, to_first, kept)
+            check_lines_of(
+                alloc, net, &names, version, front, input, is_last, to_first, kept, watch,
+            )
         }
         None => {
             keep_first(held, input, kept);
@@ -139,31 +184,36 @@ fn keep_first<R: Read>(front: Vec<u8>, input: &mut R, kept: &mut KeptLines) {
 }
 
 // The same of the lines behind the first one, of which a front is held.
-fn check_lines_of<R: Read>(
+fn check_lines_of<R: Read, S: Watch>(
     alloc: Global,
     net: &mut Play,
     names: &LineNames,
     version: Version,
     front: Vec<u8>,
     input: &mut R,
+    is_last: bool,
     to_first: bool,
     kept: &mut KeptLines,
+    watch: &mut S,
 ) -> Result<Said, ReadFault>
-    requires opened { IsToldBy net.old [] }
-    requires left { net.old.left ≡ max_entries }
+    requires stands { StandsSomewhere net.old }
+    requires room { max_entries ≤ net.old.left }
     requires names { names.now ≡ outside net.old.wiring }
     requires wired { WellWired net.old.wiring }
-    ensures concludes { IfOk result (λ said. IfSome (R.remaining input.old)
-        (λ more. ConcludesTo to_first net.old.wiring (first_line version ++ (front.items ++ more)) net.new said)) }
+    ensures concludes { IfOk result (λ said. (past : List Entry) → IsBehind net.old.wiring net.old past → IfSome (R.remaining input.old)
+        (λ more. ConcludesPieceTo to_first is_last net.old.wiring past (first_line version ++ (front.items ++ more)) net.new said)) }
+    ensures stands { OnOk result (StandsSomewhere net.new) }
     ensures whole { IfOk result (λ said. to_first ≡ false → said.early ≡ false) }
     ensures wiring { OnOk result (net.new.wiring ≡ net.old.wiring) }
     ensures long { IfErr result (λ e. e ≡ TooLong → IfSome (R.remaining input.old)
         (λ more. IsTooLong net.old.wiring (first_line version ++ (front.items ++ more)))) }
+    ensures shows { IfOk result (λ said. IfSome (R.remaining input.old) (λ more. said.verdict ≡ Verdict.Run
+        → ShowsAll S.sees (outside net.old.wiring) watch.old (front.items ++ more) watch.new)) }
 {
     let mut held = front;
     let mut followed = Followed::NONE;
     'following: loop {
-        followed = follow_held(alloc, net, names, followed, &mut held, kept)?;
+        followed = follow_held(alloc, net, names, followed, &mut held, kept, watch)?;
         if let Some(line) = first_stop(to_first, followed) {
             return Ok(Said {
                 verdict: Verdict::Not(line),
@@ -183,7 +233,7 @@ fn check_lines_of<R: Read>(
             return Err(ReadFault::TooLong);
         }
         if !read_lines(input, &mut held, MOST_HELD + 1)? {
-            let verdict = verdict_behind(net, names, version, followed, held.as_slice());
+            let verdict = verdict_behind(net, names, version, is_last, followed, held.as_slice());
             keep_end(kept, verdict, followed, held.as_slice());
             return Ok(Said {
                 verdict,
@@ -212,21 +262,23 @@ fn keep_end(kept: &mut KeptLines, verdict: Verdict, followed: Followed, rest: &[
 }
 
 // Follows the lines of entries that are held, and holds what stands behind them.
-fn follow_held(
+fn follow_held<S: Watch>(
     alloc: Global,
     net: &mut Play,
     names: &LineNames,
     from: Followed,
     held: &mut Vec<u8>,
     kept: &mut KeptLines,
+    watch: &mut S,
 ) -> Result<Followed, AllocError>
     requires { IsFollowed names.now net.old held.old.items from }
-    ensures follows { IfOk result (λ now. (w : Wiring) (text : List ℕ) → FollowsText names.now w net.old text held.old.items from
-        → FollowsText names.now w net.new text held.new.items now) }
+    ensures follows { IfOk result (λ now. (w : Wiring) (past : List Entry) (text : List ℕ)
+        → FollowsText names.now w past net.old text held.old.items from → FollowsText names.now w past net.new text held.new.items now) }
     ensures no_more { IfOk result (NoneToFollow names.now held.new.items) }
     ensures gets_on { IfOk result (λ now. GetsOn from now held.old.items held.new.items) }
+    ensures shows { OnOk result (ShowsLines S.sees names.now watch.old held.old.items held.new.items watch.new) }
 {
-    let (now, rest) = play_lines(net, names, from, held.as_slice());
+    let (now, rest) = play_lines(net, names, from, held.as_slice(), watch);
     keep_stop(kept, from, now, held.as_slice());
     if rest.len() == held.len() {
         return Ok(now);

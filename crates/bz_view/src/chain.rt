@@ -4,10 +4,11 @@ use crate::cutting::{HALVES, MORE, put_cut};
 use crate::hung::{Hung, due_at};
 use crate::piece::Piece;
 use crate::seen::Seen;
+use crate::shown::Shown;
 use crate::stuck::{MOST_LINKS, put_ring};
 use crate::waiting::Waiting;
 use crate::waits::{MOST_MEMBERS, put_cycle, put_each, put_standing};
-use bz_stuck::Link;
+use bz_stuck::{Link, Stuck};
 use bz_text::Text;
 use bz_waits::{Graph, Place, Table, Wait};
 use std::alloc::{AllocError, Global};
@@ -16,7 +17,15 @@ use std::alloc::{AllocError, Global};
 /// that can never move again it leads to a ring of waiting, which follows from there on, or else to one that has halted; of any
 /// other to the host or to a component that can move.
 pub fn put_chain(seen: Seen<'_>, comp: u32, text: &mut Text) {
-    match Chain::of(text.alloc(), seen, comp) {
+    match Stuck::of(text.alloc(), seen.net) {
+        Ok(stuck) => put_chain_of(seen.shown(), &stuck, comp, text),
+        Err(_) => text.lose(),
+    }
+}
+
+/// The same where it is known what can never move again.
+pub fn put_chain_of(seen: Shown<'_>, stuck: &Stuck, comp: u32, text: &mut Text) {
+    match Chain::of(text.alloc(), seen, stuck, comp) {
         Ok(chain) => put_whole(seen, &chain, text),
         Err(_) => text.lose(),
     }
@@ -24,20 +33,25 @@ pub fn put_chain(seen: Seen<'_>, comp: u32, text: &mut Text) {
 
 // The way from a component to where it ends.
 #[derive(Drop)]
-struct Chain {
-    waiting: Waiting,
+struct Chain<'s> {
+    waiting: Waiting<'s>,
     way: Vec<u32>,
     /// The ring in which the way ends, or nothing.
     ring: Vec<Link>,
 }
 
-impl Chain {
-    fn of(alloc: Global, seen: Seen<'_>, comp: u32) -> Result<Chain, AllocError> {
-        let waiting = Waiting::of(alloc, seen)?;
+impl<'s> Chain<'s> {
+    fn of(
+        alloc: Global,
+        seen: Shown<'_>,
+        stuck: &'s Stuck,
+        comp: u32,
+    ) -> Result<Chain<'s>, AllocError> {
+        let waiting = Waiting::of(alloc, seen.net, stuck)?;
         let hung = Hung::of(alloc, seen, comp)?;
-        let mut ring = ring_behind(alloc, seen, &waiting, &hung, comp)?;
+        let mut ring = ring_behind(alloc, seen, stuck, &hung, comp)?;
         let end = if ring.is_empty() {
-            end_of(seen, &hung, waiting.stuck.contains(comp))
+            end_of(seen, &hung, stuck.contains(comp))
         } else {
             first_in(alloc, seen, ring.as_slice(), &hung)?
         };
@@ -71,24 +85,24 @@ fn begin_at(member: u32, ring: &mut Vec<Link>) {
 // A ring among those on which a component hangs that can never move again.
 fn ring_behind(
     alloc: Global,
-    seen: Seen<'_>,
-    waiting: &Waiting,
+    seen: Shown<'_>,
+    stuck: &Stuck,
     hung: &Hung,
     comp: u32,
 ) -> Result<Vec<Link>, AllocError> {
     let mut starts = Vec::new(alloc);
-    if waiting.stuck.contains(comp) {
-        for number in waiting.stuck.numbers() {
+    if stuck.contains(comp) {
+        for number in stuck.numbers() {
             if hung.has(*number) {
                 starts.push(*number)?;
             }
         }
     }
-    waiting.stuck.ring_from(alloc, seen.net, starts.as_slice())
+    stuck.ring_from(alloc, seen.net, starts.as_slice())
 }
 
 // The first in a ring.
-fn first_in(alloc: Global, seen: Seen<'_>, ring: &[Link], hung: &Hung) -> Result<u32, AllocError> {
+fn first_in(alloc: Global, seen: Shown<'_>, ring: &[Link], hung: &Hung) -> Result<u32, AllocError> {
     let mut members = Table::new(alloc, seen.net.comp_count())?;
     for link in ring {
         members.set(link.comp, 1);
@@ -98,14 +112,14 @@ fn first_in(alloc: Global, seen: Seen<'_>, ring: &[Link], hung: &Hung) -> Result
 }
 
 // The first at which a way without a ring ends, whether or not it can ever move again.
-fn end_of(seen: Seen<'_>, hung: &Hung, is_stuck: bool) -> u32 {
+fn end_of(seen: Shown<'_>, hung: &Hung, is_stuck: bool) -> u32 {
     let first = hung.order.iter().find(|comp| ends(seen, **comp, is_stuck));
     first.or(hung.order.first()).copied().unwrap_or(0)
 }
 
 // Whether a way ends at a component: where it can move or the host has to come, and of one that can never move again where
 // nothing is due.
-fn ends(seen: Seen<'_>, comp: u32, is_stuck: bool) -> bool {
+fn ends(seen: Shown<'_>, comp: u32, is_stuck: bool) -> bool {
     let (mut has_due, mut has_host) = (false, false);
     for port in 1..=seen.port_count(comp) {
         if let Some(wait) = due_at(seen, comp, port) {
@@ -116,7 +130,7 @@ fn ends(seen: Seen<'_>, comp: u32, is_stuck: bool) -> bool {
     has_host || seen.net.is_ready(comp) || is_stuck && !has_due
 }
 
-fn put_whole(seen: Seen<'_>, chain: &Chain, text: &mut Text) {
+fn put_whole(seen: Shown<'_>, chain: &Chain<'_>, text: &mut Text) {
     let (graph, mut lines) = (&chain.waiting.graph, Text::new(text.alloc()));
     for place in 0..chain.lines() {
         let next = chain.at(place.saturating_add(1));
@@ -130,7 +144,7 @@ fn put_whole(seen: Seen<'_>, chain: &Chain, text: &mut Text) {
 }
 
 // For whom a component waits, the one that comes next first.
-fn put_step(seen: Seen<'_>, graph: &Graph, comp: u32, next: u32, text: &mut Text) {
+fn put_step(seen: Shown<'_>, graph: &Graph, comp: u32, next: u32, text: &mut Text) {
     let waits = graph.waits_of(comp);
     if seen.net.is_ready(comp) {
         text.say("% can move\n", &[seen.comp(comp)]);
@@ -150,25 +164,25 @@ fn put_step(seen: Seen<'_>, graph: &Graph, comp: u32, next: u32, text: &mut Text
 }
 
 // The first port at which a component waits for another, or for the host where that is 0.
-fn port_to(seen: Seen<'_>, comp: u32, other: u32) -> Option<u32> {
+fn port_to(seen: Shown<'_>, comp: u32, other: u32) -> Option<u32> {
     (1..=seen.port_count(comp)).find(|port| waits_for(seen, comp, *port, other))
 }
 
-fn waits_for(seen: Seen<'_>, comp: u32, port: u32, other: u32) -> bool {
+fn waits_for(seen: Shown<'_>, comp: u32, port: u32, other: u32) -> bool {
     match due_at(seen, comp, port) {
         Some(wait) => wait.other == other,
         None => false,
     }
 }
 
-fn put_due(seen: Seen<'_>, standing: &str, comp: u32, port: u32, place: Place, text: &mut Text) {
+fn put_due(seen: Shown<'_>, standing: &str, comp: u32, port: u32, place: Place, text: &mut Text) {
     if let Some(wait) = due_at(seen, comp, port) {
         put_standing(seen, standing, Wait { place, ..wait }, text);
     }
 }
 
 // The cycles that have a member on the way.
-fn put_cycles_on(seen: Seen<'_>, graph: &Graph, way: &[u32], text: &mut Text) {
+fn put_cycles_on(seen: Shown<'_>, graph: &Graph, way: &[u32], text: &mut Text) {
     let Ok(mut on_way) = Table::new(text.alloc(), seen.net.comp_count()) else {
         text.lose();
         return;

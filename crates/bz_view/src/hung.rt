@@ -1,13 +1,14 @@
 //! On whom components hang, through idle ones too.
 
-use crate::seen::{Seen, chan_at};
+use crate::seen::chan_at;
+use crate::shown::Shown;
 use bz_model::Move;
 use bz_waits::{Place, Table, Wait, Whom, first_move};
 use std::alloc::{AllocError, Global};
 
 /// What a component waits for at one of its ports, if a move is due there. The other component is 0 where the host is at
 /// the other end.
-pub(crate) fn due_at(seen: Seen<'_>, comp: u32, port: u32) -> Option<Wait> {
+pub(crate) fn due_at(seen: Shown<'_>, comp: u32, port: u32) -> Option<Wait> {
     let site = seen.net.comp(comp)?;
     let due = seen.net.due(comp, port)?;
     let chan = chan_at(site, port);
@@ -38,7 +39,7 @@ pub(crate) struct Hung {
 
 impl Hung {
     /// Nobody, among the components of a net.
-    pub fn new(alloc: Global, seen: Seen<'_>) -> Result<Hung, AllocError> {
+    pub fn new(alloc: Global, seen: Shown<'_>) -> Result<Hung, AllocError> {
         Ok(Hung {
             order: Vec::new(alloc),
             came: Table::new(alloc, seen.net.comp_count())?,
@@ -46,7 +47,7 @@ impl Hung {
     }
 
     /// All on which a component hangs, with it.
-    pub fn of(alloc: Global, seen: Seen<'_>, comp: u32) -> Result<Hung, AllocError> {
+    pub fn of(alloc: Global, seen: Shown<'_>, comp: u32) -> Result<Hung, AllocError> {
         let mut hung = Hung::new(alloc, seen)?;
         hung.meet(comp, comp)?;
         hung.spread(seen)?;
@@ -73,7 +74,7 @@ impl Hung {
     }
 
     /// All are met on which those hang that were met.
-    pub fn spread(&mut self, seen: Seen<'_>) -> Result<(), AllocError> {
+    pub fn spread(&mut self, seen: Shown<'_>) -> Result<(), AllocError> {
         for turn in 0..seen.net.comp_count() {
             let Some(comp) = self.order.get(turn as usize).copied() else {
                 break;
@@ -85,7 +86,7 @@ impl Hung {
         Ok(())
     }
 
-    fn go_on(&mut self, seen: Seen<'_>, comp: u32) -> Result<(), AllocError> {
+    fn go_on(&mut self, seen: Shown<'_>, comp: u32) -> Result<(), AllocError> {
         for port in 1..=seen.port_count(comp) {
             if let Some(wait) = due_at(seen, comp, port) {
                 self.meet(wait.other, comp)?;

@@ -3,12 +3,18 @@
 use crate::naming::{put_host_word, put_instance, put_name, put_port, put_source, put_typed};
 use bz_kind_rows::PortAt;
 use bz_model::{Chan, Phase, Reply, Value, Verb};
-use bz_source::{Label, LineAt, SourceAt, put_path};
+use bz_source::{Label, LineAt, Records, SourceAt, put_path};
 use bz_text::{Piece as Part, Put, Text};
 use std::io::Write;
 
 /// The most bytes that are shown of a name, and of what was given.
 const MOST_SHOWN: usize = 100;
+
+/// The label of something of which nothing is said.
+const UNNAMED: Label<'static> = Label {
+    name: None,
+    source: None,
+};
 
 /// Enough blanks to come below a line that is shown.
 static BLANKS: [u8; 128] = [b' '; 128];
@@ -64,6 +70,10 @@ pub enum Piece<'a> {
     Comp(&'static [u8], u32, Option<LineAt<'a>>, Label<'a>),
     /// A channel: its number, and its name in the source, as that is typed.
     Chan(u32, Option<&'a [u8]>),
+    /// A component of this kind, which is looked up.
+    CompIn(&'a Records<'a>, &'static [u8], u32),
+    /// A channel, the name of which is looked up.
+    ChanIn(&'a Records<'a>, u32),
     /// The host, at the external port of this name.
     Host(&'a [u8]),
     /// A word of the host at a port, and whether a value belongs to it.
@@ -95,6 +105,8 @@ impl Put for Piece<'_> {
             Piece::Instance(at) => put_instance(text, at),
             Piece::Comp(kind, number, copy, label) => put_comp(text, kind, number, copy, label),
             Piece::Chan(number, name) => put_chan(text, number, name),
+            Piece::CompIn(records, kind, number) => put_comp_in(text, records, kind, number),
+            Piece::ChanIn(records, number) => put_chan_in(text, records, number),
             Piece::Host(name) => {
                 text.put("the host at ");
                 put_typed(text, name);
@@ -195,6 +207,22 @@ fn put_comp(text: &mut Text, kind: &[u8], number: u32, copy: Option<LineAt<'_>>,
         text.put(" (");
         put_source(text, at);
         text.put(")");
+    }
+}
+
+fn put_comp_in(text: &mut Text, records: &Records<'_>, kind: &[u8], number: u32) {
+    match records.comp(text.alloc(), number) {
+        Ok(Some(found)) => put_comp(text, kind, number, found.copy(), found.label()),
+        Ok(None) => put_comp(text, kind, number, None, UNNAMED),
+        Err(_) => text.lose(),
+    }
+}
+
+fn put_chan_in(text: &mut Text, records: &Records<'_>, number: u32) {
+    match records.chan_name(text.alloc(), number) {
+        Ok(Some(name)) => put_chan(text, number, Some(name.as_slice())),
+        Ok(None) => put_chan(text, number, None),
+        Err(_) => text.lose(),
     }
 }
 

@@ -2,7 +2,7 @@
 
 use crate::hung::{Hung, due_at};
 use crate::piece::Piece;
-use crate::seen::Seen;
+use crate::shown::Shown;
 use crate::waits::{put_standing, put_wait};
 use bz_model::{Move, Phase};
 use bz_text::Text;
@@ -10,7 +10,7 @@ use bz_waits::{Graph, Place, Wait, Whom};
 use std::alloc::{AllocError, Global};
 
 /// Adds who has halted.
-pub(crate) fn put_halted(seen: Seen<'_>, graph: &Graph, text: &mut Text) {
+pub(crate) fn put_halted(seen: Shown<'_>, graph: &Graph, text: &mut Text) {
     for wait in &graph.waits {
         if wait.whom == Whom::Nobody {
             put_wait(seen, *wait, text);
@@ -20,8 +20,8 @@ pub(crate) fn put_halted(seen: Seen<'_>, graph: &Graph, text: &mut Text) {
 
 /// Adds the words of the host for which components wait: those that wait for a reply or owe one, and idle ones on which these
 /// hang; and who of those on which they hang can move.
-pub(crate) fn put_words(seen: Seen<'_>, graph: &Graph, text: &mut Text) {
-    put_replied(seen, text);
+pub(crate) fn put_words(seen: Shown<'_>, graph: &Graph, text: &mut Text) {
+    put_replied(seen, graph, text);
     let mut last = 0;
     for wait in &graph.waits {
         if wait.whom == Whom::Host {
@@ -35,8 +35,8 @@ pub(crate) fn put_words(seen: Seen<'_>, graph: &Graph, text: &mut Text) {
     }
 }
 
-// Adds each reply that the host has not got.
-fn put_replied(seen: Seen<'_>, text: &mut Text) {
+// Adds each reply that the host has not got, behind how its component stands.
+fn put_replied(seen: Shown<'_>, graph: &Graph, text: &mut Text) {
     for place in 0..seen.net.names().ports().len() {
         let chan = u32::try_from(place).unwrap_or(0).saturating_add(1);
         match seen.end(chan, true) {
@@ -49,14 +49,25 @@ fn put_replied(seen: Seen<'_>, text: &mut Text) {
                     mv: Move::Got,
                     place: Place::Each,
                 };
-                put_wait(seen, wait, text);
+                put_standing(seen, standing_of(seen, graph, comp), wait, text);
             }
             _ => {}
         }
     }
 }
 
-fn is_replied(seen: Seen<'_>, chan: u32) -> bool {
+// How a component stands.
+fn standing_of(seen: Shown<'_>, graph: &Graph, comp: u32) -> &'static str {
+    if seen.net.is_ready(comp) {
+        "ready"
+    } else if graph.waits_of(comp).is_empty() {
+        "idle"
+    } else {
+        "wait"
+    }
+}
+
+fn is_replied(seen: Shown<'_>, chan: u32) -> bool {
     matches!(seen.phase(chan), Phase::Replied(_))
 }
 
@@ -72,7 +83,7 @@ fn first_of(wait: Wait, last: u32) -> Wait {
 }
 
 // The components on which those hang that wait for a reply or owe one, but for these, by their numbers.
-fn others_behind(alloc: Global, seen: Seen<'_>, graph: &Graph) -> Result<Vec<u32>, AllocError> {
+fn others_behind(alloc: Global, seen: Shown<'_>, graph: &Graph) -> Result<Vec<u32>, AllocError> {
     let mut hung = Hung::new(alloc, seen)?;
     for wait in &graph.waits {
         hung.leave_out(wait.comp);
@@ -86,7 +97,7 @@ fn others_behind(alloc: Global, seen: Seen<'_>, graph: &Graph) -> Result<Vec<u32
     Ok(order)
 }
 
-fn put_others(seen: Seen<'_>, comps: &[u32], text: &mut Text) {
+fn put_others(seen: Shown<'_>, comps: &[u32], text: &mut Text) {
     for comp in comps {
         if seen.net.is_ready(*comp) {
             text.say("% can move\n", &[seen.comp(*comp)]);
@@ -97,7 +108,7 @@ fn put_others(seen: Seen<'_>, comps: &[u32], text: &mut Text) {
 }
 
 // The words of the host that would let an idle component move.
-fn put_idle(seen: Seen<'_>, comp: u32, text: &mut Text) {
+fn put_idle(seen: Shown<'_>, comp: u32, text: &mut Text) {
     let mut place = Place::First;
     for port in 1..=seen.port_count(comp) {
         if let Some(wait) = due_at(seen, comp, port) {

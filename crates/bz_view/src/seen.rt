@@ -5,8 +5,9 @@ ghost use Rattle.bz_model.specs.Names.{port_name};
 ghost use Rattle.bz_view.specs.Outside.{kind_at};
 
 use crate::piece::Piece;
+use crate::shown::Shown;
 use bz_flat::FlatComp;
-use bz_kind_rows::{kind_word, port_at};
+use bz_kind_rows::port_at;
 use bz_model::{Chan, ChanKind, Phase, Verb, numbered};
 use bz_net::Core;
 use bz_source::{Label, Survey};
@@ -31,11 +32,14 @@ impl<'v> Seen<'v> {
         Seen { net, survey }
     }
 
+    /// The same for lines in which it is written who waits for whom.
+    pub fn shown(self) -> Shown<'v> {
+        Shown::by_survey(self.net, self.survey)
+    }
+
     /// How many components can move.
     pub fn count_ready(self) -> usize {
-        (1..=self.net.comp_count())
-            .filter(|comp| self.net.is_ready(*comp))
-            .count()
+        self.shown().count_ready()
     }
 
     /// A channel, one without width where there is none of this number.
@@ -50,25 +54,17 @@ impl<'v> Seen<'v> {
 
     /// The component at the passive or the active end of a channel, where a component is there and not the host.
     pub fn end(self, chan: u32, passive: bool) -> Option<u32> {
-        self.net.names().chan(chan)?;
-        let [active, at_passive] = self.net.ends(chan);
-        if passive { at_passive } else { active }
+        self.shown().end(chan, passive)
     }
 
     /// Who is at an end of a channel: a component, or the host at the port.
     pub fn holder(self, chan: u32, passive: bool) -> Piece<'v> {
-        match self.end(chan, passive) {
-            Some(number) => self.comp(number),
-            None => Piece::Host(self.port_name(chan)),
-        }
+        self.shown().holder(chan, passive)
     }
 
     /// The word of a component's kind, empty where there is none of this number.
     pub fn kind(self, comp: u32) -> &'static [u8] {
-        match self.net.comp(comp) {
-            Some(site) => kind_word(&site.kind),
-            None => b"",
-        }
+        self.shown().kind(comp)
     }
 
     /// A component, as it is called, with the copy in which it is.
@@ -87,10 +83,7 @@ impl<'v> Seen<'v> {
 
     /// How many ports a component has, 0 where there is none of this number.
     pub fn port_count(self, comp: u32) -> u32 {
-        match self.net.comp(comp) {
-            Some(site) => port_count(site),
-            None => 0,
-        }
+        self.shown().port_count(comp)
     }
 
     /// A channel, as it is called.
@@ -115,8 +108,7 @@ impl<'v> Seen<'v> {
 
     /// A word of the host as it is typed, `V` standing for its value.
     pub fn host_word(self, verb: Verb, port: u32) -> Piece<'v> {
-        let has_value = verb.wants_value(self.chan(port).kind);
-        Piece::Word(verb, self.port_name(port), has_value)
+        self.shown().host_word(verb, port)
     }
 }
 

@@ -4,6 +4,7 @@ use crate::cutting::MORE;
 use crate::parts::gathered;
 use crate::piece::Piece;
 use crate::seen::Seen;
+use crate::shown::Shown;
 use crate::waits::put_wait;
 use bz_stuck::{Link, Stuck};
 use bz_text::Text;
@@ -18,14 +19,14 @@ const MOST_ROWS: usize = 1000;
 /// Adds how many components can never move again, and a ring of them, where there are any.
 pub fn put_stuck(seen: Seen<'_>, text: &mut Text) {
     match Stuck::of(text.alloc(), seen.net) {
-        Ok(set) => put_set(seen, &set, MOST_LINKS, text),
+        Ok(set) => put_set(seen.shown(), &set, MOST_LINKS, text),
         Err(_) => text.lose(),
     }
 }
 
 /// Adds how many components are in a set of those that can never move again, and a ring of them in at most this many lines, where
 /// there are any.
-pub fn put_set(seen: Seen<'_>, set: &Stuck, most: usize, text: &mut Text) {
+pub(crate) fn put_set(seen: Shown<'_>, set: &Stuck, most: usize, text: &mut Text) {
     if set.len() == 0 {
         return;
     }
@@ -48,12 +49,12 @@ pub fn put_ring_rows(seen: Seen<'_>, set: &Stuck, text: &mut Text) {
     let ring = gathered(set.ring(text.alloc(), seen.net), text);
     for link in ring.iter().take(MOST_ROWS) {
         text.say("ring % ", &[Piece::Wide(link.comp.into())]);
-        put_link(seen, *link, text);
+        put_link(seen.shown(), *link, text);
     }
 }
 
 /// Adds a ring, with a line for each of its members, of which at most this many are told.
-pub(crate) fn put_ring(seen: Seen<'_>, ring: &[Link], most: usize, text: &mut Text) {
+pub(crate) fn put_ring(seen: Shown<'_>, ring: &[Link], most: usize, text: &mut Text) {
     match ring.len() {
         0 => return,
         1 => text.put("ring: 1 waits for itself\n"),
@@ -68,8 +69,8 @@ pub(crate) fn put_ring(seen: Seen<'_>, ring: &[Link], most: usize, text: &mut Te
     }
 }
 
-/// Adds for whom a member of a ring waits.
-pub fn put_link(seen: Seen<'_>, link: Link, text: &mut Text) {
+// Adds for whom a member of a ring waits.
+fn put_link(seen: Shown<'_>, link: Link, text: &mut Text) {
     let wait = Wait {
         comp: link.comp,
         chan: link.chan,

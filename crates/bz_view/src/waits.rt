@@ -2,6 +2,7 @@
 
 use crate::piece::{Piece, put_phase};
 use crate::seen::Seen;
+use crate::shown::Shown;
 use bz_model::{Move, Phase, Verb};
 use bz_text::Text;
 use bz_waits::{Graph, Place, Wait, Whom};
@@ -29,6 +30,7 @@ pub fn graph_of(seen: Seen<'_>, text: &mut Text) -> Option<Graph> {
 /// Adds lines of a page, each after `end`: the cycles, for whom each component waits, or after `ended` that it has halted, and
 /// how many there are.
 pub fn put_ends(seen: Seen<'_>, graph: &Graph, text: &mut Text) {
+    let seen = seen.shown();
     for cycle in graph.cycles.iter().take(MOST_AT_END) {
         text.put("end ");
         put_cycle(seen, cycle.as_slice(), MOST_MEMBERS, text);
@@ -43,7 +45,7 @@ pub fn put_ends(seen: Seen<'_>, graph: &Graph, text: &mut Text) {
 }
 
 /// Adds how many components wait, can move, and are idle, and how many can never move again, where there are any.
-pub(crate) fn put_counts(seen: Seen<'_>, graph: &Graph, stuck: usize, text: &mut Text) {
+pub(crate) fn put_counts(seen: Shown<'_>, graph: &Graph, stuck: usize, text: &mut Text) {
     let (waiting, ready) = (graph.waiting, seen.count_ready());
     let comps = seen.net.comp_count() as usize;
     let idle = comps.saturating_sub(waiting).saturating_sub(ready);
@@ -60,14 +62,14 @@ pub(crate) fn put_counts(seen: Seen<'_>, graph: &Graph, stuck: usize, text: &mut
 }
 
 /// Adds a line for each cycle, with at most this many members.
-pub(crate) fn put_cycles(seen: Seen<'_>, graph: &Graph, most: usize, text: &mut Text) {
+pub(crate) fn put_cycles(seen: Shown<'_>, graph: &Graph, most: usize, text: &mut Text) {
     for cycle in &graph.cycles {
         put_cycle(seen, cycle.as_slice(), most, text);
     }
 }
 
 /// Adds the line of a cycle, with at most this many members.
-pub(crate) fn put_cycle(seen: Seen<'_>, cycle: &[u32], most: usize, text: &mut Text) {
+pub(crate) fn put_cycle(seen: Shown<'_>, cycle: &[u32], most: usize, text: &mut Text) {
     text.put("cycle: ");
     for member in cycle.iter().take(most) {
         text.say("% -> ", &[seen.comp(*member)]);
@@ -82,6 +84,7 @@ pub(crate) fn put_cycle(seen: Seen<'_>, cycle: &[u32], most: usize, text: &mut T
 
 /// Adds the phase of a channel, and who holds it.
 pub fn put_held(seen: Seen<'_>, chan: u32, text: &mut Text) {
+    let seen = seen.shown();
     let phase = seen.phase(chan);
     text.say("channel %", &[seen.named_chan(chan)]);
     text.fill(13);
@@ -97,19 +100,19 @@ pub fn put_held(seen: Seen<'_>, chan: u32, text: &mut Text) {
 }
 
 /// Adds a line for each of these.
-pub(crate) fn put_each(seen: Seen<'_>, waits: &[Wait], text: &mut Text) {
+pub(crate) fn put_each(seen: Shown<'_>, waits: &[Wait], text: &mut Text) {
     for wait in waits {
         put_wait(seen, *wait, text);
     }
 }
 
 /// Adds what a component waits for.
-pub(crate) fn put_wait(seen: Seen<'_>, wait: Wait, text: &mut Text) {
+pub(crate) fn put_wait(seen: Shown<'_>, wait: Wait, text: &mut Text) {
     put_standing(seen, "wait", wait, text);
 }
 
 /// Adds what a component waits for, behind a word that says how it stands.
-pub(crate) fn put_standing(seen: Seen<'_>, standing: &str, wait: Wait, text: &mut Text) {
+pub(crate) fn put_standing(seen: Shown<'_>, standing: &str, wait: Wait, text: &mut Text) {
     let (comp, other) = (seen.comp(wait.comp), seen.comp(wait.other));
     let chan = seen.named_chan(wait.chan);
     if wait.whom == Whom::Nobody {
@@ -138,7 +141,7 @@ pub(crate) fn put_standing(seen: Seen<'_>, standing: &str, wait: Wait, text: &mu
 }
 
 // The word of the host that comes next where it is waited for: a reply that it has not got comes before another request.
-fn verb_of(seen: Seen<'_>, wait: Wait) -> Verb {
+fn verb_of(seen: Shown<'_>, wait: Wait) -> Verb {
     match (wait.mv, seen.phase(wait.chan)) {
         (Move::Got, _) | (Move::Ask, Phase::Replied(_)) => Verb::Collect,
         (Move::Ask, _) => Verb::Offer,

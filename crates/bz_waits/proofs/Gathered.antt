@@ -1,8 +1,9 @@
 -- Waits that are gathered component by component, and port by port.
-use Rattle.std.proofs.Common.{◌≡◌, ◌⊎◌, ℕ, ◌+◌, ◌<◌, ◌≤◌, List, [], ◌∷◌, ◌++◌, length, inl, inr, refl, sym, ap, subst, ◌∙◌, arith}
+use Rattle.std.proofs.Common.{◌≡◌, ◌⊎◌, ℕ, ◌+◌, ◌<◌, ◌≤◌, List, [], ◌∷◌, ◌++◌, length, take, get_or, inl, inr, refl, sym, ap, subst, ◌∙◌, arith}
 use Rattle.std.specs.List.{All, Contains}
 use Rattle.std.proofs.lemmas.Bool.{cases_lt}
-use Rattle.std.proofs.lemmas.List.Elements.{All-nil, All-push, Contains-append_left, Contains-push}
+use Rattle.std.proofs.lemmas.List.{take_more}
+use Rattle.std.proofs.lemmas.List.Elements.{All-nil, All-push, Contains-append_left, Contains-push, Contains-push_cases}
 use Rattle.bz_model.specs.declared.channel.Move.{Move}
 use Rattle.bz_model.specs.declared.channel.Move.TheVariants.{Take, Reply, Got}
 use Rattle.bz_model.specs.Nets.{Site, State, chan_at, site_at}
@@ -10,11 +11,14 @@ use Rattle.bz_model.specs.Runs.{CanStep}
 use Rattle.bz_waits.specs.declared.wait.Wait.{Wait}
 use Rattle.bz_waits.specs.declared.wait.Whom.TheVariants.{Nobody}
 use Rattle.bz_waits.specs.declared.wait.Place.TheVariants.{Each}
-use Rattle.bz_waits.specs.Adding.{AddsAll, AddsUpTo, WaitsBefore}
-use Rattle.bz_waits.specs.Waiting.{AreWaits, GetsNone, HasWait, IsDue, IsStuck, IsWait, Owes, WaitsOn}
+use Rattle.bz_waits.specs.Adding.{AddsAll, AddsComp, AddsUpTo, WaitsBefore}
+use Rattle.bz_waits.specs.Waiting.{AreWaits, AreWaitsOf, GetsNone, HasWait, IsDue, IsStuck, IsWait, Owes, WaitsOn}
 
 waits_on_more : (waits more : List Wait) (c k : ℕ) → ((w : Wait) → Contains waits w → Contains more w) → WaitsOn waits c k → WaitsOn more c k
 waits_on_more waits more c k kept (w, has, comp, chan) = (w, kept w has, comp, chan)
+
+has_more : (waits more : List Wait) (c : ℕ) → ((w : Wait) → Contains waits w → Contains more w) → HasWait waits c → HasWait more c
+has_more waits more c kept (k, on) = (k, waits_on_more waits more c k kept on)
 
 below_or_last : (a n : ℕ) → a < n + 1 → (a < n) ⊎ (a ≡ n)
 below_or_last a n lt = elim (cases_lt a n) [
@@ -65,49 +69,104 @@ module _ (sites : List Site) (s : State) (c : ℕ) where
         added = λ p due. so.added p (let to = due.0.port_to in omega (arith, is, to)) due;
       }
 
-  module _ (old new : List Wait) (so : WaitsBefore sites s c old) (each : All (IsWait sites s) new) (kept : (w : Wait) → Contains old w → Contains new w) where
-    pub before_more : ((p : ℕ) → IsStuck sites s c → IsDue sites s c Got p → WaitsOn new c (chan_at sites c p))
-        → ((k : ℕ) → IsStuck sites s c → Owes sites s c k → HasWait new c)
-        → ((p k : ℕ) → IsStuck sites s c → GetsNone sites s c → Owes sites s c k → IsDue sites s c Take p → WaitsOn new c (chan_at sites c p)) → WaitsBefore sites s (c + 1) new
-    before_more gets owes takes = record {
+  -- what is added of a component goes behind those before it
+  pub before_more : (old new : List Wait) → WaitsBefore sites s c old → AddsComp sites s c old new → WaitsBefore sites s (c + 1) new
+  before_more old new so adds = record {
+    each = adds.each;
+    gets = λ d p lt stuck due. elim (below_or_last d c lt) [
+      | inl less ↦ waits_on_more old new d (chan_at sites d p) adds.kept (so.gets d p less stuck due)
+      | inr last ↦
+          subst (λ e. WaitsOn new e (chan_at sites e p)) (sym last) (adds.gets p (subst (IsStuck sites s) last stuck) (subst (λ e. IsDue sites s e Got p) last due))
+    ];
+    owes = λ d k lt stuck owed. elim (below_or_last d c lt) [
+      | inl less ↦ has_more old new d adds.kept (so.owes d k less stuck owed)
+      | inr last ↦ subst (HasWait new) (sym last) (adds.owes k (subst (IsStuck sites s) last stuck) (subst (λ e. Owes sites s e k) last owed))
+    ];
+    takes = λ d p k lt stuck none owed due. elim (below_or_last d c lt) [
+      | inl less ↦ waits_on_more old new d (chan_at sites d p) adds.kept (so.takes d p k less stuck none owed due)
+      | inr last ↦
+          subst (λ e. WaitsOn new e (chan_at sites e p)) (sym last)
+          (adds.takes p k (subst (IsStuck sites s) last stuck) (subst (GetsNone sites s) last none) (subst (λ e. Owes sites s e k) last owed) (subst (λ e. IsDue sites s e Take p) last due))
+    ];
+  }
+
+  -- and behind those of some others
+  pub among_more : (comps : List ℕ) (old new : List Wait) → AreWaitsOf sites s comps old → AddsComp sites s c old new → AreWaitsOf sites s (comps ++ c ∷ []) new
+  among_more comps old new so adds = record {
+    each = adds.each;
+    gets = λ d p has stuck due. elim (Contains-push_cases comps c d has) [
+      | inl before ↦ waits_on_more old new d (chan_at sites d p) adds.kept (so.gets d p before stuck due)
+      | inr same ↦
+          subst (λ e. WaitsOn new e (chan_at sites e p)) same
+          (adds.gets p (subst (IsStuck sites s) (sym same) stuck) (subst (λ e. IsDue sites s e Got p) (sym same) due))
+    ];
+    owes = λ d k has stuck owed. elim (Contains-push_cases comps c d has) [
+      | inl before ↦ has_more old new d adds.kept (so.owes d k before stuck owed)
+      | inr same ↦ subst (HasWait new) same (adds.owes k (subst (IsStuck sites s) (sym same) stuck) (subst (λ e. Owes sites s e k) (sym same) owed))
+    ];
+    takes = λ d p k has stuck none owed due. elim (Contains-push_cases comps c d has) [
+      | inl before ↦ waits_on_more old new d (chan_at sites d p) adds.kept (so.takes d p k before stuck none owed due)
+      | inr same ↦
+          subst (λ e. WaitsOn new e (chan_at sites e p)) same
+          (adds.takes p k (subst (IsStuck sites s) (sym same) stuck) (subst (GetsNone sites s) (sym same) none) (subst (λ e. Owes sites s e k) (sym same) owed) (subst (λ e. IsDue sites s e Take p) (sym same) due))
+    ];
+  }
+
+  module _ (old : List Wait) (each : All (IsWait sites s) old) where
+    pub adds_ready : CanStep sites s c → AddsComp sites s c old old
+    adds_ready can = record {
       each = each;
-      gets = λ d p lt stuck due. elim (below_or_last d c lt) [
-        | inl less ↦ waits_on_more old new d (chan_at sites d p) kept (so.gets d p less stuck due)
-        | inr last ↦
-            subst (λ e. WaitsOn new e (chan_at sites e p)) (sym last) (gets p (subst (IsStuck sites s) last stuck) (subst (λ e. IsDue sites s e Got p) last due))
-      ];
-      owes = λ d k lt stuck owed. elim (below_or_last d c lt) [
-        | inl less ↦ more d (so.owes d k less stuck owed)
-        | inr last ↦ subst (HasWait new) (sym last) (owes k (subst (IsStuck sites s) last stuck) (subst (λ e. Owes sites s e k) last owed))
-      ];
-      takes = λ d p k lt stuck none owed due. elim (below_or_last d c lt) [
-        | inl less ↦ waits_on_more old new d (chan_at sites d p) kept (so.takes d p k less stuck none owed due)
-        | inr last ↦
-            subst (λ e. WaitsOn new e (chan_at sites e p)) (sym last)
-            (takes p k (subst (IsStuck sites s) last stuck) (subst (GetsNone sites s) last none) (subst (λ e. Owes sites s e k) last owed) (subst (λ e. IsDue sites s e Take p) last due))
-      ];
+      kept = λ w has. has;
+      gets = λ p stuck due. absurd (stuck can);
+      owes = λ k stuck owed. absurd (stuck can);
+      takes = λ p k stuck none owed due. absurd (stuck can);
     }
-      where
-        more : (d : ℕ) → HasWait old d → HasWait new d
-        more d (k, on) = (k, waits_on_more old new d k kept on)
 
-  module _ (old : List Wait) (so : WaitsBefore sites s c old) where
-    pub before_ready : CanStep sites s c → WaitsBefore sites s (c + 1) old
-    before_ready can = before_more old old so so.each (λ w has. has) (λ p stuck due. absurd (stuck can)) (λ k stuck owed. absurd (stuck can)) (λ p k stuck none owed due. absurd (stuck can))
+    pub adds_idle : ((p : ℕ) → IsDue sites s c Got p → ⊥) → ((k : ℕ) → Owes sites s c k → ⊥) → AddsComp sites s c old old
+    adds_idle gets owes = record {
+      each = each;
+      kept = λ w has. has;
+      gets = λ p stuck due. absurd (gets p due);
+      owes = λ k stuck owed. absurd (owes k owed);
+      takes = λ p k stuck none owed due. absurd (owes k owed);
+    }
 
-    pub before_idle : ((p : ℕ) → IsDue sites s c Got p → ⊥) → ((k : ℕ) → Owes sites s c k → ⊥) → WaitsBefore sites s (c + 1) old
-    before_idle gets owes = before_more old old so so.each (λ w has. has) (λ p stuck due. absurd (gets p due)) (λ k stuck owed. absurd (owes k owed)) (λ p k stuck none owed due. absurd (owes k owed))
+    -- where there is no such component
+    pub adds_absent : (0 < c → c ≤ length sites → ⊥) → AddsComp sites s c old old
+    adds_absent none = record {
+      each = each;
+      kept = λ w has. has;
+      gets = λ p stuck due. absurd (none due.0.comp_from due.0.comp_to);
+      owes = λ k stuck owed. absurd (none owed.0.1.is_port.comp_from owed.0.1.is_port.comp_to);
+      takes = λ p k stuck no_reply owed due. absurd (none due.0.comp_from due.0.comp_to);
+    }
 
-    pub before_gets : (new : List Wait) (p : ℕ) → IsDue sites s c Got p → AddsAll sites s c Got old new → WaitsBefore sites s (c + 1) new
-    before_gets new p due adds = before_more old new so adds.each adds.kept (λ q stuck due'. adds.added q due') (λ k stuck owed. (chan_at sites c p, adds.added p due)) (λ q k stuck none owed due'. absurd (none p due))
+    pub adds_halted : (w : Wait) → IsWait sites s w → w.comp ≡ c → ((q : ℕ) → IsDue sites s c Got q → ⊥) → ((q : ℕ) → IsDue sites s c Take q → ⊥) → AddsComp sites s c old (old ++ w ∷ [])
+    adds_halted w is comp gets takes = record {
+      each = All-push (IsWait sites s) old w each is;
+      kept = Contains-append_left old (w ∷ []);
+      gets = λ q stuck due. absurd (gets q due);
+      owes = λ k stuck owed. (w.chan, (w, Contains-push old w, comp, refl));
+      takes = λ q k stuck none owed due. absurd (takes q due);
+    }
 
-    pub before_takes : (new : List Wait) (p : ℕ) → ((q : ℕ) → IsDue sites s c Got q → ⊥) → IsDue sites s c Take p → AddsAll sites s c Take old new → WaitsBefore sites s (c + 1) new
-    before_takes new p gets due adds = before_more old new so adds.each adds.kept (λ q stuck due'. absurd (gets q due')) (λ k stuck owed. (chan_at sites c p, adds.added p due)) (λ q k stuck none owed due'. adds.added q due')
+  pub adds_gets : (old new : List Wait) (p : ℕ) → IsDue sites s c Got p → AddsAll sites s c Got old new → AddsComp sites s c old new
+  adds_gets old new p due adds = record {
+    each = adds.each;
+    kept = adds.kept;
+    gets = λ q stuck due'. adds.added q due';
+    owes = λ k stuck owed. (chan_at sites c p, adds.added p due);
+    takes = λ q k stuck none owed due'. absurd (none p due);
+  }
 
-    pub before_halted : (w : Wait) → IsWait sites s w → w.comp ≡ c → ((q : ℕ) → IsDue sites s c Got q → ⊥) → ((q : ℕ) → IsDue sites s c Take q → ⊥) → WaitsBefore sites s (c + 1) (old ++ w ∷ [])
-    before_halted w is comp gets takes =
-        before_more old (old ++ w ∷ []) so (All-push (IsWait sites s) old w so.each is) (Contains-append_left old (w ∷ []))
-        (λ q stuck due'. absurd (gets q due')) (λ k stuck owed. (w.chan, (w, Contains-push old w, comp, refl))) (λ q k stuck none owed due'. absurd (takes q due'))
+  pub adds_takes : (old new : List Wait) (p : ℕ) → ((q : ℕ) → IsDue sites s c Got q → ⊥) → IsDue sites s c Take p → AddsAll sites s c Take old new → AddsComp sites s c old new
+  adds_takes old new p gets due adds = record {
+    each = adds.each;
+    kept = adds.kept;
+    gets = λ q stuck due'. absurd (gets q due');
+    owes = λ k stuck owed. (chan_at sites c p, adds.added p due);
+    takes = λ q k stuck none owed due'. adds.added q due';
+  }
 
 -- the wait of a component that has halted
 pub halted_wait : (sites : List Site) (s : State) (c k : ℕ) → IsStuck sites s c → ((p : ℕ) → IsDue sites s c Got p → ⊥) → ((p : ℕ) → IsDue sites s c Take p → ⊥) → Owes sites s c k
@@ -133,3 +192,17 @@ module _ (sites : List Site) (s : State) where
     owes = λ c k stuck owed. so.owes c k (let to = owed.0.1.is_port.comp_to in omega (arith, is, to)) stuck owed;
     takes = λ c p k stuck none owed due. so.takes c p k (let to = due.0.comp_to in omega (arith, is, to)) stuck none owed due;
   }
+
+  pub among_none : AreWaitsOf sites s [] []
+  among_none = record {
+    each = All-nil (IsWait sites s);
+    gets = λ c p has. absurd (let within = has.1 in omega (arith, within));
+    owes = λ c k has. absurd (let within = has.1 in omega (arith, within));
+    takes = λ c p k has. absurd (let within = has.1 in omega (arith, within));
+  }
+
+  -- the next of a list
+  pub listed_more : (all : List ℕ) (place d : ℕ) (old new : List Wait) → place < length all → AreWaitsOf sites s (take place all) old → AddsComp sites s (get_or all place d) old new → AreWaitsOf sites s (take (place + 1) all) new
+  listed_more all place d old new within so adds =
+      subst (λ (comps : List ℕ). AreWaitsOf sites s comps new) (sym (take_more all place d within))
+      (among_more sites s (get_or all place d) (take place all) old new so adds)

@@ -21,6 +21,14 @@ pub record AddsAll (sites : List Site) (s : State) (c : ℕ) (mv : Move) (old ne
   pub kept : (w : Wait) → Contains old w → Contains new w
   pub added : (p : ℕ) → IsDue sites s c mv p → WaitsOn new c (chan_at sites c p)
 
+-- the waits of component c, behind others
+pub record AddsComp (sites : List Site) (s : State) (c : ℕ) (old new : List Wait) : Type 0 where
+  pub each : All (IsWait sites s) new
+  pub kept : (w : Wait) → Contains old w → Contains new w
+  pub gets : (p : ℕ) → IsStuck sites s c → IsDue sites s c Got p → WaitsOn new c (chan_at sites c p)
+  pub owes : (k : ℕ) → IsStuck sites s c → Owes sites s c k → HasWait new c
+  pub takes : (p k : ℕ) → IsStuck sites s c → GetsNone sites s c → Owes sites s c k → IsDue sites s c Take p → WaitsOn new c (chan_at sites c p)
+
 -- the waits of the components before c
 pub record WaitsBefore (sites : List Site) (s : State) (c : ℕ) (waits : List Wait) : Type 0 where
   pub each : All (IsWait sites s) waits

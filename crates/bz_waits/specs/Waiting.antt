@@ -121,3 +121,11 @@ pub record AreWaits (sites : List Site) (s : State) (waits : List Wait) : Type 0
   pub owes : (c k : ℕ) → IsStuck sites s c → Owes sites s c k → HasWait waits c
   pub takes : (c p k : ℕ) → IsStuck sites s c → GetsNone sites s c → Owes sites s c k → IsDue sites s c Take p
       → WaitsOn waits c (chan_at sites c p)
+
+-- the same of some of the components
+pub record AreWaitsOf (sites : List Site) (s : State) (comps : List ℕ) (waits : List Wait) : Type 0 where
+  pub each : All (IsWait sites s) waits
+  pub gets : (c p : ℕ) → Contains comps c → IsStuck sites s c → IsDue sites s c Got p → WaitsOn waits c (chan_at sites c p)
+  pub owes : (c k : ℕ) → Contains comps c → IsStuck sites s c → Owes sites s c k → HasWait waits c
+  pub takes : (c p k : ℕ) → Contains comps c → IsStuck sites s c → GetsNone sites s c → Owes sites s c k → IsDue sites s c Take p
+      → WaitsOn waits c (chan_at sites c p)

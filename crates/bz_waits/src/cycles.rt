@@ -2,7 +2,7 @@
 //!
 //! Components that wait for no other are taken out of the graph again and again (Kahn's algorithm). Whoever is left waits
 //! for one that is left, and from each the way to the least of these ends in a cycle. What this finds is looked at again, link by
-//! link, before it is told.
+//! link, before it is told. Only who waits, and who is waited for, is looked at: in a large net few do.
 
 ghost use Rattle.std.specs.Prelude.{IfOk, IsTrue};
 ghost use Rattle.bz_waits.specs.Cycles.{AreCycles, IsCycle, WaitsFor};
@@ -16,9 +16,16 @@ use std::alloc::{AllocError, Global};
 pub(crate) fn cycles(alloc: Global, comps: u32, waits: &[Wait]) -> Result<Vec<Vec<u32>>, AllocError>
     ensures { IfOk result (λ found. AreCycles waits.now found.items) }
 {
+    if !have_link(waits) {
+        return Ok(Vec::new(alloc));
+    }
     let left = those_left(alloc, comps, waits)?;
     let next = steps(alloc, waits, &left)?;
     find_cycles(alloc, waits, &next)
+}
+
+fn have_link(waits: &[Wait]) -> bool {
+    waits.iter().any(|wait| wait.link().is_some())
 }
 
 // For each component that is left the least that is left of those it waits for, 0 where there is none.
@@ -62,12 +69,7 @@ fn links_back(
 
 // Takes out who waits for none. The links lead back to who waits.
 fn take_out(alloc: Global, back: &[(u32, u32)], left: &mut Table) -> Result<(), AllocError> {
-    let mut gone = Vec::new(alloc);
-    for comp in 1..=left.comps() {
-        if left.at(comp) == 0 {
-            gone.push(comp)?;
-        }
-    }
+    let mut gone = waited_for(alloc, back, left)?;
     for turn in 0..left.comps() {
         let Some(comp) = gone.get(turn as usize).copied() else {
             break;
@@ -85,19 +87,32 @@ fn take_out(alloc: Global, back: &[(u32, u32)], left: &mut Table) -> Result<(), 
     Ok(())
 }
 
+// Those who are waited for and wait for none.
+fn waited_for(alloc: Global, back: &[(u32, u32)], left: &Table) -> Result<Vec<u32>, AllocError> {
+    let (mut gone, mut last) = (Vec::new(alloc), 0);
+    for (comp, _) in back {
+        if *comp != last && left.at(*comp) == 0 {
+            gone.push(*comp)?;
+        }
+        last = *comp;
+    }
+    Ok(gone)
+}
+
 // The cycles to which the steps lead.
 fn find_cycles(alloc: Global, waits: &[Wait], next: &Table) -> Result<Vec<Vec<u32>>, AllocError>
     ensures { IfOk result (λ found. AreCycles waits.now found.items) }
 {
     let mut met = Table::new(alloc, next.comps())?;
     let mut found = Vec::new(alloc);
-    for place in 0..next.comps() {
-        add_from(alloc, waits, next, place + 1, &mut met, &mut found)?;
+    for place in 0..waits.len() {
+        add_from(alloc, waits, next, waits[place].comp, &mut met, &mut found)?;
     }
     Ok(found)
 }
 
-// Adds the cycle to which the steps from a component lead, where they meet none before.
+// Adds the cycle to which the steps from a component lead, where they meet none before. `met` has for each from which component it
+// was met first, so far 0.
 fn add_from(
     alloc: Global,
     waits: &[Wait],
@@ -109,6 +124,9 @@ fn add_from(
     requires { AreCycles waits.now found.old.items }
     ensures { IfOk result (λ _. AreCycles waits.now found.new.items) }
 {
+    if met.at(start) > 0 {
+        return Ok(());
+    }
     let last = walk(next, start, met);
     if met.at(last) != start {
         return Ok(());
@@ -116,7 +134,7 @@ fn add_from(
     add_cycle(waits, cycle_of(alloc, next, last)?, found)
 }
 
-// Walks on until there is no step, or to one that was met. `met` has for each from which component it was met first, so far 0.
+// Walks on until there is no step, or to one that was met.
 fn walk(next: &Table, start: u32, met: &mut Table) -> u32 {
     let mut comp = start;
     for _ in 0..=next.comps() {

@@ -39,7 +39,7 @@ pub(crate) fn owed_chan(core: &Core, comp: u32) -> Option<u32>
 {
     for place in 0..port_count(core, comp) {
         let chan = chan_at(core, comp, place + 1);
-        if is_passive_at(core, comp, place + 1) && core.phase(chan) == Phase::Taken {
+        if core.phase(chan) == Phase::Taken && is_passive_at(core, comp, place + 1) {
             return Some(chan);
         }
     }

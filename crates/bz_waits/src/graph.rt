@@ -1,10 +1,10 @@
 //! The wait-for graph of a net.
 
-ghost use Rattle.std.specs.Prelude.{◌≡◌, ◌<◌, ◌≤◌, ◌+◌, length, IfOk};
+ghost use Rattle.std.specs.Prelude.{◌≡◌, ◌<◌, ◌≤◌, ◌+◌, length, take, IfOk};
 ghost use Rattle.std.specs.List.{All};
-ghost use Rattle.bz_waits.specs.Adding.{AddsAll, WaitsBefore};
+ghost use Rattle.bz_waits.specs.Adding.{AddsAll, AddsComp, WaitsBefore};
 ghost use Rattle.bz_waits.specs.Cycles.{AreCycles};
-ghost use Rattle.bz_waits.specs.Waiting.{AreWaits, IsAwaited, IsPlace, IsStuck, IsWait};
+ghost use Rattle.bz_waits.specs.Waiting.{AreWaits, AreWaitsOf, IsAwaited, IsPlace, IsStuck, IsWait};
 
 use crate::cycles::cycles;
 use crate::due::{chooses, is_due, next_due, owed_chan};
@@ -51,6 +51,20 @@ impl Graph {
         })
     }
 
+    /// That of these components alone, their numbers rising.
+    pub fn of_comps(alloc: Global, core: &Core, comps: &[u32]) -> Result<Graph, AllocError>
+        ensures waits { IfOk result (λ graph. AreWaitsOf core.now.wiring.sites core.now.state comps.now graph.waits.items) }
+        ensures cycles { IfOk result (λ graph. AreCycles graph.waits.items graph.cycles.items) }
+    {
+        let (waits, waiting) = waits_among(alloc, core, comps)?;
+        let cycles = cycles(alloc, core.comp_count(), &waits)?;
+        Ok(Graph {
+            waits,
+            waiting,
+            cycles,
+        })
+    }
+
     /// What a component waits for.
     pub fn waits_of(&self, comp: u32) -> &[Wait] {
         let first = self.waits.partition_point(|wait| wait.comp < comp);
@@ -85,7 +99,7 @@ fn waits_of(alloc: Global, core: &Core) -> Result<(Vec<Wait>, usize), AllocError
     let (mut waits, mut waiting) = (Vec::new(alloc), 0usize);
     for place in 0..core.comp_count() {
         let before = waits.len();
-        add_comp(core, place + 1, &mut waits)?;
+        add_next(core, place + 1, &mut waits)?;
         if waits.len() > before {
             waiting = waiting.saturating_add(1);
         }
@@ -93,12 +107,65 @@ fn waits_of(alloc: Global, core: &Core) -> Result<(Vec<Wait>, usize), AllocError
     Ok((waits, waiting))
 }
 
-// What a component waits for, after those before it: for replies, or for requests where it owes a reply. Or it has halted.
-fn add_comp(core: &Core, comp: u32, waits: &mut Vec<Wait>) -> Result<(), AllocError>
+// The same of these components.
+fn waits_among(alloc: Global, core: &Core, comps: &[u32]) -> Result<(Vec<Wait>, usize), AllocError>
+    ensures { IfOk result (λ made. AreWaitsOf core.now.wiring.sites core.now.state comps.now made.0.items) }
+{
+    let (mut waits, mut waiting) = (Vec::new(alloc), 0usize);
+    for place in 0..comps.len() {
+        let before = waits.len();
+        add_listed(core, comps, place, &mut waits)?;
+        if waits.len() > before {
+            waiting = waiting.saturating_add(1);
+        }
+    }
+    Ok((waits, waiting))
+}
+
+// What the component at a place of a list waits for, after those before it there.
+fn add_listed(
+    core: &Core,
+    comps: &[u32],
+    place: usize,
+    waits: &mut Vec<Wait>,
+) -> Result<(), AllocError>
+    requires within { place < length comps.now }
+    requires so { AreWaitsOf core.now.wiring.sites core.now.state (take place comps.now) waits.old.items }
+    ensures { IfOk result (λ _. AreWaitsOf core.now.wiring.sites core.now.state (take (place + 1) comps.now) waits.new.items) }
+{
+    add_if_there(core, comps[place], waits)
+}
+
+// What a component waits for, if there is one of this number.
+fn add_if_there(core: &Core, comp: u32, waits: &mut Vec<Wait>) -> Result<(), AllocError>
+    requires { All (IsWait core.now.wiring.sites core.now.state) waits.old.items }
+    ensures { IfOk result (λ _. AddsComp core.now.wiring.sites core.now.state comp waits.old.items waits.new.items) }
+{
+    if comp == 0 {
+        return Ok(());
+    }
+    if comp > core.comp_count() {
+        return Ok(());
+    }
+    add_comp(core, comp, waits)
+}
+
+// What a component waits for, after those before it.
+fn add_next(core: &Core, comp: u32, waits: &mut Vec<Wait>) -> Result<(), AllocError>
     requires from { 0 < comp }
     requires to { comp ≤ length core.now.wiring.sites }
     requires before { WaitsBefore core.now.wiring.sites core.now.state comp waits.old.items }
     ensures { IfOk result (λ _. WaitsBefore core.now.wiring.sites core.now.state (comp + 1) waits.new.items) }
+{
+    add_comp(core, comp, waits)
+}
+
+// What a component waits for: for replies, or for requests where it owes a reply. Or it has halted.
+fn add_comp(core: &Core, comp: u32, waits: &mut Vec<Wait>) -> Result<(), AllocError>
+    requires from { 0 < comp }
+    requires to { comp ≤ length core.now.wiring.sites }
+    requires each { All (IsWait core.now.wiring.sites core.now.state) waits.old.items }
+    ensures { IfOk result (λ _. AddsComp core.now.wiring.sites core.now.state comp waits.old.items waits.new.items) }
 {
     if core.is_ready(comp) {
         return Ok(());

@@ -9,6 +9,6 @@ mod table;
 mod wait;
 
 pub use graph::Graph;
-pub use sites::{chan_at, other_end, port_count};
+pub use sites::{chan_at, chans, other_end, port_count};
 pub use table::Table;
 pub use wait::{Place, Wait, Whom, first_move};

@@ -33,6 +33,15 @@ pub fn port_count(core: &Core, comp: u32) -> u32
     site(core, comp).chans.len() as u32
 }
 
+/// The channels at the ports of a component, in the order of the ports.
+pub fn chans(core: &Core, comp: u32) -> &[u32]
+    requires from { 0 < comp }
+    requires to { comp ≤ length core.now.wiring.sites }
+    ensures { result.now ≡ (site_at core.now.wiring.sites comp).chans }
+{
+    site(core, comp).chans.as_slice()
+}
+
 /// The channel at a port.
 pub fn chan_at(core: &Core, comp: u32, port: u32) -> u32
     requires { IsPort core.now.wiring.sites comp port }

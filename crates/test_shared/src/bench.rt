@@ -2,22 +2,23 @@
 
 ghost use Rattle.std.specs.Prelude.{◌≡◌, ◌<◌, ◌≤◌, [], false, IfOk};
 ghost use Rattle.std.specs.List.{All};
-ghost use Rattle.bz_past.specs.Moments.{moment};
+ghost use Rattle.bz_past.specs.Seen.{IsFresh};
 
 use crate::left::left;
 use crate::places::{Place, commands, opened};
-use crate::threads::{Does, one_session, second_and_work};
+use crate::threads::{Does, Stop, one_session, second_and_work, stop_all};
 use bz_locked::{
-    Closed, FireError, Keeper, NetLedger, Past, Session, SharedNet, WaitReply, Work, Worker,
+    Closed, FireError, Keeper, NetLedger, Past, Session, SharedNet, Stopper, WaitReply, Work,
+    Worker,
 };
 use bz_model::{HostCmd, NetError, Reply, Who};
 use bz_net::{Net, RestReply};
 use bz_session::{End, SessionError, play};
 use std::alloc::{AllocError, Global};
 use std::fmt::Debug;
-use std::marker::Brand;
-use std::sync::Wait;
+use std::marker::{Brand, PhantomData};
 use std::sync::ledger::{Blank, Ledger};
+use std::sync::{Mutex, Wait};
 use std::test::Fail;
 use std::thread;
 use std::thread::Threads;
@@ -67,6 +68,7 @@ struct Bench<L: NetLedger> {
     one: Session,
     two: Session,
     worker: Worker<L>,
+    stop: Mutex<Stop<L>>,
     ghost seats: { (one.seat.table ≡ shared.table) × (two.seat.table ≡ shared.table) × (worker.seat.table ≡ shared.table) },
     ghost counts: { (shared.sessions ≡ 2) × (shared.workers ≡ 1) },
 }
@@ -76,11 +78,12 @@ impl<L: NetLedger + Send + Sync> Bench<L> {
         alloc: Global,
         blank: Blank,
         opened: (Past, Keeper),
+        stopper: Stopper,
         net: Net,
         fuel: u64,
     ) -> Result<Bench<L>, Fail>
-        requires ledger { (blank.name ≡ L.name) × (blank.parts ≡ L.parts) × (L.parts ≡ 1) }
-        requires past { (opened.0 ≡ L.past) × (opened.1.table ≡ L.past) × (opened.1.now ≡ moment net false) }
+        requires ledger { (blank.name ≡ L.name) × (blank.parts ≡ L.parts) × (L.parts ≡ 1) × (L.workers ≡ 1) }
+        requires past { (opened.0 ≡ L.past) × IsFresh L.past net opened.1 × (stopper.table ≡ L.past) }
         requires opening { (net.wiring ≡ L.terms.wiring) × (net.limit ≡ L.terms.limit) × (fuel ≡ L.terms.fuel) × (L.terms.sessions ≡ 2) × (net.journal ≡ []) }
     {
         let (shared, mut sessions, mut workers) = SharedNet::new(
@@ -94,6 +97,10 @@ impl<L: NetLedger + Send + Sync> Bench<L> {
             one,
             two,
             worker,
+            stop: Mutex::new(Stop {
+                stopper,
+                of: PhantomData,
+            }),
         })
     }
 
@@ -109,24 +116,27 @@ impl<L: NetLedger + Send + Sync> Bench<L> {
             one,
             two,
             worker,
+            stop,
         } = self;
         let net = &shared;
+        let by = &stop;
         let ((one, first), (two, second, worker, work)) = thread::join(
             rt,
             move ||
                 requires { one.seat.table ≡ net.now.table }
                 ensures { result.0.seat.table ≡ net.entry.now.table }
-            { one_session(rt, net, one, one_does) },
+            { one_session(rt, net, by, one, one_does) },
             move ||
                 requires { (two.seat.table ≡ net.now.table) × (worker.seat.table ≡ net.now.table) }
                 ensures { (result.0.seat.table ≡ net.entry.now.table) × (result.2.seat.table ≡ net.entry.now.table) }
-            { second_and_work(rt, net, two, two_does, worker) },
+            { second_and_work(rt, net, by, two, two_does, worker) },
         );
         let bench = Bench {
             shared,
             one,
             two,
             worker,
+            stop,
         };
         (bench, [first, second], work)
     }
@@ -139,10 +149,12 @@ impl<L: NetLedger + Send + Sync> Bench<L> {
             one,
             two,
             worker,
+            stop,
         } = self;
+        let Stop { stopper, of: _ } = stop.into_inner();
         let sessions = vec![in alloc; one, two]?;
         let workers = vec![in alloc; worker]?;
-        match shared.close(sessions, workers) {
+        match shared.close(sessions, workers, stopper) {
             Ok(closed) => Ok(closed),
             Err((_, error)) => Err(error.into()),
         }
@@ -228,7 +240,7 @@ impl<L: NetLedger> Bench<L> {
     }
 
     fn stop<R: Wait>(&self, rt: &R) {
-        self.shared.stop(rt);
+        stop_all(rt, &self.shared, &self.stop);
     }
 
     // The rows of a table, each with what it is answered in place of what stands behind its `|`. Other lines are left out.
@@ -320,15 +332,16 @@ fn start<L: NetLedger + Send + Sync, R: Threads + Wait + Sync>(
     alloc: Global,
     blank: Blank,
     opened: (Past, Keeper),
+    stopper: Stopper,
     net: Net,
     fuel: u64,
     played: Played<'_>,
 ) -> Result<(Closed, String), Fail>
-    requires ledger { (blank.name ≡ L.name) × (blank.parts ≡ L.parts) × (L.parts ≡ 1) }
-    requires past { (opened.0 ≡ L.past) × (opened.1.table ≡ L.past) × (opened.1.now ≡ moment net false) }
+    requires ledger { (blank.name ≡ L.name) × (blank.parts ≡ L.parts) × (L.parts ≡ 1) × (L.workers ≡ 1) }
+    requires past { (opened.0 ≡ L.past) × IsFresh L.past net opened.1 × (stopper.table ≡ L.past) }
     requires opening { (net.wiring ≡ L.terms.wiring) × (net.limit ≡ L.terms.limit) × (fuel ≡ L.terms.fuel) × (L.terms.sessions ≡ 2) × (net.journal ≡ []) }
 {
-    let bench = Bench::<L>::new(alloc, blank, opened, net, fuel)?;
+    let bench = Bench::<L>::new(alloc, blank, opened, stopper, net, fuel)?;
     let (bench, told) = bench.play(rt, alloc, played);
     Ok((bench.close(alloc)?, told?))
 }
@@ -341,11 +354,20 @@ fn run<R: Threads + Wait + Sync>(
     played: Played<'_>,
 ) -> Result<(Closed, String), Fail> {
     let net = opened(alloc, place)?;
-    let Ok(past) = Past::open(alloc, &net) else {
+    let Ok((past, keeper, stopper)) = Past::open(alloc, &net) else {
         return Err("a past".into());
     };
     let fuel = place.fuel;
-    start::<Brand, R>(rt, alloc, Blank::new(1), past, net, fuel, played)
+    start::<Brand, R>(
+        rt,
+        alloc,
+        Blank::new(1),
+        (past, keeper),
+        stopper,
+        net,
+        fuel,
+        played,
+    )
 }
 
 fn all_told<R: Threads + Wait + Sync>(

@@ -3,15 +3,24 @@
 ghost use Rattle.std.specs.Prelude.{◌≡◌};
 
 use crate::places::commands;
-use bz_locked::{FireError, NetLedger, Session, SharedNet, WaitReply, Work, Worker};
+use bz_locked::{FireError, NetLedger, Session, SharedNet, Stopper, WaitReply, Work, Worker};
 use bz_model::{HostCmd, NetError};
 use bz_net::RestReply;
 use bz_session::{End, SessionError, play};
 use std::alloc::Global;
-use std::sync::Wait;
+use std::marker::PhantomData;
 use std::sync::ledger::Ledger;
+use std::sync::{Mutex, Wait};
 use std::thread;
 use std::thread::Threads;
+
+/// What one has to have who stops all.
+#[derive(Drop)]
+pub struct Stop<L: NetLedger> {
+    pub stopper: Stopper,
+    pub of: PhantomData<L>,
+    ghost of_past: { stopper.table ≡ L.past },
+}
 
 /// How a session goes about its commands.
 #[derive(Clone, Copy)]
@@ -96,9 +105,15 @@ fn stay_a_while() {
     }
 }
 
-fn stop_later<L: NetLedger, R: Wait>(rt: &R, shared: &SharedNet<L>) {
+/// Stops all.
+pub fn stop_all<L: NetLedger, R: Wait>(rt: &R, shared: &SharedNet<L>, stop: &Mutex<Stop<L>>) {
+    let mut held = stop.lock(rt);
+    shared.stop(rt, &mut held.stopper);
+}
+
+fn stop_later<L: NetLedger, R: Wait>(rt: &R, shared: &SharedNet<L>, stop: &Mutex<Stop<L>>) {
     stay_a_while();
-    shared.stop(rt);
+    stop_all(rt, shared, stop);
 }
 
 fn end_later<L: NetLedger, R: Wait>(rt: &R, shared: &SharedNet<L>, session: &mut Session)
@@ -111,6 +126,7 @@ fn end_later<L: NetLedger, R: Wait>(rt: &R, shared: &SharedNet<L>, session: &mut
 fn ask<L: NetLedger, R: Wait>(
     rt: &R,
     shared: &SharedNet<L>,
+    stop: &Mutex<Stop<L>>,
     session: &mut Session,
     words: &[HostCmd],
 ) -> End
@@ -123,13 +139,14 @@ fn ask<L: NetLedger, R: Wait>(
     if shared.host(rt, session, cmd).is_err() {
         return End::Stopped(0);
     }
-    stop_later(rt, shared);
+    stop_later(rt, shared, stop);
     End::Done
 }
 
 fn wait<L: NetLedger, R: Wait>(
     rt: &R,
     shared: &SharedNet<L>,
+    stop: &Mutex<Stop<L>>,
     session: &mut Session,
     words: &[HostCmd],
 ) -> End
@@ -141,7 +158,7 @@ fn wait<L: NetLedger, R: Wait>(
     };
     match shared.wait_host(rt, session, cmd) {
         Ok(WaitReply::Resting) => {
-            stop_later(rt, shared);
+            stop_later(rt, shared, stop);
             End::Resting(1)
         }
         Ok(WaitReply::Stopped) => End::Stopped(1),
@@ -154,6 +171,7 @@ fn wait<L: NetLedger, R: Wait>(
 fn go_about<L: NetLedger, R: Wait>(
     rt: &R,
     shared: &SharedNet<L>,
+    stop: &Mutex<Stop<L>>,
     session: &mut Session,
     manner: Manner,
     words: &[HostCmd],
@@ -163,10 +181,10 @@ fn go_about<L: NetLedger, R: Wait>(
 {
     match manner {
         Manner::Plays => play(shared, rt, session, words),
-        Manner::Asks => ask(rt, shared, session, words),
-        Manner::Waits => wait(rt, shared, session, words),
+        Manner::Asks => ask(rt, shared, stop, session, words),
+        Manner::Waits => wait(rt, shared, stop, session, words),
         Manner::Stops => {
-            stop_later(rt, shared);
+            stop_later(rt, shared, stop);
             End::Done
         }
         Manner::Ends => {
@@ -180,13 +198,14 @@ fn go_about<L: NetLedger, R: Wait>(
 pub fn one_session<L: NetLedger, R: Wait>(
     rt: &R,
     shared: &SharedNet<L>,
+    stop: &Mutex<Stop<L>>,
     mut session: Session,
     does: Does,
 ) -> (Session, End)
     requires { session.seat.table ≡ shared.now.table }
     ensures { result.0.seat.table ≡ shared.now.table }
 {
-    let end = go_about(rt, shared, &mut session, does.manner, &does.words);
+    let end = go_about(rt, shared, stop, &mut session, does.manner, &does.words);
     (session, end)
 }
 
@@ -194,6 +213,7 @@ pub fn one_session<L: NetLedger, R: Wait>(
 pub fn second_and_work<L: NetLedger + Send + Sync, R: Threads + Wait + Sync>(
     rt: &R,
     shared: &SharedNet<L>,
+    stop: &Mutex<Stop<L>>,
     session: Session,
     does: Does,
     worker: Worker<L>,
@@ -208,7 +228,7 @@ pub fn second_and_work<L: NetLedger + Send + Sync, R: Threads + Wait + Sync>(
         move || -> (Session, End)
             requires { session.seat.table ≡ shared.now.table }
             ensures { result.0.seat.table ≡ shared.entry.now.table }
-        { one_session(rt, shared, session, does) },
+        { one_session(rt, shared, stop, session, does) },
         move || -> (Worker<L>, Result<Work, NetError>)
             requires { worker.seat.table ≡ shared.now.table }
             ensures { result.0.seat.table ≡ shared.entry.now.table }

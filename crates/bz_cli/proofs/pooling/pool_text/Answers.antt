@@ -10,11 +10,8 @@ use Rattle.bz_cli.proofs.pooling.pool_text.Goals as goal
 pub returns-in-Err : goal.returns-in-Err
 returns-in-Err g c =
     let opened = c.in_ok-net.ensures.ok in
-    let lists = c.args.sessions in
     let options = c.args.options in
-    let net = c.in_ok-net.net in
-    let same = same_terms net.wiring opened.0 net.limit options.journal options.fuel (vec_len lists) (length lists.items) opened.2.wiring opened.2.limit_is lists.ok.0 in
-    no_close c.args.text.now (option_copied c.args.asked) options.fuel options.journal lists.items options.workers opened.0 _ opened.1 same (g.W.Write.contents c.args.output.now) c.of_pool.result c.in-Err.error c.in-Err.ensures.refused c.of_pool.ensures
+    no_close c.args.text.now (option_copied c.args.asked) options.fuel options.journal c.args.sessions.items options.workers opened.0 opened.1 (g.W.Write.contents c.args.output.now) c.of_pool.result c.in-Err.error c.in-Err.ensures.refused c.of_pool.ensures
 
 pub returns : goal.returns
 returns g c =

@@ -11,5 +11,5 @@ returns-in-Some-clause-waits g c =
 
 pub returns-in-None-clause-waits : goal.returns-in-None-clause-waits
 returns-in-None-clause-waits g c =
-    let waits = rw c.place_of.ensures at c.waits_cmd.ensures.waits in
-    rw c.in-None.is (does (of_told c.args.options.strict) _ (λ text answer. Waits text (option_copied c.args.part) (waits_asked c.args.options) _ _ answer) c.waits_cmd.result _ waits c.told_or_not-in-None.ensures)
+    let waits = rw c.place_of.ensures at c.waits_cmd-told.ensures.waits in
+    rw c.in-None.is (does (of_told c.args.options.strict) _ (λ text answer. Waits text (option_copied c.args.part) (waits_asked c.args.options) _ _ answer) c.waits_cmd-told.result _ waits c.told_or_not-in-None.ensures)

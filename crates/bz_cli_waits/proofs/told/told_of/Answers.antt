@@ -1,4 +1,7 @@
 use Rattle.bz_cli_waits.proofs.told.told_of.Goals as goal
 
-pub returns-in-Ok-survey : goal.returns-in-Ok-survey
-returns-in-Ok-survey c = rw c.in-Ok.ensures.net at c.told_in.ensures
+pub returns-then-wanted-entries : goal.returns-then-wanted-entries
+returns-then-wanted-entries c = rw c.into_parts-net.ensures at c.told_at_end.ensures
+
+pub returns-else-wanted-entries : goal.returns-else-wanted-entries
+returns-else-wanted-entries c = rw c.into_parts-net.ensures at c.told_before.ensures

@@ -11,7 +11,7 @@ use Rattle.bz_page.proofs.command.page_of_input.Goals as goal
 
 pub returns-in-Ok-clause-pages : goal.returns-in-Ok-clause-pages
 returns-in-Ok-clause-pages g c =
-    taken_text IsOfInput (λ netlist trace. PagesTrace (blank_of c.args.template) netlist trace (option_copied c.args.asked) _ _ c.page_of_texts.result) c.in-Ok.texts _ _ _ _ c.in-Ok.ensures.taken c.page_of_texts.ensures
+    taken_text IsOfInput (λ netlist trace. PagesTrace (blank_of c.args.template) netlist trace (option_copied c.args.asked) c.args.files.now _ _ c.page_of_texts.result) c.in-Ok.texts _ _ _ _ c.in-Ok.ensures.taken c.page_of_texts.ensures
 
 pub returns-in-Err-clause-pages : goal.returns-in-Err-clause-pages
 returns-in-Err-clause-pages g c = rw c.from.ensures (not_taken (Unit {0}) (IsOfInput {C = TooLarge}) _ _ (Command (of_input c.in-Err.fault)) (is_of_input c.in-Err.fault) _)

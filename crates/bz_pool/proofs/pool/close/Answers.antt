@@ -1,6 +1,6 @@
-use Rattle.bz_pool.proofs.Played.{discord_told}
+use Rattle.bz_past.specs.Moments.{moment}
+use Rattle.bz_pool.proofs.Played.{unused}
 use Rattle.bz_pool.proofs.pool.close.Goals as goal
 
-pub returns-in-Err-clause-discord : goal.returns-in-Err-clause-discord
-returns-in-Err-clause-discord g c =
-    (c.in-Err.field-0-0, c.in-Err.ensures.gathers, discord_told c.args.crew.sessions.items c.args.crew.workers.items c.in-Err.field-0-0 c.in-Err.error c.in-Err.ensures.discord)
+pub returns-in-Ok-clause-why : goal.returns-in-Ok-clause-why
+returns-in-Ok-clause-why g c = unused _ _ (moment c.in-Ok.closed.net c.in-Ok.closed.stopped) c.requires.stopper.1 c.in-Ok.ensures.why

@@ -1,4 +1,4 @@
-use Rattle.std.proofs.Common.{◌≡◌, ◌+◌, map, length, vec_len, sym, ap, subst, ◌∙◌, arith}
+use Rattle.std.proofs.Common.{true, ◌≡◌, ◌+◌, map, length, vec_len, sym, ap, subst, ◌∙◌, arith}
 use Rattle.std.specs.declared.alloc.Global.{Global}
 use Rattle.std.specs.declared.vec.Vec.{Vec}
 use Rattle.bz_model.specs.declared.event.Who.TheVariants.{Host, Worker}
@@ -6,12 +6,13 @@ use Rattle.bz_locked.specs.Closing.{Agrees, Gathers}
 use Rattle.bz_locked.specs.Journal.{part_of, firings}
 use Rattle.bz_locked.specs.Parts.{SessionView, WorkerView}
 use Rattle.bz_past.specs.Moments.{moment}
+use Rattle.bz_past.specs.Owners.{AreNamed}
+use Rattle.bz_past.specs.Stopping.{HasCause}
 use Rattle.bz_locked.specs.declared.closing.Closed.{Closed}
 use Rattle.bz_session.specs.declared.playing.End.{End}
-use Rattle.bz_pool.specs.Crews.{HavePlayed, TellsDiscord}
+use Rattle.bz_pool.specs.Crews.{HavePlayed}
 use Rattle.bz_pool.specs.Pooled.{ArePlayed, IsPooled, RefusesPool}
-use Rattle.bz_pool.specs.declared.pool.PoolError.{PoolError}
-use Rattle.bz_pool.proofs.Played.{all_played, all_refused, ends_count, of_err, of_ok}
+use Rattle.bz_pool.proofs.Played.{all_played, ends_count, of_never, of_ok}
 use Rattle.bz_pool.proofs.Pooling.{named, told}
 use Rattle.bz_pool.proofs.pool.pool.Goals as goal
 
@@ -52,24 +53,36 @@ returns-in-Ok-in_scope-clause-played g c =
     let made = c.in-Ok.ensures in
     let count : c.len.result ≡ vec_len c.args.lists = c.len.ensures in
     let whos = c.in-Ok-in_scope.ensures.who.0 ∙ named (λ (s : SessionView). s.who) Host _ 0 (length c.args.lists.items) (omega (arith, made.sessions.0, count, c.args.lists.ok.0)) (λ k d lt. let e : k + 1 ≡ 0 + (k + 1) = omega arith in ap (λ (s : SessionView). s.who) (made.sessions.1 k d (omega (arith, lt, count, c.args.lists.ok.0))) ∙ ap Host e) in
+    let hosts : length crew.sessions.items ≡ length c.args.lists.items = omega (arith, crew.sessions.ok.0, c.in-Ok-in_scope.ensures.sessions.0, made.sessions.0, count, c.args.lists.ok.0) in
+    let hands : length crew.workers.items ≡ c.args.workers = omega (arith, crew.workers.ok.0, c.in-Ok-in_scope.ensures.workers.0, made.workers.0) in
     let t = g.L.NetLedger.terms in
     let have = subst (λ n. HavePlayed t c.args.lists.items crew.sessions.items crew.workers.items n crew.ends.items) made.workers.0 c.in-Ok-in_scope.ensures.played in
-    let Has : Closed × Vec End Global → Type 0 = λ r. Gathers t crew.sessions.items crew.workers.items r.0 × Agrees crew.sessions.items crew.workers.items r.0 in
+    let Why : Closed × Vec End Global → Type 0 = λ r. r.0.stopped ≡ true → HasCause (vec_len crew.workers) (moment r.0.net r.0.stopped) in
+    let all : vec_len crew.workers ≡ c.args.workers = omega (arith, c.in-Ok-in_scope.ensures.workers.0, made.workers.0) in
+    let Has : Closed × Vec End Global → Type 0 = λ r. Gathers t crew.sessions.items crew.workers.items r.0 × Agrees crew.sessions.items crew.workers.items r.0 × Why r in
     of_ok
     Has
     (λ (r : Closed × Vec End Global). r.1 ≡ crew.ends)
     (λ (r : Closed × Vec End Global). ArePlayed t c.args.lists.items c.args.workers (moment r.0.net r.0.stopped) r.1.items)
     c.close.result
     (λ r has same. subst (λ (es : Vec End Global). ArePlayed t c.args.lists.items c.args.workers (moment r.0.net r.0.stopped) es.items) (sym same)
-    (all_played t (moment r.0.net r.0.stopped) c.args.lists.items crew.sessions.items crew.workers.items c.args.workers crew.ends.items whos has.1.records has.0.sessions_saw has.0.workers_saw have))
+    (all_played t (moment r.0.net r.0.stopped) c.args.lists.items crew.sessions.items crew.workers.items c.args.workers crew.ends.items whos has.1.records has.0.sessions_saw has.0.workers_saw
+    (subst (λ n. AreNamed n c.args.workers r.0.net.journal) hosts (subst (λ n. AreNamed (length crew.sessions.items) n r.0.net.journal) hands has.0.named)) (λ s. subst (λ n. HasCause n (moment r.0.net r.0.stopped)) all (has.2 s)) have))
+    (of_ok
+    (λ (r : Closed × Vec End Global). Gathers t crew.sessions.items crew.workers.items r.0 × Agrees crew.sessions.items crew.workers.items r.0)
+    Why
+    Has
+    c.close.result
+    (λ r both why. (both.0, both.1, why))
     (of_ok
     (λ (r : Closed × Vec End Global). Gathers t crew.sessions.items crew.workers.items r.0)
     (λ (r : Closed × Vec End Global). Agrees crew.sessions.items crew.workers.items r.0)
-    Has
+    (λ (r : Closed × Vec End Global). Gathers t crew.sessions.items crew.workers.items r.0 × Agrees crew.sessions.items crew.workers.items r.0)
     c.close.result
     (λ r gathers agrees. (gathers, agrees))
     c.close.ensures.gathers
     c.close.ensures.agrees)
+    c.close.ensures.why)
     c.close.ensures.ends
 
 pub returns-in-Ok-in_scope-clause-ends : goal.returns-in-Ok-in_scope-clause-ends
@@ -99,17 +112,4 @@ in_scope-requires-clause-workers g c _ _ k d lt =
     ap (λ (w : WorkerView). w.seat.table) (made.workers.1 k d (omega (arith, made.workers.0, lt)))
 
 pub returns-in-Ok-in_scope-clause-refused : goal.returns-in-Ok-in_scope-clause-refused
-returns-in-Ok-in_scope-clause-refused g c =
-    let crew = c.in-Ok-in_scope.crew in
-    let made = c.in-Ok.ensures in
-    let whos = c.in-Ok-in_scope.ensures.who in
-    let t = g.L.NetLedger.terms in
-    let count : c.len.result ≡ t.sessions = c.len.ensures ∙ c.requires.opening.3 in
-    let hs = whos.0 ∙ named (λ (s : SessionView). s.who) Host _ 0 t.sessions (omega (arith, made.sessions.0, count)) (λ k d lt. let e : k + 1 ≡ 0 + (k + 1) = omega arith in ap (λ (s : SessionView). s.who) (made.sessions.1 k d (omega (arith, lt, count))) ∙ ap Host e) in
-    let ws = whos.1 ∙ named (λ (v : WorkerView). v.who) Worker _ 0 c.args.workers (omega (arith, made.workers.0)) (λ k d lt. let e : k + 1 ≡ 0 + (k + 1) = omega arith in ap (λ (v : WorkerView). v.who) (made.workers.1 k d lt) ∙ ap Worker e) in
-    of_err
-    (λ (e : PoolError). (d : Closed) × Gathers t crew.sessions.items crew.workers.items d × TellsDiscord crew.sessions.items crew.workers.items d e)
-    (λ (e : PoolError). RefusesPool t c.args.workers e)
-    c.close.result
-    (λ e has. all_refused t c.args.workers crew.sessions.items crew.workers.items has.0 e hs ws has.1 has.2)
-    c.close.ensures.discord
+returns-in-Ok-in_scope-clause-refused g c = of_never RefusesPool c.close.result c.close.ensures.never

@@ -6,6 +6,9 @@ use Rattle.bz_stuck.proofs.looking.comp_holds.Goals as goal
 pub loop-place-init : goal.loop-place-init
 loop-place-init c = ports_start c.args.core.now.wiring c.args.core.now.state (is_member c.args.members.now) c.args.comp
 
+pub returns-then-is_ready : goal.returns-then-is_ready
+returns-then-is_ready c = (λ yes. cc, λ stuck. let can = c.if-is_ready.ensures in absurd (stuck.still can.0 can.1))
+
 pub loop-place-preserved : goal.loop-place-preserved
 loop-place-preserved c =
     let n = c.args.core.now in

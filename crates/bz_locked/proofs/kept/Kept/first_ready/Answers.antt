@@ -1,21 +1,49 @@
-use Rattle.bz_locked.proofs.Noting.{from_keeper, first_leads, first_told, rest_refused}
+use Rattle.std.proofs.Common.{sym, subst}
+use Rattle.bz_model.specs.declared.event.Who.{Who}
+use Rattle.bz_past.specs.Moments.{moment}
+use Rattle.bz_past.specs.Owners.{LeadsBy, LeadsWithout}
+use Rattle.bz_locked.proofs.Noting.{from_keeper, first_why, seen_on, to_keeper, first_by, first_told, first_made, rest_refused}
 use Rattle.bz_locked.proofs.kept.Kept.first_ready.Goals as goal
 
-pub note-requires-clause-onward : goal.note-requires-clause-onward
-note-requires-clause-onward g c =
+pub act-requires-clause-onward : goal.act-requires-clause-onward
+act-requires-clause-onward g c =
     let was = c.args.self.now in
     let h = c.first_ready-first.ensures in
-    from_keeper was.keeper.now was.locked.net was.locked.stopped _ was.net_is was.stopped_is (first_leads was.locked.net _ was.locked.stopped _ c.args.who c.args.from c.first_ready-first.result h.ok h.err h.runs)
+    let by = first_by was.locked.net _ was.locked.stopped _ c.args.who c.args.from c.first_ready-first.result h.ok h.err h.runs in
+    from_keeper (λ m. LeadsBy c.args.owner.now.who m (moment c.first_ready-first.new.self.net c.first_ready-first.new.self.stopped)) was.keeper.now was.locked.net was.locked.stopped was.net_is was.stopped_is (subst (λ (w : Who). LeadsBy w (moment was.locked.net was.locked.stopped) (moment c.first_ready-first.new.self.net c.first_ready-first.new.self.stopped)) (sym c.requires.2) by)
 
 pub returns-clause-told : goal.returns-clause-told
 returns-clause-told g c =
     let was = c.args.self.now in
     let h = c.first_ready-first.ensures in
-    first_told g.L.NetLedger.terms _ was.locked.net _ was.locked.fuel was.locked.stopped _ was.locked.sessions.items c.args.who c.args.from c.first_ready-first.result h.held c.note.ensures.witness.1 h.ok h.len h.runs
+    let led = to_keeper (LeadsWithout c.args.who c.args.owner.now.seen) was.keeper.now was.locked.net was.locked.stopped was.net_is was.stopped_is (subst (λ (w : Who). LeadsWithout w c.args.owner.now.seen was.keeper.now) c.requires.2 c.act.ensures.before) in
+    first_told g.L.NetLedger.terms c.args.who _ _ was.locked.net _ was.locked.fuel was.locked.stopped _ was.locked.sessions.items h.held led c.act.ensures.owner.2 c.args.from c.first_ready-first.result h.ok h.len h.runs
+
+pub returns-clause-made : goal.returns-clause-made
+returns-clause-made g c =
+    let was = c.args.self.now in
+    let h = c.first_ready-first.ensures in
+    let led = to_keeper (LeadsWithout c.args.who c.args.owner.now.seen) was.keeper.now was.locked.net was.locked.stopped was.net_is was.stopped_is (subst (λ (w : Who). LeadsWithout w c.args.owner.now.seen was.keeper.now) c.requires.2 c.act.ensures.before) in
+    first_made g.L.NetLedger.terms c.args.who _ _ was.locked.net _ was.locked.fuel was.locked.stopped _ was.locked.sessions.items h.held led c.act.ensures.owner.2 c.args.from c.first_ready-first.result h.ok h.len h.err
 
 pub returns-clause-cause : goal.returns-clause-cause
 returns-clause-cause g c =
     let was = c.args.self.now in
     let h = c.first_ready-first.ensures in
-    rest_refused g.L.NetLedger.terms _ was.locked.net _ was.locked.fuel was.locked.stopped _ was.locked.sessions.items c.first_ready-first.result h.held c.note.ensures.witness.1
-    (first_leads was.locked.net _ was.locked.stopped _ c.args.who c.args.from c.first_ready-first.result h.ok h.err h.runs) h.resting h.cause
+    let led = to_keeper (LeadsWithout c.args.who c.args.owner.now.seen) was.keeper.now was.locked.net was.locked.stopped was.net_is was.stopped_is (subst (λ (w : Who). LeadsWithout w c.args.owner.now.seen was.keeper.now) c.requires.2 c.act.ensures.before) in
+    let by = first_by was.locked.net _ was.locked.stopped _ c.args.who c.args.from c.first_ready-first.result h.ok h.err h.runs in
+    rest_refused g.L.NetLedger.terms c.args.who _ _ was.locked.net _ was.locked.fuel was.locked.stopped _ was.locked.sessions.items h.held led c.act.ensures.owner.2 c.first_ready-first.result by h.resting h.cause
+
+pub returns-clause-owner : goal.returns-clause-owner
+returns-clause-owner g c =
+    let was = c.args.self.now in
+    let h = c.first_ready-first.ensures in
+    let by = first_by was.locked.net _ was.locked.stopped _ c.args.who c.args.from c.first_ready-first.result h.ok h.err h.runs in
+    let onward = from_keeper (λ m. LeadsBy c.args.owner.now.who m (moment c.first_ready-first.new.self.net c.first_ready-first.new.self.stopped)) was.keeper.now was.locked.net was.locked.stopped was.net_is was.stopped_is (subst (λ (w : Who). LeadsBy w (moment was.locked.net was.locked.stopped) (moment c.first_ready-first.new.self.net c.first_ready-first.new.self.stopped)) (sym c.requires.2) by) in
+    (c.act.ensures.owner.0, c.act.ensures.owner.1, seen_on _ _ _ _ (moment c.first_ready-first.new.self.net c.first_ready-first.new.self.stopped) _ c.act.ensures.before onward c.act.ensures.owner.2)
+
+pub act-requires-clause-why : goal.act-requires-clause-why
+act-requires-clause-why g c =
+    let was = c.args.self.now in
+    let h = c.first_ready-first.ensures in
+    first_why was.keeper.now c.args.owner.now.who c.args.who was.locked.net was.locked.stopped _ c.requires.3 c.requires.2 was.net_is was.stopped_is c.first_ready-first.result h.runs h.cause

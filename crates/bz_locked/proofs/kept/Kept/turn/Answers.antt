@@ -1,22 +1,47 @@
+use Rattle.std.proofs.Common.{◌∙◌, inl, sym, subst}
+use Rattle.bz_model.specs.declared.event.Who.{Who}
 use Rattle.bz_locked.specs.Commands.{RefusesPoll}
-use Rattle.bz_locked.proofs.Noting.{from_keeper, turn_leads, turn_told, refused_so}
+use Rattle.bz_past.specs.Moments.{moment}
+use Rattle.bz_past.specs.Owners.{LeadsBy, LeadsWithout}
+use Rattle.bz_locked.proofs.Noting.{from_keeper, seen_on, to_keeper, turn_by, turn_told, turn_made, refused_so}
 use Rattle.bz_locked.proofs.kept.Kept.turn.Goals as goal
 
-pub note-requires-clause-onward : goal.note-requires-clause-onward
-note-requires-clause-onward g c =
+pub act-requires-clause-onward : goal.act-requires-clause-onward
+act-requires-clause-onward g c =
     let was = c.args.self.now in
     let h = c.turn-told.ensures in
-    from_keeper was.keeper.now was.locked.net was.locked.stopped _ was.net_is was.stopped_is (turn_leads was.locked.net _ was.locked.fuel was.locked.stopped _ was.locked.sessions.items c.args.who c.args.cmd.now c.turn-told.result h.same.1 h.told h.err)
+    let by = turn_by was.locked.net _ was.locked.fuel was.locked.stopped _ was.locked.sessions.items c.args.who c.args.cmd.now c.turn-told.result c.requires.3 h.same.1 h.told h.err in
+    from_keeper (λ m. LeadsBy c.args.owner.now.who m (moment c.turn-told.new.self.net c.turn-told.new.self.stopped)) was.keeper.now was.locked.net was.locked.stopped was.net_is was.stopped_is (subst (λ (w : Who). LeadsBy w (moment was.locked.net was.locked.stopped) (moment c.turn-told.new.self.net c.turn-told.new.self.stopped)) (sym c.requires.2) by)
 
 pub returns-clause-told : goal.returns-clause-told
 returns-clause-told g c =
     let was = c.args.self.now in
     let h = c.turn-told.ensures in
-    turn_told g.L.NetLedger.terms _ was.locked.net _ was.locked.fuel was.locked.stopped _ was.locked.sessions.items c.args.who c.args.cmd.now c.turn-told.result h.held h.same.1 c.note.ensures.witness.1 h.told
+    let led = to_keeper (LeadsWithout c.args.who c.args.owner.now.seen) was.keeper.now was.locked.net was.locked.stopped was.net_is was.stopped_is (subst (λ (w : Who). LeadsWithout w c.args.owner.now.seen was.keeper.now) c.requires.2 c.act.ensures.before) in
+    turn_told g.L.NetLedger.terms c.args.who _ _ was.locked.net _ was.locked.fuel was.locked.stopped _ was.locked.sessions.items h.held led c.act.ensures.owner.2 c.args.cmd.now c.turn-told.result c.requires.3 h.same.1 h.told
+
+pub returns-clause-made : goal.returns-clause-made
+returns-clause-made g c =
+    let was = c.args.self.now in
+    let h = c.turn-told.ensures in
+    let led = to_keeper (LeadsWithout c.args.who c.args.owner.now.seen) was.keeper.now was.locked.net was.locked.stopped was.net_is was.stopped_is (subst (λ (w : Who). LeadsWithout w c.args.owner.now.seen was.keeper.now) c.requires.2 c.act.ensures.before) in
+    turn_made g.L.NetLedger.terms c.args.who _ _ was.locked.net _ was.locked.fuel was.locked.stopped _ was.locked.sessions.items h.held led c.act.ensures.owner.2 c.args.cmd.now c.turn-told.result h.told h.err
 
 pub returns-clause-cause : goal.returns-clause-cause
 returns-clause-cause g c =
     let was = c.args.self.now in
     let h = c.turn-told.ensures in
-    refused_so g.L.NetLedger.terms _ was.locked.net _ was.locked.fuel was.locked.stopped _ was.locked.sessions.items (λ net fuel e. RefusesPoll net c.args.cmd.now e) c.turn-told.result h.held c.note.ensures.witness.1
-    (turn_leads was.locked.net _ was.locked.fuel was.locked.stopped _ was.locked.sessions.items c.args.who c.args.cmd.now c.turn-told.result h.same.1 h.told h.err) h.cause
+    let led = to_keeper (LeadsWithout c.args.who c.args.owner.now.seen) was.keeper.now was.locked.net was.locked.stopped was.net_is was.stopped_is (subst (λ (w : Who). LeadsWithout w c.args.owner.now.seen was.keeper.now) c.requires.2 c.act.ensures.before) in
+    let by = turn_by was.locked.net _ was.locked.fuel was.locked.stopped _ was.locked.sessions.items c.args.who c.args.cmd.now c.turn-told.result c.requires.3 h.same.1 h.told h.err in
+    refused_so g.L.NetLedger.terms c.args.who _ _ was.locked.net _ was.locked.fuel was.locked.stopped _ was.locked.sessions.items h.held led c.act.ensures.owner.2 (λ net fuel e. RefusesPoll net c.args.cmd.now e) c.turn-told.result by h.cause
+
+pub returns-clause-owner : goal.returns-clause-owner
+returns-clause-owner g c =
+    let was = c.args.self.now in
+    let h = c.turn-told.ensures in
+    let by = turn_by was.locked.net _ was.locked.fuel was.locked.stopped _ was.locked.sessions.items c.args.who c.args.cmd.now c.turn-told.result c.requires.3 h.same.1 h.told h.err in
+    let onward = from_keeper (λ m. LeadsBy c.args.owner.now.who m (moment c.turn-told.new.self.net c.turn-told.new.self.stopped)) was.keeper.now was.locked.net was.locked.stopped was.net_is was.stopped_is (subst (λ (w : Who). LeadsBy w (moment was.locked.net was.locked.stopped) (moment c.turn-told.new.self.net c.turn-told.new.self.stopped)) (sym c.requires.2) by) in
+    (c.act.ensures.owner.0, c.act.ensures.owner.1, seen_on _ _ _ _ (moment c.turn-told.new.self.net c.turn-told.new.self.stopped) _ c.act.ensures.before onward c.act.ensures.owner.2)
+
+pub act-requires-clause-why : goal.act-requires-clause-why
+act-requires-clause-why g c = λ s. inl (c.args.self.now.stopped_is ∙ sym c.turn-told.ensures.same.1 ∙ s)

@@ -1,13 +1,33 @@
 use Rattle.std.proofs.Common.{sym, ap, ◌∙◌}
 use Rattle.bz_past.proofs.Leading.{onward}
+use Rattle.bz_locked.specs.Commands.{RefusesPoll}
 use Rattle.bz_locked.specs.Parts.{SharedView}
+use Rattle.bz_locked.proofs.Making.{none_none, told_after, waited}
+use Rattle.bz_locked.proofs.Seeing.{ended_by, refused_by}
 use Rattle.bz_locked.proofs.shared.SharedNet.wait_for.Goals as goal
 
-pub turn-requires : goal.turn-requires
-turn-requires g c = (c.self.invariant.0, c.loop.invariant.2 ∙ c.requires ∙ sym (ap (λ (v : SharedView). v.table.past) c.self.view_is) ∙ c.self.invariant.0)
+pub turn-told-requires : goal.turn-told-requires
+turn-told-requires g c =
+    let past = sym (ap (λ (v : SharedView). v.table.past) c.self.view_is) ∙ c.self.invariant.0 in
+    (c.self.invariant.0, c.loop.invariant.2 ∙ c.requires.0 ∙ past, c.loop.invariant.3 ∙ c.requires.1, c.requires.2)
 
 pub loop-preserved : goal.loop-preserved
-loop-preserved g c = (tt, tt, c.turn.ensures.witness.0 ∙ c.loop.invariant.2, onward _ _ _ c.loop.invariant.3 c.turn.ensures.witness.1)
+loop-preserved g c =
+    let inv = c.loop.invariant in
+    let then = c.turn-told.ensures in
+    (tt, tt, then.owner.0 ∙ inv.2, then.owner.1 ∙ inv.3, onward _ _ _ inv.4 then.owner.2, none_none c.args.who _ _ _ inv.5 (waited c.args.who c.turn-told.result _ _ (sym c.is_wait.ensures ∙ c.if-not-is_wait.false) then.made))
 
-pub returns-in_default-clause-witness : goal.returns-in_default-clause-witness
-returns-in_default-clause-witness g c = (c.turn.ensures.witness.0 ∙ c.loop.invariant.2, onward _ _ _ c.loop.invariant.3 c.turn.ensures.witness.1)
+pub returns-then-not-is_wait-clause-owner : goal.returns-then-not-is_wait-clause-owner
+returns-then-not-is_wait-clause-owner g c =
+    let inv = c.loop.invariant in
+    let then = c.turn-told.ensures in
+    (then.owner.0 ∙ inv.2, then.owner.1 ∙ inv.3, onward _ _ _ inv.4 then.owner.2)
+
+pub returns-then-not-is_wait-clause-made : goal.returns-then-not-is_wait-clause-made
+returns-then-not-is_wait-clause-made g c = told_after c.args.who c.turn-told.result _ _ _ c.loop.invariant.5 c.turn-told.ensures.made
+
+pub returns-then-not-is_wait-clause-cause : goal.returns-then-not-is_wait-clause-cause
+returns-then-not-is_wait-clause-cause g c = refused_by g.L.NetLedger.terms _ _ _ (λ e net fuel stopped standings. RefusesPoll net c.args.cmd.now e) c.turn-told.result c.loop.invariant.4 c.turn-told.ensures.cause
+
+pub returns-then-not-is_wait-clause-last : goal.returns-then-not-is_wait-clause-last
+returns-then-not-is_wait-clause-last g c = ended_by g.L.NetLedger.terms _ _ _ c.args.who c.args.cmd.now c.turn-told.result (sym c.is_wait.ensures ∙ c.if-not-is_wait.true) c.loop.invariant.4 c.turn-told.ensures.told

@@ -1,0 +1,159 @@
+//! What the plays of benches have exercised of their nets.
+
+use crate::asked::Trial;
+use crate::files::BenchFiles;
+use crate::nets::{Found, Nets};
+use crate::opened::Opened;
+use bz_cli_input::Fault;
+use bz_cover::{Coverage, Report, count_entries, put_lcov, put_report, put_summary};
+use bz_net::{Net, Play};
+use bz_text::Text;
+use bz_view::{Piece, Seen};
+use std::alloc::{AllocError, Global};
+use std::io::Write;
+
+/// What the plays on a net have exercised of it, and how many plays there were.
+pub(crate) struct Counted {
+    coverage: Option<Coverage>,
+    plays: usize,
+}
+
+// By hand, so that who lets one go has one call to show and not all its parts.
+impl Drop for Counted {
+    fn drop(self) {
+        let Counted {
+            coverage: _,
+            plays: _,
+        } = self;
+    }
+}
+
+impl Counted {
+    /// There was no play yet.
+    pub(crate) fn none() -> Counted {
+        Counted {
+            coverage: None,
+            plays: 0,
+        }
+    }
+
+    /// Counts a play that led to a net.
+    pub(crate) fn add(&mut self, alloc: Global, net: &Net) -> Result<(), AllocError> {
+        let mut coverage = match self.coverage.take() {
+            Some(coverage) => coverage,
+            None => Coverage::new(alloc, net.core())?,
+        };
+        count_entries(&mut coverage, net.journal());
+        self.coverage = Some(coverage);
+        self.plays = self.plays.saturating_add(1);
+        Ok(())
+    }
+}
+
+/// Writes what all plays exercised to the file that is named for it, net by net, and a few lines of each to `errors`. Whether it was
+/// written, where that is asked for and something was played.
+pub(crate) fn tell_counted<F: BenchFiles, E: Write>(
+    trial: Trial<'_>,
+    nets: &Nets,
+    files: &mut F,
+    errors: &mut E,
+) -> Result<bool, Fault> {
+    let Some(path) = trial.asked.cover else {
+        return Ok(true);
+    };
+    let mut report = Text::new(trial.alloc);
+    let mut summary = Text::new(trial.alloc);
+    put_nets(
+        trial,
+        nets,
+        path.ends_with(".info"),
+        &mut report,
+        &mut summary,
+    )?;
+    let report = report.whole()?;
+    if report.is_empty() {
+        return Ok(true);
+    }
+    match files.make(path, report) {
+        Ok(()) => {
+            let _ = bz_text::put(errors, summary.whole()?);
+            Ok(true)
+        }
+        Err(why) => {
+            tell_unmade(trial.alloc, path, why, errors);
+            Ok(false)
+        }
+    }
+}
+
+// Tells why there is no file.
+fn tell_unmade<E: Write>(alloc: Global, path: &str, why: &str, errors: &mut E) {
+    let mut text = Text::new(alloc);
+    let pieces = [Piece::Text(path), Piece::Text(why)];
+    text.say("error: --cover %: %\n", &pieces);
+    if let Ok(line) = text.whole() {
+        let _ = bz_text::put(errors, line);
+    }
+}
+
+// Adds what was exercised of each net.
+fn put_nets(
+    trial: Trial<'_>,
+    nets: &Nets,
+    is_lcov: bool,
+    report: &mut Text,
+    summary: &mut Text,
+) -> Result<(), Fault> {
+    for place in 0..nets.count() {
+        if let (Some(Found::Net(opened)), Some(counted)) = (nets.at(place), nets.counted(place)) {
+            put_net(
+                trial,
+                nets.name(place),
+                opened,
+                counted,
+                is_lcov,
+                report,
+                summary,
+            )?;
+        }
+    }
+    Ok(())
+}
+
+// Adds what was exercised of a net, where it was played on.
+fn put_net(
+    trial: Trial<'_>,
+    name: &[u8],
+    opened: &Opened,
+    counted: &Counted,
+    is_lcov: bool,
+    text: &mut Text,
+    summary: &mut Text,
+) -> Result<(), Fault> {
+    let Some(coverage) = &counted.coverage else {
+        return Ok(());
+    };
+    let Ok(flat) = opened.flat().dup(trial.alloc) else {
+        return Err(Fault::Memory);
+    };
+    let Ok(net) = Play::open(trial.alloc, flat, 1) else {
+        return Err(Fault::Memory);
+    };
+    let report = Report {
+        seen: Seen::of(net.core(), opened.survey()),
+        coverage,
+        traces: counted.plays,
+        name: Some(name),
+    };
+    summary.say("%: ", &[Piece::Bytes(name)]);
+    put_summary(summary, report);
+    let put = if is_lcov {
+        put_lcov(trial.alloc, text, report)
+    } else {
+        put_report(trial.alloc, text, report)
+    };
+    match put {
+        Ok(()) => Ok(()),
+        Err(_) => Err(Fault::Memory),
+    }
+}

@@ -1,0 +1,85 @@
+//! What a command has played, and how a run ended.
+
+use crate::answer::{Answer, put_added};
+use crate::object::{put_entries, put_flag, put_number, put_reply};
+use bz_explore_net::Stepping;
+use bz_model::Reply;
+use bz_source::Survey;
+use bz_text::Text;
+use bz_view::{Piece, Seen, Thing};
+
+/// Adds what was played behind the first `before` entries, and what the host was told.
+pub(crate) fn put_played(
+    stepping: &Stepping,
+    survey: &Survey,
+    before: usize,
+    reply: Option<Reply>,
+    is_worded: bool,
+    answer: &mut Answer,
+) {
+    let net = stepping.net();
+    let seen = Seen::of(net.core(), survey);
+    let entries = net.journal().get(before..).unwrap_or(&[]);
+    if answer.is_object {
+        put_entries(seen, entries, &mut answer.members);
+        put_told(reply, &mut answer.members);
+    } else {
+        put_added(seen, entries, is_worded, &mut answer.text);
+    }
+}
+
+fn put_told(reply: Option<Reply>, members: &mut Text) {
+    if let Some(reply) = reply {
+        put_reply(reply, members);
+    }
+}
+
+/// Adds how often components fired, and whether the net is at rest.
+pub(crate) fn put_fired(seen: Seen<'_>, fired: u64, answer: &mut Answer) {
+    let is_at_rest = seen.net.next_ready(1).is_none();
+    if answer.is_object {
+        put_number("fired", fired, &mut answer.members);
+        put_flag("at_rest", is_at_rest, &mut answer.members);
+        return;
+    }
+    let form = if is_at_rest {
+        "% fired, at rest\n"
+    } else {
+        "% fired, not at rest\n"
+    };
+    answer.text.say(form, &[Piece::Wide(fired.into())]);
+}
+
+/// Adds how often components fired before something moved at a component or on a channel, where the run stopped.
+pub(crate) fn put_stop(seen: Seen<'_>, fired: u64, thing: Thing, answer: &mut Answer) {
+    if answer.is_object {
+        put_fired(seen, fired, answer);
+        put_stop_member(thing, &mut answer.members);
+        return;
+    }
+    let fired = Piece::Wide(fired.into());
+    match thing {
+        Thing::Comp(comp) => {
+            let stop = [fired, seen.comp(comp)];
+            answer.text.say("% fired, stopped at %\n", &stop);
+        }
+        Thing::Chan(chan) => {
+            let stop = [fired, seen.named_chan(chan)];
+            answer.text.say("% fired, stopped at channel %\n", &stop);
+        }
+    }
+}
+
+fn put_stop_member(thing: Thing, members: &mut Text) {
+    let (form, number) = match thing {
+        Thing::Comp(comp) => (", \"stopped_at\": {\"component\": %}", comp),
+        Thing::Chan(chan) => (", \"stopped_at\": {\"channel\": %}", chan),
+    };
+    members.say(form, &[Piece::Wide(number.into())]);
+}
+
+/// Adds what stands behind `say`.
+pub(crate) fn put_said(typed: &[u8], text: &mut Text) {
+    text.put_bytes(typed.get(b"say ".len()..).unwrap_or(&[]));
+    text.put("\n");
+}
