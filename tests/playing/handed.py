@@ -2,6 +2,7 @@
 
 import json
 import os
+import re
 import subprocess
 from functools import partial
 
@@ -76,6 +77,16 @@ BAD_LINES = [
     ("1", "`1` is no command; `help` tells them"),
 ]
 HOSTS = "feed w 5 7\ndrain r 2\n"
+ROUND = "the state behind line %d is that behind line %d: with this order it goes on so for ever"
+# A loop that adds 1 to a variable of so many bits, in 16 moves.
+COUNTING = """(breeze-part "counting" (ports (sync-port "a" passive))
+ (channels (sync) (sync) (pull {0}) (push {0}) (pull {0}))
+ (components
+  (component "$BrzLoop" () (1 2))
+  (component "$BrzFetch" ({0}) (2 3 4))
+  (component "$BrzBinaryFuncConstR" ({0} {0} {0} 1 "Add" "false" "false" "false") (3 5))
+  (component "$BrzVariable" ({0} 1 "n" "") (4 (5)))))
+"""
 # Lines of which each is answered by an object, and what is in them.
 OBJECTS = [
     ("offer:w:5", {"entries": [{"by": "h1", "word": "offer", "port": "w", "value": "5", "reply": "done"}], "reply": "done"}),
@@ -141,6 +152,9 @@ def add_handed(cases):
         ("objects of JSON", objects_differ),
         ("objects are written at once", pipes_differ),
         ("numbers at a terminal", numbers_differ),
+        ("a run that goes round", rounds_differ),
+        ("a run that counts up", counting_differs),
+        ("hosts go round once they have nothing to give", served_rounds_differ),
     ]:
         cases.add(f"explore, {name}", partial(play, cases))
 
@@ -205,6 +219,61 @@ def objects_differ(cases):
     told = [json.loads(line) for line in ran.output.splitlines()]
     wanted = [{"line": place, **members} for place, (_, members) in enumerate(OBJECTS, 1)]
     return differ((2, wanted, b""), (ran.status, told, ran.errors))
+
+
+def rounds_differ(cases):
+    """It stops, and its moves are those that are made again. A number of firings, or something that moves, stops a run as ever."""
+    # (a Loop round a Continue makes four moves in turn, and the moments behind 1, 2, 4, 8 .. moves are kept)
+    lines = ["offer:a", "run", "trace! round", "run 4", "trace! round.again", "run to 2", "run to k1", "undo 3", "run 9"]
+    ran = cases.run(SPIN, "\n".join([*lines, ""]).encode())
+    told = [line for line in ran.output.decode().splitlines() if not line.startswith(("h1", "w1", "wrote", "undone"))]
+    wanted = ["8 fired, not at rest", ROUND % (10, 6), "4 fired, not at rest", "3 fired, stopped at Continue 2",
+              "8 fired, not at rest", ROUND % (25, 21), "9 fired, not at rest"]  # fmt: skip
+    round_, again = kept(cases, "round").splitlines(), kept(cases, "round.again").splitlines()
+    objects = cases.run([*SPIN, "--format", "json"], b"offer:a\nrun\n").output.splitlines()
+    last = {name: it for name, it in json.loads(objects[1]).items() if name != "entries"}
+    object_ = {"line": 2, "fired": 8, "at_rest": False, "goes_round": {"from": 6, "to": 10}}
+    found = (ran.status, told, len(round_), round_[6:], last)
+    return differ((0, wanted, 10, again[10:], object_), found)
+
+
+def counting_differs(cases):
+    """Its phases come back each time it goes round, and its state once the variable holds what it held. Else it fills the journal."""
+    def lines_of(bits):
+        with open(f"{cases.room}/counting{bits}.breeze", "w", encoding="utf-8") as file:
+            file.write(COUNTING.format(bits))
+        ran = cases.run(["explore", "--netlist", f"counting{bits}.breeze"], b"offer:a\nrun\n")
+        return ran.status, ran.output.decode().splitlines()[-2:]
+
+    full = "error: line 2: N7 JournalFull: the trace holds 1000000 lines; `undo` makes room"
+    status, (_, last) = lines_of(16)
+    wanted = [(0, ["958 fired, not at rest", ROUND % (960, 832)]), (0, ["36665 fired, not at rest", ROUND % (36667, 32571)]), (2, full)]
+    return differ(wanted, [lines_of(3), lines_of(8), (status, last)])
+
+
+def served_rounds_differ(cases):
+    """A host with values left is no round, though the state comes back with each; one that takes always is one."""
+    ran = cases.run(CELL, b"feed w 5*100\nrun\ndrain r 50\nrun\ndrain r\nrun\nhosts\nfeed w 5*9\nrun\nhosts\n")
+    told = [line for line in ran.output.decode().splitlines() if not line.startswith(("h1", "w1", ".."))]
+    forms = [re.sub("line [0-9]+", "line %d", line) for line in told]
+    # (a read of the cell is two firings and two words, so each fourth moment is the same; a write takes two firings)
+    wanted = [
+        "feed w            0 given, 100 left",
+        "200 fired, at rest",
+        "drain r           0 taken, 50 left",
+        "100 fired, at rest",
+        "drain r           50 taken",
+        "4 fired, at rest",
+        ROUND,
+        "feed w            100 given, 0 left",
+        "drain r           52 taken",
+        "feed w            100 given, 9 left",
+        "34 fired, at rest",
+        ROUND,
+        "feed w            109 given, 0 left",
+        "drain r           60 taken",
+    ]
+    return differ((0, wanted), (ran.status, forms))
 
 
 def pipes_differ(cases):

@@ -42,18 +42,18 @@ impl Cause {
     /// Its code and its name.
     pub fn code(self) -> &'static str {
         match self {
-            Cause::BadItem => "T1 BadItem",
-            Cause::AfterLast => "T2 AfterLast",
-            Cause::NoFile => "T3 NoFile",
-            Cause::BadLine => "T4 BadLine",
-            Cause::PortTwice => "T5 PortTwice",
-            Cause::BadName => "T6 BadName",
-            Cause::NoPort => "T7 NoPort",
-            Cause::WrongItem => "T8 WrongItem",
-            Cause::TooLarge => "T9 TooLarge",
-            Cause::TooMany => "T10 TooMany",
-            Cause::NotText => "T11 NotText",
-            Cause::NoNetlist => "T12 NoNetlist",
+            Cause::BadItem => "L1 BadItem",
+            Cause::AfterLast => "L2 AfterLast",
+            Cause::NoFile => "L3 NoFile",
+            Cause::BadLine => "L4 BadLine",
+            Cause::PortTwice => "L5 PortTwice",
+            Cause::BadName => "L6 BadName",
+            Cause::NoPort => "L7 NoPort",
+            Cause::WrongItem => "L8 WrongItem",
+            Cause::TooLarge => "L9 TooLarge",
+            Cause::TooMany => "L10 TooMany",
+            Cause::NotText => "L11 NotText",
+            Cause::NoNetlist => "L12 NoNetlist",
         }
     }
 

@@ -100,10 +100,7 @@ pub fn play(
         Judges flat.wiring p.stepping.net.state p.stepping.net.journal plan.now.streams.items p.verdict) }
 {
     let mut session = Session::open(alloc, flat, plan, fuel, journal)?;
-    match seed {
-        None => session.play_in_order(alloc)?,
-        Some(seed) => session.play_by_chance(alloc, seed)?,
-    }
+    session.play_all(alloc, seed)?;
     session.judged(alloc)
 }
 
@@ -122,10 +119,7 @@ pub fn learn(
 {
     let mut session = Session::open(alloc, flat, plan, fuel, journal)?;
     session.learnt = Some(no_values(alloc, plan.streams.len())?);
-    match seed {
-        None => session.play_in_order(alloc)?,
-        Some(seed) => session.play_by_chance(alloc, seed)?,
-    }
+    session.play_all(alloc, seed)?;
     Ok(session.into_learnt())
 }
 
@@ -204,6 +198,17 @@ impl<'p> Session<'p> {
         self.is_done(group)
             && self.stepping.net().next_ready(1).is_none()
             && self.nth_word(0).is_none()
+    }
+
+    // Plays to the end: in order, or by chance from a seed.
+    fn play_all(&mut self, alloc: Global, seed: Option<u64>) -> Result<(), NetError>
+        ensures wiring { IfOk result (λ _. self.new.stepping.net.wiring ≡ self.old.stepping.net.wiring) }
+        ensures plan { self.new.plan.now ≡ self.old.plan.now }
+    {
+        match seed {
+            None => self.play_in_order(alloc),
+            Some(seed) => self.play_by_chance(alloc, seed),
+        }
     }
 
     // Plays to the end: at rest the first word that would be done is given.

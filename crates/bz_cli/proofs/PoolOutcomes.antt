@@ -20,6 +20,7 @@ use Rattle.bz_locked.specs.Journal.{fired_count}
 use Rattle.bz_net.specs.Simulation.{Simulation}
 use Rattle.bz_locked.specs.declared.closing.CloseError.TheVariants as close
 use Rattle.bz_past.specs.Moments.{moment}
+use Rattle.bz_past.specs.declared.standing.Turn.{Turn}
 use Rattle.bz_pool.specs.Pooled.{ArePlayed, RefusesPool}
 use Rattle.bz_pool.specs.declared.pool.PoolError.{PoolError}
 use Rattle.bz_pool.specs.declared.pool.PoolError.TheVariants as pool
@@ -40,13 +41,13 @@ use Rattle.bz_cli_input.specs.Statuses.{of_words}
 use Rattle.bz_cli.specs.Faults.{of_pool}
 
 -- what was played on the net, and the text that goes out of it
-pub pooled_so : (fuel : ℕ) (closed : Simulation) (lists : List (Vec HostCmd Global)) (workers : ℕ) (ends : List End) (stopped : Bool) → ArePlayed (terms closed.wiring closed.limit fuel (length lists)) lists workers (moment closed stopped) ends → (comps : List ℕ) (Out : List ℕ → Type 0) → AreClashed closed.wiring closed.journal comps
+pub pooled_so : (fuel : ℕ) (closed : Simulation) (lists : List (Vec HostCmd Global)) (workers : ℕ) (ends : List End) (stopped : Bool) (turns : List Turn) → ArePlayed (terms closed.wiring closed.limit fuel (length lists)) lists workers (moment closed stopped turns) ends → (comps : List ℕ) (Out : List ℕ → Type 0) → AreClashed closed.wiring closed.journal comps
     → Run closed.wiring (opening closed.wiring) closed.journal closed.state → length closed.journal ≤ closed.limit → fired_count closed.journal ≤ fuel → Out (trace_text closed.wiring.ports closed.journal comps) → WritesPlay (terms closed.wiring closed.limit fuel (length lists)) lists workers ends Out
-pooled_so fuel closed lists workers ends stopped played comps Out clashed run few within out = record {
+pooled_so fuel closed lists workers ends stopped turns played comps Out clashed run few within out = record {
   entries = closed.journal;
   to = closed.state;
   run = run;
-  last = moment closed stopped;
+  last = moment closed stopped turns;
   ends_there = (refl, refl);
   few = few;
   within = within;
@@ -57,13 +58,13 @@ pooled_so fuel closed lists workers ends stopped played comps Out clashed run fe
 }
 
 -- its trace went out, no end is a refusal, and the net is answered as it was left
-pub closed_well : (fuel : ℕ) (closed : Simulation) (lists : List (Vec HostCmd Global)) (workers : ℕ) (ends : Vec End Global) (stopped : Bool) → ArePlayed (terms closed.wiring closed.limit fuel (length lists)) lists workers (moment closed stopped) ends.items → (comps : List ℕ) (old new : Option (List ℕ)) → AreClashed closed.wiring closed.journal comps
+pub closed_well : (fuel : ℕ) (closed : Simulation) (lists : List (Vec HostCmd Global)) (workers : ℕ) (ends : Vec End Global) (stopped : Bool) (turns : List Turn) → ArePlayed (terms closed.wiring closed.limit fuel (length lists)) lists workers (moment closed stopped turns) ends.items → (comps : List ℕ) (old new : Option (List ℕ)) → AreClashed closed.wiring closed.journal comps
     → Run closed.wiring (opening closed.wiring) closed.journal closed.state → length closed.journal ≤ closed.limit → fired_count closed.journal ≤ fuel → Appends old new (trace_text closed.wiring.ports closed.journal comps) → All IsAgreed ends.items → vec_len ends ≡ length lists + workers
     → (done : Bool) → done ≡ list_all is_done (take (length lists) ends.items)
     → WritesClosed (terms closed.wiring closed.limit fuel (length lists)) lists workers old new (Ok (record { net = closed; ends = ends; is_done = done }))
 unfolding pooled_so
-closed_well fuel closed lists workers ends stopped played comps old new clashed run few within out agreed counted done done_is =
-    (pooled_so fuel closed lists workers ends.items stopped played comps (Appends old new) clashed run few within out, agreed, counted, (refl, refl, refl), done_is)
+closed_well fuel closed lists workers ends stopped turns played comps old new clashed run few within out agreed counted done done_is =
+    (pooled_so fuel closed lists workers ends.items stopped turns played comps (Appends old new) clashed run few within out, agreed, counted, (refl, refl, refl), done_is)
 
 -- an end that was refused is told behind the trace
 pub told_behind : (t : Terms) (lists : List (Vec HostCmd Global)) (workers : ℕ) (old new : Option (List ℕ)) (e : NetError) (who : Who) → TellsRefused t lists workers old new (fault_for e who) → WritesClosed t lists workers old new (Err (fault_for e who))

@@ -16,6 +16,7 @@ use Rattle.bz_model.specs.Traces.{IsTrace}
 use Rattle.bz_net.specs.Simulation.{Simulation}
 use Rattle.bz_locked.specs.Terms.{Terms, terms}
 use Rattle.bz_past.specs.Moments.{moment}
+use Rattle.bz_past.specs.declared.standing.Turn.{Turn}
 use Rattle.bz_past.specs.declared.view.Moment.{Moment}
 use Rattle.bz_locked.specs.Journal.{fired_count}
 use Rattle.bz_pool.specs.Pooled.{ArePlayed}
@@ -109,8 +110,8 @@ WritesClosed t lists workers old new (Err fault) = ⊥
 -- the same of a net with these ends, whatever the lists of so many sessions were that were played on it
 abbrev pub WritesOf : Simulation → List End → ℕ → ℕ → Option (List ℕ) → Option (List ℕ) → Result Pooled Fault → Type 0
 WritesOf net ends sessions fuel old new answer =
-    (lists : List (Vec HostCmd Global)) (workers : ℕ) (stopped : Bool) → length lists ≡ sessions → length ends ≡ length lists + workers
-    → ArePlayed (terms net.wiring net.limit fuel (length lists)) lists workers (moment net stopped) ends
+    (lists : List (Vec HostCmd Global)) (workers : ℕ) (stopped : Bool) (turns : List Turn) → length lists ≡ sessions → length ends ≡ length lists + workers
+    → ArePlayed (terms net.wiring net.limit fuel (length lists)) lists workers (moment net stopped turns) ends
     → WritesClosed (terms net.wiring net.limit fuel (length lists)) lists workers old new answer
 
 -- Why a pool came to no close: memory or a thread was wanting. What is handed in at the end always agrees.

@@ -37,7 +37,7 @@ abbrev pub RunsTo : Wiring → List ShortMove → ℕ → List ShortMove → Typ
 RunsTo w moves line front = (run : HasRun w front) × IsDeadEndAt w run.last moves line
 
 -- Why these moves are not made on the net: a run shows those before line number `line`, from 1, and goes on to show no more. Where
--- the move of that line is plain, no run shows those up to it; of other moves that is not said.
+-- the move of that line is plain behind them, no run shows those up to it; of other moves that is not said.
 abbrev pub RefusesMoves : Wiring → List ShortMove → CompleteFault → Type 0
 RefusesMoves w moves (Command fault) = fault ≡ Memory
 RefusesMoves w moves (NotShort line) = ⊥

@@ -30,9 +30,7 @@ use bz_cli_core::{Halt, Played, run_cmd};
 use bz_cli_input::{Fault, list_cmd};
 use bz_cli_kinds::kinds_cmd;
 use bz_cli_source::{list_paths_cmd, parts_cmd};
-use bz_cli_trace::{
-    CheckWay, Checked, Texts, TraceFault, check_texts, check_trace_cmd, check_trace_watched,
-};
+use bz_cli_trace::{CheckWay, Checked, Texts, TraceFault, check_texts, check_trace_cmd};
 use bz_cli_waits::{WaitsAsked, waits_cmd, waits_trace_cmd};
 use bz_draw::{NoDrawing, View, draw_cmd, draw_trace_cmd};
 use bz_explain_lint::{Lint, lint_cmd};
@@ -42,6 +40,7 @@ use bz_page::{page_cmd, page_trace_cmd};
 use bz_session::End;
 use bz_source_files::SourceFile;
 use bz_text::put;
+use bz_trace::Unwatched;
 use std::alloc::Global;
 use std::fmt::Display;
 use std::io::{BufRead, Read, Write, sink};
@@ -215,10 +214,10 @@ fn check_apart<R: Read, T: Read, W: Write>(
     ensures bounded { ReadsWithin (R.remaining input.old) (R.remaining input.new) }
 {
     if !covers {
-        return judged(check_trace_cmd(alloc, part, way, input, trace, output));
+        return judged(check_trace_cmd(alloc, part, way, input, trace, output, &mut Unwatched));
     }
     let mut counted = Counted::new();
-    let checked = check_trace_watched(alloc, part, way, input, trace, output, &mut counted);
+    let checked = check_trace_cmd(alloc, part, way, input, trace, output, &mut counted);
     judged(checked).counted(counted.into_coverage())
 }
 

@@ -8,7 +8,7 @@ use crate::objects::put_text;
 use crate::outcome::{DONE, NO_RUN, Outcome};
 use bz_cli_args::{BAD_COMMAND_LINE, CheckOptions, Command, Source};
 use bz_cli_input::{Fault, read_input};
-use bz_cli_trace::{CheckWay, Finding, Opened, Traced, check_named};
+use bz_cli_trace::{CheckWay, Finding, Opened, Traced, check_again, check_named};
 use bz_explain_notes::{Keeping, tell_notes};
 use bz_explain_trace::{Suspect, explain_found, put_found};
 use bz_explore::Files as NewFiles;
@@ -81,8 +81,8 @@ pub(crate) struct Judge<'t> {
 
 // What is at hand from one trace to the next.
 struct Held {
-    // The net at its opening, if a trace has left one.
-    flat: Option<Flat>,
+    // The net where the last trace has left it.
+    net: Option<Play>,
     // What is counted of the traces, where that is asked for.
     exercise: Option<Exercise>,
 }
@@ -91,22 +91,9 @@ struct Held {
 impl Drop for Held {
     fn drop(self) {
         let Held {
-            flat: _,
+            net: _,
             exercise: _,
         } = self;
-    }
-}
-
-impl Held {
-    // The net at its opening: the one that a trace has left, or else a copy of this one.
-    fn flat(&mut self, alloc: Global, flat: &Flat) -> Result<Flat, Fault> {
-        match self.flat.take() {
-            Some(flat) => Ok(flat),
-            None => match flat.dup(alloc) {
-                Ok(flat) => Ok(flat),
-                Err(_) => Err(Fault::Memory),
-            },
-        }
     }
 }
 
@@ -172,7 +159,7 @@ fn check_opened<F: Files + Input, N: NewFiles, W: Write, E: Write>(
     };
     let mut held = match exercise_of(alloc, judge) {
         Ok(exercise) => Held {
-            flat: None,
+            net: None,
             exercise,
         },
         Err(fault) => return Err(fault),
@@ -267,11 +254,11 @@ fn check_from<T: Read + Drop, W: Write, E: Write>(
         return Err(Fault::Memory);
     };
     let mut trace = Keeping::new(alloc, trace, held.exercise.is_some());
-    let flat = held.flat(alloc, judge.flat)?;
+    let net = held.net.take();
     let checked = if judge.json {
-        check_named(alloc, flat, front, &mut trace, judge.way, &mut sink())
+        check_next(alloc, judge, net, front, &mut trace, &mut sink())
     } else {
-        check_named(alloc, flat, front, &mut trace, judge.way, output)
+        check_next(alloc, judge, net, front, &mut trace, output)
     };
     match checked {
         Ok(traced) => {
@@ -284,6 +271,24 @@ fn check_from<T: Read + Drop, W: Write, E: Write>(
             Ok(Fate::Unread)
         }
         Err(fault) => Err(fault),
+    }
+}
+
+// The same on the net that the trace before has left, or else on a copy of the one that was opened.
+fn check_next<T: Read, W: Write>(
+    alloc: Global,
+    judge: Judge<'_>,
+    net: Option<Play>,
+    front: &[u8],
+    trace: &mut T,
+    output: &mut W,
+) -> Result<Traced, Fault> {
+    if let Some(net) = net {
+        return check_again(alloc, net, front, trace, judge.way, output);
+    }
+    match judge.flat.dup(alloc) {
+        Ok(flat) => check_named(alloc, flat, front, trace, judge.way, output),
+        Err(_) => Err(Fault::Memory),
     }
 }
 
@@ -319,7 +324,7 @@ fn tell_traced<W: Write, E: Write>(
     } else {
         note_found(alloc, judge.survey, name, found, &mut net, &kept, errors);
     }
-    held.flat = net.into_flat(alloc).ok();
+    held.net = Some(net);
     Ok(if found.passes() {
         Fate::Passed
     } else {

@@ -17,9 +17,7 @@ use bz_cli_source::net_of;
 use bz_flat::Flat;
 use bz_net::Play;
 use bz_source::Source;
-use bz_trace::{
-    Counts, KeptLines, MAX_ENTRIES, ReadFault, Verdict, Watch, check, check_read_watched,
-};
+use bz_trace::{Counts, KeptLines, MAX_ENTRIES, ReadFault, Verdict, Watch, check, check_read};
 use std::alloc::{AllocError, Global};
 use std::io::Read;
 use std::mem;
@@ -220,7 +218,7 @@ pub(crate) fn check_reader<T: Read, S: Watch>(
     };
     watch.begin(alloc, &net);
     let mut kept = KeptLines::new(alloc, way.keeps);
-    match check_read_watched(alloc, &mut net, trace, way.to_first, &mut kept, watch) {
+    match check_read(alloc, &mut net, trace, way.to_first, &mut kept, watch) {
         Ok(said) => {
             let unrested = moves_on(&net, said.verdict, way.to_rest);
             Ok(Checked {

@@ -16,7 +16,7 @@ use crate::way::CheckWay;
 use bz_cli_input::{Fault, read_input};
 use bz_model::Value;
 use bz_text::{Piece, WriteFault, put_pieces};
-use bz_trace::{Counts, Unwatched, Verdict, Watch};
+use bz_trace::{Counts, Verdict, Watch};
 use std::alloc::Global;
 use std::io::{Read, Write};
 
@@ -61,26 +61,9 @@ pub fn check_texts<W: Write>(
     }
 }
 
-/// The same of a trace that a reader of its own gives. It is read piece by piece and may be longer than memory.
-pub fn check_trace_cmd<R: Read, T: Read, W: Write>(
-    alloc: Global,
-    asked: Option<&[u8]>,
-    way: CheckWay,
-    input: &mut R,
-    trace: &mut T,
-    output: &mut W,
-) -> Result<Checked, Fault>
-    ensures checks { IfSome (R.remaining input.old) (λ netlist. IfSome (T.remaining trace.old)
-        (λ text. ChecksApart way.to_first way.to_rest netlist text (option_copied asked.entry) (W.contents output.old) (W.contents output.new) result)) }
-
-    // Whatever comes of it, it reads at most one byte of the netlist past the limit.
-    ensures bounded { ReadsWithin (R.remaining input.old) (R.remaining input.new) }
-{
-    check_trace_watched(alloc, asked, way, input, trace, output, &mut Unwatched)
-}
-
-/// The same, with the entries of the trace shown to who watches.
-pub fn check_trace_watched<R: Read, T: Read, W: Write, S: Watch>(
+/// The same of a trace that a reader of its own gives. It is read piece by piece and may be longer than memory, and its entries
+/// are shown to who watches.
+pub fn check_trace_cmd<R: Read, T: Read, W: Write, S: Watch>(
     alloc: Global,
     asked: Option<&[u8]>,
     way: CheckWay,
@@ -95,6 +78,8 @@ pub fn check_trace_watched<R: Read, T: Read, W: Write, S: Watch>(
     // Of the trace of a run all entries were shown, and no others.
     ensures watches { IfOk result (λ checked. IfSome (T.remaining trace.old) (λ text. checked.verdict ≡ Verdict.Run
         → WatchesTrace S.begins S.sees checked.net.wiring text watch.new)) }
+
+    // Whatever comes of it, it reads at most one byte of the netlist past the limit.
     ensures bounded { ReadsWithin (R.remaining input.old) (R.remaining input.new) }
 {
     let netlist = match read_input(alloc, input) {

@@ -15,12 +15,12 @@ mod texts;
 mod way;
 
 pub use checked::{Checked, check_trace};
-pub use checking::{check_cmd, check_texts, check_trace_cmd, check_trace_watched};
+pub use checking::{check_cmd, check_texts, check_trace_cmd};
 pub use fault::TraceFault;
 pub use finding::Finding;
 pub use joining::{CheckedPiece, check_piece, tell_found};
 pub use run::run_of;
-pub use several::{Opened, Traced, check_named};
+pub use several::{Opened, Traced, check_again, check_named};
 pub use splitting::split_trace;
 pub use texts::Texts;
 pub use way::CheckWay;

@@ -1,7 +1,9 @@
 //! Several traces, each checked against the same net by itself.
 
-ghost use Rattle.std.specs.Prelude.{◌≡◌, IfErr, IfOk, IfSome};
+ghost use Rattle.std.specs.Prelude.{◌≡◌, [], IfErr, IfOk, IfSome};
 ghost use Rattle.std.specs.Option.{option_copied};
+ghost use Rattle.bz_model.specs.Limits.{max_entries};
+ghost use Rattle.bz_net.specs.Progress.{IsToldBy};
 ghost use Rattle.bz_cli_input.specs.Opening.{RefusesNet};
 ghost use Rattle.bz_cli_input.specs.Stopping.{IsOfInput};
 ghost use Rattle.bz_cli_trace.specs.Several.{ChecksNamed, IsFound, IsOpened};
@@ -15,7 +17,7 @@ use bz_cli_source::net_of;
 use bz_flat::Flat;
 use bz_net::Play;
 use bz_source::Source;
-use bz_trace::{KeptLines, MAX_ENTRIES, ReadFault, check_read};
+use bz_trace::{KeptLines, MAX_ENTRIES, ReadFault, Unwatched, check_read};
 use std::alloc::Global;
 use std::io::{Read, Write};
 
@@ -88,7 +90,7 @@ impl Traced {
 }
 
 /// Checks a trace that a reader gives against a net at its opening, and writes the verdict behind what stands in front of it, as the name of
-/// the trace. Whoever checks more traces has the flat net of what was found again.
+/// the trace.
 pub fn check_named<T: Read, W: Write>(
     alloc: Global,
     flat: Flat,
@@ -100,7 +102,46 @@ pub fn check_named<T: Read, W: Write>(
     ensures { IfSome (T.remaining trace.old) (λ text. ChecksNamed way.to_first way.to_rest flat.wiring front.now text
         (W.contents output.old) (W.contents output.new) result) }
 {
-    let traced = match check_opened(alloc, flat, trace, way) {
+    match Play::open(alloc, flat, MAX_ENTRIES as u32) {
+        Ok(net) => check_on(alloc, net, front, trace, way, output),
+        Err(_) => Err(Fault::Memory),
+    }
+}
+
+/// The same on a net that was left where another trace ended, which is taken back to its opening. So whoever checks many traces
+/// opens one net.
+pub fn check_again<T: Read, W: Write>(
+    alloc: Global,
+    net: Play,
+    front: &[u8],
+    trace: &mut T,
+    way: CheckWay,
+    output: &mut W,
+) -> Result<Traced, Fault>
+    ensures { IfSome (T.remaining trace.old) (λ text. ChecksNamed way.to_first way.to_rest net.wiring front.now text
+        (W.contents output.old) (W.contents output.new) result) }
+{
+    match net.reopen(alloc, MAX_ENTRIES as u32) {
+        Ok(opened) => check_on(alloc, opened, front, trace, way, output),
+        Err(_) => Err(Fault::Memory),
+    }
+}
+
+// The same on a net at its opening.
+fn check_on<T: Read, W: Write>(
+    alloc: Global,
+    net: Play,
+    front: &[u8],
+    trace: &mut T,
+    way: CheckWay,
+    output: &mut W,
+) -> Result<Traced, Fault>
+    requires opened { IsToldBy net [] }
+    requires left { net.left ≡ max_entries }
+    ensures { IfSome (T.remaining trace.old) (λ text. ChecksNamed way.to_first way.to_rest net.wiring front.now text
+        (W.contents output.old) (W.contents output.new) result) }
+{
+    let traced = match check_opened(alloc, net, trace, way) {
         Ok(traced) => traced,
         Err(fault) => return Err(fault),
     };
@@ -113,19 +154,26 @@ pub fn check_named<T: Read, W: Write>(
 // What is found of a trace that a reader gives.
 fn check_opened<T: Read>(
     alloc: Global,
-    flat: Flat,
+    net: Play,
     trace: &mut T,
     way: CheckWay,
 ) -> Result<Traced, Fault>
+    requires opened { IsToldBy net [] }
+    requires left { net.left ≡ max_entries }
     ensures ok { IfOk result (λ traced. IfSome (T.remaining trace.old) (λ text.
-        IsFound way.to_first way.to_rest flat.wiring text traced)) }
+        IsFound way.to_first way.to_rest net.wiring text traced)) }
     ensures err { IfErr result IsOfInput }
 {
-    let Ok(mut net) = Play::open(alloc, flat, MAX_ENTRIES as u32) else {
-        return Err(Fault::Memory);
-    };
+    let mut net = net;
     let mut kept = KeptLines::new(alloc, way.keeps);
-    match check_read(alloc, &mut net, trace, way.to_first, &mut kept) {
+    match check_read(
+        alloc,
+        &mut net,
+        trace,
+        way.to_first,
+        &mut kept,
+        &mut Unwatched,
+    ) {
         Ok(said) => {
             let unrested = moves_on(&net, said.verdict, way.to_rest);
             let found = Finding {

@@ -35,11 +35,11 @@ pub record Cross (q : Proc) (h k : Head) (v u : Option ℕ) : Type 0 where
   pub sooner_move : sooner.move ≡ h.move
   pub meets : after_head (after_head q h v) later u ≡ after_head (after_head q k u) sooner v
 
--- processes of which what is noticed stands in the way of nothing
-pub record Flows (Good : Proc → Type 0) (Fits : ℕ → Option ℕ → Type 0) : Type 0 where
+-- processes of which what is noticed stands in the way of nothing, but at a rival port
+pub record Flows (Good : Proc → Type 0) (Fits : ℕ → Option ℕ → Type 0) (Rival : ℕ → ℕ → Type 0) : Type 0 where
   pub one : (q : Proc) (h k : Head) → Good q → IsHead q.todo h → IsHead q.todo k → h.port ≡ k.port → h ≡ k
   pub after : (q : Proc) (h : Head) (v : Option ℕ) → Good q → IsHead q.todo h → Comes Fits h v → Good (after_head q h v)
-  pub cross : (q : Proc) (h k : Head) (v u : Option ℕ) → Good q → IsHead q.todo h → IsHead q.todo k → h.port ≢ k.port → sends h.move ≡ false
+  pub cross : (q : Proc) (h k : Head) (v u : Option ℕ) → Good q → IsHead q.todo h → IsHead q.todo k → h.port ≢ k.port → (Rival h.port k.port → ⊥) → sends h.move ≡ false
       → Comes Fits h v → Comes Fits k u → Cross q h k v u
 
 some_same : (v u : Option ℕ) → Some v ≡ Some u → v ≡ u
@@ -177,34 +177,37 @@ module _ (sites : List Site) (c : ℕ) where
   without_other : (l : Local) (p : ℕ) (q : Proc) (r : ℕ) → r ≢ p → (without l p q).waits r ≡ l.waits r
   without_other l p q r ne = rw (ne_eqb r p ne) refl
 
+  -- what waits where something was noticed waited there before
+  still_waits : (l n : Local) (p : ℕ) → Hears l p n → (q : ℕ) (v : Option ℕ) → IsPort sites c q → n.waits q ≡ Some v → l.waits q ≡ Some v
+  still_waits l n p h q v at is = elim (cases_eq q p) [
+    | inl e ↦ absurd (let none : None ≡ Some v = sym h.gone ∙ ap n.waits (sym e) ∙ is in cc)
+    | inr ne ↦ sym (h.others q at ne) ∙ is
+  ]
+
   -- ---- what is noticed
 
-  module _ (Good : Proc → Type 0) (Fits : ℕ → Option ℕ → Type 0) (flows : Flows Good Fits)
+  module _ (Good : Proc → Type 0) (Fits : ℕ → Option ℕ → Type 0) (Rival : ℕ → ℕ → Type 0) (flows : Flows Good Fits Rival)
       (one_port : (m : ShortMove) (p q : ℕ) → IsEnd sites m.chan (replies m.sent) c p → IsEnd sites m.chan (replies m.sent) c q → p ≡ q) where
     pub record Sound (l : Local) : Type 0 where
       pub good : Good l.proc
       pub fits : (p : ℕ) (v : Option ℕ) → IsPort sites c p → l.waits p ≡ Some v → Fits p v
+      pub calm : (p q : ℕ) (v u : Option ℕ) → IsPort sites c p → IsPort sites c q → Rival p q → l.waits p ≡ Some v → l.waits q ≡ Some u → ⊥
 
     comes_in : (l n : Local) (p : ℕ) → Sound l → (h : Hears l p n) → Comes Fits h.head h.value
     comes_in l n p sound h = inl (h.is, subst (λ r. Fits r h.value) (sym h.on.1) (sound.fits p h.value h.port h.came))
 
-    -- what waits after it did already before
-    still_fits : (l n : Local) (p : ℕ) → Sound l → Hears l p n → (q : ℕ) (v : Option ℕ) → IsPort sites c q → n.waits q ≡ Some v → Fits q v
-    still_fits l n p sound h q v at is = elim (cases_eq q p) [
-      | inl e ↦ absurd (let none : None ≡ Some v = sym h.gone ∙ ap n.waits (sym e) ∙ is in cc)
-      | inr ne ↦ sound.fits q v at (sym (h.others q at ne) ∙ is)
-    ]
-
     pub sound_hears : (l n : Local) (p : ℕ) → Sound l → Hears l p n → Sound n
     sound_hears l n p sound h = record {
       good = subst Good (sym h.leaves) (flows.after l.proc h.head h.value sound.good h.on.0 (comes_in l n p sound h));
-      fits = still_fits l n p sound h;
+      fits = λ q v at is. sound.fits q v at (still_waits l n p h q v at is);
+      calm = λ q r v u at on rival x y. sound.calm q r v u at on rival (still_waits l n p h q v at x) (still_waits l n p h r u on y);
     }
 
     pub sound_same : (l n : Local) → Sound l → Same l n → Sound n
     sound_same l n sound s = record {
       good = subst Good (sym s.proc) sound.good;
       fits = λ p v at is. sound.fits p v at (sym (s.waits p at) ∙ is);
+      calm = λ p q v u at on rival x y. sound.calm p q v u at on rival (sym (s.waits p at) ∙ x) (sym (s.waits q on) ∙ y);
     }
 
     sound_reach : (i : ℕ) (l n : Local) → Sound l → Reach i l n → Sound n
@@ -224,10 +227,15 @@ module _ (sites : List Site) (c : ℕ) where
           ];
         }
 
+    -- rival ports of heads
+    rival_ports : (h k : Head) (p q : ℕ) → h.port ≡ p → k.port ≡ q → Rival h.port k.port → Rival p q
+    rival_ports h k p q at on rival = subst (λ x. Rival x q) at (subst (Rival h.port) on rival)
+
     -- at two ports the order is free
     crossed : (l a b : Local) (p q : ℕ) → Sound l → p ≢ q → Hears l p a → Hears l q b → (x : Local) × Hears a q x × Hears b p x
     crossed l a b p q sound ne h k =
-        let x = flows.cross l.proc h.head k.head h.value k.value sound.good h.on.0 k.on.0 (λ e. ne (sym h.on.1 ∙ e ∙ k.on.1)) h.is (comes_in l a p sound h) (comes_in l b q sound k) in
+        let x = flows.cross l.proc h.head k.head h.value k.value sound.good h.on.0 k.on.0 (λ e. ne (sym h.on.1 ∙ e ∙ k.on.1))
+        (λ rival. sound.calm p q h.value k.value h.port k.port (rival_ports h.head k.head p q h.on.1 k.on.1 rival) h.came k.came) h.is (comes_in l a p sound h) (comes_in l b q sound k) in
         let end = without a q (after_head a.proc x.later k.value) in (
           end,
           record {
@@ -273,9 +281,16 @@ module _ (sites : List Site) (c : ℕ) where
 
     -- ---- a move that is sent
 
+    -- no rival of it waits
+    abbrev pub Clear : ShortMove → Local → Type 0
+    Clear m l = (p q : ℕ) (v : Option ℕ) → IsEnd sites m.chan (replies m.sent) c p → IsPort sites c q → Rival q p → l.waits q ≡ Some v → ⊥
+
+    clear_hears : (m : ShortMove) (l n : Local) (p : ℕ) → Hears l p n → Clear m l → Clear m n
+    clear_hears m l n p h clear r q v end at rival is = clear r q v end at rival (still_waits l n p h q v at is)
+
     -- it waits for nothing that is noticed
-    passes : (m : ShortMove) (l a b : Local) (q : ℕ) → Sound l → Hears l q a → Makes m l b → (x : Local) × Makes m a x × Hears b q x
-    passes m l a b q sound h made = by made.by
+    passes : (m : ShortMove) (l a b : Local) (q : ℕ) → Sound l → Clear m l → Hears l q a → Makes m l b → (x : Local) × Makes m a x × Hears b q x
+    passes m l a b q sound clear h made = by made.by
       where
         -- what comes in does so at another port
         off : IsEnd sites m.chan (not (replies m.sent)) c q → ⊥
@@ -315,7 +330,8 @@ module _ (sites : List Site) (c : ℕ) where
         by (inl own) =
             let is_sent : sends own.head.move ≡ true = (told m.chan own.head.move (value_of own.head.gives l.proc.store) m own.shows).sent_is in
             let apart : h.head.port ≢ own.head.port = λ e. false≢true (sym h.is ∙ ap (λ (k : Head). sends k.move) (flows.one l.proc h.head own.head sound.good h.on.0 own.on.0 e) ∙ is_sent) in
-            let x = flows.cross l.proc h.head own.head h.value None sound.good h.on.0 own.on.0 apart h.is (comes_in l a q sound h) (inr (is_sent, refl)) in
+            let x = flows.cross l.proc h.head own.head h.value None sound.good h.on.0 own.on.0 apart
+            (λ rival. clear own.port q h.value own.end h.port (rival_ports h.head own.head q own.port h.on.1 own.on.1 rival) h.came) h.is (comes_in l a q sound h) (inr (is_sent, refl)) in
             let left = after_head a.proc x.later None in
             let value : value_of x.later.gives a.proc.store ≡ value_of own.head.gives l.proc.store = ap (λ (r : Proc). value_of x.later.gives r.store) h.leaves ∙ x.later_value in (
               end left,
@@ -362,11 +378,11 @@ module _ (sites : List Site) (c : ℕ) where
         procs (inr x) (inl y) = absurd (x.none y.port y.end)
         procs (inr x) (inr y) = y.proc ∙ sym x.proc
 
-    made_along : (i : ℕ) (m : ShortMove) (l n a : Local) → Sound l → Reach i l n → Makes m l a → (x : Local) × Makes m n x × Reach i a x
-    made_along zero m l n a sound r made = (a, makes_same m l n a r made, same_self a)
-    made_along (suc i) m l n a sound (b, q, h, r) made =
-        let (x, there, heard) = passes m l b a q sound h made in
-        let (y, at_end, on) = made_along i m b n x (sound_hears l b q sound h) r there in
+    made_along : (i : ℕ) (m : ShortMove) (l n a : Local) → Sound l → Clear m l → Reach i l n → Makes m l a → (x : Local) × Makes m n x × Reach i a x
+    made_along zero m l n a sound clear r made = (a, makes_same m l n a r made, same_self a)
+    made_along (suc i) m l n a sound clear (b, q, h, r) made =
+        let (x, there, heard) = passes m l b a q sound clear h made in
+        let (y, at_end, on) = made_along i m b n x (sound_hears l b q sound h) (clear_hears m l b q h clear) r there in
         (y, at_end, (x, q, heard, on))
 
     -- ---- two locals that meet
@@ -386,27 +402,30 @@ module _ (sites : List Site) (c : ℕ) where
         let (on, all) = reach_on j v n x y b other in
         (y, u, on, one, all)
 
-    pub meets_makes : (m : ShortMove) (l n a b : Local) → Sound l → Sound n → Makes m l a → Makes m n b → Meets l n → Meets a b
-    meets_makes m l n a b sound other one made (x, i, j, there, here) =
-        let (y, first, on_a) = made_along i m l x a sound there one in
-        let (z, second, on_b) = made_along j m n x b other here made in
+    pub meets_makes : (m : ShortMove) (l n a b : Local) → Sound l → Sound n → Clear m l → Clear m n → Makes m l a → Makes m n b → Meets l n → Meets a b
+    meets_makes m l n a b sound other clear too one made (x, i, j, there, here) =
+        let (y, first, on_a) = made_along i m l x a sound clear there one in
+        let (z, second, on_b) = made_along j m n x b other too here made in
         (y, i, j, on_a, reach_to j b z y on_b (sole_made m x z y (sound_reach i l x sound there) second first))
 
     -- ---- what can be sent can be sent
 
-    sent_hears : (m : ShortMove) (p q : ℕ) (l n : Local) → Sound l → Hears l q n → HasSent l.proc p m → HasSent n.proc p m
-    sent_hears m p q l n sound h (k, on, shows) =
+    sent_hears : (m : ShortMove) (p q : ℕ) (l n : Local) → IsEnd sites m.chan (replies m.sent) c p → Sound l → Clear m l → Hears l q n → HasSent l.proc p m → HasSent n.proc p m
+    sent_hears m p q l n end sound clear h (k, on, shows) =
         let is_sent : sends k.move ≡ true = (told m.chan k.move (value_of k.gives l.proc.store) m shows).sent_is in
         let apart : h.head.port ≢ k.port = λ e. false≢true (sym h.is ∙ ap (λ (x : Head). sends x.move) (flows.one l.proc h.head k sound.good h.on.0 on.0 e) ∙ is_sent) in
-        let x = flows.cross l.proc h.head k h.value None sound.good h.on.0 on.0 apart h.is (comes_in l n q sound h) (inr (is_sent, refl)) in
+        let x = flows.cross l.proc h.head k h.value None sound.good h.on.0 on.0 apart
+        (λ rival. clear p q h.value end h.port (rival_ports h.head k q p h.on.1 on.1 rival) h.came) h.is (comes_in l n q sound h) (inr (is_sent, refl)) in
         let value : value_of x.later.gives n.proc.store ≡ value_of k.gives l.proc.store = ap (λ (r : Proc). value_of x.later.gives r.store) h.leaves ∙ x.later_value in
         (x.later, (subst (λ (r : Proc). IsHead r.todo x.later) (sym h.leaves) x.later_is, x.later_port ∙ on.1), (λ i. shown_move m.chan (x.later_move i) (value i)) ∙ shows)
 
-    pub sent_reach : (i : ℕ) (m : ShortMove) (p : ℕ) (l n : Local) → Sound l → Reach i l n → HasSent l.proc p m → HasSent n.proc p m
-    sent_reach zero m p l n sound r has = subst (λ q. HasSent q p m) (sym r.proc) has
-    sent_reach (suc i) m p l n sound (x, q, h, r) has = sent_reach i m p x n (sound_hears l x q sound h) r (sent_hears m p q l x sound h has)
+    pub sent_reach : (i : ℕ) (m : ShortMove) (p : ℕ) (l n : Local) → IsEnd sites m.chan (replies m.sent) c p → Sound l → Clear m l → Reach i l n → HasSent l.proc p m → HasSent n.proc p m
+    sent_reach zero m p l n end sound clear r has = subst (λ q. HasSent q p m) (sym r.proc) has
+    sent_reach (suc i) m p l n end sound clear (x, q, h, r) has =
+        sent_reach i m p x n end (sound_hears l x q sound h) (clear_hears m l x q h clear) r (sent_hears m p q l x end sound clear h has)
 
     -- a local that has nothing to notice sends whatever one that it meets can send
-    pub quiet_sends : (m : ShortMove) (p : ℕ) (l n : Local) → Sound n → ((q : ℕ) (x : Local) → Hears l q x → ⊥) → Meets l n → HasSent n.proc p m → HasSent l.proc p m
-    quiet_sends m p l n sound quiet (x, zero, j, a, b) has = subst (λ q. HasSent q p m) a.proc (sent_reach j m p n x sound b has)
-    quiet_sends m p l n sound quiet (x, suc i, j, (y, q, h, r), b) has = absurd (quiet q y h)
+    pub quiet_sends : (m : ShortMove) (p : ℕ) (l n : Local) → IsEnd sites m.chan (replies m.sent) c p → Sound n → Clear m n → ((q : ℕ) (x : Local) → Hears l q x → ⊥) → Meets l n → HasSent n.proc p m
+        → HasSent l.proc p m
+    quiet_sends m p l n end sound clear quiet (x, zero, j, a, b) has = subst (λ q. HasSent q p m) a.proc (sent_reach j m p n x end sound clear b has)
+    quiet_sends m p l n end sound clear quiet (x, suc i, j, (y, q, h, r), b) has = absurd (quiet q y h)

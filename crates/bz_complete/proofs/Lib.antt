@@ -11,5 +11,7 @@ pub mod Plain
 pub mod Refusals
 pub mod Rows
 pub mod Sending
+pub mod Serving
+pub mod Signals
 pub mod Spelling
 pub mod Unshown

@@ -1,5 +1,5 @@
 -- Where a net stops: a component has nothing to notice and can't send the move, or the host can't.
-use Rattle.std.proofs.Common.{◌≡◌, ℕ, suc, ◌+◌, ◌<◌, ◌≤◌, Bool, true, false, not, Option, Some, None, List, [], ◌∷◌, ◌++◌, get_or, length, take, inl, inr, refl, sym, ap, subst, ◌∙◌, arith}
+use Rattle.std.proofs.Common.{◌≡◌, ℕ, suc, ◌+◌, ◌-◌, ◌<◌, ◌≤◌, Bool, true, false, not, Option, Some, None, List, [], ◌∷◌, ◌++◌, get_or, length, take, inl, inr, refl, sym, ap, subst, ◌∙◌, arith}
 use Rattle.std.specs.Prelude.{if◌then◌else◌, slice_get, unwrap_or, Result, Ok, Err, IfOk, IfSome}
 use Rattle.std.proofs.lemmas.Bool.{cases_lt, false≢true}
 use Rattle.std.proofs.lemmas.List.{take_more}
@@ -136,7 +136,7 @@ pub refused : (net : Simulation) (c p : ℕ) (m : ShortMove) → WellWired net.w
 refused net c p m wired played end quiet none =
     let w = net.wiring in let at = end.is_port in record {
       dead = comp_dead w wired c at.comp_from p m end net.state (run w wired (opening w) net.state net.journal (at_opening w wired) played) quiet none;
-      none = λ plain. comp_unshown w wired c at.comp_from at.comp_to (plain c p end) p m net.journal net.state end played quiet none;
+      none = λ plain. comp_unshown w wired c at.comp_from at.comp_to (shown net.journal) (plain c p end) p m net.journal net.state end played refl quiet none;
     }
 
 -- the same of the host, and of nobody
@@ -232,7 +232,8 @@ refuted w opened net moves (Some line) is (place, line_is, lt, gains) stops = λ
     let next : place + 1 ≡ line = omega (arith, line_is) in
     let shows : take line moves ≡ shown net.journal ++ m ∷ [] =
     ap (λ n. take n moves) (sym next) ∙ take_more moves place m lt ∙ ap (λ d. take place moves ++ d ∷ []) here ∙ ap (λ ms. ms ++ m ∷ []) (sym made.shows) in
-    (stops m found).none (subst (λ v. IsPlain v m) (sym made.wiring) plain) (subst (λ v. HasRun v (shown net.journal ++ m ∷ [])) (sym made.wiring) (subst (HasRun w) shows has))
+    let before : take (line - 1) moves ≡ shown net.journal = ap (λ n. take n moves) (omega (arith, line_is)) ∙ sym made.shows in
+    (stops m found).none (subst (λ v. IsPlain v (shown net.journal) m) (sym made.wiring) (subst (λ ms. IsPlain w ms m) before plain)) (subst (λ v. HasRun v (shown net.journal ++ m ∷ [])) (sym made.wiring) (subst (HasRun w) shows has))
 
 -- a word that is refused, and not for want of memory or of a place
 pub word_refused : (net : Simulation) (verb : Verb) (port : ℕ) (value : Option ℕ) (e : NetError) → (e ≡ JournalFull → ⊥) → (e ≡ Memory → ⊥) → RefusesAt net verb port value e

@@ -1,5 +1,5 @@
 -- Rows of moves, one after another, and rows side by side that are apart: what one does leaves the others as they were.
-use Rattle.std.proofs.Common.{◌≡◌, ◌≢◌, ◌⊎◌, inl, inr, ℕ, zero, suc, Bool, true, false, refl, sym, ap, subst, ◌∙◌}
+use Rattle.std.proofs.Common.{◌≡◌, ◌≢◌, ◌⊎◌, inl, inr, ℕ, zero, suc, ◌<◌, Bool, true, false, refl, sym, ap, subst, ◌∙◌, arith}
 use Rattle.std.proofs.lemmas.Bool.{false≢true}
 use Rattle.bz_model.specs.declared.expr.Expr.{Expr}
 use Rattle.bz_model.specs.declared.expr.Expr.TheVariants.{Nothing}
@@ -7,7 +7,7 @@ use Rattle.bz_model.specs.Heads.{Head, IsHead, IsHeadAt, before, sequence, tidy,
 use Rattle.bz_model.specs.Terms.{Store, Term, Terms, ask, take, reply, got, seq, par, choice, forever, while, when, done, no_terms, term, with_term, all}
 use Rattle.bz_net.specs.Sides.{sends}
 
--- nothing side by side, chosen, repeated, or done on a condition
+-- nothing side by side, chosen, or done on a condition
 abbrev pub IsRow : Term → Type 0
 IsRow (ask p e) = Unit {0}
 IsRow (take p x) = Unit {0}
@@ -16,7 +16,7 @@ IsRow (got p x) = Unit {0}
 IsRow (seq a b) = IsRow a × IsRow b
 IsRow (par ts) = ⊥
 IsRow (choice ts) = ⊥
-IsRow (forever t) = ⊥
+IsRow (forever t) = IsRow t
 IsRow (while p x t) = ⊥
 IsRow (when c t) = ⊥
 IsRow done = Unit {0}
@@ -30,7 +30,7 @@ HasPort (got q x) p = q ≡ p
 HasPort (seq a b) p = HasPort a p ⊎ HasPort b p
 HasPort (par ts) p = ⊥
 HasPort (choice ts) p = ⊥
-HasPort (forever t) p = ⊥
+HasPort (forever t) p = HasPort t p
 HasPort (while q x t) p = ⊥
 HasPort (when c t) p = ⊥
 HasPort done p = ⊥
@@ -44,7 +44,7 @@ Gives (got p x) = ⊥
 Gives (seq a b) = Gives a ⊎ Gives b
 Gives (par ts) = ⊥
 Gives (choice ts) = ⊥
-Gives (forever t) = ⊥
+Gives (forever t) = Gives t
 Gives (while p x t) = ⊥
 Gives (when c t) = ⊥
 Gives done = ⊥
@@ -92,7 +92,7 @@ row_sole (got p x) h k s a b = a ∙ sym b
 row_sole (seq t u) h k s (r, a, is) (q, b, same) = is ∙ ap (λ x. before x u) (row_sole t r q s.0 a b) ∙ sym same
 row_sole (par ts) h k s a b = absurd s
 row_sole (choice ts) h k s a b = absurd s
-row_sole (forever t) h k s a b = absurd s
+row_sole (forever t) h k s (r, a, is) (q, b, same) = is ∙ ap (λ x. before x (forever t)) (row_sole t r q s a b) ∙ sym same
 row_sole (while p x t) h k s a b = absurd s
 row_sole (when c t) h k s a b = absurd s
 row_sole done h k s a b = absurd a
@@ -105,7 +105,7 @@ row_rest (got p x) h s a = rw a tt
 row_rest (seq t u) h s (r, a, is) = rw is (row_rest t r s.0 a, s.1)
 row_rest (par ts) h s a = absurd s
 row_rest (choice ts) h s a = absurd s
-row_rest (forever t) h s a = absurd s
+row_rest (forever t) h s (r, a, is) = rw is (row_rest t r s a, s)
 row_rest (while p x t) h s a = absurd s
 row_rest (when c t) h s a = absurd s
 row_rest done h s a = absurd a
@@ -119,7 +119,7 @@ row_sequence (got p e) b r x y z = (x, y)
 row_sequence (seq t u) b r x y z = (x, y)
 row_sequence (par ts) b r x y z = absurd x
 row_sequence (choice ts) b r x y z = absurd x
-row_sequence (forever t) b r x y z = absurd x
+row_sequence (forever t) b r x y z = (x, y)
 row_sequence (while p e t) b r x y z = absurd x
 row_sequence (when c t) b r x y z = absurd x
 row_sequence done b r x y z = z
@@ -132,7 +132,7 @@ row_tidy s (got p e) x = x
 row_tidy s (seq a b) x = row_sequence (tidy s a) b (tidy s b) (row_tidy s a x.0) x.1 (row_tidy s b x.1)
 row_tidy s (par ts) x = absurd x
 row_tidy s (choice ts) x = absurd x
-row_tidy s (forever t) x = absurd x
+row_tidy s (forever t) x = x
 row_tidy s (while p e t) x = absurd x
 row_tidy s (when c t) x = absurd x
 row_tidy s done x = tt
@@ -175,7 +175,7 @@ row_again u s (seq a b) x =
     ∙ ap (λ t. sequence t b (tidy u b)) (row_again u s a x.0)
 row_again u s (par ts) x = absurd x
 row_again u s (choice ts) x = absurd x
-row_again u s (forever t) x = absurd x
+row_again u s (forever t) x = refl
 row_again u s (while p e t) x = absurd x
 row_again u s (when c t) x = absurd x
 row_again u s done x = refl
@@ -215,7 +215,7 @@ row_head u s (seq a b) h x (r, at, is) =
     subst (λ t. Again u t h) (sym (sequence_head (tidy s a) b (tidy s b) again.head again.is)) (subst (Again u (seq (tidy s a) b)) (sym is) (again_before u (tidy s a) b r again))
 row_head u s (par ts) h x at = absurd x
 row_head u s (choice ts) h x at = absurd x
-row_head u s (forever t) h x at = absurd x
+row_head u s (forever t) h x at = same_again u (forever t) h at
 row_head u s (while p e t) h x at = absurd x
 row_head u s (when c t) h x at = absurd x
 row_head u s done h x at = absurd at
@@ -232,17 +232,10 @@ module _ (brings : ℕ → Bool) where
   Keeps (seq a b) x = Keeps a x ⊎ Keeps b x
   Keeps (par ts) x = ⊥
   Keeps (choice ts) x = ⊥
-  Keeps (forever t) x = ⊥
+  Keeps (forever t) x = Keeps t x
   Keeps (while p y t) x = ⊥
   Keeps (when c t) x = ⊥
   Keeps done x = ⊥
-
-  -- at other ports, and by other slots
-  pub record Apart (a b : Term) : Type 0 where
-    pub ports : (p : ℕ) → HasPort a p → HasPort b p → ⊥
-    pub slots : (x : ℕ) → Keeps a x → Keeps b x → ⊥
-    pub there : (x : ℕ) → Keeps a x → Gives b → ⊥
-    pub here : (x : ℕ) → Keeps b x → Gives a → ⊥
 
   -- nothing is in one that isn't in the other
   pub record Within (a b : Term) : Type 0 where
@@ -256,17 +249,6 @@ module _ (brings : ℕ → Bool) where
   within_done : (a : Term) → Within done a
   within_done a = record { ports = λ p x. absurd x; slots = λ x y. absurd y; gives = λ x. absurd x }
 
-  pub apart_within : (a b c d : Term) → Apart a b → Within c a → Within d b → Apart c d
-  apart_within a b c d apart x y = record {
-    ports = λ p i j. apart.ports p (x.ports p i) (y.ports p j);
-    slots = λ p i j. apart.slots p (x.slots p i) (y.slots p j);
-    there = λ p i j. apart.there p (x.slots p i) (y.gives j);
-    here = λ p i j. apart.here p (y.slots p i) (x.gives j);
-  }
-
-  pub apart_turned : (a b : Term) → Apart a b → Apart b a
-  apart_turned a b x = record { ports = λ p i j. x.ports p j i; slots = λ p i j. x.slots p j i; there = x.here; here = x.there }
-
   within_seq : (a b c : Term) → Within a c → Within (seq a b) (seq c b)
   within_seq a b c x = record {
     ports = λ p i. elim i [ inl l ↦ inl (x.ports p l) | inr r ↦ inr r ];
@@ -277,6 +259,13 @@ module _ (brings : ℕ → Bool) where
   within_behind : (a b c : Term) → Within a b → Within a (seq c b)
   within_behind a b c x = record { ports = λ p i. inr (x.ports p i); slots = λ p i. inr (x.slots p i); gives = λ i. inr (x.gives i) }
 
+  within_round : (a t : Term) → Within a t → Within (seq a (forever t)) (forever t)
+  within_round a t x = record {
+    ports = λ p i. elim i [ inl l ↦ x.ports p l | inr r ↦ r ];
+    slots = λ p i. elim i [ inl l ↦ x.slots p l | inr r ↦ r ];
+    gives = λ i. elim i [ inl l ↦ x.gives l | inr r ↦ r ];
+  }
+
   pub rest_within : (t : Term) (h : Head) → IsRow t → IsHead t h → Within h.rest t
   rest_within (ask p e) h s a = rw a (within_done (ask p e))
   rest_within (take p x) h s a = rw a (within_done (take p x))
@@ -285,7 +274,7 @@ module _ (brings : ℕ → Bool) where
   rest_within (seq t u) h s (r, a, is) = rw is (within_seq r.rest u t (rest_within t r s.0 a))
   rest_within (par ts) h s a = absurd s
   rest_within (choice ts) h s a = absurd s
-  rest_within (forever t) h s a = absurd s
+  rest_within (forever t) h s (r, a, is) = rw is (within_round r.rest t (rest_within t r s a))
   rest_within (while p x t) h s a = absurd s
   rest_within (when c t) h s a = absurd s
   rest_within done h s a = absurd a
@@ -311,7 +300,7 @@ module _ (brings : ℕ → Bool) where
   tidy_within s (seq a b) x = sequence_within (tidy s a) b (tidy s b) a (tidy_within s a x.0) (tidy_within s b x.1)
   tidy_within s (par ts) x = absurd x
   tidy_within s (choice ts) x = absurd x
-  tidy_within s (forever t) x = absurd x
+  tidy_within s (forever t) x = within_self (forever t)
   tidy_within s (while p e t) x = absurd x
   tidy_within s (when c t) x = absurd x
   tidy_within s done x = within_self done
@@ -325,7 +314,7 @@ module _ (brings : ℕ → Bool) where
   head_port (seq t u) h s (r, a, is) = rw is (inl (head_port t r s.0 a))
   head_port (par ts) h s a = absurd s
   head_port (choice ts) h s a = absurd s
-  head_port (forever t) h s a = absurd s
+  head_port (forever t) h s (r, a, is) = rw is (head_port t r s a)
   head_port (while p x t) h s a = absurd s
   head_port (when c t) h s a = absurd s
   head_port done h s a = absurd a
@@ -339,7 +328,8 @@ module _ (brings : ℕ → Bool) where
       inl (subst (Keeps t) (ap (λ (y : Head). y.into) (sym at)) (head_keeps t r s.0 a (ap (λ (y : Head). sends y.move) (sym at) ∙ is) (ap (λ (y : Head). brings y.port) (sym at) ∙ b)))
   head_keeps (par ts) h s a is b = absurd s
   head_keeps (choice ts) h s a is b = absurd s
-  head_keeps (forever t) h s a is b = absurd s
+  head_keeps (forever t) h s (r, a, at) is b =
+      subst (Keeps t) (ap (λ (y : Head). y.into) (sym at)) (head_keeps t r s a (ap (λ (y : Head). sends y.move) (sym at) ∙ is) (ap (λ (y : Head). brings y.port) (sym at) ∙ b))
   head_keeps (while p x t) h s a is b = absurd s
   head_keeps (when c t) h s a is b = absurd s
   head_keeps done h s a is b = absurd a
@@ -356,57 +346,104 @@ module _ (brings : ℕ → Bool) where
   head_gives (seq t u) h s (r, a, is) = elim (head_gives t r s.0 a) [ inl none ↦ inl (ap (λ (x : Head). x.gives) is ∙ none) | inr some ↦ inr (inl some) ]
   head_gives (par ts) h s a = absurd s
   head_gives (choice ts) h s a = absurd s
-  head_gives (forever t) h s a = absurd s
+  head_gives (forever t) h s (r, a, is) = elim (head_gives t r s a) [ inl none ↦ inl (ap (λ (x : Head). x.gives) is ∙ none) | inr some ↦ inr some ]
   head_gives (while p x t) h s a = absurd s
   head_gives (when c t) h s a = absurd s
   head_gives done h s a = absurd a
 
   -- ---- rows side by side
 
-  pub record AreRows (ts : Terms) : Type 0 where
-    pub rows : (i : ℕ) → IsRow (term_at ts i)
-    pub apart : (i j : ℕ) → i ≢ j → Apart (term_at ts i) (term_at ts j)
+  -- of two ports, whether it matters which is noticed first
+  module _ (Rival : ℕ → ℕ → Type 0) where
+    -- At other ports, and by other slots; what one keeps the other doesn't send, but at rival ports.
+    pub record Apart (a b : Term) : Type 0 where
+      pub ports : (p : ℕ) → HasPort a p → HasPort b p → ⊥
+      pub slots : (x : ℕ) → Keeps a x → Keeps b x → ⊥
+      pub there : (x p q : ℕ) → Keeps a x → Gives b → HasPort a p → brings p ≡ true → HasPort b q → Rival p q
+      pub here : (x p q : ℕ) → Keeps b x → Gives a → HasPort b p → brings p ≡ true → HasPort a q → Rival p q
 
-  -- one goes on, and all are tidied
-  pub rows_with : (ts : Terms) (i : ℕ) (t : Term) → AreRows ts → IsRow t → Within t (term_at ts i) → AreRows (with_term ts i t)
-  rows_with ts i t are row within = record {
-    rows = λ j. subst_at ts i j t (λ u. IsRow u) row (are.rows j);
-    apart = λ j k ne. apart_within (term_at ts j) (term_at ts k) (term_at (with_term ts i t) j) (term_at (with_term ts i t) k) (are.apart j k ne) (part ts i j t within) (part ts i k t within);
-  }
-    where
-      subst_at : (ts : Terms) (i j : ℕ) (t : Term) (P : Term → Type 0) → P t → P (term_at ts j) → P (term_at (with_term ts i t) j)
-      subst_at no_terms i j t P x y = y
-      subst_at (term u ts) zero zero t P x y = x
-      subst_at (term u ts) zero (suc j) t P x y = y
-      subst_at (term u ts) (suc i) zero t P x y = y
-      subst_at (term u ts) (suc i) (suc j) t P x y = subst_at ts i j t P x y
+    pub apart_within : (a b c d : Term) → Apart a b → Within c a → Within d b → Apart c d
+    apart_within a b c d apart x y = record {
+      ports = λ p i j. apart.ports p (x.ports p i) (y.ports p j);
+      slots = λ p i j. apart.slots p (x.slots p i) (y.slots p j);
+      there = λ u p q keeps gives at is on. apart.there u p q (x.slots u keeps) (y.gives gives) (x.ports p at) is (y.ports q on);
+      here = λ u p q keeps gives at is on. apart.here u p q (y.slots u keeps) (x.gives gives) (y.ports p at) is (x.ports q on);
+    }
 
-      part : (ts : Terms) (i j : ℕ) (t : Term) → Within t (term_at ts i) → Within (term_at (with_term ts i t) j) (term_at ts j)
-      part no_terms i j t within = within_done done
-      part (term u ts) zero zero t within = within
-      part (term u ts) zero (suc j) t within = within_self (term_at ts j)
-      part (term u ts) (suc i) zero t within = within_self u
-      part (term u ts) (suc i) (suc j) t within = part ts i j t within
+    pub apart_turned : (a b : Term) → Apart a b → Apart b a
+    apart_turned a b x = record { ports = λ p i j. x.ports p j i; slots = λ p i j. x.slots p j i; there = x.here; here = x.there }
 
-  pub rows_tidy : (s : Store) (ts : Terms) → AreRows ts → AreRows (tidy_all s ts)
-  rows_tidy s ts are = record {
-    rows = λ i. subst IsRow (sym (at_tidy s ts i)) (row_tidy s (term_at ts i) (are.rows i));
-    apart = λ i j ne. subst (λ t. Apart t (term_at (tidy_all s ts) j)) (sym (at_tidy s ts i)) (subst (Apart (tidy s (term_at ts i))) (sym (at_tidy s ts j))
-        (apart_within (term_at ts i) (term_at ts j) (tidy s (term_at ts i)) (tidy s (term_at ts j)) (are.apart i j ne) (tidy_within s (term_at ts i) (are.rows i)) (tidy_within s (term_at ts j) (are.rows j))));
-  }
+    pub record AreRows (ts : Terms) : Type 0 where
+      pub rows : (i : ℕ) → IsRow (term_at ts i)
+      pub apart : (i j : ℕ) → i ≢ j → Apart (term_at ts i) (term_at ts j)
 
-  pub rows_all : (n : ℕ) (f : ℕ → Term) → ((i : ℕ) → IsRow (f i)) → ((i j : ℕ) → i ≢ j → Apart (f i) (f j)) → AreRows (all n f)
-  rows_all n f rows apart = record {
-    rows = λ i. by_rows n i f rows;
-    apart = λ i j ne. apart_within (f i) (f j) (term_at (all n f) i) (term_at (all n f) j) (apart i j ne) (of_all n i f) (of_all n j f);
-  }
-    where
-      by_rows : (n i : ℕ) (f : ℕ → Term) → ((i : ℕ) → IsRow (f i)) → IsRow (term_at (all n f) i)
-      by_rows zero i f rows = tt
-      by_rows (suc n) zero f rows = rows 0
-      by_rows (suc n) (suc i) f rows = by_rows n i (λ j. f (suc j)) (λ j. rows (suc j))
+    -- one goes on, and all are tidied
+    pub rows_with : (ts : Terms) (i : ℕ) (t : Term) → AreRows ts → IsRow t → Within t (term_at ts i) → AreRows (with_term ts i t)
+    rows_with ts i t are row within = record {
+      rows = λ j. subst_at ts i j t (λ u. IsRow u) row (are.rows j);
+      apart = λ j k ne. apart_within (term_at ts j) (term_at ts k) (term_at (with_term ts i t) j) (term_at (with_term ts i t) k) (are.apart j k ne) (part ts i j t within) (part ts i k t within);
+    }
+      where
+        subst_at : (ts : Terms) (i j : ℕ) (t : Term) (P : Term → Type 0) → P t → P (term_at ts j) → P (term_at (with_term ts i t) j)
+        subst_at no_terms i j t P x y = y
+        subst_at (term u ts) zero zero t P x y = x
+        subst_at (term u ts) zero (suc j) t P x y = y
+        subst_at (term u ts) (suc i) zero t P x y = y
+        subst_at (term u ts) (suc i) (suc j) t P x y = subst_at ts i j t P x y
 
-      of_all : (n i : ℕ) (f : ℕ → Term) → Within (term_at (all n f) i) (f i)
-      of_all zero i f = within_done (f i)
-      of_all (suc n) zero f = within_self (f 0)
-      of_all (suc n) (suc i) f = of_all n i (λ j. f (suc j))
+        part : (ts : Terms) (i j : ℕ) (t : Term) → Within t (term_at ts i) → Within (term_at (with_term ts i t) j) (term_at ts j)
+        part no_terms i j t within = within_done done
+        part (term u ts) zero zero t within = within
+        part (term u ts) zero (suc j) t within = within_self (term_at ts j)
+        part (term u ts) (suc i) zero t within = within_self u
+        part (term u ts) (suc i) (suc j) t within = part ts i j t within
+
+    pub rows_tidy : (s : Store) (ts : Terms) → AreRows ts → AreRows (tidy_all s ts)
+    rows_tidy s ts are = record {
+      rows = λ i. subst IsRow (sym (at_tidy s ts i)) (row_tidy s (term_at ts i) (are.rows i));
+      apart = λ i j ne. subst (λ t. Apart t (term_at (tidy_all s ts) j)) (sym (at_tidy s ts i)) (subst (Apart (tidy s (term_at ts i))) (sym (at_tidy s ts j))
+          (apart_within (term_at ts i) (term_at ts j) (tidy s (term_at ts i)) (tidy s (term_at ts j)) (are.apart i j ne) (tidy_within s (term_at ts i) (are.rows i)) (tidy_within s (term_at ts j) (are.rows j))));
+    }
+
+    pub rows_all : (n : ℕ) (f : ℕ → Term) → ((i : ℕ) → IsRow (f i)) → ((i j : ℕ) → i ≢ j → Apart (f i) (f j)) → AreRows (all n f)
+    rows_all n f rows apart = record {
+      rows = λ i. by_rows n i f rows;
+      apart = λ i j ne. apart_within (f i) (f j) (term_at (all n f) i) (term_at (all n f) j) (apart i j ne) (of_all n i f) (of_all n j f);
+    }
+      where
+        by_rows : (n i : ℕ) (f : ℕ → Term) → ((i : ℕ) → IsRow (f i)) → IsRow (term_at (all n f) i)
+        by_rows zero i f rows = tt
+        by_rows (suc n) zero f rows = rows 0
+        by_rows (suc n) (suc i) f rows = by_rows n i (λ j. f (suc j)) (λ j. rows (suc j))
+
+        of_all : (n i : ℕ) (f : ℕ → Term) → Within (term_at (all n f) i) (f i)
+        of_all zero i f = within_done (f i)
+        of_all (suc n) zero f = within_self (f 0)
+        of_all (suc n) (suc i) f = of_all n i (λ j. f (suc j))
+
+    -- one, and an array of others
+    pub rows_led : (a : Term) (n : ℕ) (f : ℕ → Term) → IsRow a → ((i : ℕ) → IsRow (f i)) → ((i : ℕ) → i < n → Apart a (f i)) → ((i j : ℕ) → i ≢ j → Apart (f i) (f j)) → AreRows (term a (all n f))
+    rows_led a n f row rows led apart = record { rows = each; apart = pairs }
+      where
+        others : AreRows (all n f)
+        others = rows_all n f rows apart
+
+        each : (i : ℕ) → IsRow (term_at (term a (all n f)) i)
+        each zero = row
+        each (suc i) = others.rows i
+
+        to_each : (n i : ℕ) (f : ℕ → Term) → ((i : ℕ) → i < n → Apart a (f i)) → Apart a (term_at (all n f) i)
+        to_each zero i f led = record {
+          ports = λ p i j. j;
+          slots = λ x i j. j;
+          there = λ x p q keeps gives at is on. absurd on;
+          here = λ x p q keeps gives at is on. absurd at;
+        }
+        to_each (suc n) zero f led = led 0 (omega arith)
+        to_each (suc n) (suc i) f led = to_each n i (λ j. f (suc j)) (λ j lt. led (suc j) (omega (arith, lt)))
+
+        pairs : (i j : ℕ) → i ≢ j → Apart (term_at (term a (all n f)) i) (term_at (term a (all n f)) j)
+        pairs zero zero ne = absurd (ne refl)
+        pairs zero (suc j) ne = to_each n j f led
+        pairs (suc i) zero ne = apart_turned a (term_at (all n f) i) (to_each n i f led)
+        pairs (suc i) (suc j) ne = others.apart i j (λ e. ne (ap suc e))

@@ -1,6 +1,6 @@
 -- Where the run that was made stops before a move of the host, or of nobody, no other run shows it there either.
-use Rattle.std.proofs.Common.{◌≡◌, ◌≢◌, inl, inr, ℕ, ◌<◌, ◌≤◌, Bool, true, not, Option, None, List, [], ◌∷◌, ◌++◌, length, refl, sym, ap, subst, ◌∙◌}
-use Rattle.std.specs.Prelude.{◌==◌, if◌then◌else◌}
+use Rattle.std.proofs.Common.{◌≡◌, ◌≢◌, inl, inr, ℕ, zero, suc, ◌-◌, ◌<◌, ◌≤◌, Bool, true, false, not, Option, None, List, [], ◌∷◌, ◌++◌, get_or, length, replicate, refl, sym, ap, subst, ◌∙◌}
+use Rattle.std.specs.Prelude.{if◌then◌else◌}
 use Rattle.std.proofs.lemmas.Bool.{cases_eq, eq-eqb, ne_eqb}
 use Rattle.std.proofs.lemmas.List.{append-nil}
 use Rattle.bz_model.specs.declared.channel.Move.{Move}
@@ -18,6 +18,7 @@ use Rattle.bz_flat.specs.Wires.{HasEnd, WellWired}
 use Rattle.bz_net.specs.Sides.{answers, sends}
 use Rattle.bz_net.proofs.Soundness.{Run-push}
 use Rattle.bz_run_laws.proofs.Alive.{Alive, alive-follows, alive-opening, unbroken}
+use Rattle.bz_complete.specs.Choosing.{is_request, open_after, open_with}
 use Rattle.bz_complete.specs.Shown.{shown, shown_of}
 use Rattle.bz_complete.specs.Stopping.{HasRun, IsDeadEnd, is_busy, replies, word_of}
 use Rattle.bz_complete.specs.declared.short.Sent.{Sent}
@@ -29,17 +30,14 @@ use Rattle.bz_complete.proofs.Noticing.{entry_shows, told}
 use Rattle.bz_complete.proofs.Sending.{Reached, at_opening, follows}
 
 -- a channel is busy or not by what was sent there last
-abbrev busy_with : ℕ → Bool → ShortMove → Bool
-busy_with k b m = if m.chan == k then not (replies m.sent) else b
+requests : (s : Sent) → is_request s ≡ not (replies s)
+requests sent.Ask = refl
+requests sent.Reply = refl
 
-abbrev busy_after : ℕ → Bool → List ShortMove → Bool
-busy_after k b [] = b
-busy_after k b (m ∷ ms) = busy_after k (busy_with k b m) ms
+busy_here : (k : ℕ) (b : Bool) (m : ShortMove) → m.chan ≡ k → open_with k b m ≡ not (replies m.sent)
+busy_here k b m e = ap (λ t. if t then is_request m.sent else b) (eq-eqb m.chan k e) ∙ requests m.sent
 
-busy_here : (k : ℕ) (b : Bool) (m : ShortMove) → m.chan ≡ k → busy_with k b m ≡ not (replies m.sent)
-busy_here k b m e = rw (eq-eqb m.chan k e) refl
-
-busy_there : (k : ℕ) (b : Bool) (m : ShortMove) → m.chan ≢ k → busy_with k b m ≡ b
+busy_there : (k : ℕ) (b : Bool) (m : ShortMove) → m.chan ≢ k → open_with k b m ≡ b
 busy_there k b m ne = rw (ne_eqb m.chan k ne) refl
 
 move_sent : (phase : Phase) (mv : Move) (v : Option ℕ) → phase_after phase mv v ≢ Broken → sends mv ≡ true → is_busy (phase_after phase mv v) ≡ not (answers mv)
@@ -55,6 +53,30 @@ move_sent (Asked x) Reply v whole is = absurd (whole refl)
 move_sent Taken Reply v whole is = refl
 move_sent (Replied x) Reply v whole is = absurd (whole refl)
 move_sent Broken Reply v whole is = absurd (whole refl)
+
+-- a reply breaks no channel where a request is open alone
+replied : (phase : Phase) (mv : Move) (v : Option ℕ) → phase_after phase mv v ≢ Broken → sends mv ≡ true → answers mv ≡ true → is_busy phase ≡ true
+replied phase Ask v whole is side = absurd (cc)
+replied phase Take v whole is side = absurd (cc)
+replied phase Got v whole is side = absurd (cc)
+replied Idle Reply v whole is side = absurd (whole refl)
+replied (Asked x) Reply v whole is side = absurd (whole refl)
+replied Taken Reply v whole is side = refl
+replied (Replied x) Reply v whole is side = absurd (whole refl)
+replied Broken Reply v whole is side = absurd (whole refl)
+
+word_replied : (s : Sent) (phase : Phase) → replies s ≡ true → reply_to (word_of s) phase ≡ said.Done → is_busy phase ≡ true
+word_replied sent.Ask phase is done = absurd (cc)
+word_replied sent.Reply Idle is done = absurd (cc)
+word_replied sent.Reply (Asked x) is done = absurd (cc)
+word_replied sent.Reply Taken is done = refl
+word_replied sent.Reply (Replied x) is done = absurd (cc)
+word_replied sent.Reply Broken is done = absurd (cc)
+
+pub idle_at : (n i : ℕ) → get_or (replicate n Idle) i Idle ≡ Idle
+idle_at zero i = refl
+idle_at (suc n) zero = refl
+idle_at (suc n) (suc i) = idle_at n i
 
 word_sent : (s : Sent) (v : Option ℕ) (phase : Phase) → reply_to (word_of s) phase ≡ said.Done → is_busy (host_after (word_of s) v phase) ≡ not (replies s)
 word_sent sent.Ask v Idle done = refl
@@ -140,7 +162,7 @@ module _ (w : Wiring) (wired : WellWired w) where
 
   -- ---- the host, and nobody
 
-  sent_busy : (s next : State) (e : Entry) (m : ShortMove) (k : ℕ) → 0 < k → Kept s → Follows w s e next → shown_of e ≡ m ∷ [] → is_busy (phase_at next k) ≡ busy_with k (is_busy (phase_at s k)) m
+  pub sent_busy : (s next : State) (e : Entry) (m : ShortMove) (k : ℕ) → 0 < k → Kept s → Follows w s e next → shown_of e ≡ m ∷ [] → is_busy (phase_at next k) ≡ open_with k (is_busy (phase_at s k)) m
   sent_busy s next (Fired who c p j mv v) m k from kept step shows =
       let tells = told j mv v m shows in
       let whole = unbroken w wired next (alive-follows w wired s (Fired who c p j mv v) next kept.alive step) in
@@ -167,18 +189,35 @@ module _ (w : Wiring) (wired : WellWired w) where
       ]
   sent_busy s next (Rested who) m k from kept by shows = absurd (cc)
 
-  run_busy : (s last : State) (es : List Entry) (k : ℕ) → 0 < k → Kept s → Run w s es last → is_busy (phase_at last k) ≡ busy_after k (is_busy (phase_at s k)) (shown es)
+  run_busy : (s last : State) (es : List Entry) (k : ℕ) → 0 < k → Kept s → Run w s es last → is_busy (phase_at last k) ≡ open_after k (is_busy (phase_at s k)) (shown es)
   run_busy s last [] k from kept is = ap (λ t. is_busy (phase_at t k)) is
   run_busy s last (e ∷ es) k from kept (next, by, run) = elim (entry_shows e) [
     | inl silent ↦
         run_busy next last es k from (kept_follows s next e kept by) run
-        ∙ ap (λ b. busy_after k b (shown es)) (silent_busy w wired k from s next e kept.reached by silent)
-        ∙ ap (λ xs. busy_after k (is_busy (phase_at s k)) (xs ++ shown es)) (sym silent)
+        ∙ ap (λ b. open_after k b (shown es)) (silent_busy w wired k from s next e kept.reached by silent)
+        ∙ ap (λ xs. open_after k (is_busy (phase_at s k)) (xs ++ shown es)) (sym silent)
     | inr (x, is) ↦
         run_busy next last es k from (kept_follows s next e kept by) run
-        ∙ ap (λ b. busy_after k b (shown es)) (sent_busy s next e x k from kept by is)
-        ∙ ap (λ xs. busy_after k (is_busy (phase_at s k)) (xs ++ shown es)) (sym is)
+        ∙ ap (λ b. open_after k b (shown es)) (sent_busy s next e x k from kept by is)
+        ∙ ap (λ xs. open_after k (is_busy (phase_at s k)) (xs ++ shown es)) (sym is)
   ]
+
+  -- what is replied was requested
+  pub reply_busy : (s next : State) (e : Entry) (m : ShortMove) → Kept s → Follows w s e next → shown_of e ≡ m ∷ [] → replies m.sent ≡ true → is_busy (phase_at s m.chan) ≡ true
+  reply_busy s next (Fired who c p j mv v) m kept step shows is =
+      let tells = told j mv v m shows in
+      let whole = unbroken w wired next (alive-follows w wired s (Fired who c p j mv v) next kept.alive step) in
+      let here = moved_here w wired s next c p j mv v kept.reached step in
+      ap (λ x. is_busy (phase_at s x)) (sym tells.chan) ∙ replied (phase_at s j) mv v (λ broken. whole j (here ∙ broken)) tells.sent_is (tells.side ∙ is)
+  reply_busy s next (Host who verb port v reply) m kept step shows is =
+      let said_is = word_told verb port v reply m shows in
+      let done : reply_to (word_of m.sent) (phase_at s port) ≡ said.Done = ap (λ x. reply_to x (phase_at s port)) (sym said_is.verb_is) ∙ sym step.reply_is ∙ said_is.done in
+      ap (λ x. is_busy (phase_at s x)) (sym said_is.chan) ∙ word_replied m.sent (phase_at s port) is done
+  reply_busy s next (Rested who) m kept by shows is = absurd (cc)
+
+  -- a request is open on a channel as the moves say that a run shows
+  pub open_at : (s : State) (es : List Entry) (k : ℕ) → 0 < k → Run w (opening w) es s → is_busy (phase_at s k) ≡ open_after k false (shown es)
+  open_at s es k from run = run_busy (opening w) s es k from kept_opening run ∙ ap (λ b. open_after k b (shown es)) (ap is_busy (idle_at (length w.chans) (k - 1)))
 
   module _ (m : ShortMove) (none : HasEnd w.sites m.chan (replies m.sent) → ⊥) where
     -- a run with the same moves before it
@@ -203,5 +242,5 @@ module _ (w : Wiring) (wired : WellWired w) where
         let c = other_cut (shown es) has in
         let one = run_busy (opening w) s es m.chan from kept_opening run in
         let other = run_busy (opening w) c.at c.before m.chan from kept_opening c.run in
-        let same : is_busy (phase_at c.at m.chan) ≡ is_busy (phase_at s m.chan) = other ∙ ap (busy_after m.chan (is_busy (phase_at (opening w) m.chan))) c.shows ∙ sym one in
+        let same : is_busy (phase_at c.at m.chan) ≡ is_busy (phase_at s m.chan) = other ∙ ap (open_after m.chan (is_busy (phase_at (opening w) m.chan))) c.shows ∙ sym one in
         not_dead (opening w) (shown es) m c (turn_dead w wired m none from c.at (cut_kept (shown es) c).reached (same ∙ busy))

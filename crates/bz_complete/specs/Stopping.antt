@@ -1,5 +1,5 @@
 -- Why a short trace is not made whole: what no run shows next.
-use Rattle.std.specs.Prelude.{◌≡◌, ℕ, ◌<◌, ◌≤◌, Bool, true, false, Some, List, [], ◌∷◌, ◌++◌, length, take}
+use Rattle.std.specs.Prelude.{◌≡◌, ℕ, ◌-◌, ◌<◌, ◌≤◌, Bool, true, false, Some, List, [], ◌∷◌, ◌++◌, length, take}
 use Rattle.bz_model.specs.declared.channel.Phase.{Phase}
 use Rattle.bz_model.specs.declared.channel.Phase.TheVariants.{Asked, Taken}
 use Rattle.bz_model.specs.declared.event.Entry.{Entry}
@@ -14,7 +14,7 @@ use Rattle.bz_flat.specs.Wires.{HasEnd, IsEnd}
 use Rattle.bz_net.specs.Sides.{sends}
 use Rattle.bz_net.specs.Simulation.{Simulation}
 use Rattle.bz_complete.specs.Shown.{shown, shown_move}
-use Rattle.bz_complete.specs.Choosing.{NeverChooses}
+use Rattle.bz_complete.specs.Choosing.{HasNoChoice}
 use Rattle.bz_complete.specs.declared.making.Maker.{Maker}
 use Rattle.bz_complete.specs.declared.making.Maker.TheVariants as maker
 use Rattle.bz_complete.specs.declared.short.Sent.{Sent}
@@ -69,9 +69,9 @@ pub record HasRun (w : Wiring) (moves : List ShortMove) : Type 0 where
   pub run : Run w (opening w) entries last
   pub shows : shown entries ≡ moves
 
--- a move of the host, of nobody, or of a component that never chooses
-abbrev pub IsPlain : Wiring → ShortMove → Type 0
-IsPlain w m = (c p : ℕ) → IsEnd w.sites m.chan (replies m.sent) c p → NeverChooses w c
+-- a move of the host, of nobody, or of a component that has no choice while these moves are made before it
+abbrev pub IsPlain : Wiring → List ShortMove → ShortMove → Type 0
+IsPlain w moves m = (c p : ℕ) → IsEnd w.sites m.chan (replies m.sent) c p → HasNoChoice w moves c
 
 -- no run of a net shows what its journal shows, and then this move
 abbrev pub IsUnshown : Simulation → ShortMove → Type 0
@@ -80,12 +80,13 @@ IsUnshown net m = HasRun net.wiring (shown net.journal ++ m ∷ []) → ⊥
 -- Where a net stops before a move: its run doesn't go on to show it, and where that is plain no other run shows it either.
 pub record IsStop (net : Simulation) (m : ShortMove) : Type 0 where
   pub dead : IsDeadEnd net.wiring net.state m
-  pub none : IsPlain net.wiring m → IsUnshown net m
+  pub none : IsPlain net.wiring (shown net.journal) m → IsUnshown net m
 
 -- the same of the move of a line, counted from 1
 abbrev pub IsStopAt : Simulation → List ShortMove → ℕ → Type 0
 IsStopAt net moves line = (m : ShortMove) → numbered moves line ≡ Some m → IsStop net m
 
--- no run shows the moves up to that of a line, counted from 1, where that move is plain
+-- no run shows the moves up to that of a line, counted from 1, where that move is plain behind those before it
 abbrev pub IsRefuted : Wiring → List ShortMove → ℕ → Type 0
-IsRefuted w moves line = (m : ShortMove) → numbered moves line ≡ Some m → IsPlain w m → HasRun w (take line moves) → ⊥
+IsRefuted w moves line =
+    (m : ShortMove) → numbered moves line ≡ Some m → IsPlain w (take (line - 1) moves) m → HasRun w (take line moves) → ⊥

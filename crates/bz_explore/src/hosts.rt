@@ -58,6 +58,11 @@ impl StandBy {
         Some(all.saturating_sub(count as u64))
     }
 
+    /// Whether it has less to give once it has given something.
+    pub fn has_an_end(&self) -> bool {
+        self.left(0).is_some()
+    }
+
     /// Makes its next word ready, if it can give one.
     pub fn readies(&mut self, net: &Net) -> bool {
         let (begins, ends) = if self.passive {

@@ -1,4 +1,8 @@
 //! Runs in turn: up to rest, up to a number of firings, or until something has moved, and on with the hosts that stand by.
+//!
+//! A run whose firings nobody has bounded may never end. So it stops where it goes round: where the net is in a state in which it
+//! was before, the next run would look from the same component on, and no host has given anything since of which it has less left.
+//! Then all goes on as it did from that moment on.
 
 use crate::answer::{Answer, add};
 use crate::commands::{Call, number};
@@ -6,12 +10,12 @@ use crate::feeding::port_named;
 use crate::hosts::{StandBy, forget};
 use crate::session::Session;
 use crate::things::found;
-use bz_explore_net::Stepping;
+use bz_explore_net::{Rounds, Stepping};
 use bz_model::{Entry, NetError};
 use bz_net::RunEnd;
 use bz_view::{Seen, Thing};
 use bz_words::read_name;
-use std::alloc::AllocError;
+use std::alloc::{AllocError, Global};
 
 /// How far a run is to go.
 #[derive(Clone, Copy)]
@@ -20,8 +24,8 @@ pub(crate) struct Goal<'g> {
     pub things: &'g [Thing],
     /// The most firings.
     pub most: u64,
-    /// Whether hosts that stand by go on at rest.
-    pub is_served: bool,
+    /// Whether it goes on without end: at rest by the hosts that stand by, and until it goes round.
+    pub is_endless: bool,
 }
 
 /// How a run ended.
@@ -31,6 +35,8 @@ pub(crate) enum RanTo {
     End,
     /// Once something had moved here.
     Thing(Thing),
+    /// Where all went on as it did when the journal had so many entries.
+    Again(usize),
     /// Where an entry was refused.
     Refused(NetError),
 }
@@ -41,6 +47,51 @@ enum Stage {
     Moves,
     Rests,
     Ended(RanTo),
+}
+
+// So many looks at a run are a move apart.
+const CLOSE: u64 = 64;
+
+/// Looks whether a run goes round. A look after each move would take long: so three moves of four are made without one, each
+/// time in front of a look at which a moment is kept, which are those number 128, 256, 512 .. That it goes round is found after at
+/// most nine times as many moves as it makes until it comes back.
+#[derive(Drop)]
+struct Watch {
+    rounds: Rounds,
+    looks: u64,
+    /// The number of the next look at which a moment is kept.
+    due: u64,
+}
+
+impl Watch {
+    fn new() -> Watch {
+        Watch {
+            rounds: Rounds::new(),
+            looks: 0,
+            due: 1,
+        }
+    }
+
+    // How many moves are made before the next look.
+    fn stride(&self) -> u64 {
+        if self.due > CLOSE && self.looks.saturating_add(1) == self.due {
+            self.due.saturating_add(self.due / 2)
+        } else {
+            1
+        }
+    }
+
+    // How far the run is: it goes on unless it goes round.
+    fn stage(&mut self, alloc: Global, stepping: &Stepping) -> Stage {
+        self.looks = self.looks.saturating_add(1);
+        if self.looks == self.due {
+            self.due = self.due.saturating_mul(2);
+        }
+        match self.rounds.look(alloc, stepping) {
+            None => Stage::Moves,
+            Some(entries) => Stage::Ended(RanTo::Again(entries)),
+        }
+    }
 }
 
 /// Where a run to a thing stops: that there is no such thing is told.
@@ -81,22 +132,24 @@ pub(crate) fn run_up_to(
     answer: &mut Answer,
 ) -> (u64, RanTo) {
     let mut fired = 0;
+    let mut watch = Watch::new();
     let before = stepping.net().journal().len();
-    let first = stepping.run(answer.text.alloc(), typed, goal.step());
+    let alloc = answer.text.alloc();
+    let first = stepping.run(alloc, typed, goal.step(&watch));
     if stepping.net().journal().len() > before {
         forget(hosts, before);
     }
     let mut stage = match first {
-        Ok(end) => goal.stage_after(stepping, end, &mut fired),
+        Ok(end) => goal.stage_after(alloc, stepping, end, &mut fired, &mut watch),
         Err(AllocError) => Stage::Ended(RanTo::Refused(NetError::Memory)),
     };
     for _ in 0..u64::MAX {
         stage = match stage {
             Stage::Moves => {
-                let end = stepping.run_on(goal.step());
-                goal.stage_after(stepping, end, &mut fired)
+                let end = stepping.run_on(goal.step(&watch));
+                goal.stage_after(alloc, stepping, end, &mut fired, &mut watch)
             }
-            Stage::Rests => goal.stage_at_rest(stepping, hosts),
+            Stage::Rests => goal.stage_at_rest(alloc, stepping, hosts, &mut watch),
             Stage::Ended(end) => return (fired, end),
         };
     }
@@ -105,16 +158,25 @@ pub(crate) fn run_up_to(
 
 impl Goal<'_> {
     // How many firings are made at once.
-    fn step(self) -> u64 {
-        if self.things.is_empty() {
-            self.most
-        } else {
+    fn step(self, watch: &Watch) -> u64 {
+        if !self.things.is_empty() {
             self.most.min(1)
+        } else if self.is_endless {
+            watch.stride()
+        } else {
+            self.most
         }
     }
 
     // How far the run is once some more have fired.
-    fn stage_after(self, stepping: &Stepping, end: RunEnd, fired: &mut u64) -> Stage {
+    fn stage_after(
+        self,
+        alloc: Global,
+        stepping: &Stepping,
+        end: RunEnd,
+        fired: &mut u64,
+        watch: &mut Watch,
+    ) -> Stage {
         match end {
             RunEnd::Rest(more) => {
                 *fired = fired.saturating_add(more);
@@ -128,6 +190,7 @@ impl Goal<'_> {
             RunEnd::Spent(more) => {
                 *fired = fired.saturating_add(more);
                 match self.reached(stepping) {
+                    None if self.is_endless => watch.stage(alloc, stepping),
                     None if *fired < self.most => Stage::Moves,
                     None => Stage::Ended(RanTo::End),
                     Some(thing) => Stage::Ended(RanTo::Thing(thing)),
@@ -137,14 +200,20 @@ impl Goal<'_> {
     }
 
     // How far the run is once the net has come to rest, and a host that stands by has gone on.
-    fn stage_at_rest(self, stepping: &mut Stepping, hosts: &mut [StandBy]) -> Stage {
-        if !self.is_served {
+    fn stage_at_rest(
+        self,
+        alloc: Global,
+        stepping: &mut Stepping,
+        hosts: &mut [StandBy],
+        watch: &mut Watch,
+    ) -> Stage {
+        if !self.is_endless {
             return Stage::Ended(RanTo::End);
         }
-        match gives(stepping, hosts) {
+        match gives(stepping, hosts, &mut watch.rounds) {
             Ok(false) => Stage::Ended(RanTo::End),
             Ok(true) => match self.reached(stepping) {
-                None => Stage::Moves,
+                None => watch.stage(alloc, stepping),
                 Some(thing) => Stage::Ended(RanTo::Thing(thing)),
             },
             Err(error) => Stage::Ended(RanTo::Refused(error)),
@@ -172,12 +241,19 @@ fn moves_at(entry: Entry, thing: Thing) -> bool {
 }
 
 // Gives the next word of the first host that can go on: whether there was one.
-fn gives(stepping: &mut Stepping, hosts: &mut [StandBy]) -> Result<bool, NetError> {
+fn gives(
+    stepping: &mut Stepping,
+    hosts: &mut [StandBy],
+    rounds: &mut Rounds,
+) -> Result<bool, NetError> {
     let place = stepping.net().journal().len();
     for host in hosts {
         if host.readies(stepping.net()) {
             stepping.command_on(&host.word)?;
             host.note(place)?;
+            if host.has_an_end() {
+                rounds.forget();
+            }
             return Ok(true);
         }
     }

@@ -15,7 +15,7 @@ use crate::saving::{
     MOST_COMPS, put_redone, put_script, put_trace_page, put_undone, save, save_text,
 };
 use crate::table::{Form, put_help};
-use crate::telling::{put_fired, put_played, put_said, put_stop};
+use crate::telling::{put_again, put_fired, put_played, put_said, put_stop};
 use crate::things::place_asked;
 use bz_explore_net::{HostOffer, Stepping};
 use bz_model::{Cmd, HostCmd, NetError, Reply};
@@ -264,7 +264,7 @@ impl<'s> Session<'s> {
         let goal = Goal {
             things: things.as_slice(),
             most: number(count.unwrap_or("")).unwrap_or(u64::MAX),
-            is_served: count.is_none(),
+            is_endless: count.is_none(),
         };
         self.run_up_to(goal);
     }
@@ -287,6 +287,11 @@ impl<'s> Session<'s> {
             RanTo::Thing(thing) => {
                 let seen = Seen::of(self.stepping.net().core(), self.survey);
                 put_stop(seen, fired, thing, &mut self.answer);
+            }
+            RanTo::Again(entries) => {
+                let (from, to) = (line_of(entries), line_of(self.entries()));
+                let seen = Seen::of(self.stepping.net().core(), self.survey);
+                put_again(seen, fired, from, to, &mut self.answer);
             }
             RanTo::Refused(error) => {
                 self.is_spent(error);
@@ -492,4 +497,9 @@ impl<'s> Session<'s> {
     fn entries(&self) -> usize {
         self.stepping.net().journal().len()
     }
+}
+
+// The line of a trace behind which so many entries stand: the first one has none.
+fn line_of(entries: usize) -> usize {
+    entries.saturating_add(1)
 }

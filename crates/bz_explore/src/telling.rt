@@ -8,6 +8,9 @@ use bz_source::Survey;
 use bz_text::Text;
 use bz_view::{Piece, Seen, Thing};
 
+const ROUND: &str =
+    "the state behind line % is that behind line %: with this order it goes on so for ever\n";
+
 /// Adds what was played behind the first `before` entries, and what the host was told.
 pub(crate) fn put_played(
     stepping: &Stepping,
@@ -76,6 +79,18 @@ fn put_stop_member(thing: Thing, members: &mut Text) {
         Thing::Chan(chan) => (", \"stopped_at\": {\"channel\": %}", chan),
     };
     members.say(form, &[Piece::Wide(number.into())]);
+}
+
+/// Adds how often components fired until all went on as it had behind an earlier line of the trace, and that line and the last.
+pub(crate) fn put_again(seen: Seen<'_>, fired: u64, from: usize, to: usize, answer: &mut Answer) {
+    put_fired(seen, fired, answer);
+    let (from, to) = (Piece::Number(from), Piece::Number(to));
+    if answer.is_object {
+        let form = ", \"goes_round\": {\"from\": %, \"to\": %}";
+        answer.members.say(form, &[from, to]);
+    } else {
+        answer.text.say(ROUND, &[to, from]);
+    }
 }
 
 /// Adds what stands behind `say`.

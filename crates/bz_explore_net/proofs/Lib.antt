@@ -4,3 +4,4 @@ pub mod Busyness
 pub mod Going
 pub mod Answered
 pub mod Picked
+pub mod Again

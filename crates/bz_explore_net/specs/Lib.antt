@@ -4,3 +4,4 @@ pub mod Waiting
 pub mod Replaying
 pub mod Picking
 pub mod Stepping
+pub mod Rounds

@@ -7,6 +7,7 @@ mod host_offers;
 mod offers;
 mod picker;
 mod replaying;
+mod rounds;
 mod stepping;
 
 pub use busy::busy_chans;
@@ -14,4 +15,5 @@ pub use host_offers::{HostOffer, answered_words};
 pub use offers::{Offer, offers_of};
 pub use picker::Picker;
 pub use replaying::replay;
+pub use rounds::{Moment, Rounds, rounds_go_on_for_ever};
 pub use stepping::{Mark, Stepping, UndoError};

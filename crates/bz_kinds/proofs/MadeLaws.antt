@@ -1,6 +1,6 @@
 -- What the move due at a port carries and keeps.
 use Rattle.std.proofs.Common.{◌≡◌, ◌≢◌, ◌≤◌, ◌<◌, ℕ, zero, suc, ◌-◌, Bool, true, false, Option, Some, None, refl, subst, arith}
-use Rattle.std.specs.Prelude.{if◌then◌else◌, nat_lt}
+use Rattle.std.specs.Prelude.{if◌then◌else◌, nat_lt, MatchBool}
 use Rattle.std.proofs.lemmas.Bool.{lt-ltb, le-ltb}
 use Rattle.bz_model.specs.declared.channel.Move.TheVariants.{Ask, Take, Reply, Got}
 use Rattle.bz_model.specs.declared.expr.Expr.{Expr}
@@ -11,8 +11,10 @@ use Rattle.bz_kinds.specs.declared.ports.PortState.TheVariants.{Closed, ClosedDu
 use Rattle.bz_kinds.specs.Ports.{is_due}
 use Rattle.bz_kinds.specs.declared.row.Leg.{Leg}
 use Rattle.bz_kinds.specs.declared.row.Meet.{Meet}
+use Rattle.bz_kinds.specs.declared.row.Mix.{Mix}
 use Rattle.bz_kinds.specs.declared.row.Row.{Row}
 use Rattle.bz_kinds.specs.Row.{Due, row_due, lead_due, leg_due, leg_of}
+use Rattle.bz_kinds.specs.Choice.{choice_due}
 use Rattle.bz_kinds.specs.Meeting.{into, answer, behind_due, meeting_due}
 use Rattle.bz_kinds.specs.Riding.{Made}
 
@@ -57,6 +59,12 @@ lead-narrow into answer d OpenDue e ne narrow =
     let q : d ≡ record { mv = Reply; gives = answer; into = 0 } = cc in
     subst (λ (d : Due). IsNarrow d.gives) q narrow
 
+pub leg-narrow : (leg : Leg) (d : Due) (a : PortState) → leg_due leg a ≡ Some d → a ≡ ClosedDue → IsNarrow d.gives → IsNarrow leg.gives
+leg-narrow leg d a e is narrow =
+    let f : leg_due leg ClosedDue ≡ Some d = subst (λ a. leg_due leg a ≡ Some d) is e in
+    let q : d ≡ record { mv = Ask; gives = leg.gives; into = 0 } = cc in
+    subst (λ (d : Due). IsNarrow d.gives) q narrow
+
 -- of a row
 pub at-lead : (row : Row) (p : ℕ) (a : PortState) (d : Due) → row_due row p a ≡ Some d → p ≡ 1 → lead_due row.into row.answer a ≡ Some d
 at-lead row p a d e is = subst (λ p. row_due row p a ≡ Some d) is e
@@ -83,6 +91,13 @@ at-behind meet n (suc i) a d leg e lt is =
     let le : n ≤ i = omega (arith, lt) in
     subst (λ o. behind_due meet n o a ≡ Some d) is
     (subst (λ b. (if b then lead_due (into meet n i) (answer meet n i) a else behind_due meet n meet.leg a) ≡ Some d) (le-ltb i n le) e)
+
+-- of a choice: at a branch, and behind
+pub at-branch : (mix : Mix) (n p : ℕ) (a : PortState) (d : Due) → choice_due mix n p a ≡ Some d → p ≤ n → lead_due mix.into mix.answer a ≡ Some d
+at-branch mix n p a d e le = subst (λ b. (if b then leg_due mix.leg a else lead_due mix.into mix.answer a) ≡ Some d) (le-ltb n p le) e
+
+pub at-out : (mix : Mix) (n p : ℕ) (a : PortState) (d : Due) → choice_due mix n p a ≡ Some d → n < p → leg_due mix.leg a ≡ Some d
+at-out mix n p a d e lt = subst (λ b. (if b then leg_due mix.leg a else lead_due mix.into mix.answer a) ≡ Some d) (lt-ltb n p lt) e
 
 -- a port at which a move is due has a number
 pub some-port : (meet : Meet) (n p : ℕ) (a : PortState) (d : Due) → meeting_due meet n p a ≡ Some d → p ≡ suc (p - 1)
@@ -118,6 +133,20 @@ meeting-is-due meet n (suc i) a d e = cases (nat_lt i n) e
     cases : (b : Bool) → (if b then lead_due (into meet n i) (answer meet n i) a else behind_due meet n meet.leg a) ≡ Some d → is_due a ≡ true
     cases true e = lead-is-due (into meet n i) (answer meet n i) a d e
     cases false e = behind-is-due meet n meet.leg a d e
+
+pub choice-is-due : (mix : Mix) (n p : ℕ) (a : PortState) (d : Due) → choice_due mix n p a ≡ Some d → is_due a ≡ true
+choice-is-due mix n p a d e = cases (nat_lt n p) e
+  where
+    cases : (b : Bool) → (if b then leg_due mix.leg a else lead_due mix.into mix.answer a) ≡ Some d → is_due a ≡ true
+    cases true e = leg-is-due mix.leg a d e
+    cases false e = lead-is-due mix.into mix.answer a d e
+
+-- by an answer, what is due opens a port or closes it
+pub to-open : (b : Bool) (a : PortState) → b ≡ true → MatchBool b (a ≡ ClosedDue) (a ≡ OpenDue) → a ≡ ClosedDue
+to-open b a is opens = subst (λ b. MatchBool b (a ≡ ClosedDue) (a ≡ OpenDue)) is opens
+
+pub to-close : (b : Bool) (a : PortState) → b ≡ false → MatchBool b (a ≡ ClosedDue) (a ≡ OpenDue) → a ≡ OpenDue
+to-close b a is closes = subst (λ b. MatchBool b (a ≡ ClosedDue) (a ≡ OpenDue)) is closes
 
 -- what closes a port opens none
 pub not-opened : (a : PortState) → a ≡ OpenDue → a ≢ ClosedDue

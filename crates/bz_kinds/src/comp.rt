@@ -25,6 +25,7 @@ use crate::kept_lists::{KeptChans, KeptSlots};
 use crate::move_iter::MoveIter;
 use crate::ports::{PortState, Ports};
 use crate::row::{DueMove, Script};
+use crate::same::is_same_plan;
 use crate::sense::{move_at, sense_word};
 use crate::shape::shape_of;
 use crate::{
@@ -178,13 +179,13 @@ fn turn(proc: &mut Process, port: u32, rides: Option<Value>) -> (Move, Option<Va
     ensures kept { KeepsPlan proc.old proc.new }
 {
     match &proc.plan {
-        KeptPlan::InTurn(row) => {
+        KeptPlan::InTurn(_) | KeptPlan::OwnInTurn(_) => {
             let (ports, left, slots) = (&mut proc.ports, &mut proc.left, &mut proc.slots);
-            in_turn::fire(row.get(), ports, left, proc.size, port, slots, rides)
+            in_turn::fire(proc.plan.row(), ports, left, proc.size, port, slots, rides)
         }
-        KeptPlan::Together(row) => {
+        KeptPlan::Together(_) | KeptPlan::OwnTogether(_) => {
             let (ports, left, slots) = (&mut proc.ports, &mut proc.left, &mut proc.slots);
-            together::fire(row.get(), ports, left, proc.size, port, slots, rides)
+            together::fire(proc.plan.row(), ports, left, proc.size, port, slots, rides)
         }
         KeptPlan::Cells => cells::fire(&mut proc.ports, proc.size, port, &mut proc.slots, rides),
         KeptPlan::OneByOne(Script::Loop) => {
@@ -246,7 +247,7 @@ fn held(is_there: bool, value: Value) -> Option<Value>
     if is_there { Some(value) } else { None }
 }
 
-// The same of any plan.
+// The same of any plan. Each arm borrows its own fields, as in `turn`.
 #[inline(always)]
 fn turn_rare(proc: &mut Process, port: u32, rides: Option<Value>) -> (Move, Option<Value>)
     requires { CanTurn proc.old port rides }
@@ -255,9 +256,13 @@ fn turn_rare(proc: &mut Process, port: u32, rides: Option<Value>) -> (Move, Opti
     ensures kept { KeepsPlan proc.old proc.new }
 {
     match &proc.plan {
-        KeptPlan::OwnInTurn(row) => {
+        KeptPlan::OneByOne(Script::While) => {
             let (ports, left, slots) = (&mut proc.ports, &mut proc.left, &mut proc.slots);
-            in_turn::fire(row, ports, left, proc.size, port, slots, rides)
+            script::fire_while(ports, left, port, slots, rides)
+        }
+        KeptPlan::Choice(mix) => {
+            let (ports, left, slots) = (&mut proc.ports, &mut proc.left, &mut proc.slots);
+            choice::fire(mix.get(), ports, left, proc.size, port, slots, rides)
         }
         _ => turn_by_due(proc, port, rides),
     }
@@ -382,6 +387,18 @@ pub fn dup(alloc: Global, comp: &Comp) -> Result<Comp, KindError>
         slots,
     };
     Ok(Comp { proc, chans })
+}
+
+/// Whether two components have the same process: the same plan, and the same place in it with the same values.
+pub fn is_same(comp: &Comp, other: &Comp) -> bool
+    ensures { IsTrue result → comp.now.proc ≡ other.now.proc }
+{
+    let (proc, other) = (&comp.proc, &other.proc);
+    proc.left == other.left
+        && proc.size == other.size
+        && proc.ports.is_same(&other.ports)
+        && proc.slots.is_same(&other.slots)
+        && is_same_plan(&proc.plan, &other.plan)
 }
 
 // The ports of a plan at its start.

@@ -1,6 +1,8 @@
 //! A plan as a component keeps it: what many components have alike is told by its name.
 
 ghost use Rattle.std.specs.Prelude.{◌≡◌, IfOk};
+ghost use Rattle.bz_kinds.specs.declared.row.Row.{Row};
+ghost use Rattle.bz_kinds.specs.declared.row.Plan.TheVariants.{InTurn, Together};
 ghost use Rattle.bz_kinds.specs.Kept.{meet_of, mix_of, plan_of, row_of};
 
 use crate::row::{Meet, Mix, Row, Script};
@@ -12,7 +14,7 @@ use bz_model::Spans;
 use std::alloc::{AllocError, Global};
 
 /// A row that kinds have in common, by its name.
-#[derive(Clone, Copy)]
+#[derive(Clone, Copy, PartialEq, Eq)]
 pub enum KeptRow {
     Calls,
     Pushes,
@@ -20,7 +22,7 @@ pub enum KeptRow {
 }
 
 /// A choice by its name.
-#[derive(Clone, Copy)]
+#[derive(Clone, Copy, PartialEq, Eq)]
 pub enum KeptMix {
     Choice,
     Mux,
@@ -29,7 +31,7 @@ pub enum KeptMix {
 }
 
 /// A meeting by its name.
-#[derive(Clone, Copy)]
+#[derive(Clone, Copy, PartialEq, Eq)]
 pub enum KeptMeet {
     Meeting,
     PushMeeting,
@@ -95,6 +97,19 @@ impl KeptMeet {
 }
 
 impl KeptPlan {
+    /// The row of a plan that has one.
+    #[inline(always)]
+    pub fn row(&self) -> &Row
+        ensures in_turn { (row : Row) → plan_of self.now ≡ InTurn row → result.now ≡ row }
+        ensures together { (row : Row) → plan_of self.now ≡ Together row → result.now ≡ row }
+    {
+        match self {
+            KeptPlan::InTurn(row) | KeptPlan::Together(row) => row.get(),
+            KeptPlan::OwnInTurn(row) | KeptPlan::OwnTogether(row) => row,
+            _ => &CALLS,
+        }
+    }
+
     /// The same plan.
     pub fn dup(&self, alloc: Global) -> Result<KeptPlan, AllocError>
         ensures { IfOk result (λ p. plan_of p ≡ plan_of self.now) }

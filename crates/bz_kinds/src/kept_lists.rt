@@ -1,6 +1,6 @@
 //! The values and the channels of a component: few, which lie in it, or a list.
 
-ghost use Rattle.std.specs.Prelude.{◌≡◌, ◌≢◌, IfOk, IfSome, Some, replicate, slice_set};
+ghost use Rattle.std.specs.Prelude.{◌≡◌, ◌≢◌, IfOk, IfSome, IsTrue, Some, replicate, slice_set};
 ghost use Rattle.bz_model.specs.declared.expr.Expr.TheVariants.{Nothing};
 ghost use Rattle.bz_model.specs.Terms.{stored, value_of, IsNarrow};
 ghost use Rattle.bz_kinds.specs.KeptLists.{chan_of, chans_of, slots_of};
@@ -108,6 +108,13 @@ impl KeptSlots {
             KeptSlots::Two(two) => put_in(two, slot, value),
             KeptSlots::List(list) => put_in_list(list, slot, value),
         }
+    }
+
+    /// Whether they are the same values.
+    pub fn is_same(&self, other: &KeptSlots) -> bool
+        ensures { IsTrue result → slots_of self.now ≡ slots_of other.now }
+    {
+        self.get() == other.get()
     }
 
     /// The same values.

@@ -1,7 +1,7 @@
 -- Where it is not over for those who wait.
 use Rattle.std.proofs.Common.{inl, inr, ℕ, Bool, List, true≢false, sym, ◌∙◌, arith}
 use Rattle.bz_net.specs.Simulation.{Simulation}
-use Rattle.bz_locked.specs.declared.standing.Standing.{Standing}
+use Rattle.bz_past.specs.declared.standing.Standing.{Standing}
 use Rattle.bz_locked.specs.declared.locked.Work.TheVariants.{Ready}
 use Rattle.bz_locked.specs.Working.{WorkIs, MustWait}
 use Rattle.bz_locked.specs.Audiences.{IsOver}

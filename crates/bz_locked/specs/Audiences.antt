@@ -7,8 +7,8 @@ use Rattle.bz_model.specs.Nets.{State}
 use Rattle.bz_model.specs.Runs.{Rest}
 use Rattle.bz_net.specs.Simulation.{Simulation}
 use Rattle.bz_net.specs.Answering.{would_answer}
-use Rattle.bz_locked.specs.declared.standing.Standing.{Standing}
-use Rattle.bz_locked.specs.declared.standing.Standing.TheVariants.{Running, Waiting, Ended}
+use Rattle.bz_past.specs.declared.standing.Standing.{Standing}
+use Rattle.bz_past.specs.declared.standing.Standing.TheVariants.{Running, Waiting, Ended}
 use Rattle.bz_locked.specs.declared.locked.Work.TheVariants.{Stopped, Resting, Spent}
 use Rattle.bz_locked.specs.declared.locked.Polled.{Polled}
 use Rattle.bz_locked.specs.declared.locked.Polled.TheVariants as told

@@ -6,9 +6,9 @@ ghost use Rattle.bz_locked.specs.Audiences.{is_left, IfAnswered, IsOver, LeavesA
 
 use crate::ledger::NetLedger;
 use crate::locked::{FireError, Fired, Locked, Polled, Work};
-use crate::standing::Standing;
 use bz_model::{Entry, NetError, Reply};
 use bz_net::{Net, RestReply};
+use bz_past::Standing;
 use std::sync::ledger::Ledger;
 
 /// Who is woken: the sessions that wait, and the workers.

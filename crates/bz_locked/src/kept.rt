@@ -1,25 +1,27 @@
 //! What lies under the lock, with the keeper of its past: each call is one that an owner makes there.
 
-ghost use Rattle.std.specs.Prelude.{◌≡◌, ◌+◌, ◌<◌, ◌≤◌, true, false, IfOk, IfErr, OnErr, OnOk, MatchOption, MatchResult};
+ghost use Rattle.std.specs.Prelude.{◌≡◌, ◌+◌, ◌<◌, ◌≤◌, ◌∷◌, [], true, false, IfOk, IfErr, OnErr, OnOk, MatchOption, MatchResult};
 ghost use Rattle.std.specs.Coded.{codes};
 ghost use Rattle.bz_model.specs.Codes.{term_code};
 ghost use Rattle.bz_model.specs.declared.event.Entry.TheVariants.{Rested};
 ghost use Rattle.bz_past.specs.Moments.{Leads};
 ghost use Rattle.bz_past.specs.Owners.{is_host};
+ghost use Rattle.bz_past.specs.Standings.{HasTurned, listed, standing_of, standings_of};
 ghost use Rattle.bz_net.specs.Replies.{RefusesCommand};
 ghost use Rattle.bz_locked.specs.Commands.{IsEntryOf, RefusesPoll};
+ghost use Rattle.bz_locked.specs.Quiet.{AwaitsIn, told_turn};
 ghost use Rattle.bz_locked.specs.Waking.{FiresFor};
 ghost use Rattle.bz_locked.specs.Making.{MadeNone, MadeOne, MadeTold};
-ghost use Rattle.bz_locked.specs.Working.{During, HasFired, IsTurn, MatchRest, WasAdded, WasFirst, MustWait, WorkIs, RefusesFiring, RefusesRest};
+ghost use Rattle.bz_locked.specs.Working.{During, HasBegun, HasFired, IsTurn, MatchRest, WasAdded, WasFirst, MustWait, WorkIs, RefusesFiring, RefusesRest};
 
 use crate::ledger::NetLedger;
 use crate::locked::{FireError, Fired, Locked, Polled, Work};
 use bz_model::{Entry, HostCmd, NetError, Reply, Who};
 use bz_net::RestReply;
-use bz_past::{Keeper, Owner, Past, Stopper};
+use bz_past::{Keeper, Owner, Past, Standing, Stopper};
 use std::sync::ledger::{Ledger, Share};
 
-/// The locked value and the keeper, which knows its net and whether all was stopped.
+/// The locked value and the keeper, which knows its net, whether all was stopped, and how the sessions stand.
 #[derive(Drop)]
 pub struct Kept<L: NetLedger> {
     pub locked: Locked<L>,
@@ -30,9 +32,49 @@ pub struct Kept<L: NetLedger> {
     ghost none_taken_in: { (keeper.out ≡ L.terms.sessions + L.workers) × (keeper.last ≡ 0) },
     ghost net_is: { keeper.now.net ≡ locked.net } by { Prim.hlevel (codes, term_code) },
     ghost stopped_is: { keeper.now.stopped ≡ locked.stopped },
+    ghost stands: { locked.sessions.items ≡ standings_of L.terms.sessions keeper.now.turns },
+}
+
+/// How a session turns that was told so: it runs on, unless it has to wait.
+fn told_turn(told: Result<Polled, NetError>) -> Option<Standing>
+    ensures { result ≡ told_turn told }
+{
+    match told {
+        Ok(Polled::Wait) => None,
+        Ok(Polled::Answered(_, _, _) | Polled::Resting | Polled::Spent | Polled::Stopped)
+        | Err(_) => Some(Standing::Running),
+    }
 }
 
 impl<L: NetLedger> Kept<L> {
+    /// How a session stands from now on.
+    pub fn stand(&mut self, past: &Past, owner: &mut Owner, who: Who, standing: Standing)
+        requires { (past.now ≡ L.past) × (owner.old.table ≡ L.past) × (owner.old.who ≡ who) × (is_host who ≡ true) }
+        ensures owner { (owner.new.table ≡ owner.old.table) × (owner.new.who ≡ owner.old.who) × Leads owner.old.seen owner.new.seen }
+        ensures made { MadeNone who owner.old.seen owner.new.seen }
+        ensures turned { HasTurned who (standing ∷ []) owner.old.seen owner.new.seen }
+    {
+        self.locked.set_standing(who, standing);
+        past.act(
+            &mut self.keeper,
+            owner,
+            &self.locked.net,
+            self.locked.stopped,
+            Some(standing),
+        );
+    }
+
+    /// The session waits from now on, where its command is not refused.
+    pub fn begin(&mut self, past: &Past, owner: &mut Owner, who: Who, cmd: &HostCmd)
+        requires { (past.now ≡ L.past) × (owner.old.table ≡ L.past) × (owner.old.who ≡ who) × (is_host who ≡ true) }
+        ensures owner { (owner.new.table ≡ owner.old.table) × (owner.new.who ≡ owner.old.who) × Leads owner.old.seen owner.new.seen }
+        ensures made { MadeNone who owner.old.seen owner.new.seen }
+        ensures turned { HasBegun L.terms.wiring who cmd.now owner.old.seen owner.new.seen }
+    {
+        let standing = self.locked.awaiting(cmd);
+        self.stand(past, owner, who, standing);
+    }
+
     /// One command, carried out at once.
     pub fn host(
         &mut self,
@@ -46,7 +88,8 @@ impl<L: NetLedger> Kept<L> {
         ensures entry { IfOk result (λ r. IsEntryOf L.terms.wiring.ports who cmd.now r.1 r.0) }
         ensures added { IfOk result (λ r. WasAdded L.terms owner.old.seen owner.new.seen r.0 r.2) }
         ensures made { MatchResult result (λ r. MadeOne who r.0 r.2 owner.old.seen owner.new.seen) (λ _. MadeNone who owner.old.seen owner.new.seen) }
-        ensures cause { IfErr result (λ e. During L.terms owner.old.seen owner.new.seen (λ net fuel stopped standings. RefusesCommand net cmd.now.verb cmd.now.port.items cmd.now.value e)) }
+        ensures cause { IfErr result (λ e. During L.terms owner.old.seen owner.new.seen (λ net fuel stopped turns. RefusesCommand net cmd.now.verb cmd.now.port.items cmd.now.value e)) }
+        ensures turned { HasTurned who (Standing.Running ∷ []) owner.old.seen owner.new.seen }
     {
         let answered = self.locked.host(who, cmd);
         past.act(
@@ -54,11 +97,12 @@ impl<L: NetLedger> Kept<L> {
             owner,
             &self.locked.net,
             self.locked.stopped,
+            Some(Standing::Running),
         );
         answered
     }
 
-    /// What a waiting session is told.
+    /// What a session is told that has begun to wait.
     pub fn turn(
         &mut self,
         past: &Past,
@@ -66,11 +110,13 @@ impl<L: NetLedger> Kept<L> {
         who: Who,
         cmd: &HostCmd,
     ) -> Result<Polled, NetError>
-        requires { (past.now ≡ L.past) × (owner.old.table ≡ L.past) × (owner.old.who ≡ who) × (is_host who ≡ true) }
+        requires caller { (past.now ≡ L.past) × (owner.old.table ≡ L.past) × (owner.old.who ≡ who) × (is_host who ≡ true) }
+        requires awaits { AwaitsIn L.terms.wiring cmd.now (standing_of who owner.old.seen.turns) }
         ensures owner { (owner.new.table ≡ owner.old.table) × (owner.new.who ≡ owner.old.who) × Leads owner.old.seen owner.new.seen }
         ensures told { IfOk result (IsTurn L.terms owner.old.seen owner.new.seen who cmd.now) }
         ensures made { MatchResult result (λ told. MadeTold who told owner.old.seen owner.new.seen) (λ _. MadeNone who owner.old.seen owner.new.seen) }
-        ensures cause { IfErr result (λ e. During L.terms owner.old.seen owner.new.seen (λ net fuel stopped standings. RefusesPoll net cmd.now e)) }
+        ensures cause { IfErr result (λ e. During L.terms owner.old.seen owner.new.seen (λ net fuel stopped turns. RefusesPoll net cmd.now e)) }
+        ensures turned { HasTurned who (listed (told_turn result)) owner.old.seen owner.new.seen }
     {
         let told = self.locked.turn(who, cmd);
         past.act(
@@ -78,6 +124,7 @@ impl<L: NetLedger> Kept<L> {
             owner,
             &self.locked.net,
             self.locked.stopped,
+            told_turn(told),
         );
         told
     }
@@ -95,7 +142,7 @@ impl<L: NetLedger> Kept<L> {
         ensures owner { (owner.new.table ≡ owner.old.table) × (owner.new.who ≡ owner.old.who) × Leads owner.old.seen owner.new.seen }
         ensures fired { IfOk result (λ f. FiresFor who comp f.0.entry × HasFired L.terms owner.old.seen owner.new.seen who comp f.0.entry f.0.wake f.1) }
         ensures made { MatchResult result (λ f. MadeOne who f.0.entry f.1 owner.old.seen owner.new.seen) (λ _. MadeNone who owner.old.seen owner.new.seen) }
-        ensures cause { IfErr result (λ e. During L.terms owner.old.seen owner.new.seen (λ net fuel stopped standings. RefusesFiring net fuel comp e)) }
+        ensures cause { IfErr result (λ e. During L.terms owner.old.seen owner.new.seen (λ net fuel stopped turns. RefusesFiring net fuel comp e)) }
         ensures share { (share.new.parts ≡ share.old.parts) × OnOk result (share.new.amount ≡ share.old.amount + 1) × OnErr result (share.new.amount ≡ share.old.amount) }
         ensures bound { IfOk result (λ f. share.new.amount ≤ f.1) }
     {
@@ -105,6 +152,7 @@ impl<L: NetLedger> Kept<L> {
             owner,
             &self.locked.net,
             self.locked.stopped,
+            None,
         );
         fired
     }
@@ -121,7 +169,7 @@ impl<L: NetLedger> Kept<L> {
         ensures owner { (owner.new.table ≡ owner.old.table) × (owner.new.who ≡ owner.old.who) × Leads owner.old.seen owner.new.seen }
         ensures told { IfOk result (λ r. WasFirst L.terms owner.old.seen owner.new.seen who from r.0 r.1) }
         ensures made { MatchResult result (λ r. MatchRest r.0 (MadeOne who (Rested who) r.1 owner.old.seen owner.new.seen) (MadeNone who owner.old.seen owner.new.seen)) (λ _. MadeNone who owner.old.seen owner.new.seen) }
-        ensures cause { IfErr result (λ e. During L.terms owner.old.seen owner.new.seen (λ net fuel stopped standings. RefusesRest net e)) }
+        ensures cause { IfErr result (λ e. During L.terms owner.old.seen owner.new.seen (λ net fuel stopped turns. RefusesRest net e)) }
     {
         let first = self.locked.first_ready(who, from);
         past.act(
@@ -129,6 +177,7 @@ impl<L: NetLedger> Kept<L> {
             owner,
             &self.locked.net,
             self.locked.stopped,
+            None,
         );
         first
     }
@@ -139,8 +188,8 @@ impl<L: NetLedger> Kept<L> {
         ensures owner { (owner.new.table ≡ owner.old.table) × (owner.new.who ≡ owner.old.who) × Leads owner.old.seen owner.new.seen }
         ensures made { MadeNone who owner.old.seen owner.new.seen }
         ensures told { MatchOption result
-            (During L.terms owner.old.seen owner.new.seen (λ net fuel stopped standings. MustWait net fuel stopped standings))
-            (λ work. During L.terms owner.old.seen owner.new.seen (λ net fuel stopped standings. WorkIs net fuel stopped standings work)) }
+            (During L.terms owner.old.seen owner.new.seen (λ net fuel stopped turns. MustWait net fuel stopped (standings_of L.terms.sessions turns)))
+            (λ work. During L.terms owner.old.seen owner.new.seen (λ net fuel stopped turns. WorkIs net fuel stopped (standings_of L.terms.sessions turns) work)) }
     {
         let work = self.locked.work();
         past.act(
@@ -148,6 +197,7 @@ impl<L: NetLedger> Kept<L> {
             owner,
             &self.locked.net,
             self.locked.stopped,
+            None,
         );
         work
     }

@@ -6,6 +6,8 @@ ghost use Rattle.bz_net.specs.Answering.{is_answer};
 ghost use Rattle.bz_past.specs.Moments.{moment, Leads};
 ghost use Rattle.bz_past.specs.Owners.{is_host};
 ghost use Rattle.bz_past.specs.Seen.{IsFresh};
+ghost use Rattle.bz_past.specs.Standings.{HasTurned};
+ghost use Rattle.bz_past.specs.declared.standing.Standing.TheVariants.{Running, Ended};
 ghost use Rattle.bz_model.specs.declared.event.Entry.TheVariants.{Rested};
 ghost use Rattle.bz_locked.specs.Making.{MadeNone, MadeOne, MadeTold};
 ghost use Rattle.bz_locked.specs.Parts.{HasMade, HasMadeNone, SessionView, WorkerView, tables, new_session, new_worker, Stays, IsSilent, Tells};
@@ -13,7 +15,7 @@ ghost use Rattle.bz_locked.specs.Commands.{IsEntryOf, RefusesPoll};
 ghost use Rattle.bz_locked.specs.Waking.{FiresFor};
 ghost use Rattle.bz_net.specs.Simulation.{Simulation};
 ghost use Rattle.bz_net.specs.Replies.{RefusesCommand};
-ghost use Rattle.bz_locked.specs.Working.{During, is_wait, MatchWait, MatchRest, IsLast, HasFired, Notes, WasAdded, WasFirst, WasRefused, WorkIs, RefusesFiring, RefusesRest};
+ghost use Rattle.bz_locked.specs.Working.{During, is_wait, HasTurnedOrNot, HasWaited, HasWaitedOrNot, MatchWait, MatchRest, IsLast, HasFired, Notes, WasAdded, WasFirst, WasRefused, WorkerWasTold, RefusesFiring, RefusesRest};
 
 use crate::audience::Audience;
 use crate::closing::CloseError;
@@ -21,11 +23,10 @@ use crate::kept::Kept;
 use crate::ledger::NetLedger;
 use crate::locked::{FireError, Fired, Locked, Polled, WaitReply, Work};
 use crate::parts::{Session, Worker};
-use crate::standing::Standing;
 use bz_front::{Front, FrontSeat};
 use bz_model::{Entry, HostCmd, NetError, Reply, Who};
 use bz_net::{Net, RestReply};
-use bz_past::{Keeper, Owner, Past, Stopper};
+use bz_past::{Keeper, Owner, Past, Standing, Stopper};
 use std::alloc::{AllocError, Global};
 use std::marker::Model;
 use std::sync::ledger::{Blank, Book, Ledger, Share};
@@ -258,8 +259,8 @@ impl<L: NetLedger> SharedNet<L> {
         requires counts { (1 ≤ sessions) × (sessions ≤ 16) × (1 ≤ workers) × (workers ≤ 8) }
         requires unused { net.journal ≡ [] }
         ensures shared { IfOk result (λ r. (r.0.sessions ≡ sessions) × (r.0.workers ≡ workers)) }
-        ensures sessions { IfOk result (λ r. (vec_len r.1 ≡ sessions) × ((k : ℕ) (d : SessionView) → k < sessions → slice_index_or r.1.items k d ≡ new_session r.0.table (moment net false) (k + 1))) }
-        ensures workers { IfOk result (λ r. (vec_len r.2 ≡ workers) × ((k : ℕ) (d : WorkerView) → k < workers → slice_index_or r.2.items k d ≡ new_worker r.0.table (moment net false) (k + 1))) }
+        ensures sessions { IfOk result (λ r. (vec_len r.1 ≡ sessions) × ((k : ℕ) (d : SessionView) → k < sessions → slice_index_or r.1.items k d ≡ new_session r.0.table (moment net false []) (k + 1))) }
+        ensures workers { IfOk result (λ r. (vec_len r.2 ≡ workers) × ((k : ℕ) (d : WorkerView) → k < workers → slice_index_or r.2.items k d ≡ new_worker r.0.table (moment net false []) (k + 1))) }
         ensures err { IfErr result (λ e. e ≡ CloseError.Memory) }
     {
         let (past, mut keeper) = opened;
@@ -309,6 +310,8 @@ impl<L: NetLedger> SharedNet<L> {
         ensures notes { IfOk result (λ r. Notes L.terms cmd.now r session.old session.new) }
         ensures cause { IfErr result (WasRefused L.terms session.old.seat.saw session.new.seat.saw (λ net e. RefusesCommand net cmd.now.verb cmd.now.port.items cmd.now.value e)) }
         ensures err { OnErr result ((session.new.own ≡ session.old.own) × IsSilent session.old.seat session.new.seat × HasMadeNone session.old.who session.old.seat session.new.seat) }
+        ensures turned { OnOk result (HasTurned session.old.who (Running ∷ []) session.old.seat.saw session.new.seat.saw) }
+        ensures no_more { HasTurnedOrNot session.old.who (Running ∷ []) session.old.seat.saw session.new.seat.saw }
     {
         if session.own.reserve(1).is_err() {
             return Err(NetError::Memory);
@@ -332,7 +335,8 @@ impl<L: NetLedger> SharedNet<L> {
         ensures entry { IfOk result (λ r. IsEntryOf L.terms.wiring.ports who cmd.now r.1 r.0) }
         ensures added { IfOk result (λ r. WasAdded L.terms owner.old.seen owner.new.seen r.0 r.2) }
         ensures made { MatchResult result (λ r. MadeOne who r.0 r.2 owner.old.seen owner.new.seen) (λ _. MadeNone who owner.old.seen owner.new.seen) }
-        ensures cause { IfErr result (λ e. During L.terms owner.old.seen owner.new.seen (λ net fuel stopped standings. RefusesCommand net cmd.now.verb cmd.now.port.items cmd.now.value e)) }
+        ensures cause { IfErr result (λ e. During L.terms owner.old.seen owner.new.seen (λ net fuel stopped turns. RefusesCommand net cmd.now.verb cmd.now.port.items cmd.now.value e)) }
+        ensures turned { HasTurned who (Running ∷ []) owner.old.seen owner.new.seen }
     {
         let mut kept = self.locked.lock(rt);
         let answered = kept.host(&self.past, owner, who, cmd);
@@ -351,11 +355,13 @@ impl<L: NetLedger> SharedNet<L> {
     ) -> Result<WaitReply, NetError>
         requires { session.old.seat.table ≡ self.now.table }
         ensures who { (session.new.who ≡ session.old.who) × Stays session.old.seat session.new.seat }
-        ensures answered { IfOk result (λ w. MatchWait L.terms session.old.seat.saw session.new.seat.saw cmd.now w
+        ensures answered { IfOk result (λ w. MatchWait L.terms session.old.seat.saw session.new.seat.saw session.old.who cmd.now w
             (λ r. (is_answer r ≡ true) × Notes L.terms cmd.now r session.old session.new)
             ((session.new.own ≡ session.old.own) × IsSilent session.old.seat session.new.seat × HasMadeNone session.old.who session.old.seat session.new.seat)) }
         ensures cause { IfErr result (WasRefused L.terms session.old.seat.saw session.new.seat.saw (λ net e. RefusesPoll net cmd.now e)) }
         ensures err { OnErr result ((session.new.own ≡ session.old.own) × IsSilent session.old.seat session.new.seat × HasMadeNone session.old.who session.old.seat session.new.seat) }
+        ensures turned { OnOk result (HasWaited L.terms.wiring session.old.who cmd.now session.old.seat.saw session.new.seat.saw) }
+        ensures no_more { HasWaitedOrNot L.terms.wiring session.old.who cmd.now session.old.seat.saw session.new.seat.saw }
     {
         if session.own.reserve(1).is_err() {
             return Err(NetError::Memory);
@@ -385,10 +391,11 @@ impl<L: NetLedger> SharedNet<L> {
         ensures owner { (owner.new.table ≡ owner.old.table) × (owner.new.who ≡ owner.old.who) × Leads owner.old.seen owner.new.seen }
         ensures last { IfOk result (IsLast L.terms owner.old.seen owner.new.seen who cmd.now) }
         ensures made { MatchResult result (λ told. MadeTold who told owner.old.seen owner.new.seen) (λ _. MadeNone who owner.old.seen owner.new.seen) }
-        ensures cause { IfErr result (λ e. During L.terms owner.old.seen owner.new.seen (λ net fuel stopped standings. RefusesPoll net cmd.now e)) }
+        ensures cause { IfErr result (λ e. During L.terms owner.old.seen owner.new.seen (λ net fuel stopped turns. RefusesPoll net cmd.now e)) }
+        ensures turned { HasWaited L.terms.wiring who cmd.now owner.old.seen owner.new.seen }
     {
         let mut kept = self.locked.lock(rt);
-        kept.locked.begin(who, cmd);
+        kept.begin(&self.past, owner, who, cmd);
         for _ in rt.forever() {
             let told = kept.turn(&self.past, owner, who, cmd);
             if !is_wait(told) {
@@ -414,7 +421,7 @@ impl<L: NetLedger> SharedNet<L> {
         ensures fired { IfOk result (λ f. FiresFor worker.old.who comp f.entry) }
         ensures lawful { IfOk result (λ f. (n : ℕ) × Tells n worker.old.seat worker.new.seat
             × HasFired L.terms worker.old.seat.saw worker.new.seat.saw worker.old.who comp f.entry f.wake n) }
-        ensures cause { IfErr result (λ e. During L.terms worker.old.seat.saw worker.new.seat.saw (λ net fuel stopped standings. RefusesFiring net fuel comp e)) }
+        ensures cause { IfErr result (λ e. During L.terms worker.old.seat.saw worker.new.seat.saw (λ net fuel stopped turns. RefusesFiring net fuel comp e)) }
         ensures made { MatchResult result (λ f. HasMade worker.old.who (f.entry ∷ []) worker.old.seat worker.new.seat) (λ _. HasMadeNone worker.old.who worker.old.seat worker.new.seat) }
         ensures ok { OnOk result (worker.new.fired ≡ worker.old.fired + 1) }
         ensures err { OnErr result ((worker.new.fired ≡ worker.old.fired) × IsSilent worker.old.seat worker.new.seat) }
@@ -448,7 +455,7 @@ impl<L: NetLedger> SharedNet<L> {
         ensures who { (worker.new.who ≡ worker.old.who) × Stays worker.old.seat worker.new.seat × (worker.new.fired ≡ worker.old.fired) }
         ensures told { IfOk result (λ r. (n : ℕ) × MatchRest r (Tells n worker.old.seat worker.new.seat) (IsSilent worker.old.seat worker.new.seat)
             × WasFirst L.terms worker.old.seat.saw worker.new.seat.saw worker.old.who from r n) }
-        ensures cause { IfErr result (λ e. During L.terms worker.old.seat.saw worker.new.seat.saw (λ net fuel stopped standings. RefusesRest net e)) }
+        ensures cause { IfErr result (λ e. During L.terms worker.old.seat.saw worker.new.seat.saw (λ net fuel stopped turns. RefusesRest net e)) }
         ensures made { MatchResult result (λ r. MatchRest r (HasMade worker.old.who (Rested worker.old.who ∷ []) worker.old.seat worker.new.seat) (HasMadeNone worker.old.who worker.old.seat worker.new.seat)) (λ _. HasMadeNone worker.old.who worker.old.seat worker.new.seat) }
         ensures err { OnErr result (IsSilent worker.old.seat worker.new.seat) }
     {
@@ -472,7 +479,7 @@ impl<L: NetLedger> SharedNet<L> {
         ensures who { (worker.new.who ≡ worker.old.who) × Stays worker.old.seat worker.new.seat × (worker.new.fired ≡ worker.old.fired) }
         ensures silent { IsSilent worker.old.seat worker.new.seat }
         ensures made { HasMadeNone worker.old.who worker.old.seat worker.new.seat }
-        ensures told { During L.terms worker.old.seat.saw worker.new.seat.saw (λ net fuel stopped standings. WorkIs net fuel stopped standings result) }
+        ensures told { WorkerWasTold L.terms worker.old.seat.saw worker.new.seat.saw result }
     {
         self.wait_told(rt, &mut worker.owner, worker.who)
     }
@@ -482,7 +489,7 @@ impl<L: NetLedger> SharedNet<L> {
         requires { (owner.old.table ≡ L.past) × (owner.old.who ≡ who) }
         ensures owner { (owner.new.table ≡ owner.old.table) × (owner.new.who ≡ owner.old.who) × Leads owner.old.seen owner.new.seen }
         ensures made { MadeNone who owner.old.seen owner.new.seen }
-        ensures told { During L.terms owner.old.seen owner.new.seen (λ net fuel stopped standings. WorkIs net fuel stopped standings result) }
+        ensures told { WorkerWasTold L.terms owner.old.seen owner.new.seen result }
     {
         let mut kept = self.locked.lock(rt);
         for _ in rt.forever() {
@@ -505,10 +512,13 @@ impl<L: NetLedger> SharedNet<L> {
 
     /// The session runs no more, until its next command. All who wait are woken where the net is quiet now.
     pub fn end<R: Wait>(&self, rt: &R, session: &mut Session)
-        ensures { session.new ≡ session.old }
+        requires { session.old.seat.table ≡ self.now.table }
+        ensures who { (session.new.who ≡ session.old.who) × Stays session.old.seat session.new.seat }
+        ensures same { (session.new.own ≡ session.old.own) × IsSilent session.old.seat session.new.seat × HasMadeNone session.old.who session.old.seat session.new.seat }
+        ensures turned { HasTurned session.old.who (Ended ∷ []) session.old.seat.saw session.new.seat.saw }
     {
         let mut kept = self.locked.lock(rt);
-        kept.locked.set_standing(session.who, Standing::Ended);
+        kept.stand(&self.past, &mut session.owner, session.who, Standing::Ended);
         let audience = kept.locked.audience_at_end();
         drop(kept);
         self.wake(audience);

@@ -1,8 +1,9 @@
 -- What a core keeps is kept by each step and by each host command.
-use Rattle.std.proofs.Common.{◌≡◌, ℕ, suc, ◌+◌, ◌-◌, ◌/◌, ◌<◌, ◌≤◌, ◌^◌, Bool, Option, None, List, [], ◌∷◌, ◌++◌, length, get_or, map, replicate, inl, inr, sym, ap, subst, ◌∙◌, arith, length-append}
+use Rattle.std.proofs.Common.{◌≡◌, ℕ, suc, ◌+◌, ◌-◌, ◌/◌, ◌<◌, ◌≤◌, ◌^◌, Bool, Option, None, List, [], ◌∷◌, ◌++◌, true, false, length, get_or, map, replicate, inl, inr, sym, ap, subst, ◌∙◌, arith, length-append}
 use Rattle.std.proofs.lemmas.Bool.{cases_eq, cases_lt}
-use Rattle.std.proofs.lemmas.List.{map-set, length-map, get_or_append_left, get_or_past, get_or_push}
+use Rattle.std.proofs.lemmas.List.{map-set, length-map, get_or_append_left, get_or_default, get_or_past, get_or_push, get_or_read}
 use Rattle.bz_bits.specs.Row.{bit_of}
+use Rattle.bz_model.specs.declared.channel.Chan.{Chan}
 use Rattle.bz_model.specs.declared.channel.Move.{Move}
 use Rattle.bz_model.specs.declared.channel.Move.TheVariants.{Ask, Take, Got}
 use Rattle.bz_model.specs.declared.channel.Move.TheVariants as move
@@ -18,11 +19,14 @@ use Rattle.bz_flat.specs.declared.flat.Ends.{Ends}
 use Rattle.bz_flat.specs.declared.flat.FlatComp.{FlatComp}
 use Rattle.bz_flat.specs.Flats.{site_of}
 use Rattle.bz_flat.specs.Wires.{WellWired, EndsOf, ends_in}
-use Rattle.bz_net.specs.Keeping.{Tied, Placed, ReadsChans, RefreshedEnds, CommandedAt, MarksReady, Started, proc_of, state_of, phase_in}
+use Rattle.bz_net.specs.Keeping.{Tied, Placed, ReadsChans, RefreshedEnds, CommandedAt, MarksReady, Started, StartsUnless, StartsWell, comp_at, no_comp, proc_of, state_of, phase_in}
+use Rattle.bz_net.specs.declared.node.Node.{Node}
+use Rattle.bz_net.specs.Nodes.{comp_of, comps_of}
 use Rattle.bz_net.specs.Told.{Told, AreBlank, HasChans, Turned, Retold, Sighted, StaysSighted, HostSighted, here_at}
 use Rattle.bz_net.specs.Core.{CoreSound}
 use Rattle.bz_net.proofs.Sites.{site_at_map}
-use Rattle.bz_net.proofs.Opening.{tied_opening}
+use Rattle.bz_net.proofs.Nodes.{comp_read}
+use Rattle.bz_net.proofs.Opening.{site_here, start_comp, tied_opening}
 use Rattle.bz_net.proofs.Ties.{proc_is, tied_step}
 use Rattle.bz_net.proofs.Hosts.{tied_command, side_from}
 use Rattle.bz_net.proofs.Readiness.{marks_after, changed_by_step, changed_by_host}
@@ -193,3 +197,15 @@ blank_more xs heres i x words before lt is long none = record {
     here c last =
         let e : c - 1 ≡ i = omega (arith, last) in
         site_at_map xs c x (omega (arith, last)) (omega (arith, last, lt)) (subst (λ (j : ℕ). x ≡ get_or xs j x) (sym e) is)
+
+-- a component that lies where the i-th is, and whose flag is not raised
+pub unmoved_here : (chans : List Chan) (xs : List FlatComp) (i : ℕ) (x : FlatComp) (well : StartsWell chans (map site_of xs)) (lt : i < length xs) (is : x ≡ get_or xs i x) (nodes : List Node) (moved : List Bool) (y : Node)
+    → StartsUnless chans (map site_of xs) (comps_of nodes) moved → length nodes ≡ length xs → y ≡ get_or nodes i y → get_or moved i false ≡ false → y.comp ≡ start_comp chans (site_of x)
+unmoved_here chans xs i x well lt is nodes moved y unless each lies unmoved =
+    let e : i + 1 - 1 ≡ i = omega arith in
+    let count = length-map xs site_of in
+    let comps = length-map nodes comp_of in
+    let long = unless.len in
+    let flag : get_or moved (i + 1 - 1) true ≡ false = ap (λ (j : ℕ). get_or moved j true) e ∙ get_or_default moved i true false (omega (arith, long, count, lt)) ∙ unmoved in
+    let read : y.comp ≡ comp_at (comps_of nodes) (i + 1) = get_or_read (comps_of nodes) (i + 1 - 1) y.comp (omega (arith, each, comps, lt)) (comp_read nodes (i + 1) i y (sym e) lies) no_comp in
+    read ∙ unless.each (i + 1) (omega arith) (omega (arith, count, lt)) flag ∙ ap (start_comp chans) (site_here chans xs i x well lt is)

@@ -92,6 +92,11 @@ pub record Started (chans : List Chan) (sites : List Site) (comps : List Compone
   pub len : length comps ≡ n
   pub each : (c : ℕ) → 0 < c → c ≤ n → comp_at comps c ≡ start_of (site_at sites c).kind (site_at sites c).sizes (map (chan_in chans) (site_at sites c).chans)
 
+-- there is a flag for each component, and each whose flag is not raised is at its start
+pub record StartsUnless (chans : List Chan) (sites : List Site) (comps : List Component) (moved : List Bool) : Type 0 where
+  pub len : length moved ≡ length sites
+  pub each : (c : ℕ) → 0 < c → c ≤ length sites → slice_index_or moved (c - 1) true ≡ false → comp_at comps c ≡ start_of (site_at sites c).kind (site_at sites c).sizes (map (chan_in chans) (site_at sites c).chans)
+
 -- of the first n components, those that can move are marked, and no others yet
 pub record MarksAll (sites : List Site) (s : State) (row : List Bool) (n : ℕ) : Type 0 where
   pub len : length row ≡ suc (length sites)

@@ -1,7 +1,7 @@
 //! A net without a journal: its wiring, one state of it, and which components can move in it. Who reads a net reads its core,
 //! whether it keeps a journal (`Net`) or none (`Play`).
 
-ghost use Rattle.std.specs.Prelude.{◌≡◌, ◌≢◌, ◌≤◌, ◌<◌, None, Some, MatchBool, MatchOption, OnOk, IfOk, IfErr, length};
+ghost use Rattle.std.specs.Prelude.{◌≡◌, ◌≢◌, ◌≤◌, ◌<◌, None, Some, MatchBool, MatchOption, OnOk, IfOk, IfErr, IfNone, length};
 ghost use Rattle.std.specs.Option.{option_copied, option_map};
 ghost use Rattle.bz_model.specs.Hosts.{HostStep, command_refusal, refusal_at, reply_to};
 ghost use Rattle.bz_model.specs.Names.{NamesDiffer, numbered, port_number};
@@ -21,9 +21,10 @@ use crate::chan_row::ChanRow;
 use crate::here::{command, has_step, has_step_by, lowest_port, mark_all, move_comp};
 use crate::kept_phases::Phases;
 use crate::moves::{answers, due_at, foresee, mixes, note_clash, port_in, refusal_of, reply_to};
-use crate::node::{Node, dup_all, start_all};
+use crate::node::{Node, dup_all, restart_all, start_all};
 use crate::noted::Noted;
 use crate::ready_row::{Keeping, ReadyRow};
+use crate::same::{first_other, is_other_at, is_same_phases};
 use bz_arena::Arena;
 use bz_flat::{Ends, Flat, FlatComp, Pieces, dup_comps};
 use bz_model::{Chan, Move, Names, NetError, Phase, Reply, Value, Verb, dup_ports, node_of};
@@ -41,6 +42,8 @@ pub struct Core {
     ready: ReadyRow,
     // Whether there is a component at which requests may meet.
     mixes: bool,
+    // Of each component whether it has moved since the net was opened.
+    moved: Vec<bool>,
 }
 
 // By hand, so that who lets a net go has one call to show and not all its parts.
@@ -55,6 +58,7 @@ impl Drop for Core {
             phases: _,
             ready: _,
             mixes: _,
+            moved: _,
         } = self;
     }
 }
@@ -82,13 +86,15 @@ impl Model for Core {
     ghost use Rattle.bz_net.specs.ChanRow.{InRow};
     ghost use Rattle.bz_net.specs.Noted.{NoneMixes};
     ghost use Rattle.bz_net.specs.Core.{CoreSound};
+    ghost use Rattle.bz_net.specs.Keeping.{StartsUnless};
 
     ghost invariant = { λ n. CoreSound
         (record { chans = n.names.chans; sites = map site_of n.sites; ports = n.names.ports })
         n.phases (comps_of n.nodes) (heres_of n.nodes)
         n.ends.items n.ready
         × InRow (map site_of n.sites) n.chans.starts.items n.chans.row.items
-        × (n.mixes ≡ false → NoneMixes (map site_of n.sites)) };
+        × (n.mixes ≡ false → NoneMixes (map site_of n.sites))
+        × StartsUnless n.names.chans (map site_of n.sites) (comps_of n.nodes) n.moved.items };
 }
 
 impl Core {
@@ -115,6 +121,10 @@ impl Core {
             Err(_) => return Err(NetError::Memory),
         };
         let mixes = mixes(&pieces.comps);
+        let moved = match vec![in alloc; false; pieces.comps.len()] {
+            Ok(moved) => moved,
+            Err(_) => return Err(NetError::Memory),
+        };
         Ok(Core {
             names: Names::new(pieces.ports, pieces.chans),
             sites: pieces.comps,
@@ -124,11 +134,52 @@ impl Core {
             phases,
             ready,
             mixes,
+            moved,
+        })
+    }
+
+    /// The same net at its opening. Where memory is refused, it is gone.
+    pub(crate) fn reopen(self, alloc: Global) -> Result<Core, NetError>
+        ensures wiring { IfOk result (λ core. core.wiring ≡ self.wiring) }
+        ensures state { IfOk result (λ core. core.state ≡ opening self.wiring) }
+        ensures err { IfErr result (λ e. e ≡ NetError.Memory) }
+    {
+        let Core {
+            names,
+            sites,
+            ends,
+            chans,
+            nodes,
+            phases,
+            ready,
+            mixes,
+            moved,
+        } = self;
+        let mut nodes = nodes;
+        restart_all(alloc, &names, &sites, &moved, &mut nodes)?;
+        let mut phases = phases;
+        phases.clear();
+        let ready = match mark_all(alloc, &sites, &phases, &nodes, ready.keeping()) {
+            Ok(ready) => ready,
+            Err(_) => return Err(NetError::Memory),
+        };
+        let mut moved = moved;
+        moved.fill(false);
+        Ok(Core {
+            names,
+            sites,
+            ends,
+            chans,
+            nodes,
+            phases,
+            ready,
+            mixes,
+            moved,
         })
     }
 
     /// The same net in the same state.
-    pub(crate) fn dup(&self, alloc: Global) -> Result<Core, AllocError>
+    pub fn dup(&self, alloc: Global) -> Result<Core, AllocError>
         ensures { IfOk result (λ core. core ≡ self.now) }
     {
         let names = self.names.dup(alloc)?;
@@ -139,6 +190,7 @@ impl Core {
         let phases = self.phases.dup(alloc)?;
         let keeping = self.ready.keeping();
         let ready = mark_all(alloc, &self.sites, &self.phases, &self.nodes, keeping)?;
+        let moved = Vec::from_slice(alloc, &self.moved)?;
         Ok(Core {
             names,
             sites,
@@ -148,7 +200,21 @@ impl Core {
             phases,
             ready,
             mixes: self.mixes,
+            moved,
         })
+    }
+
+    /// `None` where both are in the same state, else the place of a component. That one is looked at first: of two nets that go
+    /// on to differ there, nearly nothing is looked at.
+    pub fn differing(&self, other: &Core, first: usize) -> Option<usize>
+        ensures { IfNone result (self.now.state ≡ other.now.state) }
+    {
+        if is_other_at(&self.nodes, &other.nodes, first)
+            || !is_same_phases(&self.phases, &other.phases)
+        {
+            return Some(first);
+        }
+        first_other(&self.nodes, &other.nodes)
     }
 
     /// The flat net, whose names and channels are copied. Where memory is refused, it is gone.
@@ -165,6 +231,7 @@ impl Core {
             phases: _,
             ready: _,
             mixes: _,
+            moved: _,
         } = self;
         let ports = dup_ports(alloc, names.ports())?;
         let chans = chans_of(alloc, &names, count)?;
@@ -361,6 +428,7 @@ impl Core {
         ensures met { AskedBefore self.old.wiring.sites self.old.state.phases self.new.state.phases result.1 }
         ensures unbroken { IsUnbroken self.new.state }
     {
+        self.moved[comp as usize - 1] = true;
         move_comp(
             &self.sites,
             &self.ends,

@@ -74,6 +74,14 @@ impl Phases {
         Ok(Phases { marks, values })
     }
 
+    /// Puts all channels to idle.
+    #[tactic(auto, using(crate::proofs::Marks::length_phases, crate::proofs::Marks::idle_phases))]
+    pub(crate) fn clear(&mut self)
+        ensures { self.new ≡ replicate (length self.old) Idle }
+    {
+        self.marks.fill(Mark::Idle);
+    }
+
     #[tactic(auto, using(crate::proofs::Marks::length_phases))]
     pub(crate) fn len(&self) -> usize
         ensures { result ≡ length self.now }

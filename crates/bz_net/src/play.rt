@@ -83,6 +83,29 @@ impl Play {
         }
     }
 
+    /// The same net at its opening, as `open` has it, which lets in `limit` entries. Its components stay where they lie, so it takes
+    /// little memory. Where that is refused, the net is gone.
+    pub fn reopen(self, alloc: Global, limit: u32) -> Result<Play, NetError>
+        ensures wiring { IfOk result (λ play. play.wiring ≡ self.wiring) }
+        ensures left { IfOk result (λ play. play.left ≡ limit) }
+        ensures told { IfOk result (λ play. IsToldBy play []) }
+        ensures err { IfErr result (λ e. e ≡ NetError.Memory) }
+    {
+        let Play {
+            core,
+            noted,
+            left: _,
+        } = self;
+        let core = core.reopen(alloc)?;
+        let mut noted = noted;
+        noted.clear();
+        Ok(Play {
+            core,
+            noted,
+            left: limit,
+        })
+    }
+
     /// The net in its state.
     pub fn core(&self) -> &Core
         ensures wiring { result.now.wiring ≡ self.now.wiring }

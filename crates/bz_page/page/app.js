@@ -532,6 +532,7 @@ function open() {
 }
 
 // What tests look at.
-const forTests = {view, streams, added, limits, phaseAfter, lastChange, valueAfter, lineText, tell, tellShortly, streamPieces, drawn,
+const forTests = {
+  view, streams, added, limits, phaseAfter, lastChange, valueAfter, lineText, tell, tellShortly, streamPieces, drawn,
   get net() { return net; },
   get trace() { return trace; }, get found() { return found; }};

@@ -303,7 +303,8 @@ function namesWith(text) {
   const most = names.length + MOST_NAMES;
   for (const component of all.components) {
     if (names.length >= most) break;
-    const {title, source} = component, path = net.isGrouped ? '' : component.path, part = path ? net.instances.get(path).name : '';
+    const {title, source} = component, path = net.isGrouped ? '' : component.path;
+    const part = path ? net.instances.get(path).name : '';
     const told = [path && ` in ${path} ${part}`, source && ` (${source})`].filter(it => it).join('');
     if (holds([title, source, path && `${path} ${part}`])) names.push([`c${component.number}`, title + told]);
   }

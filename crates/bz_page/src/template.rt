@@ -6,7 +6,7 @@ pub(crate) const HEAD: &str = r##"<!doctype html>
 <head>
 <meta charset="utf-8">
 <meta name="viewport" content="width=device-width">
-<meta http-equiv="Content-Security-Policy" content="default-src 'none'; style-src 'unsafe-inline'; script-src 'sha256-ZlvLxevF8OhINCbonBaAG2lXpl2dwpFbsHc4vdvxals='">
+<meta http-equiv="Content-Security-Policy" content="default-src 'none'; style-src 'unsafe-inline'; script-src 'sha256-1MUM38urrcxn0YtoY6VNC/94IjH1dHZJshV7YAhQrEs='">
 <title>breezesim</title>
 <style>
 /* Colours: light, and dark where the reader's system or the reader says so. Phases are told by dashes and marks too. */
@@ -2345,7 +2345,8 @@ function namesWith(text) {
   const most = names.length + MOST_NAMES;
   for (const component of all.components) {
     if (names.length >= most) break;
-    const {title, source} = component, path = net.isGrouped ? '' : component.path, part = path ? net.instances.get(path).name : '';
+    const {title, source} = component, path = net.isGrouped ? '' : component.path;
+    const part = path ? net.instances.get(path).name : '';
     const told = [path && ` in ${path} ${part}`, source && ` (${source})`].filter(it => it).join('');
     if (holds([title, source, path && `${path} ${part}`])) names.push([`c${component.number}`, title + told]);
   }
@@ -3268,7 +3269,8 @@ function open() {
   return times;
 }
 
-const forTests = {view, streams, added, limits, phaseAfter, lastChange, valueAfter, lineText, tell, tellShortly, streamPieces, drawn,
+const forTests = {
+  view, streams, added, limits, phaseAfter, lastChange, valueAfter, lineText, tell, tellShortly, streamPieces, drawn,
   get net() { return net; },
   get trace() { return trace; }, get found() { return found; }};
 forTests.times = open();

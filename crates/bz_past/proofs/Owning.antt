@@ -5,7 +5,8 @@ use Rattle.bz_model.specs.declared.event.Who.{Who}
 use Rattle.bz_model.specs.declared.event.Who.TheVariants as who
 use Rattle.bz_model.specs.declared.event.Entry.{Entry}
 use Rattle.bz_past.specs.Moments.{Leads}
-use Rattle.bz_past.specs.Owners.{who_of, same_who, AreOf, AreOthers, LeadsWithout, MayMake, behind, last_of, IsNamed, AreNamed}
+use Rattle.bz_past.specs.Owners.{who_of, same_who, AreOf, AreOthers, AreTurnsOf, AreTurnsOfOthers, LeadsWithout, MayMake, behind, last_of, IsNamed, AreNamed}
+use Rattle.bz_past.specs.declared.standing.Turn.{Turn}
 use Rattle.bz_past.specs.declared.view.Moment.{Moment}
 use Rattle.bz_past.proofs.Leading.{here, onward}
 
@@ -34,13 +35,22 @@ pub others_append : (w : Who) (xs ys : List Entry) → AreOthers w xs → AreOth
 others_append w [] ys one two = two
 others_append w (x ∷ xs) ys one two = (one.0, others_append w xs ys one.1 two)
 
+-- the same of turns
+pub turns_of_others : (w v : Who) (ts : List Turn) → same_who w v ≡ false → AreTurnsOf w ts → AreTurnsOfOthers v ts
+turns_of_others w v [] apart all = tt
+turns_of_others w v (t ∷ ts) apart all = (ap (λ u. same_who u v) all.0 ∙ apart, turns_of_others w v ts apart all.2)
+
+turns_append : (w : Who) (xs ys : List Turn) → AreTurnsOfOthers w xs → AreTurnsOfOthers w ys → AreTurnsOfOthers w (xs ++ ys)
+turns_append w [] ys one two = two
+turns_append w (x ∷ xs) ys one two = (one.0, turns_append w xs ys one.1 two)
+
 pub without_here : (w : Who) (a : Moment) → LeadsWithout w a a
 unfolding here
-without_here w a = (here a, tt)
+without_here w a = (here a, tt, tt)
 
-pub without_on : (w : Who) (a b c : Moment) → LeadsWithout w a b → (leads : Leads b c) → AreOthers w leads.rest → LeadsWithout w a c
+pub without_on : (w : Who) (a b c : Moment) → LeadsWithout w a b → (leads : Leads b c) → AreOthers w leads.rest → AreTurnsOfOthers w leads.later → LeadsWithout w a c
 unfolding onward
-without_on w a b c one leads others = (onward a b c one.0 leads, others_append w one.0.rest leads.rest one.1 others)
+without_on w a b c one leads others turns = (onward a b c one.0 leads, others_append w one.0.rest leads.rest one.1 others, turns_append w one.0.later leads.later one.2 turns)
 
 -- the last entry of one's own stays where others come
 last_none : (w : Who) (es : List Entry) → AreOthers w es → last_of w es ≡ 0

@@ -12,17 +12,18 @@ use Rattle.bz_model.specs.declared.event.Who.TheVariants.{Host, Worker}
 use Rattle.bz_model.specs.declared.event.Entry.{Entry}
 use Rattle.bz_net.specs.Simulation.{Simulation}
 use Rattle.bz_past.specs.Moments.{moment, Leads}
-use Rattle.bz_past.specs.Owners.{same_who, AreOf, AreOthers, AreNamed, IsNamed, LeadsBy, LeadsWithout, last_of}
+use Rattle.bz_past.specs.Owners.{same_who, AreOf, AreOthers, AreTurnsOf, AreTurnsOfOthers, AreNamed, IsNamed, LeadsBy, LeadsWithout, last_of}
 use Rattle.bz_past.specs.Rules.{Acted, Fits, Halted, Holds, IsKept, IsOwner, TakenBack, TakenIn, Told, at_moment, first, gone, halted, halts, host_more, joined, keeper_again, keeper_of, keeps, mine, nothing_of, one_if, one_less, one_more, other_again, owns, host_of, with_host, with_worker, worker_more, worker_of}
 use Rattle.bz_past.specs.Seen.{nobody, roll_of, saw_of, used_of, whose}
 use Rattle.bz_past.specs.Stopping.{HasCause, IsRefused, IsStoppedFor}
+use Rattle.bz_past.specs.declared.standing.Turn.{Turn}
 use Rattle.bz_past.specs.declared.view.Moment.{Moment}
 use Rattle.bz_past.specs.declared.view.Roll.{Roll}
 use Rattle.bz_past.specs.declared.view.View.{View}
 use Rattle.bz_past.specs.declared.view.View.TheVariants.{Knows, Acts, Halts, Owns, Stops, Spent}
 use Rattle.bz_past.proofs.Leading.{here, onward}
 use Rattle.bz_past.proofs.Causes.{caused, cause_on, cause_up}
-use Rattle.bz_past.proofs.Owning.{all_within, apart_sym, last_others, named_append, named_more, named_of, named_up, others_of, same_is, same_self, without_here, without_on}
+use Rattle.bz_past.proofs.Owning.{all_within, apart_sym, last_others, named_append, named_more, named_of, named_up, others_of, same_is, same_self, turns_of_others, without_here, without_on}
 
 get_at : {A : Type 0} (xs : List A) (i : ℕ) (a d : A) → get_elem? xs i ≡ some a → (i < length xs) × (get_or xs i d ≡ a)
 get_at [] i a d e = absurd (some-ne-none a (sym e))
@@ -40,26 +41,26 @@ sum_at f xs i v w at = let r = get_at xs i v v at in
 part_at : (f : View → ℕ) (xs : List View) (i : ℕ) (v : View) → get_elem? xs i ≡ some v → f v ≤ sum_by f xs
 part_at f xs i v at = let r = get_at xs i v v at in subst (λ (u : View). f u ≤ sum_by f xs) r.1 (get_or-le-sum_by f xs i v r.0)
 
--- none of these entries is of the owner that this token is, where it is one and does not act
-abbrev Apart : List Entry → View → Type 0
-Apart es (Knows r) = Unit {0}
-Apart es (Acts r w a) = Unit {0}
-Apart es (Halts r u) = Unit {0}
-Apart es (Owns w a) = AreOthers w es
-Apart es (Stops u) = Unit {0}
-Apart es Spent = Unit {0}
+-- none of these entries and turns is of the owner that this token is, where it is one and does not act
+abbrev Apart : List Entry → List Turn → View → Type 0
+Apart es us (Knows r) = Unit {0}
+Apart es us (Acts r w a) = Unit {0}
+Apart es us (Halts r u) = Unit {0}
+Apart es us (Owns w a) = AreOthers w es × AreTurnsOfOthers w us
+Apart es us (Stops u) = Unit {0}
+Apart es us Spent = Unit {0}
 
-apart_none : (t : View) → Apart [] t
+apart_none : (t : View) → Apart [] [] t
 apart_none (Knows r) = tt
 apart_none (Acts r w a) = tt
 apart_none (Halts r u) = tt
-apart_none (Owns w a) = tt
+apart_none (Owns w a) = (tt, tt)
 apart_none (Stops u) = tt
 apart_none Spent = tt
 
-all_none : (ts : List View) → All (Apart []) ts
-all_none [] = All-nil (Apart [])
-all_none (t ∷ ts) = All-cons (Apart []) t ts (apart_none t) (all_none ts)
+all_none : (ts : List View) → All (Apart [] []) ts
+all_none [] = All-nil (Apart [] [])
+all_none (t ∷ ts) = All-cons (Apart [] []) t ts (apart_none t) (all_none ts)
 
 is_other : (w v : Who) → one_if (same_who w v) ≡ 0 → same_who w v ≡ false
 is_other w v none = elim (same_who w v) as (λ b. one_if b ≡ 0 → b ≡ false) [
@@ -67,40 +68,42 @@ is_other w v none = elim (same_who w v) as (λ b. one_if b ≡ 0 → b ≡ false
   | false ↦ λ h. refl
 ] none
 
-apart_other : (w : Who) (es : List Entry) → AreOf w es → (t : View) → mine w t ≡ 0 → Apart es t
-apart_other w es by (Knows r) other = tt
-apart_other w es by (Acts r v a) other = tt
-apart_other w es by (Halts r u) other = tt
-apart_other w es by (Stops u) other = tt
-apart_other w es by (Owns v a) other = others_of w v es (is_other w v other) by
-apart_other w es by Spent other = tt
+-- entries and turns of w
+module _ (w : Who) (es : List Entry) (us : List Turn) (by : AreOf w es) (turns : AreTurnsOf w us) where
+  apart_other : (t : View) → mine w t ≡ 0 → Apart es us t
+  apart_other (Knows r) other = tt
+  apart_other (Acts r v a) other = tt
+  apart_other (Halts r u) other = tt
+  apart_other (Stops u) other = tt
+  apart_other (Owns v a) other = let not = is_other w v other in (others_of w v es not by, turns_of_others w v us not turns)
+  apart_other Spent other = tt
 
-apart_keeper : (es : List Entry) (t : View) → keeps t ≡ 1 → Apart es t
-apart_keeper es (Knows r) is = tt
-apart_keeper es (Acts r v a) is = tt
-apart_keeper es (Halts r u) is = tt
-apart_keeper es (Stops u) is = absurd (omega (arith, is))
-apart_keeper es (Owns v a) is = absurd (omega (arith, is))
-apart_keeper es Spent is = tt
+  apart_keeper : (t : View) → keeps t ≡ 1 → Apart es us t
+  apart_keeper (Knows r) is = tt
+  apart_keeper (Acts r v a) is = tt
+  apart_keeper (Halts r u) is = tt
+  apart_keeper (Stops u) is = absurd (omega (arith, is))
+  apart_keeper (Owns v a) is = absurd (omega (arith, is))
+  apart_keeper Spent is = tt
 
-all_other : (w : Who) (es : List Entry) → AreOf w es → (ts : List View) → sum_by (mine w) ts ≡ 0 → All (Apart es) ts
-all_other w es by [] none = All-nil (Apart es)
-all_other w es by (t ∷ ts) none =
-    let cons = sum_by-cons (mine w) t ts in
-    All-cons (Apart es) t ts (apart_other w es by t (omega (arith, cons, none))) (all_other w es by ts (omega (arith, cons, none)))
+  all_other : (ts : List View) → sum_by (mine w) ts ≡ 0 → All (Apart es us) ts
+  all_other [] none = All-nil (Apart es us)
+  all_other (t ∷ ts) none =
+      let cons = sum_by-cons (mine w) t ts in
+      All-cons (Apart es us) t ts (apart_other t (omega (arith, cons, none))) (all_other ts (omega (arith, cons, none)))
 
--- where the keeper has the one token of w, entries of w are of no other
-all_apart : (w : Who) (es : List Entry) → AreOf w es → (ts : List View) (i : ℕ) (u : View) → sum_by (mine w) ts ≤ 1 → get_elem? ts i ≡ some u → mine w u ≡ 1 → keeps u ≡ 1 → All (Apart es) ts
-all_apart w es by [] i u one at own keeper = absurd (some-ne-none u (sym at))
-all_apart w es by (x ∷ xs) zero u one at own keeper =
-    let is : x ≡ u = some-injective x u at in
-    let its : mine w x ≡ 1 = ap (mine w) is ∙ own in
-    let cons = sum_by-cons (mine w) x xs in
-    All-cons (Apart es) x xs (apart_keeper es x (ap keeps is ∙ keeper)) (all_other w es by xs (omega (arith, cons, one, its)))
-all_apart w es by (x ∷ xs) (suc i) u one at own keeper =
-    let cons = sum_by-cons (mine w) x xs in
-    let more = part_at (mine w) xs i u at in
-    All-cons (Apart es) x xs (apart_other w es by x (omega (arith, cons, one, more, own))) (all_apart w es by xs i u (omega (arith, cons, one)) at own keeper)
+  -- where the keeper has the one token of w, these are of no other
+  all_apart : (ts : List View) (i : ℕ) (u : View) → sum_by (mine w) ts ≤ 1 → get_elem? ts i ≡ some u → mine w u ≡ 1 → keeps u ≡ 1 → All (Apart es us) ts
+  all_apart [] i u one at own keeper = absurd (some-ne-none u (sym at))
+  all_apart (x ∷ xs) zero u one at own keeper =
+      let is : x ≡ u = some-injective x u at in
+      let its : mine w x ≡ 1 = ap (mine w) is ∙ own in
+      let cons = sum_by-cons (mine w) x xs in
+      All-cons (Apart es us) x xs (apart_keeper x (ap keeps is ∙ keeper)) (all_other xs (omega (arith, cons, one, its)))
+  all_apart (x ∷ xs) (suc i) u one at own keeper =
+      let cons = sum_by-cons (mine w) x xs in
+      let more = part_at (mine w) xs i u at in
+      All-cons (Apart es us) x xs (apart_other x (omega (arith, cons, one, more, own))) (all_apart xs i u (omega (arith, cons, one)) at own keeper)
 
 -- What a token knows that is not the keeper's is so later too, where its owner has added nothing, and where the stopper is as it
 -- was, or it is none.
@@ -108,25 +111,25 @@ module _ (old new : Roll) (leads : Leads old.now new.now) (hosts : old.hosts ≤
   abbrev Calm : ℕ → Type 0
   Calm count = (count ≡ 0) ⊎ (new.used ≡ old.used)
 
-  still : (t : View) → keeps t ≡ 0 → Calm (halts t) → Apart leads.rest t → Fits old t → Fits new t
+  still : (t : View) → keeps t ≡ 0 → Calm (halts t) → Apart leads.rest leads.later t → Fits old t → Fits new t
   still (Knows r) idle calm apart fits = absurd (omega (arith, idle))
   still (Acts r w a) idle calm apart fits = absurd (omega (arith, idle))
   still (Halts r u) idle calm apart fits = absurd (omega (arith, idle))
-  still (Owns w a) idle calm apart fits = (without_on w a old.now new.now fits.0 leads apart, named_up old.hosts old.workers new.hosts new.workers w hosts workers fits.1)
+  still (Owns w a) idle calm apart fits = (without_on w a old.now new.now fits.0 leads apart.0 apart.1, named_up old.hosts old.workers new.hosts new.workers w hosts workers fits.1)
   still (Stops u) idle calm apart fits = ⊎_elim (λ (none : 1 ≡ 0). absurd (omega (arith, none))) (λ (same : new.used ≡ old.used). fits ∙ sym same) calm
   still Spent idle calm apart fits = tt
 
-  all_still : (ts : List View) → sum_by keeps ts ≡ 0 → Calm (sum_by halts ts) → All (Apart leads.rest) ts → All (Fits old) ts → All (Fits new) ts
+  all_still : (ts : List View) → sum_by keeps ts ≡ 0 → Calm (sum_by halts ts) → All (Apart leads.rest leads.later) ts → All (Fits old) ts → All (Fits new) ts
   all_still [] idle calm apart fits = All-nil (Fits new)
   all_still (t ∷ ts) idle calm apart fits =
       let cons = sum_by-cons keeps t ts in
       let stops = sum_by-cons halts t ts in
       let here : Calm (halts t) = ⊎_elim (λ none. inl (omega (arith, stops, none))) inr calm in
       let rest : Calm (sum_by halts ts) = ⊎_elim (λ none. inl (omega (arith, stops, none))) inr calm in
-      All-cons (Fits new) t ts (still t (omega (arith, cons, idle)) here (All-head (Apart leads.rest) t ts apart) (All-head (Fits old) t ts fits)) (all_still ts (omega (arith, cons, idle)) rest (All-tail (Apart leads.rest) t ts apart) (All-tail (Fits old) t ts fits))
+      All-cons (Fits new) t ts (still t (omega (arith, cons, idle)) here (All-head (Apart leads.rest leads.later) t ts apart) (All-head (Fits old) t ts fits)) (all_still ts (omega (arith, cons, idle)) rest (All-tail (Apart leads.rest leads.later) t ts apart) (All-tail (Fits old) t ts fits))
 
   -- the keeper knows of something new
-  all_fit : (ts : List View) (i : ℕ) (u t : View) → sum_by keeps ts ≤ 1 → ((sum_by halts ts ≤ 1) × (halts u ≡ 1)) ⊎ (new.used ≡ old.used) → get_elem? ts i ≡ some u → keeps u ≡ 1 → Fits new t → All (Apart leads.rest) ts → All (Fits old) ts → All (Fits new) (set ts i t)
+  all_fit : (ts : List View) (i : ℕ) (u t : View) → sum_by keeps ts ≤ 1 → ((sum_by halts ts ≤ 1) × (halts u ≡ 1)) ⊎ (new.used ≡ old.used) → get_elem? ts i ≡ some u → keeps u ≡ 1 → Fits new t → All (Apart leads.rest leads.later) ts → All (Fits old) ts → All (Fits new) (set ts i t)
   all_fit [] i u t few calm at keeper fit apart fits = absurd (some-ne-none u (sym at))
   all_fit (x ∷ xs) zero u t few calm at keeper fit apart fits =
       let is : x ≡ u = some-injective x u at in
@@ -135,7 +138,7 @@ module _ (old new : Roll) (leads : Leads old.now new.now) (hosts : old.hosts ≤
       let stops = sum_by-cons halts x xs in
       let same = ap halts is in
       let rest : Calm (sum_by halts xs) = ⊎_elim (λ one. inl (omega (arith, stops, same, one.0, one.1))) inr calm in
-      All-cons (Fits new) t xs fit (all_still xs (omega (arith, cons, few, one)) rest (All-tail (Apart leads.rest) x xs apart) (All-tail (Fits old) x xs fits))
+      All-cons (Fits new) t xs fit (all_still xs (omega (arith, cons, few, one)) rest (All-tail (Apart leads.rest leads.later) x xs apart) (All-tail (Fits old) x xs fits))
   all_fit (x ∷ xs) (suc i) u t few calm at keeper fit apart fits =
       let cons = sum_by-cons keeps x xs in
       let stops = sum_by-cons halts x xs in
@@ -143,8 +146,8 @@ module _ (old new : Roll) (leads : Leads old.now new.now) (hosts : old.hosts ≤
       let halt = part_at halts xs i u at in
       let here : Calm (halts x) = ⊎_elim (λ one. inl (omega (arith, stops, halt, one.0, one.1))) inr calm in
       let rest : ((sum_by halts xs ≤ 1) × (halts u ≡ 1)) ⊎ (new.used ≡ old.used) = ⊎_elim (λ one. inl (omega (arith, stops, one.0), one.1)) inr calm in
-      All-cons (Fits new) x (set xs i t) (still x (omega (arith, cons, few, more, keeper)) here (All-head (Apart leads.rest) x xs apart) (All-head (Fits old) x xs fits))
-      (all_fit xs i u t (omega (arith, cons, few)) rest at keeper fit (All-tail (Apart leads.rest) x xs apart) (All-tail (Fits old) x xs fits))
+      All-cons (Fits new) x (set xs i t) (still x (omega (arith, cons, few, more, keeper)) here (All-head (Apart leads.rest leads.later) x xs apart) (All-head (Fits old) x xs fits))
+      (all_fit xs i u t (omega (arith, cons, few)) rest at keeper fit (All-tail (Apart leads.rest leads.later) x xs apart) (All-tail (Fits old) x xs fits))
 
 -- what the keeper knows is so
 knows_so : (now r : Roll) (ts : List View) (i : ℕ) → get_elem? ts i ≡ some (Knows r) → IsKept now ts → IsKept r ts
@@ -173,7 +176,7 @@ acted r w a n ts i at h by why =
     let keeping = sum_at keeps ts i u t at in
     let owning = sum_at owns ts i u t at in
     let stopping = sum_at halts ts i u t at in
-    let apart = all_apart w leads.rest by.1 ts i u (h.once w) at (ap one_if (same_self w)) refl in
+    let apart = all_apart w leads.rest leads.later by.1 by.2 ts i u (h.once w) at (ap one_if (same_self w)) refl in
     let fit : Fits new t = (refl, (without_here w n, was.1.1)) in
     record {
       fit = all_fit r new leads (omega arith) (omega arith) ts i u t h.keeper (inr refl) at refl fit apart h.fit;
@@ -194,15 +197,15 @@ acted r w a n ts i at h by why =
     }
 
 -- something else lies there, with no entry more, and the stopper was used
-halting : (r : Roll) (x : Bool) (n : Moment) (ts : List View) (i : ℕ) → get_elem? ts i ≡ some (Halts r x) → IsKept r ts → (leads : Leads r.now n) → leads.rest ≡ [] → IsKept (halted r n) (set ts i (Halts (halted r n) true))
-halting r x n ts i at h leads none =
+halting : (r : Roll) (x : Bool) (n : Moment) (ts : List View) (i : ℕ) → get_elem? ts i ≡ some (Halts r x) → IsKept r ts → (leads : Leads r.now n) → leads.rest ≡ [] → leads.later ≡ [] → IsKept (halted r n) (set ts i (Halts (halted r n) true))
+halting r x n ts i at h leads none still_so =
     let u = Halts r x in
     let new = halted r n in
     let t = Halts new true in
     let keeping = sum_at keeps ts i u t at in
     let owning = sum_at owns ts i u t at in
     let stopping = sum_at halts ts i u t at in
-    let apart : All (Apart leads.rest) ts = subst (λ es. All (Apart es) ts) (sym none) (all_none ts) in
+    let apart : All (Apart leads.rest leads.later) ts = subst (λ es. All (Apart es leads.later) ts) (sym none) (subst (λ us. All (Apart [] us) ts) (sym still_so) (all_none ts)) in
     let others : (v : Who) → AreOthers v leads.rest = λ v. subst (AreOthers v) (sym none) tt in
     record {
       fit = all_fit r new leads (omega arith) (omega arith) ts i u t h.keeper (inl (h.stopper, refl)) at refl (refl, refl) apart h.fit;
@@ -516,17 +519,17 @@ by_owner net slots id me r w a n is by why s h homes at fits =
       stays,
       tt,
       (at_moment r n, acted r w a n s.views id there kept by why),
-      (r, w, a, is, was.1.0, refl),
+      (r, w, a, is, was.1.0, was.1.1, refl),
     )
 
-pub by_stopper : (net : Simulation) (slots id : ℕ) (me : Me (Unit {0}) View) (r : Roll) (u : Bool) (n : Moment) → me.0 ≡ Halts r u → (leads : Leads r.now n) → leads.rest ≡ [] → Allows (Holds net) slots id me 0 (λ k. k) (λ found x. Halted n me x)
-by_stopper net slots id me r u n is leads none s h homes at fits =
+pub by_stopper : (net : Simulation) (slots id : ℕ) (me : Me (Unit {0}) View) (r : Roll) (u : Bool) (n : Moment) → me.0 ≡ Halts r u → (leads : Leads r.now n) → leads.rest ≡ [] → leads.later ≡ [] → Allows (Holds net) slots id me 0 (λ k. k) (λ found x. Halted n me x)
+by_stopper net slots id me r u n is leads none still_so s h homes at fits =
     let there : get_elem? s.views id ≡ some (Halts r u) = at ∙ ap some is in
     let kept = halts_so h.0 r u s.views id there h.1 in (
       Halts (halted r n) true,
       stays,
       tt,
-      (halted r n, halting r u n s.views id there kept leads none),
+      (halted r n, halting r u n s.views id there kept leads none still_so),
       (r, u, is, refl),
     )
 
@@ -616,10 +619,14 @@ used_so v r x u y is told same = subst (λ (t : View). (roll_of t).used ≡ used
 pub before_so : (v : View) (r x : Roll) (w u : Who) (a b : Moment) → v ≡ Acts x u b → v ≡ Acts r w a → LeadsWithout w a r.now → LeadsWithout u b x.now
 before_so v r x w u a b is told led = subst (λ (t : View). LeadsWithout (whose t) (saw_of t) (roll_of t).now) (sym told ∙ is) led
 
+-- the owner that acts is one of those who were named
+pub named_so : (v : View) (r x : Roll) (w u : Who) (a b : Moment) → v ≡ Acts x u b → v ≡ Acts r w a → IsNamed r.hosts r.workers w → IsNamed x.hosts x.workers u
+named_so v r x w u a b is told named = subst (λ (t : View). IsNamed (roll_of t).hosts (roll_of t).workers (whose t)) (sym told ∙ is) named
+
 -- the first keeper knows what lies there, which has no entry yet
 pub opens : (net : Simulation) → net.journal ≡ [] → Holds net (opening (0 ∷ []) [] (first net))
 opens net unused =
-    let now = nobody (moment net false) in
+    let now = nobody (moment net false []) in
     let keeping = sum_by-cons keeps (first net) [] in
     let owning = sum_by-cons owns (first net) [] in
     let stopping = sum_by-cons halts (first net) [] in (

@@ -6,6 +6,7 @@ use Rattle.bz_model.specs.declared.event.Who.TheVariants as who
 use Rattle.bz_model.specs.declared.event.Entry.{Entry}
 use Rattle.bz_model.specs.declared.event.Entry.TheVariants.{Fired, Host, Rested}
 use Rattle.bz_past.specs.Moments.{Leads}
+use Rattle.bz_past.specs.declared.standing.Turn.{Turn}
 use Rattle.bz_past.specs.declared.view.Moment.{Moment}
 
 abbrev pub who_of : Entry → Who
@@ -43,13 +44,23 @@ abbrev pub AreOthers : Who → List Entry → Type 0
 AreOthers w [] = ⊤
 AreOthers w (e ∷ es) = (same_who (who_of e) w ≡ false) × AreOthers w es
 
--- The second moment comes of the first by entries of this one alone.
-abbrev pub LeadsBy : Who → Moment → Moment → Type 0
-LeadsBy w a b = (leads : Leads a b) × AreOf w leads.rest
+-- each turn is of this one, which is a host
+abbrev pub AreTurnsOf : Who → List Turn → Type 0
+AreTurnsOf w [] = ⊤
+AreTurnsOf w (t ∷ ts) = (t.who ≡ w) × (is_host w ≡ true) × AreTurnsOf w ts
 
--- It comes of it by entries of others.
+-- none is
+abbrev pub AreTurnsOfOthers : Who → List Turn → Type 0
+AreTurnsOfOthers w [] = ⊤
+AreTurnsOfOthers w (t ∷ ts) = (same_who t.who w ≡ false) × AreTurnsOfOthers w ts
+
+-- The second moment comes of the first by entries and turns of this one alone.
+abbrev pub LeadsBy : Who → Moment → Moment → Type 0
+LeadsBy w a b = (leads : Leads a b) × AreOf w leads.rest × AreTurnsOf w leads.later
+
+-- It comes of it by entries and turns of others.
 abbrev pub LeadsWithout : Who → Moment → Moment → Type 0
-LeadsWithout w a b = (leads : Leads a b) × AreOthers w leads.rest
+LeadsWithout w a b = (leads : Leads a b) × AreOthers w leads.rest × AreTurnsOfOthers w leads.later
 
 -- where the last entry stands that is one's own, from 1, if this is so of the first of them, or of one behind it
 abbrev pub behind : Bool → ℕ → ℕ

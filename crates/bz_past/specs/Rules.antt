@@ -85,7 +85,7 @@ Holds net s = (now : Roll) × IsKept now s.views
 
 -- the keeper with the stopper, where nobody owns anything yet
 abbrev pub first : Simulation → View
-first net = Halts (nobody (moment net false)) false
+first net = Halts (nobody (moment net false [])) false
 
 -- the same with another moment
 abbrev pub at_moment : Roll → Moment → Roll
@@ -152,11 +152,12 @@ other_again (Acts r w a) = Owns w a
 other_again (Halts r u) = Stops u
 other_again v = Spent
 
--- A load by the keeper while an owner acts: something else lies there now, by the owner's entries. What the owner saw has led by
--- those of others to what lay there before.
+-- A load by the keeper while an owner acts: something else lies there now, by the owner's entries and turns. What the owner saw has
+-- led by those of others to what lay there before.
 abbrev pub Acted : Moment → Me (Unit {0}) View → Me (Unit {0}) View → Type 0
 Acted now m n =
-    (r : Roll) × (w : Who) × (a : Moment) × (m.0 ≡ Acts r w a) × LeadsWithout w a r.now × (n ≡ (Acts (at_moment r now) w now, m.1))
+    (r : Roll) × (w : Who) × (a : Moment) × (m.0 ≡ Acts r w a) × LeadsWithout w a r.now × IsNamed r.hosts r.workers w
+    × (n ≡ (Acts (at_moment r now) w now, m.1))
 
 -- a load by the keeper with the stopper: something else lies there now, with no entry more, and the stopper was used
 abbrev pub Halted : Moment → Me (Unit {0}) View → Me (Unit {0}) View → Type 0

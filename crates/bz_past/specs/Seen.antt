@@ -34,7 +34,7 @@ pub record Halt : Type 0 where
 
 -- the keeper of a past that has just begun with this net: nobody owns anything yet
 abbrev pub IsFresh : TableId → Simulation → Kept → Type 0
-IsFresh table net k = (k.table ≡ table) × (k.now ≡ moment net false) × (k.hosts ≡ 0) × (k.workers ≡ 0) × (k.out ≡ 0) × (k.last ≡ 0) × (k.used ≡ false)
+IsFresh table net k = (k.table ≡ table) × (k.now ≡ moment net false []) × (k.hosts ≡ 0) × (k.workers ≡ 0) × (k.out ≡ 0) × (k.last ≡ 0) × (k.used ≡ false)
 
 -- nothing is another but the moment, and whether the stopper was used
 abbrev pub KeepsRoll : Kept → Kept → Type 0
@@ -54,8 +54,8 @@ roll_of (Knows r) = r
 roll_of (Acts r w a) = r
 roll_of (Halts r u) = r
 roll_of (Owns w a) = nobody a
-roll_of (Stops u) = nobody (moment nothing false)
-roll_of Spent = nobody (moment nothing false)
+roll_of (Stops u) = nobody (moment nothing false [])
+roll_of Spent = nobody (moment nothing false [])
 
 abbrev pub whose : View → Who
 whose (Knows r) = Host 0
@@ -70,8 +70,8 @@ saw_of (Knows r) = r.now
 saw_of (Acts r w a) = a
 saw_of (Halts r u) = r.now
 saw_of (Owns w a) = a
-saw_of (Stops u) = moment nothing false
-saw_of Spent = moment nothing false
+saw_of (Stops u) = moment nothing false []
+saw_of Spent = moment nothing false []
 
 abbrev pub used_of : View → Bool
 used_of (Knows r) = r.used

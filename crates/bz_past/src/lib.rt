@@ -4,7 +4,11 @@
 mod mark;
 mod past;
 mod rule;
+mod standing;
+mod turns;
 mod view;
 
 pub use past::{Keeper, Memory, Owner, Past, Stopper};
+pub use standing::{Standing, Turn};
+pub use turns::Turns;
 pub use view::{Moment, Roll, View};

@@ -8,9 +8,9 @@ pub trait Mark {
 }
 
 impl Mark for Brand {
-    ghost use Rattle.std.specs.Prelude.{false};
+    ghost use Rattle.std.specs.Prelude.{false, []};
     ghost use Rattle.bz_past.specs.Moments.{moment};
     ghost use Rattle.bz_past.specs.Seen.{nothing};
 
-    ghost moment = { moment nothing false };
+    ghost moment = { moment nothing false [] };
 }

@@ -2,8 +2,9 @@
 ghost use Rattle.std.specs.Prelude.{◌≡◌, ◌⊎◌, ◌+◌, ◌≤◌, [], true, false, length, max, IfOk};
 ghost use Rattle.bz_model.specs.declared.event.Who.TheVariants.{Host, Worker};
 ghost use Rattle.bz_past.specs.Moments.{moment, Leads};
-ghost use Rattle.bz_past.specs.Owners.{last_of, AreNamed, LeadsBy, LeadsWithout};
+ghost use Rattle.bz_past.specs.Owners.{last_of, AreNamed, IsNamed, LeadsBy, LeadsWithout};
 ghost use Rattle.bz_past.specs.Seen.{IsFresh, KeepsRoll};
+ghost use Rattle.bz_past.specs.Standings.{turned};
 ghost use Rattle.bz_past.specs.Stopping.{IsRefused, IsStoppedFor};
 
 use crate::mark::Mark;
@@ -11,6 +12,7 @@ use crate::rule::{
     ByOwner, ByStopper, Joins, NextHost, NextWorker, Nothing, Onward, Parts, TakesBack, TakesIn,
     Tells,
 };
+use crate::standing::Standing;
 use crate::view::View;
 use atomic_table::{Seat, Table};
 use bz_net::Net;
@@ -143,26 +145,43 @@ impl Past {
     }
 
     /// This net is what lies there now, by entries of the owner alone; where all is stopped from now on, one was refused to it.
-    /// What the owner had seen had led, by those of others, to what lay there before.
-    pub fn act(&self, keeper: &mut Keeper, owner: &mut Owner, net: &Net, stopped: bool)
+    /// Where it turns, it stands so from now on. What the owner had seen had led, by entries and turns of others, to what lay
+    /// there before.
+    pub fn act(
+        &self,
+        keeper: &mut Keeper,
+        owner: &mut Owner,
+        net: &Net,
+        stopped: bool,
+        turn: Option<Standing>,
+    )
         requires table { (keeper.old.table ≡ self.now) × (owner.old.table ≡ self.now) }
-        requires onward { LeadsBy owner.old.who keeper.old.now (moment net.now stopped) }
+        requires onward { LeadsBy owner.old.who keeper.old.now (moment net.now stopped (turned keeper.old.now.turns owner.old.who (length net.now.journal) turn)) }
         requires why { stopped ≡ true → (keeper.old.now.stopped ≡ true) ⊎ IsRefused owner.old.who keeper.old.now.net }
-        ensures keeper { KeepsRoll keeper.old keeper.new × (keeper.new.now ≡ moment net.now stopped) }
-        ensures owner { (owner.new.table ≡ owner.old.table) × (owner.new.who ≡ owner.old.who) × (owner.new.seen ≡ moment net.now stopped) }
+        ensures keeper { KeepsRoll keeper.old keeper.new × (keeper.new.now ≡ moment net.now stopped (turned keeper.old.now.turns owner.old.who (length net.now.journal) turn)) }
+        ensures owner { (owner.new.table ≡ owner.old.table) × (owner.new.who ≡ owner.old.who) × (owner.new.seen ≡ moment net.now stopped (turned keeper.old.now.turns owner.old.who (length net.now.journal) turn)) }
         ensures before { LeadsWithout owner.old.who owner.old.seen keeper.old.now }
+        ensures named { IsNamed keeper.old.hosts keeper.old.workers owner.old.who }
     {
-        self.act_to::<Brand>(keeper, owner, net, stopped);
+        self.act_to::<Brand>(keeper, owner, net, stopped, turn);
     }
 
-    fn act_to<B: Mark>(&self, keeper: &mut Keeper, owner: &mut Owner, net: &Net, stopped: bool)
-        requires moment { B.moment ≡ moment net.now stopped }
+    fn act_to<B: Mark>(
+        &self,
+        keeper: &mut Keeper,
+        owner: &mut Owner,
+        net: &Net,
+        stopped: bool,
+        turn: Option<Standing>,
+    )
+        requires moment { B.moment ≡ moment net.now stopped (turned keeper.old.now.turns owner.old.who (length net.now.journal) turn) }
         requires table { (keeper.old.table ≡ self.now) × (owner.old.table ≡ self.now) }
         requires onward { LeadsBy owner.old.who keeper.old.now B.moment }
         requires why { B.moment.stopped ≡ true → (keeper.old.now.stopped ≡ true) ⊎ IsRefused owner.old.who keeper.old.now.net }
         ensures keeper { KeepsRoll keeper.old keeper.new × (keeper.new.now ≡ B.moment) }
         ensures owner { (owner.new.table ≡ owner.old.table) × (owner.new.who ≡ owner.old.who) × (owner.new.seen ≡ B.moment) }
         ensures before { LeadsWithout owner.old.who owner.old.seen keeper.old.now }
+        ensures named { IsNamed keeper.old.hosts keeper.old.workers owner.old.who }
     {
         let nothing = self.table.shared.split_seat::<Nothing>(&mut keeper.seat);
         let seat = mem::replace(&mut owner.seat, nothing);
@@ -171,20 +190,20 @@ impl Past {
         owner.seat = self.table.shared.split_seat::<Parts>(&mut keeper.seat);
     }
 
-    /// This net is what lies there now, by no entry, and since the stopper was used.
+    /// This net is what lies there now, by no entry and no turn, and since the stopper was used.
     pub fn halt(&self, keeper: &mut Keeper, stopper: &mut Stopper, net: &Net, stopped: bool)
         requires table { (keeper.old.table ≡ self.now) × (stopper.old.table ≡ self.now) }
-        requires onward { (leads : Leads keeper.old.now (moment net.now stopped)) × (leads.rest ≡ []) }
-        ensures keeper { KeepsRoll keeper.old keeper.new × (keeper.new.now ≡ moment net.now stopped) }
+        requires onward { (leads : Leads keeper.old.now (moment net.now stopped keeper.old.now.turns)) × (leads.rest ≡ []) × (leads.later ≡ []) }
+        ensures keeper { KeepsRoll keeper.old keeper.new × (keeper.new.now ≡ moment net.now stopped keeper.old.now.turns) }
         ensures stopper { (stopper.new.table ≡ stopper.old.table) × (stopper.new.used ≡ true) }
     {
         self.halt_to::<Brand>(keeper, stopper, net, stopped);
     }
 
     fn halt_to<B: Mark>(&self, keeper: &mut Keeper, stopper: &mut Stopper, net: &Net, stopped: bool)
-        requires moment { B.moment ≡ moment net.now stopped }
+        requires moment { B.moment ≡ moment net.now stopped keeper.old.now.turns }
         requires table { (keeper.old.table ≡ self.now) × (stopper.old.table ≡ self.now) }
-        requires onward { (leads : Leads keeper.old.now B.moment) × (leads.rest ≡ []) }
+        requires onward { (leads : Leads keeper.old.now B.moment) × (leads.rest ≡ []) × (leads.later ≡ []) }
         ensures keeper { KeepsRoll keeper.old keeper.new × (keeper.new.now ≡ B.moment) }
         ensures stopper { (stopper.new.table ≡ stopper.old.table) × (stopper.new.used ≡ true) }
     {

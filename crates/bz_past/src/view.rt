@@ -1,10 +1,12 @@
+use crate::turns::Turns;
 use bz_model::Who;
 use bz_net::Net;
 
-/// A net at a moment, and whether all was stopped then. No value of it is made.
+/// A net at a moment, whether all was stopped then, and how sessions had come to stand. No value of it is made.
 pub struct Moment {
     pub net: Net,
     pub stopped: bool,
+    pub turns: Turns,
 }
 
 /// What lies there now, to how many hosts and workers owners were given, how many of these were not taken in yet, how far the

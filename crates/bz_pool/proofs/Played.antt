@@ -8,12 +8,13 @@ use Rattle.bz_model.specs.declared.event.Entry.{Entry}
 use Rattle.bz_model.specs.declared.event.HostCmd.{HostCmd}
 use Rattle.bz_model.specs.declared.event.Who.{Who}
 use Rattle.bz_model.specs.declared.event.Who.TheVariants.{Host}
-use Rattle.bz_locked.specs.Closing.{RecordAgrees}
+use Rattle.bz_locked.specs.Closing.{RecordAgrees, StandsSo}
 use Rattle.bz_locked.specs.Journal.{part_of}
 use Rattle.bz_locked.specs.Parts.{SessionView, WorkerView}
 use Rattle.bz_session.specs.declared.playing.End.{End}
 use Rattle.bz_past.specs.Moments.{Leads}
 use Rattle.bz_past.specs.Owners.{AreNamed}
+use Rattle.bz_past.specs.Standings.{turned_by}
 use Rattle.bz_past.specs.Stopping.{HasCause, IsStoppedFor}
 use Rattle.bz_past.specs.declared.view.Moment.{Moment}
 use Rattle.bz_locked.proofs.Seeing.{once_on}
@@ -49,11 +50,12 @@ behind [] = []
 behind (x ∷ xs) = xs
 
 -- what led to this has led to what comes of it
-played_later : (t : Terms) (a b : Moment) (who : Who) (words : List HostCmd) (end : End) (own : List Entry) → Leads a b → IsPlayed t a who words end own → IsPlayed t b who words end own
-played_later t a b who words end own on is = record {
+played_later : (t : Terms) (a b : Moment) (who : Who) (words : List HostCmd) (end : End) (own : List Entry) → Leads a b → turned_by who b.turns ≡ turned_by who a.turns → IsPlayed t a who words end own → IsPlayed t b who words end own
+played_later t a b who words end own on same is = record {
   had = is.had;
   answers = played_on t is.had a b who words end [] own on is.answers;
   word = is.word;
+  stood = (is.stood.0, is.stood.1, same ∙ is.stood.2);
 }
 
 work_on : (t : Terms) (a b : Moment) (end : End) → Leads a b → WorkEndIs t a end → WorkEndIs t b end
@@ -82,18 +84,18 @@ all_worked t last (x ∷ xs) (y ∷ ys) saw all =
     All-cons (WorkEndIs t last) y ys (work_on t x.seat.saw last y (All-head Saw x xs saw) all.0) (all_worked t last xs ys (All-tail Saw x xs saw) all.1)
 
 -- where the sessions are Host k+1 and on, and each record is its part of the journal, they play in turn
-pub in_turn_played : (w : Terms) (last : Moment) (k : ℕ) (ls : List (Vec HostCmd Global)) (ss : List SessionView) (es : List End) → map (λ s. s.who) ss ≡ in_turn Host k (length ls) → All (RecordAgrees last.net.journal) ss → All (λ (s : SessionView). Leads s.seat.saw last) ss → EachPlayed w ls ss es → PlayInTurn w last k ls es
-in_turn_played w last k [] [] [] whos own saw all = tt
-in_turn_played w last k [] [] (y ∷ ys) whos own saw all = absurd all
-in_turn_played w last k [] (x ∷ xs) ys whos own saw all = absurd all
-in_turn_played w last k (z ∷ zs) [] ys whos own saw all = absurd all
-in_turn_played w last k (z ∷ zs) (x ∷ xs) [] whos own saw all = absurd all
-in_turn_played w last k (z ∷ zs) (x ∷ xs) (y ∷ ys) whos own saw all =
+pub in_turn_played : (w : Terms) (last : Moment) (k : ℕ) (ls : List (Vec HostCmd Global)) (ss : List SessionView) (es : List End) → map (λ s. s.who) ss ≡ in_turn Host k (length ls) → All (RecordAgrees last.net.journal) ss → All (λ (s : SessionView). Leads s.seat.saw last) ss → All (StandsSo last.turns) ss → EachPlayed w ls ss es → PlayInTurn w last k ls es
+in_turn_played w last k [] [] [] whos own saw stood all = tt
+in_turn_played w last k [] [] (y ∷ ys) whos own saw stood all = absurd all
+in_turn_played w last k [] (x ∷ xs) ys whos own saw stood all = absurd all
+in_turn_played w last k (z ∷ zs) [] ys whos own saw stood all = absurd all
+in_turn_played w last k (z ∷ zs) (x ∷ xs) [] whos own saw stood all = absurd all
+in_turn_played w last k (z ∷ zs) (x ∷ xs) (y ∷ ys) whos own saw stood all =
     let who : x.who ≡ Host (suc k) = ap (λ (l : List Who). get_or l 0 x.who) whos in
     let mine : x.own ≡ part_of (Host (suc k)) last.net.journal = own 0 x (omega arith) ∙ ap (λ h. part_of h last.net.journal) who in
-    let later : IsPlayed w last x.who z.items y x.own = played_later w x.seat.saw last x.who z.items y x.own (saw 0 x (omega arith)) all.0 in
+    let later : IsPlayed w last x.who z.items y x.own = played_later w x.seat.saw last x.who z.items y x.own (saw 0 x (omega arith)) (stood 0 x (omega arith)) all.0 in
     let is : IsPlayed w last (Host (suc k)) z.items y x.own = subst (λ (h : Who). IsPlayed w last h z.items y x.own) who later in
-    (subst (λ (l : List Entry). IsPlayed w last (Host (suc k)) z.items y l) mine is, in_turn_played w last (suc k) zs xs ys (ap behind whos) (λ i d lt. own (suc i) d (omega arith)) (λ i d lt. saw (suc i) d (omega arith)) all.1)
+    (subst (λ (l : List Entry). IsPlayed w last (Host (suc k)) z.items y l) mine is, in_turn_played w last (suc k) zs xs ys (ap behind whos) (λ i d lt. own (suc i) d (omega arith)) (λ i d lt. saw (suc i) d (omega arith)) (λ i d lt. stood (suc i) d (omega arith)) all.1)
 
 -- the sessions played their lists, and then come the ends of the workers
 pub have_played : (w : Terms) (mid lists : List (Vec HostCmd Global)) (ss : List SessionView) (vs : List WorkerView) (n m : ℕ) (es ends : List End) → mid ≡ lists → n ≡ m → EachPlayed w mid ss es → AddsWork w vs n es ends → HavePlayed w lists ss vs m ends
@@ -142,9 +144,9 @@ unused u workers now not why stopped = ⊎_elim (λ used. absurd (true≢false (
 
 -- what the threads did, told of the journal
 pub all_played : (w : Terms) (last : Moment) (ls : List (Vec HostCmd Global)) (ss : List SessionView) (vs : List WorkerView) (workers : ℕ) (ends : List End) → map (λ s. s.who) ss ≡ in_turn Host 0 (length ls) → All (RecordAgrees last.net.journal) ss
-    → All (λ (s : SessionView). Leads s.seat.saw last) ss → All (λ (v : WorkerView). Leads v.seat.saw last) vs → AreNamed (length ls) workers last.net.journal → (last.stopped ≡ true → HasCause workers last) → HavePlayed w ls ss vs workers ends → ArePlayed w ls workers last ends
-all_played w last ls ss vs workers ends whos own saw seen named why have =
-    let played = in_turn_played w last 0 ls ss have.of_sessions whos own saw have.played in
+    → All (λ (s : SessionView). Leads s.seat.saw last) ss → All (λ (v : WorkerView). Leads v.seat.saw last) vs → All (StandsSo last.turns) ss → AreNamed (length ls) workers last.net.journal → (last.stopped ≡ true → HasCause workers last) → HavePlayed w ls ss vs workers ends → ArePlayed w ls workers last ends
+all_played w last ls ss vs workers ends whos own saw seen stood named why have =
+    let played = in_turn_played w last 0 ls ss have.of_sessions whos own saw stood have.played in
     let worked = all_worked w last vs have.then.of_workers seen have.then.worked in record {
       of_sessions = have.of_sessions;
       of_workers = have.then.of_workers;

@@ -45,7 +45,7 @@ fn session_thread<L: NetLedger, R: Wait>(
     session: Session,
     words: Vec<HostCmd>,
 ) -> (Session, End)
-    requires { (session.seat.table ≡ shared.now.table) × (session.own ≡ []) }
+    requires { (session.seat.table ≡ shared.now.table) × (session.own ≡ []) × (session.seat.saw.turns ≡ []) }
     ensures who { (result.0.seat.table ≡ shared.now.table) × (result.0.who ≡ session.who) }
     ensures played { IsPlayed L.terms result.0.seat.saw result.0.who words.items result.1 result.0.own }
 {
@@ -62,7 +62,7 @@ pub fn start_session<'s, E, L: NetLedger + Send + Sync, R: Wait + Sync>(
     session: Session,
     words: Vec<HostCmd>,
 ) -> Option<PromisedHandle<(Session, End), PlayOf<L>>>
-    requires { (session.seat.table ≡ shared.now.table) × (session.own ≡ []) }
+    requires { (session.seat.table ≡ shared.now.table) × (session.own ≡ []) × (session.seat.saw.turns ≡ []) }
     ensures { IfSome result (λ h. (h.promise.0.value ≡ shared.now) × (h.promise.1 ≡ session.who) × (h.promise.2.value ≡ words)) }
 {
     let who = session.who();
@@ -70,7 +70,7 @@ pub fn start_session<'s, E, L: NetLedger + Send + Sync, R: Wait + Sync>(
     let started = scope.spawn_with(
         promise,
         move || -> (Session, End)
-            requires { (session.seat.table ≡ shared.now.table) × (session.own ≡ []) }
+            requires { (session.seat.table ≡ shared.now.table) × (session.own ≡ []) × (session.seat.saw.turns ≡ []) }
             ensures { (result.0.seat.table ≡ shared.entry.now.table) × (result.0.who ≡ session.who) × IsPlayed L.terms result.0.seat.saw result.0.who words.items result.1 result.0.own }
         { session_thread(shared, rt, session, words) },
     );

@@ -1,13 +1,13 @@
 //! The pool: a net, its sessions and its workers, from start to end.
 
-ghost use Rattle.std.specs.Prelude.{◌≡◌, ◌+◌, ◌≤◌, ◌<◌, [], true, false, length, map, vec_len, IfErr, IfOk, OnErr};
+ghost use Rattle.std.specs.Prelude.{◌≡◌, ◌+◌, ◌≤◌, ◌<◌, List, [], false, length, map, vec_len, IfErr, IfOk, OnErr};
 ghost use Rattle.std.specs.List.{All};
 ghost use Rattle.std.specs.Vec.{vec_capacity};
 ghost use Rattle.bz_locked.specs.Closing.{Gathers, Agrees};
 ghost use Rattle.bz_locked.specs.Terms.{terms};
 ghost use Rattle.bz_past.specs.Moments.{moment};
 ghost use Rattle.bz_past.specs.Seen.{IsFresh};
-ghost use Rattle.bz_past.specs.Stopping.{HasCause};
+ghost use Rattle.bz_past.specs.declared.standing.Turn.{Turn};
 ghost use Rattle.bz_pool.specs.Crews.{HavePlayed};
 ghost use Rattle.bz_pool.specs.Pooled.{ArePlayed, IsPooled, RefusesPool, hosts, hands};
 
@@ -89,7 +89,7 @@ fn start_sessions<'s, E, L: NetLedger + Send + Sync, R: Wait + Sync>(
     sessions: Vec<Session>,
     lists: Vec<Vec<HostCmd>>,
 ) -> Result<Vec<PromisedHandle<(Session, End), PlayOf<L>>>, Lack>
-    requires sessions { All (λ s. (s.seat.table ≡ shared.now.table) × (s.own ≡ [])) sessions.items }
+    requires sessions { All (λ s. (s.seat.table ≡ shared.now.table) × (s.own ≡ []) × (s.seat.saw.turns ≡ [])) sessions.items }
     requires lists { vec_len lists ≡ vec_len sessions }
     ensures running { IfOk result (λ v. (vec_len v ≡ vec_len sessions) × All (λ h. h.promise.0.value ≡ shared.now) v.items) }
     ensures who { IfOk result (λ v. map (λ h. h.promise.1) v.items ≡ map (λ s. s.who) sessions.items) }
@@ -155,7 +155,7 @@ fn start_all<'s, E, L: NetLedger + Send + Sync, G: Gate + Sync, R: Wait + Sync>(
     ),
     Lack,
 >
-    requires sessions { All (λ s. (s.seat.table ≡ shared.now.table) × (s.own ≡ [])) sessions.items }
+    requires sessions { All (λ s. (s.seat.table ≡ shared.now.table) × (s.own ≡ []) × (s.seat.saw.turns ≡ [])) sessions.items }
     requires lists { vec_len lists ≡ vec_len sessions }
     requires jobs { All (λ j. j.worker.seat.table ≡ shared.now.table) jobs.items }
     requires stopper { stopper.table ≡ L.past }
@@ -195,7 +195,7 @@ fn run_threads<'s, E, L: NetLedger + Send + Sync, G: Gate + Sync, R: Threads + W
     workers: Vec<Worker<L>>,
     stopper: Stopper,
 ) -> Result<Crew<L>, Lack>
-    requires sessions { All (λ s. (s.seat.table ≡ shared.now.table) × (s.own ≡ [])) sessions.items }
+    requires sessions { All (λ s. (s.seat.table ≡ shared.now.table) × (s.own ≡ []) × (s.seat.saw.turns ≡ [])) sessions.items }
     requires lists { vec_len lists ≡ vec_len sessions }
     requires workers { All (λ w. w.seat.table ≡ shared.now.table) workers.items }
     requires stopper { stopper.table ≡ L.past }
@@ -241,7 +241,7 @@ fn in_scope<'x, L: NetLedger + Send + Sync, G: Gate + Sync, R: Threads + Wait + 
     workers: Vec<Worker<L>>,
     stopper: Stopper,
 ) -> Result<Crew<L>, Lack>
-    requires sessions { All (λ s. (s.seat.table ≡ shared.now.table) × (s.own ≡ [])) sessions.items }
+    requires sessions { All (λ s. (s.seat.table ≡ shared.now.table) × (s.own ≡ []) × (s.seat.saw.turns ≡ [])) sessions.items }
     requires lists { vec_len lists ≡ vec_len sessions }
     requires workers { All (λ w. w.seat.table ≡ shared.now.table) workers.items }
     requires stopper { stopper.table ≡ L.past }
@@ -255,7 +255,7 @@ fn in_scope<'x, L: NetLedger + Send + Sync, G: Gate + Sync, R: Threads + Wait + 
         thread::scope_env(),
         rt,
         |scope| -> Result<Crew<L>, Lack>
-            requires { All (λ s. (s.seat.table ≡ shared.now.table) × (s.own ≡ [])) sessions.items × (vec_len lists ≡ vec_len sessions) × All (λ w. w.seat.table ≡ shared.now.table) workers.items × (stopper.table ≡ L.past) }
+            requires { All (λ s. (s.seat.table ≡ shared.now.table) × (s.own ≡ []) × (s.seat.saw.turns ≡ [])) sessions.items × (vec_len lists ≡ vec_len sessions) × All (λ w. w.seat.table ≡ shared.now.table) workers.items × (stopper.table ≡ L.past) }
             ensures { IfOk result (λ c. (vec_len c.sessions ≡ vec_len sessions) × All (λ s. s.seat.table ≡ shared.entry.now.table) c.sessions.items × (vec_len c.workers ≡ vec_len workers) × All (λ w. w.seat.table ≡ shared.entry.now.table) c.workers.items
                 × (map (λ s. s.who) c.sessions.items ≡ map (λ s. s.who) sessions.items) × (map (λ w. w.who) c.workers.items ≡ map (λ w. w.who) workers.items)
                 × HavePlayed L.terms lists.items c.sessions.items c.workers.items (vec_len workers) c.ends.items × (c.stopper ≡ stopper)) }
@@ -272,8 +272,7 @@ fn close<L: NetLedger>(shared: SharedNet<L>, crew: Crew<L>) -> Result<(Closed, V
     requires counts { (vec_len crew.sessions ≡ shared.sessions) × (vec_len crew.workers ≡ shared.workers) × (shared.workers ≡ L.parts) }
     requires seats { All (λ s. s.seat.table ≡ shared.table) crew.sessions.items × All (λ w. w.seat.table ≡ shared.table) crew.workers.items }
     requires stopper { (crew.stopper.table ≡ L.past) × (crew.stopper.used ≡ false) }
-    ensures why { IfOk result (λ r. r.0.stopped ≡ true → HasCause (vec_len crew.workers) (moment r.0.net r.0.stopped)) }
-    ensures gathers { IfOk result (λ r. Gathers L.terms crew.sessions.items crew.workers.items r.0) }
+    ensures gathers { IfOk result (λ r. Gathers L.terms false crew.sessions.items crew.workers.items r.0) }
     ensures agrees { IfOk result (λ r. Agrees crew.sessions.items crew.workers.items r.0) }
     ensures ends { IfOk result (λ r. r.1 ≡ crew.ends) }
     ensures never { OnErr result ⊥ }
@@ -310,7 +309,7 @@ fn pool<L: NetLedger + Send + Sync, G: Gate + Sync, R: Threads + Wait + Sync>(
     requires opening { (net.wiring ≡ L.terms.wiring) × (net.limit ≡ L.terms.limit) × (fuel ≡ L.terms.fuel) × (vec_len lists ≡ L.terms.sessions) }
     requires unused { net.journal ≡ [] }
     ensures pooled { IfOk result (λ r. IsPooled L.terms workers r.0) }
-    ensures played { IfOk result (λ r. ArePlayed L.terms lists.items workers (moment r.0.net r.0.stopped) r.1.items) }
+    ensures played { IfOk result (λ r. (turns : List Turn) × ArePlayed L.terms lists.items workers (moment r.0.net r.0.stopped turns) r.1.items) }
     ensures ends { IfOk result (λ r. vec_len r.1 ≡ vec_len lists + workers) }
     ensures refused { IfErr result RefusesPool }
 {
@@ -341,7 +340,7 @@ pub fn run_pool<G: Gate + Sync, R: Threads + Wait + Sync>(
     requires counts { (1 ≤ vec_len lists) × (vec_len lists ≤ 16) × (1 ≤ workers) × (workers ≤ 8) }
     requires unused { net.journal ≡ [] }
     ensures pooled { IfOk result (λ r. IsPooled (terms net.wiring net.limit fuel (vec_len lists)) workers r.0) }
-    ensures played { IfOk result (λ r. ArePlayed (terms net.wiring net.limit fuel (vec_len lists)) lists.items workers (moment r.0.net r.0.stopped) r.1.items) }
+    ensures played { IfOk result (λ r. (turns : List Turn) × ArePlayed (terms net.wiring net.limit fuel (vec_len lists)) lists.items workers (moment r.0.net r.0.stopped turns) r.1.items) }
     ensures ends { IfOk result (λ r. vec_len r.1 ≡ vec_len lists + workers) }
     ensures refused { IfErr result RefusesPool }
 {

@@ -6,3 +6,12 @@ pub mod Lively
 pub mod Alive
 pub mod Telling
 pub mod Handshakes
+pub mod Numbers
+pub mod Surrounded
+pub mod Seeing
+pub mod Cutting
+pub mod Placing
+pub mod Copying
+pub mod Standing
+pub mod Sound
+pub mod Embedded

@@ -42,7 +42,7 @@ module _ (w : Wiring) (wired : WellWired w) where
   last-is-sole es x y a b = one-last (opening w) es x y (alive-opening w wired) a b
 
   -- a step is made at the end of a channel that its move is of
-  end-of : (s : State) (c p k : ℕ) (mv : Move) (value : Option ℕ) (next : State) → Alive w s → Step w.sites s c p k mv value next → IsEnd w.sites k (answers mv) c p
+  pub end-of : (s : State) (c p k : ℕ) (mv : Move) (value : Option ℕ) (next : State) → Alive w s → Step w.sites s c p k mv value next → IsEnd w.sites k (answers mv) c p
   end-of s c p k mv value next alive step =
       step_end w s.phases alive.comps c p k mv value next alive.tied (subst (λ (r : State). Step w.sites r c p k mv value next) (sym (state-is w wired s alive)) step)
 

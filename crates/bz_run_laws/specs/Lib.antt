@@ -1,0 +1,2 @@
+pub mod Embeddings
+pub mod Copies

@@ -1,13 +1,19 @@
 -- What a session has in its record once it has played its commands.
 use Rattle.std.specs.Prelude.{◌≡◌, ℕ, ◌-◌, ◌<◌, ◌≤◌, true, List, [], ◌∷◌, ◌++◌, Some, length, take, slice_get, ⊤}
+use Rattle.std.specs.List.{All}
 use Rattle.bz_model.specs.declared.event.Who.{Who}
 use Rattle.bz_model.specs.declared.event.Reply.{Reply}
 use Rattle.bz_model.specs.declared.event.HostCmd.{HostCmd}
 use Rattle.bz_model.specs.declared.event.Entry.{Entry}
+use Rattle.bz_model.specs.Nets.{Wiring}
 use Rattle.bz_net.specs.Answering.{is_answer}
 use Rattle.bz_locked.specs.Commands.{IsEntryOf, RefusesPoll}
+use Rattle.bz_locked.specs.Quiet.{AwaitsIn}
 use Rattle.bz_locked.specs.Terms.{Terms}
 use Rattle.bz_past.specs.Moments.{Leads}
+use Rattle.bz_past.specs.Standings.{HasTurned}
+use Rattle.bz_past.specs.declared.standing.Standing.{Standing}
+use Rattle.bz_past.specs.declared.standing.Standing.TheVariants.{Running, Waiting, Ended}
 use Rattle.bz_past.specs.declared.view.Moment.{Moment}
 use Rattle.bz_locked.specs.Working.{WasAdded, WasTold, WasRefused}
 use Rattle.bz_locked.specs.declared.locked.Work.TheVariants as work
@@ -48,14 +54,28 @@ Found P words word = (cmd : HostCmd) × (slice_get words (word - 1) ≡ Some cmd
 
 -- Why the play ended: at the word named the session was told so, or its command was refused, at a moment between what had been
 -- seen and what was seen.
-abbrev pub EndIs : Terms → Moment → Moment → List HostCmd → End → Type 0
-EndIs t had saw words Done = ⊤
-EndIs t had saw words (Resting word) = Found (λ cmd. WasTold t had saw cmd work.Resting) words word
-EndIs t had saw words (Spent word) = Found (λ cmd. WasTold t had saw cmd work.Spent) words word
-EndIs t had saw words (Stopped word) = Found (λ cmd. WasTold t had saw cmd work.Stopped) words word
-EndIs t had saw words (Refused word (Event e)) = Found (λ cmd. WasRefused t had saw (λ net e. RefusesPoll net cmd e) e) words word
-EndIs t had saw words (Refused word (BadWord at)) = ⊥
-EndIs t had saw words (Refused word Memory) = ⊥
+abbrev pub EndIs : Terms → Moment → Moment → Who → List HostCmd → End → Type 0
+EndIs t had saw who words Done = ⊤
+EndIs t had saw who words (Resting word) = Found (λ cmd. WasTold t had saw who cmd work.Resting) words word
+EndIs t had saw who words (Spent word) = Found (λ cmd. WasTold t had saw who cmd work.Spent) words word
+EndIs t had saw who words (Stopped word) = Found (λ cmd. WasTold t had saw who cmd work.Stopped) words word
+EndIs t had saw who words (Refused word (Event e)) = Found (λ cmd. WasRefused t had saw (λ net e. RefusesPoll net cmd e) e) words word
+EndIs t had saw who words (Refused word (BadWord at)) = ⊥
+EndIs t had saw who words (Refused word Memory) = ⊥
+
+-- the session runs, or waits for an answer to one of its commands
+abbrev pub IsAtWork : Wiring → List HostCmd → Standing → Type 0
+IsAtWork w words Running = ⊤
+IsAtWork w words (Waiting verb port) = (word : ℕ) × Found (λ cmd. AwaitsIn w cmd (Waiting verb port)) words word
+IsAtWork w words Ended = ⊥
+
+-- it has been at work all the while
+abbrev pub HasWorked : Wiring → Who → List HostCmd → Moment → Moment → Type 0
+HasWorked w who words a b = (standings : List Standing) × All (IsAtWork w words) standings × HasTurned who standings a b
+
+-- it has been at work, and then it has ended
+abbrev pub HasEnded : Wiring → Who → List HostCmd → Moment → Moment → Type 0
+HasEnded w who words a b = (standings : List Standing) × All (IsAtWork w words) standings × HasTurned who (standings ++ Ended ∷ []) a b
 
 -- The record has grown by an entry for each command before the end, in order. What was seen once they were answered has led on to
 -- the moment of the end.
@@ -64,5 +84,5 @@ pub record Played (t : Terms) (had saw : Moment) (who : Who) (words : List HostC
   pub grown : new ≡ old ++ entries
   pub reached : Moment
   pub answers : AreAnswers t had reached who (take (answered end (length words)) words) entries
-  pub why : EndIs t reached saw words end
+  pub why : EndIs t reached saw who words end
   pub on : Leads reached saw

@@ -2,7 +2,7 @@
 
 ghost use Rattle.std.specs.Prelude.{◌≡◌, length};
 ghost use Rattle.bz_locked.specs.Parts.{Stays};
-ghost use Rattle.bz_session.specs.Playing.{Played, NamesWord};
+ghost use Rattle.bz_session.specs.Playing.{HasEnded, HasWorked, Played, NamesWord};
 
 use bz_locked::{NetLedger, Session, SharedNet, WaitReply};
 use bz_model::HostCmd;
@@ -31,6 +31,7 @@ pub fn play<L: NetLedger, R: Wait>(
     ensures who { (session.new.who ≡ session.old.who) × Stays session.old.seat session.new.seat }
     ensures record { Played L.terms session.old.seat.saw session.new.seat.saw session.old.who words.now result session.old.own session.new.own }
     ensures word { NamesWord result (length words.now) }
+    ensures stood { HasEnded L.terms.wiring session.old.who words.now session.old.seat.saw session.new.seat.saw }
 {
     let end = play_words(shared, rt, session, words);
     shared.end(rt, session);
@@ -47,6 +48,7 @@ fn play_words<L: NetLedger, R: Wait>(
     ensures who { (session.new.who ≡ session.old.who) × Stays session.old.seat session.new.seat }
     ensures record { Played L.terms session.old.seat.saw session.new.seat.saw session.old.who words.now result session.old.own session.new.own }
     ensures word { NamesWord result (length words.now) }
+    ensures stood { HasWorked L.terms.wiring session.old.who words.now session.old.seat.saw session.new.seat.saw }
 {
     let mut word = 0;
     for cmd in words {

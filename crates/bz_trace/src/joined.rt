@@ -1,6 +1,6 @@
 //! A run whose trace comes in pieces.
 
-ghost use Rattle.std.specs.Prelude.{◌≡◌, ◌≤◌, [], true, false, ℕ, List, IfErr, IfOk, IfSome, IsTrue, OnOk};
+ghost use Rattle.std.specs.Prelude.{◌≡◌, ◌≤◌, ◌↔◌, [], true, false, ℕ, List, IfErr, IfOk, IfSome, IsTrue, OnOk};
 ghost use Rattle.bz_model.specs.declared.event.Entry.{Entry};
 ghost use Rattle.bz_model.specs.Limits.{max_entries};
 ghost use Rattle.bz_trace.specs.Pieces.{GoesOver, IsBehind, JudgesPieceTo, StopsInFrontBehind};
@@ -52,6 +52,7 @@ impl Joined {
     pub fn open(alloc: Global, flat: Flat) -> Result<Joined, NetError>
         ensures wiring { IfOk result (λ joined. joined.wiring ≡ flat.wiring) }
         ensures opened { IfOk result (λ joined. IsBehind flat.wiring joined []) }
+        ensures left { IfOk result (λ joined. joined.left ≡ 4294967295) }
         ensures err { IfErr result (λ e. e ≡ NetError.Memory) }
     {
         match Play::open(alloc, flat, u32::MAX) {
@@ -62,7 +63,7 @@ impl Joined {
 
     /// Whether one piece more can be checked. Behind 4,278,190,079 entries there may be too many.
     pub fn has_room(&self) -> bool
-        ensures { IsTrue result → max_entries ≤ self.now.left }
+        ensures { IsTrue result ↔ (max_entries ≤ self.now.left) }
     {
         self.net.let_in(MAX_ENTRIES as u64) == MAX_ENTRIES as u64
     }

@@ -18,5 +18,5 @@ pub use checking::{Verdict, check};
 pub use joined::Joined;
 pub use kept::KeptLines;
 pub use laws::plays_are_accepted;
-pub use reading::{ReadFault, Said, check_read, check_read_watched};
+pub use reading::{ReadFault, Said, check_read};
 pub use watching::{Unwatched, Watch};

@@ -18,7 +18,7 @@ ghost use Rattle.bz_trace.specs.declared.reading.ReadFault.TheVariants.{Memory, 
 use crate::checking::{Verdict, verdict_behind};
 use crate::kept::KeptLines;
 use crate::lines::{Followed, play_lines};
-use crate::watching::{Unwatched, Watch};
+use crate::watching::Watch;
 use bz_net::Play;
 use bz_trace_text::{Counts, LineNames, Version, clash_at, version_at};
 use std::alloc::{AllocError, Global};
@@ -62,13 +62,14 @@ pub struct Said {
 
 /// What `check` says of the text that a reader gives, which may be longer than memory. Where it is no trace, no more of it is
 /// read than that takes. With `to_first` no more is read either once a line is that of no run: that is the verdict then, whatever
-/// comes after it. The line that the verdict names is kept in `kept`.
-pub fn check_read<R: Read>(
+/// comes after it. The line that the verdict names is kept in `kept`, and each entry is shown to who watches.
+pub fn check_read<R: Read, S: Watch>(
     alloc: Global,
     net: &mut Play,
     input: &mut R,
     to_first: bool,
     kept: &mut KeptLines,
+    watch: &mut S,
 ) -> Result<Said, ReadFault>
     requires opened { IsToldBy net.old [] }
     requires left { net.old.left ≡ max_entries }
@@ -81,34 +82,6 @@ pub fn check_read<R: Read>(
     ensures whole { IfOk result (λ said. to_first ≡ false → said.early ≡ false) }
 
     // The first line that no run allows is told where it is asked for, whatever comes after it.
-    ensures first { IfOk result (λ said. to_first ≡ true → IfSome (R.remaining input.old) (λ text.
-        (line : ℕ) → StopsInFront net.old.wiring text line → IsEarly line said)) }
-    ensures counted { IfOk result (λ said. IfSome (R.remaining input.old) (λ text.
-        said.verdict ≡ Verdict.Run → CountsRun net.old.wiring text said.counts)) }
-    ensures leaves { IfOk result (λ said. IfSome (R.remaining input.old) (λ text.
-        LeavesTo said.early net.old.wiring text net.new said.verdict)) }
-    ensures wiring { OnOk result (net.new.wiring ≡ net.old.wiring) }
-    ensures long { IfErr result (λ e. e ≡ TooLong → IfSome (R.remaining input.old) (IsTooLong net.old.wiring)) }
-{
-    check_read_watched(alloc, net, input, to_first, kept, &mut Unwatched)
-}
-
-/// The same, with each entry shown to who watches.
-pub fn check_read_watched<R: Read, S: Watch>(
-    alloc: Global,
-    net: &mut Play,
-    input: &mut R,
-    to_first: bool,
-    kept: &mut KeptLines,
-    watch: &mut S,
-) -> Result<Said, ReadFault>
-    requires opened { IsToldBy net.old [] }
-    requires left { net.old.left ≡ max_entries }
-    ensures right { IfOk result (λ said. IfSome (R.remaining input.old) (λ text.
-        JudgesTo said.early net.old.wiring text said.verdict)) }
-    ensures only { IfOk result (λ said. IfSome (R.remaining input.old) (λ text. said.early ≡ false →
-        (v : Verdict) → Judges net.old.wiring text v → v ≢ Verdict.Memory → (said.verdict ≡ v) ⊎ (said.verdict ≡ Verdict.Memory))) }
-    ensures whole { IfOk result (λ said. to_first ≡ false → said.early ≡ false) }
     ensures first { IfOk result (λ said. to_first ≡ true → IfSome (R.remaining input.old) (λ text.
         (line : ℕ) → StopsInFront net.old.wiring text line → IsEarly line said)) }
     ensures counted { IfOk result (λ said. IfSome (R.remaining input.old) (λ text.

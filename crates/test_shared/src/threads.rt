@@ -117,7 +117,8 @@ fn stop_later<L: NetLedger, R: Wait>(rt: &R, shared: &SharedNet<L>, stop: &Mutex
 }
 
 fn end_later<L: NetLedger, R: Wait>(rt: &R, shared: &SharedNet<L>, session: &mut Session)
-    ensures { session.new ≡ session.old }
+    requires { session.old.seat.table ≡ shared.now.table }
+    ensures { session.new.seat.table ≡ shared.now.table }
 {
     stay_a_while();
     shared.end(rt, session);

@@ -11,4 +11,4 @@ returns-then-not-covers-clause-checks g c =
 
 pub returns-clause-checks : goal.returns-clause-checks
 returns-clause-checks g c =
-    does_apart of_check _ _ (λ netlist text answer. ChecksApart c.args.way.to_first c.args.way.to_rest netlist text (option_copied c.args.part) _ _ answer) c.check_trace_watched-checked.result _ c.check_trace_watched-checked.ensures.checks (c.counted.ensures ∙ c.judged-2.ensures)
+    does_apart of_check _ _ (λ netlist text answer. ChecksApart c.args.way.to_first c.args.way.to_rest netlist text (option_copied c.args.part) _ _ answer) c.check_trace_cmd-checked.result _ c.check_trace_cmd-checked.ensures.checks (c.counted.ensures ∙ c.judged-2.ensures)

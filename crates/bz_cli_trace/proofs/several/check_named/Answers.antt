@@ -1,11 +1,9 @@
-use Rattle.bz_cli_trace.proofs.Found.{not_given, not_said, said}
+use Rattle.bz_cli_input.specs.declared.fault.Fault.TheVariants.{Memory}
+use Rattle.bz_cli_trace.proofs.Found.{not_given}
 use Rattle.bz_cli_trace.proofs.several.check_named.Goals as goal
 
+pub returns-in-Ok : goal.returns-in-Ok
+returns-in-Ok g c = rw c.in-Ok.ensures.wiring at c.check_on.ensures
+
 pub returns-in-Err : goal.returns-in-Err
-returns-in-Err g c = not_given c.args.way.to_first c.args.way.to_rest c.args.flat.wiring c.args.front.now _ _ c.in-Err.fault c.in-Err.ensures.err
-
-pub returns-in-Ok-tell : goal.returns-in-Ok-tell
-returns-in-Ok-tell g c = said c.args.way.to_first c.args.way.to_rest c.args.flat.wiring c.args.front.now _ c.in-Ok.traced _ _ c.in-Ok.ensures.ok c.in-Ok-tell.ensures
-
-pub returns-in-Err-tell : goal.returns-in-Err-tell
-returns-in-Err-tell g c = not_said c.args.way.to_first c.args.way.to_rest c.args.flat.wiring c.args.front.now _ c.in-Ok.traced _ _ c.in-Ok.ensures.ok c.in-Err-tell.fault c.in-Err-tell.ensures
+returns-in-Err g c = not_given c.args.way.to_first c.args.way.to_rest c.args.flat.wiring c.args.front.now _ _ Memory tt

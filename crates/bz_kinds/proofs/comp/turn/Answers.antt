@@ -1,11 +1,14 @@
-use Rattle.std.proofs.Common.{rules, ◌≡◌, sym, ap, subst, ◌∙◌}
-use Rattle.bz_kinds.specs.declared.row.Row.{Row}
+use Rattle.std.proofs.Common.{rules, ◌≡◌, Some, sym, ap, subst, ◌∙◌}
 use Rattle.bz_kinds.specs.declared.row.Meet.{Meet}
 use Rattle.bz_kinds.specs.declared.row.Script.{Script}
 use Rattle.bz_kinds.specs.declared.row.Script.TheVariants.{Loop}
 use Rattle.bz_kinds.specs.declared.row.Plan.TheVariants.{InTurn, Together, OneByOne, Meeting}
 use Rattle.bz_kinds.specs.declared.comp.Process.{Process}
 use Rattle.bz_kinds.specs.Kept.{plan_of}
+use Rattle.bz_kinds.specs.KeptLists.{slots_of}
+use Rattle.bz_kinds.specs.Ports.{state_at}
+use Rattle.bz_kinds.specs.Riding.{Made}
+use Rattle.bz_kinds.specs.Row.{Due, row_due}
 use Rattle.bz_kinds.specs.Turn.{HasMade}
 use Rattle.bz_kinds.proofs.PlanLaws.{due-of}
 use Rattle.bz_kinds.proofs.comp.turn.Goals as goal
@@ -13,14 +16,20 @@ use Rattle.bz_kinds.proofs.comp.turn.Goals.{in_default-via-in-OneByOne+in_defaul
 
 pub returns-in-InTurn-clause-made : goal.returns-in-InTurn-clause-made
 returns-in-InTurn-clause-made c d e =
-    c.fire.ensures.made d (due-of _ _ (ap plan_of c.in-InTurn.is ∙ ap (λ (row : Row). InTurn row) (sym c.get.ensures)) c.args.proc.now.size c.args.proc.now.left c.args.port _ d e)
+    let same : plan_of c.args.proc.now.plan ≡ InTurn c.row-in-InTurn.result.now = search rules in
+    let own : c.in-InTurn.match-proc-own.proc ≡ c.args.proc.now = search rules in
+    subst (λ (it : Process). (d : Due) → row_due c.row-in-InTurn.result.now c.args.port (state_at it.ports c.args.port) ≡ Some d → Made d c.args.rides (slots_of it.slots) (slots_of c.fire-in-InTurn.new.slots) c.fire-in-InTurn.result.0 c.fire-in-InTurn.result.1) own
+    c.fire-in-InTurn.ensures.made d (due-of _ _ same c.args.proc.now.size c.args.proc.now.left c.args.port _ d e)
 
 pub returns-in-Together-clause-made : goal.returns-in-Together-clause-made
 returns-in-Together-clause-made c d e =
-    c.fire-in-Together.ensures.made d (due-of _ _ (ap plan_of c.in-Together.is ∙ ap (λ (row : Row). Together row) (sym c.get-in-Together.ensures)) c.args.proc.now.size c.args.proc.now.left c.args.port _ d e)
+    let same : plan_of c.args.proc.now.plan ≡ Together c.row.result.now = search rules in
+    let own : c.in-Together.match-proc-own.proc ≡ c.args.proc.now = search rules in
+    subst (λ (it : Process). (d : Due) → row_due c.row.result.now c.args.port (state_at it.ports c.args.port) ≡ Some d → Made d c.args.rides (slots_of it.slots) (slots_of c.fire-in-Together.new.slots) c.fire-in-Together.result.0 c.fire-in-Together.result.1) own
+    c.fire-in-Together.ensures.made d (due-of _ _ same c.args.proc.now.size c.args.proc.now.left c.args.port _ d e)
 
 pub returns-in-Cells-clause-made : goal.returns-in-Cells-clause-made
-returns-in-Cells-clause-made c d e = c.fire-in-Cells.ensures.made d (due-of _ _ (ap plan_of c.in-Cells.is) c.args.proc.now.size c.args.proc.now.left c.args.port _ d e)
+returns-in-Cells-clause-made c d e = c.fire.ensures.made d (due-of _ _ (ap plan_of c.in-Cells.is) c.args.proc.now.size c.args.proc.now.left c.args.port _ d e)
 
 pub returns-in-OneByOne-Loop-clause-made : goal.returns-in-OneByOne-Loop-clause-made
 returns-in-OneByOne-Loop-clause-made c d e =
@@ -29,7 +38,7 @@ returns-in-OneByOne-Loop-clause-made c d e =
 
 pub returns-in-Meeting-clause-made : goal.returns-in-Meeting-clause-made
 returns-in-Meeting-clause-made c d e =
-    c.fire-in-Meeting.ensures.made d (due-of _ _ (ap plan_of c.in-Meeting.is ∙ ap (λ (meet : Meet). Meeting meet) (sym c.get-in-Meeting.ensures)) c.args.proc.now.size c.args.proc.now.left c.args.port _ d e)
+    c.fire-in-Meeting.ensures.made d (due-of _ _ (ap plan_of c.in-Meeting.is ∙ ap (λ (meet : Meet). Meeting meet) (sym c.get.ensures)) c.args.proc.now.size c.args.proc.now.left c.args.port _ d e)
 
 pub returns-in_default-clause-made : goal.returns-in_default-clause-made
 returns-in_default-clause-made c =

@@ -1,6 +1,7 @@
-use Rattle.bz_past.specs.Moments.{moment}
-use Rattle.bz_pool.proofs.Played.{unused}
+use Rattle.std.proofs.Common.{subst}
+use Rattle.bz_locked.specs.Closing.{Gathers}
 use Rattle.bz_pool.proofs.pool.close.Goals as goal
 
-pub returns-in-Ok-clause-why : goal.returns-in-Ok-clause-why
-returns-in-Ok-clause-why g c = unused _ _ (moment c.in-Ok.closed.net c.in-Ok.closed.stopped) c.requires.stopper.1 c.in-Ok.ensures.why
+pub returns-in-Ok-clause-gathers : goal.returns-in-Ok-clause-gathers
+returns-in-Ok-clause-gathers g c =
+    subst (λ u. Gathers g.L.NetLedger.terms u c.args.crew.sessions.items c.args.crew.workers.items c.in-Ok.closed) c.requires.stopper.1 c.in-Ok.ensures.gathers

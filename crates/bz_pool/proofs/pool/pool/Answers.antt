@@ -1,4 +1,4 @@
-use Rattle.std.proofs.Common.{true, ◌≡◌, ◌+◌, map, length, vec_len, sym, ap, subst, ◌∙◌, arith}
+use Rattle.std.proofs.Common.{false, ◌≡◌, List, ◌+◌, map, length, vec_len, refl, sym, ap, subst, ◌∙◌, arith}
 use Rattle.std.specs.declared.alloc.Global.{Global}
 use Rattle.std.specs.declared.vec.Vec.{Vec}
 use Rattle.bz_model.specs.declared.event.Who.TheVariants.{Host, Worker}
@@ -8,11 +8,13 @@ use Rattle.bz_locked.specs.Parts.{SessionView, WorkerView}
 use Rattle.bz_past.specs.Moments.{moment}
 use Rattle.bz_past.specs.Owners.{AreNamed}
 use Rattle.bz_past.specs.Stopping.{HasCause}
+use Rattle.bz_past.specs.declared.standing.Turn.{Turn}
+use Rattle.bz_past.specs.declared.view.Moment.{Moment}
 use Rattle.bz_locked.specs.declared.closing.Closed.{Closed}
 use Rattle.bz_session.specs.declared.playing.End.{End}
 use Rattle.bz_pool.specs.Crews.{HavePlayed}
 use Rattle.bz_pool.specs.Pooled.{ArePlayed, IsPooled, RefusesPool}
-use Rattle.bz_pool.proofs.Played.{all_played, ends_count, of_never, of_ok}
+use Rattle.bz_pool.proofs.Played.{all_played, ends_count, of_never, of_ok, unused}
 use Rattle.bz_pool.proofs.Pooling.{named, told}
 use Rattle.bz_pool.proofs.pool.pool.Goals as goal
 
@@ -24,7 +26,7 @@ returns-in-Ok-in_scope-clause-pooled g c =
     let t = g.L.NetLedger.terms in
     let count : c.len.result ≡ t.sessions = c.len.ensures ∙ c.requires.opening.3 in
     of_ok
-    (λ (r : Closed × Vec End Global). Gathers t crew.sessions.items crew.workers.items r.0)
+    (λ (r : Closed × Vec End Global). Gathers t false crew.sessions.items crew.workers.items r.0)
     (λ (r : Closed × Vec End Global). Agrees crew.sessions.items crew.workers.items r.0)
     (λ (r : Closed × Vec End Global). IsPooled t c.args.workers r.0)
     c.close.result
@@ -57,32 +59,28 @@ returns-in-Ok-in_scope-clause-played g c =
     let hands : length crew.workers.items ≡ c.args.workers = omega (arith, crew.workers.ok.0, c.in-Ok-in_scope.ensures.workers.0, made.workers.0) in
     let t = g.L.NetLedger.terms in
     let have = subst (λ n. HavePlayed t c.args.lists.items crew.sessions.items crew.workers.items n crew.ends.items) made.workers.0 c.in-Ok-in_scope.ensures.played in
-    let Why : Closed × Vec End Global → Type 0 = λ r. r.0.stopped ≡ true → HasCause (vec_len crew.workers) (moment r.0.net r.0.stopped) in
-    let all : vec_len crew.workers ≡ c.args.workers = omega (arith, c.in-Ok-in_scope.ensures.workers.0, made.workers.0) in
-    let Has : Closed × Vec End Global → Type 0 = λ r. Gathers t crew.sessions.items crew.workers.items r.0 × Agrees crew.sessions.items crew.workers.items r.0 × Why r in
+    let last : Closed → List Turn → Moment = λ closed turns. moment closed.net closed.stopped turns in
+    let Has : Closed × Vec End Global → Type 0 = λ r. Gathers t false crew.sessions.items crew.workers.items r.0 × Agrees crew.sessions.items crew.workers.items r.0 in
     of_ok
     Has
     (λ (r : Closed × Vec End Global). r.1 ≡ crew.ends)
-    (λ (r : Closed × Vec End Global). ArePlayed t c.args.lists.items c.args.workers (moment r.0.net r.0.stopped) r.1.items)
+    (λ (r : Closed × Vec End Global). (turns : List Turn) × ArePlayed t c.args.lists.items c.args.workers (last r.0 turns) r.1.items)
     c.close.result
-    (λ r has same. subst (λ (es : Vec End Global). ArePlayed t c.args.lists.items c.args.workers (moment r.0.net r.0.stopped) es.items) (sym same)
-    (all_played t (moment r.0.net r.0.stopped) c.args.lists.items crew.sessions.items crew.workers.items c.args.workers crew.ends.items whos has.1.records has.0.sessions_saw has.0.workers_saw
-    (subst (λ n. AreNamed n c.args.workers r.0.net.journal) hosts (subst (λ n. AreNamed (length crew.sessions.items) n r.0.net.journal) hands has.0.named)) (λ s. subst (λ n. HasCause n (moment r.0.net r.0.stopped)) all (has.2 s)) have))
+    (λ r has same. (
+      has.0.turns,
+      subst (λ (es : Vec End Global). ArePlayed t c.args.lists.items c.args.workers (last r.0 has.0.turns) es.items) (sym same)
+          (all_played t (last r.0 has.0.turns) c.args.lists.items crew.sessions.items crew.workers.items c.args.workers crew.ends.items whos has.1.records has.0.sessions_saw has.0.workers_saw has.0.stood
+          (subst (λ n. AreNamed n c.args.workers r.0.net.journal) hosts (subst (λ n. AreNamed (length crew.sessions.items) n r.0.net.journal) hands has.0.named))
+          (λ s. subst (λ n. HasCause n (last r.0 has.0.turns)) hands (unused false _ (last r.0 has.0.turns) refl has.0.why s)) have),
+    ))
     (of_ok
-    (λ (r : Closed × Vec End Global). Gathers t crew.sessions.items crew.workers.items r.0 × Agrees crew.sessions.items crew.workers.items r.0)
-    Why
-    Has
-    c.close.result
-    (λ r both why. (both.0, both.1, why))
-    (of_ok
-    (λ (r : Closed × Vec End Global). Gathers t crew.sessions.items crew.workers.items r.0)
+    (λ (r : Closed × Vec End Global). Gathers t false crew.sessions.items crew.workers.items r.0)
     (λ (r : Closed × Vec End Global). Agrees crew.sessions.items crew.workers.items r.0)
-    (λ (r : Closed × Vec End Global). Gathers t crew.sessions.items crew.workers.items r.0 × Agrees crew.sessions.items crew.workers.items r.0)
+    Has
     c.close.result
     (λ r gathers agrees. (gathers, agrees))
     c.close.ensures.gathers
     c.close.ensures.agrees)
-    c.close.ensures.why)
     c.close.ensures.ends
 
 pub returns-in-Ok-in_scope-clause-ends : goal.returns-in-Ok-in_scope-clause-ends
@@ -104,7 +102,7 @@ pub in_scope-requires-clause-sessions : goal.in_scope-requires-clause-sessions
 in_scope-requires-clause-sessions g c _ _ k d lt =
     let made = c.in-Ok.ensures in
     let is = made.sessions.1 k d (omega (arith, made.sessions.0, lt)) in
-    (ap (λ (s : SessionView). s.seat.table) is, ap (λ (s : SessionView). s.own) is)
+    (ap (λ (s : SessionView). s.seat.table) is, ap (λ (s : SessionView). s.own) is, ap (λ (s : SessionView). s.seat.saw.turns) is)
 
 pub in_scope-requires-clause-workers : goal.in_scope-requires-clause-workers
 in_scope-requires-clause-workers g c _ _ k d lt =

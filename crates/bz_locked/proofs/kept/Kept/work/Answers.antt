@@ -1,8 +1,9 @@
-use Rattle.std.proofs.Common.{◌∙◌, inl, refl, sym, subst}
+use Rattle.std.proofs.Common.{◌∙◌, inl, refl, sym, subst, None, length, ap}
 use Rattle.bz_model.specs.declared.event.Who.{Who}
-use Rattle.bz_past.specs.Moments.{moment}
-use Rattle.bz_past.specs.Owners.{LeadsBy, LeadsWithout}
-use Rattle.bz_locked.proofs.Noting.{from_keeper, seen_on, to_keeper, work_told, work_made}
+use Rattle.bz_past.specs.Owners.{LeadsWithout}
+use Rattle.bz_past.specs.declared.view.Moment.{Moment}
+use Rattle.bz_locked.proofs.Turning.{stands_on}
+use Rattle.bz_locked.proofs.Noting.{kept_by, seen_as, seen_on, to_keeper, work_told, work_made}
 use Rattle.bz_locked.proofs.Seeing.{by_none}
 use Rattle.bz_locked.proofs.kept.Kept.work.Goals as goal
 
@@ -10,31 +11,37 @@ pub act-requires-clause-onward : goal.act-requires-clause-onward
 act-requires-clause-onward g c =
     let was = c.args.self.now in
     let h = c.work-work.ensures in
-    let by = by_none c.args.who was.locked.net was.locked.net was.locked.stopped was.locked.stopped refl (λ s. s) in
-    from_keeper (λ m. LeadsBy c.args.owner.now.who m (moment was.locked.net was.locked.stopped)) was.keeper.now was.locked.net was.locked.stopped was.net_is was.stopped_is (subst (λ (w : Who). LeadsBy w (moment was.locked.net was.locked.stopped) (moment was.locked.net was.locked.stopped)) (sym c.requires.2) by)
+    let by = by_none c.args.who was.locked.net was.locked.net was.locked.stopped was.locked.stopped was.keeper.now.turns None tt refl (λ s. s) in
+    kept_by _ _ was.keeper.now was.locked.net _ was.locked.stopped _ None was.net_is was.stopped_is c.requires.2 by
 
 pub returns-clause-told : goal.returns-clause-told
 returns-clause-told g c =
     let was = c.args.self.now in
     let h = c.work-work.ensures in
     let led = to_keeper (LeadsWithout c.args.who c.args.owner.now.seen) was.keeper.now was.locked.net was.locked.stopped was.net_is was.stopped_is (subst (λ (w : Who). LeadsWithout w c.args.owner.now.seen was.keeper.now) c.requires.2 c.act.ensures.before) in
-    let by = by_none c.args.who was.locked.net was.locked.net was.locked.stopped was.locked.stopped refl (λ s. s) in
-    work_told g.L.NetLedger.terms c.args.who _ _ was.locked.net _ was.locked.fuel was.locked.stopped _ was.locked.sessions.items h.held led c.act.ensures.owner.2 c.work-work.result by h.told
+    let by = by_none c.args.who was.locked.net was.locked.net was.locked.stopped was.locked.stopped was.keeper.now.turns None tt refl (λ s. s) in
+    work_told g.L.NetLedger.terms c.args.who _ _ was.locked.net _ was.locked.fuel was.locked.stopped _ was.locked.sessions.items was.keeper.now.turns None tt was.stands h.held led (seen_as _ _ was.keeper.now.turns _ _ None _ c.act.ensures.owner.2 c.requires.2) c.work-work.result by h.told
 
 pub returns-clause-made : goal.returns-clause-made
 returns-clause-made g c =
     let was = c.args.self.now in
     let h = c.work-work.ensures in
     let led = to_keeper (LeadsWithout c.args.who c.args.owner.now.seen) was.keeper.now was.locked.net was.locked.stopped was.net_is was.stopped_is (subst (λ (w : Who). LeadsWithout w c.args.owner.now.seen was.keeper.now) c.requires.2 c.act.ensures.before) in
-    work_made g.L.NetLedger.terms c.args.who _ _ was.locked.net _ was.locked.fuel was.locked.stopped _ was.locked.sessions.items h.held led c.act.ensures.owner.2 refl
+    work_made g.L.NetLedger.terms c.args.who _ _ was.locked.net _ was.locked.fuel was.locked.stopped _ was.locked.sessions.items was.keeper.now.turns None tt was.stands h.held led (seen_as _ _ was.keeper.now.turns _ _ None _ c.act.ensures.owner.2 c.requires.2) refl
 
 pub returns-clause-owner : goal.returns-clause-owner
 returns-clause-owner g c =
     let was = c.args.self.now in
     let h = c.work-work.ensures in
-    let by = by_none c.args.who was.locked.net was.locked.net was.locked.stopped was.locked.stopped refl (λ s. s) in
-    let onward = from_keeper (λ m. LeadsBy c.args.owner.now.who m (moment was.locked.net was.locked.stopped)) was.keeper.now was.locked.net was.locked.stopped was.net_is was.stopped_is (subst (λ (w : Who). LeadsBy w (moment was.locked.net was.locked.stopped) (moment was.locked.net was.locked.stopped)) (sym c.requires.2) by) in
-    (c.act.ensures.owner.0, c.act.ensures.owner.1, seen_on _ _ _ _ (moment was.locked.net was.locked.stopped) _ c.act.ensures.before onward c.act.ensures.owner.2)
+    let by = by_none c.args.who was.locked.net was.locked.net was.locked.stopped was.locked.stopped was.keeper.now.turns None tt refl (λ s. s) in
+    let onward = kept_by _ _ was.keeper.now was.locked.net _ was.locked.stopped _ None was.net_is was.stopped_is c.requires.2 by in
+    (c.act.ensures.owner.0, c.act.ensures.owner.1, seen_on _ _ _ _ _ _ c.act.ensures.before onward c.act.ensures.owner.2)
 
 pub act-requires-clause-why : goal.act-requires-clause-why
 act-requires-clause-why g c = λ s. inl (c.args.self.now.stopped_is ∙ s)
+
+pub invariant_of-self-2-clause-stands : goal.invariant_of-self-2-clause-stands
+invariant_of-self-2-clause-stands g c =
+    let was = c.args.self.now in
+    let h = c.work-work.ensures in
+    stands_on g.L.NetLedger.terms.sessions was.keeper.hosts was.keeper.workers (length was.locked.net.journal) c.args.owner.now.who c.args.who None was.keeper.now.turns _ was.locked.sessions.items _ was.stands refl c.act.ensures.named c.requires.2 tt (ap (λ (m : Moment). m.turns) c.act.ensures.keeper.1)

@@ -23,7 +23,7 @@ returns-clause-lawful g c =
 
 pub returns-in_err-fired-clause-cause : goal.returns-in_err-fired-clause-cause
 returns-in_err-fired-clause-cause g c =
-    let Refused : Moment → FireError → Type 0 = λ had e. During g.L.NetLedger.terms had c.fire-answered.new.owner.seen (λ net fuel stopped standings. RefusesFiring net fuel c.args.comp e) in
+    let Refused : Moment → FireError → Type 0 = λ had e. During g.L.NetLedger.terms had c.fire-answered.new.owner.seen (λ net fuel stopped turns. RefusesFiring net fuel c.args.comp e) in
     subst (λ (v : WorkerView). IfErr c.from_residual.result (Refused v.seat.saw)) c.worker.view_is (err_so (Refused c.worker.inside.owner.seen) c.from_residual.result c.in_err-fired.field-0.0 c.from_residual.ensures.1 c.in_err-fired.ensures.cause)
 
 pub invariant_of-worker : goal.invariant_of-worker

@@ -34,7 +34,7 @@ returns-in-Rest-clause-told g c =
 
 pub returns-in_err-reply-clause-cause : goal.returns-in_err-reply-clause-cause
 returns-in_err-reply-clause-cause g c =
-    let Refused : Moment → NetError → Type 0 = λ had e. During g.L.NetLedger.terms had c.first_ready-answered.new.owner.seen (λ net fuel stopped standings. RefusesRest net e) in
+    let Refused : Moment → NetError → Type 0 = λ had e. During g.L.NetLedger.terms had c.first_ready-answered.new.owner.seen (λ net fuel stopped turns. RefusesRest net e) in
     subst (λ (v : WorkerView). IfErr c.from_residual.result (Refused v.seat.saw)) c.worker.view_is (err_so (Refused c.worker.inside.owner.seen) c.from_residual.result c.in_err-reply.field-0.0 c.from_residual.ensures.1 c.in_err-reply.ensures.cause)
 
 pub invariant_of-worker : goal.invariant_of-worker

@@ -1,6 +1,8 @@
-use Rattle.std.proofs.Common.{inr, ◌≡◌, ◌≤◌, ◌∷◌, [], ◌++◌, max, ap, ◌∙◌, subst}
+use Rattle.std.proofs.Common.{inl, inr, ◌≡◌, ◌≤◌, ◌∷◌, [], ◌++◌, max, ap, ◌∙◌, subst}
 use Rattle.std.specs.Prelude.{IfErr}
 use Rattle.bz_past.specs.Owners.{part_of}
+use Rattle.bz_past.specs.Standings.{HasTurned}
+use Rattle.bz_past.specs.declared.standing.Standing.TheVariants.{Running}
 use Rattle.bz_past.specs.declared.view.Moment.{Moment}
 use Rattle.bz_locked.specs.Commands.{IsEntryOf}
 use Rattle.bz_locked.specs.Working.{WasAdded, WasRefused}
@@ -36,3 +38,12 @@ returns-clause-notes g c =
       tells = (c.publish.ensures.seen.0, subst (λ n. n ≤ c.publish.new.seat.seen) seen c.publish.ensures.seen.1, c.publish.ensures.published ∙ ap (λ n. max n c.in_ok-entry.len) published);
       grown = c.push_reserved.ensures.items ∙ ap (λ l. l ++ c.in_ok-entry.entry ∷ []) (c.reserve.ensures.items ∙ own);
     }
+
+pub returns-clause-turned : goal.returns-clause-turned
+returns-clause-turned g c = subst (λ (s : SessionView). HasTurned s.who (Running ∷ []) s.seat.saw c.answer.new.owner.seen) c.session.view_is c.in_ok-entry.ensures.turned
+
+pub returns-clause-no_more : goal.returns-clause-no_more
+returns-clause-no_more g c = inl (subst (λ (s : SessionView). HasTurned s.who (Running ∷ []) s.seat.saw c.answer.new.owner.seen) c.session.view_is c.in_ok-entry.ensures.turned)
+
+pub returns-in_err-entry-clause-no_more : goal.returns-in_err-entry-clause-no_more
+returns-in_err-entry-clause-no_more g c = inl (subst (λ (s : SessionView). HasTurned s.who (Running ∷ []) s.seat.saw c.answer.new.owner.seen) c.session.view_is c.in_err-entry.ensures.turned)

@@ -1,9 +1,9 @@
-use Rattle.std.proofs.Common.{inr, ◌≡◌, ◌≤◌, ◌∷◌, [], ◌++◌, max, ap, ◌∙◌, subst}
+use Rattle.std.proofs.Common.{inl, inr, ◌≡◌, ◌≤◌, ◌∷◌, [], ◌++◌, max, ap, ◌∙◌, subst}
 use Rattle.std.specs.Prelude.{IfErr}
 use Rattle.bz_past.specs.Owners.{part_of}
 use Rattle.bz_past.specs.declared.view.Moment.{Moment}
 use Rattle.bz_locked.specs.Commands.{IsEntryOf, RefusesPoll}
-use Rattle.bz_locked.specs.Working.{IsLast, WasAdded, WasRefused, WasTold}
+use Rattle.bz_locked.specs.Working.{HasWaited, IsLast, WasAdded, WasRefused, WasTold}
 use Rattle.bz_locked.specs.Making.{MadeTold}
 use Rattle.bz_locked.specs.declared.locked.Work.TheVariants as work
 use Rattle.bz_locked.specs.Parts.{SessionView, Tables}
@@ -50,7 +50,7 @@ returns-in-Stopped-clause-answered g c =
     let parts = ap (λ (s : SessionView). s.seat.parts) c.session.view_is in
     let last = subst (λ p. IsLast t c.session.inside.owner.seen c.wait_for.new.owner.seen c.session.inside.who c.args.cmd.now p) c.in-Stopped.is c.in_ok-entry.ensures.last in
     let made = subst (λ p. MadeTold c.session.inside.who p c.session.inside.owner.seen c.wait_for.new.owner.seen) c.in-Stopped.is c.in_ok-entry.ensures.made in (
-      subst (λ (s : SessionView). WasTold t s.seat.saw c.wait_for.new.owner.seen c.args.cmd.now work.Stopped) c.session.view_is last,
+      subst (λ (s : SessionView). WasTold t s.seat.saw c.wait_for.new.owner.seen s.who c.args.cmd.now work.Stopped) c.session.view_is last,
       (c.reserve.ensures.items ∙ own, (seen, published, parts), subst (λ (s : SessionView). part_of s.who c.wait_for.new.owner.seen.net.journal ≡ part_of s.who s.seat.saw.net.journal) c.session.view_is made.own),
     )
 
@@ -63,7 +63,7 @@ returns-in-Resting-clause-answered g c =
     let parts = ap (λ (s : SessionView). s.seat.parts) c.session.view_is in
     let last = subst (λ p. IsLast t c.session.inside.owner.seen c.wait_for.new.owner.seen c.session.inside.who c.args.cmd.now p) c.in-Resting.is c.in_ok-entry.ensures.last in
     let made = subst (λ p. MadeTold c.session.inside.who p c.session.inside.owner.seen c.wait_for.new.owner.seen) c.in-Resting.is c.in_ok-entry.ensures.made in (
-      subst (λ (s : SessionView). WasTold t s.seat.saw c.wait_for.new.owner.seen c.args.cmd.now work.Resting) c.session.view_is last,
+      subst (λ (s : SessionView). WasTold t s.seat.saw c.wait_for.new.owner.seen s.who c.args.cmd.now work.Resting) c.session.view_is last,
       (c.reserve.ensures.items ∙ own, (seen, published, parts), subst (λ (s : SessionView). part_of s.who c.wait_for.new.owner.seen.net.journal ≡ part_of s.who s.seat.saw.net.journal) c.session.view_is made.own),
     )
 
@@ -76,6 +76,33 @@ returns-in-Spent-clause-answered g c =
     let parts = ap (λ (s : SessionView). s.seat.parts) c.session.view_is in
     let last = subst (λ p. IsLast t c.session.inside.owner.seen c.wait_for.new.owner.seen c.session.inside.who c.args.cmd.now p) c.in-Spent.is c.in_ok-entry.ensures.last in
     let made = subst (λ p. MadeTold c.session.inside.who p c.session.inside.owner.seen c.wait_for.new.owner.seen) c.in-Spent.is c.in_ok-entry.ensures.made in (
-      subst (λ (s : SessionView). WasTold t s.seat.saw c.wait_for.new.owner.seen c.args.cmd.now work.Spent) c.session.view_is last,
+      subst (λ (s : SessionView). WasTold t s.seat.saw c.wait_for.new.owner.seen s.who c.args.cmd.now work.Spent) c.session.view_is last,
       (c.reserve.ensures.items ∙ own, (seen, published, parts), subst (λ (s : SessionView). part_of s.who c.wait_for.new.owner.seen.net.journal ≡ part_of s.who s.seat.saw.net.journal) c.session.view_is made.own),
     )
+
+pub returns-in-Answered-clause-turned : goal.returns-in-Answered-clause-turned
+returns-in-Answered-clause-turned g c = subst (λ (s : SessionView). HasWaited g.L.NetLedger.terms.wiring s.who c.args.cmd.now s.seat.saw c.wait_for.new.owner.seen) c.session.view_is c.in_ok-entry.ensures.turned
+
+pub returns-in-Answered-clause-no_more : goal.returns-in-Answered-clause-no_more
+returns-in-Answered-clause-no_more g c = inl (subst (λ (s : SessionView). HasWaited g.L.NetLedger.terms.wiring s.who c.args.cmd.now s.seat.saw c.wait_for.new.owner.seen) c.session.view_is c.in_ok-entry.ensures.turned)
+
+pub returns-in-Stopped-clause-turned : goal.returns-in-Stopped-clause-turned
+returns-in-Stopped-clause-turned g c = subst (λ (s : SessionView). HasWaited g.L.NetLedger.terms.wiring s.who c.args.cmd.now s.seat.saw c.wait_for.new.owner.seen) c.session.view_is c.in_ok-entry.ensures.turned
+
+pub returns-in-Stopped-clause-no_more : goal.returns-in-Stopped-clause-no_more
+returns-in-Stopped-clause-no_more g c = inl (subst (λ (s : SessionView). HasWaited g.L.NetLedger.terms.wiring s.who c.args.cmd.now s.seat.saw c.wait_for.new.owner.seen) c.session.view_is c.in_ok-entry.ensures.turned)
+
+pub returns-in-Resting-clause-turned : goal.returns-in-Resting-clause-turned
+returns-in-Resting-clause-turned g c = subst (λ (s : SessionView). HasWaited g.L.NetLedger.terms.wiring s.who c.args.cmd.now s.seat.saw c.wait_for.new.owner.seen) c.session.view_is c.in_ok-entry.ensures.turned
+
+pub returns-in-Resting-clause-no_more : goal.returns-in-Resting-clause-no_more
+returns-in-Resting-clause-no_more g c = inl (subst (λ (s : SessionView). HasWaited g.L.NetLedger.terms.wiring s.who c.args.cmd.now s.seat.saw c.wait_for.new.owner.seen) c.session.view_is c.in_ok-entry.ensures.turned)
+
+pub returns-in-Spent-clause-turned : goal.returns-in-Spent-clause-turned
+returns-in-Spent-clause-turned g c = subst (λ (s : SessionView). HasWaited g.L.NetLedger.terms.wiring s.who c.args.cmd.now s.seat.saw c.wait_for.new.owner.seen) c.session.view_is c.in_ok-entry.ensures.turned
+
+pub returns-in-Spent-clause-no_more : goal.returns-in-Spent-clause-no_more
+returns-in-Spent-clause-no_more g c = inl (subst (λ (s : SessionView). HasWaited g.L.NetLedger.terms.wiring s.who c.args.cmd.now s.seat.saw c.wait_for.new.owner.seen) c.session.view_is c.in_ok-entry.ensures.turned)
+
+pub returns-in_err-entry-clause-no_more : goal.returns-in_err-entry-clause-no_more
+returns-in_err-entry-clause-no_more g c = inl (subst (λ (s : SessionView). HasWaited g.L.NetLedger.terms.wiring s.who c.args.cmd.now s.seat.saw c.wait_for.new.owner.seen) c.session.view_is c.in_err-entry.ensures.turned)

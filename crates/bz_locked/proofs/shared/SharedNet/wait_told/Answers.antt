@@ -1,5 +1,5 @@
-use Rattle.std.proofs.Common.{◌∙◌}
-use Rattle.bz_past.proofs.Leading.{onward}
+use Rattle.std.proofs.Common.{◌∙◌, refl}
+use Rattle.bz_past.proofs.Leading.{here, onward}
 use Rattle.bz_locked.proofs.Making.{none_none}
 use Rattle.bz_locked.proofs.Seeing.{during_back}
 use Rattle.bz_locked.proofs.shared.SharedNet.wait_told.Goals as goal
@@ -21,3 +21,6 @@ returns-in-Some-work-clause-made g c = none_none c.args.who _ _ _ c.loop.invaria
 
 pub returns-in-Some-work-clause-told : goal.returns-in-Some-work-clause-told
 returns-in-Some-work-clause-told g c = during_back g.L.NetLedger.terms _ _ _ _ c.loop.invariant.4 c.in-Some-work.ensures.told
+
+pub loop-init : goal.loop-init
+loop-init g c = (tt, tt, refl, refl, here c.args.owner.now.seen, record { own = refl; last = refl })

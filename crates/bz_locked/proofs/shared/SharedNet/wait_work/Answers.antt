@@ -1,6 +1,6 @@
 use Rattle.std.proofs.Common.{◌∙◌, sym, subst}
 use Rattle.bz_locked.specs.Parts.{WorkerView}
-use Rattle.bz_locked.specs.Working.{During, WorkIs}
+use Rattle.bz_locked.specs.Working.{WorkerWasTold}
 use Rattle.bz_locked.proofs.Making.{fired_same}
 use Rattle.bz_locked.proofs.shared.SharedNet.wait_work.Goals as goal
 
@@ -12,4 +12,4 @@ invariant_of-worker g c =
 
 pub returns-clause-told : goal.returns-clause-told
 returns-clause-told g c =
-    subst (λ (w : WorkerView). During g.L.NetLedger.terms w.seat.saw c.wait_told.new.owner.seen (λ net fuel stopped standings. WorkIs net fuel stopped standings c.wait_told.result)) c.worker.view_is c.wait_told.ensures.told
+    subst (λ (w : WorkerView). WorkerWasTold g.L.NetLedger.terms w.seat.saw c.wait_told.new.owner.seen c.wait_told.result) c.worker.view_is c.wait_told.ensures.told

@@ -36,7 +36,7 @@ invariant_of-self c =
     let does : CommandedAt w.sites n.ends.items (comps_of n.nodes) n.phases d.phases n.ready d.ready c.args.verb c.args.port c.args.value r =
     rw c.deref.ensures.value at c.command.ensures.commanded in
     rw c.command.ensures.comps
-    (core_commanded w n.phases (comps_of n.nodes) (heres_of n.nodes) n.ends.items n.ready c.self.invariant.0 d.phases (heres_of d.nodes) d.ready c.args.verb c.args.port c.args.value r c.requires.from to agreed does told, c.self.invariant.1, c.self.invariant.2)
+    (core_commanded w n.phases (comps_of n.nodes) (heres_of n.nodes) n.ends.items n.ready c.self.invariant.0 d.phases (heres_of d.nodes) d.ready c.args.verb c.args.port c.args.value r c.requires.from to agreed does told, c.self.invariant.1, c.self.invariant.2, c.self.invariant.3)
 
 pub returns-clause-step : goal.returns-clause-step
 returns-clause-step c =

@@ -1,5 +1,6 @@
 use Rattle.std.proofs.Common.{ℕ, List, length, map, sym, ap, subst, ◌∙◌}
 use Rattle.std.proofs.lemmas.List.{length-map}
+use Rattle.bz_model.specs.Names.{Outside}
 use Rattle.bz_model.specs.Nets.{Site, Wiring}
 use Rattle.bz_flat.specs.Flats.{site_of}
 use Rattle.bz_net.specs.Keeping.{MarksAll, state_of}
@@ -34,4 +35,5 @@ invariant_of-result c =
           (subst (λ (row : List ℕ). InRow (map site_of n.sites) c.in_ok-chans.chans.starts.items row) (sym c.in_ok-chans.ensures.row)
           (subst (λ (starts : List ℕ). InRow (map site_of n.sites) starts n.chans.row.items) (sym c.in_ok-chans.ensures.starts) c.self.invariant.1)),
       λ never. subst NoneMixes (sym sites) (c.self.invariant.2 never),
+      rw (ap (λ (o : Outside). o.chans) names, sites, ap comps_of c.in_ok-nodes.ensures, c.in_ok-moved.ensures.items ∙ c.deref-2.ensures.value) c.self.invariant.3,
     )

@@ -7,6 +7,7 @@ use Rattle.bz_net.specs.Keeping.{RefreshedEnds, state_of}
 use Rattle.bz_net.specs.Told.{MayMove, MovesAt, Turned}
 use Rattle.bz_net.specs.Noted.{AskedBefore}
 use Rattle.bz_net.proofs.Cores.{core_met, core_placed, core_sighted, core_stays, core_moved, core_sole, core_step}
+use Rattle.bz_net.proofs.Opening.{unless_moved}
 use Rattle.bz_net.proofs.Telling.{all_are_ends}
 use Rattle.bz_net.specs.Nodes.{comps_of, heres_of}
 use Rattle.bz_net.proofs.core_net.Core.fire.Goals as goal
@@ -28,8 +29,12 @@ invariant_of-self c =
     let told : Turned w.sites n.phases (comps_of n.nodes) (heres_of n.nodes) d.phases (comps_of d.nodes) (heres_of d.nodes) c.args.comp r.3 r.0 r.1 r.2 =
     c.move_comp.ensures.told in
     let refreshed : RefreshedEnds w.sites (state_of d.phases (comps_of d.nodes)) n.ready d.ready (ends_in n.ends.items r.0) =
-    rw c.deref.ensures.value at c.move_comp.ensures.refreshed in
-    (core_moved w n.phases (comps_of n.nodes) (heres_of n.nodes) n.ends.items n.ready c.self.invariant.0 d.phases (comps_of d.nodes) (heres_of d.nodes) d.ready c.args.comp r.3 r.0 r.1 r.2 told refreshed, c.self.invariant.1, c.self.invariant.2)
+    rw c.deref.ensures.value at c.move_comp.ensures.refreshed in (
+      core_moved w n.phases (comps_of n.nodes) (heres_of n.nodes) n.ends.items n.ready c.self.invariant.0 d.phases (comps_of d.nodes) (heres_of d.nodes) d.ready c.args.comp r.3 r.0 r.1 r.2 told refreshed,
+      c.self.invariant.1,
+      c.self.invariant.2,
+      rw told.comps_is (unless_moved w.chans w.sites (comps_of n.nodes) n.moved.items c.args.comp told.rest told.steps_at.is_port.comp_from told.steps_at.is_port.comp_to c.self.invariant.3),
+    )
 
 pub returns-clause-step : goal.returns-clause-step
 returns-clause-step c =

@@ -8,7 +8,7 @@ use Rattle.bz_net.specs.Keeping.{state_of, Started, MarksAll}
 use Rattle.bz_net.specs.Nodes.{comps_of, heres_of}
 use Rattle.bz_net.specs.Told.{AreBlank}
 use Rattle.bz_net.proofs.Cores.{core_first, sighted_first}
-use Rattle.bz_net.proofs.Opening.{marks_ready, state_opening}
+use Rattle.bz_net.proofs.Opening.{marks_ready, state_opening, unless_first}
 use Rattle.bz_net.proofs.core_net.Core.open.Goals as goal
 
 pub mark_all-requires-clause-sighted : goal.mark_all-requires-clause-sighted
@@ -45,6 +45,7 @@ invariant_of-result c =
           (marks_ready w (state_of phases comps) c.in-Ok-mark_all.ready (length p.comps) count marks),
       c.in-Ok-of.ensures,
       c.mixes-mixes.ensures,
+      unless_first w.chans w.sites comps c.in-Ok-vec.moved.items started (sym c.in-Ok-vec.moved.ok.0 ∙ c.in-Ok-vec.ensures.len ∙ c.len-2.ensures ∙ count),
     )
 
 pub returns-clause-state : goal.returns-clause-state

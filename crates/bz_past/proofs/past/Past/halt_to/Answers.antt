@@ -25,9 +25,9 @@ load-requires g c =
     let keeps = ap (λ (me : View × List (ℕ × Unit {0})). me.0) c.split_seat-nothing.ensures.2 ∙ c.keeper.invariant.0 in
     let stops = ap (λ s. s.me.0) c.replace-seat.ensures.value ∙ c.stopper.invariant.0 in
     let halts = ap (λ (me : View × List (ℕ × Unit {0})). me.0) c.join_seat.ensures.2 ∙ halts_is c.split_seat-nothing.new.seat.me.0 c.replace-seat.result.me.0 (roll_of keeper) (used_of stopper) keeps stops in
-    let Onward : Moment → Type 0 = λ m. (leads : Leads m _) × (leads.rest ≡ []) in
+    let Onward : Moment → Type 0 = λ m. (leads : Leads m _) × (leads.rest ≡ []) × (leads.later ≡ []) in
     let onward = subst Onward (sym (ap (λ (k : Kept). k.now) c.keeper.view_is)) c.requires.onward in
-    (search rules, search rules, by_stopper c.self.inside.table.shared.key _ _ c.join_seat.new.seat.me (roll_of keeper) (used_of stopper) _ halts onward.0 onward.1)
+    (search rules, search rules, by_stopper c.self.inside.table.shared.key _ _ c.join_seat.new.seat.me (roll_of keeper) (used_of stopper) _ halts onward.0 onward.1 onward.2)
 
 pub split_seat-requires : goal.split_seat-requires
 split_seat-requires g c =

@@ -1,7 +1,7 @@
 use Rattle.std.proofs.Common.{[]}
 use Rattle.bz_trace.proofs.Along.{behind_start}
 use Rattle.bz_trace.proofs.Streams.{counted_of, first_of, leaves_of, only_of, right_of, said_opened}
-use Rattle.bz_trace.proofs.reading.check_read_watched.Goals as goal
+use Rattle.bz_trace.proofs.reading.check_read.Goals as goal
 
 pub read_text-requires-clause-stands : goal.read_text-requires-clause-stands
 read_text-requires-clause-stands g c = ([], behind_start c.args.net.now c.requires.opened)

@@ -3,7 +3,7 @@ use Rattle.bz_cli_input.specs.Stopping.{IsOfInput}
 use Rattle.bz_cli_input.proofs.Answered.{is_of_input, not_both}
 use Rattle.bz_cli_trace.specs.declared.checked.Checked.{Checked}
 use Rattle.bz_cli_trace.proofs.Checks.{checks_apart}
-use Rattle.bz_cli_trace.proofs.checking.check_trace_watched.Goals as goal
+use Rattle.bz_cli_trace.proofs.checking.check_trace_cmd.Goals as goal
 
 pub returns-in-Err-clause-checks : goal.returns-in-Err-clause-checks
 returns-in-Err-clause-checks g c = rw c.from.ensures (not_both Checked IsOfInput _ _ _ (is_of_input c.in-Err.fault) _ _)
