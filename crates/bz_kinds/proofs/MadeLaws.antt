@@ -1,10 +1,10 @@
 -- What the move due at a port carries and keeps.
 use Rattle.std.proofs.Common.{◌≡◌, ◌≢◌, ◌≤◌, ◌<◌, ℕ, zero, suc, ◌-◌, Bool, true, false, Option, Some, None, refl, subst, arith}
-use Rattle.std.specs.Prelude.{if◌then◌else◌, nat_lt, min, MatchBool}
+use Rattle.std.specs.Prelude.{if◌then◌else◌, nat_lt, MatchBool}
 use Rattle.std.proofs.lemmas.Bool.{lt-ltb, le-ltb}
 use Rattle.bz_model.specs.declared.channel.Move.TheVariants.{Ask, Take, Reply, Got}
 use Rattle.bz_model.specs.declared.expr.Expr.{Expr}
-use Rattle.bz_model.specs.declared.expr.Expr.TheVariants.{Nothing, Slot, SomeOne}
+use Rattle.bz_model.specs.declared.expr.Expr.TheVariants.{Nothing}
 use Rattle.bz_model.specs.Terms.{Store, stored, value_of, IsNarrow}
 use Rattle.bz_kinds.specs.declared.ports.PortState.{PortState}
 use Rattle.bz_kinds.specs.declared.ports.PortState.TheVariants.{Closed, ClosedDue, Open, OpenDue}
@@ -14,12 +14,7 @@ use Rattle.bz_kinds.specs.declared.row.Meet.{Meet}
 use Rattle.bz_kinds.specs.declared.row.Mix.{Mix}
 use Rattle.bz_kinds.specs.declared.row.Row.{Row}
 use Rattle.bz_kinds.specs.Row.{Due, row_due, lead_due, leg_due, leg_of}
-use Rattle.bz_kinds.specs.Bar.{bar_due}
 use Rattle.bz_kinds.specs.Choice.{choice_due}
-use Rattle.bz_kinds.specs.Decision.{decision_due}
-use Rattle.bz_kinds.specs.Indexed.{index_due}
-use Rattle.bz_kinds.specs.Signalled.{signal_due}
-use Rattle.bz_kinds.specs.Indexed as indexed
 use Rattle.bz_kinds.specs.Meeting.{into, answer, behind_due, meeting_due}
 use Rattle.bz_kinds.specs.Riding.{Made}
 
@@ -139,34 +134,12 @@ meeting-is-due meet n (suc i) a d e = cases (nat_lt i n) e
     cases true e = lead-is-due (into meet n i) (answer meet n i) a d e
     cases false e = behind-is-due meet n meet.leg a d e
 
-either-is-due : (b : Bool) (leg : Leg) (into : ℕ) (answer : Expr) (a : PortState) (d : Due) → (if b then leg_due leg a else lead_due into answer a) ≡ Some d → is_due a ≡ true
-either-is-due true leg into answer a d e = leg-is-due leg a d e
-either-is-due false leg into answer a d e = lead-is-due into answer a d e
-
 pub choice-is-due : (mix : Mix) (n p : ℕ) (a : PortState) (d : Due) → choice_due mix n p a ≡ Some d → is_due a ≡ true
-choice-is-due mix n p a d e = either-is-due (nat_lt n p) mix.leg mix.into mix.answer a d e
-
-pub decision-is-due : (n p : ℕ) (a : PortState) (d : Due) → decision_due n p a ≡ Some d → is_due a ≡ true
-decision-is-due n zero a d e = absurd (cc)
-decision-is-due n (suc j) a d e = either-is-due (nat_lt n j) (record { gives = Nothing; into = 1 }) 1 Nothing a d e
-
-pub signal-is-due : (p : ℕ) (a : PortState) (d : Due) → signal_due p a ≡ Some d → is_due a ≡ true
-signal-is-due zero a d e = absurd (cc)
-signal-is-due (suc zero) a d e = lead-is-due 0 Nothing a d e
-signal-is-due (suc (suc zero)) a d e = leg-is-due (record { gives = Nothing; into = 1 }) a d e
-signal-is-due (suc (suc (suc i))) a d e = lead-is-due 1 (Slot 0) a d e
-
-pub index-is-due : (chosen p : ℕ) (a : PortState) (d : Due) → index_due chosen p a ≡ Some d → is_due a ≡ true
-index-is-due chosen zero a d e = absurd (cc)
-index-is-due chosen (suc zero) a d e = lead-is-due 1 (indexed.answer chosen) a d e
-index-is-due chosen (suc (suc zero)) a d e = leg-is-due (record { gives = Nothing; into = 1 }) a d e
-index-is-due chosen (suc (suc (suc i))) a d e = leg-is-due (record { gives = Nothing; into = 0 }) a d e
-
-pub bar-is-due : (n p : ℕ) (a : PortState) (d : Due) → bar_due n p a ≡ Some d → is_due a ≡ true
-bar-is-due n zero a d e = absurd (cc)
-bar-is-due n (suc zero) a d e = lead-is-due n SomeOne a d e
-bar-is-due n (suc (suc zero)) a d e = lead-is-due n Nothing a d e
-bar-is-due n (suc (suc (suc i))) a d e = leg-is-due (record { gives = Nothing; into = min i n }) a d e
+choice-is-due mix n p a d e = cases (nat_lt n p) e
+  where
+    cases : (b : Bool) → (if b then leg_due mix.leg a else lead_due mix.into mix.answer a) ≡ Some d → is_due a ≡ true
+    cases true e = leg-is-due mix.leg a d e
+    cases false e = lead-is-due mix.into mix.answer a d e
 
 -- by an answer, what is due opens a port or closes it
 pub to-open : (b : Bool) (a : PortState) → b ≡ true → MatchBool b (a ≡ ClosedDue) (a ≡ OpenDue) → a ≡ ClosedDue

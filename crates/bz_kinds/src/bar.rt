@@ -1,8 +1,8 @@
 //! A guard over inputs, and a call of the output of the first input that was 1: where the ports are after a move.
 
-ghost use Rattle.std.specs.Prelude.{◌≡◌, ◌≢◌, ◌<◌, ◌^◌, Some};
+ghost use Rattle.std.specs.Prelude.{◌≡◌, ◌<◌, ◌^◌, Some};
 ghost use Rattle.std.specs.Option.{option_map};
-ghost use Rattle.bz_model.specs.Terms.{Store, first_one};
+ghost use Rattle.bz_model.specs.Terms.{first_one};
 ghost use Rattle.bz_model.specs.Processes.{after};
 ghost use Rattle.bz_kinds.specs.declared.ports.PortState.TheVariants.{ClosedDue, OpenDue};
 ghost use Rattle.bz_kinds.specs.Ports.{state_at};
@@ -19,7 +19,6 @@ use bz_model::{Expr, Move, Value, first_one};
 
 /// Makes the move that is due at a port: the move, and the value that it carries. `rides` is the value on the port's channel.
 /// `left` inputs are still to be pulled.
-#[inline(always)]
 pub fn fire(
     ports: &mut Ports,
     left: &mut u32,
