@@ -1,6 +1,6 @@
 //! The values and the channels of a component: few, which lie in it, or a list.
 
-ghost use Rattle.std.specs.Prelude.{◌≡◌, ◌≢◌, IfOk, IfSome, IsTrue, Some, replicate, slice_set};
+ghost use Rattle.std.specs.Prelude.{◌≡◌, ◌≢◌, IfOk, IfSome, IsTrue, Some, replicate, slice_index, slice_set};
 ghost use Rattle.bz_model.specs.declared.expr.Expr.TheVariants.{Nothing};
 ghost use Rattle.bz_model.specs.Terms.{stored, value_of, IsNarrow};
 ghost use Rattle.bz_kinds.specs.KeptLists.{chan_of, chans_of, slots_of};
@@ -50,6 +50,17 @@ impl KeptSlots {
         match self {
             KeptSlots::Two(two) => two,
             KeptSlots::List(list) => list,
+        }
+    }
+
+    /// The value in a slot, 0 where there is no such slot.
+    #[inline(always)]
+    pub fn kept_at(&self, slot: u32) -> Value
+        ensures { result ≡ slice_index (slots_of self.now) slot }
+    {
+        match self.get().get(slot as usize) {
+            Some(value) => *value,
+            None => 0,
         }
     }
 
