@@ -1,13 +1,12 @@
 -- A component at which requests may meet is noted, or no channel to it is busy but the one on which it was asked last.
-use Rattle.std.proofs.Common.{◌≡◌, ◌≢◌, ◌⊎◌, ◌↔◌, inl, inr, ℕ, zero, suc, ◌-◌, ◌<◌, ◌≤◌, true, false, List, [], ◌∷◌, length, get_or, set, replicate, Contains, Option, Some, None, sym, ap, subst, ◌∙◌, arith, refl, get_or-set_same, get_or-set_other}
+use Rattle.std.proofs.Common.{◌≡◌, ◌≢◌, ◌⊎◌, ◌↔◌, inl, inr, ℕ, zero, suc, ◌-◌, ◌<◌, ◌≤◌, true, false, List, length, get_or, set, replicate, Contains, Some, None, sym, ap, subst, ◌∙◌, arith, refl, get_or-set_same, get_or-set_other}
 use Rattle.std.proofs.lemmas.Bool.{cases_eq, false≢true}
 use Rattle.bz_model.specs.declared.channel.Move.{Move}
 use Rattle.bz_model.specs.declared.channel.Move.TheVariants as move
 use Rattle.bz_model.specs.declared.channel.Phase.{Phase}
 use Rattle.bz_model.specs.declared.channel.Phase.TheVariants.{Idle}
-use Rattle.bz_model.specs.Nets.{Site, Wiring, IsPort, chan_at, passive_at, site_at}
+use Rattle.bz_model.specs.Nets.{Site, chan_at, site_at}
 use Rattle.bz_model.specs.Clashes.{IsAsked, Clashes, is_mixer, phase_of}
-use Rattle.bz_flat.specs.Wires.{IsEnd}
 use Rattle.bz_net.specs.Keeping.{ReadsChans}
 use Rattle.bz_net.specs.Noted.{Notes, HoldsPassive, IsHolder, HasSoleEnds, NoneMixes, Watches, WatchesBut, NotedAt, NotedMove, AskedBefore, asked_last}
 
