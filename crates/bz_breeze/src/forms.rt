@@ -1,9 +1,10 @@
 //! The members of a part's lists.
 
-ghost use Rattle.std.specs.Prelude.{◌≡◌, ◌∷◌, map, bytes_eq, codes, IfOk, IfErr, Ok, Some};
+ghost use Rattle.std.specs.Prelude.{◌≡◌, List, ◌∷◌, map, bytes_eq, codes, IfOk, IfErr, Ok, Some};
 ghost use Rattle.std.specs.List.{filter_map};
 ghost use Rattle.std.specs.Option.{option_map};
 ghost use Rattle.bz_model.specs.Names.{external};
+ghost use Rattle.bz_sexpr.specs.Data.{Datum};
 ghost use Rattle.bz_sexpr.specs.Forms.{form_view, forms_view, text_view};
 ghost use Rattle.bz_breeze_records.specs.Records.{param_record, slot_record, component_record};
 ghost use Rattle.bz_breeze.specs.Turns.{inside, head_and_rest, place_of, if_read, at_byte};
@@ -34,17 +35,17 @@ pub(crate) fn headed(items: Forms<'_>) -> Option<(&[u8], Forms<'_>)>
     let (first, rest) = items.split_first()?;
     match first.word() {
         Some(head) => Some((head, rest)),
-        None => headed_by(first, rest),
+        None => Some((head_of(first)?, rest)),
     }
 }
 
-/// The same, whatever the first datum is.
+// The symbol that stands at the head of a list, however it begins.
 #[inline(never)]
-fn headed_by<'d>(first: Form<'d>, rest: Forms<'d>) -> Option<(&'d [u8], Forms<'d>)>
-    ensures { option_map (λ p. (p.0.now, forms_view p.1)) result ≡ head_and_rest (form_view first.entry ∷ forms_view rest.entry) }
+fn head_of(first: Form<'_>) -> Option<&[u8]>
+    ensures { (ds : List Datum) → option_map (λ head. (head.now, ds)) result ≡ head_and_rest (form_view first.entry ∷ ds) }
 {
     match first.shape() {
-        Shape::Leaf(Leaf::Symbol(head)) => Some((head, rest)),
+        Shape::Leaf(Leaf::Symbol(head)) => Some(head),
         _ => None,
     }
 }

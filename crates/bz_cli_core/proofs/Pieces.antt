@@ -199,6 +199,17 @@ words_all old new a c before after strict cmds i all words =
       left = let limit = words.playing.limit in omega (arith, limit);
     }
 
+-- the same of the net that has listed the components at which requests met
+pub played_listed : (old new : Progress) (a c : Option (List ℕ)) (before after : Pending) (strict : Bool) (cmds : List Cmd) (end : End) → PlaysOut old new a before c after strict cmds end → PlaysOut old (record new { listed = true }) a before c after strict cmds end
+played_listed old new a c before after strict cmds end p = record {
+  entries = p.entries;
+  plays = p.plays;
+  told = record { run = p.told.run; clashed = p.told.clashed };
+  sent = p.sent;
+  wiring = p.wiring;
+  left = p.left;
+}
+
 -- what was played, the text that goes out of it, and the net that it leads to
 pub written_out : (old new : Progress) (a c : Option (List ℕ)) (before after : Pending) (strict : Bool) (cmds : List Cmd) (end : End) (p : PlaysOut old new a before c after strict cmds end) (comps : List ℕ) → IsStrictlyIncreasing new.clashed → comps ≡ new.clashed → (Out : List ℕ → Type 0) → Out (trace_text new.wiring.ports p.entries comps)
     → (trace : WritesTrace old.wiring old.left strict cmds end Out) × (new.wiring ≡ old.wiring) × IsToldBy new trace.entries

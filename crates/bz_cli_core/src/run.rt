@@ -166,6 +166,7 @@ fn play_lent<W: Write>(
 {
     let mut pending = Pending::begin(buffer, output);
     let end = play_out(play, strict, cmds, &mut pending, lines, output);
+    play.list_clashes();
     pending.finish(play.names(), play.clashes(), output)?;
     match end {
         End::All => Ok(None),

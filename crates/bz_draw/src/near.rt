@@ -33,7 +33,7 @@ impl Near {
     // Reaches what is one channel away from a component, and so far from the first.
     fn go_on(&mut self, net: &Pieces, comp: u32, away: u32) -> Result<(), AllocError> {
         if let Some(comp) = node_of(&net.comps, comp) {
-            for chan in &comp.chans {
+            for chan in comp.chans.as_slice() {
                 if let Some(ends) = net.ends.get((*chan as usize).wrapping_sub(1)) {
                     self.reach(ends.active, away)?;
                     self.reach(ends.passive, away)?;

@@ -1,6 +1,6 @@
 //! One component of a part: what it is, and whether its entries are what its kind or its part asks for.
 
-ghost use Rattle.std.specs.Prelude.{◌≡◌, ◌<◌, ◌≤◌, ◌⊎◌, ◌↔◌, ◌+◌, ℕ, length, map, not, count_by, slice_get, slice_index_or, MatchOption, IsTrue, IfOk, IfErr, OnOk};
+ghost use Rattle.std.specs.Prelude.{◌≡◌, ◌<◌, ◌≤◌, ◌⊎◌, ◌↔◌, ◌+◌, ◌++◌, ◌∷◌, [], ℕ, length, take, map, not, count_by, slice_get, slice_index_or, MatchOption, IsTrue, IfOk, IfErr, IfSome, OnOk};
 ghost use Rattle.std.specs.List.{All};
 ghost use Rattle.std.specs.Option.{option_copied};
 ghost use Rattle.bz_model.specs.Rows.{row_of};
@@ -15,7 +15,7 @@ ghost use Rattle.bz_elab.specs.Order.{NoneBefore};
 
 use crate::error::Fault;
 use bz_breeze_records::{Component, Part, Slot};
-use bz_flat::FlatComp;
+use bz_flat::{CHANS_IN_PLACE, ChanList, FlatComp};
 use bz_kind_rows::{PortRow, kind_of, kinds_are, port_table, sizes_fit, widths_fit};
 use bz_model::{Chan, ChanKind, Kind, MAX_MEMBERS};
 use std::alloc::{AllocError, Global};
@@ -45,7 +45,7 @@ pub fn leaf_of(
         return Err(Fault::BadChannel);
     }
     let sizes = sizes_of(entries);
-    let chans = arranged(alloc, &kind, channels, entries)?;
+    let chans = arranged_list(alloc, &kind, channels, entries)?;
     gather(channels, chans.as_slice(), carried)?;
     if !kinds_are(&kind, sizes, carried.as_slice()) {
         return Err(Fault::KindMismatch);
@@ -238,6 +238,83 @@ pub fn arranged(
     let mut chans = in_row(alloc, port_table(kind), entries)?;
     put_in_order(kind, channels, &mut chans);
     Ok(chans)
+}
+
+// The same, as a flat component has them.
+fn arranged_list(
+    alloc: Global,
+    kind: &Kind,
+    channels: &[Chan],
+    entries: &[Slot],
+) -> Result<ChanList, AllocError>
+    ensures { IfOk result (λ list. list.items ≡ arranged kind.now channels.now entries.now) }
+{
+    let mut few = [0u32; CHANS_IN_PLACE];
+    match place_row(port_table(kind), entries, &mut few) {
+        Some(len) => {
+            put_in_order(kind, channels, &mut few[..len]);
+            Ok(ChanList::few(few, len))
+        }
+        None => Ok(ChanList::many(arranged(alloc, kind, channels, entries)?)),
+    }
+}
+
+// Puts the channels of the entries into the first of these places, in the order of a row, and answers how many they are.
+// None where there are more than places.
+fn place_row(rows: &[PortRow], entries: &[Slot], places: &mut [u32]) -> Option<usize>
+    ensures placed { IfSome result (λ n. take n places.new ≡ in_row (map seen rows.now) (singles entries.now) (lists entries.now)) }
+    ensures within { IfSome result (λ n. n ≤ length places.old) }
+    ensures same { length places.new ≡ length places.old }
+{
+    let mut len = 0;
+    let mut ones = 0;
+    let mut manys = 0;
+    for row in rows {
+        if row.array {
+            match list(entries, manys) {
+                Some(members) => len = place_all(members, places, len)?,
+                None => {}
+            }
+            manys += 1;
+        } else {
+            match single(entries, ones) {
+                Some(chan) => len = place_one(chan, places, len)?,
+                None => {}
+            }
+            ones += 1;
+        }
+    }
+    Some(len)
+}
+
+// Puts channels into the places from one on, and answers the place behind them.
+fn place_all(chans: &[u32], places: &mut [u32], from: usize) -> Option<usize>
+    requires { from ≤ length places.old }
+    ensures placed { IfSome result (λ n. take n places.new ≡ take from places.old ++ chans.now) }
+    ensures within { IfSome result (λ n. n ≤ length places.old) }
+    ensures same { length places.new ≡ length places.old }
+{
+    if chans.len() > places.len() - from {
+        return None;
+    }
+    let to = from + chans.len();
+    places[from..to].copy_from_slice(chans);
+    Some(to)
+}
+
+// Puts a channel into a place, and answers the next one.
+#[inline(always)]
+fn place_one(chan: u32, places: &mut [u32], at: usize) -> Option<usize>
+    requires { at ≤ length places.old }
+    ensures placed { IfSome result (λ n. take n places.new ≡ take at places.old ++ chan ∷ []) }
+    ensures within { IfSome result (λ n. n ≤ length places.old) }
+    ensures same { length places.new ≡ length places.old }
+{
+    if at >= places.len() {
+        return None;
+    }
+    places[at] = chan;
+    Some(at + 1)
 }
 
 // Room for all channels that entries name.

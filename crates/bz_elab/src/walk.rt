@@ -14,7 +14,7 @@ ghost use Rattle.bz_elab.specs.Growth.{net_number, FitsNet, Entered, Flattened, 
 use crate::reading::{Item, Reading};
 use bz_arena::{Arena, Id};
 use bz_breeze_records::{Part, Parts};
-use bz_flat::{ElabError, FlatComp};
+use bz_flat::{CHANS_IN_PLACE, ChanList, ElabError, FlatComp};
 use bz_model::Chan;
 use std::alloc::{AllocError, Global};
 
@@ -120,7 +120,36 @@ fn entry_at(entries: &[u32], number: u32) -> u32
 }
 
 // The numbers in the net of channels of a copy.
-fn net_numbers(alloc: Global, levels: &[Level<'_>], numbers: &[u32]) -> Result<Vec<u32>, AllocError>
+fn net_numbers(alloc: Global, levels: &[Level<'_>], numbers: &[u32]) -> Result<ChanList, AllocError>
+    requires { All (λ k. net_number levels.now k < 2 ^ 32) numbers.now }
+    ensures { IfOk result (λ list. list.items ≡ map (net_number levels.now) numbers.now) }
+{
+    if numbers.len() <= CHANS_IN_PLACE {
+        Ok(few_numbers(levels, numbers))
+    } else {
+        Ok(ChanList::many(many_numbers(alloc, levels, numbers)?))
+    }
+}
+
+// Those of as many as stand in a list itself.
+fn few_numbers(levels: &[Level<'_>], numbers: &[u32]) -> ChanList
+    requires fit { All (λ k. net_number levels.now k < 2 ^ 32) numbers.now }
+    requires few { length numbers.now ≤ 6 }
+    ensures { result.items ≡ map (net_number levels.now) numbers.now }
+{
+    let mut few = [0u32; CHANS_IN_PLACE];
+    for (place, number) in numbers.iter().enumerate() {
+        few[place] = net_number(levels, *number);
+    }
+    ChanList::few(few, numbers.len())
+}
+
+// Those of any number.
+fn many_numbers(
+    alloc: Global,
+    levels: &[Level<'_>],
+    numbers: &[u32],
+) -> Result<Vec<u32>, AllocError>
     requires { All (λ k. net_number levels.now k < 2 ^ 32) numbers.now }
     ensures { IfOk result (λ v. v.items ≡ map (net_number levels.now) numbers.now) }
 {

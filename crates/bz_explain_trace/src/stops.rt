@@ -30,6 +30,7 @@ pub(crate) fn explain_line(
         }
         Ok(None) => {
             let before = clash_count(line.before());
+            net.list_clashes();
             let due = net.clashes().get(before).copied();
             let found = match clash_at(line.rest) {
                 Some((found, _)) => Some(found),

@@ -6,6 +6,7 @@ ghost use Rattle.bz_model.specs.Names.{NamesDiffer, external, port_number, chann
 ghost use Rattle.bz_flat.specs.Flats.{site_of, wiring_of};
 ghost use Rattle.bz_flat.specs.Wires.{WellWired, EndsOf};
 
+use crate::chan_list::ChanList;
 use crate::error::ElabError;
 use bz_arena::{Arena, Id};
 use bz_model::{Chan, Kind, Port, dup_chans, dup_ports, node_of, number_of, numbered};
@@ -18,7 +19,7 @@ use std::marker::Model;
 pub struct FlatComp {
     pub kind: Kind,
     pub sizes: [u32; 2],
-    pub chans: Vec<u32>,
+    pub chans: ChanList,
 }
 
 /// The components at the two ends of a channel, counted from 1, `None` where no component stands, and their ports there,
@@ -183,7 +184,7 @@ pub fn dup_comps(alloc: Global, comps: &Arena<FlatComp>) -> Result<Arena<FlatCom
     for place in 0..comps.len() {
         let comp = comps.get(Id::at(place));
         let kind = comp.kind.dup()?;
-        let chans = Vec::from_slice(alloc, &comp.chans)?;
+        let chans = comp.chans.dup(alloc)?;
         let copy = FlatComp {
             kind,
             sizes: comp.sizes,

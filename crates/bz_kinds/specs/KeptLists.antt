@@ -1,5 +1,5 @@
 -- The values and the channels of a component, as the lists that they are.
-use Rattle.std.specs.Prelude.{ℕ, List, [], ◌∷◌}
+use Rattle.std.specs.Prelude.{ℕ, List, [], ◌∷◌, replicate}
 use Rattle.bz_model.specs.declared.channel.Chan.{Chan}
 use Rattle.bz_kinds.specs.declared.kept_lists.KeptSlots.{KeptSlots}
 use Rattle.bz_kinds.specs.declared.kept_lists.KeptSlots.TheVariants as slots
@@ -18,4 +18,5 @@ abbrev pub chans_of : KeptChans → List Chan
 chans_of (chans.One one) = chan_of one ∷ []
 chans_of (chans.Two first second) = chan_of first ∷ chan_of second ∷ []
 chans_of (chans.Three first second third) = chan_of first ∷ chan_of second ∷ chan_of third ∷ []
+chans_of (chans.Alike each count) = replicate count (chan_of each)
 chans_of (chans.List list) = list.value.items

@@ -1,8 +1,10 @@
 -- A move of a component's process, as the code keeps it: when it can be made, and what it leaves.
-use Rattle.std.specs.Prelude.{◌≡◌, ◌<◌, ◌^◌, ℕ, Option, Some}
+use Rattle.std.specs.Prelude.{◌≡◌, ◌<◌, ◌^◌, ℕ, Option, Some, ⊤}
 use Rattle.bz_model.specs.declared.channel.Move.{Move}
 use Rattle.bz_kinds.specs.declared.comp.Process.{Process}
 use Rattle.bz_kinds.specs.Ports.{state_at}
+use Rattle.bz_kinds.specs.declared.row.Plan.{Plan}
+use Rattle.bz_kinds.specs.declared.row.Plan.TheVariants.{InTurn, Together, Cells, Meeting}
 use Rattle.bz_kinds.specs.Row.{Due}
 use Rattle.bz_kinds.specs.Riding.{Made}
 use Rattle.bz_kinds.specs.Kept.{plan_of}
@@ -15,6 +17,14 @@ pub record CanTurn (c : Process) (p : ℕ) (rides : Option ℕ) : Type 0 where
   pub small : c.size < 2 ^ 30
   pub due : IsNarrowDue (plan_of c.plan) c.size c.left p c.ports
   pub still : StaysAt (plan_of c.plan) c.size c.left c.ports p rides (slots_of c.slots)
+
+-- most moves are of other plans
+abbrev pub IsRare : Plan → Type 0
+IsRare (InTurn row) = ⊥
+IsRare (Together row) = ⊥
+IsRare Cells = ⊥
+IsRare (Meeting meet) = ⊥
+IsRare plan = ⊤
 
 -- what was due at p was made, and left c': this move, which carries this value
 abbrev pub HasMade : Process → ℕ → Option ℕ → Process → Move → Option ℕ → Type 0

@@ -1,50 +1,74 @@
 //! A guard over inputs, and a call of the output of the first input that was 1: where the ports are after a move.
 
-ghost use Rattle.std.specs.Prelude.{◌≡◌, ◌≢◌, ◌<◌, ◌^◌, Some};
+ghost use Rattle.std.specs.Prelude.{◌≡◌, ◌<◌, ◌^◌, Some};
 ghost use Rattle.std.specs.Option.{option_map};
-ghost use Rattle.bz_model.specs.Terms.{Store, first_one};
+ghost use Rattle.bz_model.specs.Terms.{first_one};
 ghost use Rattle.bz_model.specs.Processes.{after};
 ghost use Rattle.bz_kinds.specs.declared.ports.PortState.TheVariants.{ClosedDue, OpenDue};
 ghost use Rattle.bz_kinds.specs.Ports.{state_at};
 ghost use Rattle.bz_kinds.specs.Row.{Due, seen};
+ghost use Rattle.bz_kinds.specs.KeptLists.{slots_of};
+ghost use Rattle.bz_kinds.specs.Riding.{Made};
 ghost use Rattle.bz_kinds.specs.Bar.{IsPlace, Steps, out, bar_due};
 
 use crate::enclosed::{lead_due, leg_due};
+use crate::kept_lists::KeptSlots;
 use crate::ports::{PortState, Ports};
 use crate::row::DueMove;
-use bz_model::{Expr, Value, first_one};
+use bz_model::{Expr, Move, Value, first_one};
 
-/// Makes the move that is due at a port. `left` inputs are still to be pulled, and `slots` has what came in with the move.
-pub fn step(ports: &mut Ports, left: &mut u32, size: u32, port: u32, slots: &[Value])
+/// Makes the move that is due at a port: the move, and the value that it carries. `rides` is the value on the port's channel.
+/// `left` inputs are still to be pulled.
+pub fn fire(
+    ports: &mut Ports,
+    left: &mut u32,
+    size: u32,
+    port: u32,
+    slots: &mut KeptSlots,
+    rides: Option<Value>,
+) -> (Move, Option<Value>)
     requires place { IsPlace size left.old ports.old }
     requires due { (d : Due) × (bar_due size port (state_at ports.old port) ≡ Some d) }
     requires small { size < 2 ^ 30 }
-    ensures { Steps size left.old ports.old port left.new ports.new slots.now }
+    ensures made { (d : Due) → bar_due size port (state_at ports.old port) ≡ Some d →
+        Made d rides (slots_of slots.old) (slots_of slots.new) result.0 result.1 }
+    ensures steps { Steps size left.old ports.old port left.new ports.new (slots_of slots.new) }
 {
-    let state = ports.get(port);
-    if port == 1 {
-        if state == PortState::ClosedDue {
-            take_guard(ports, left, size, slots);
-        } else {
-            reply_guard(ports, left, size, slots);
+    match (port, ports.is_to_open(port)) {
+        (1, true) => {
+            slots.keep(size, rides);
+            take_guard(ports, left, size, slots.get());
+            (Move::Take, rides)
         }
-    } else if port == 2 {
-        if state == PortState::ClosedDue {
-            take_activate(ports, left, size, slots);
-        } else {
-            reply_activate(ports, left, size, slots);
+        (1, false) => {
+            reply_guard(ports, left, size, slots.get());
+            (Move::Reply, slots.worth(&Expr::SomeOne))
         }
-    } else if port - 3 < size {
-        if state == PortState::ClosedDue {
-            ask_input(ports, left, size, port - 3, slots);
-        } else {
-            got_input(ports, left, size, port - 3, slots);
+        (2, true) => {
+            slots.keep(size, rides);
+            take_activate(ports, left, size, slots.get());
+            (Move::Take, rides)
         }
-    } else {
-        if state == PortState::ClosedDue {
-            ask_output(ports, left, size, port - 3 - size, slots);
-        } else {
-            got_output(ports, left, size, port - 3 - size, slots);
+        (2, false) => {
+            reply_activate(ports, left, size, slots.get());
+            (Move::Reply, None)
+        }
+        (_, true) => {
+            if port - 3 < size {
+                ask_input(ports, left, size, port - 3, slots.get());
+            } else {
+                ask_output(ports, left, size, port - 3 - size, slots.get());
+            }
+            (Move::Ask, None)
+        }
+        (_, false) => {
+            slots.keep(size.min(port - 3), rides);
+            if port - 3 < size {
+                got_input(ports, left, size, port - 3, slots.get());
+            } else {
+                got_output(ports, left, size, port - 3 - size, slots.get());
+            }
+            (Move::Got, rides)
         }
     }
 }

@@ -11,15 +11,18 @@ ghost use Rattle.bz_model.specs.Widths.{Fitted, FitsAt, HoldsAt};
 ghost use Rattle.bz_kinds.specs.declared.ports.PortState.TheVariants.{Closed, ClosedDue};
 ghost use Rattle.bz_kinds.specs.Row.{seen};
 ghost use Rattle.bz_kinds.specs.Moves.{AreEnabled};
+ghost use Rattle.bz_kinds.specs.Sense.{sense};
+ghost use Rattle.bz_kinds.specs.Freed.{Frees, FreesIn};
 ghost use Rattle.bz_kinds.specs.Ready.{AreReady, CanGo, NoneDue};
 ghost use Rattle.bz_kinds.specs.Start.{BeginsAt, IsAllDue, IsDueBut, AreMembersDue};
 ghost use Rattle.bz_kinds.specs.Kept.{plan_of};
 ghost use Rattle.bz_kinds.specs.KeptLists.{slots_of};
 ghost use Rattle.bz_model.specs.declared.channel.Phase.{Phase};
 ghost use Rattle.bz_kinds.specs.Riding.{held, riding, taken};
-ghost use Rattle.bz_kinds.specs.Comp.{IsAt, IsDue, IsFor, Goes, plan_due};
-ghost use Rattle.bz_kinds.specs.Turn.{CanTurn, HasMade, HasGone, KeepsPlan};
+ghost use Rattle.bz_kinds.specs.Comp.{IsFor, plan_due};
+ghost use Rattle.bz_kinds.specs.Turn.{CanTurn, IsRare, HasMade, HasGone, KeepsPlan};
 
+use crate::freed::Freed;
 use crate::kept::KeptPlan;
 use crate::kept_lists::{KeptChans, KeptSlots};
 use crate::move_iter::MoveIter;
@@ -166,17 +169,39 @@ pub fn fire(comp: &mut Comp, port: u32, rides: Option<Value>) -> (Move, Option<V
     ensures fits { (phase : Phase) → CanMove comp.old.proc port phase → rides ≡ riding phase →
         Fitted comp.old → HoldsAt comp.old.chans port phase → FitsAt comp.old.chans port result.0 result.1 × Fitted comp.new }
 {
+    let (mv, value, _) = fire_freeing(comp, port, rides);
+    (mv, value)
+}
+
+/// The same, with the ports that the move frees.
+#[inline(always)]
+pub fn fire_freeing(
+    comp: &mut Comp,
+    port: u32,
+    rides: Option<Value>,
+) -> (Move, Option<Value>, Freed)
+    requires { (phase : Phase) × CanMove comp.old.proc port phase × (rides ≡ riding phase) }
+    ensures moves { (phase : Phase) → CanMove comp.old.proc port phase → rides ≡ riding phase →
+        Moves comp.old.proc port phase result.0 result.1 comp.new.proc }
+    ensures turns { Turns comp.old port result.0 comp.new }
+    ensures one { HasOneHead comp.old.proc.todo }
+    ensures chans { comp.new.chans ≡ comp.old.chans }
+    ensures fits { (phase : Phase) → CanMove comp.old.proc port phase → rides ≡ riding phase →
+        Fitted comp.old → HoldsAt comp.old.chans port phase → FitsAt comp.old.chans port result.0 result.1 × Fitted comp.new }
+    ensures frees { Frees comp.old.proc port comp.new.proc result.2 }
+{
     turn(&mut comp.proc, port, rides)
 }
 
 // Makes the move that is due at a port. Of the families that most moves are of, a move is told, sent and followed by the ports
 // in one look at the port. Each arm borrows its own fields, so that no address is worked out before the plan is known.
 #[inline(always)]
-fn turn(proc: &mut Process, port: u32, rides: Option<Value>) -> (Move, Option<Value>)
+fn turn(proc: &mut Process, port: u32, rides: Option<Value>) -> (Move, Option<Value>, Freed)
     requires { CanTurn proc.old port rides }
     ensures made { HasMade proc.old port rides proc.new result.0 result.1 }
     ensures goes { HasGone proc.old port proc.new }
     ensures kept { KeepsPlan proc.old proc.new }
+    ensures frees { FreesIn (sense (plan_of proc.old.plan) proc.old.size) proc.old.ports port proc.new.ports result.2 }
 {
     match &proc.plan {
         KeptPlan::InTurn(_) | KeptPlan::OwnInTurn(_) => {
@@ -190,20 +215,32 @@ fn turn(proc: &mut Process, port: u32, rides: Option<Value>) -> (Move, Option<Va
         KeptPlan::Cells => cells::fire(&mut proc.ports, proc.size, port, &mut proc.slots, rides),
         KeptPlan::OneByOne(Script::Loop) => {
             let (ports, left, slots) = (&mut proc.ports, &mut proc.left, &mut proc.slots);
-            script::fire_loop(ports, left, port, slots, rides)
+            script::fire(Script::Loop, ports, left, port, slots, rides)
         }
         KeptPlan::Meeting(meet) => {
             let (ports, left, slots) = (&mut proc.ports, &mut proc.left, &mut proc.slots);
-            meeting::fire(meet.get(), ports, left, proc.size, port, slots, rides)
+            let (mv, value) = meeting::fire(meet.get(), ports, left, proc.size, port, slots, rides);
+            (mv, value, Freed::Unknown)
         }
-        _ => turn_far(proc, port, rides),
+        KeptPlan::OneByOne(_)
+        | KeptPlan::Once(_)
+        | KeptPlan::Select(_)
+        | KeptPlan::Indexed(_)
+        | KeptPlan::Signalled
+        | KeptPlan::Choice(_)
+        | KeptPlan::Decision
+        | KeptPlan::Bar => {
+            let (mv, value) = turn_far(proc, port, rides);
+            (mv, value, Freed::Unknown)
+        }
     }
 }
 
-// The same of any plan. What is called is small in its caller: the value goes there and back by its place.
+// The same of a plan that most moves are not of. What is called is small in its caller: the value goes there and back by its place.
 #[inline(always)]
 fn turn_far(proc: &mut Process, port: u32, rides: Option<Value>) -> (Move, Option<Value>)
-    requires { CanTurn proc.old port rides }
+    requires rare { IsRare (plan_of proc.old.plan) }
+    requires due { CanTurn proc.old port rides }
     ensures made { HasMade proc.old port rides proc.new result.0 result.1 }
     ensures goes { HasGone proc.old port proc.new }
     ensures kept { KeepsPlan proc.old proc.new }
@@ -216,7 +253,8 @@ fn turn_far(proc: &mut Process, port: u32, rides: Option<Value>) -> (Move, Optio
 // The same with the value that rides in `value`, if `rides`, and then what is carried in it, if the second answer is true.
 #[inline(never)]
 fn turn_held(proc: &mut Process, port: u32, rides: bool, value: &mut Value) -> (Move, bool)
-    requires { CanTurn proc.old port (held rides value.old) }
+    requires rare { IsRare (plan_of proc.old.plan) }
+    requires due { CanTurn proc.old port (held rides value.old) }
     ensures made { HasMade proc.old port (held rides value.old) proc.new result.0 (held result.1 value.new) }
     ensures goes { HasGone proc.old port proc.new }
     ensures kept { KeepsPlan proc.old proc.new }
@@ -247,50 +285,51 @@ fn held(is_there: bool, value: Value) -> Option<Value>
     if is_there { Some(value) } else { None }
 }
 
-// The same of any plan. Each arm borrows its own fields, as in `turn`.
+// The same with the value in hand. Each arm borrows its own fields, as in `turn`.
 #[inline(always)]
 fn turn_rare(proc: &mut Process, port: u32, rides: Option<Value>) -> (Move, Option<Value>)
-    requires { CanTurn proc.old port rides }
+    requires rare { IsRare (plan_of proc.old.plan) }
+    requires due { CanTurn proc.old port rides }
     ensures made { HasMade proc.old port rides proc.new result.0 result.1 }
     ensures goes { HasGone proc.old port proc.new }
     ensures kept { KeepsPlan proc.old proc.new }
 {
     match &proc.plan {
-        KeptPlan::OneByOne(Script::While) => {
+        KeptPlan::OneByOne(script) => {
             let (ports, left, slots) = (&mut proc.ports, &mut proc.left, &mut proc.slots);
-            script::fire_while(ports, left, port, slots, rides)
+            let (mv, value, _) = script::fire(*script, ports, left, port, slots, rides);
+            (mv, value)
+        }
+        KeptPlan::Once(row) => {
+            let (ports, left, slots) = (&mut proc.ports, &mut proc.left, &mut proc.slots);
+            once::fire(row.get(), ports, left, proc.size, port, slots, rides)
+        }
+        KeptPlan::Select(spans) => {
+            let (ports, left, slots) = (&mut proc.ports, &mut proc.left, &mut proc.slots);
+            select::fire(spans, ports, left, proc.size, port, slots, rides)
+        }
+        KeptPlan::Indexed(spans) => {
+            let (ports, left, slots) = (&mut proc.ports, &mut proc.left, &mut proc.slots);
+            indexed::fire(spans, ports, left, proc.size, port, slots, rides)
+        }
+        KeptPlan::Signalled => {
+            let (ports, slots) = (&mut proc.ports, &mut proc.slots);
+            signalled::fire(ports, proc.size, port, slots, rides)
         }
         KeptPlan::Choice(mix) => {
             let (ports, left, slots) = (&mut proc.ports, &mut proc.left, &mut proc.slots);
             choice::fire(mix.get(), ports, left, proc.size, port, slots, rides)
         }
-        _ => turn_by_due(proc, port, rides),
+        KeptPlan::Decision => {
+            let (ports, left, slots) = (&mut proc.ports, &mut proc.left, &mut proc.slots);
+            decision::fire(ports, left, proc.size, port, slots, rides)
+        }
+        KeptPlan::Bar => {
+            let (ports, left, slots) = (&mut proc.ports, &mut proc.left, &mut proc.slots);
+            bar::fire(ports, left, proc.size, port, slots, rides)
+        }
+        _ => unreachable!(),
     }
-}
-
-// The same by what is due there, of any plan.
-#[inline(always)]
-fn turn_by_due(proc: &mut Process, port: u32, rides: Option<Value>) -> (Move, Option<Value>)
-    requires { CanTurn proc.old port rides }
-    ensures made { HasMade proc.old port rides proc.new result.0 result.1 }
-    ensures goes { HasGone proc.old port proc.new }
-    ensures kept { KeepsPlan proc.old proc.new }
-{
-    let Some(due) = due_at(&proc.plan, proc.size, proc.left, port, proc.ports.get(port)) else {
-        unreachable!()
-    };
-    let incoming = taken(due.mv, rides);
-    let value = carried(&due, proc.slots.get(), incoming);
-    proc.slots.keep(due.into, incoming);
-    advance(
-        &proc.plan,
-        proc.size,
-        &mut proc.left,
-        &mut proc.ports,
-        port,
-        proc.slots.get(),
-    );
-    (due.mv, value)
 }
 
 // The value that rides on a channel in this phase.
@@ -507,37 +546,5 @@ pub(crate) fn due_at(
         KeptPlan::Meeting(meet) => meeting::due(meet.get(), size, port, state),
         KeptPlan::Decision => decision::due(size, port, state),
         KeptPlan::Bar => bar::due(size, port, state),
-    }
-}
-
-// Takes the ports to where they are after the due move at `port`. `slots` has what came in with it.
-fn advance(
-    plan: &KeptPlan,
-    size: u32,
-    left: &mut u32,
-    ports: &mut Ports,
-    port: u32,
-    slots: &[Value],
-)
-    requires place { IsAt (plan_of plan.now) size left.old ports.old slots.now }
-    requires small { size < 2 ^ 30 }
-    requires due { IsDue (plan_of plan.now) size left.old port ports.old }
-    ensures { Goes (plan_of plan.now) size left.old ports.old port left.new ports.new slots.now }
-{
-    match plan {
-        KeptPlan::InTurn(_) => in_turn::step(ports, left, size, port),
-        KeptPlan::OwnInTurn(_) => in_turn::step(ports, left, size, port),
-        KeptPlan::Together(_) => together::step(ports, left, size, port),
-        KeptPlan::OwnTogether(_) => together::step(ports, left, size, port),
-        KeptPlan::Once(_) => once::step(ports, left, size, port),
-        KeptPlan::Cells => cells::step(ports, size, port),
-        KeptPlan::Select(spans) => select::step(spans, ports, left, size, port, slots),
-        KeptPlan::Indexed(spans) => indexed::step(spans, ports, left, size, port, slots),
-        KeptPlan::OneByOne(script) => script::step(*script, ports, left, port, slots),
-        KeptPlan::Signalled => signalled::step(ports, size, port),
-        KeptPlan::Choice(mix) => choice::step(mix.get(), ports, left, size, port),
-        KeptPlan::Meeting(meet) => meeting::step(meet.get(), ports, left, size, port),
-        KeptPlan::Decision => decision::step(ports, left, size, port),
-        KeptPlan::Bar => bar::step(ports, left, size, port, slots),
     }
 }

@@ -1,6 +1,7 @@
 //! The values and the channels of a component: few, which lie in it, or a list.
 
-ghost use Rattle.std.specs.Prelude.{◌≡◌, ◌≢◌, IfOk, IfSome, IsTrue, Some, replicate, slice_set};
+ghost use Rattle.std.specs.Prelude.{◌≡◌, ◌≢◌, ◌↔◌, IfOk, IfSome, IsTrue, Some, replicate, slice_index, slice_set};
+ghost use Rattle.std.specs.List.{All};
 ghost use Rattle.bz_model.specs.declared.expr.Expr.TheVariants.{Nothing};
 ghost use Rattle.bz_model.specs.Terms.{stored, value_of, IsNarrow};
 ghost use Rattle.bz_kinds.specs.KeptLists.{chan_of, chans_of, slots_of};
@@ -22,12 +23,13 @@ pub struct KeptChan {
     width: u8,
 }
 
-/// The channels at a component's ports, in the order of these: few, as most have, or a list.
+/// The channels at a component's ports, in the order of these: few, as most have, so many that are alike, or a list.
 #[derive(Drop)]
 pub enum KeptChans {
     One(KeptChan),
     Two(KeptChan, KeptChan),
     Three(KeptChan, KeptChan, KeptChan),
+    Alike(KeptChan, u32),
     List(Box<Vec<Chan>>),
 }
 
@@ -50,6 +52,17 @@ impl KeptSlots {
         match self {
             KeptSlots::Two(two) => two,
             KeptSlots::List(list) => list,
+        }
+    }
+
+    /// The value in a slot, 0 where there is no such slot.
+    #[inline(always)]
+    pub fn kept_at(&self, slot: u32) -> Value
+        ensures { result ≡ slice_index (slots_of self.now) slot }
+    {
+        match self.get().get(slot as usize) {
+            Some(value) => *value,
+            None => 0,
         }
     }
 
@@ -162,7 +175,7 @@ impl KeptChan {
     }
 }
 
-// Channels of which there are few.
+// Channels of which there are few, or which are alike.
 fn few(chans: &[Chan]) -> Option<KeptChans>
     ensures { IfSome result (λ k. chans_of k ≡ chans.now) }
 {
@@ -174,8 +187,33 @@ fn few(chans: &[Chan]) -> Option<KeptChans>
             KeptChan::of(*second)?,
             KeptChan::of(*third)?,
         )),
-        _ => None,
+        _ => alike(chans),
     }
+}
+
+// Channels that are all as the first one.
+#[tactic(auto, using(crate::proofs::Alike::all_alike))]
+fn alike(chans: &[Chan]) -> Option<KeptChans>
+    ensures { IfSome result (λ k. chans_of k ≡ chans.now) }
+{
+    let first = *chans.first()?;
+    let each = KeptChan::of(first)?;
+    if chans.len() > u32::MAX as usize {
+        return None;
+    }
+    if !are_all(chans, first) {
+        return None;
+    }
+    Some(KeptChans::Alike(each, chans.len() as u32))
+}
+
+// Whether each of the channels is as this one.
+fn are_all(chans: &[Chan], one: Chan) -> bool
+    ensures { IsTrue result ↔ All (λ c. (c.kind ≡ one.kind) × (c.width ≡ one.width)) chans.now }
+{
+    chans
+        .iter()
+        .all(|chan| chan.kind == one.kind && chan.width == one.width)
 }
 
 impl KeptChans {
@@ -202,6 +240,7 @@ impl KeptChans {
             KeptChans::Three(first, second, third) => {
                 Ok(KeptChans::Three(*first, *second, *third))
             }
+            KeptChans::Alike(each, count) => Ok(KeptChans::Alike(*each, *count)),
             KeptChans::List(list) => {
                 let list = Box::new(alloc, list.to_vec(alloc)?)?;
                 Ok(KeptChans::List(list))

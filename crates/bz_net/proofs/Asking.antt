@@ -1,13 +1,12 @@
 -- A component at which requests may meet is noted, or no channel to it is busy but the one on which it was asked last.
-use Rattle.std.proofs.Common.{◌≡◌, ◌≢◌, ◌⊎◌, ◌↔◌, inl, inr, ℕ, zero, suc, ◌-◌, ◌<◌, ◌≤◌, true, false, List, [], ◌∷◌, length, get_or, set, replicate, Contains, Option, Some, None, sym, ap, subst, ◌∙◌, arith, refl, get_or-set_same, get_or-set_other}
+use Rattle.std.proofs.Common.{◌≡◌, ◌≢◌, ◌⊎◌, ◌↔◌, inl, inr, ℕ, zero, suc, ◌-◌, ◌<◌, ◌≤◌, true, false, List, length, get_or, set, replicate, Contains, Some, None, sym, ap, subst, ◌∙◌, arith, refl, get_or-set_same, get_or-set_other}
 use Rattle.std.proofs.lemmas.Bool.{cases_eq, false≢true}
 use Rattle.bz_model.specs.declared.channel.Move.{Move}
 use Rattle.bz_model.specs.declared.channel.Move.TheVariants as move
 use Rattle.bz_model.specs.declared.channel.Phase.{Phase}
 use Rattle.bz_model.specs.declared.channel.Phase.TheVariants.{Idle}
-use Rattle.bz_model.specs.Nets.{Site, Wiring, IsPort, chan_at, passive_at, site_at}
+use Rattle.bz_model.specs.Nets.{Site, chan_at, site_at}
 use Rattle.bz_model.specs.Clashes.{IsAsked, Clashes, is_mixer, phase_of}
-use Rattle.bz_flat.specs.Wires.{IsEnd}
 use Rattle.bz_net.specs.Keeping.{ReadsChans}
 use Rattle.bz_net.specs.Noted.{Notes, HoldsPassive, IsHolder, HasSoleEnds, NoneMixes, Watches, WatchesBut, NotedAt, NotedMove, AskedBefore, asked_last}
 
@@ -29,9 +28,10 @@ module _ (sites : List Site) (phases : List Phase) where
     ]
   ]
 
-  notes_at : (old new : Notes) (k : ℕ) → HasSoleEnds sites → new.most ≡ old.most → ((c : ℕ) → Contains old.numbers c → Contains new.numbers c) → ((c : ℕ) → Contains new.numbers c → Contains old.numbers c ⊎ (HoldsPassive sites k c × Clashes sites phases c)) → Watches sites phases new → NotedAt sites phases old new k
-  notes_at old new k ends most keeps adds watches = record {
+  notes_at : (old new : Notes) (k : ℕ) → HasSoleEnds sites → new.most ≡ old.most → new.listed ≡ old.listed → ((c : ℕ) → Contains old.numbers c → Contains new.numbers c) → ((c : ℕ) → Contains new.numbers c → Contains old.numbers c ⊎ (HoldsPassive sites k c × Clashes sites phases c)) → Watches sites phases new → NotedAt sites phases old new k
+  notes_at old new k ends most listed keeps adds watches = record {
     most = most;
+    listed = listed;
     adds = λ c. (
       λ has. adds c has,
       λ either. elim either [
@@ -43,14 +43,14 @@ module _ (sites : List Site) (phases : List Phase) where
   }
 
   -- no number was added
-  notes_same : (old new : Notes) (k : ℕ) → HasSoleEnds sites → new.most ≡ old.most → new.numbers ≡ old.numbers → Watches sites phases new → NotedAt sites phases old new k
-  notes_same old new k ends most same watches =
-      notes_at old new k ends most (λ c was. subst (λ (l : List ℕ). Contains l c) (sym same) was) (λ c has. inl (subst (λ (l : List ℕ). Contains l c) same has)) watches
+  notes_same : (old new : Notes) (k : ℕ) → HasSoleEnds sites → new.most ≡ old.most → new.listed ≡ old.listed → new.numbers ≡ old.numbers → Watches sites phases new → NotedAt sites phases old new k
+  notes_same old new k ends most listed same watches =
+      notes_at old new k ends most listed (λ c was. subst (λ (l : List ℕ). Contains l c) (sym same) was) (λ c has. inl (subst (λ (l : List ℕ). Contains l c) same has)) watches
 
   module _ (k : ℕ) (old : Notes) (ends : HasSoleEnds sites) (but : WatchesBut k sites phases old) where
     -- no component at which requests may meet is at the passive end of channel k
     pub noted_none : ((c : ℕ) → HoldsPassive sites k c → is_mixer (site_at sites c).kind ≡ true → ⊥) → NotedAt sites phases old old k
-    noted_none none = notes_same old old k ends refl refl (record {
+    noted_none none = notes_same old old k ends refl refl refl (record {
       held = but.held;
       sole = λ c p mixes asked. elim (cases_eq (chan_at sites c p) k) [
         | inl on ↦ absurd (none c (holding sites phases c p k asked on) mixes)
@@ -70,7 +70,7 @@ module _ (sites : List Site) (phases : List Phase) where
 
     -- it isn't busy
     pub noted_idle : phase_of phases k ≡ Idle → NotedAt sites phases old old k
-    noted_idle idle = notes_same old old k ends refl refl (record {
+    noted_idle idle = notes_same old old k ends refl refl refl (record {
       held = but.held;
       sole = λ c p mixes asked. but.sole c p mixes asked (λ on. asked.busy (ap (phase_of phases) on ∙ idle));
     })
@@ -91,9 +91,9 @@ module _ (sites : List Site) (phases : List Phase) where
       }
 
       -- the one asked last is busy too: the component is noted
-      pub noted_met : (new : Notes) → 0 < comp → is_mixer (site_at sites comp).kind ≡ true → 0 < asked_last old.asked comp → k ≢ asked_last old.asked comp → phase_of phases k ≢ Idle → phase_of phases (asked_last old.asked comp) ≢ Idle → new.most ≡ old.most → new.asked ≡ old.asked → ((c : ℕ) → Contains new.numbers c ↔ (Contains old.numbers c ⊎ (c ≡ comp))) → NotedAt sites phases old new k
-      noted_met new from mixes has apart busy other most same adds =
-          notes_at old new k ends most (λ c was. (adds c).1 (inl was))
+      pub noted_met : (new : Notes) → 0 < comp → is_mixer (site_at sites comp).kind ≡ true → 0 < asked_last old.asked comp → k ≢ asked_last old.asked comp → phase_of phases k ≢ Idle → phase_of phases (asked_last old.asked comp) ≢ Idle → new.most ≡ old.most → new.listed ≡ old.listed → new.asked ≡ old.asked → ((c : ℕ) → Contains new.numbers c ↔ (Contains old.numbers c ⊎ (c ≡ comp))) → NotedAt sites phases old new k
+      noted_met new from mixes has apart busy other most listed same adds =
+          notes_at old new k ends most listed (λ c was. (adds c).1 (inl was))
           (λ c now. elim ((adds c).0 now) [
             | inl was ↦ inl was
             | inr is ↦ inr (subst (λ d. HoldsPassive sites k d × Clashes sites phases d) (sym is) (here, meets (asked_last old.asked comp) mixes here (but.held comp from has) apart busy other))
@@ -121,7 +121,7 @@ module _ (sites : List Site) (phases : List Phase) where
 
         -- no other than k is busy, where the one asked last isn't: k is the one asked last
         put : ((p : ℕ) → IsAsked sites phases comp p → chan_at sites comp p ≢ k → chan_at sites comp p ≡ asked_last old.asked comp → ⊥) → NotedAt sites phases old (record old { asked = set old.asked (comp - 1) k }) k
-        put free = notes_same old (record old { asked = set old.asked (comp - 1) k }) k ends refl refl (record {
+        put free = notes_same old (record old { asked = set old.asked (comp - 1) k }) k ends refl refl refl (record {
           held = λ c up some. elim (cases_eq c comp) [
             | inl is ↦ subst (λ j. HoldsPassive sites j c) (sym (own c is)) (subst (HoldsPassive sites k) (sym is) (holder.holds comp refl))
             | inr apart ↦ subst (λ j. HoldsPassive sites j c) (sym (others c up apart)) (but.held c up (subst (λ j. 0 < j) (others c up apart) some))
@@ -164,6 +164,7 @@ watches_after sites phases phases' old new k mv watches before noted = by mv bef
 pub noted_nowhere : (sites : List Site) (phases : List Phase) (notes : Notes) (k : ℕ) → NoneMixes sites → WatchesBut k sites phases notes → NotedAt sites phases notes notes k
 noted_nowhere sites phases notes k none but = record {
   most = refl;
+  listed = refl;
   adds = λ c. (
     λ has. inl has,
     λ either. elim either [

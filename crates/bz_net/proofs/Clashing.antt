@@ -206,6 +206,12 @@ noted_most sites phases old new k move.Take noted = ap (λ (n : Notes). n.most) 
 noted_most sites phases old new k move.Reply noted = ap (λ (n : Notes). n.most) noted
 noted_most sites phases old new k move.Got noted = ap (λ (n : Notes). n.most) noted
 
+pub noted_listed : (sites : List Site) (phases : List Phase) (old new : Notes) (k : ℕ) (mv : Move) → NotedMove sites phases old new k mv → new.listed ≡ old.listed
+noted_listed sites phases old new k move.Ask noted = noted.listed
+noted_listed sites phases old new k move.Take noted = ap (λ (n : Notes). n.listed) noted
+noted_listed sites phases old new k move.Reply noted = ap (λ (n : Notes). n.listed) noted
+noted_listed sites phases old new k move.Got noted = ap (λ (n : Notes). n.listed) noted
+
 pub clashed_commanded : (w : Wiring) (s next : State) (journal : List Entry) (who : Who) (verb : Verb) (port : ℕ) (value : Option ℕ) (reply : Reply) → WellWired w → Run w (opening w) journal s → HostStep w s verb port value reply next → (old new : Notes) → ((d : ℕ) → Contains old.numbers d ↔ ClashesIn w (opening w) journal d) → NotedAt w.sites next.phases old new port → (d : ℕ) → Contains new.numbers d ↔ ClashesIn w (opening w) (journal ++ Host who verb port value reply ∷ []) d
 clashed_commanded w s next journal who verb port value reply wired run step old new exact noted =
     let after = set s.phases (port - 1) (host_after verb value (phase_of s.phases port)) in

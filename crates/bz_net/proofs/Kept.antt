@@ -1,5 +1,5 @@
 -- What a net keeps is kept by each event.
-use Rattle.std.proofs.Common.{◌≡◌, ℕ, ◌<◌, Option, List, [], ◌∷◌, ◌++◌, length, replicate, refl, subst, ◌∙◌, arith, length-append}
+use Rattle.std.proofs.Common.{◌≡◌, ℕ, ◌<◌, Option, List, [], ◌∷◌, ◌++◌, length, replicate, true, refl, subst, ◌∙◌, arith, length-append}
 use Rattle.bz_model.specs.declared.channel.Move.{Move}
 use Rattle.bz_model.specs.declared.event.Entry.{Entry}
 use Rattle.bz_model.specs.declared.event.Entry.TheVariants.{Fired, Host, Rested}
@@ -16,19 +16,20 @@ use Rattle.bz_net.specs.Replies.{RefusesEntry, RefusesFire, RefusesLowest}
 use Rattle.bz_flat.specs.Wires.{WellWired}
 use Rattle.bz_net.specs.Keeping.{Keeps}
 use Rattle.bz_net.specs.Noted.{Notes, AskedBefore, NotedAt, NotedMove}
-use Rattle.bz_net.proofs.Clashing.{clashed_fired, clashed_commanded, clashed_rested, clashed_opening, noted_most, watches_opening}
+use Rattle.bz_net.proofs.Clashing.{clashed_fired, clashed_commanded, clashed_rested, clashed_opening, noted_listed, noted_most, watches_opening}
 use Rattle.bz_net.proofs.Asking.{watches_after}
 use Rattle.bz_net.specs.Unbroken.{IsUnbroken}
 use Rattle.bz_net.proofs.Opening.{unbroken_opening}
 use Rattle.bz_net.proofs.Soundness.{Run-push, UnbrokenRun-last, UnbrokenRun-push}
 
-pub keeps_opening : (w : Wiring) (s : State) (journal : List Entry) (limit : ℕ) (notes : Notes) → WellWired w → s ≡ opening w → journal ≡ [] → notes.numbers ≡ [] → notes.most ≡ length w.sites → notes.asked ≡ replicate (length w.sites) 0 → Keeps w s journal limit notes
-keeps_opening w s journal limit notes wired opened none unnoted most unasked = rw none (record {
+pub keeps_opening : (w : Wiring) (s : State) (journal : List Entry) (limit : ℕ) (notes : Notes) → WellWired w → s ≡ opening w → journal ≡ [] → notes.numbers ≡ [] → notes.most ≡ length w.sites → notes.listed ≡ true → notes.asked ≡ replicate (length w.sites) 0 → Keeps w s journal limit notes
+keeps_opening w s journal limit notes wired opened none unnoted most listed unasked = rw none (record {
   wired = wired;
   run = opened;
   unbroken = (unbroken_opening w, opened);
   within = omega arith;
   most = most;
+  listed = listed;
   watches = watches_opening w s notes (length w.sites) opened unasked;
   clashed = clashed_opening w notes.numbers unnoted;
 })
@@ -46,6 +47,7 @@ keeps_fired w w' s next journal limit old new who c p k mv value same keeps plac
       unbroken = UnbrokenRun-push w (opening w) journal s (Fired who c p k mv value) next keeps.unbroken step whole;
       within = simp length-append (omega arith);
       most = noted_most w.sites next.phases old new k mv here ∙ keeps.most;
+      listed = noted_listed w.sites next.phases old new k mv here ∙ keeps.listed;
       watches = watches_after w.sites s.phases next.phases old new k mv keeps.watches before here;
       clashed = clashed_fired w s next journal who c p k mv value keeps.wired keeps.run step old new keeps.clashed before here;
     })
@@ -59,6 +61,7 @@ keeps_commanded w w' s next journal limit old new who verb port value reply same
       unbroken = UnbrokenRun-push w (opening w) journal s (Host who verb port value reply) next keeps.unbroken step whole;
       within = simp length-append (omega arith);
       most = here.most ∙ keeps.most;
+      listed = here.listed ∙ keeps.listed;
       watches = here.watches;
       clashed = clashed_commanded w s next journal who verb port value reply keeps.wired keeps.run step old new keeps.clashed here;
     })
@@ -70,6 +73,7 @@ keeps_rested w s journal limit notes who keeps place rest = record {
   unbroken = UnbrokenRun-push w (opening w) journal s (Rested who) s keeps.unbroken (rest, refl) (UnbrokenRun-last w (opening w) journal s keeps.unbroken);
   within = simp length-append (omega arith);
   most = keeps.most;
+  listed = keeps.listed;
   watches = keeps.watches;
   clashed = clashed_rested w s journal who keeps.run rest notes keeps.clashed;
 }

@@ -6,6 +6,7 @@ pub mod Phases
 pub mod Ties
 pub mod Readiness
 pub mod Noting
+pub mod Raising
 pub mod Asking
 pub mod Clashing
 pub mod Fitting

@@ -22,7 +22,7 @@ use Rattle.bz_net.proofs.Playing.{plays_more}
 use Rattle.bz_net.proofs.Soundness.{Run-push}
 
 abbrev pub progress : Wiring → State → Notes → ℕ → Progress
-progress w s notes left = record { wiring = w; state = s; clashed = notes.numbers; left = left }
+progress w s notes left = record { wiring = w; state = s; clashed = notes.numbers; left = left; listed = notes.current }
 
 pub told_opening : (w : Wiring) (s : State) (notes : Notes) (left : ℕ) → s ≡ opening w → notes.numbers ≡ [] → IsToldBy (progress w s notes left) []
 told_opening w s notes left opened none = record { run = opened; clashed = clashed_opening w notes.numbers none }

@@ -128,5 +128,6 @@ pub record Keeps (w : Wiring) (s : State) (journal : List Entry) (limit : ℕ) (
   pub unbroken : UnbrokenRun w (opening w) journal s
   pub within : length journal ≤ limit
   pub most : notes.most ≡ length w.sites
+  pub listed : notes.listed ≡ true
   pub watches : Watches w.sites s.phases notes
   pub clashed : (c : ℕ) → Contains notes.numbers c ↔ ClashesIn w (opening w) journal c

@@ -1,5 +1,5 @@
 -- What contracts see of a net that keeps no journal. Whoever plays it may keep one: then it is a net with that journal.
-use Rattle.std.specs.Prelude.{◌≡◌, ℕ, ◌+◌, ◌^◌, ◌<◌, ⊤, Option, Some, None, List, [], ◌∷◌, ◌++◌, length, Contains, ◌↔◌}
+use Rattle.std.specs.Prelude.{◌≡◌, ℕ, Bool, ◌+◌, ◌^◌, ◌<◌, ⊤, Option, Some, None, List, [], ◌∷◌, ◌++◌, length, Contains, ◌↔◌}
 use Rattle.bz_model.specs.declared.event.NetError.{NetError}
 use Rattle.bz_model.specs.declared.event.NetError.TheVariants.{JournalFull}
 use Rattle.bz_model.specs.declared.event.Verb.{Verb}
@@ -22,12 +22,14 @@ use Rattle.bz_net.specs.Replies.{IsFiring, IsSoleStep}
 use Rattle.bz_net.specs.Simulation.{Simulation, Adds}
 use Rattle.bz_net.specs.Told.{MovesAt}
 
--- `clashed` are the components at which requests met so far, `left` is how many entries the limit still lets in
+-- `clashed` are the components at which requests met so far, `left` is how many entries the limit still lets in, `listed` whether
+-- those components were listed since the last of them
 pub record Progress : Type 0 where
   pub wiring : Wiring
   pub state : State
   pub clashed : List ℕ
   pub left : ℕ
+  pub listed : Bool
 
 -- the net with this journal; the entries that are still let in need no memory of it
 abbrev pub with_journal : Progress → List Entry → Simulation

@@ -82,7 +82,7 @@ impl Net {
         ensures err { IfErr result (λ e. e ≡ NetError.Memory) }
     {
         let core = Core::open(alloc, flat, Keeping::Listed)?;
-        let noted = match Noted::new(alloc, core.comp_count() as usize) {
+        let noted = match Noted::listed(alloc, core.comp_count()) {
             Ok(noted) => noted,
             Err(_) => return Err(NetError::Memory),
         };

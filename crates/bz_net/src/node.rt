@@ -119,7 +119,7 @@ fn start_one(
     ensures err { IfErr result (λ e. e ≡ NetError.Memory) }
 {
     own.clear();
-    for chan in &site.chans {
+    for chan in site.chans.iter() {
         match own.push(*chans.get(Id::at(*chan as usize - 1))) {
             Ok(()) => {}
             Err(_) => return Err(NetError::Memory),
@@ -175,7 +175,7 @@ fn gather(names: &Names, site: &FlatComp, own: &mut Vec<Chan>) -> Result<(), Net
     ensures err { IfErr result (λ e. e ≡ NetError.Memory) }
 {
     own.clear();
-    for number in &site.chans {
+    for number in site.chans.iter() {
         let Some(chan) = names.chan(*number) else {
             unreachable!()
         };

@@ -1,12 +1,12 @@
 //! A net that keeps no journal: the entries of its events go to whoever plays it.
 
-ghost use Rattle.std.specs.Prelude.{◌≡◌, ◌⊎◌, ◌-◌, ◌≤◌, ◌<◌, ℕ, min, length, [], ◌∷◌, ◌++◌, None, vec_len, vec_capacity, IfOk, IfErr, IfSome, IfNone, OnErr, List};
+ghost use Rattle.std.specs.Prelude.{◌≡◌, ◌⊎◌, ◌-◌, ◌≤◌, ◌<◌, ℕ, min, length, [], ◌∷◌, ◌++◌, None, true, vec_len, vec_capacity, IfOk, IfErr, IfSome, IfNone, OnErr, List};
 ghost use Rattle.std.specs.List.Sorted.{IsStrictlyIncreasing};
 ghost use Rattle.bz_model.specs.declared.event.Entry.{Entry};
 ghost use Rattle.bz_model.specs.declared.event.Reply.{Reply};
 ghost use Rattle.bz_model.specs.Hosts.{refusal_at};
 ghost use Rattle.bz_model.specs.Names.{NamesDiffer};
-ghost use Rattle.bz_model.specs.Nets.{outside};
+ghost use Rattle.bz_model.specs.Nets.{opening, outside};
 ghost use Rattle.bz_model.specs.Runs.{Rest};
 ghost use Rattle.bz_flat.specs.Wires.{WellWired};
 ghost use Rattle.bz_net.specs.Due.{GivesAsSteps, HasStep, LeadsOnlyTo};
@@ -56,6 +56,7 @@ impl Model for Play {
       state = n.core.state;
       clashed = n.noted.numbers;
       left = n.left;
+      listed = n.noted.current;
     } };
 
     ghost use Rattle.bz_net.specs.Progress.{PlaysWell};
@@ -73,7 +74,19 @@ impl Play {
         ensures err { IfErr result (λ e. e ≡ NetError.Memory) }
     {
         let core = Core::open(alloc, flat, Keeping::Marked)?;
-        match Noted::new(alloc, core.comp_count() as usize) {
+        Play::of(alloc, core, limit)
+    }
+
+    // A core at its opening, with nothing noted yet.
+    fn of(alloc: Global, core: Core, limit: u32) -> Result<Play, NetError>
+        requires opened { core.state ≡ opening core.wiring }
+        requires wired { WellWired core.wiring }
+        ensures wiring { IfOk result (λ play. play.wiring ≡ core.wiring) }
+        ensures left { IfOk result (λ play. play.left ≡ limit) }
+        ensures told { IfOk result (λ play. IsToldBy play []) }
+        ensures err { IfErr result (λ e. e ≡ NetError.Memory) }
+    {
+        match Noted::flagged(alloc, core.comp_count()) {
             Ok(noted) => Ok(Play {
                 core,
                 noted,
@@ -93,17 +106,11 @@ impl Play {
     {
         let Play {
             core,
-            noted,
+            noted: _,
             left: _,
         } = self;
         let core = core.reopen(alloc)?;
-        let mut noted = noted;
-        noted.clear();
-        Ok(Play {
-            core,
-            noted,
-            left: limit,
-        })
+        Play::of(alloc, core, limit)
     }
 
     /// The net in its state.
@@ -135,8 +142,16 @@ impl Play {
         self.core.names()
     }
 
+    /// Lists the components at which requests met so far, where some did since they were listed. It takes no memory.
+    pub fn list_clashes(&mut self)
+        ensures { self.new ≡ record self.old { listed = true } }
+    {
+        self.noted.list();
+    }
+
     /// The components at which requests met so far, rising: each a Call, a CallMux or a CallDemux.
     pub fn clashes(&self) -> &[u32]
+        requires { self.now.listed ≡ true }
         ensures clashed { result.now ≡ self.now.clashed }
         ensures rising { IsStrictlyIncreasing self.now.clashed }
     {

@@ -1,17 +1,16 @@
 -- What the reader keeps, after each kind of piece.
-use Rattle.std.proofs.Common.{◌≡◌, ℕ, suc, ◌+◌, ◌-◌, ◌≤◌, List, [], ◌∷◌, ◌++◌, length, take, drop, refl, sym, ap, ap₂, ◌∙◌, arith, subst, append_assoc, length-append, slice_set}
+use Rattle.std.proofs.Common.{◌≡◌, ℕ, suc, ◌+◌, ◌-◌, ◌<◌, ◌≤◌, get_or, List, [], ◌∷◌, ◌++◌, length, take, drop, refl, sym, ap, ap₂, ◌∙◌, arith, append_assoc, length-append, slice_set}
 use Rattle.std.proofs.lemmas.List.{append-nil}
-use Rattle.std.proofs.Math.Seq.{set-append_seam}
+use Rattle.std.proofs.Math.Seq.{set-append_seam, get_or-append_seam}
 use Rattle.bz_sexpr.specs.Bytes.{open_paren, close_paren}
 use Rattle.bz_sexpr.specs.Data.{Datum, leaf, items}
 use Rattle.bz_sexpr.specs.Pieces.{spelling, spelt}
 use Rattle.bz_sexpr.specs.Tokens.{lone}
 use Rattle.bz_sexpr.specs.Views.{list_of, data_of}
 use Rattle.bz_sexpr.specs.Nodes.{row, between, leaf_in}
-use Rattle.bz_sexpr.specs.Reading.{Opened, laid, opening_node, kept_of, ReadTo, IsTold, AreTold, AreOpened, SpellsLeaf}
+use Rattle.bz_sexpr.specs.Reading.{Opened, places_of, laid, opening_node, innermost, ReadTo, IsTold, AreTold, AreOpened, SpellsLeaf}
 use Rattle.bz_sexpr.specs.declared.datum.Span.{Span}
 use Rattle.bz_sexpr.specs.declared.node.Node.{Node}
-use Rattle.bz_sexpr.specs.declared.reader.OpenList.{OpenList}
 use Rattle.bz_sexpr.proofs.Laid.{row-append, list_of-data_of, list_piece}
 use Rattle.bz_sexpr.proofs.Readings.{read_leaf, read_close}
 
@@ -57,7 +56,8 @@ opened_less whole n m (o ∷ os) (place, told, others) le =
 pub laid_more : (os : List Opened) (ds es : List Datum) → laid os (ds ++ es) ≡ laid os ds ++ row es
 laid_more [] ds es = row-append ds es
 laid_more (o ∷ os) ds es =
-    ap (λ ns. laid os o.before ++ opening_node o.from ∷ ns) (row-append ds es) ∙ sym (append_assoc (laid os o.before) (opening_node o.from ∷ row ds) (row es))
+    let own : Node = opening_node o.from (innermost os) (length o.before) in
+    ap (λ ns. laid os o.before ++ own ∷ ns) (row-append ds es) ∙ sym (append_assoc (laid os o.before) (own ∷ row ds) (row es))
 
 -- ---- a leaf
 
@@ -99,44 +99,24 @@ opens_list whole rest after lists ds at read opened told first place =
 
 -- ---- a list that closes
 
-last_same : {A : Type 0} (xs ys : List A) (x y : A) → xs ++ x ∷ [] ≡ ys ++ y ∷ [] → (xs ≡ ys) × (x ≡ y)
-last_same [] [] x y e = (refl, cc)
-last_same [] (z ∷ []) x y e = absurd cc
-last_same [] (z ∷ w ∷ ys) x y e = absurd cc
-last_same (z ∷ []) [] x y e = absurd cc
-last_same (z ∷ w ∷ xs) [] x y e = absurd cc
-last_same (z ∷ xs) (w ∷ ys) x y e =
-    let first : z ≡ w = cc in
-    let others : xs ++ x ∷ [] ≡ ys ++ y ∷ [] = cc in
-    let rest = last_same xs ys x y others in
-    (ap₂ (λ a b. a ∷ b) first rest.0, rest.1)
-
-abbrev kept_one : Opened → List Opened → OpenList
-kept_one o os = record { node = length (laid os o.before); from = o.from; before = length o.before }
-
-pub one_kept : (node from before node' before' : ℕ) → node ≡ node' → before ≡ before' → (let l : OpenList = record { node = node; from = from; before = before } in l) ≡ record { node = node'; from = from; before = before' }
-one_kept node from before node' before' e f = ap₂ (λ n b. record { node = n; from = from; before = b }) e f
-
--- the innermost list that is open
-pub innermost : (lists : List Opened) (init : List OpenList) (last : OpenList) → init ++ last ∷ [] ≡ kept_of lists → (o : Opened) × (os : List Opened) × (lists ≡ o ∷ os) × (init ≡ kept_of os) × (last ≡ kept_one o os)
-innermost [] [] last e = absurd cc
-innermost [] (x ∷ init) last e = absurd cc
-innermost (o ∷ os) init last e = let same = last_same init (kept_of os) last (kept_one o os) e in (o, os, refl, same.0, same.1)
-
-pub record Closes (whole after : List ℕ) (init : List OpenList) (last : OpenList) (at : ℕ) (ds : List Datum) (nodes : List Node) : Type 0 where
-  pub lists : List Opened
+pub record Closes (whole after : List ℕ) (lists : List Opened) (inner at : ℕ) (ds : List Datum) (nodes : List Node) : Type 0 where
+  pub os : List Opened
   pub ds' : List Datum
-  pub read : ReadTo whole after lists ds'
-  pub opened : AreOpened whole (length after) lists
+  pub from : ℕ
+  pub before : ℕ
+  pub read : ReadTo whole after os ds'
+  pub opened : AreOpened whole (length after) os
   pub told : AreTold whole (data_of ds')
-  pub stack : init ≡ kept_of lists
-  pub counted : length ds' ≡ last.before + 1
-  pub size : last.node + 1 + length (row ds) ≡ length nodes
-  pub closed : (n : Node) → n ≡ record { from = last.from; to = at + 1; size = length (row ds); count = length ds } → slice_set nodes last.node n ≡ laid lists ds'
+  pub fewer : length lists ≡ length os + 1
+  pub counted : length ds' ≡ before + 1
+  pub size : inner + 1 + length (row ds) ≡ length nodes
+  pub kept : (d : Node) → get_or nodes inner d ≡ opening_node from (innermost os) before
+  pub closed : (n : Node) → n ≡ record { from = from; to = at + 1; size = length (row ds); count = length ds } → slice_set nodes inner n ≡ laid os ds'
 
-closes : (whole rest after : List ℕ) (o : Opened) (os : List Opened) (ds : List Datum) (nodes : List Node) (init : List OpenList) (last : OpenList) (at : ℕ) → ReadTo whole rest (o ∷ os) ds → AreOpened whole (length rest) (o ∷ os)
-    → AreTold whole (data_of ds) → nodes ≡ laid (o ∷ os) ds → init ≡ kept_of os → last ≡ kept_one o os → rest ≡ close_paren ∷ after → at + length rest ≡ length whole → Closes whole after init last at ds nodes
-closes whole rest after o os ds nodes init last at read (opens, before_told, others) told nodes_are init_is last_is first place =
+pub closes_list : (whole rest after : List ℕ) (lists : List Opened) (ds : List Datum) (nodes : List Node) (inner at : ℕ) → ReadTo whole rest lists ds → AreOpened whole (length rest) lists → AreTold whole (data_of ds)
+    → nodes ≡ laid lists ds → inner ≡ innermost lists → 0 < length lists → rest ≡ close_paren ∷ after → at + length rest ≡ length whole → Closes whole after lists inner at ds nodes
+closes_list whole rest after [] ds nodes inner at read opened told nodes_are inner_is some first place = absurd (omega (arith, some))
+closes_list whole rest after (o ∷ os) ds nodes inner at read (opens, before_told, others) told nodes_are inner_is some first place =
     let span : Span = record { from = o.from; to = at + 1 } in
     let d : Datum = items (data_of ds) span in
     let n = at - o.from in
@@ -144,19 +124,22 @@ closes whole rest after o os ds nodes init last at read (opens, before_told, oth
     let piece : between o.from (at + 1) whole ≡ open_paren ∷ take n opens.1 = ap (λ k. between o.from k whole) to_is ∙ piece_begins whole opens.0 opens.1 open_paren o.from n opens.2 opens.3 in
     let here : IsTold whole d = (ap leaf_in piece ∙ list_piece _ (take n opens.1) open_paren refl refl, told) in
     let outer = laid os o.before in
-    let node_at : last.node ≡ length outer = ap (λ l. l.node) last_is in
+    let own : Node = opening_node o.from (innermost os) (length o.before) in
     record {
-      lists = os;
+      os = os;
       ds' = o.before ++ d ∷ [];
+      from = o.from;
+      before = length o.before;
       read = read_close whole rest after os ds o at span read first place refl;
       opened = opened_less whole (length rest) (length after) os others (omega (arith, ap length first));
       told = told_push whole o.before d before_told here;
-      stack = init_is;
-      counted = omega (arith, length-append o.before (d ∷ []), ap (λ l. l.before) last_is);
-      size = omega (arith, node_at, ap length nodes_are, length-append outer (opening_node o.from ∷ row ds));
+      fewer = omega arith;
+      counted = omega (arith, length-append o.before (d ∷ []));
+      size = omega (arith, inner_is, ap length nodes_are, length-append outer (own ∷ row ds));
+      kept = λ m. ap₂ (λ ns k. get_or ns k m) nodes_are inner_is ∙ get_or-append_seam outer own (row ds) m;
       closed = λ m is.
-          ap₂ (λ ns k. slice_set ns k m) nodes_are node_at ∙ set-append_seam outer (opening_node o.from) (row ds) m
-          ∙ ap (λ k. outer ++ k ∷ row ds) (is ∙ ap₂ (λ f c. node_from f (at + 1) (length (row ds)) c) (ap (λ l. l.from) last_is) (sym (ap length (list_of-data_of ds))))
+          ap₂ (λ ns k. slice_set ns k m) nodes_are inner_is ∙ set-append_seam outer own (row ds) m
+          ∙ ap (λ k. outer ++ k ∷ row ds) (is ∙ ap (node_from o.from (at + 1) (length (row ds))) (sym (ap length (list_of-data_of ds))))
           ∙ ap (λ ns. outer ++ node_from o.from (at + 1) (length (row ds)) (length (list_of (data_of ds))) ∷ ns) (sym (append-nil (row ds)))
           ∙ sym (laid_more os o.before (d ∷ []));
     }
@@ -164,24 +147,30 @@ closes whole rest after o os ds nodes init last at read (opens, before_told, oth
     node_from : ℕ → ℕ → ℕ → ℕ → Node
     node_from from to size count = record { from = from; to = to; size = size; count = count }
 
-pub closes_list : (whole rest after : List ℕ) (lists : List Opened) (ds : List Datum) (nodes : List Node) (kept init : List OpenList) (last : OpenList) (at : ℕ) → ReadTo whole rest lists ds → AreOpened whole (length rest) lists → AreTold whole (data_of ds)
-    → nodes ≡ laid lists ds → kept ≡ kept_of lists → kept ≡ init ++ last ∷ [] → rest ≡ close_paren ∷ after → at + length rest ≡ length whole → Closes whole after init last at ds nodes
-closes_list whole rest after lists ds nodes kept init last at read opened told nodes_are kept_are popped first place =
-    let top = innermost lists init last (sym popped ∙ kept_are) in
-    closes whole rest after top.0 top.1 ds nodes init last at
-    (subst (λ ls. ReadTo whole rest ls ds) top.2 read) (subst (AreOpened whole (length rest)) top.2 opened) told (nodes_are ∙ ap (λ ls. laid ls ds) top.2) top.3 top.4 first place
-
 -- no list is open
-pub none_kept : (lists : List Opened) → kept_of lists ≡ [] → lists ≡ []
-none_kept [] e = refl
-none_kept (o ∷ os) e = absurd (omega (arith, length-append (kept_of os) (kept_one o os ∷ []), ap length e))
+pub none_open : (lists : List Opened) → length lists ≡ 0 → lists ≡ []
+none_open [] e = refl
+none_open (o ∷ os) e = absurd (omega (arith, e))
 
-pub length-kept : (lists : List Opened) → length (kept_of lists) ≡ length lists
-length-kept [] = refl
-length-kept (o ∷ os) = omega (arith, length-append (kept_of os) (kept_one o os ∷ []), length-kept os)
+pub record Innermost (lists : List Opened) (ds : List Datum) (nodes : List Node) (inner : ℕ) : Type 0 where
+  pub from : ℕ
+  pub others : List ℕ
+  pub places : places_of lists ≡ from ∷ others
+  pub within : inner < length nodes
+  pub kept : (d : Node) → (get_or nodes inner d).from ≡ from
 
-pub popped : (old new : List OpenList) (last : OpenList) → old ≡ new ++ last ∷ [] → old ≡ new ++ last ∷ []
-popped old new last e = e
+pub innermost_open : (lists : List Opened) (ds : List Datum) (nodes : List Node) (inner : ℕ) → nodes ≡ laid lists ds → inner ≡ innermost lists → 0 < length lists → Innermost lists ds nodes inner
+innermost_open [] ds nodes inner nodes_are inner_is some = absurd (omega (arith, some))
+innermost_open (o ∷ os) ds nodes inner nodes_are inner_is some =
+    let outer = laid os o.before in
+    let own : Node = opening_node o.from (innermost os) (length o.before) in
+    record {
+      from = o.from;
+      others = places_of os;
+      places = refl;
+      within = omega (arith, inner_is, ap length nodes_are, length-append outer (own ∷ row ds));
+      kept = λ m. ap (λ n. n.from) (ap₂ (λ ns k. get_or ns k m) nodes_are inner_is ∙ get_or-append_seam outer own (row ds) m);
+    }
 
 pub closed_node : (from to size count from' to' size' count' : ℕ) → from ≡ from' → to ≡ to' → size ≡ size' → count ≡ count'
     → (let n : Node = record { from = from; to = to; size = size; count = count } in n) ≡ record { from = from'; to = to'; size = size'; count = count' }

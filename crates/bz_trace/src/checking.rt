@@ -1,6 +1,6 @@
 //! The check of a whole text.
 
-ghost use Rattle.std.specs.Prelude.{◌≡◌, ◌≢◌, ◌⊎◌, [], ◌++◌, ℕ, List};
+ghost use Rattle.std.specs.Prelude.{◌≡◌, ◌≢◌, ◌⊎◌, [], ◌++◌, ℕ, true, List};
 ghost use Rattle.bz_model.specs.declared.event.Entry.{Entry};
 ghost use Rattle.bz_model.specs.Nets.{Wiring, outside};
 ghost use Rattle.bz_flat.specs.Wires.{WellWired};
@@ -91,6 +91,26 @@ fn check_lines(
 /// What is said of a trace that has this text behind the lines that were followed. It is a piece of a run; where it isn't the
 /// last one, no clash lines are due.
 pub(crate) fn verdict_behind(
+    net: &mut Play,
+    names: &LineNames,
+    version: Version,
+    is_last: bool,
+    followed: Followed,
+    rest: &[u8],
+) -> Verdict
+    requires followed { IsFollowed names.now net.old rest.now followed }
+    requires no_more { NoneToFollow names.now rest.now followed }
+    ensures follows { (w : Wiring) (past : List Entry) (text : List ℕ) → FollowsText names.now w past net.old text rest.now followed
+        → FollowsText names.now w past net.new text rest.now followed }
+    ensures verdict { (w : Wiring) (past : List Entry) (text : List ℕ) → FollowsText names.now w past net.old text rest.now followed
+        → ConcludesPiece is_last w past (first_line version ++ text) net.new followed.counts result }
+{
+    net.list_clashes();
+    verdict_listed(net, names, version, is_last, followed, rest)
+}
+
+// The same of a net that has listed the components at which requests met.
+fn verdict_listed(
     net: &Play,
     names: &LineNames,
     version: Version,
@@ -98,6 +118,7 @@ pub(crate) fn verdict_behind(
     followed: Followed,
     rest: &[u8],
 ) -> Verdict
+    requires listed { net.now.listed ≡ true }
     requires followed { IsFollowed names.now net.now rest.now followed }
     requires no_more { NoneToFollow names.now rest.now followed }
     ensures { (w : Wiring) (past : List Entry) (text : List ℕ) → FollowsText names.now w past net.now text rest.now followed
@@ -120,6 +141,7 @@ pub(crate) fn verdict_behind(
 
 // The components whose clash lines are due behind the entries that the net has played: behind the last piece of a run.
 fn due(net: &Play, version: Version, is_last: bool) -> &[u32]
+    requires { net.now.listed ≡ true }
     ensures { (journal : List Entry) → IsToldBy net.now journal
         → AreDueBehind is_last net.now.wiring version journal result.now }
 {

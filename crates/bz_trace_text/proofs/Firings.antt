@@ -1,5 +1,5 @@
 -- The line of a firing, read by places.
-use Rattle.std.proofs.Common.{◌≡◌, ℕ, zero, suc, ◌+◌, ◌-◌, ◌*◌, ◌<◌, ◌≤◌, ◌^◌, true, false, nat_le, List, [], ◌∷◌, ◌++◌, length, drop, get_or, Option, Some, refl, sym, ap, ◌∙◌, arith, drop-cons, add-one, codes}
+use Rattle.std.proofs.Common.{◌≡◌, ℕ, zero, suc, ◌+◌, ◌-◌, ◌*◌, ◌/◌, ◌%◌, ◌<◌, ◌≤◌, ◌^◌, true, false, nat_le, List, [], ◌∷◌, ◌++◌, length, drop, get_or, Option, Some, refl, sym, ap, ◌∙◌, arith, drop-cons, add-one, codes}
 use Rattle.std.specs.Char.{is_ascii_digit}
 use Rattle.std.specs.Int.{from_le_bytes, w32}
 use Rattle.std.proofs.Math.Nat.{pow-le-pow_right}
@@ -90,12 +90,40 @@ six t at a b c d e f h first fifth sixth =
     let end : at + 5 + 1 ≡ at + 6 = omega arith in
     five t at a b c d e (omega (arith, h)) first fifth ∙ ap (λ s. a ∷ b ∷ c ∷ d ∷ e ∷ s) (next t (at + 5) (omega (arith, h)) ∙ rw sixth (ap (λ i. f ∷ drop i t) end))
 
+-- four bytes that make the number of a first worker's front, and 256 for each worker above it
+four_parts : (a b c d k : ℕ) → a < 256 → b < 256 → c < 256 → d < 256 → k ≤ 7 → a + 256 * b + 65536 * c + 16777216 * d ≡ 1713385847 + 256 * k
+    → (a ≡ 119) × (b ≡ 49 + k) × (c ≡ 32) × (d ≡ 102)
+four_parts a b c d k A B C D few e =
+    let fourth : d ≡ 102 = omega (arith, A, B, C, D, few, e) in
+    let third : c ≡ 32 = omega (arith, A, B, C, few, e, fourth) in
+    let second : b ≡ 49 + k = omega (arith, A, B, few, e, fourth, third) in
+    (omega (arith, e, fourth, third, second), second, third, fourth)
+
+-- the first four bytes of a worker's firing, by how far they lie above those of the first worker
+pub front_bytes : (a b c d f : ℕ) → a < 256 → b < 256 → c < 256 → d < 256 → f ≡ a + 256 * b + 65536 * c + 16777216 * d
+    → (f + 2581581449) % 4294967296 ≤ 1792 → (f + 2581581449) % 4294967296 % 256 ≡ 0
+    → (a ≡ 119) × (49 ≤ b) × (b ≤ 56) × (c ≡ 32) × (d ≡ 102) × ((f + 2581581449) % 4294967296 / 256 + 1 ≡ b - 48)
+front_bytes a b c d f A B C D e near whole =
+    let small : f < 4294967296 = omega (arith, A, B, C, D, e) in
+    let few : (f + 2581581449) % 4294967296 / 256 ≤ 7 = omega (arith, near) in
+    let above : f ≡ 1713385847 + 256 * ((f + 2581581449) % 4294967296 / 256) = omega (arith, small, near, whole) in
+    let parts = four_parts a b c d ((f + 2581581449) % 4294967296 / 256) A B C D few (sym e ∙ above) in
+    let second = parts.1 in
+    (parts.0, omega (arith, second), omega (arith, second, few), parts.2, parts.3, omega (arith, second))
+
 -- the worker, where its firing's front stands
-pub worker_there : (net : Outside) (t : List ℕ) → 8 ≤ length t → get_or t 0 0 ≡ 119 → 49 ≤ get_or t 1 0 → get_or t 1 0 ≤ 56
-    → drop 2 t ≡ codes " fir" ++ drop (2 + 4) t → get_or t 6 0 ≡ 101 → get_or t 7 0 ≡ 32 → line_at net t ≡ fired_at net (who.Worker (get_or t 1 0 - 48)) (drop 8 t)
-worker_there net t h letter low high first seventh eighth =
-    let fire = six t 2 32 102 105 114 101 32 (omega (arith, h)) first seventh eighth in
-    worker_fires net (get_or t 0 0) (get_or t 1 0) t (drop 1 t) (drop 2 t) (drop 8 t) (next t 0 (omega (arith, h))) letter (next t 1 (omega (arith, h))) low high (rw fire (strip_again (codes " fire ") (drop 8 t)))
+pub worker_there : (net : Outside) (t : List ℕ) (n : ℕ) → 8 ≤ length t → get_or t 0 0 ≡ 119 → 49 ≤ get_or t 1 0 → get_or t 1 0 ≤ 56 → get_or t 2 0 ≡ 32
+    → get_or t 3 0 ≡ 102 → drop 4 t ≡ codes "ire " ++ drop (4 + 4) t → n ≡ get_or t 1 0 - 48 → line_at net t ≡ fired_at net (who.Worker n) (drop 8 t)
+worker_there net t n h letter low high third fourth rest is =
+    let behind : drop 3 t ≡ 102 ∷ 105 ∷ 114 ∷ 101 ∷ 32 ∷ drop 8 t = next t 3 (omega (arith, h)) ∙ rw fourth (ap (λ s. 102 ∷ s) rest) in
+    let fire : drop 2 t ≡ 32 ∷ 102 ∷ 105 ∷ 114 ∷ 101 ∷ 32 ∷ drop 8 t = next t 2 (omega (arith, h)) ∙ rw third (ap (λ s. 32 ∷ s) behind) in
+    rw is
+    (worker_fires net (get_or t 0 0) (get_or t 1 0) t (drop 1 t) (drop 2 t) (drop 8 t) (next t 0 (omega (arith, h))) letter (next t 1 (omega (arith, h))) low high (rw fire (strip_again (codes " fire ") (drop 8 t))))
+
+-- a byte whose number, less that of the first digit, is at most 9, is a digit
+pub digit_past : (b r : ℕ) → r ≡ b → b < 256 → (r + 18446744073709551568) % 18446744073709551616 ≤ 9
+    → (48 ≤ b) × (b ≤ 57) × ((r + 18446744073709551568) % 18446744073709551616 ≡ b - 48)
+digit_past b r e small near = (omega (arith, e, small, near), omega (arith, e, small, near), omega (arith, e, small, near))
 
 -- the parts of a line make it
 pub fired_there : (net : Outside) (n comp chan a b d f : ℕ) (mv : Move) (value : Option ℕ) (t : List ℕ) → line_at net t ≡ fired_at net (who.Worker n) (drop 8 t)

@@ -35,11 +35,11 @@ fn digits_from(text: &[u8], from: usize, first: u64, most: usize) -> (u64, usize
 {
     let mut n = first;
     for more in 0..most {
-        let byte = text[from + more];
-        if !byte.is_ascii_digit() {
+        let digit = u64::from(text[from + more]).wrapping_sub(48);
+        if digit > 9 {
             return (n, from + more);
         }
-        n = 10 * n + u64::from(byte - b'0');
+        n = 10 * n + digit;
     }
     (n, from + most)
 }
@@ -98,24 +98,21 @@ fn move_from(text: &[u8], from: usize) -> Option<(Move, usize)>
     }
 }
 
+// The first four bytes of a firing of the first worker, as a number: that of a later one lies 256 above for each.
+const FIRST_WORKER: u32 = 0x6620_3177;
+
 // The worker whose firing stands at the front: 8 bytes tell it.
 #[inline(always)]
 fn worker_from(text: &[u8]) -> Option<u8>
     requires { 8 ≤ length text.now }
     ensures { IfSome result (λ n. (net : Outside) → line_at net text.now ≡ fired_at net (Who.Worker n) (drop 8 text.now)) }
 {
-    let digit = text[1];
-    if text[0] == b'w'
-        && has_four(text, 2, b" fir")
-        && text[6] == b'e'
-        && text[7] == b' '
-        && digit >= b'1'
-        && digit <= b'8'
-    {
-        Some(digit - b'0')
-    } else {
-        None
+    let front = u32::from_le_bytes([text[0], text[1], text[2], text[3]]);
+    let past = front.wrapping_sub(FIRST_WORKER);
+    if past > 7 * 256 || past % 256 != 0 || !has_four(text, 4, b"ire ") {
+        return None;
     }
+    Some((past / 256) as u8 + 1)
 }
 
 // A space and a value, where one is carried.

@@ -108,7 +108,8 @@ pub fn run_into(play: &mut Play, from: u32, fuel: u64, buffer: &mut Vec<Entry>) 
 }
 
 /// Whether these are the components at which requests met.
-pub fn has_clashes(play: &Play, comps: &[u32]) -> bool {
+pub fn has_clashes(play: &mut Play, comps: &[u32]) -> bool {
+    play.list_clashes();
     play.clashes() == comps
 }
 

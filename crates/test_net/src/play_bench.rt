@@ -42,7 +42,7 @@ impl Bench for PlayBench {
             "run" => run(alloc, &mut self.play, &mut self.buffer, words),
             "host" => host(alloc, &mut self.play, words),
             "host-at" | "rest" => make(alloc, &mut self.play, name, words),
-            _ => look(alloc, &self.play, name, words),
+            _ => look(alloc, &mut self.play, name, words),
         }
     }
 }
@@ -81,7 +81,12 @@ fn make(alloc: Global, play: &mut Play, name: &str, words: &mut Words<'_>) -> Re
 }
 
 // What a play tells of itself.
-fn look(alloc: Global, play: &Play, name: &str, words: &mut Words<'_>) -> Result<String, Fail> {
+fn look(
+    alloc: Global,
+    play: &mut Play,
+    name: &str,
+    words: &mut Words<'_>,
+) -> Result<String, Fail> {
     match name {
         "port-at" => show(
             alloc,

@@ -32,7 +32,7 @@ returns-then-is_busy c =
     let has : 0 < asked_last old.asked c.args.comp = omega (arith, some, last_is) in
     let other : phase_of phases (asked_last old.asked c.args.comp) ≢ Idle = subst (λ (j : ℕ). phase_of phases j ≢ Idle) last_is c.if-is_busy.ensures in
     noted_met sites phases c.args.chan old c.requires.ends c.requires.watches c.args.comp c.requires.holder c.note.new.self c.requires.comp_from c.requires.mixes has
-    (λ e. c.if-last-chan.false (last_is ∙ sym e)) c.if-not-is_busy.ensures other c.note.ensures.most c.note.ensures.asked c.note.ensures.adds
+    (λ e. c.if-last-chan.false (last_is ∙ sym e)) c.if-not-is_busy.ensures other c.note.ensures.most c.note.ensures.listed c.note.ensures.asked c.note.ensures.adds
 
 pub returns-else-is_busy : goal.returns-else-is_busy
 returns-else-is_busy c =

@@ -17,10 +17,10 @@ pub returns-clause-concludes : goal.returns-clause-concludes
 returns-clause-concludes c =
     let net = c.args.net.now in
     let follows = c.play_lines.ensures.follows net.wiring [] c.args.text.now (follows_start c.args.names.now net.wiring [] net c.args.text.now c.requires.names c.requires.wired (behind_start net c.requires.opened) (omega (arith, c.requires.left))) in
-    alone net.wiring _ c.play_lines.new.net c.play_lines.result.0.counts c.verdict_behind-verdict.result (c.verdict_behind-verdict.ensures net.wiring [] c.args.text.now follows)
+    alone net.wiring _ c.verdict_behind-verdict.new.net c.play_lines.result.0.counts c.verdict_behind-verdict.result (c.verdict_behind-verdict.ensures.verdict net.wiring [] c.args.text.now follows)
 
 pub returns-clause-wiring : goal.returns-clause-wiring
 returns-clause-wiring c =
     let net = c.args.net.now in let text = c.args.text.now in
     let follows = c.play_lines.ensures.follows net.wiring [] text (follows_start c.args.names.now net.wiring [] net text c.requires.names c.requires.wired (behind_start net c.requires.opened) (omega (arith, c.requires.left))) in
-    wiring_is c.args.names.now net.wiring [] c.play_lines.new.net text c.play_lines.result.1.now c.play_lines.result.0 follows
+    wiring_is c.args.names.now net.wiring [] c.verdict_behind-verdict.new.net text c.play_lines.result.1.now c.play_lines.result.0 (c.verdict_behind-verdict.ensures.follows net.wiring [] text follows)

@@ -44,7 +44,11 @@ returns-then-not-branch-clause-wiring g c =
     let l = c.following in
     let text = c.args.front.items ++ l.invariant.0.got in
     let (past, behind) = c.requires.stands in
-    wiring_is c.args.names.now c.args.net.now.wiring past c.follow_held.new.net text c.follow_held.new.held.items c.in_ok-followed.followed (c.in_ok-followed.ensures.follows c.args.net.now.wiring past text (l.invariant.0.follows past behind))
+    let never : c.in_ok-read_lines.field-0 ≡ false = search rules in
+    let none = none_came _ _ _ _ _ c.in_ok-read_lines.field-0 never c.in_ok-read_lines.ensures.more in
+    let follows = c.in_ok-followed.ensures.follows c.args.net.now.wiring past text (l.invariant.0.follows past behind) in
+    let here = subst (λ (r : List ℕ). FollowsText c.args.names.now c.args.net.now.wiring past c.follow_held.new.net text r c.in_ok-followed.followed) (sym (c.as_slice-then-not-branch.ensures.value ∙ none.1)) follows in
+    wiring_is c.args.names.now c.args.net.now.wiring past c.verdict_behind-verdict.new.net text _ c.in_ok-followed.followed (c.verdict_behind-verdict.ensures.follows c.args.net.now.wiring past text here)
 
 pub verdict_behind-verdict-requires-clause-followed : goal.verdict_behind-verdict-requires-clause-followed
 verdict_behind-verdict-requires-clause-followed g c =
@@ -65,7 +69,7 @@ returns-then-not-branch-clause-concludes g c past behind =
     let follows = c.in_ok-followed.ensures.follows c.args.net.now.wiring past text (l.invariant.0.follows past behind) in
     let here = subst (λ (r : List ℕ). FollowsText c.args.names.now c.args.net.now.wiring past c.follow_held.new.net text r c.in_ok-followed.followed) (sym (c.as_slice-then-not-branch.ensures.value ∙ none.1)) follows in
     let no_more = subst (λ (r : List ℕ). NoneToFollow c.args.names.now r c.in_ok-followed.followed) (sym (c.as_slice-then-not-branch.ensures.value ∙ none.1)) c.in_ok-followed.ensures.no_more in
-    end_to c.args.to_first c.args.is_last _ _ _ c.args.names.now c.args.net.now.wiring past c.follow_held.new.net c.args.version c.args.front.items l.invariant.0.got _ c.in_ok-followed.followed l.invariant.0.taken none.0 none.2 here no_more c.in_default.ensures c.verdict_behind-verdict.result (c.verdict_behind-verdict.ensures c.args.net.now.wiring past text here)
+    end_to c.args.to_first c.args.is_last _ _ _ c.args.names.now c.args.net.now.wiring past c.verdict_behind-verdict.new.net c.args.version c.args.front.items l.invariant.0.got _ c.in_ok-followed.followed l.invariant.0.taken none.0 none.2 (c.verdict_behind-verdict.ensures.follows c.args.net.now.wiring past text here) no_more c.in_default.ensures c.verdict_behind-verdict.result (c.verdict_behind-verdict.ensures.verdict c.args.net.now.wiring past text here)
 
 pub following-smaller : goal.following-smaller
 following-smaller g c =
@@ -131,7 +135,11 @@ returns-then-not-branch-clause-stands g c =
     let l = c.following in
     let text = c.args.front.items ++ l.invariant.0.got in
     let (past, behind) = c.requires.stands in
-    somewhere c.args.names.now c.args.net.now.wiring past c.follow_held.new.net text c.follow_held.new.held.items c.in_ok-followed.followed (c.in_ok-followed.ensures.follows c.args.net.now.wiring past text (l.invariant.0.follows past behind))
+    let never : c.in_ok-read_lines.field-0 ≡ false = search rules in
+    let none = none_came _ _ _ _ _ c.in_ok-read_lines.field-0 never c.in_ok-read_lines.ensures.more in
+    let follows = c.in_ok-followed.ensures.follows c.args.net.now.wiring past text (l.invariant.0.follows past behind) in
+    let here = subst (λ (r : List ℕ). FollowsText c.args.names.now c.args.net.now.wiring past c.follow_held.new.net text r c.in_ok-followed.followed) (sym (c.as_slice-then-not-branch.ensures.value ∙ none.1)) follows in
+    somewhere c.args.names.now c.args.net.now.wiring past c.verdict_behind-verdict.new.net text _ c.in_ok-followed.followed (c.verdict_behind-verdict.ensures.follows c.args.net.now.wiring past text here)
 
 pub returns-then-not-branch-clause-shows : goal.returns-then-not-branch-clause-shows
 returns-then-not-branch-clause-shows g c =

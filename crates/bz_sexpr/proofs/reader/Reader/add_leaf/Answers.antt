@@ -19,7 +19,9 @@ returns-clause-ok c =
         opened = opened_less _ _ _ r.lists r.opened (omega (arith, shorter));
         told = more.told;
         nodes = c.in_ok-push.ensures.items ∙ ap (λ ns. ns ++ record { from = from; to = to; size = 0; count = 0 } ∷ []) r.nodes ∙ sym more.nodes;
-        stack = r.stack;
+        depth = r.depth;
+        shallow = r.shallow;
+        inner = r.inner;
         counted = omega (arith, c.in_ok-self.ensures.ok, r.counted, length-append r.ds (more.d ∷ []));
       };
       same = refl;

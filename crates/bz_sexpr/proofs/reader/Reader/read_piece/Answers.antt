@@ -41,7 +41,9 @@ returns-in-59-clause-ok c =
         opened = opened_less _ _ _ r.lists r.opened (omega (arith, shorter));
         told = r.told;
         nodes = r.nodes;
-        stack = r.stack;
+        depth = r.depth;
+        shallow = r.shallow;
+        inner = r.inner;
         counted = r.counted;
       };
       same = refl;
@@ -62,7 +64,9 @@ returns-in_default-clause-ok c =
         opened = opened_less _ _ _ r.lists r.opened (omega (arith, shorter));
         told = r.told;
         nodes = r.nodes;
-        stack = r.stack;
+        depth = r.depth;
+        shallow = r.shallow;
+        inner = r.inner;
         counted = r.counted;
       };
       same = refl;
