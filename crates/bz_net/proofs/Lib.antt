@@ -21,6 +21,7 @@ pub mod Playing
 pub mod Nodes
 pub mod Marks
 pub mod Telling
+pub mod Freeing
 pub mod Moving
 pub mod Cores
 pub mod Foreseeing
