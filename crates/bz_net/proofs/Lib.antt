@@ -21,7 +21,6 @@ pub mod Playing
 pub mod Nodes
 pub mod Marks
 pub mod Telling
-pub mod Freeing
 pub mod Moving
 pub mod Cores
 pub mod Foreseeing
