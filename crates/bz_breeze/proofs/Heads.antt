@@ -1,12 +1,13 @@
 -- What is read of a list goes by its head.
-use Rattle.std.proofs.Common.{◌≡◌, ℕ, ◌<◌, ◌^◌, List, [], ◌∷◌, true, false, cond, nat_le, Option, Some, None, Ok, Err, refl, sym, ap, ap₂, ◌∙◌, bytes_eq, codes, arith, rules}
+use Rattle.std.proofs.Common.{◌≡◌, ℕ, ◌<◌, ◌^◌, List, ◌∷◌, true, false, cond, nat_le, Some, Ok, Err, refl, sym, ap, ap₂, ◌∙◌, bytes_eq, codes, rules}
 use Rattle.std.proofs.lemmas.Bool.Decides.{nat_tests}
 use Rattle.bz_sexpr.specs.Data.{Datum, leaf, symbol, items}
 use Rattle.bz_sexpr.specs.declared.datum.Span.{Span}
 use Rattle.bz_sexpr.specs.Forms.{items_in, number_at, symbol_at}
 use Rattle.bz_breeze.specs.Turns.{head_and_rest, inside}
-use Rattle.bz_breeze.specs.Forms.{listed_component, component_of, fields_of, number}
+use Rattle.bz_breeze.specs.Forms.{listed_channel, listed_component, component_of, fields_of, number}
 use Rattle.bz_breeze.specs.declared.error.Code.TheVariants.{BadForm}
+use Rattle.bz_model.specs.declared.channel.ChanKind.TheVariants.{Sync}
 use Rattle.bz_breeze.specs.Parts.{Lists, headed_form, components_form}
 
 pub inside_is : (d : Datum) → items_in d ≡ inside d
@@ -36,3 +37,8 @@ component_headed ds h rest e is = let d = head_is ds h rest e in rw (d.1, is) re
 pub components_headed : (lists : Lists) (at : ℕ) (ds : List Datum) (h : List ℕ) (rest : List Datum) → head_and_rest ds ≡ Some (h, rest) → bytes_eq h (codes "ports") ≡ false → bytes_eq h (codes "channels") ≡ false
     → bytes_eq h (codes "components") ≡ true → headed_form lists at ds ≡ components_form lists at rest
 components_headed lists at ds h rest e ports channels is = let d = head_is ds h rest e in rw (d.1, ports, channels, is) refl
+
+pub sync_by_word : (d : Datum) (s : List ℕ) (span : Span) (rest ds : List Datum) → d ≡ symbol_at s span → d ∷ rest ≡ ds → bytes_eq s (codes "sync") ≡ true → listed_channel ds ≡ Ok (record { kind = Sync; width = 0 })
+sync_by_word d s span rest ds e is sync =
+    let whole : ds ≡ leaf (symbol s) span ∷ rest = sym is ∙ ap (λ x. x ∷ rest) e in
+    rw (whole, sync) refl

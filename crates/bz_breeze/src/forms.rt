@@ -1,6 +1,6 @@
 //! The members of a part's lists.
 
-ghost use Rattle.std.specs.Prelude.{◌≡◌, List, ◌∷◌, map, bytes_eq, codes, IfOk, IfErr, Ok, Some};
+ghost use Rattle.std.specs.Prelude.{◌≡◌, List, ◌∷◌, true, map, bytes_eq, codes, IfOk, IfErr, Ok, Some};
 ghost use Rattle.std.specs.List.{filter_map};
 ghost use Rattle.std.specs.Option.{option_map};
 ghost use Rattle.bz_model.specs.Names.{external};
@@ -147,8 +147,38 @@ fn is_sync(head: &[u8]) -> bool
     matches!(head, b"sync")
 }
 
+// Whether a list is headed by the word `sync`. False tells nothing.
+#[tactic(auto, using(crate::proofs::Heads::sync_by_word))]
+#[inline(always)]
+fn begins_with_sync(items: Forms<'_>) -> bool
+    ensures { result ≡ true → listed_channel (forms_view items.entry) ≡ Ok (record { kind = ChanKind.Sync; width = 0 }) }
+{
+    match items.split_first() {
+        Some((first, _)) => match first.word() {
+            Some(head) => is_sync(head),
+            None => false,
+        },
+        None => false,
+    }
+}
+
 /// The channel of `sync ..`, `push W ..` or `pull W ..`.
+#[inline(always)]
 fn listed_channel(items: Forms<'_>) -> Result<Chan, Code>
+    ensures { result ≡ listed_channel (forms_view items.entry) }
+{
+    if begins_with_sync(items) {
+        return Ok(Chan {
+            kind: ChanKind::Sync,
+            width: 0,
+        });
+    }
+    any_channel(items)
+}
+
+/// The same, however the list begins.
+#[inline(never)]
+fn any_channel(items: Forms<'_>) -> Result<Chan, Code>
     ensures { result ≡ listed_channel (forms_view items.entry) }
 {
     let Some((head, rest)) = headed(items) else {

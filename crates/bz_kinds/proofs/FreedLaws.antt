@@ -1,11 +1,10 @@
 -- Which ports a change of states frees, and at which a component can go after it.
-use Rattle.std.proofs.Common.{◌≡◌, ◌≢◌, ◌⊎◌, inl, inr, ℕ, zero, suc, ◌+◌, ◌<◌, ◌≤◌, Bool, true, false, List, Option, Some, None, IsTrue, ◌↔◌, length, get_or, set, map, refl, sym, ap, subst, ◌∙◌, arith}
+use Rattle.std.proofs.Common.{◌≡◌, ◌≢◌, inl, inr, ℕ, zero, suc, ◌<◌, ◌≤◌, Bool, true, false, List, Option, Some, None, IsTrue, ◌↔◌, length, get_or, set, map, refl, sym, ap, subst, ◌∙◌, arith}
 use Rattle.std.proofs.lemmas.Bool.{cases_lt, false≢true}
 use Rattle.std.proofs.lemmas.List.{get_or-set_same, get_or-set_other, get_or_past}
 use Rattle.std.proofs.Math.ListN.{length-set}
 use Rattle.bz_model.specs.declared.channel.Chan.{Chan}
-use Rattle.bz_model.specs.declared.channel.Move.{Move}
-use Rattle.bz_model.specs.Heads.{Component, Proc}
+use Rattle.bz_model.specs.Heads.{Component}
 use Rattle.bz_model.specs.Terms.{Store}
 use Rattle.bz_model.specs.Processes.{member}
 use Rattle.bz_kinds.specs.Ports.{is_due}
@@ -21,7 +20,7 @@ use Rattle.bz_kinds.specs.Row.{is_open}
 use Rattle.bz_kinds.specs.Comp.{IsAt, todo_of}
 use Rattle.bz_kinds.specs.Sense.{cell_sense, enclosing, script_sense, sense, move_by}
 use Rattle.bz_kinds.specs.Ready.{CanGo}
-use Rattle.bz_kinds.specs.Freed.{Frees, FreesIn, IsFreed, IsKept, is_sure}
+use Rattle.bz_kinds.specs.Freed.{Frees, FreesIn, is_sure}
 use Rattle.bz_kinds.proofs.ReadyLaws.{can_go, due_where, goes_by, was_due}
 
 pub frees_unknown : (f : ℕ → Option Bool) (w : List PortState) (p : ℕ) (w' : List PortState) → FreesIn f w p w' Unknown

@@ -1,13 +1,13 @@
 -- What the reader keeps, after each kind of piece.
 use Rattle.std.proofs.Common.{◌≡◌, ℕ, suc, ◌+◌, ◌-◌, ◌<◌, ◌≤◌, get_or, List, [], ◌∷◌, ◌++◌, length, take, drop, refl, sym, ap, ap₂, ◌∙◌, arith, append_assoc, length-append, slice_set}
-use Rattle.std.proofs.lemmas.List.{append-nil}
+use Rattle.std.proofs.lemmas.List.{append-nil, length-set}
 use Rattle.std.proofs.Math.Seq.{set-append_seam, get_or-append_seam}
 use Rattle.bz_sexpr.specs.Bytes.{open_paren, close_paren}
 use Rattle.bz_sexpr.specs.Data.{Datum, leaf, items}
 use Rattle.bz_sexpr.specs.Pieces.{spelling, spelt}
 use Rattle.bz_sexpr.specs.Tokens.{lone}
 use Rattle.bz_sexpr.specs.Views.{list_of, data_of}
-use Rattle.bz_sexpr.specs.Nodes.{row, between, leaf_in}
+use Rattle.bz_sexpr.specs.Nodes.{nodes_of, row, between, leaf_in}
 use Rattle.bz_sexpr.specs.Reading.{Opened, places_of, laid, opening_node, innermost, ReadTo, IsTold, AreTold, AreOpened, SpellsLeaf}
 use Rattle.bz_sexpr.specs.declared.datum.Span.{Span}
 use Rattle.bz_sexpr.specs.declared.node.Node.{Node}
@@ -59,6 +59,26 @@ laid_more (o ∷ os) ds es =
     let own : Node = opening_node o.from (innermost os) (length o.before) in
     ap (λ ns. laid os o.before ++ own ∷ ns) (row-append ds es) ∙ sym (append_assoc (laid os o.before) (own ∷ row ds) (row es))
 
+-- each datum has a node of its own
+length-row : (ds : List Datum) → length ds ≤ length (row ds)
+length-row [] = omega arith
+length-row (d ∷ ds) = omega (arith, length-append (nodes_of d) (row ds), own d, length-row ds)
+  where
+    own : (d : Datum) → 1 ≤ length (nodes_of d)
+    own (leaf l span) = omega arith
+    own (items es span) = omega arith
+
+pub length-laid : (os : List Opened) (ds : List Datum) → length ds ≤ length (laid os ds)
+length-laid [] ds = length-row ds
+length-laid (o ∷ os) ds = omega (arith, length-append (laid os o.before) (opening_node o.from (innermost os) (length o.before) ∷ row ds), length-row ds)
+
+-- there are no more nodes than bytes that are read
+pub few_pushed : (old new : List Node) (n : Node) (at to : ℕ) → new ≡ old ++ n ∷ [] → length old ≤ at → at < to → length new ≤ to
+few_pushed old new n at to is few more = omega (arith, ap length is, length-append old (n ∷ []), few, more)
+
+pub few_written : (nodes : List Node) (k at : ℕ) (n : Node) → length nodes ≤ at → length (slice_set nodes k n) ≤ at + 1
+few_written nodes k at n few = omega (arith, length-set nodes k n, few)
+
 -- ---- a leaf
 
 pub record AddsLeaf (whole rest : List ℕ) (lists : List Opened) (ds : List Datum) (from to : ℕ) : Type 0 where
@@ -109,6 +129,7 @@ pub record Closes (whole after : List ℕ) (lists : List Opened) (inner at : ℕ
   pub told : AreTold whole (data_of ds')
   pub fewer : length lists ≡ length os + 1
   pub counted : length ds' ≡ before + 1
+  pub placed : before ≤ inner
   pub size : inner + 1 + length (row ds) ≡ length nodes
   pub kept : (d : Node) → get_or nodes inner d ≡ opening_node from (innermost os) before
   pub closed : (n : Node) → n ≡ record { from = from; to = at + 1; size = length (row ds); count = length ds } → slice_set nodes inner n ≡ laid os ds'
@@ -135,6 +156,7 @@ closes_list whole rest after (o ∷ os) ds nodes inner at read (opens, before_to
       told = told_push whole o.before d before_told here;
       fewer = omega arith;
       counted = omega (arith, length-append o.before (d ∷ []));
+      placed = omega (arith, inner_is, length-laid os o.before);
       size = omega (arith, inner_is, ap length nodes_are, length-append outer (own ∷ row ds));
       kept = λ m. ap₂ (λ ns k. get_or ns k m) nodes_are inner_is ∙ get_or-append_seam outer own (row ds) m;
       closed = λ m is.

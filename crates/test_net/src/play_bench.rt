@@ -81,12 +81,7 @@ fn make(alloc: Global, play: &mut Play, name: &str, words: &mut Words<'_>) -> Re
 }
 
 // What a play tells of itself.
-fn look(
-    alloc: Global,
-    play: &mut Play,
-    name: &str,
-    words: &mut Words<'_>,
-) -> Result<String, Fail> {
+fn look(alloc: Global, play: &mut Play, name: &str, words: &mut Words<'_>) -> Result<String, Fail> {
     match name {
         "port-at" => show(
             alloc,

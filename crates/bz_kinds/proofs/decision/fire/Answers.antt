@@ -1,4 +1,4 @@
-use Rattle.std.proofs.Common.{◌≡◌, ◌≤◌, ◌<◌, ◌+◌, ◌-◌, suc, refl, sym, subst, arith}
+use Rattle.std.proofs.Common.{◌≡◌, ◌-◌, suc, refl, sym, subst, arith}
 use Rattle.bz_kinds.specs.declared.ports.PortState.TheVariants.{ClosedDue, OpenDue}
 use Rattle.bz_kinds.specs.Ports.{state_at}
 use Rattle.bz_kinds.specs.Decision.{IsPlace}

@@ -1,10 +1,7 @@
-use Rattle.std.proofs.Common.{◌≡◌, ◌+◌, ◌≢◌, ◌<◌, ℕ, inl, inr, refl, arith}
-use Rattle.std.proofs.lemmas.Bool.{cases_lt}
-use Rattle.std.proofs.lemmas.List.{get_or_past}
+use Rattle.std.proofs.Common.{◌≡◌, ◌+◌, ◌≢◌, refl, arith}
 use Rattle.bz_model.specs.Processes.{member}
-use Rattle.bz_kinds.specs.Ports.{state_at}
 use Rattle.bz_kinds.specs.Sense.{enclosing}
-use Rattle.bz_kinds.specs.declared.ports.PortState.TheVariants.{Closed, ClosedDue, OpenDue}
+use Rattle.bz_kinds.specs.declared.ports.PortState.TheVariants.{OpenDue}
 use Rattle.bz_kinds.proofs.InTurnLaws.{leg_turn}
 use Rattle.bz_kinds.proofs.FreedLaws.{frees_waits, quiet_others}
 use Rattle.bz_kinds.proofs.in_turn.ask.Goals as goal

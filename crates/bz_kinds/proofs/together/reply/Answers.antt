@@ -1,11 +1,6 @@
-use Rattle.std.proofs.Common.{◌≡◌, ◌+◌, ◌≢◌, ◌<◌, ℕ, inl, inr, refl, arith}
-use Rattle.std.proofs.lemmas.Bool.{cases_lt}
-use Rattle.std.proofs.lemmas.List.{get_or_past}
-use Rattle.bz_model.specs.Processes.{member}
-use Rattle.bz_kinds.specs.Ports.{state_at}
+use Rattle.std.proofs.Common.{◌≡◌, inl, inr, refl, arith}
 use Rattle.bz_kinds.specs.Sense.{enclosing}
-use Rattle.bz_kinds.specs.declared.ports.PortState.TheVariants.{Closed, ClosedDue, OpenDue}
-use Rattle.bz_kinds.specs.Together.{busy_legs}
+use Rattle.bz_kinds.specs.declared.ports.PortState.TheVariants.{ClosedDue}
 use Rattle.std.proofs.Common.{sym, ◌∙◌}
 use Rattle.bz_kinds.proofs.Counts.{legs-zero}
 use Rattle.bz_kinds.proofs.FreedLaws.{frees_waits, quiet_legs}

@@ -1,44 +1,71 @@
-use Rattle.std.proofs.Common.{◌≡◌, ◌<◌, ◌∷◌, ◌++◌, length, refl, sym, ap, ◌∙◌, arith, rules, length-append}
-use Rattle.bz_sexpr.specs.Bytes.{semicolon, quote}
-use Rattle.bz_sexpr.specs.Pieces.{blank, comment}
+use Rattle.std.proofs.Common.{◌≡◌, ◌+◌, ◌∷◌, ◌++◌, [], length, drop, refl, sym, ap, ◌∙◌, subst, arith, rules, length-append}
+use Rattle.bz_sexpr.specs.Bytes.{quote}
+use Rattle.bz_sexpr.specs.Pieces.{blank}
 use Rattle.bz_sexpr.specs.Spelling.{IsCutText}
-use Rattle.bz_sexpr.specs.Reading.{places_of}
-use Rattle.bz_sexpr.proofs.Readings.{front_at, read_gap, place_of, run_byte, spells_quoted, spells_run}
+use Rattle.bz_sexpr.specs.Reading.{places_of, ClosesText, SpellsLeaf}
+use Rattle.bz_sexpr.proofs.Readings.{front_at, read_gap, semicolon_left, quoted_rest, spells_quoted, spells_run, place_here, behind_front, front_within}
 use Rattle.bz_sexpr.proofs.Steps.{opened_less}
 use Rattle.bz_sexpr.proofs.reader.Reader.read_piece.Goals as goal
-
-pub add_leaf-requires-clause-first : goal.add_leaf-requires-clause-first
-add_leaf-requires-clause-first c =
-    spells_quoted _ _ _ _ (c.requires.first ∙ ap (λ b. b ∷ c.args.after.now) c.in-34.is) c.in-Some.ensures.closed
-
-pub add_leaf-requires-in_default-2-clause-first : goal.add_leaf-requires-in_default-2-clause-first
-add_leaf-requires-in_default-2-clause-first c =
-    spells_run _ _ _ _ c.args.first c.requires.first c.split_run.ensures.whole c.split_run.ensures.longest
-    (run_byte c.args.first (sym c.is_blank.ensures ∙ c.if-is_blank.false) (λ e. search rules) (λ e. search rules) (λ e. search rules) (λ e. search rules))
-    (λ e. search rules) (λ e. search rules)
 
 pub returns-in-None-clause-err : goal.returns-in-None-clause-err
 returns-in-None-clause-err c =
     let r = c.requires.reading in
-    let first : c.args.self.now.rest.now ≡ quote ∷ c.args.after.now = c.requires.first ∙ ap (λ b. b ∷ c.args.after.now) c.in-34.is in
-    let cut : IsCutText c.args.after.now = search rules in
-    (c.args.after.now, places_of r.lists, front_at r.read first, cut, omega (arith, ap length first, c.place.ensures))
+    let after = drop (c.args.self.now.at + 1) c.args.self.now.whole.now in
+    let first : drop c.args.self.now.at c.args.self.now.whole.now ≡ quote ∷ after = c.requires.first ∙ ap (λ b. b ∷ after) c.in-34.is in
+    let cut : IsCutText after = search rules in
+    (after, places_of r.lists, front_at r.read first, cut, omega (arith, ap length first, place_here _ _ r.within))
 
-pub returns-in-59-clause-ok : goal.returns-in-59-clause-ok
-returns-in-59-clause-ok c =
+pub add_leaf-requires-clause-first : goal.add_leaf-requires-clause-first
+add_leaf-requires-clause-first c =
+    let whole = c.args.self.now.whole.now in
+    let at = c.args.self.now.at in
+    let run = c.split_run.result.0.now in
+    let rest = c.split_run.result.1.now in
+    let cut : drop (at + 1) whole ≡ run ++ rest = sym (c.split_run.ensures.whole ∙ c.behind.ensures) in
+    let end : drop (at + length run + 1) whole ≡ rest = behind_front whole run rest (at + 1) _ cut (omega arith) in
+    subst (SpellsLeaf (drop at whole)) (sym end) (spells_run _ _ run rest c.args.first c.requires.first (sym cut) c.split_run.ensures.longest (sym c.is_run_byte.ensures ∙ c.if-is_run_byte.true))
+
+pub add_leaf-requires-clause-within : goal.add_leaf-requires-clause-within
+add_leaf-requires-clause-within c =
+    let whole = c.args.self.now.whole.now in
+    let run = c.split_run.result.0.now in
+    let rest = c.split_run.result.1.now in
+    omega (arith, front_within whole run rest (c.args.self.now.at + 1) (omega (arith, c.requires.within)) (sym (c.split_run.ensures.whole ∙ c.behind.ensures)))
+
+pub add_leaf-requires-in-Some-clause-first : goal.add_leaf-requires-in-Some-clause-first
+add_leaf-requires-in-Some-clause-first c =
+    let whole = c.args.self.now.whole.now in
+    let at = c.args.self.now.at in
+    let raw = c.in-Some.raw.now in
+    let rest = c.in-Some._rest.now in
+    let after = drop (at + 1) whole in
+    let first : drop at whole ≡ quote ∷ after = c.requires.first ∙ ap (λ b. b ∷ after) c.in-34.is in
+    let closes = subst (λ s. ClosesText s raw rest) c.behind-in-34.ensures c.in-Some.ensures.closed in
+    let end : drop (at + length raw + 2) whole ≡ rest = behind_front whole (quote ∷ (raw ++ quote ∷ [])) rest at _ (quoted_rest _ after raw rest first closes.whole) (omega (arith, length-append raw (quote ∷ []))) in
+    subst (SpellsLeaf (drop at whole)) (sym end) (spells_quoted _ _ _ _ first closes)
+
+pub add_leaf-requires-in-Some-clause-within : goal.add_leaf-requires-in-Some-clause-within
+add_leaf-requires-in-Some-clause-within c =
+    let whole = c.args.self.now.whole.now in
+    let raw = c.in-Some.raw.now in
+    let rest = c.in-Some._rest.now in
+    let closes = subst (λ s. ClosesText s raw rest) c.behind-in-34.ensures c.in-Some.ensures.closed in
+    omega (arith, front_within whole raw (quote ∷ rest) (c.args.self.now.at + 1) (omega (arith, c.requires.within)) closes.whole)
+
+pub returns-then-is_blank-clause-ok : goal.returns-then-is_blank-clause-ok
+returns-then-is_blank-clause-ok c =
     let r = c.requires.reading in
-    let line = c.split_line.result.0.now in
-    let last = c.split_line.result.1.now in
-    let next : c.args.self.now.rest.now ≡ semicolon ∷ (line ++ last) = c.requires.first ∙ ap (λ b. b ∷ c.args.after.now) c.in-59.is ∙ ap (λ s. semicolon ∷ s) (sym c.split_line.ensures.whole) in
-    let at = place_of r.read in
-    let shorter : length last < length c.args.self.now.rest.now = omega (arith, ap length next, length-append line last) in
+    let at = c.args.self.now.at in
+    let is = sym c.is_blank.ensures ∙ c.if-is_blank.true in
     record {
       reading = record {
         short = r.short;
         lists = r.lists;
         ds = r.ds;
-        read = read_gap _ _ _ _ _ (comment line) at.0 r.read next at.1 c.split_line.ensures.longest refl;
-        opened = opened_less _ _ _ r.lists r.opened (omega (arith, shorter));
+        within = omega (arith, c.requires.within);
+        few = omega (arith, r.few);
+        read = read_gap _ _ _ _ _ (blank c.args.first) at r.read c.requires.first (place_here c.args.self.now.whole.now at r.within) is refl;
+        opened = opened_less _ _ _ r.lists r.opened (omega (arith, ap length c.requires.first));
         told = r.told;
         nodes = r.nodes;
         depth = r.depth;
@@ -47,28 +74,11 @@ returns-in-59-clause-ok c =
         counted = r.counted;
       };
       same = refl;
-      shorter = shorter;
+      further = omega arith;
     }
 
-pub returns-in_default-clause-ok : goal.returns-in_default-clause-ok
-returns-in_default-clause-ok c =
-    let r = c.requires.reading in
-    let at = place_of r.read in
-    let shorter : length c.args.after.now < length c.args.self.now.rest.now = omega (arith, ap length c.requires.first) in
-    record {
-      reading = record {
-        short = r.short;
-        lists = r.lists;
-        ds = r.ds;
-        read = read_gap _ _ _ _ _ (blank c.args.first) at.0 r.read c.requires.first at.1 (search rules) refl;
-        opened = opened_less _ _ _ r.lists r.opened (omega (arith, shorter));
-        told = r.told;
-        nodes = r.nodes;
-        depth = r.depth;
-        shallow = r.shallow;
-        inner = r.inner;
-        counted = r.counted;
-      };
-      same = refl;
-      shorter = shorter;
-    }
+pub skip_comment-requires-clause-first : goal.skip_comment-requires-clause-first
+skip_comment-requires-clause-first c =
+    let after = drop (c.args.self.now.at + 1) c.args.self.now.whole.now in
+    let is = semicolon_left c.args.first (sym c.is_run_byte.ensures ∙ c.if-is_run_byte.false) (sym c.is_blank.ensures ∙ c.if-is_blank.false) (λ e. search rules) (λ e. search rules) (λ e. search rules) in
+    c.requires.first ∙ ap (λ b. b ∷ after) is
