@@ -9,9 +9,13 @@ verdict_listed-requires-clause-listed c = ap (λ (p : Progress). p.listed) c.lis
 
 pub verdict_listed-requires-clause-followed : goal.verdict_listed-requires-clause-followed
 verdict_listed-requires-clause-followed c =
-    let (w, past, text, f) = c.requires.followed in
-    (w, past, text, subst (λ (p : Progress). FollowsText c.args.names.now w past p text c.args.rest.now c.args.followed) (sym c.list_clashes.ensures)
-    (follows_listed c.args.names.now w past c.args.net.now text c.args.rest.now c.args.followed f))
+    let (w, past, text, f) = c.requires.followed in (
+      w,
+      past,
+      text,
+      subst (λ (p : Progress). FollowsText c.args.names.now w past p text c.args.rest.now c.args.followed) (sym c.list_clashes.ensures)
+          (follows_listed c.args.names.now w past c.args.net.now text c.args.rest.now c.args.followed f),
+    )
 
 pub returns-clause-follows : goal.returns-clause-follows
 returns-clause-follows c w past text f =
