@@ -20,6 +20,7 @@ pub mod Playing
 pub mod Nodes
 pub mod Marks
 pub mod Telling
+pub mod Freeing
 pub mod Moving
 pub mod Cores
 pub mod Foreseeing

@@ -2,12 +2,13 @@
 
 ghost use Rattle.std.specs.Prelude.{◌≡◌, ◌≤◌, ◌<◌, ◌*◌, ◌^◌, ℕ, suc, false, length, map, slice_set, if◌then◌else◌, ◌↔◌, IsTrue, MatchOption, MatchBool, Option, IfSome, IfNone, IfOk};
 ghost use Rattle.bz_model.specs.declared.channel.Phase.{Phase};
-ghost use Rattle.bz_model.specs.Heads.{CanMove, Head, HasOneHead, IsHeadOn, Moves, Turns};
+ghost use Rattle.bz_model.specs.Heads.{CanMove, Head, HasOneHead, IsHeadOn, Moves, Proc, Turns};
 ghost use Rattle.bz_kinds.specs.Riding.{riding};
 ghost use Rattle.bz_model.specs.Nets.{State, Step, StepsAt};
 ghost use Rattle.bz_model.specs.declared.channel.Move.{Move};
 ghost use Rattle.bz_flat.specs.Wires.{IsEnd, StandsIn, ends_in};
 ghost use Rattle.bz_flat.specs.Flats.{site_of};
+ghost use Rattle.bz_kinds.specs.Freed.{Frees};
 ghost use Rattle.bz_kinds.specs.Ready.{CanGo};
 ghost use Rattle.bz_model.specs.Runs.{CanStep, IsLowest};
 ghost use Rattle.bz_net.specs.Keeping.{comp_at, state_of, Exact, Placed, Refreshed, RefreshedEnds, MarksAll, CommandedAt, phase_in};
@@ -26,7 +27,7 @@ use crate::ready_row::{Keeping, ReadyRow};
 use bz_arena::Arena;
 use bz_bits::PortBits;
 use bz_flat::{Ends, FlatComp};
-use bz_kinds::{Comp, next_due, ready_word};
+use bz_kinds::{Comp, Freed, next_due, ready_word};
 use bz_model::{Move, Phase, Reply, Value, Verb};
 use std::alloc::{AllocError, Global};
 
@@ -430,10 +431,39 @@ fn move_node(node: &mut Node, port: u32, rides: Option<Value>) -> (Move, Option<
     ensures goes { MatchBool result.2 (Goes node.new.comp node.new.here) (NoneGoes node.new.comp node.new.here) }
     ensures turning { IsTurning node.new.comp }
 {
-    let (mv, value) = bz_kinds::fire(&mut node.comp, port, rides);
+    let (mv, value, freed) = bz_kinds::fire_freeing(&mut node.comp, port, rides);
     leave(&mut node.here, port, mv);
-    let goes = can_go(&node.comp, &node.here, port);
+    let goes = goes_after(&node.comp, &node.here, port, freed);
     (mv, value, goes)
+}
+
+// Whether a component can move by what it is told, after a move of its own at `port` that freed these ports: at one of them, or,
+// where it waits, at `port` once what it waits for is there. Else its ports are looked at.
+#[inline(always)]
+fn goes_after(comp: &Comp, here: &PortBits, port: u32, freed: Freed) -> bool
+    requires room { length comp.now.chans < 64 * length here.now }
+    requires few { length here.now ≤ 2 ^ 26 }
+    requires frees { (old : Proc) × Frees old port comp.now.proc freed }
+    ensures goes { MatchBool result (Goes comp.now here.now) (NoneGoes comp.now here.now) }
+    ensures turning { IsTurning comp.now }
+{
+    // A look at it brings what its type says of its moves.
+    let _look = ready_word(comp, 0, 0);
+    match freed {
+        Freed::Port(_) => true,
+        Freed::Behind(last) if last > 1 => true,
+        Freed::Waits if port < 64 => is_told(here, port),
+        _ => can_go(comp, here, port),
+    }
+}
+
+// The bit of one of the first 64 ports.
+#[inline(always)]
+fn is_told(here: &PortBits, port: u32) -> bool
+    requires { port < 64 }
+    ensures { result ≡ flag_of here.now port }
+{
+    (here.word(0) >> port) & 1 == 1
 }
 
 // What a move leaves at its own port.
