@@ -89,7 +89,7 @@ unsensed Bar n left w s ok zero e = ok.none
 unsensed Bar n left w s ok (suc i) e = absurd (cc)
 
 -- whether the move that is due can be made
-abbrev can_go : Option Move → Bool → Bool
+abbrev pub can_go : Option Move → Bool → Bool
 can_go None here = false
 can_go (Some mv) here = is_free mv here
 
@@ -143,6 +143,10 @@ module _ (plan : Plan) (n left : ℕ) (w : List PortState) (s : Store) (chans : 
         λ t. (h, on, subst (λ (m : Move). IsTrue (is_free m here)) (sym same) t),
         λ (k, at, free). let e = next-only plan n left w s chans c view ok p (Some mv) is k at in let f : mv ≡ k.move = cc in subst (λ (m : Move). IsTrue (is_free m here)) (sym f) free,
       )
+
+  -- so by the port's state and sense
+  pub goes_by : (p : ℕ) (here : Bool) → IsTrue (can_go (move_by (sense plan n p) (get_or w p Closed)) here) ↔ CanGo c.proc p here
+  goes_by p here = subst (λ (o : Option Move). IsTrue (can_go o here) ↔ CanGo c.proc p here) (due-move plan n left p (get_or w p Closed)) (goes_on p here (next_at p) refl)
 
   ready_by : (at here word : ℕ) (ports : PortWord) → IsWordOf w at ports
       → ((i : ℕ) → i < 64 → (bit_at word i == 1) ≡ goes (bit_at ports.due i == 1) (bit_at ports.opened i == 1) (is_told (sense plan n (64 * at + i))) (bit_at here i == 1))

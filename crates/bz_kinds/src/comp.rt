@@ -11,6 +11,8 @@ ghost use Rattle.bz_model.specs.Widths.{Fitted, FitsAt, HoldsAt};
 ghost use Rattle.bz_kinds.specs.declared.ports.PortState.TheVariants.{Closed, ClosedDue};
 ghost use Rattle.bz_kinds.specs.Row.{seen};
 ghost use Rattle.bz_kinds.specs.Moves.{AreEnabled};
+ghost use Rattle.bz_kinds.specs.Sense.{sense};
+ghost use Rattle.bz_kinds.specs.Freed.{Frees, FreesIn};
 ghost use Rattle.bz_kinds.specs.Ready.{AreReady, CanGo, NoneDue};
 ghost use Rattle.bz_kinds.specs.Start.{BeginsAt, IsAllDue, IsDueBut, AreMembersDue};
 ghost use Rattle.bz_kinds.specs.Kept.{plan_of};
@@ -20,6 +22,7 @@ ghost use Rattle.bz_kinds.specs.Riding.{held, riding, taken};
 ghost use Rattle.bz_kinds.specs.Comp.{IsFor, plan_due};
 ghost use Rattle.bz_kinds.specs.Turn.{CanTurn, IsRare, HasMade, HasGone, KeepsPlan};
 
+use crate::freed::Freed;
 use crate::kept::KeptPlan;
 use crate::kept_lists::{KeptChans, KeptSlots};
 use crate::move_iter::MoveIter;
@@ -166,17 +169,39 @@ pub fn fire(comp: &mut Comp, port: u32, rides: Option<Value>) -> (Move, Option<V
     ensures fits { (phase : Phase) → CanMove comp.old.proc port phase → rides ≡ riding phase →
         Fitted comp.old → HoldsAt comp.old.chans port phase → FitsAt comp.old.chans port result.0 result.1 × Fitted comp.new }
 {
+    let (mv, value, _) = fire_freeing(comp, port, rides);
+    (mv, value)
+}
+
+/// The same, with the ports that the move frees.
+#[inline(always)]
+pub fn fire_freeing(
+    comp: &mut Comp,
+    port: u32,
+    rides: Option<Value>,
+) -> (Move, Option<Value>, Freed)
+    requires { (phase : Phase) × CanMove comp.old.proc port phase × (rides ≡ riding phase) }
+    ensures moves { (phase : Phase) → CanMove comp.old.proc port phase → rides ≡ riding phase →
+        Moves comp.old.proc port phase result.0 result.1 comp.new.proc }
+    ensures turns { Turns comp.old port result.0 comp.new }
+    ensures one { HasOneHead comp.old.proc.todo }
+    ensures chans { comp.new.chans ≡ comp.old.chans }
+    ensures fits { (phase : Phase) → CanMove comp.old.proc port phase → rides ≡ riding phase →
+        Fitted comp.old → HoldsAt comp.old.chans port phase → FitsAt comp.old.chans port result.0 result.1 × Fitted comp.new }
+    ensures frees { Frees comp.old.proc port comp.new.proc result.2 }
+{
     turn(&mut comp.proc, port, rides)
 }
 
 // Makes the move that is due at a port. Of the families that most moves are of, a move is told, sent and followed by the ports
 // in one look at the port. Each arm borrows its own fields, so that no address is worked out before the plan is known.
 #[inline(always)]
-fn turn(proc: &mut Process, port: u32, rides: Option<Value>) -> (Move, Option<Value>)
+fn turn(proc: &mut Process, port: u32, rides: Option<Value>) -> (Move, Option<Value>, Freed)
     requires { CanTurn proc.old port rides }
     ensures made { HasMade proc.old port rides proc.new result.0 result.1 }
     ensures goes { HasGone proc.old port proc.new }
     ensures kept { KeepsPlan proc.old proc.new }
+    ensures frees { FreesIn (sense (plan_of proc.old.plan) proc.old.size) proc.old.ports port proc.new.ports result.2 }
 {
     match &proc.plan {
         KeptPlan::InTurn(_) | KeptPlan::OwnInTurn(_) => {
@@ -194,7 +219,8 @@ fn turn(proc: &mut Process, port: u32, rides: Option<Value>) -> (Move, Option<Va
         }
         KeptPlan::Meeting(meet) => {
             let (ports, left, slots) = (&mut proc.ports, &mut proc.left, &mut proc.slots);
-            meeting::fire(meet.get(), ports, left, proc.size, port, slots, rides)
+            let (mv, value) = meeting::fire(meet.get(), ports, left, proc.size, port, slots, rides);
+            (mv, value, Freed::Unknown)
         }
         KeptPlan::OneByOne(_)
         | KeptPlan::Once(_)
@@ -203,7 +229,10 @@ fn turn(proc: &mut Process, port: u32, rides: Option<Value>) -> (Move, Option<Va
         | KeptPlan::Signalled
         | KeptPlan::Choice(_)
         | KeptPlan::Decision
-        | KeptPlan::Bar => turn_far(proc, port, rides),
+        | KeptPlan::Bar => {
+            let (mv, value) = turn_far(proc, port, rides);
+            (mv, value, Freed::Unknown)
+        }
     }
 }
 
@@ -268,7 +297,8 @@ fn turn_rare(proc: &mut Process, port: u32, rides: Option<Value>) -> (Move, Opti
     match &proc.plan {
         KeptPlan::OneByOne(script) => {
             let (ports, left, slots) = (&mut proc.ports, &mut proc.left, &mut proc.slots);
-            script::fire(*script, ports, left, port, slots, rides)
+            let (mv, value, _) = script::fire(*script, ports, left, port, slots, rides);
+            (mv, value)
         }
         KeptPlan::Once(row) => {
             let (ports, left, slots) = (&mut proc.ports, &mut proc.left, &mut proc.slots);

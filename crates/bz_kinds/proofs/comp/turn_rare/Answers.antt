@@ -7,11 +7,11 @@ use Rattle.bz_kinds.proofs.PlanLaws.{due-of}
 use Rattle.bz_kinds.proofs.comp.turn_rare.Goals as goal
 
 pub returns-in-OneByOne-clause-made : goal.returns-in-OneByOne-clause-made
-returns-in-OneByOne-clause-made c d e = c.fire.ensures.made d (due-of _ _ (ap plan_of c.in-OneByOne.is) c.args.proc.now.size c.args.proc.now.left c.args.port _ d e)
+returns-in-OneByOne-clause-made c d e = c.fire-mv.ensures.made d (due-of _ _ (ap plan_of c.in-OneByOne.is) c.args.proc.now.size c.args.proc.now.left c.args.port _ d e)
 
 pub returns-in-Once-clause-made : goal.returns-in-Once-clause-made
 returns-in-Once-clause-made c d e =
-    c.fire-in-Once.ensures.made d (due-of _ _ (ap plan_of c.in-Once.is ∙ ap (λ (row : Row). Once row) (sym c.get.ensures)) c.args.proc.now.size c.args.proc.now.left c.args.port _ d e)
+    c.fire.ensures.made d (due-of _ _ (ap plan_of c.in-Once.is ∙ ap (λ (row : Row). Once row) (sym c.get.ensures)) c.args.proc.now.size c.args.proc.now.left c.args.port _ d e)
 
 pub returns-in-Select-clause-made : goal.returns-in-Select-clause-made
 returns-in-Select-clause-made c d e = c.fire-in-Select.ensures.made d (due-of _ _ (ap plan_of c.in-Select.is) c.args.proc.now.size c.args.proc.now.left c.args.port _ d e)

@@ -8,11 +8,11 @@ returns-then-eq-clause-steps c =
     let (d, e, narrow) = c.requires.due in
     let ok = going c.args.row.now _ _ _ _ d c.requires.place e in
     let is : c.get.result ≡ OpenDue = search rules in
-    rw c.set.ensures (once-over c.args.row.now _ _ _ _ _ _ ok c.fire-made.ensures.steps (sym c.get.ensures ∙ is))
+    rw c.set.ensures (once-over c.args.row.now _ _ _ _ _ _ ok c.fire-mv.ensures.steps (sym c.get.ensures ∙ is))
 
 pub returns-else-eq-clause-steps : goal.returns-else-eq-clause-steps
 returns-else-eq-clause-steps c =
     let (d, e, narrow) = c.requires.due in
     let ok = going c.args.row.now _ _ _ _ d c.requires.place e in
     let not : c.get.result ≡ OpenDue → ⊥ = search rules in
-    once-on c.args.row.now _ _ _ _ _ _ ok c.fire-made.ensures.steps d e (λ is. not (c.get.ensures ∙ is))
+    once-on c.args.row.now _ _ _ _ _ _ ok c.fire-mv.ensures.steps d e (λ is. not (c.get.ensures ∙ is))
