@@ -197,7 +197,7 @@ pub fn fire_freeing(
 // in one look at the port. Each arm borrows its own fields, so that no address is worked out before the plan is known.
 #[inline(always)]
 fn turn(proc: &mut Process, port: u32, rides: Option<Value>) -> (Move, Option<Value>, Freed)
-    requires { CanTurn proc.old port rides }
+    requires { CanTurn proc.old port }
     ensures made { HasMade proc.old port rides proc.new result.0 result.1 }
     ensures goes { HasGone proc.old port proc.new }
     ensures kept { KeepsPlan proc.old proc.new }
@@ -240,7 +240,7 @@ fn turn(proc: &mut Process, port: u32, rides: Option<Value>) -> (Move, Option<Va
 #[inline(always)]
 fn turn_far(proc: &mut Process, port: u32, rides: Option<Value>) -> (Move, Option<Value>)
     requires rare { IsRare (plan_of proc.old.plan) }
-    requires due { CanTurn proc.old port rides }
+    requires due { CanTurn proc.old port }
     ensures made { HasMade proc.old port rides proc.new result.0 result.1 }
     ensures goes { HasGone proc.old port proc.new }
     ensures kept { KeepsPlan proc.old proc.new }
@@ -254,7 +254,7 @@ fn turn_far(proc: &mut Process, port: u32, rides: Option<Value>) -> (Move, Optio
 #[inline(never)]
 fn turn_held(proc: &mut Process, port: u32, rides: bool, value: &mut Value) -> (Move, bool)
     requires rare { IsRare (plan_of proc.old.plan) }
-    requires due { CanTurn proc.old port (held rides value.old) }
+    requires due { CanTurn proc.old port }
     ensures made { HasMade proc.old port (held rides value.old) proc.new result.0 (held result.1 value.new) }
     ensures goes { HasGone proc.old port proc.new }
     ensures kept { KeepsPlan proc.old proc.new }
@@ -289,7 +289,7 @@ fn held(is_there: bool, value: Value) -> Option<Value>
 #[inline(always)]
 fn turn_rare(proc: &mut Process, port: u32, rides: Option<Value>) -> (Move, Option<Value>)
     requires rare { IsRare (plan_of proc.old.plan) }
-    requires due { CanTurn proc.old port rides }
+    requires due { CanTurn proc.old port }
     ensures made { HasMade proc.old port rides proc.new result.0 result.1 }
     ensures goes { HasGone proc.old port proc.new }
     ensures kept { KeepsPlan proc.old proc.new }
