@@ -4,7 +4,7 @@ use Rattle.bz_model.specs.declared.channel.Move.{Move}
 use Rattle.bz_kinds.specs.declared.comp.Process.{Process}
 use Rattle.bz_kinds.specs.Ports.{state_at}
 use Rattle.bz_kinds.specs.declared.row.Plan.{Plan}
-use Rattle.bz_kinds.specs.declared.row.Plan.TheVariants.{InTurn, Together, Cells, Meeting}
+use Rattle.bz_kinds.specs.declared.row.Plan.TheVariants.{InTurn, Together, Cells, OneByOne, Choice, Meeting}
 use Rattle.bz_kinds.specs.Row.{Due}
 use Rattle.bz_kinds.specs.Riding.{Made}
 use Rattle.bz_kinds.specs.Kept.{plan_of}
@@ -22,6 +22,8 @@ abbrev pub IsRare : Plan → Type 0
 IsRare (InTurn row) = ⊥
 IsRare (Together row) = ⊥
 IsRare Cells = ⊥
+IsRare (OneByOne script) = ⊥
+IsRare (Choice mix) = ⊥
 IsRare (Meeting meet) = ⊥
 IsRare plan = ⊤
 

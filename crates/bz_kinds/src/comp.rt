@@ -217,17 +217,24 @@ fn turn(proc: &mut Process, port: u32, rides: Option<Value>) -> (Move, Option<Va
             let (ports, left, slots) = (&mut proc.ports, &mut proc.left, &mut proc.slots);
             script::fire(Script::Loop, ports, left, port, slots, rides)
         }
+        KeptPlan::OneByOne(script) => {
+            let (ports, left, slots) = (&mut proc.ports, &mut proc.left, &mut proc.slots);
+            script::fire(*script, ports, left, port, slots, rides)
+        }
         KeptPlan::Meeting(meet) => {
             let (ports, left, slots) = (&mut proc.ports, &mut proc.left, &mut proc.slots);
             let (mv, value) = meeting::fire(meet.get(), ports, left, proc.size, port, slots, rides);
             (mv, value, Freed::Unknown)
         }
-        KeptPlan::OneByOne(_)
-        | KeptPlan::Once(_)
+        KeptPlan::Choice(mix) => {
+            let (ports, left, slots) = (&mut proc.ports, &mut proc.left, &mut proc.slots);
+            let (mv, value) = choice::fire(mix.get(), ports, left, proc.size, port, slots, rides);
+            (mv, value, Freed::Unknown)
+        }
+        KeptPlan::Once(_)
         | KeptPlan::Select(_)
         | KeptPlan::Indexed(_)
         | KeptPlan::Signalled
-        | KeptPlan::Choice(_)
         | KeptPlan::Decision
         | KeptPlan::Bar => {
             let (mv, value) = turn_far(proc, port, rides);
@@ -236,7 +243,7 @@ fn turn(proc: &mut Process, port: u32, rides: Option<Value>) -> (Move, Option<Va
     }
 }
 
-// The same of a plan that most moves are not of. What is called is small in its caller: the value goes there and back by its place.
+// The same of a plan that few moves are of. What is called is small in its caller: the value goes there and back by its place.
 #[inline(always)]
 fn turn_far(proc: &mut Process, port: u32, rides: Option<Value>) -> (Move, Option<Value>)
     requires rare { IsRare (plan_of proc.old.plan) }
@@ -295,11 +302,6 @@ fn turn_rare(proc: &mut Process, port: u32, rides: Option<Value>) -> (Move, Opti
     ensures kept { KeepsPlan proc.old proc.new }
 {
     match &proc.plan {
-        KeptPlan::OneByOne(script) => {
-            let (ports, left, slots) = (&mut proc.ports, &mut proc.left, &mut proc.slots);
-            let (mv, value, _) = script::fire(*script, ports, left, port, slots, rides);
-            (mv, value)
-        }
         KeptPlan::Once(row) => {
             let (ports, left, slots) = (&mut proc.ports, &mut proc.left, &mut proc.slots);
             once::fire(row.get(), ports, left, proc.size, port, slots, rides)
@@ -315,10 +317,6 @@ fn turn_rare(proc: &mut Process, port: u32, rides: Option<Value>) -> (Move, Opti
         KeptPlan::Signalled => {
             let (ports, slots) = (&mut proc.ports, &mut proc.slots);
             signalled::fire(ports, proc.size, port, slots, rides)
-        }
-        KeptPlan::Choice(mix) => {
-            let (ports, left, slots) = (&mut proc.ports, &mut proc.left, &mut proc.slots);
-            choice::fire(mix.get(), ports, left, proc.size, port, slots, rides)
         }
         KeptPlan::Decision => {
             let (ports, left, slots) = (&mut proc.ports, &mut proc.left, &mut proc.slots);

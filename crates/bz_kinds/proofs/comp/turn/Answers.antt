@@ -1,8 +1,9 @@
 use Rattle.std.proofs.Common.{rules, ◌≡◌, Some, sym, ap, subst, ◌∙◌}
 use Rattle.bz_kinds.specs.declared.row.Meet.{Meet}
+use Rattle.bz_kinds.specs.declared.row.Mix.{Mix}
 use Rattle.bz_kinds.specs.declared.row.Script.{Script}
 use Rattle.bz_kinds.specs.declared.row.Script.TheVariants.{Loop}
-use Rattle.bz_kinds.specs.declared.row.Plan.TheVariants.{InTurn, Together, Cells, OneByOne, Meeting}
+use Rattle.bz_kinds.specs.declared.row.Plan.TheVariants.{InTurn, Together, Cells, OneByOne, Choice, Meeting}
 use Rattle.bz_kinds.specs.declared.comp.Process.{Process}
 use Rattle.bz_kinds.specs.Kept.{plan_of}
 use Rattle.bz_kinds.specs.KeptLists.{slots_of}
@@ -43,8 +44,15 @@ returns-in-Meeting-clause-made c d e =
     c.fire-mv.ensures.made d (due-of _ _ (ap plan_of c.in-Meeting.is ∙ ap (λ (meet : Meet). Meeting meet) (sym c.get.ensures)) c.args.proc.now.size c.args.proc.now.left c.args.port _ d e)
 
 pub returns-in-OneByOne-clause-made : goal.returns-in-OneByOne-clause-made
-returns-in-OneByOne-clause-made c =
-    let same : c.in-OneByOne.match-proc-own.proc ≡ c.args.proc.now = search rules in
+returns-in-OneByOne-clause-made c d e = c.fire-in-OneByOne.ensures.made d (due-of _ _ (ap plan_of c.in-OneByOne.is) c.args.proc.now.size c.args.proc.now.left c.args.port _ d e)
+
+pub returns-in-Choice-clause-made : goal.returns-in-Choice-clause-made
+returns-in-Choice-clause-made c d e =
+    c.fire-mv-in-Choice.ensures.made d (due-of _ _ (ap plan_of c.in-Choice.is ∙ ap (λ (mix : Mix). Choice mix) (sym c.get-in-Choice.ensures)) c.args.proc.now.size c.args.proc.now.left c.args.port _ d e)
+
+pub returns-in-Once-clause-made : goal.returns-in-Once-clause-made
+returns-in-Once-clause-made c =
+    let same : c.in-Once.match-proc-own.proc ≡ c.args.proc.now = search rules in
     subst (λ (it : Process). HasMade it c.args.port c.args.rides c.turn_far-mv.new.proc c.turn_far-mv.result.0 c.turn_far-mv.result.1) same c.turn_far-mv.ensures.made
 
 pub returns-in-InTurn-clause-frees : goal.returns-in-InTurn-clause-frees
@@ -71,4 +79,10 @@ pub returns-in-Meeting-clause-frees : goal.returns-in-Meeting-clause-frees
 returns-in-Meeting-clause-frees c = frees_unknown _ _ _ _
 
 pub returns-in-OneByOne-clause-frees : goal.returns-in-OneByOne-clause-frees
-returns-in-OneByOne-clause-frees c = frees_unknown _ _ _ _
+returns-in-OneByOne-clause-frees c = frees_as _ (OneByOne c.in-OneByOne.field-0) c.args.proc.now.size c.args.port _ _ _ (ap plan_of c.in-OneByOne.is) c.fire-in-OneByOne.ensures.frees
+
+pub returns-in-Choice-clause-frees : goal.returns-in-Choice-clause-frees
+returns-in-Choice-clause-frees c = frees_unknown _ _ _ _
+
+pub returns-in-Once-clause-frees : goal.returns-in-Once-clause-frees
+returns-in-Once-clause-frees c = frees_unknown _ _ _ _

@@ -1,13 +1,9 @@
 use Rattle.std.proofs.Common.{◌≡◌, sym, ap, ◌∙◌}
-use Rattle.bz_kinds.specs.declared.row.Mix.{Mix}
 use Rattle.bz_kinds.specs.declared.row.Row.{Row}
-use Rattle.bz_kinds.specs.declared.row.Plan.TheVariants.{Once, Choice}
+use Rattle.bz_kinds.specs.declared.row.Plan.TheVariants.{Once}
 use Rattle.bz_kinds.specs.Kept.{plan_of}
 use Rattle.bz_kinds.proofs.PlanLaws.{due-of}
 use Rattle.bz_kinds.proofs.comp.turn_rare.Goals as goal
-
-pub returns-in-OneByOne-clause-made : goal.returns-in-OneByOne-clause-made
-returns-in-OneByOne-clause-made c d e = c.fire-mv.ensures.made d (due-of _ _ (ap plan_of c.in-OneByOne.is) c.args.proc.now.size c.args.proc.now.left c.args.port _ d e)
 
 pub returns-in-Once-clause-made : goal.returns-in-Once-clause-made
 returns-in-Once-clause-made c d e =
@@ -21,10 +17,6 @@ returns-in-Indexed-clause-made c d e = c.fire-in-Indexed.ensures.made d (due-of 
 
 pub returns-in-Signalled-clause-made : goal.returns-in-Signalled-clause-made
 returns-in-Signalled-clause-made c d e = c.fire-in-Signalled.ensures.made d (due-of _ _ (ap plan_of c.in-Signalled.is) c.args.proc.now.size c.args.proc.now.left c.args.port _ d e)
-
-pub returns-in-Choice-clause-made : goal.returns-in-Choice-clause-made
-returns-in-Choice-clause-made c d e =
-    c.fire-in-Choice.ensures.made d (due-of _ _ (ap plan_of c.in-Choice.is ∙ ap (λ (mix : Mix). Choice mix) (sym c.get-in-Choice.ensures)) c.args.proc.now.size c.args.proc.now.left c.args.port _ d e)
 
 pub returns-in-Decision-clause-made : goal.returns-in-Decision-clause-made
 returns-in-Decision-clause-made c d e = c.fire-in-Decision.ensures.made d (due-of _ _ (ap plan_of c.in-Decision.is) c.args.proc.now.size c.args.proc.now.left c.args.port _ d e)
