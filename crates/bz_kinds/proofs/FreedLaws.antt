@@ -7,20 +7,25 @@ use Rattle.bz_model.specs.declared.channel.Chan.{Chan}
 use Rattle.bz_model.specs.declared.channel.Move.{Move}
 use Rattle.bz_model.specs.Heads.{Component, Proc}
 use Rattle.bz_model.specs.Terms.{Store}
+use Rattle.bz_model.specs.Processes.{member}
+use Rattle.bz_kinds.specs.Ports.{is_due}
+use Rattle.bz_kinds.specs.Row.{Due}
+use Rattle.bz_kinds.specs.Script.{script_due, states}
+use Rattle.bz_kinds.specs.declared.row.Script.TheVariants.{Loop}
 use Rattle.bz_kinds.specs.declared.freed.Freed.{Freed}
-use Rattle.bz_kinds.specs.declared.freed.Freed.TheVariants.{Nothing, Port, Behind, Unknown}
+use Rattle.bz_kinds.specs.declared.freed.Freed.TheVariants.{Nothing, Waits, Port, Behind, Unknown}
 use Rattle.bz_kinds.specs.declared.ports.PortState.{PortState}
 use Rattle.bz_kinds.specs.declared.ports.PortState.TheVariants.{Closed, ClosedDue, Open, OpenDue}
 use Rattle.bz_kinds.specs.declared.row.Plan.{Plan}
 use Rattle.bz_kinds.specs.Row.{is_open}
 use Rattle.bz_kinds.specs.Comp.{IsAt, todo_of}
-use Rattle.bz_kinds.specs.Sense.{cell_sense, enclosing, sense, move_by}
+use Rattle.bz_kinds.specs.Sense.{cell_sense, enclosing, script_sense, sense, move_by}
 use Rattle.bz_kinds.specs.Ready.{CanGo}
 use Rattle.bz_kinds.specs.Freed.{Frees, FreesIn, IsFreed, IsKept, is_sure}
-use Rattle.bz_kinds.proofs.ReadyLaws.{can_go, goes_by}
+use Rattle.bz_kinds.proofs.ReadyLaws.{can_go, due_where, goes_by, was_due}
 
 pub frees_unknown : (f : ℕ → Option Bool) (w : List PortState) (p : ℕ) (w' : List PortState) → FreesIn f w p w' Unknown
-frees_unknown f w p w' = record { frees = λ q e. absurd e; mover = λ e. absurd e; others = λ q ne e. absurd e }
+frees_unknown f w p w' = record { frees = λ q e. absurd e; mover = λ e. absurd e; others = λ q ne e. absurd e; waits = λ e. absurd e; alone = λ e. absurd e }
 
 -- of the plan that it is
 pub frees_as : (plan plan' : Plan) (n p : ℕ) (w w' : List PortState) (freed : Freed) → plan ≡ plan' → FreesIn (sense plan' n) w p w' freed → FreesIn (sense plan n) w p w' freed
@@ -36,6 +41,18 @@ module _ (f : ℕ → Option Bool) (w : List PortState) (p : ℕ) (x : PortState
     frees = λ q e. absurd e;
     mover = λ e. ap (is_sure (f p)) (get_or-set_same w p x Closed lt) ∙ unsure;
     others = λ q ne e. get_or-set_other w p q x Closed ne;
+    waits = λ e. absurd e;
+    alone = λ e. absurd e;
+  }
+
+  -- and nothing is due elsewhere
+  pub frees_waits : is_sure (f p) x ≡ false → is_due x ≡ true → ((q : ℕ) → q ≢ p → is_due (get_or w q Closed) ≡ false) → FreesIn f w p (set w p x) Waits
+  frees_waits unsure due quiet = record {
+    frees = λ q e. absurd e;
+    mover = λ e. ap (is_sure (f p)) (get_or-set_same w p x Closed lt) ∙ unsure;
+    others = λ q ne e. get_or-set_other w p q x Closed ne;
+    waits = λ e. ap is_due (get_or-set_same w p x Closed lt) ∙ due;
+    alone = λ e q ne. ap is_due (get_or-set_other w p q x Closed ne) ∙ quiet q ne;
   }
 
   -- or in which something is
@@ -44,6 +61,8 @@ module _ (f : ℕ → Option Bool) (w : List PortState) (p : ℕ) (x : PortState
     frees = λ q e. subst (λ (r : ℕ). is_sure (f r) (get_or (set w p x) r Closed) ≡ true) (sym e) (ap (is_sure (f p)) (get_or-set_same w p x Closed lt) ∙ sure);
     mover = λ e. absurd (e refl);
     others = λ q ne e. get_or-set_other w p q x Closed ne;
+    waits = λ e. absurd e;
+    alone = λ e. absurd e;
   }
 
   -- and then another is put into one
@@ -52,6 +71,8 @@ module _ (f : ℕ → Option Bool) (w : List PortState) (p : ℕ) (x : PortState
     frees = λ q e. subst (λ (q : ℕ). is_sure (f q) (get_or (set (set w p x) r y) q Closed) ≡ true) (sym e) (ap (is_sure (f r)) (get_or-set_same (set w p x) r y Closed (let l = length-set w p x in omega (arith, l, within))) ∙ sure);
     mover = λ e. ap (is_sure (f p)) (get_or-set_other (set w p x) r p y Closed e ∙ get_or-set_same w p x Closed lt) ∙ unsure;
     others = λ q ne e. get_or-set_other (set w p x) r q y Closed e ∙ get_or-set_other w p q x Closed ne;
+    waits = λ e. absurd e;
+    alone = λ e. absurd e;
   }
 
 -- all enclosed ports are due to begin, up to the last
@@ -60,6 +81,8 @@ frees_behind w u last same long some below due past = record {
   frees = frees;
   mover = λ e. ap (is_sure (Some true)) (get_or-set_same u 1 Open Closed (omega (arith, same, some)));
   others = others;
+  waits = λ e. absurd e;
+  alone = λ e. absurd e;
 }
   where
     frees : (q : ℕ) → (1 < q) × (q ≤ last) → is_sure (enclosing q) (get_or (set u 1 Open) q Closed) ≡ true
@@ -71,6 +94,38 @@ frees_behind w u last same long some below due past = record {
     others zero ne kept = get_or-set_other u 1 0 Open Closed ne ∙ below 0 (omega arith)
     others (suc zero) ne kept = absurd (ne refl)
     others (suc (suc i)) ne kept = past (suc (suc i)) (elim (cases_lt (suc (suc i)) (length w)) [ inl lt ↦ absurd (kept (omega arith) (omega (arith, lt, long))) | inr ge ↦ ge ])
+
+-- with nothing enclosed going on, the enclosing port is due alone
+pub quiet_legs : (w : List PortState) → get_or w 0 Closed ≡ Closed → ((i : ℕ) → get_or w (member i) Closed ≡ Closed) → (q : ℕ) → q ≢ 1 → is_due (get_or w q Closed) ≡ false
+quiet_legs w none legs zero ne = ap is_due none
+quiet_legs w none legs (suc zero) ne = absurd (ne refl)
+quiet_legs w none legs (suc (suc i)) ne = ap is_due (legs i)
+
+-- and with one of them going on, that one
+pub quiet_others : (w : List PortState) (i : ℕ) → get_or w 0 Closed ≡ Closed → get_or w 1 Closed ≡ Open → ((j : ℕ) → j ≢ i → get_or w (member j) Closed ≡ Closed) → (q : ℕ) → q ≢ member i → is_due (get_or w q Closed) ≡ false
+quiet_others w i none waits legs zero ne = ap is_due none
+quiet_others w i none waits legs (suc zero) ne = ap is_due waits
+quiet_others w i none waits legs (suc (suc j)) ne = ap is_due (legs j (λ e. ne (omega (arith, e))))
+
+-- a loop asks
+pub loop_asks : (w : List PortState) (stage p : ℕ) (d : Due) → w ≡ states Loop stage → stage ≡ 1 → script_due Loop p (get_or w p Closed) ≡ Some d → FreesIn script_sense w p (set w 2 OpenDue) Waits
+loop_asks w stage p d is one due =
+    let now : w ≡ states Loop 1 = is ∙ ap (states Loop) one in
+    let two : p ≡ 2 = on_two p (subst (λ (l : List PortState). script_due Loop p (get_or l p Closed) ≡ Some d) now due) in
+    subst (λ (l : List PortState). FreesIn script_sense l p (set l 2 OpenDue) Waits) (sym now)
+    (subst (λ (q : ℕ). FreesIn script_sense (states Loop 1) q (set (states Loop 1) 2 OpenDue) Waits) (sym two) (frees_waits script_sense (states Loop 1) 2 OpenDue (omega arith) refl refl quiet))
+  where
+    on_two : (q : ℕ) → script_due Loop q (get_or (states Loop 1) q Closed) ≡ Some d → q ≡ 2
+    on_two zero e = absurd (cc)
+    on_two (suc zero) e = absurd (cc)
+    on_two (suc (suc zero)) e = refl
+    on_two (suc (suc (suc q))) e = absurd (cc)
+
+    quiet : (q : ℕ) → q ≢ 2 → is_due (get_or (states Loop 1) q Closed) ≡ false
+    quiet zero ne = refl
+    quiet (suc zero) ne = refl
+    quiet (suc (suc zero)) ne = absurd (ne refl)
+    quiet (suc (suc (suc q))) ne = refl
 
 -- a cell's port that is taken is due to reply, and one that replies waits
 up_within : (w : List PortState) (p : ℕ) → get_or w p Closed ≢ Closed → p < length w
@@ -122,4 +177,6 @@ module _ (plan : Plan) (n left left' : ℕ) (w w' : List PortState) (s s' : Stor
       λ can. (was q here).0 (subst (λ (a : PortState). IsTrue (can_go (move_by (sense plan n q) a) here)) (frees.others q ne e) ((is q here).1 can)),
       λ can. (is q here).0 (subst (λ (a : PortState). IsTrue (can_go (move_by (sense plan n q) a) here)) (sym (frees.others q ne e)) ((was q here).1 can)),
     );
+    waits = λ e. (due_where plan n left' w' s' chans after refl ok' p true (sym (frees.waits e))).0 refl;
+    alone = λ e q ne here can. false≢true (sym (frees.alone e q ne) ∙ was_due (sense plan n q) (get_or w' q Closed) here ((is q here).1 can));
   }

@@ -124,7 +124,7 @@ turning (Some true) OpenDue quiet due = refl
 turning (Some false) OpenDue quiet due = refl
 
 -- and one that can be made is due
-was_due : (o : Option Bool) (x : PortState) (here : Bool) → IsTrue (can_go (move_by o x) here) → is_due x ≡ true
+pub was_due : (o : Option Bool) (x : PortState) (here : Bool) → IsTrue (can_go (move_by o x) here) → is_due x ≡ true
 was_due None x here can = absurd (false≢true can)
 was_due (Some passive) Closed here can = absurd (false≢true can)
 was_due (Some passive) ClosedDue here can = refl

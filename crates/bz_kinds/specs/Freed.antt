@@ -2,15 +2,16 @@
 use Rattle.std.specs.Prelude.{◌≡◌, ◌≢◌, ◌<◌, ◌≤◌, ◌↔◌, ℕ, Bool, true, false, Option, Some, None, List, ⊤}
 use Rattle.bz_model.specs.Heads.{Proc}
 use Rattle.bz_kinds.specs.declared.freed.Freed.{Freed}
-use Rattle.bz_kinds.specs.declared.freed.Freed.TheVariants.{Nothing, Port, Behind, Unknown}
+use Rattle.bz_kinds.specs.declared.freed.Freed.TheVariants.{Nothing, Waits, Port, Behind, Unknown}
 use Rattle.bz_kinds.specs.declared.ports.PortState.{PortState}
 use Rattle.bz_kinds.specs.declared.ports.PortState.TheVariants.{Closed, ClosedDue, Open, OpenDue}
-use Rattle.bz_kinds.specs.Ports.{state_at}
+use Rattle.bz_kinds.specs.Ports.{is_due, state_at}
 use Rattle.bz_kinds.specs.Ready.{CanGo}
 
 -- port q is one of those that are freed
 abbrev pub IsFreed : Freed → ℕ → Type 0
 IsFreed Nothing q = ⊥
+IsFreed Waits q = ⊥
 IsFreed (Port r) q = q ≡ r
 IsFreed (Behind last) q = (1 < q) × (q ≤ last)
 IsFreed Unknown q = ⊥
@@ -18,9 +19,18 @@ IsFreed Unknown q = ⊥
 -- port q is none of them
 abbrev pub IsKept : Freed → ℕ → Type 0
 IsKept Nothing q = ⊤
+IsKept Waits q = ⊤
 IsKept (Port r) q = q ≢ r
 IsKept (Behind last) q = 1 < q → q ≤ last → ⊥
 IsKept Unknown q = ⊥
+
+-- the component waits at the mover's port alone
+abbrev pub IsWaiting : Freed → Type 0
+IsWaiting Nothing = ⊥
+IsWaiting Waits = ⊤
+IsWaiting (Port r) = ⊥
+IsWaiting (Behind last) = ⊥
+IsWaiting Unknown = ⊥
 
 -- whether the move due at a port of this sense, in this state, waits for nothing
 abbrev pub is_sure : Option Bool → PortState → Bool
@@ -37,10 +47,14 @@ pub record FreesIn (sense : ℕ → Option Bool) (w : List PortState) (p : ℕ) 
   pub frees : (q : ℕ) → IsFreed freed q → is_sure (sense q) (state_at w' q) ≡ true
   pub mover : IsKept freed p → is_sure (sense p) (state_at w' p) ≡ false
   pub others : (q : ℕ) → q ≢ p → IsKept freed q → state_at w' q ≡ state_at w q
+  pub waits : IsWaiting freed → is_due (state_at w' p) ≡ true
+  pub alone : IsWaiting freed → (q : ℕ) → q ≢ p → is_due (state_at w' q) ≡ false
 
 -- a move at p left c' of the process c: whatever is here, it can go at the ports that are freed, at p not where what it waits
--- for is missing, and elsewhere as before
+-- for is missing, and elsewhere as before; where it waits, at p alone
 pub record Frees (c : Proc) (p : ℕ) (c' : Proc) (freed : Freed) : Type 0 where
   pub frees : (q : ℕ) → IsFreed freed q → (here : Bool) → CanGo c' q here
   pub mover : IsKept freed p → CanGo c' p false → ⊥
   pub others : (q : ℕ) → q ≢ p → IsKept freed q → (here : Bool) → CanGo c' q here ↔ CanGo c q here
+  pub waits : IsWaiting freed → CanGo c' p true
+  pub alone : IsWaiting freed → (q : ℕ) → q ≢ p → (here : Bool) → CanGo c' q here → ⊥

@@ -1,10 +1,11 @@
 //! Which ports of a component a move frees.
 
-/// The ports where a move makes a request or a reply due, which waits for nothing: none; one; all behind the first, up to one;
-/// or it isn't known which.
+/// The ports where a move makes a request or a reply due, which waits for nothing: none; none, and the component waits at the
+/// mover's port alone; one; all behind the first, up to one; or it isn't known which.
 #[derive(Clone, Copy)]
 pub enum Freed {
     Nothing,
+    Waits,
     Port(u32),
     Behind(u32),
     Unknown,
