@@ -8,7 +8,7 @@ use Rattle.bz_kinds.specs.declared.ports.PortState.TheVariants.{Closed, ClosedDu
 use Rattle.bz_kinds.specs.Ports.{is_due, state_at}
 use Rattle.bz_kinds.specs.Ready.{CanGo}
 
--- port q is one of those that are freed
+-- port q is known to be one of those that are freed
 abbrev pub IsFreed : Freed → ℕ → Type 0
 IsFreed Nothing q = ⊥
 IsFreed Waits q = ⊥
@@ -16,7 +16,7 @@ IsFreed (Port r) q = q ≡ r
 IsFreed (Behind last) q = (1 < q) × (q ≤ last)
 IsFreed Unknown q = ⊥
 
--- port q is none of them
+-- port q is known to be none of them
 abbrev pub IsKept : Freed → ℕ → Type 0
 IsKept Nothing q = ⊤
 IsKept Waits q = ⊤
@@ -24,7 +24,7 @@ IsKept (Port r) q = q ≢ r
 IsKept (Behind last) q = 1 < q → q ≤ last → ⊥
 IsKept Unknown q = ⊥
 
--- the component waits at the mover's port alone
+-- the component is known to wait at the mover's port alone
 abbrev pub IsWaiting : Freed → Type 0
 IsWaiting Nothing = ⊥
 IsWaiting Waits = ⊤
