@@ -30,7 +30,7 @@ use crate::ports::{PortState, Ports};
 use crate::row::{DueMove, Script};
 use crate::same::is_same_plan;
 use crate::sense::{move_at, sense_word};
-use crate::shape::shape_of;
+use crate::shape::{CALLS, FETCHES, PUSHES, shape_of};
 use crate::{
     bar, cells, choice, decision, enclosed, in_turn, indexed, meeting, once, script, select,
     signalled, together,
@@ -204,11 +204,23 @@ fn turn(proc: &mut Process, port: u32, rides: Option<Value>) -> (Move, Option<Va
     ensures frees { FreesIn (sense (plan_of proc.old.plan) proc.old.size) proc.old.ports port proc.new.ports result.2 }
 {
     match &proc.plan {
-        KeptPlan::InTurn(_) | KeptPlan::OwnInTurn(_) => {
+        KeptPlan::CallsInTurn => {
+            let (ports, left, slots) = (&mut proc.ports, &mut proc.left, &mut proc.slots);
+            in_turn::fire(&CALLS, ports, left, proc.size, port, slots, rides)
+        }
+        KeptPlan::FetchesInTurn => {
+            let (ports, left, slots) = (&mut proc.ports, &mut proc.left, &mut proc.slots);
+            in_turn::fire(&FETCHES, ports, left, proc.size, port, slots, rides)
+        }
+        KeptPlan::CallsTogether => {
+            let (ports, left, slots) = (&mut proc.ports, &mut proc.left, &mut proc.slots);
+            together::fire(&CALLS, ports, left, proc.size, port, slots, rides)
+        }
+        KeptPlan::PushesInTurn | KeptPlan::OwnInTurn(_) => {
             let (ports, left, slots) = (&mut proc.ports, &mut proc.left, &mut proc.slots);
             in_turn::fire(proc.plan.row(), ports, left, proc.size, port, slots, rides)
         }
-        KeptPlan::Together(_) | KeptPlan::OwnTogether(_) => {
+        KeptPlan::PushesTogether | KeptPlan::OwnTogether(_) => {
             let (ports, left, slots) = (&mut proc.ports, &mut proc.left, &mut proc.slots);
             together::fire(proc.plan.row(), ports, left, proc.size, port, slots, rides)
         }
@@ -445,9 +457,12 @@ fn first_ports(alloc: Global, plan: &KeptPlan, legs: u32) -> Result<Ports, Alloc
     ensures { IfOk result (BeginsAt (plan_of plan.now) legs) }
 {
     match plan {
-        KeptPlan::InTurn(_) => first_only(alloc, legs as usize + 2),
+        KeptPlan::CallsInTurn => first_only(alloc, legs as usize + 2),
+        KeptPlan::PushesInTurn => first_only(alloc, legs as usize + 2),
+        KeptPlan::FetchesInTurn => first_only(alloc, legs as usize + 2),
         KeptPlan::OwnInTurn(_) => first_only(alloc, legs as usize + 2),
-        KeptPlan::Together(_) => first_only(alloc, legs as usize + 2),
+        KeptPlan::CallsTogether => first_only(alloc, legs as usize + 2),
+        KeptPlan::PushesTogether => first_only(alloc, legs as usize + 2),
         KeptPlan::OwnTogether(_) => first_only(alloc, legs as usize + 2),
         KeptPlan::Once(_) => first_only(alloc, legs as usize + 2),
         KeptPlan::Cells => from_first(alloc, legs as usize + 2),
@@ -530,9 +545,12 @@ pub(crate) fn due_at(
     ensures { option_map seen result ≡ plan_due (plan_of plan.now) size left port state }
 {
     match plan {
-        KeptPlan::InTurn(row) => enclosed::due(row.get(), port, state),
+        KeptPlan::CallsInTurn => enclosed::due(&CALLS, port, state),
+        KeptPlan::PushesInTurn => enclosed::due(&PUSHES, port, state),
+        KeptPlan::FetchesInTurn => enclosed::due(&FETCHES, port, state),
         KeptPlan::OwnInTurn(row) => enclosed::due(row, port, state),
-        KeptPlan::Together(row) => enclosed::due(row.get(), port, state),
+        KeptPlan::CallsTogether => enclosed::due(&CALLS, port, state),
+        KeptPlan::PushesTogether => enclosed::due(&PUSHES, port, state),
         KeptPlan::OwnTogether(row) => enclosed::due(row, port, state),
         KeptPlan::Once(row) => enclosed::due(row.get(), port, state),
         KeptPlan::Cells => cells::due(port, state),

@@ -39,12 +39,16 @@ pub enum KeptMeet {
     PullMeeting,
 }
 
-/// A plan as a component keeps it: small, since a net has many. A row that no other kind has stands in a block of its own.
+/// A plan as a component keeps it: small, since a net has many. The rows of most moves are told without a look at their name;
+/// one that no other kind has stands in a block of its own.
 #[derive(Drop)]
 pub enum KeptPlan {
-    InTurn(KeptRow),
+    CallsInTurn,
+    PushesInTurn,
+    FetchesInTurn,
     OwnInTurn(Box<Row>),
-    Together(KeptRow),
+    CallsTogether,
+    PushesTogether,
     OwnTogether(Box<Row>),
     Once(KeptRow),
     Cells,
@@ -104,7 +108,9 @@ impl KeptPlan {
         ensures together { (row : Row) → plan_of self.now ≡ Together row → result.now ≡ row }
     {
         match self {
-            KeptPlan::InTurn(row) | KeptPlan::Together(row) => row.get(),
+            KeptPlan::CallsInTurn | KeptPlan::CallsTogether => &CALLS,
+            KeptPlan::PushesInTurn | KeptPlan::PushesTogether => &PUSHES,
+            KeptPlan::FetchesInTurn => &FETCHES,
             KeptPlan::OwnInTurn(row) | KeptPlan::OwnTogether(row) => row,
             _ => &CALLS,
         }
@@ -115,12 +121,15 @@ impl KeptPlan {
         ensures { IfOk result (λ p. plan_of p ≡ plan_of self.now) }
     {
         match self {
-            KeptPlan::InTurn(row) => Ok(KeptPlan::InTurn(*row)),
+            KeptPlan::CallsInTurn => Ok(KeptPlan::CallsInTurn),
+            KeptPlan::PushesInTurn => Ok(KeptPlan::PushesInTurn),
+            KeptPlan::FetchesInTurn => Ok(KeptPlan::FetchesInTurn),
             KeptPlan::OwnInTurn(row) => {
                 let own = Box::new(alloc, **row)?;
                 Ok(KeptPlan::OwnInTurn(own))
             }
-            KeptPlan::Together(row) => Ok(KeptPlan::Together(*row)),
+            KeptPlan::CallsTogether => Ok(KeptPlan::CallsTogether),
+            KeptPlan::PushesTogether => Ok(KeptPlan::PushesTogether),
             KeptPlan::OwnTogether(row) => {
                 let own = Box::new(alloc, **row)?;
                 Ok(KeptPlan::OwnTogether(own))

@@ -12,9 +12,12 @@ pub fn is_same_plan(plan: &KeptPlan, other: &KeptPlan) -> bool
     ensures { IsTrue result → plan_of plan.now ≡ plan_of other.now }
 {
     match (plan, other) {
-        (KeptPlan::InTurn(row), KeptPlan::InTurn(same)) => *row == *same,
+        (KeptPlan::CallsInTurn, KeptPlan::CallsInTurn) => true,
+        (KeptPlan::PushesInTurn, KeptPlan::PushesInTurn) => true,
+        (KeptPlan::FetchesInTurn, KeptPlan::FetchesInTurn) => true,
         (KeptPlan::OwnInTurn(row), KeptPlan::OwnInTurn(same)) => is_same_row(row, same),
-        (KeptPlan::Together(row), KeptPlan::Together(same)) => *row == *same,
+        (KeptPlan::CallsTogether, KeptPlan::CallsTogether) => true,
+        (KeptPlan::PushesTogether, KeptPlan::PushesTogether) => true,
         (KeptPlan::OwnTogether(row), KeptPlan::OwnTogether(same)) => is_same_row(row, same),
         (KeptPlan::Once(row), KeptPlan::Once(same)) => *row == *same,
         (KeptPlan::Cells, KeptPlan::Cells) => true,

@@ -17,22 +17,31 @@ use Rattle.bz_kinds.proofs.FreedLaws.{frees_as, frees_unknown}
 use Rattle.bz_kinds.proofs.PlanLaws.{due-of}
 use Rattle.bz_kinds.proofs.comp.turn.Goals as goal
 
-pub returns-in-InTurn-clause-made : goal.returns-in-InTurn-clause-made
-returns-in-InTurn-clause-made c d e =
-    let same : plan_of c.args.proc.now.plan ≡ InTurn c.row-in-InTurn.result.now = search rules in
-    let own : c.in-InTurn.match-proc-own.proc ≡ c.args.proc.now = search rules in
-    subst (λ (it : Process). (d : Due) → row_due c.row-in-InTurn.result.now c.args.port (state_at it.ports c.args.port) ≡ Some d → Made d c.args.rides (slots_of it.slots) (slots_of c.fire-in-InTurn.new.slots) c.fire-in-InTurn.result.0 c.fire-in-InTurn.result.1) own
-    c.fire-in-InTurn.ensures.made d (due-of _ _ same c.args.proc.now.size c.args.proc.now.left c.args.port _ d e)
+pub returns-in-CallsInTurn-clause-made : goal.returns-in-CallsInTurn-clause-made
+returns-in-CallsInTurn-clause-made c d e = c.fire.ensures.made d (due-of _ _ (ap plan_of c.in-CallsInTurn.is) c.args.proc.now.size c.args.proc.now.left c.args.port _ d e)
 
-pub returns-in-Together-clause-made : goal.returns-in-Together-clause-made
-returns-in-Together-clause-made c d e =
+pub returns-in-FetchesInTurn-clause-made : goal.returns-in-FetchesInTurn-clause-made
+returns-in-FetchesInTurn-clause-made c d e = c.fire-in-FetchesInTurn.ensures.made d (due-of _ _ (ap plan_of c.in-FetchesInTurn.is) c.args.proc.now.size c.args.proc.now.left c.args.port _ d e)
+
+pub returns-in-CallsTogether-clause-made : goal.returns-in-CallsTogether-clause-made
+returns-in-CallsTogether-clause-made c d e = c.fire-in-CallsTogether.ensures.made d (due-of _ _ (ap plan_of c.in-CallsTogether.is) c.args.proc.now.size c.args.proc.now.left c.args.port _ d e)
+
+pub returns-in-PushesInTurn-clause-made : goal.returns-in-PushesInTurn-clause-made
+returns-in-PushesInTurn-clause-made c d e =
+    let same : plan_of c.args.proc.now.plan ≡ InTurn c.row-in-PushesInTurn.result.now = search rules in
+    let own : c.in-PushesInTurn.match-proc-own.proc ≡ c.args.proc.now = search rules in
+    subst (λ (it : Process). (d : Due) → row_due c.row-in-PushesInTurn.result.now c.args.port (state_at it.ports c.args.port) ≡ Some d → Made d c.args.rides (slots_of it.slots) (slots_of c.fire-in-PushesInTurn.new.slots) c.fire-in-PushesInTurn.result.0 c.fire-in-PushesInTurn.result.1) own
+    c.fire-in-PushesInTurn.ensures.made d (due-of _ _ same c.args.proc.now.size c.args.proc.now.left c.args.port _ d e)
+
+pub returns-in-PushesTogether-clause-made : goal.returns-in-PushesTogether-clause-made
+returns-in-PushesTogether-clause-made c d e =
     let same : plan_of c.args.proc.now.plan ≡ Together c.row.result.now = search rules in
-    let own : c.in-Together.match-proc-own.proc ≡ c.args.proc.now = search rules in
-    subst (λ (it : Process). (d : Due) → row_due c.row.result.now c.args.port (state_at it.ports c.args.port) ≡ Some d → Made d c.args.rides (slots_of it.slots) (slots_of c.fire-in-Together.new.slots) c.fire-in-Together.result.0 c.fire-in-Together.result.1) own
-    c.fire-in-Together.ensures.made d (due-of _ _ same c.args.proc.now.size c.args.proc.now.left c.args.port _ d e)
+    let own : c.in-PushesTogether.match-proc-own.proc ≡ c.args.proc.now = search rules in
+    subst (λ (it : Process). (d : Due) → row_due c.row.result.now c.args.port (state_at it.ports c.args.port) ≡ Some d → Made d c.args.rides (slots_of it.slots) (slots_of c.fire-in-PushesTogether.new.slots) c.fire-in-PushesTogether.result.0 c.fire-in-PushesTogether.result.1) own
+    c.fire-in-PushesTogether.ensures.made d (due-of _ _ same c.args.proc.now.size c.args.proc.now.left c.args.port _ d e)
 
 pub returns-in-Cells-clause-made : goal.returns-in-Cells-clause-made
-returns-in-Cells-clause-made c d e = c.fire.ensures.made d (due-of _ _ (ap plan_of c.in-Cells.is) c.args.proc.now.size c.args.proc.now.left c.args.port _ d e)
+returns-in-Cells-clause-made c d e = c.fire-in-Cells.ensures.made d (due-of _ _ (ap plan_of c.in-Cells.is) c.args.proc.now.size c.args.proc.now.left c.args.port _ d e)
 
 pub returns-in-OneByOne-Loop-clause-made : goal.returns-in-OneByOne-Loop-clause-made
 returns-in-OneByOne-Loop-clause-made c d e =
@@ -55,22 +64,31 @@ returns-in-Once-clause-made c =
     let same : c.in-Once.match-proc-own.proc ≡ c.args.proc.now = search rules in
     subst (λ (it : Process). HasMade it c.args.port c.args.rides c.turn_far-mv.new.proc c.turn_far-mv.result.0 c.turn_far-mv.result.1) same c.turn_far-mv.ensures.made
 
-pub returns-in-InTurn-clause-frees : goal.returns-in-InTurn-clause-frees
-returns-in-InTurn-clause-frees c =
-    let same : plan_of c.args.proc.now.plan ≡ InTurn c.row-in-InTurn.result.now = search rules in
-    let own : c.in-InTurn.match-proc-own.proc ≡ c.args.proc.now = search rules in
-    frees_as _ _ c.args.proc.now.size c.args.port _ _ _ same
-    (subst (λ (it : Process). FreesIn enclosing it.ports c.args.port c.fire-in-InTurn.new.ports c.fire-in-InTurn.result.2) own c.fire-in-InTurn.ensures.frees)
+pub returns-in-CallsInTurn-clause-frees : goal.returns-in-CallsInTurn-clause-frees
+returns-in-CallsInTurn-clause-frees c = frees_as _ (InTurn _) c.args.proc.now.size c.args.port _ _ _ (ap plan_of c.in-CallsInTurn.is) c.fire.ensures.frees
 
-pub returns-in-Together-clause-frees : goal.returns-in-Together-clause-frees
-returns-in-Together-clause-frees c =
-    let same : plan_of c.args.proc.now.plan ≡ Together c.row.result.now = search rules in
-    let own : c.in-Together.match-proc-own.proc ≡ c.args.proc.now = search rules in
+pub returns-in-FetchesInTurn-clause-frees : goal.returns-in-FetchesInTurn-clause-frees
+returns-in-FetchesInTurn-clause-frees c = frees_as _ (InTurn _) c.args.proc.now.size c.args.port _ _ _ (ap plan_of c.in-FetchesInTurn.is) c.fire-in-FetchesInTurn.ensures.frees
+
+pub returns-in-CallsTogether-clause-frees : goal.returns-in-CallsTogether-clause-frees
+returns-in-CallsTogether-clause-frees c = frees_as _ (Together _) c.args.proc.now.size c.args.port _ _ _ (ap plan_of c.in-CallsTogether.is) c.fire-in-CallsTogether.ensures.frees
+
+pub returns-in-PushesInTurn-clause-frees : goal.returns-in-PushesInTurn-clause-frees
+returns-in-PushesInTurn-clause-frees c =
+    let same : plan_of c.args.proc.now.plan ≡ InTurn c.row-in-PushesInTurn.result.now = search rules in
+    let own : c.in-PushesInTurn.match-proc-own.proc ≡ c.args.proc.now = search rules in
     frees_as _ _ c.args.proc.now.size c.args.port _ _ _ same
-    (subst (λ (it : Process). FreesIn enclosing it.ports c.args.port c.fire-in-Together.new.ports c.fire-in-Together.result.2) own c.fire-in-Together.ensures.frees)
+    (subst (λ (it : Process). FreesIn enclosing it.ports c.args.port c.fire-in-PushesInTurn.new.ports c.fire-in-PushesInTurn.result.2) own c.fire-in-PushesInTurn.ensures.frees)
+
+pub returns-in-PushesTogether-clause-frees : goal.returns-in-PushesTogether-clause-frees
+returns-in-PushesTogether-clause-frees c =
+    let same : plan_of c.args.proc.now.plan ≡ Together c.row.result.now = search rules in
+    let own : c.in-PushesTogether.match-proc-own.proc ≡ c.args.proc.now = search rules in
+    frees_as _ _ c.args.proc.now.size c.args.port _ _ _ same
+    (subst (λ (it : Process). FreesIn enclosing it.ports c.args.port c.fire-in-PushesTogether.new.ports c.fire-in-PushesTogether.result.2) own c.fire-in-PushesTogether.ensures.frees)
 
 pub returns-in-Cells-clause-frees : goal.returns-in-Cells-clause-frees
-returns-in-Cells-clause-frees c = frees_as _ Cells c.args.proc.now.size c.args.port _ _ _ (ap plan_of c.in-Cells.is) c.fire.ensures.frees
+returns-in-Cells-clause-frees c = frees_as _ Cells c.args.proc.now.size c.args.port _ _ _ (ap plan_of c.in-Cells.is) c.fire-in-Cells.ensures.frees
 
 pub returns-in-OneByOne-Loop-clause-frees : goal.returns-in-OneByOne-Loop-clause-frees
 returns-in-OneByOne-Loop-clause-frees c = frees_as _ (OneByOne c.in-OneByOne-Loop.field-0) c.args.proc.now.size c.args.port _ _ _ (ap plan_of c.in-OneByOne-Loop.is) c.fire-in-OneByOne-Loop.ensures.frees

@@ -12,5 +12,5 @@ returns-clause-frees c =
     let place = c.requires.place in let long = place.long in let small = c.requires.leg in
     let turn = leg_turn _ _ _ place c.args.leg (λ z. cc) in
     let sum = turn.0 in
-    rw (c.set.ensures, two) (frees_waits enclosing _ (member c.args.leg) OpenDue (omega (arith, long, small)) refl refl
+    rw (c.open.ensures, two) (frees_waits enclosing _ (member c.args.leg) OpenDue (omega (arith, long, small)) refl refl
     (quiet_others _ c.args.leg place.none turn.2 (λ j ne. place.quiet j (let d : j + c.args.left.now ≢ c.args.size = omega (arith, ne, sum) in d))))

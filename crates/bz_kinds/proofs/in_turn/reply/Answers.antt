@@ -16,4 +16,4 @@ returns-clause-frees c =
       | inl lt ↦ place.quiet i (let d : i + c.args.left.now ≢ c.args.size = omega (arith, lt, none) in d)
       | inr ge ↦ get_or_past c.args.ports.now (member i) Closed (omega (arith, ge, long))
     ] in
-    rw c.set.ensures (frees_waits enclosing _ 1 ClosedDue (omega (arith, long)) refl refl (quiet_legs _ place.none legs))
+    rw c.close.ensures (frees_waits enclosing _ 1 ClosedDue (omega (arith, long)) refl refl (quiet_legs _ place.none legs))

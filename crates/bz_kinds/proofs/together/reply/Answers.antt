@@ -10,4 +10,4 @@ pub returns-clause-frees : goal.returns-clause-frees
 returns-clause-frees c =
     let place = c.requires.place in let long = place.long in
     let none : c.args.left.now ≡ 0 = elim place.lead [ inl p ↦ p.1 | inr (inl p) ↦ absurd (let a = p.0 in cc) | inr (inr p) ↦ p.1 ] in
-    rw c.set.ensures (frees_waits enclosing _ 1 ClosedDue (omega (arith, long)) refl refl (quiet_legs _ place.none (legs-zero c.args.ports.now (sym place.count ∙ none))))
+    rw c.close.ensures (frees_waits enclosing _ 1 ClosedDue (omega (arith, long)) refl refl (quiet_legs _ place.none (legs-zero c.args.ports.now (sym place.count ∙ none))))

@@ -1,0 +1,7 @@
+use Rattle.std.proofs.Common.{inl, inr, refl}
+use Rattle.bz_kinds.specs.declared.ports.PortState.TheVariants.{ClosedDue}
+use Rattle.bz_kinds.proofs.CellsLaws.{steps}
+use Rattle.bz_kinds.proofs.cells.reply.Goals as goal
+
+pub returns-clause-steps : goal.returns-clause-steps
+returns-clause-steps c = rw c.close.ensures (steps _ _ c.requires.place c.args.port ClosedDue (λ z. cc) (inr (refl, λ e. cc)))
