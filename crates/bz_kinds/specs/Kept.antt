@@ -9,6 +9,7 @@ use Rattle.bz_kinds.specs.declared.row.Mix.{Mix}
 use Rattle.bz_kinds.specs.declared.row.Meet.{Meet}
 use Rattle.bz_kinds.specs.declared.row.Plan.{Plan}
 use Rattle.bz_kinds.specs.declared.row.Plan.TheVariants.{InTurn, Together, Once, Cells, Signalled, Select, Indexed, OneByOne, Choice, Meeting, Decision, Bar}
+use Rattle.bz_kinds.specs.declared.row.Script.TheVariants.{Loop}
 use Rattle.bz_kinds.specs.declared.kept.KeptRow.{KeptRow}
 use Rattle.bz_kinds.specs.declared.kept.KeptRow.TheVariants as row
 use Rattle.bz_kinds.specs.declared.kept.KeptMix.{KeptMix}
@@ -52,6 +53,7 @@ plan_of kept.Cells = Cells
 plan_of kept.Signalled = Signalled
 plan_of (kept.Select spans) = Select spans
 plan_of (kept.Indexed spans) = Indexed spans
+plan_of kept.Loop = OneByOne Loop
 plan_of (kept.OneByOne script) = OneByOne script
 plan_of (kept.Choice it) = Choice (mix_of it)
 plan_of (kept.Meeting it) = Meeting (meet_of it)

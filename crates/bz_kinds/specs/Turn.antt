@@ -9,14 +9,13 @@ use Rattle.bz_kinds.specs.Row.{Due}
 use Rattle.bz_kinds.specs.Riding.{Made}
 use Rattle.bz_kinds.specs.Kept.{plan_of}
 use Rattle.bz_kinds.specs.KeptLists.{slots_of}
-use Rattle.bz_kinds.specs.Comp.{IsAt, IsNarrowDue, StaysAt, Goes, plan_due}
+use Rattle.bz_kinds.specs.Comp.{IsAt, IsNarrowDue, Goes, plan_due}
 
--- a move is due at port p of process c, where this rides on the port's channel
-pub record CanTurn (c : Process) (p : ℕ) (rides : Option ℕ) : Type 0 where
+-- a move is due at port p of process c
+pub record CanTurn (c : Process) (p : ℕ) : Type 0 where
   pub place : IsAt (plan_of c.plan) c.size c.left c.ports (slots_of c.slots)
   pub small : c.size < 2 ^ 30
   pub due : IsNarrowDue (plan_of c.plan) c.size c.left p c.ports
-  pub still : StaysAt (plan_of c.plan) c.size c.left c.ports p rides (slots_of c.slots)
 
 -- most moves are of other plans
 abbrev pub IsRare : Plan → Type 0

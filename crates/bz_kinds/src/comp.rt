@@ -197,7 +197,7 @@ pub fn fire_freeing(
 // in one look at the port. Each arm borrows its own fields, so that no address is worked out before the plan is known.
 #[inline(always)]
 fn turn(proc: &mut Process, port: u32, rides: Option<Value>) -> (Move, Option<Value>, Freed)
-    requires { CanTurn proc.old port rides }
+    requires { CanTurn proc.old port }
     ensures made { HasMade proc.old port rides proc.new result.0 result.1 }
     ensures goes { HasGone proc.old port proc.new }
     ensures kept { KeepsPlan proc.old proc.new }
@@ -225,7 +225,7 @@ fn turn(proc: &mut Process, port: u32, rides: Option<Value>) -> (Move, Option<Va
             together::fire(proc.plan.row(), ports, left, proc.size, port, slots, rides)
         }
         KeptPlan::Cells => cells::fire(&mut proc.ports, proc.size, port, &mut proc.slots, rides),
-        KeptPlan::OneByOne(Script::Loop) => {
+        KeptPlan::Loop => {
             let (ports, left, slots) = (&mut proc.ports, &mut proc.left, &mut proc.slots);
             script::fire(Script::Loop, ports, left, port, slots, rides)
         }
@@ -259,7 +259,7 @@ fn turn(proc: &mut Process, port: u32, rides: Option<Value>) -> (Move, Option<Va
 #[inline(always)]
 fn turn_far(proc: &mut Process, port: u32, rides: Option<Value>) -> (Move, Option<Value>)
     requires rare { IsRare (plan_of proc.old.plan) }
-    requires due { CanTurn proc.old port rides }
+    requires due { CanTurn proc.old port }
     ensures made { HasMade proc.old port rides proc.new result.0 result.1 }
     ensures goes { HasGone proc.old port proc.new }
     ensures kept { KeepsPlan proc.old proc.new }
@@ -273,7 +273,7 @@ fn turn_far(proc: &mut Process, port: u32, rides: Option<Value>) -> (Move, Optio
 #[inline(never)]
 fn turn_held(proc: &mut Process, port: u32, rides: bool, value: &mut Value) -> (Move, bool)
     requires rare { IsRare (plan_of proc.old.plan) }
-    requires due { CanTurn proc.old port (held rides value.old) }
+    requires due { CanTurn proc.old port }
     ensures made { HasMade proc.old port (held rides value.old) proc.new result.0 (held result.1 value.new) }
     ensures goes { HasGone proc.old port proc.new }
     ensures kept { KeepsPlan proc.old proc.new }
@@ -308,7 +308,7 @@ fn held(is_there: bool, value: Value) -> Option<Value>
 #[inline(always)]
 fn turn_rare(proc: &mut Process, port: u32, rides: Option<Value>) -> (Move, Option<Value>)
     requires rare { IsRare (plan_of proc.old.plan) }
-    requires due { CanTurn proc.old port rides }
+    requires due { CanTurn proc.old port }
     ensures made { HasMade proc.old port rides proc.new result.0 result.1 }
     ensures goes { HasGone proc.old port proc.new }
     ensures kept { KeepsPlan proc.old proc.new }
@@ -468,6 +468,7 @@ fn first_ports(alloc: Global, plan: &KeptPlan, legs: u32) -> Result<Ports, Alloc
         KeptPlan::Cells => from_first(alloc, legs as usize + 2),
         KeptPlan::Select(_) => first_only(alloc, legs as usize + 2),
         KeptPlan::Indexed(_) => first_only(alloc, legs as usize + 3),
+        KeptPlan::Loop => first_only(alloc, script::places(Script::Loop)),
         KeptPlan::OneByOne(script) => first_only(alloc, script::places(*script)),
         KeptPlan::Signalled => all_but(alloc, legs as usize + 3, 2),
         KeptPlan::Choice(mix) => {
@@ -556,6 +557,7 @@ pub(crate) fn due_at(
         KeptPlan::Cells => cells::due(port, state),
         KeptPlan::Select(_) => enclosed::due(&select::ROW, port, state),
         KeptPlan::Indexed(_) => indexed::due(left, port, state),
+        KeptPlan::Loop => script::due(Script::Loop, port, state),
         KeptPlan::OneByOne(script) => script::due(*script, port, state),
         KeptPlan::Signalled => signalled::due(port, state),
         KeptPlan::Choice(mix) => choice::due(mix.get(), size, port, state),

@@ -55,6 +55,7 @@ pub enum KeptPlan {
     Signalled,
     Select(Spans),
     Indexed(Spans),
+    Loop,
     OneByOne(Script),
     Choice(KeptMix),
     Meeting(KeptMeet),
@@ -145,6 +146,7 @@ impl KeptPlan {
                 let spans = spans.dup()?;
                 Ok(KeptPlan::Indexed(spans))
             }
+            KeptPlan::Loop => Ok(KeptPlan::Loop),
             KeptPlan::OneByOne(script) => Ok(KeptPlan::OneByOne(*script)),
             KeptPlan::Choice(mix) => Ok(KeptPlan::Choice(*mix)),
             KeptPlan::Meeting(meet) => Ok(KeptPlan::Meeting(*meet)),

@@ -24,6 +24,7 @@ pub fn is_same_plan(plan: &KeptPlan, other: &KeptPlan) -> bool
         (KeptPlan::Signalled, KeptPlan::Signalled) => true,
         (KeptPlan::Select(spans), KeptPlan::Select(same)) => spans.is_same(same),
         (KeptPlan::Indexed(spans), KeptPlan::Indexed(same)) => spans.is_same(same),
+        (KeptPlan::Loop, KeptPlan::Loop) => true,
         (KeptPlan::OneByOne(script), KeptPlan::OneByOne(same)) => *script == *same,
         (KeptPlan::Choice(mix), KeptPlan::Choice(same)) => *mix == *same,
         (KeptPlan::Meeting(meet), KeptPlan::Meeting(same)) => *meet == *same,

@@ -1,11 +1,9 @@
-use Rattle.std.proofs.Common.{◌≡◌, refl, subst, IsTrue, ap}
+use Rattle.std.proofs.Common.{ap}
 use Rattle.bz_model.specs.Heads.{Component}
-use Rattle.bz_model.specs.Phases.{allows}
 use Rattle.bz_model.proofs.Fitting.{fits-move}
-use Rattle.bz_kinds.specs.Row.{Due, due_of}
-use Rattle.bz_kinds.specs.Riding.{taken}
+use Rattle.bz_kinds.specs.Row.{due_of}
 use Rattle.bz_kinds.proofs.RidingLaws.{came}
-use Rattle.bz_kinds.proofs.PlanLaws.{head-on-due, moves, turns, due-narrow, still-at, still-sends, one-head-on}
+use Rattle.bz_kinds.proofs.PlanLaws.{head-on-due, moves, turns, due-narrow, still-sends, one-head-on}
 use Rattle.bz_kinds.proofs.FreedLaws.{freed_comp}
 use Rattle.bz_kinds.proofs.comp.fire_freeing.Goals as goal
 
@@ -18,10 +16,6 @@ turn-requires c =
       place = at;
       small = small;
       due = (due_of h, due, due-narrow _ _ _ _ _ _ bits at sends c.args.port (due_of h) due);
-      still = λ d e.
-          let same : due_of h ≡ d = cc in
-          let may : IsTrue (allows phase d.mv) = subst (λ (d : Due). IsTrue (allows phase d.mv)) same ok in
-          still-at _ _ _ _ c.args.port d phase (taken d.mv c.args.rides) _ _ at e (came phase c.args.rides d.mv rides may) refl;
     }
 
 pub returns-clause-moves : goal.returns-clause-moves

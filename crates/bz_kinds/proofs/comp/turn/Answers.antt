@@ -1,7 +1,6 @@
 use Rattle.std.proofs.Common.{rules, ◌≡◌, Some, sym, ap, subst, ◌∙◌}
 use Rattle.bz_kinds.specs.declared.row.Meet.{Meet}
 use Rattle.bz_kinds.specs.declared.row.Mix.{Mix}
-use Rattle.bz_kinds.specs.declared.row.Script.{Script}
 use Rattle.bz_kinds.specs.declared.row.Script.TheVariants.{Loop}
 use Rattle.bz_kinds.specs.declared.row.Plan.TheVariants.{InTurn, Together, Cells, OneByOne, Choice, Meeting}
 use Rattle.bz_kinds.specs.declared.comp.Process.{Process}
@@ -43,10 +42,8 @@ returns-in-PushesTogether-clause-made c d e =
 pub returns-in-Cells-clause-made : goal.returns-in-Cells-clause-made
 returns-in-Cells-clause-made c d e = c.fire-in-Cells.ensures.made d (due-of _ _ (ap plan_of c.in-Cells.is) c.args.proc.now.size c.args.proc.now.left c.args.port _ d e)
 
-pub returns-in-OneByOne-Loop-clause-made : goal.returns-in-OneByOne-Loop-clause-made
-returns-in-OneByOne-Loop-clause-made c d e =
-    let loop : c.in-OneByOne-Loop.field-0 ≡ Loop = search rules in
-    c.fire-in-OneByOne-Loop.ensures.made d (due-of _ _ (ap plan_of c.in-OneByOne-Loop.is ∙ ap (λ (script : Script). OneByOne script) loop) c.args.proc.now.size c.args.proc.now.left c.args.port _ d e)
+pub returns-in-Loop-clause-made : goal.returns-in-Loop-clause-made
+returns-in-Loop-clause-made c d e = c.fire-in-Loop.ensures.made d (due-of _ _ (ap plan_of c.in-Loop.is) c.args.proc.now.size c.args.proc.now.left c.args.port _ d e)
 
 pub returns-in-Meeting-clause-made : goal.returns-in-Meeting-clause-made
 returns-in-Meeting-clause-made c d e =
@@ -90,8 +87,8 @@ returns-in-PushesTogether-clause-frees c =
 pub returns-in-Cells-clause-frees : goal.returns-in-Cells-clause-frees
 returns-in-Cells-clause-frees c = frees_as _ Cells c.args.proc.now.size c.args.port _ _ _ (ap plan_of c.in-Cells.is) c.fire-in-Cells.ensures.frees
 
-pub returns-in-OneByOne-Loop-clause-frees : goal.returns-in-OneByOne-Loop-clause-frees
-returns-in-OneByOne-Loop-clause-frees c = frees_as _ (OneByOne c.in-OneByOne-Loop.field-0) c.args.proc.now.size c.args.port _ _ _ (ap plan_of c.in-OneByOne-Loop.is) c.fire-in-OneByOne-Loop.ensures.frees
+pub returns-in-Loop-clause-frees : goal.returns-in-Loop-clause-frees
+returns-in-Loop-clause-frees c = frees_as _ (OneByOne Loop) c.args.proc.now.size c.args.port _ _ _ (ap plan_of c.in-Loop.is) c.fire-in-Loop.ensures.frees
 
 pub returns-in-Meeting-clause-frees : goal.returns-in-Meeting-clause-frees
 returns-in-Meeting-clause-frees c = frees_unknown _ _ _ _
