@@ -391,6 +391,21 @@ fn fill(
 {
     for at in from / 64..to.div_ceil(64) {
         let word = word_at(first, more, at).filled(places(at, from, to), number);
-        put_word(first, more, low, at, word);
+        store_word(first, more, at, word);
+    }
+    // Of the words in front of the filled ones those before `low` have no odd number still.
+    let before = (from / 64).saturating_sub(1).min(more.len());
+    *low = lowest_from(more, before.min(*low as usize));
+}
+
+#[tactic(auto, using(crate::proofs::Words::set_tail, crate::proofs::Words::set_past))]
+#[inline(always)]
+fn store_word(first: &mut PortWord, more: &mut [PortWord], at: usize, word: PortWord)
+    ensures { first.new ∷ more.new ≡ slice_set (first.old ∷ more.old) at word }
+{
+    if at == 0 {
+        *first = word;
+    } else if at <= more.len() {
+        more[at - 1] = word;
     }
 }

@@ -39,8 +39,8 @@ pub enum KeptMeet {
     PullMeeting,
 }
 
-/// A plan as a component keeps it: small, since a net has many. The rows of most moves are told without a look at their name;
-/// one that no other kind has stands in a block of its own.
+/// A plan as a component keeps it: small, since a net has many. A row in turn or at once that kinds have in common, and a Loop,
+/// are told by the variant alone; a row that no other kind has stands in a block of its own.
 #[derive(Drop)]
 pub enum KeptPlan {
     CallsInTurn,

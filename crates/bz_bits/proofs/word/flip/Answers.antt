@@ -1,6 +1,6 @@
-use Rattle.std.proofs.Common.{◌-◌, ◌%◌, Bool, ap, ◌∙◌}
+use Rattle.std.proofs.Common.{◌-◌, Bool, ap, ◌∙◌}
 use Rattle.std.specs.Int.{bit_at}
-use Rattle.std.specs.Prelude.{bit_xor, if◌then◌else◌}
+use Rattle.std.specs.Prelude.{if◌then◌else◌}
 use Rattle.std.proofs.lemmas.Nat.Bits.{bit_at_xor, bit_at-lt}
 use Rattle.bz_bits.proofs.Words.{turned_bit}
 use Rattle.bz_bits.proofs.word.flip.Goals as goal

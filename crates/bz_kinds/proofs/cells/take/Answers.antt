@@ -1,4 +1,4 @@
-use Rattle.std.proofs.Common.{inl, inr, refl}
+use Rattle.std.proofs.Common.{inl, refl}
 use Rattle.bz_kinds.specs.declared.ports.PortState.TheVariants.{OpenDue}
 use Rattle.bz_kinds.proofs.CellsLaws.{steps}
 use Rattle.bz_kinds.proofs.cells.take.Goals as goal

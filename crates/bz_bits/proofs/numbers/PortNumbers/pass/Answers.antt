@@ -1,6 +1,5 @@
-use Rattle.std.proofs.Common.{◌≡◌, ◌<◌, ◌-◌, ◌+◌, ◌%◌, ◌∷◌, ◌∙◌, ℕ, List, length, get_or, set, sym, ap, arith}
+use Rattle.std.proofs.Common.{◌<◌, ◌-◌, ◌+◌, ◌%◌, ◌∷◌, ◌∙◌, ℕ, List, length, get_or, set, sym, ap, arith}
 use Rattle.std.proofs.lemmas.List.{get_or-set_other}
-use Rattle.bz_bits.specs.PortWords.{numbers, number_in, AreNumbers}
 use Rattle.bz_bits.proofs.Words.{first_changed, are_changed, near-number, length-numbers, unchanged}
 use Rattle.bz_bits.proofs.numbers.PortNumbers.pass.Goals as goal
 

@@ -1,6 +1,6 @@
-use Rattle.std.proofs.Common.{◌≡◌, ◌∷◌, ◌≤◌, ℕ, List, length, get_or, refl, sym, ap, ◌∙◌, arith}
+use Rattle.std.proofs.Common.{◌∷◌, ◌≤◌, ℕ, List, length, get_or, refl, sym, ap, ◌∙◌, arith}
 use Rattle.std.specs.Prelude.{if◌then◌else◌}
-use Rattle.bz_bits.specs.PortWords.{number_at, between}
+use Rattle.bz_bits.specs.PortWords.{between}
 use Rattle.bz_bits.proofs.Words.{are_filled, each_filled, are_between, length-numbers}
 use Rattle.bz_bits.proofs.numbers.PortNumbers.set_between.Goals as goal
 

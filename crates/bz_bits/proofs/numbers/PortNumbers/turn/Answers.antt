@@ -1,6 +1,5 @@
-use Rattle.std.proofs.Common.{◌≡◌, ◌<◌, ◌%◌, ◌+◌, ◌∷◌, ℕ, List, length, get_or, set, ap, subst, ◌∙◌, arith}
+use Rattle.std.proofs.Common.{◌<◌, ◌%◌, ◌+◌, ◌∷◌, ℕ, List, length, get_or, set, ap, subst, ◌∙◌, arith}
 use Rattle.bz_bits.proofs.Words.{first_changed, are_changed, number_small, length-numbers}
-use Rattle.bz_bits.specs.PortWords.{numbers}
 use Rattle.bz_bits.proofs.numbers.PortNumbers.turn.Goals as goal
 
 pub invariant_of-self : goal.invariant_of-self

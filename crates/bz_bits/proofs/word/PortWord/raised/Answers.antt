@@ -1,7 +1,7 @@
-use Rattle.std.proofs.Common.{◌≡◌, ℕ, ◌+◌, ◌*◌, ◌%◌, true, ap, ◌∙◌}
+use Rattle.std.proofs.Common.{ℕ, ◌+◌, ◌*◌, ◌%◌, ap, ◌∙◌}
 use Rattle.std.specs.Int.{bit_at}
 use Rattle.std.proofs.lemmas.Nat.Bits.{bit_at-lt}
-use Rattle.bz_bits.specs.PortWords.{between, number_in}
+use Rattle.bz_bits.specs.PortWords.{number_in}
 use Rattle.bz_bits.proofs.Words.{raised_two, only_here}
 use Rattle.bz_bits.proofs.word.PortWord.raised.Goals as goal
 

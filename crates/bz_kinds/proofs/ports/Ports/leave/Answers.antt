@@ -1,5 +1,4 @@
-use Rattle.std.proofs.Common.{length, map, ap, ◌-◌, get_or, ◌∙◌, arith}
-use Rattle.std.proofs.lemmas.List.{length-map}
+use Rattle.std.proofs.Common.{map, ap, ◌-◌, get_or, ◌∙◌}
 use Rattle.bz_kinds.specs.declared.ports.PortState.TheVariants.{Closed, Open, OpenDue}
 use Rattle.bz_kinds.specs.Ports.{state_of}
 use Rattle.bz_kinds.proofs.PortLaws.{port_held, other_port, flipped_closed, passed_open, even_open}
