@@ -397,6 +397,7 @@ impl Core {
     }
 
     /// The component that is next to fire, from a number on.
+    #[inline(always)]
     pub fn next_ready(&self, from: u32) -> Option<u32>
         ensures { MatchOption result (Rest self.now.wiring.sites self.now.state)
             (IsNext (CanStep self.now.wiring.sites self.now.state) from) }
