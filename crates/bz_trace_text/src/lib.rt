@@ -3,6 +3,7 @@
 
 mod counting;
 mod firing;
+mod foretold;
 mod line;
 mod numeral;
 mod outgoing;
@@ -17,6 +18,7 @@ mod trace;
 
 pub use counting::counts;
 pub use firing::firing_at;
+pub use foretold::foretold_at;
 pub use outgoing::Outgoing;
 pub use page::Page;
 pub use ports::LineNames;
