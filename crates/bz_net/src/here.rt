@@ -194,9 +194,9 @@ pub(crate) fn has_step_by(
     }
 }
 
-// Whether the step that a component has at a port carries this value.
+/// Whether the step that a component has at a port carries this value.
 #[inline(never)]
-fn carries(
+pub(crate) fn carries(
     sites: &Arena<FlatComp>,
     phases: &Phases,
     nodes: &Arena<Node>,
@@ -481,9 +481,9 @@ fn tell_other(nodes: &mut Arena<Node>, ready: &mut ReadyRow, pair: &Ends, mv: Mo
     }
 }
 
-// Nothing comes to the component at an end. A look at it brings what its type says of its moves.
+/// Nothing comes to the component at an end. A look at it brings what its type says of its moves.
 #[inline(always)]
-fn look_at(nodes: &Arena<Node>, end: Option<u32>)
+pub(crate) fn look_at(nodes: &Arena<Node>, end: Option<u32>)
     requires { IfSome end (λ c. (0 < c) × (c ≤ length nodes.now)) }
     ensures { IfSome end (λ c. IsTurning (comp_at (comps_of nodes.now) c)) }
 {
