@@ -54,24 +54,25 @@ impl Guess {
 pub(crate) fn play_asked<'t, S: Watch>(
     net: &mut Play,
     names: &LineNames,
-    from: Followed,
+    followed: &mut Followed,
     text: &'t [u8],
     watch: &mut S,
     guess: &mut Guess,
-) -> (Followed, &'t [u8])
-    requires { IsFollowed names.now net.old text.now from }
-    ensures follows { (w : Wiring) (past : List Entry) (before : List ℕ) → FollowsText names.now w past net.old before text.now from
-        → FollowsText names.now w past net.new before result.1.now result.0 }
-    ensures gets_on { GetsOn from result.0 text.now result.1.now }
-    ensures shows { ShowsLines S.sees names.now watch.old text.now result.1.now watch.new }
+) -> &'t [u8]
+    requires { IsFollowed names.now net.old text.now followed.old }
+    ensures follows { (w : Wiring) (past : List Entry) (before : List ℕ) → FollowsText names.now w past net.old before text.now followed.old
+        → FollowsText names.now w past net.new before result.now followed.new }
+    ensures gets_on { GetsOn followed.old followed.new text.now result.now }
+    ensures shows { ShowsLines S.sees names.now watch.old text.now result.now watch.new }
 {
     if guess.wait > 0 {
         guess.wait -= 1;
-        return (from, text);
+        return text;
     }
-    let (now, after, next) = play_foretold(net, names, from, text, watch, guess.next);
-    *guess = guess.after(next, now.count > from.count);
-    (now, after)
+    let (now, after, next) = play_foretold(net, names, *followed, text, watch, guess.next);
+    *guess = guess.after(next, now.count > followed.count);
+    *followed = now;
+    after
 }
 
 // Follows lines at the front as long as they are those of the firings that are foretold, and answers from which number on the

@@ -55,11 +55,10 @@ pub(crate) fn play_lines<'t, S: Watch>(
     let mut followed = from;
     let mut guess = Guess::FIRST;
     while followed.count < MAX_ENTRIES {
-        let (now, behind) = play_asked(net, names, followed, rest, watch, &mut guess);
-        if now.count == MAX_ENTRIES {
-            return (now, behind);
+        let behind = play_asked(net, names, &mut followed, rest, watch, &mut guess);
+        if followed.count == MAX_ENTRIES {
+            return (followed, behind);
         }
-        followed = now;
         let Some(after) = follow_front(net, names, &mut followed, behind, watch, &mut guess.next)
         else {
             return (followed, behind);

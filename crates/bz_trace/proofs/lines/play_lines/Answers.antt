@@ -12,8 +12,8 @@ loop-followed-init g c =
     let (w, past, before, f) = c.requires in
     record { follows = λ w past before f. f; gets_on = inl (refl, refl); within = within c.args.names.now w past c.args.net.now before c.args.text.now c.args.from f; shows = shows_none g.S.Watch.sees c.args.names.now c.args.watch.now c.args.text.now }
 
-pub play_asked-requires : goal.play_asked-requires
-play_asked-requires g c =
+pub play_asked-behind-requires : goal.play_asked-behind-requires
+play_asked-behind-requires g c =
     let l = c.loop-followed in
     let (w, past, before, f) = c.requires in
     (w, past, before, l.invariant.follows w past before f)
@@ -22,30 +22,30 @@ pub follow_front-requires-clause-is : goal.follow_front-requires-clause-is
 follow_front-requires-clause-is g c =
     let l = c.loop-followed in
     let (w, past, before, f) = c.requires in
-    (w, past, before, c.play_asked.ensures.follows w past before (l.invariant.follows w past before f))
+    (w, past, before, c.play_asked-behind.ensures.follows w past before (l.invariant.follows w past before f))
 
 pub follow_front-requires-clause-fewer : goal.follow_front-requires-clause-fewer
 follow_front-requires-clause-fewer g c =
     let l = c.loop-followed in
     let (w, past, before, f) = c.requires in
-    let most = within c.args.names.now w past c.play_asked.new.net before c.play_asked.result.1.now c.play_asked.result.0 (c.play_asked.ensures.follows w past before (l.invariant.follows w past before f)) in
-    let fewer : c.play_asked.result.0.count ≢ MAX_ENTRIES = c.if-now-eq-MAX_ENTRIES.false in
-    below c.play_asked.result.0.count MAX_ENTRIES most fewer
+    let most = within c.args.names.now w past c.play_asked-behind.new.net before c.play_asked-behind.result.now c.play_asked-behind.new.followed (c.play_asked-behind.ensures.follows w past before (l.invariant.follows w past before f)) in
+    let fewer : c.play_asked-behind.new.followed.count ≢ MAX_ENTRIES = c.if-followed-eq-MAX_ENTRIES.false in
+    below c.play_asked-behind.new.followed.count MAX_ENTRIES most fewer
 
 pub loop-followed-smaller : goal.loop-followed-smaller
 loop-followed-smaller g c =
-    let l = c.loop-followed in let asked = c.play_asked in
-    let front : FollowsFront c.args.names.now asked.new.net c.follow_front.new.net asked.result.1.now c.in-Some.after.now asked.result.0 c.follow_front.new.followed = rw c.in-Some.is at c.follow_front.ensures.some in
-    let shorter = line_shorter c.args.names.now asked.result.1.now front.0 c.in-Some.after.now front.1 in
-    let no_more = no_longer l.followed asked.result.0 l.rest.now asked.result.1.now asked.ensures.gets_on in
+    let l = c.loop-followed in let asked = c.play_asked-behind in
+    let front : FollowsFront c.args.names.now asked.new.net c.follow_front.new.net asked.result.now c.in-Some.after.now asked.new.followed c.follow_front.new.followed = rw c.in-Some.is at c.follow_front.ensures.some in
+    let shorter = line_shorter c.args.names.now asked.result.now front.0 c.in-Some.after.now front.1 in
+    let no_more = no_longer l.followed asked.new.followed l.rest.now asked.result.now asked.ensures.gets_on in
     omega (arith, shorter, no_more)
 
 pub loop-followed-preserved : goal.loop-followed-preserved
 loop-followed-preserved g c =
-    let l = c.loop-followed in let asked = c.play_asked in let now = asked.result.0 in let behind = asked.result.1.now in
+    let l = c.loop-followed in let asked = c.play_asked-behind in let now = asked.new.followed in let behind = asked.result.now in
     let (w0, past0, before0, f0) = c.requires in
     let most = within c.args.names.now w0 past0 asked.new.net before0 behind now (asked.ensures.follows w0 past0 before0 (l.invariant.follows w0 past0 before0 f0)) in
-    let fewer : now.count < MAX_ENTRIES = below now.count MAX_ENTRIES most c.if-now-eq-MAX_ENTRIES.false in
+    let fewer : now.count < MAX_ENTRIES = below now.count MAX_ENTRIES most c.if-followed-eq-MAX_ENTRIES.false in
     let front : FollowsFront c.args.names.now asked.new.net c.follow_front.new.net behind c.in-Some.after.now now c.follow_front.new.followed = rw c.in-Some.is at c.follow_front.ensures.some in
     let one = front.2 in let is = one.count_is in
     let before_it = gets_on_then c.args.from l.followed now c.args.text.now l.rest.now behind l.invariant.gets_on asked.ensures.gets_on in
@@ -60,14 +60,14 @@ loop-followed-preserved g c =
           (rw c.in-Some.is at c.follow_front.ensures.shows);
     }
 
-pub returns-then-now-eq-MAX_ENTRIES-clause-shows : goal.returns-then-now-eq-MAX_ENTRIES-clause-shows
-returns-then-now-eq-MAX_ENTRIES-clause-shows g c =
-    let l = c.loop-followed in let asked = c.play_asked in
-    shows_then g.S.Watch.sees c.args.names.now c.args.watch.now l.watch asked.new.watch c.args.text.now l.rest.now asked.result.1.now l.invariant.shows asked.ensures.shows
+pub returns-then-followed-eq-MAX_ENTRIES-clause-shows : goal.returns-then-followed-eq-MAX_ENTRIES-clause-shows
+returns-then-followed-eq-MAX_ENTRIES-clause-shows g c =
+    let l = c.loop-followed in let asked = c.play_asked-behind in
+    shows_then g.S.Watch.sees c.args.names.now c.args.watch.now l.watch asked.new.watch c.args.text.now l.rest.now asked.result.now l.invariant.shows asked.ensures.shows
 
 pub returns-in_default-clause-shows : goal.returns-in_default-clause-shows
 returns-in_default-clause-shows g c =
-    let l = c.loop-followed in let asked = c.play_asked in
+    let l = c.loop-followed in let asked = c.play_asked-behind in
     let same : c.follow_front.new.watch ≡ asked.new.watch = rw c.in_default.is at c.follow_front.ensures.shows in
-    subst (λ s. ShowsLines g.S.Watch.sees c.args.names.now c.args.watch.now c.args.text.now asked.result.1.now s) (sym same)
-    (shows_then g.S.Watch.sees c.args.names.now c.args.watch.now l.watch asked.new.watch c.args.text.now l.rest.now asked.result.1.now l.invariant.shows asked.ensures.shows)
+    subst (λ s. ShowsLines g.S.Watch.sees c.args.names.now c.args.watch.now c.args.text.now asked.result.now s) (sym same)
+    (shows_then g.S.Watch.sees c.args.names.now c.args.watch.now l.watch asked.new.watch c.args.text.now l.rest.now asked.result.now l.invariant.shows asked.ensures.shows)
