@@ -1,11 +1,13 @@
 -- What is read of marks and values, and written to them, as the phases that they tell show it.
-use Rattle.std.proofs.Common.{◌≡◌, ◌≢◌, ◌<◌, ℕ, zero, suc, List, [], ◌∷◌, length, replicate, get_or, set, Some, None, refl, sym, ap, ◌∙◌, arith}
+use Rattle.std.proofs.Common.{◌≡◌, ◌≢◌, ◌<◌, ℕ, zero, suc, List, [], ◌∷◌, length, replicate, get_or, set, Some, None, refl, sym, ap, subst, ◌∙◌, arith}
 use Rattle.std.proofs.lemmas.List.{get_or_default}
+use Rattle.bz_model.specs.declared.channel.Move.{Move}
 use Rattle.bz_model.specs.declared.channel.Phase.{Phase}
-use Rattle.bz_model.specs.declared.channel.Phase.TheVariants.{Idle}
+use Rattle.bz_model.specs.declared.channel.Phase.TheVariants.{Idle, Broken}
 use Rattle.bz_net.specs.declared.kept_phases.Mark.{Mark}
 use Rattle.bz_net.specs.declared.kept_phases.Mark.TheVariants as mark
 use Rattle.bz_kinds.specs.Riding.{riding}
+use Rattle.bz_net.specs.Due.{next_of}
 use Rattle.bz_net.specs.KeptPhases.{phase_of, phases_of}
 
 pub length_phases : (ms : List Mark) (vs : List ℕ) → length vs ≡ length ms → length (phases_of ms vs) ≡ length ms
@@ -69,3 +71,11 @@ pub none_rides : (ms : List Mark) (vs : List ℕ) (i : ℕ) (m : Mark) → lengt
 none_rides ms vs i m same lt is not_asked not_replied =
     let v = get_or vs i 0 in
     without m v not_asked not_replied ∙ riding_read ms vs i m v same lt is (get_or_default vs i 0 v (omega (arith, same, lt)))
+
+-- the move that comes next, where a mark was read
+pub next_read : (ms : List Mark) (vs : List ℕ) (i : ℕ) (m : Mark) (mv : Move) → length vs ≡ length ms → i < length ms → m ≡ get_or ms i m → ((v : ℕ) → phase_of m v ≢ Broken → next_of (phase_of m v) ≡ Some mv)
+    → get_or (phases_of ms vs) i Idle ≢ Broken → next_of (get_or (phases_of ms vs) i Idle) ≡ Some mv
+next_read ms vs i m mv same lt is tells whole =
+    let v = get_or vs i 0 in
+    let read = phase_read ms vs i m v same lt is (get_or_default vs i 0 v (omega (arith, same, lt))) in
+    subst (λ (f : Phase). f ≢ Broken → next_of f ≡ Some mv) read (tells v) whole

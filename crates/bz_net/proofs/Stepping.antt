@@ -90,7 +90,7 @@ module _ (sites : List Site) (phases : List Phase) (comps : List Component) (her
     not_next mv value other (next, step) = other (next_step k mv value next step)
 
     -- the step by the move that comes next
-    step_next : (mv : Move) → StepsAt sites s c p → next_of (phase_in phases k) ≡ Some mv → (value : Option ℕ) × HasStep sites s c p k mv value
+    pub step_next : (mv : Move) → StepsAt sites s c p → next_of (phase_in phases k) ≡ Some mv → (value : Option ℕ) × HasStep sites s c p k mv value
     step_next mv at is =
         let (m, value, (next, step)) = own_step at in
         let same : m ≡ mv = some_same m mv (sym (next_step k m value next step) ∙ is) in

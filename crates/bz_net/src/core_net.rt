@@ -1,7 +1,7 @@
 //! A net without a journal: its wiring, one state of it, and which components can move in it. Who reads a net reads its core,
 //! whether it keeps a journal (`Net`) or none (`Play`).
 
-ghost use Rattle.std.specs.Prelude.{◌≡◌, ◌≢◌, ◌≤◌, ◌<◌, None, Some, MatchBool, MatchOption, OnOk, IfOk, IfErr, IfNone, length};
+ghost use Rattle.std.specs.Prelude.{◌≡◌, ◌≢◌, ◌≤◌, ◌<◌, None, Some, IfSome, IsTrue, MatchBool, MatchOption, OnOk, IfOk, IfErr, IfNone, length};
 ghost use Rattle.std.specs.Option.{option_copied, option_map};
 ghost use Rattle.bz_model.specs.Hosts.{HostStep, command_refusal, refusal_at, reply_to};
 ghost use Rattle.bz_model.specs.Names.{NamesDiffer, numbered, port_number};
@@ -12,12 +12,14 @@ ghost use Rattle.bz_flat.specs.Wires.{IsEnd, WellWired};
 ghost use Rattle.bz_net.specs.Core.{IsSole};
 ghost use Rattle.bz_net.specs.Due.{Foresees, GivesAsSteps, HasStep, IsSoleDue, TellsDue};
 ghost use Rattle.bz_net.specs.Ends.{TellsEnds, TellsPort, IsSolePort};
+ghost use Rattle.bz_net.specs.Foretelling.{IsForetold};
 ghost use Rattle.bz_net.specs.Noted.{AskedBefore, NotedAt, NotedMove, WatchesBut};
 ghost use Rattle.bz_net.specs.Sides.{answers};
 ghost use Rattle.bz_net.specs.Told.{MayMove, MovesAt};
 ghost use Rattle.bz_net.specs.Unbroken.{IsUnbroken};
 
 use crate::chan_row::ChanRow;
+use crate::foretelling::{Foretold, carries_told, foretell};
 use crate::here::{command, has_step, has_step_by, lowest_port, mark_all, move_comp};
 use crate::kept_phases::Phases;
 use crate::moves::{answers, due_at, foresee, mixes, note_clash, port_in, refusal_of, reply_to};
@@ -430,8 +432,7 @@ impl Core {
         ensures met { AskedBefore self.old.wiring.sites self.old.state.phases self.new.state.phases result.1 }
         ensures unbroken { IsUnbroken self.new.state }
     {
-        self.moved[comp as usize - 1] = true;
-        move_comp(
+        let made = move_comp(
             &self.sites,
             &self.ends,
             &self.chans,
@@ -440,7 +441,9 @@ impl Core {
             &mut self.ready,
             comp,
             at,
-        )
+        );
+        self.moved[comp as usize - 1] = true;
+        made
     }
 
     /// Moves a component at a port: the channel, the move and its value.
@@ -506,6 +509,29 @@ impl Core {
             Move::Ask if self.mixes => self.note_clash(chan, noted),
             _ => {}
         }
+    }
+
+    /// The step of the component that is next to fire, from a number on, at its lowest port.
+    #[inline(always)]
+    pub fn foretell(&self, from: u32) -> Option<Foretold>
+        ensures next { IfSome result (λ told. IsNext (CanStep self.now.wiring.sites self.now.state) from told.comp) }
+        ensures lowest { IfSome result (λ told. IsLowest self.now.wiring.sites self.now.state told.comp told.port) }
+        ensures foretold { IfSome result (IsForetold self.now.wiring.sites self.now.state) }
+    {
+        let comp = self.next_ready(from)?;
+        let told = foretell(&self.sites, &self.chans, &self.phases, &self.nodes, comp);
+        Some(told)
+    }
+
+    /// Whether the step that was foretold carries this value. A value is given where the move carries one.
+    #[inline(always)]
+    pub(crate) fn carries(&self, told: Foretold, value: Option<Value>) -> bool
+        requires foretold { IsForetold self.now.wiring.sites self.now.state told }
+        requires given { GivesAsSteps self.now.wiring.sites self.now.state told.comp told.chan told.mv value }
+        ensures has { IsTrue result → HasStep self.now.wiring.sites self.now.state told.comp told.port told.chan told.mv value }
+        ensures sole { IsSolePort self.now.wiring.sites self.now.state told.comp told.chan told.mv (Some told.port) }
+    {
+        carries_told(&self.sites, &self.phases, &self.nodes, told, value)
     }
 }
 

@@ -189,9 +189,9 @@ pub(crate) fn has_step_by(
     }
 }
 
-// Whether the step that a component has at a port carries this value.
+/// Whether the step that a component has at a port carries this value.
 #[inline(never)]
-fn carries(
+pub(crate) fn carries(
     sites: &Arena<FlatComp>,
     phases: &Phases,
     nodes: &NodeRow,
@@ -476,9 +476,9 @@ fn tell_other(nodes: &mut NodeRow, ready: &mut ReadyRow, pair: &Ends, mv: Move)
     }
 }
 
-// Nothing comes to the component at an end. A look at it brings what its type says of its moves.
+/// Nothing comes to the component at an end. A look at it brings what its type says of its moves.
 #[inline(always)]
-fn look_at(nodes: &NodeRow, end: Option<u32>)
+pub(crate) fn look_at(nodes: &NodeRow, end: Option<u32>)
     requires { IfSome end (λ c. (0 < c) × (c ≤ length nodes.now)) }
     ensures { IfSome end (λ c. IsTurning (comp_at (comps_of nodes.now) c)) }
 {

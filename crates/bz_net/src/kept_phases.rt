@@ -1,10 +1,11 @@
 //! The phases of a net's channels, in little room: a mark for each channel, and the values in a row of their own.
 
-ghost use Rattle.std.specs.Prelude.{◌≡◌, ◌≢◌, ◌<◌, ℕ, IfOk, length, replicate, slice_index_or, slice_set};
+ghost use Rattle.std.specs.Prelude.{◌≡◌, ◌≢◌, ◌<◌, ℕ, IfOk, Some, length, replicate, slice_index_or, slice_set};
 ghost use Rattle.bz_model.specs.declared.channel.Phase.{Phase};
 ghost use Rattle.bz_model.specs.declared.channel.Phase.TheVariants.{Idle};
 ghost use Rattle.bz_model.specs.Phases.{phase_after};
 ghost use Rattle.bz_kinds.specs.Riding.{riding};
+ghost use Rattle.bz_net.specs.Due.{next_of};
 ghost use Rattle.bz_net.specs.KeptPhases.{phase_of, MarksPhase};
 
 use crate::moves::sends;
@@ -99,6 +100,16 @@ impl Phases {
         phase_of(self.marks[place], &self.values[place])
     }
 
+    /// The move that comes next on the channel in a place, counted from 0, where that isn't broken.
+    #[inline(always)]
+    #[tactic(auto, using(crate::proofs::Marks::length_phases))]
+    pub(crate) fn next(&self, place: usize) -> Move
+        requires { place < length self.now }
+        ensures { slice_index_or self.now place Idle ≢ Phase.Broken → next_of (slice_index_or self.now place Idle) ≡ Some result }
+    {
+        next_after(self.marks[place])
+    }
+
     /// The value that rides on the channel in a place, counted from 0.
     #[inline(always)]
     #[tactic(auto, using(crate::proofs::Marks::length_phases, crate::proofs::Marks::request_rides, crate::proofs::Marks::reply_rides, crate::proofs::Marks::none_rides))]
@@ -141,6 +152,25 @@ impl Phases {
         }
     }
 }
+
+// The move that comes next by a mark, where that isn't broken.
+#[inline(always)]
+fn next_after(mark: Mark) -> Move
+    ensures { (v : ℕ) → phase_of mark v ≢ Phase.Broken → next_of (phase_of mark v) ≡ Some result }
+{
+    NEXT[mark as usize]
+}
+
+// The same by the mark's number. On a broken channel none does.
+static NEXT: [Move; 7] = [
+    Move::Ask,
+    Move::Take,
+    Move::Reply,
+    Move::Got,
+    Move::Ask,
+    Move::Take,
+    Move::Got,
+];
 
 // The phase that a mark tells, by the value beside it. That is read only where one rides.
 #[inline(always)]

@@ -1,6 +1,6 @@
 //! A net that keeps no journal: the entries of its events go to whoever plays it.
 
-ghost use Rattle.std.specs.Prelude.{◌≡◌, ◌⊎◌, ◌-◌, ◌≤◌, ◌<◌, ℕ, min, length, [], ◌∷◌, ◌++◌, None, true, vec_len, vec_capacity, IfOk, IfErr, IfSome, IfNone, OnErr, List};
+ghost use Rattle.std.specs.Prelude.{◌≡◌, ◌⊎◌, ◌-◌, ◌≤◌, ◌<◌, ℕ, min, length, [], ◌∷◌, ◌++◌, None, false, true, vec_len, vec_capacity, IfOk, IfErr, IfSome, IfNone, IsTrue, OnErr, List};
 ghost use Rattle.std.specs.List.Sorted.{IsStrictlyIncreasing};
 ghost use Rattle.bz_model.specs.declared.event.Entry.{Entry};
 ghost use Rattle.bz_model.specs.declared.event.Reply.{Reply};
@@ -10,11 +10,13 @@ ghost use Rattle.bz_model.specs.Nets.{opening, outside};
 ghost use Rattle.bz_model.specs.Runs.{Rest};
 ghost use Rattle.bz_flat.specs.Wires.{WellWired};
 ghost use Rattle.bz_net.specs.Due.{GivesAsSteps, HasStep, LeadsOnlyTo};
+ghost use Rattle.bz_net.specs.Foretelling.{IsForetold};
 ghost use Rattle.bz_net.specs.Progress.{Enters, EntersRest, FiresAt, IsBelowLast, IsToldBy, LeadsOn, RefusesAt, RunsInto, with_journal};
 ghost use Rattle.bz_net.specs.Replies.{IsPicked, RefusesCommand, RefusesEntry, Replies};
 ghost use Rattle.bz_net.specs.Told.{MayMove};
 
 use crate::core_net::Core;
+use crate::foretelling::Foretold;
 use crate::event::{Piece, RestReply, RunEnd};
 use crate::moves::refusal_of;
 use crate::noted::Noted;
@@ -319,6 +321,26 @@ impl Play {
         }
         self.fire(who, comp, Some(port));
         Some(port)
+    }
+
+    /// Makes the step that was foretold, where it carries this value and one more entry is let in; else nothing changes. A value
+    /// is given where the move carries one.
+    #[inline(always)]
+    pub fn fire_foretold(&mut self, who: Who, told: Foretold, value: Option<Value>) -> bool
+        requires foretold { IsForetold self.old.wiring.sites self.old.state told }
+        requires given { GivesAsSteps self.old.wiring.sites self.old.state told.comp told.chan told.mv value }
+        ensures enters { IsTrue result → Enters self.old (Entry.Fired who told.comp told.port told.chan told.mv value) self.new }
+        ensures sole { IsTrue result → LeadsOnlyTo self.old.wiring.sites self.old.state told.comp told.chan told.mv self.new.state }
+        ensures none { result ≡ false → self.new ≡ self.old }
+    {
+        if self.left == 0 {
+            return false;
+        }
+        if !self.core.carries(told, value) {
+            return false;
+        }
+        self.fire(who, told.comp, Some(told.port));
+        true
     }
 
     /// Asks whether any component can move.

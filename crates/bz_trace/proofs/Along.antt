@@ -29,7 +29,7 @@ use Rattle.bz_trace.specs.declared.checking.Verdict.TheVariants as verdict
 use Rattle.bz_trace_text.specs.declared.tally.Counts.{Counts}
 use Rattle.bz_trace_text.specs.Counting.{AreFewer, Tells, is_fired, is_host, is_rest}
 use Rattle.bz_trace_text.proofs.Counted.{fewer}
-use Rattle.bz_trace.specs.Following.{FollowsFront, FollowsText, Goes, IsLed, NoneToFollow, PlaysOn, Stands, Stops}
+use Rattle.bz_trace.specs.Following.{FollowsFront, FollowsText, GetsOn, Goes, IsLed, NoneToFollow, PlaysOn, Stands, Stops}
 use Rattle.bz_trace.specs.declared.lines.Followed.{Followed}
 
 -- a line is that of the entry as told
@@ -486,3 +486,17 @@ pub follows_one : (names : Outside) (w : Wiring) (past : List Entry) (old new : 
 follows_one names w past old new text rest after far to f fewer (line, at, one) =
     subst (λ (n : ℕ). FollowsText names w past new text after (record { counts = to.counts; count = n; stop = to.stop })) (sym one.count_is)
     (follows_more names w past old new text rest after far to.counts to.stop line f at (λ e. absurd (omega (arith, e, fewer))) one.plays one.counted)
+
+-- lines that were followed behind others
+pub gets_on_then : (a b c : Followed) (s t u : List ℕ) → GetsOn a b s t → GetsOn b c t u → GetsOn a c s u
+gets_on_then a b c s t u (inl one) (inl two) = inl (two.0 ∙ one.0, two.1 ∙ one.1)
+gets_on_then a b c s t u (inl one) (inr two) = let n = one.0 in let m = two.0 in inr (omega (arith, n, m), subst (λ x. length u < length x) one.1 two.1)
+gets_on_then a b c s t u (inr one) (inl two) = let n = one.0 in let m = two.0 in inr (omega (arith, n, m), subst (λ x. length x < length s) (sym two.1) one.1)
+gets_on_then a b c s t u (inr one) (inr two) = let n = one.0 in let m = two.0 in let k = one.1 in let l = two.1 in inr (omega (arith, n, m), omega (arith, k, l))
+
+pub no_longer : (a b : Followed) (s t : List ℕ) → GetsOn a b s t → length t ≤ length s
+no_longer a b s t (inl same) = subst (λ x. length t ≤ length x) same.1 (omega arith)
+no_longer a b s t (inr more) = let l = more.1 in omega (arith, l)
+
+pub below : (n most : ℕ) → n ≤ most → n ≢ most → n < most
+below n most le other = omega (arith, le, other)

@@ -19,7 +19,7 @@ use Rattle.bz_net.specs.Progress.{Progress, Enters, RefusesAt, with_journal}
 use Rattle.bz_net.specs.Replies.{RefusesEntry}
 use Rattle.bz_net.proofs.Fitting.{fits_in}
 use Rattle.bz_net.proofs.Lines.{has_line}
-use Rattle.bz_trace.specs.Following.{Goes, IsLed, Stops}
+use Rattle.bz_trace.specs.Following.{Goes, IsLed, PlaysOn, Stops}
 
 -- the entry that a line tells, but for the port of a firing
 told_fired : (other : Entry) (who : Who) (c k : ℕ) (mv : Move) (value : Option ℕ) → told other ≡ Fired who c 0 k mv value → (p : ℕ) × (other ≡ Fired who c p k mv value)
@@ -132,3 +132,13 @@ no_rest net who c can other next tells follows = (subst (λ o. Follows net.wirin
 
 pub rest_refused : (net : Progress) (who : Who) (e : NetError) → 0 < net.left → ((journal : List Entry) → RefusesEntry (with_journal net journal) e) → Stops net (Rested who)
 rest_refused net who e place refused other next tells follows = let_in net e place refused
+
+-- the net went on by a line where none had stopped
+pub plays_first : (old new : Progress) (line : Entry) (number : ℕ) (from to : Option ℕ) → from ≡ None → to ≡ from → Goes old new line → PlaysOn old new line number from to
+plays_first old new line number None None is same goes = goes
+plays_first old new line number None (Some k) is same goes = absurd (cc)
+plays_first old new line number (Some k) to is same goes = absurd (cc)
+
+pub none_of : (o : Option ℕ) → is_some o ≡ false → o ≡ None
+none_of None is = refl
+none_of (Some k) is = absurd (cc)

@@ -62,7 +62,8 @@ fn check_text(alloc: Global, net: &mut Play, text: &[u8]) -> (Verdict, Counts)
     let Ok(names) = net.names().dup(alloc) else {
         return (Verdict::Memory, Counts::NONE);
     };
-    let names = LineNames::new(alloc, &names);
+    let numbers = net.core().chan_count().max(net.core().comp_count()) as usize + 1;
+    let names = LineNames::spelling(alloc, &names, numbers);
     match version_at(text) {
         Some((version, lines)) => check_lines(net, &names, version, lines),
         None => (Verdict::Bad(1), Counts::NONE),

@@ -1,12 +1,13 @@
 //! One line of a trace, played on a net.
 
-ghost use Rattle.std.specs.Prelude.{◌≡◌, ◌<◌, ◌≤◌, None, length};
+ghost use Rattle.std.specs.Prelude.{◌≡◌, ◌<◌, ◌≤◌, IsTrue, None, false, length};
 ghost use Rattle.bz_model.specs.Nets.{outside};
 ghost use Rattle.bz_model.specs.Entries.{HasLine};
-ghost use Rattle.bz_trace.specs.Following.{IsLed, Plays, PlaysOn};
+ghost use Rattle.bz_net.specs.Foretelling.{IsForetold};
+ghost use Rattle.bz_trace.specs.Following.{Goes, IsLed, Plays, PlaysOn};
 
 use bz_model::{Entry, Move, Reply, Value, Verb, Who};
-use bz_net::{Play, RestReply};
+use bz_net::{Foretold, Play, RestReply};
 
 /// What became of a line: the net went on by it, or no event gives such a line here.
 #[derive(Clone, Copy)]
@@ -61,6 +62,19 @@ fn follow_firing(
         Some(_) => Step::Goes,
         None => Step::Stops,
     }
+}
+
+/// Makes the step that was foretold, where a line of the first worker tells it with this value. Whether it was made; if not, the
+/// net stays as it was.
+#[inline(always)]
+pub(crate) fn follow_told(net: &mut Play, told: Foretold, value: Option<Value>) -> bool
+    requires has_line { HasLine (outside net.old.wiring) (Entry.Fired (Who.Worker 1) told.comp 0 told.chan told.mv value) }
+    requires led { IsLed net.old }
+    requires foretold { IsForetold net.old.wiring.sites net.old.state told }
+    ensures goes { IsTrue result → Goes net.old net.new (Entry.Fired (Who.Worker 1) told.comp 0 told.chan told.mv value) }
+    ensures none { result ≡ false → net.new ≡ net.old }
+{
+    net.fire_foretold(Who::Worker(1), told, value)
 }
 
 #[inline(never)]

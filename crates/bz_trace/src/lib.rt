@@ -3,6 +3,7 @@
 
 mod checking;
 mod following;
+mod foretelling;
 mod joined;
 mod kept;
 mod laws;

@@ -1,15 +1,16 @@
 //! The lines of entries at the front of a text, played on a net.
 
-ghost use Rattle.std.specs.Prelude.{◌≡◌, ◌<◌, None, List, ℕ, IfNone, IfSome, MatchOption};
+ghost use Rattle.std.specs.Prelude.{◌≡◌, ◌<◌, ◌+◌, ◌++◌, ◌∷◌, [], None, List, ℕ, IfNone, IfSome, MatchOption};
 ghost use Rattle.bz_model.specs.declared.event.Entry.{Entry};
 ghost use Rattle.bz_model.specs.Entries.{HasLine};
 ghost use Rattle.bz_model.specs.Nets.{Wiring, outside};
-ghost use Rattle.bz_trace_text.specs.Counting.{AreFewer};
+ghost use Rattle.bz_trace_text.specs.Counting.{AreFewer, Tells};
 ghost use Rattle.bz_trace_text.specs.Reading.{line_at};
 ghost use Rattle.bz_trace.specs.Following.{FollowsFront, FollowsOne, FollowsText, GetsOn, IsFollowed, IsLed, NoneToFollow};
 ghost use Rattle.bz_trace.specs.Watching.{ShowsFront, ShowsLines};
 
 use crate::following::play_on;
+use crate::foretelling::{Guess, play_asked};
 use crate::watching::Watch;
 use bz_model::Entry;
 use bz_net::Play;
@@ -52,9 +53,15 @@ pub(crate) fn play_lines<'t, S: Watch>(
 {
     let mut rest = text;
     let mut followed = from;
+    let mut guess = Guess::FIRST;
     while followed.count < MAX_ENTRIES {
-        let Some(after) = follow_front(net, names, &mut followed, rest, watch) else {
-            return (followed, rest);
+        let behind = play_asked(net, names, &mut followed, rest, watch, &mut guess);
+        if followed.count == MAX_ENTRIES {
+            return (followed, behind);
+        }
+        let Some(after) = follow_front(net, names, &mut followed, behind, watch, &mut guess.next)
+        else {
+            return (followed, behind);
         };
         rest = after;
     }
@@ -69,6 +76,7 @@ fn follow_front<'t, S: Watch>(
     followed: &mut Followed,
     text: &'t [u8],
     watch: &mut S,
+    next: &mut u32,
 ) -> Option<&'t [u8]>
     requires is { IsFollowed names.now net.old text.now followed.old }
     requires fewer { followed.old.count < MAX_ENTRIES }
@@ -80,6 +88,9 @@ fn follow_front<'t, S: Watch>(
     match firing_at(names, text) {
         Some((line, after)) => {
             follow_one(net, followed, line, watch);
+            if let Entry::Fired { comp, .. } = line {
+                *next = comp.wrapping_add(1);
+            }
             Some(after)
         }
         None => follow_other(net, names, followed, text, watch),
@@ -118,8 +129,21 @@ fn follow_one<S: Watch>(net: &mut Play, followed: &mut Followed, line: Entry, wa
     ensures follows { FollowsOne net.old net.new line followed.old followed.new }
     ensures sees { S.sees watch.old line watch.new }
 {
-    watch.see(&line);
     followed.stop = play_on(net, line, followed.count + 2, followed.stop);
+    count_line(followed, line, watch);
+}
+
+/// Counts a line, and shows it to who watches.
+#[inline(always)]
+pub(crate) fn count_line<S: Watch>(followed: &mut Followed, line: Entry, watch: &mut S)
+    requires counts { AreFewer followed.old.counts 18446744073709551615 }
+    requires fewer { followed.old.count < MAX_ENTRIES }
+    ensures counted { (entries : List Entry) → Tells followed.old.counts entries → Tells followed.new.counts (entries ++ line ∷ []) }
+    ensures count { followed.new.count ≡ followed.old.count + 1 }
+    ensures stop { followed.new.stop ≡ followed.old.stop }
+    ensures sees { S.sees watch.old line watch.new }
+{
+    watch.see(&line);
     followed.counts.add(&line);
     followed.count += 1;
 }

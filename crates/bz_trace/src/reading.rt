@@ -123,7 +123,8 @@ pub(crate) fn read_text<R: Read, S: Watch>(
     let Ok(names) = net.names().dup(alloc) else {
         return Err(ReadFault::Memory);
     };
-    let names = LineNames::new(alloc, &names);
+    let numbers = net.core().chan_count().max(net.core().comp_count()) as usize + 1;
+    let names = LineNames::spelling(alloc, &names, numbers);
     let mut held = Vec::new(alloc);
     read_more(input, &mut held, FIRST_LINE)?;
     match version_at(held.as_slice()) {

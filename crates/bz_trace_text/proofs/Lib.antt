@@ -14,3 +14,4 @@ pub mod Cuts
 pub mod Counted
 pub mod Firings
 pub mod Kept
+pub mod Compared

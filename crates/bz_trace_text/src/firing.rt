@@ -10,7 +10,7 @@ use crate::reading::carried;
 use bz_model::{Entry, Move, Value, Who};
 
 // No line that is read here is longer.
-const LONGEST: usize = 64;
+pub(crate) const LONGEST: usize = 64;
 
 // Whether four bytes stand at a place. They are compared at once.
 #[inline(always)]
@@ -117,7 +117,11 @@ fn worker_from(text: &[u8]) -> Option<u8>
 
 // A space and a value, where one is carried.
 #[inline(always)]
-fn carried_from(text: &[u8], from: usize, carried: bool) -> Option<(Option<Value>, usize)>
+pub(crate) fn carried_from(
+    text: &[u8],
+    from: usize,
+    carried: bool,
+) -> Option<(Option<Value>, usize)>
     requires { from + 19 ≤ length text.now }
     ensures before { IfSome result (λ r. begins_digit (drop r.1 text.now) ≡ false → begins_digit (drop from text.now) ≡ false) }
     ensures reads { IfSome result (λ r. begins_digit (drop r.1 text.now) ≡ false

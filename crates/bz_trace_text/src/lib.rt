@@ -3,6 +3,7 @@
 
 mod counting;
 mod firing;
+mod foretold;
 mod kept_line;
 mod kept_lines;
 mod line;
@@ -19,6 +20,7 @@ mod trace;
 
 pub use counting::counts;
 pub use firing::firing_at;
+pub use foretold::foretold_at;
 pub use outgoing::Outgoing;
 pub use page::Page;
 pub use ports::LineNames;

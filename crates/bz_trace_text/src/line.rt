@@ -229,7 +229,7 @@ fn set_byte(bytes: &mut [u8], at: usize, byte: u8) -> usize
 
 // The word of a move between two spaces. The last byte says how long that is.
 #[inline(always)]
-fn move_word(mv: Move) -> [u8; 8]
+pub(crate) fn move_word(mv: Move) -> [u8; 8]
     ensures text { take (get_or result 7 0) result ≡ codes " " ++ (move_text mv ++ codes " ") }
     ensures count { get_or result 7 0 ≤ 7 }
 {

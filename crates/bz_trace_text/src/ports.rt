@@ -3,9 +3,12 @@
 ghost use Rattle.std.specs.Prelude.{◌≡◌, ◌<◌, ◌^◌, ◌++◌, ◌∷◌, List, codes, length, map, IfSome, IfOk, MatchOption, string_bytes};
 ghost use Rattle.bz_model.specs.Names.{External, external};
 ghost use Rattle.bz_model.specs.Traces.{name_form, byte_form};
+ghost use Rattle.bz_trace_text.specs.Spelling.{AreSpelled};
 ghost use Rattle.bz_trace_text.specs.Reading.{HasNoSpace, Reads, form_of, strip, port_from};
 
+use crate::numeral::Numeral;
 use crate::reading::strip;
+use crate::spelled::Spelled;
 use bz_model::{NameSet, Names, Port};
 use bz_text::{NameForm, hex_digit, is_plain};
 use std::alloc::Global;
@@ -17,6 +20,7 @@ pub struct LineNames<'a> {
     names: &'a Names,
     // The forms of the ports' names in order, by which they are found.
     forms: Option<NameSet>,
+    spelled: Spelled,
 }
 
 impl<'a> Model for LineNames<'a> {
@@ -35,8 +39,27 @@ impl<'a> LineNames<'a> {
     pub fn new(alloc: Global, names: &'a Names) -> LineNames<'a>
         ensures { result ≡ names.now }
     {
+        LineNames::spelling(alloc, names, 0)
+    }
+
+    /// The same, with the numbers below `count` spelled for lines that are foretold.
+    pub fn spelling(alloc: Global, names: &'a Names, count: usize) -> LineNames<'a>
+        ensures { result ≡ names.now }
+    {
         let forms = forms_of(alloc, names.ports());
-        LineNames { names, forms }
+        let spelled = Spelled::below(alloc, count);
+        LineNames {
+            names,
+            forms,
+            spelled,
+        }
+    }
+
+    #[inline(always)]
+    pub(crate) fn spelled(&self) -> &[Numeral]
+        ensures { AreSpelled result.now }
+    {
+        self.spelled.as_slice()
     }
 
     pub(crate) fn names(&self) -> &Names

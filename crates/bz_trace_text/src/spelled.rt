@@ -21,8 +21,13 @@ pub(crate) struct Spelled {
 impl Spelled {
     /// Those of the numbers below `count`, but at least 1,000 and at most 16,384 of them, or as many as there is memory for.
     pub(crate) fn new(alloc: Global, count: usize) -> Spelled {
+        Spelled::below(alloc, count.max(LEAST))
+    }
+
+    /// Those of the numbers below `count`, but at most 16,384 of them, or as many as there is memory for.
+    pub(crate) fn below(alloc: Global, count: usize) -> Spelled {
         let mut numbers = Vec::new(alloc);
-        for n in 0..count.clamp(LEAST, MOST) {
+        for n in 0..count.min(MOST) {
             if numbers.push(numeral_of(n as u32)).is_err() {
                 return Spelled { numbers };
             }

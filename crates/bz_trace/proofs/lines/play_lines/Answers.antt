@@ -1,9 +1,10 @@
-use Rattle.std.proofs.Common.{◌<◌, inl, inr, refl, arith}
+use Rattle.std.proofs.Common.{◌≡◌, ◌<◌, ◌≢◌, inl, inr, refl, sym, subst, arith}
 use Rattle.bz_trace_text.proofs.Texts.{line_shorter}
 use Rattle.bz_trace_text.specs.declared.text.TheConstants.{MAX_ENTRIES}
 use Rattle.bz_trace.specs.Following.{FollowsFront}
-use Rattle.bz_trace.proofs.Along.{follows_one, gets_on_more, within}
-use Rattle.bz_trace.proofs.Showing.{shows_more, shows_none}
+use Rattle.bz_trace.specs.Watching.{ShowsLines}
+use Rattle.bz_trace.proofs.Along.{below, follows_one, gets_on_more, gets_on_then, no_longer, within}
+use Rattle.bz_trace.proofs.Showing.{shows_more, shows_none, shows_then}
 use Rattle.bz_trace.proofs.lines.play_lines.Goals as goal
 
 pub loop-followed-init : goal.loop-followed-init
@@ -11,27 +12,62 @@ loop-followed-init g c =
     let (w, past, before, f) = c.requires in
     record { follows = λ w past before f. f; gets_on = inl (refl, refl); within = within c.args.names.now w past c.args.net.now before c.args.text.now c.args.from f; shows = shows_none g.S.Watch.sees c.args.names.now c.args.watch.now c.args.text.now }
 
-pub follow_front-requires-clause-is : goal.follow_front-requires-clause-is
-follow_front-requires-clause-is g c =
+pub play_asked-behind-requires : goal.play_asked-behind-requires
+play_asked-behind-requires g c =
     let l = c.loop-followed in
     let (w, past, before, f) = c.requires in
     (w, past, before, l.invariant.follows w past before f)
 
+pub follow_front-requires-clause-is : goal.follow_front-requires-clause-is
+follow_front-requires-clause-is g c =
+    let l = c.loop-followed in
+    let (w, past, before, f) = c.requires in
+    (w, past, before, c.play_asked-behind.ensures.follows w past before (l.invariant.follows w past before f))
+
+pub follow_front-requires-clause-fewer : goal.follow_front-requires-clause-fewer
+follow_front-requires-clause-fewer g c =
+    let l = c.loop-followed in
+    let (w, past, before, f) = c.requires in
+    let most = within c.args.names.now w past c.play_asked-behind.new.net before c.play_asked-behind.result.now c.play_asked-behind.new.followed (c.play_asked-behind.ensures.follows w past before (l.invariant.follows w past before f)) in
+    let fewer : c.play_asked-behind.new.followed.count ≢ MAX_ENTRIES = c.if-followed-eq-MAX_ENTRIES.false in
+    below c.play_asked-behind.new.followed.count MAX_ENTRIES most fewer
+
 pub loop-followed-smaller : goal.loop-followed-smaller
 loop-followed-smaller g c =
-    let l = c.loop-followed in
-    let front : FollowsFront c.args.names.now l.net c.follow_front.new.net l.rest.now c.in-Some.after.now l.followed c.follow_front.new.followed = rw c.in-Some.is at c.follow_front.ensures.some in
-    line_shorter c.args.names.now l.rest.now front.0 c.in-Some.after.now front.1
+    let l = c.loop-followed in let asked = c.play_asked-behind in
+    let front : FollowsFront c.args.names.now asked.new.net c.follow_front.new.net asked.result.now c.in-Some.after.now asked.new.followed c.follow_front.new.followed = rw c.in-Some.is at c.follow_front.ensures.some in
+    let shorter = line_shorter c.args.names.now asked.result.now front.0 c.in-Some.after.now front.1 in
+    let no_more = no_longer l.followed asked.new.followed l.rest.now asked.result.now asked.ensures.gets_on in
+    omega (arith, shorter, no_more)
 
 pub loop-followed-preserved : goal.loop-followed-preserved
 loop-followed-preserved g c =
-    let l = c.loop-followed in let fewer : l.followed.count < MAX_ENTRIES = c.loop-followed-test.true in
-    let front : FollowsFront c.args.names.now l.net c.follow_front.new.net l.rest.now c.in-Some.after.now l.followed c.follow_front.new.followed = rw c.in-Some.is at c.follow_front.ensures.some in
+    let l = c.loop-followed in let asked = c.play_asked-behind in let now = asked.new.followed in let behind = asked.result.now in
+    let (w0, past0, before0, f0) = c.requires in
+    let most = within c.args.names.now w0 past0 asked.new.net before0 behind now (asked.ensures.follows w0 past0 before0 (l.invariant.follows w0 past0 before0 f0)) in
+    let fewer : now.count < MAX_ENTRIES = below now.count MAX_ENTRIES most c.if-followed-eq-MAX_ENTRIES.false in
+    let front : FollowsFront c.args.names.now asked.new.net c.follow_front.new.net behind c.in-Some.after.now now c.follow_front.new.followed = rw c.in-Some.is at c.follow_front.ensures.some in
     let one = front.2 in let is = one.count_is in
-    let on = gets_on_more c.args.from l.followed.count c.args.text.now l.rest.now c.in-Some.after.now l.invariant.gets_on (line_shorter c.args.names.now l.rest.now front.0 c.in-Some.after.now front.1) in
+    let before_it = gets_on_then c.args.from l.followed now c.args.text.now l.rest.now behind l.invariant.gets_on asked.ensures.gets_on in
+    let on = gets_on_more c.args.from now.count c.args.text.now behind c.in-Some.after.now before_it (line_shorter c.args.names.now behind front.0 c.in-Some.after.now front.1) in
     record {
-      follows = λ w past before f. follows_one c.args.names.now w past l.net c.follow_front.new.net before l.rest.now c.in-Some.after.now l.followed c.follow_front.new.followed (l.invariant.follows w past before f) fewer front;
+      follows = λ w past before f. follows_one c.args.names.now w past asked.new.net c.follow_front.new.net before behind c.in-Some.after.now now c.follow_front.new.followed (asked.ensures.follows w past before (l.invariant.follows w past before f)) fewer front;
       gets_on = inr (let more = on.0 in omega (arith, more, is), on.1);
       within = omega (arith, fewer, is);
-      shows = shows_more g.S.Watch.sees c.args.names.now c.args.watch.now l.watch c.follow_front.new.watch c.args.text.now l.rest.now c.in-Some.after.now l.invariant.shows (rw c.in-Some.is at c.follow_front.ensures.shows);
+      shows =
+          shows_more g.S.Watch.sees c.args.names.now c.args.watch.now asked.new.watch c.follow_front.new.watch c.args.text.now behind c.in-Some.after.now
+          (shows_then g.S.Watch.sees c.args.names.now c.args.watch.now l.watch asked.new.watch c.args.text.now l.rest.now behind l.invariant.shows asked.ensures.shows)
+          (rw c.in-Some.is at c.follow_front.ensures.shows);
     }
+
+pub returns-then-followed-eq-MAX_ENTRIES-clause-shows : goal.returns-then-followed-eq-MAX_ENTRIES-clause-shows
+returns-then-followed-eq-MAX_ENTRIES-clause-shows g c =
+    let l = c.loop-followed in let asked = c.play_asked-behind in
+    shows_then g.S.Watch.sees c.args.names.now c.args.watch.now l.watch asked.new.watch c.args.text.now l.rest.now asked.result.now l.invariant.shows asked.ensures.shows
+
+pub returns-in_default-clause-shows : goal.returns-in_default-clause-shows
+returns-in_default-clause-shows g c =
+    let l = c.loop-followed in let asked = c.play_asked-behind in
+    let same : c.follow_front.new.watch ≡ asked.new.watch = rw c.in_default.is at c.follow_front.ensures.shows in
+    subst (λ s. ShowsLines g.S.Watch.sees c.args.names.now c.args.watch.now c.args.text.now asked.result.now s) (sym same)
+    (shows_then g.S.Watch.sees c.args.names.now c.args.watch.now l.watch asked.new.watch c.args.text.now l.rest.now asked.result.now l.invariant.shows asked.ensures.shows)
