@@ -1,5 +1,5 @@
 -- A step that a component has, known before it is made.
-use Rattle.std.specs.Prelude.{◌≡◌, ℕ, Option, List}
+use Rattle.std.specs.Prelude.{ℕ, Option, List}
 use Rattle.bz_model.specs.Nets.{Site, State}
 use Rattle.bz_net.specs.declared.foretelling.Foretold.{Foretold}
 use Rattle.bz_net.specs.Due.{HasStep}

@@ -1,10 +1,9 @@
-use Rattle.std.proofs.Common.{◌≡◌, ℕ, Option, Some, sym, subst}
+use Rattle.std.proofs.Common.{◌≡◌, ℕ, Some, sym, subst}
 use Rattle.bz_model.specs.declared.event.Entry.{Entry}
 use Rattle.bz_model.specs.Nets.{Step}
 use Rattle.bz_net.specs.Due.{GivesAsSteps, HasStep}
 use Rattle.bz_net.specs.Foretelling.{IsForetold}
 use Rattle.bz_net.specs.Progress.{Enters, Progress}
-use Rattle.bz_net.specs.Told.{MayMove}
 use Rattle.bz_net.proofs.play.Play.fire_foretold.Goals as goal
 
 same_port : (p q : ℕ) → Some p ≡ Some q → q ≡ p
