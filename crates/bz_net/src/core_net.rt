@@ -432,7 +432,8 @@ impl Core {
         ensures met { AskedBefore self.old.wiring.sites self.old.state.phases self.new.state.phases result.1 }
         ensures unbroken { IsUnbroken self.new.state }
     {
-        let made = move_comp(
+        self.moved[comp as usize - 1] = true;
+        move_comp(
             &self.sites,
             &self.ends,
             &self.chans,
@@ -441,9 +442,7 @@ impl Core {
             &mut self.ready,
             comp,
             at,
-        );
-        self.moved[comp as usize - 1] = true;
-        made
+        )
     }
 
     /// Moves a component at a port: the channel, the move and its value.
