@@ -16,8 +16,8 @@ ghost use Rattle.bz_net.specs.Replies.{IsPicked, RefusesCommand, RefusesEntry, R
 ghost use Rattle.bz_net.specs.Told.{MayMove};
 
 use crate::core_net::Core;
-use crate::foretelling::Foretold;
 use crate::event::{Piece, RestReply, RunEnd};
+use crate::foretelling::Foretold;
 use crate::moves::refusal_of;
 use crate::noted::Noted;
 use crate::ready_row::Keeping;
