@@ -33,6 +33,9 @@ frees_as plan plan' n p w w' freed is frees = subst (λ (q : Plan). FreesIn (sen
 pub frees_at : (f : ℕ → Option Bool) (w : List PortState) (p q : ℕ) (w' : List PortState) (freed : Freed) → p ≡ q → FreesIn f w q w' freed → FreesIn f w p w' freed
 frees_at f w p q w' freed is frees = subst (λ (r : ℕ). FreesIn f w r w' freed) (sym is) frees
 
+pub frees_port : (f : ℕ → Option Bool) (w : List PortState) (p q r : ℕ) (w' : List PortState) → q ≡ r → FreesIn f w p w' (Port q) → FreesIn f w p w' (Port r)
+frees_port f w p q r w' is frees = subst (λ (r : ℕ). FreesIn f w p w' (Port r)) is frees
+
 module _ (f : ℕ → Option Bool) (w : List PortState) (p : ℕ) (x : PortState) (lt : p < length w) where
   -- one port is put into a state in which nothing is sure
   pub frees_none : is_sure (f p) x ≡ false → FreesIn f w p (set w p x) Nothing

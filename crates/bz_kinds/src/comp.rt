@@ -228,8 +228,7 @@ fn turn(proc: &mut Process, port: u32, rides: Option<Value>) -> (Move, Option<Va
         }
         KeptPlan::Choice(mix) => {
             let (ports, left, slots) = (&mut proc.ports, &mut proc.left, &mut proc.slots);
-            let (mv, value) = choice::fire(mix.get(), ports, left, proc.size, port, slots, rides);
-            (mv, value, Freed::Unknown)
+            choice::fire(mix.get(), ports, left, proc.size, port, slots, rides)
         }
         KeptPlan::Once(_)
         | KeptPlan::Select(_)

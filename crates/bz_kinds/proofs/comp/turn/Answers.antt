@@ -48,7 +48,7 @@ returns-in-OneByOne-clause-made c d e = c.fire-in-OneByOne.ensures.made d (due-o
 
 pub returns-in-Choice-clause-made : goal.returns-in-Choice-clause-made
 returns-in-Choice-clause-made c d e =
-    c.fire-mv-in-Choice.ensures.made d (due-of _ _ (ap plan_of c.in-Choice.is ∙ ap (λ (mix : Mix). Choice mix) (sym c.get-in-Choice.ensures)) c.args.proc.now.size c.args.proc.now.left c.args.port _ d e)
+    c.fire-in-Choice.ensures.made d (due-of _ _ (ap plan_of c.in-Choice.is ∙ ap (λ (mix : Mix). Choice mix) (sym c.get-in-Choice.ensures)) c.args.proc.now.size c.args.proc.now.left c.args.port _ d e)
 
 pub returns-in-Once-clause-made : goal.returns-in-Once-clause-made
 returns-in-Once-clause-made c =
@@ -82,7 +82,7 @@ pub returns-in-OneByOne-clause-frees : goal.returns-in-OneByOne-clause-frees
 returns-in-OneByOne-clause-frees c = frees_as _ (OneByOne _) c.args.proc.now.size c.args.port _ _ _ (ap plan_of c.in-OneByOne.is) c.fire-in-OneByOne.ensures.frees
 
 pub returns-in-Choice-clause-frees : goal.returns-in-Choice-clause-frees
-returns-in-Choice-clause-frees c = frees_unknown _ _ _ _
+returns-in-Choice-clause-frees c = frees_as _ (Choice _) c.args.proc.now.size c.args.port _ _ _ (ap plan_of c.in-Choice.is ∙ ap (λ (mix : Mix). Choice mix) (sym c.get-in-Choice.ensures)) c.fire-in-Choice.ensures.frees
 
 pub returns-in-Once-clause-frees : goal.returns-in-Once-clause-frees
 returns-in-Once-clause-frees c = frees_unknown _ _ _ _
