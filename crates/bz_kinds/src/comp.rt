@@ -223,8 +223,7 @@ fn turn(proc: &mut Process, port: u32, rides: Option<Value>) -> (Move, Option<Va
         }
         KeptPlan::Meeting(meet) => {
             let (ports, left, slots) = (&mut proc.ports, &mut proc.left, &mut proc.slots);
-            let (mv, value) = meeting::fire(meet.get(), ports, left, proc.size, port, slots, rides);
-            (mv, value, Freed::Unknown)
+            meeting::fire(meet.get(), ports, left, proc.size, port, slots, rides)
         }
         KeptPlan::Choice(mix) => {
             let (ports, left, slots) = (&mut proc.ports, &mut proc.left, &mut proc.slots);

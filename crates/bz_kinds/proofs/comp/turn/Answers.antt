@@ -41,7 +41,7 @@ returns-in-OneByOne-Loop-clause-made c d e =
 
 pub returns-in-Meeting-clause-made : goal.returns-in-Meeting-clause-made
 returns-in-Meeting-clause-made c d e =
-    c.fire-mv.ensures.made d (due-of _ _ (ap plan_of c.in-Meeting.is ∙ ap (λ (meet : Meet). Meeting meet) (sym c.get.ensures)) c.args.proc.now.size c.args.proc.now.left c.args.port _ d e)
+    c.fire-in-Meeting.ensures.made d (due-of _ _ (ap plan_of c.in-Meeting.is ∙ ap (λ (meet : Meet). Meeting meet) (sym c.get.ensures)) c.args.proc.now.size c.args.proc.now.left c.args.port _ d e)
 
 pub returns-in-OneByOne-clause-made : goal.returns-in-OneByOne-clause-made
 returns-in-OneByOne-clause-made c d e = c.fire-in-OneByOne.ensures.made d (due-of _ _ (ap plan_of c.in-OneByOne.is) c.args.proc.now.size c.args.proc.now.left c.args.port _ d e)
@@ -76,7 +76,7 @@ pub returns-in-OneByOne-Loop-clause-frees : goal.returns-in-OneByOne-Loop-clause
 returns-in-OneByOne-Loop-clause-frees c = frees_as _ (OneByOne c.in-OneByOne-Loop.field-0) c.args.proc.now.size c.args.port _ _ _ (ap plan_of c.in-OneByOne-Loop.is) c.fire-in-OneByOne-Loop.ensures.frees
 
 pub returns-in-Meeting-clause-frees : goal.returns-in-Meeting-clause-frees
-returns-in-Meeting-clause-frees c = frees_unknown _ _ _ _
+returns-in-Meeting-clause-frees c = frees_as _ (Meeting _) c.args.proc.now.size c.args.port _ _ _ (ap plan_of c.in-Meeting.is ∙ ap (λ (meet : Meet). Meeting meet) (sym c.get.ensures)) c.fire-in-Meeting.ensures.frees
 
 pub returns-in-OneByOne-clause-frees : goal.returns-in-OneByOne-clause-frees
 returns-in-OneByOne-clause-frees c = frees_as _ (OneByOne _) c.args.proc.now.size c.args.port _ _ _ (ap plan_of c.in-OneByOne.is) c.fire-in-OneByOne.ensures.frees
