@@ -11,9 +11,9 @@ use Rattle.bz_kinds.specs.Ports.{state_at}
 use Rattle.bz_kinds.specs.Riding.{Made}
 use Rattle.bz_kinds.specs.Row.{Due, row_due}
 use Rattle.bz_kinds.specs.Turn.{HasMade}
-use Rattle.bz_kinds.specs.Sense.{enclosing}
+use Rattle.bz_kinds.specs.Sense.{enclosing, sense}
 use Rattle.bz_kinds.specs.Freed.{FreesIn}
-use Rattle.bz_kinds.proofs.FreedLaws.{frees_as, frees_unknown}
+use Rattle.bz_kinds.proofs.FreedLaws.{frees_as}
 use Rattle.bz_kinds.proofs.PlanLaws.{due-of}
 use Rattle.bz_kinds.proofs.comp.turn.Goals as goal
 
@@ -53,7 +53,7 @@ returns-in-Choice-clause-made c d e =
 pub returns-in-Once-clause-made : goal.returns-in-Once-clause-made
 returns-in-Once-clause-made c =
     let same : c.in-Once.match-proc-own.proc ≡ c.args.proc.now = search rules in
-    subst (λ (it : Process). HasMade it c.args.port c.args.rides c.turn_far-mv.new.proc c.turn_far-mv.result.0 c.turn_far-mv.result.1) same c.turn_far-mv.ensures.made
+    subst (λ (it : Process). HasMade it c.args.port c.args.rides c.turn_far.new.proc c.turn_far.result.0 c.turn_far.result.1) same c.turn_far.ensures.made
 
 pub returns-in-InTurn-clause-frees : goal.returns-in-InTurn-clause-frees
 returns-in-InTurn-clause-frees c =
@@ -85,4 +85,6 @@ pub returns-in-Choice-clause-frees : goal.returns-in-Choice-clause-frees
 returns-in-Choice-clause-frees c = frees_as _ (Choice _) c.args.proc.now.size c.args.port _ _ _ (ap plan_of c.in-Choice.is ∙ ap (λ (mix : Mix). Choice mix) (sym c.get-in-Choice.ensures)) c.fire-in-Choice.ensures.frees
 
 pub returns-in-Once-clause-frees : goal.returns-in-Once-clause-frees
-returns-in-Once-clause-frees c = frees_unknown _ _ _ _
+returns-in-Once-clause-frees c =
+    let same : c.in-Once.match-proc-own.proc ≡ c.args.proc.now = search rules in
+    subst (λ (it : Process). FreesIn (sense (plan_of it.plan) it.size) it.ports c.args.port c.turn_far.new.proc.ports c.turn_far.result.2) same c.turn_far.ensures.frees
