@@ -1,20 +1,20 @@
 -- What a move of a meeting frees.
-use Rattle.std.proofs.Common.{◌≡◌, ◌≢◌, inl, inr, ℕ, zero, suc, ◌<◌, List, length, get_or, set, Some, true, false, refl, ap, sym, ◌∙◌, arith}
-use Rattle.std.proofs.lemmas.Bool.{cases_lt, lt-ltb, le-ltb}
+use Rattle.std.proofs.Common.{◌≡◌, ◌≢◌, inl, inr, ℕ, zero, suc, ◌<◌, ◌≤◌, List, length, get_or, set, Some, true, false, refl, ap, arith}
+use Rattle.std.proofs.lemmas.Bool.{cases_eq, cases_lt, lt-ltb, le-ltb}
 use Rattle.std.proofs.lemmas.List.{get_or_past}
 use Rattle.bz_model.specs.Processes.{first, behind}
-use Rattle.bz_kinds.specs.declared.freed.Freed.TheVariants.{Nothing, Waits, Port}
+use Rattle.bz_kinds.specs.declared.freed.Freed.TheVariants.{Nothing, Waits, Port, Only, Awaits}
 use Rattle.bz_kinds.specs.declared.ports.PortState.{PortState}
 use Rattle.bz_kinds.specs.declared.ports.PortState.TheVariants.{Closed, ClosedDue, Open, OpenDue}
 use Rattle.bz_kinds.specs.declared.row.Leg.{Leg}
 use Rattle.bz_kinds.specs.declared.row.Meet.{Meet}
 use Rattle.bz_kinds.specs.declared.row.Plan.TheVariants.{Meeting}
 use Rattle.bz_kinds.specs.Meeting.{IsPlace}
-use Rattle.bz_kinds.specs.Freed.{FreesIn}
+use Rattle.bz_kinds.specs.Freed.{FreesIn, is_sure}
 use Rattle.bz_kinds.specs.Ports.{is_due}
 use Rattle.bz_kinds.specs.Sense.{sense}
-use Rattle.bz_kinds.proofs.MeetingDue.{calls, ends}
-use Rattle.bz_kinds.proofs.FreedLaws.{frees_none, frees_other, frees_waits}
+use Rattle.bz_kinds.proofs.MeetingDue.{answers, calls, ends, gathers, some}
+use Rattle.bz_kinds.proofs.FreedLaws.{frees_awaits, frees_none, frees_only, frees_other, frees_waits}
 
 module _ (meet : Meet) (n : ℕ) where
   member_sense : (i : ℕ) → i < n → sense (Meeting meet) n (first i) ≡ Some true
@@ -51,3 +51,30 @@ module _ (meet : Meet) (n : ℕ) where
           | inl lt ↦ ap is_due (opened j lt)
           | inr le ↦ ap is_due (get_or_past w (suc j) Closed (let l = ends meet n moved w ok in omega (arith, l, le, ne)))
         ]
+
+  module _ (w : List PortState) (p moved : ℕ) (w' : List PortState) (ok : IsPlace meet n moved w') where
+    rest : get_or w' (behind n) Closed ≡ Closed → (q : ℕ) → (1 ≤ q → q ≤ n → ⊥) → is_due (get_or w' q Closed) ≡ false
+    rest quiet zero apart = ap is_due ok.none
+    rest quiet (suc j) apart = elim (cases_lt j n) [
+      | inl lt ↦ absurd (apart (omega arith) (omega (arith, lt)))
+      | inr le ↦ elim (cases_eq j n) [
+        | inl same ↦ rw same (ap is_due quiet)
+        | inr past ↦ ap is_due (get_or_past w' (suc j) Closed (let l = ends meet n moved w' ok in omega (arith, l, le, past)))
+      ]
+    ]
+
+    -- all are due to reply, and nothing else is due
+    pub members_only : ((i : ℕ) → i < n → get_or w' (first i) Closed ≡ OpenDue) → FreesIn (sense (Meeting meet) n) w p w' (Only 1 n)
+    members_only due = frees_only (sense (Meeting meet) n) w p w' 1 n (rest (answers meet n moved w' ok 0 (some meet n moved w' ok) (due 0 (some meet n moved w' ok))).quiet) sure
+      where
+        sure : (q : ℕ) → 1 ≤ q → q ≤ n → is_sure (sense (Meeting meet) n q) (get_or w' q Closed) ≡ true
+        sure zero from to = absurd (omega (arith, from))
+        sure (suc j) from to = rw (due j (omega (arith, to)), member_sense j (omega (arith, to))) refl
+
+    -- all are due to be taken, and nothing else is due
+    pub members_await : ((i : ℕ) → i < n → get_or w' (first i) Closed ≡ ClosedDue) → FreesIn (sense (Meeting meet) n) w p w' (Awaits 1 n)
+    members_await due = frees_awaits (sense (Meeting meet) n) w p w' 1 n (rest (gathers meet n moved w' ok 0 (some meet n moved w' ok) (due 0 (some meet n moved w' ok))).quiet) waiting
+      where
+        waiting : (q : ℕ) → 1 ≤ q → q ≤ n → (is_due (get_or w' q Closed) ≡ true) × (is_sure (sense (Meeting meet) n q) (get_or w' q Closed) ≡ false)
+        waiting zero from to = absurd (omega (arith, from))
+        waiting (suc j) from to = (ap is_due (due j (omega (arith, to))), rw (due j (omega (arith, to)), member_sense j (omega (arith, to))) refl)

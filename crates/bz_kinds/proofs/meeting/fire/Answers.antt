@@ -6,7 +6,7 @@ use Rattle.bz_kinds.specs.Meeting.{into, answer}
 use Rattle.bz_kinds.proofs.MadeLaws.{lead-replied, lead-narrow, leg-asked, leg-got, at-member, at-behind, meeting-is-due, not-opened, some-port}
 use Rattle.bz_kinds.proofs.MeetingDue.{behind-port}
 use Rattle.bz_kinds.proofs.MeetingSteps.{steps-at}
-use Rattle.bz_kinds.proofs.FreedLaws.{frees_at, frees_unknown}
+use Rattle.bz_kinds.proofs.FreedLaws.{frees_at}
 use Rattle.bz_kinds.proofs.meeting.fire.Goals as goal
 
 pub is_to_open-requires : goal.is_to_open-requires
@@ -52,6 +52,6 @@ returns-in-Some-leg c =
     let past = c.in-false-false.is-0 in
     record {
       made = λ d e. leg-got c.in-Some-leg.leg d c.args.rides _ _ _ (at-behind c.args.meet.now c.args.size c.args.port _ d c.in-Some-leg.leg e (omega (arith, past)) c.in-Some-leg.is) (not-opened _ c.in-false-false.ensures) c.keep-in-false-false.ensures;
-      steps = steps-at _ _ _ _ _ _ _ _ (behind-port _ _ _ _ c.requires.place c.args.port found due (omega (arith, past))) c.got.ensures;
-      frees = frees_unknown _ _ _ _;
+      steps = steps-at _ _ _ _ _ _ _ _ (behind-port _ _ _ _ c.requires.place c.args.port found due (omega (arith, past))) c.got.ensures.steps;
+      frees = frees_at _ _ _ _ _ _ (behind-port _ _ _ _ c.requires.place c.args.port found due (omega (arith, past))) c.got.ensures.frees;
     }
