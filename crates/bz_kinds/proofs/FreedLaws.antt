@@ -12,7 +12,7 @@ use Rattle.bz_kinds.specs.Row.{Due}
 use Rattle.bz_kinds.specs.Script.{script_due, states}
 use Rattle.bz_kinds.specs.declared.row.Script.TheVariants.{Loop}
 use Rattle.bz_kinds.specs.declared.freed.Freed.{Freed}
-use Rattle.bz_kinds.specs.declared.freed.Freed.TheVariants.{Nothing, Waits, Port, Behind, Unknown}
+use Rattle.bz_kinds.specs.declared.freed.Freed.TheVariants.{Nothing, Waits, Port, Behind, Only, Awaits, Unknown}
 use Rattle.bz_kinds.specs.declared.ports.PortState.{PortState}
 use Rattle.bz_kinds.specs.declared.ports.PortState.TheVariants.{Closed, ClosedDue, Open, OpenDue}
 use Rattle.bz_kinds.specs.declared.row.Plan.{Plan}
@@ -24,7 +24,7 @@ use Rattle.bz_kinds.specs.Freed.{Frees, FreesIn, is_sure}
 use Rattle.bz_kinds.proofs.ReadyLaws.{can_go, due_where, goes_by, was_due}
 
 pub frees_unknown : (f : ℕ → Option Bool) (w : List PortState) (p : ℕ) (w' : List PortState) → FreesIn f w p w' Unknown
-frees_unknown f w p w' = record { frees = λ q e. absurd e; mover = λ e. absurd e; others = λ q ne e. absurd e; waits = λ e. absurd e; alone = λ e. absurd e }
+frees_unknown f w p w' = record { frees = λ q e. absurd e; mover = λ e. absurd e; others = λ q ne e. absurd e; waits = λ e. absurd e; alone = λ e. absurd e; awaits = λ q e. absurd e; idle = λ q e. absurd e }
 
 -- of the plan that it is
 pub frees_as : (plan plan' : Plan) (n p : ℕ) (w w' : List PortState) (freed : Freed) → plan ≡ plan' → FreesIn (sense plan' n) w p w' freed → FreesIn (sense plan n) w p w' freed
@@ -32,6 +32,9 @@ frees_as plan plan' n p w w' freed is frees = subst (λ (q : Plan). FreesIn (sen
 
 pub frees_at : (f : ℕ → Option Bool) (w : List PortState) (p q : ℕ) (w' : List PortState) (freed : Freed) → p ≡ q → FreesIn f w q w' freed → FreesIn f w p w' freed
 frees_at f w p q w' freed is frees = subst (λ (r : ℕ). FreesIn f w r w' freed) (sym is) frees
+
+pub frees_port : (f : ℕ → Option Bool) (w : List PortState) (p q r : ℕ) (w' : List PortState) → q ≡ r → FreesIn f w p w' (Port q) → FreesIn f w p w' (Port r)
+frees_port f w p q r w' is frees = subst (λ (r : ℕ). FreesIn f w p w' (Port r)) is frees
 
 module _ (f : ℕ → Option Bool) (w : List PortState) (p : ℕ) (x : PortState) (lt : p < length w) where
   -- one port is put into a state in which nothing is sure
@@ -42,6 +45,8 @@ module _ (f : ℕ → Option Bool) (w : List PortState) (p : ℕ) (x : PortState
     others = λ q ne e. get_or-set_other w p q x Closed ne;
     waits = λ e. absurd e;
     alone = λ e. absurd e;
+    awaits = λ q e. absurd e;
+    idle = λ q e. absurd e;
   }
 
   -- and nothing is due elsewhere
@@ -52,6 +57,8 @@ module _ (f : ℕ → Option Bool) (w : List PortState) (p : ℕ) (x : PortState
     others = λ q ne e. get_or-set_other w p q x Closed ne;
     waits = λ e. ap is_due (get_or-set_same w p x Closed lt) ∙ due;
     alone = λ e q ne. ap is_due (get_or-set_other w p q x Closed ne) ∙ quiet q ne;
+    awaits = λ q e. absurd e;
+    idle = λ q e. absurd e;
   }
 
   -- or in which something is
@@ -62,6 +69,8 @@ module _ (f : ℕ → Option Bool) (w : List PortState) (p : ℕ) (x : PortState
     others = λ q ne e. get_or-set_other w p q x Closed ne;
     waits = λ e. absurd e;
     alone = λ e. absurd e;
+    awaits = λ q e. absurd e;
+    idle = λ q e. absurd e;
   }
 
   -- and then another is put into one
@@ -72,6 +81,32 @@ module _ (f : ℕ → Option Bool) (w : List PortState) (p : ℕ) (x : PortState
     others = λ q ne e. get_or-set_other (set w p x) r q y Closed e ∙ get_or-set_other w p q x Closed ne;
     waits = λ e. absurd e;
     alone = λ e. absurd e;
+    awaits = λ q e. absurd e;
+    idle = λ q e. absurd e;
+  }
+
+-- what is due is told, from a first port to a last one
+module _ (f : ℕ → Option Bool) (w : List PortState) (p : ℕ) (w' : List PortState) (first last : ℕ) (rest : (q : ℕ) → (first ≤ q → q ≤ last → ⊥) → is_due (get_or w' q Closed) ≡ false) where
+  pub frees_only : ((q : ℕ) → first ≤ q → q ≤ last → is_sure (f q) (get_or w' q Closed) ≡ true) → FreesIn f w p w' (Only first last)
+  frees_only sure = record {
+    frees = λ q e. sure q e.0 e.1;
+    mover = λ e. absurd e;
+    others = λ q ne e. absurd e;
+    waits = λ e. absurd e;
+    alone = λ e. absurd e;
+    awaits = λ q e. absurd e;
+    idle = rest;
+  }
+
+  pub frees_awaits : ((q : ℕ) → first ≤ q → q ≤ last → (is_due (get_or w' q Closed) ≡ true) × (is_sure (f q) (get_or w' q Closed) ≡ false)) → FreesIn f w p w' (Awaits first last)
+  frees_awaits waits = record {
+    frees = λ q e. absurd e;
+    mover = λ e. absurd e;
+    others = λ q ne e. absurd e;
+    waits = λ e. absurd e;
+    alone = λ e. absurd e;
+    awaits = λ q e. waits q e.0 e.1;
+    idle = rest;
   }
 
 -- all enclosed ports are due to begin, up to the last
@@ -82,6 +117,8 @@ frees_behind w u last same long some below due past = record {
   others = others;
   waits = λ e. absurd e;
   alone = λ e. absurd e;
+  awaits = λ q e. absurd e;
+  idle = λ q e. absurd e;
 }
   where
     frees : (q : ℕ) → (1 < q) × (q ≤ last) → is_sure (enclosing q) (get_or (set u 1 Open) q Closed) ≡ true
@@ -178,4 +215,9 @@ module _ (plan : Plan) (n left left' : ℕ) (w w' : List PortState) (s s' : Stor
     );
     waits = λ e. (due_where plan n left' w' s' chans after refl ok' p true (sym (frees.waits e))).0 refl;
     alone = λ e q ne here can. false≢true (sym (frees.alone e q ne) ∙ was_due (sense plan n q) (get_or w' q Closed) here ((is q here).1 can));
+    awaits = λ q e. (
+      (due_where plan n left' w' s' chans after refl ok' q true (sym (frees.awaits q e).0)).0 refl,
+      λ can. unsure_stays (sense plan n q) (get_or w' q Closed) (frees.awaits q e).1 ((is q false).1 can),
+    );
+    idle = λ q e here can. false≢true (sym (frees.idle q e) ∙ was_due (sense plan n q) (get_or w' q Closed) here ((is q here).1 can));
   }

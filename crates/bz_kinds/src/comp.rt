@@ -235,54 +235,51 @@ fn turn(proc: &mut Process, port: u32, rides: Option<Value>) -> (Move, Option<Va
         }
         KeptPlan::Meeting(meet) => {
             let (ports, left, slots) = (&mut proc.ports, &mut proc.left, &mut proc.slots);
-            let (mv, value) = meeting::fire(meet.get(), ports, left, proc.size, port, slots, rides);
-            (mv, value, Freed::Unknown)
+            meeting::fire(meet.get(), ports, left, proc.size, port, slots, rides)
         }
         KeptPlan::Choice(mix) => {
             let (ports, left, slots) = (&mut proc.ports, &mut proc.left, &mut proc.slots);
-            let (mv, value) = choice::fire(mix.get(), ports, left, proc.size, port, slots, rides);
-            (mv, value, Freed::Unknown)
+            choice::fire(mix.get(), ports, left, proc.size, port, slots, rides)
         }
         KeptPlan::Once(_)
         | KeptPlan::Select(_)
         | KeptPlan::Indexed(_)
         | KeptPlan::Signalled
         | KeptPlan::Decision
-        | KeptPlan::Bar => {
-            let (mv, value) = turn_far(proc, port, rides);
-            (mv, value, Freed::Unknown)
-        }
+        | KeptPlan::Bar => { turn_far(proc, port, rides) }
     }
 }
 
 // The same of a plan that few moves are of. What is called is small in its caller: the value goes there and back by its place.
 #[inline(always)]
-fn turn_far(proc: &mut Process, port: u32, rides: Option<Value>) -> (Move, Option<Value>)
+fn turn_far(proc: &mut Process, port: u32, rides: Option<Value>) -> (Move, Option<Value>, Freed)
     requires rare { IsRare (plan_of proc.old.plan) }
     requires due { CanTurn proc.old port }
     ensures made { HasMade proc.old port rides proc.new result.0 result.1 }
     ensures goes { HasGone proc.old port proc.new }
     ensures kept { KeepsPlan proc.old proc.new }
+    ensures frees { FreesIn (sense (plan_of proc.old.plan) proc.old.size) proc.old.ports port proc.new.ports result.2 }
 {
     let (is_there, mut value) = parts(rides);
-    let (mv, carries) = turn_held(proc, port, is_there, &mut value);
-    (mv, held(carries, value))
+    let (mv, carries, freed) = turn_held(proc, port, is_there, &mut value);
+    (mv, held(carries, value), freed)
 }
 
 // The same with the value that rides in `value`, if `rides`, and then what is carried in it, if the second answer is true.
 #[inline(never)]
-fn turn_held(proc: &mut Process, port: u32, rides: bool, value: &mut Value) -> (Move, bool)
+fn turn_held(proc: &mut Process, port: u32, rides: bool, value: &mut Value) -> (Move, bool, Freed)
     requires rare { IsRare (plan_of proc.old.plan) }
     requires due { CanTurn proc.old port }
     ensures made { HasMade proc.old port (held rides value.old) proc.new result.0 (held result.1 value.new) }
     ensures goes { HasGone proc.old port proc.new }
     ensures kept { KeepsPlan proc.old proc.new }
+    ensures frees { FreesIn (sense (plan_of proc.old.plan) proc.old.size) proc.old.ports port proc.new.ports result.2 }
 {
     let before = held(rides, *value);
-    let (mv, carried) = turn_rare(proc, port, before);
+    let (mv, carried, freed) = turn_rare(proc, port, before);
     let (carries, after) = parts(carried);
     *value = after;
-    (mv, carries)
+    (mv, carries, freed)
 }
 
 // Whether there is a value, and which.
@@ -306,12 +303,13 @@ fn held(is_there: bool, value: Value) -> Option<Value>
 
 // The same with the value in hand. Each arm borrows its own fields, as in `turn`.
 #[inline(always)]
-fn turn_rare(proc: &mut Process, port: u32, rides: Option<Value>) -> (Move, Option<Value>)
+fn turn_rare(proc: &mut Process, port: u32, rides: Option<Value>) -> (Move, Option<Value>, Freed)
     requires rare { IsRare (plan_of proc.old.plan) }
     requires due { CanTurn proc.old port }
     ensures made { HasMade proc.old port rides proc.new result.0 result.1 }
     ensures goes { HasGone proc.old port proc.new }
     ensures kept { KeepsPlan proc.old proc.new }
+    ensures frees { FreesIn (sense (plan_of proc.old.plan) proc.old.size) proc.old.ports port proc.new.ports result.2 }
 {
     match &proc.plan {
         KeptPlan::Once(row) => {

@@ -1,7 +1,8 @@
-use Rattle.std.proofs.Common.{rules, ◌≡◌, ◌<◌, ◌-◌, suc, true, false, refl, subst, arith}
+use Rattle.std.proofs.Common.{rules, ◌≡◌, ◌<◌, ◌-◌, suc, true, false, refl, sym, subst, arith}
 use Rattle.bz_kinds.specs.Choice.{IsPlace}
 use Rattle.bz_kinds.proofs.MadeLaws.{lead-taken, lead-replied, lead-narrow, leg-asked, leg-got, leg-narrow, at-branch, at-out, choice-is-due, not-opened, to-open, to-close}
 use Rattle.bz_kinds.proofs.ChoiceDue.{some-port, taken-at, idle-at, chosen-at, out-at, steps-as}
+use Rattle.bz_kinds.proofs.FreedLaws.{frees_at, frees_port}
 use Rattle.bz_kinds.proofs.choice.fire.Goals as goal
 
 pub is_to_open-requires : goal.is_to_open-requires
@@ -35,7 +36,8 @@ returns-then-chosen-eq0 c =
     let (le, closed) = taken-at c.args.mix.now c.args.size _ _ c.args.port found c.requires.place due (omega arith) in
     record {
       made = λ d e. lead-taken c.args.mix.now.into c.args.mix.now.answer d c.args.rides _ _ _ (at-branch c.args.mix.now c.args.size c.args.port _ d e le) closed c.keep.ensures;
-      steps = steps-as c.args.mix.now c.args.size _ _ _ _ _ _ _ _ (omega arith) (omega arith) refl c.take.ensures;
+      steps = steps-as c.args.mix.now c.args.size _ _ _ _ _ _ _ _ (omega arith) (omega arith) refl c.take-freed.ensures.steps;
+      frees = frees_at _ _ _ _ _ _ (omega arith) c.take-freed.ensures.frees;
     }
 
 pub returns-then-port-size : goal.returns-then-port-size
@@ -47,7 +49,8 @@ returns-then-port-size c =
     record {
       made = λ d e. lead-replied c.args.mix.now.into c.args.mix.now.answer d c.args.rides _ _ _ _ (at-branch c.args.mix.now c.args.size c.args.port _ d e (omega arith))
           (λ closed. let none = idle-at c.args.mix.now c.args.size _ _ c.args.port c.requires.place up (omega arith) closed in omega arith) c.worth.ensures refl;
-      steps = steps-as c.args.mix.now c.args.size _ _ _ _ _ _ _ _ (omega arith) (omega arith) refl c.reply.ensures;
+      steps = steps-as c.args.mix.now c.args.size _ _ _ _ _ _ _ _ (omega arith) (omega arith) refl c.reply.ensures.steps;
+      frees = frees_at _ _ _ _ _ _ (omega arith) c.reply.ensures.frees;
     }
 
 pub returns-then-is_to_open : goal.returns-then-is_to_open
@@ -58,7 +61,8 @@ returns-then-is_to_open c =
     let opens : c.is_to_open.result ≡ true = search rules in
     record {
       made = λ d e. leg-asked c.args.mix.now.leg d c.args.rides _ _ _ _ (at-out c.args.mix.now c.args.size c.args.port _ d e (omega arith)) (to-open _ _ opens c.is_to_open.ensures) c.worth-then-is_to_open.ensures refl;
-      steps = steps-as c.args.mix.now c.args.size _ _ _ _ _ _ _ _ (omega arith) is (omega arith) c.ask.ensures;
+      steps = steps-as c.args.mix.now c.args.size _ _ _ _ _ _ _ _ (omega arith) is (omega arith) c.ask.ensures.steps;
+      frees = frees_at _ _ _ _ _ _ (sym is) c.ask.ensures.frees;
     }
 
 pub returns-else-is_to_open : goal.returns-else-is_to_open
@@ -69,5 +73,6 @@ returns-else-is_to_open c =
     let closes : c.is_to_open.result ≡ false = search rules in
     record {
       made = λ d e. leg-got c.args.mix.now.leg d c.args.rides _ _ _ (at-out c.args.mix.now c.args.size c.args.port _ d e (omega arith)) (not-opened _ (to-close _ _ closes c.is_to_open.ensures)) c.keep-else-is_to_open.ensures;
-      steps = steps-as c.args.mix.now c.args.size _ _ _ _ _ _ _ _ (omega arith) is (omega arith) c.got.ensures;
+      steps = steps-as c.args.mix.now c.args.size _ _ _ _ _ _ _ _ (omega arith) is (omega arith) c.got.ensures.steps;
+      frees = frees_at _ _ _ _ _ _ (sym is) (frees_port _ _ _ _ _ _ (omega arith) c.got.ensures.frees);
     }

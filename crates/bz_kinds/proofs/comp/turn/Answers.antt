@@ -10,9 +10,9 @@ use Rattle.bz_kinds.specs.Ports.{state_at}
 use Rattle.bz_kinds.specs.Riding.{Made}
 use Rattle.bz_kinds.specs.Row.{Due, row_due}
 use Rattle.bz_kinds.specs.Turn.{HasMade}
-use Rattle.bz_kinds.specs.Sense.{enclosing}
+use Rattle.bz_kinds.specs.Sense.{enclosing, sense}
 use Rattle.bz_kinds.specs.Freed.{FreesIn}
-use Rattle.bz_kinds.proofs.FreedLaws.{frees_as, frees_unknown}
+use Rattle.bz_kinds.proofs.FreedLaws.{frees_as}
 use Rattle.bz_kinds.proofs.PlanLaws.{due-of}
 use Rattle.bz_kinds.proofs.comp.turn.Goals as goal
 
@@ -47,19 +47,19 @@ returns-in-Loop-clause-made c d e = c.fire-in-Loop.ensures.made d (due-of _ _ (a
 
 pub returns-in-Meeting-clause-made : goal.returns-in-Meeting-clause-made
 returns-in-Meeting-clause-made c d e =
-    c.fire-mv.ensures.made d (due-of _ _ (ap plan_of c.in-Meeting.is ∙ ap (λ (meet : Meet). Meeting meet) (sym c.get.ensures)) c.args.proc.now.size c.args.proc.now.left c.args.port _ d e)
+    c.fire-in-Meeting.ensures.made d (due-of _ _ (ap plan_of c.in-Meeting.is ∙ ap (λ (meet : Meet). Meeting meet) (sym c.get.ensures)) c.args.proc.now.size c.args.proc.now.left c.args.port _ d e)
 
 pub returns-in-OneByOne-clause-made : goal.returns-in-OneByOne-clause-made
 returns-in-OneByOne-clause-made c d e = c.fire-in-OneByOne.ensures.made d (due-of _ _ (ap plan_of c.in-OneByOne.is) c.args.proc.now.size c.args.proc.now.left c.args.port _ d e)
 
 pub returns-in-Choice-clause-made : goal.returns-in-Choice-clause-made
 returns-in-Choice-clause-made c d e =
-    c.fire-mv-in-Choice.ensures.made d (due-of _ _ (ap plan_of c.in-Choice.is ∙ ap (λ (mix : Mix). Choice mix) (sym c.get-in-Choice.ensures)) c.args.proc.now.size c.args.proc.now.left c.args.port _ d e)
+    c.fire-in-Choice.ensures.made d (due-of _ _ (ap plan_of c.in-Choice.is ∙ ap (λ (mix : Mix). Choice mix) (sym c.get-in-Choice.ensures)) c.args.proc.now.size c.args.proc.now.left c.args.port _ d e)
 
 pub returns-in-Once-clause-made : goal.returns-in-Once-clause-made
 returns-in-Once-clause-made c =
     let same : c.in-Once.match-proc-own.proc ≡ c.args.proc.now = search rules in
-    subst (λ (it : Process). HasMade it c.args.port c.args.rides c.turn_far-mv.new.proc c.turn_far-mv.result.0 c.turn_far-mv.result.1) same c.turn_far-mv.ensures.made
+    subst (λ (it : Process). HasMade it c.args.port c.args.rides c.turn_far.new.proc c.turn_far.result.0 c.turn_far.result.1) same c.turn_far.ensures.made
 
 pub returns-in-CallsInTurn-clause-frees : goal.returns-in-CallsInTurn-clause-frees
 returns-in-CallsInTurn-clause-frees c = frees_as _ (InTurn _) c.args.proc.now.size c.args.port _ _ _ (ap plan_of c.in-CallsInTurn.is) c.fire.ensures.frees
@@ -91,13 +91,15 @@ pub returns-in-Loop-clause-frees : goal.returns-in-Loop-clause-frees
 returns-in-Loop-clause-frees c = frees_as _ (OneByOne Loop) c.args.proc.now.size c.args.port _ _ _ (ap plan_of c.in-Loop.is) c.fire-in-Loop.ensures.frees
 
 pub returns-in-Meeting-clause-frees : goal.returns-in-Meeting-clause-frees
-returns-in-Meeting-clause-frees c = frees_unknown _ _ _ _
+returns-in-Meeting-clause-frees c = frees_as _ (Meeting _) c.args.proc.now.size c.args.port _ _ _ (ap plan_of c.in-Meeting.is ∙ ap (λ (meet : Meet). Meeting meet) (sym c.get.ensures)) c.fire-in-Meeting.ensures.frees
 
 pub returns-in-OneByOne-clause-frees : goal.returns-in-OneByOne-clause-frees
 returns-in-OneByOne-clause-frees c = frees_as _ (OneByOne _) c.args.proc.now.size c.args.port _ _ _ (ap plan_of c.in-OneByOne.is) c.fire-in-OneByOne.ensures.frees
 
 pub returns-in-Choice-clause-frees : goal.returns-in-Choice-clause-frees
-returns-in-Choice-clause-frees c = frees_unknown _ _ _ _
+returns-in-Choice-clause-frees c = frees_as _ (Choice _) c.args.proc.now.size c.args.port _ _ _ (ap plan_of c.in-Choice.is ∙ ap (λ (mix : Mix). Choice mix) (sym c.get-in-Choice.ensures)) c.fire-in-Choice.ensures.frees
 
 pub returns-in-Once-clause-frees : goal.returns-in-Once-clause-frees
-returns-in-Once-clause-frees c = frees_unknown _ _ _ _
+returns-in-Once-clause-frees c =
+    let same : c.in-Once.match-proc-own.proc ≡ c.args.proc.now = search rules in
+    subst (λ (it : Process). FreesIn (sense (plan_of it.plan) it.size) it.ports c.args.port c.turn_far.new.proc.ports c.turn_far.result.2) same c.turn_far.ensures.frees

@@ -1,7 +1,8 @@
 use Rattle.std.proofs.Common.{sym, ap, ◌∙◌}
 use Rattle.bz_kinds.specs.declared.row.Row.{Row}
-use Rattle.bz_kinds.specs.declared.row.Plan.TheVariants.{Once}
+use Rattle.bz_kinds.specs.declared.row.Plan.TheVariants.{Once, Select, Indexed, Signalled, Decision, Bar}
 use Rattle.bz_kinds.specs.Kept.{plan_of}
+use Rattle.bz_kinds.proofs.FreedLaws.{frees_as}
 use Rattle.bz_kinds.proofs.PlanLaws.{due-of}
 use Rattle.bz_kinds.proofs.comp.turn_rare.Goals as goal
 
@@ -23,3 +24,21 @@ returns-in-Decision-clause-made c d e = c.fire-in-Decision.ensures.made d (due-o
 
 pub returns-in-Bar-clause-made : goal.returns-in-Bar-clause-made
 returns-in-Bar-clause-made c d e = c.fire-in-Bar.ensures.made d (due-of _ _ (ap plan_of c.in-Bar.is) c.args.proc.now.size c.args.proc.now.left c.args.port _ d e)
+
+pub returns-in-Once-clause-frees : goal.returns-in-Once-clause-frees
+returns-in-Once-clause-frees c = frees_as _ (Once _) c.args.proc.now.size c.args.port _ _ _ (ap plan_of c.in-Once.is ∙ ap (λ (row : Row). Once row) (sym c.get.ensures)) c.fire.ensures.frees
+
+pub returns-in-Select-clause-frees : goal.returns-in-Select-clause-frees
+returns-in-Select-clause-frees c = frees_as _ (Select _) c.args.proc.now.size c.args.port _ _ _ (ap plan_of c.in-Select.is) c.fire-in-Select.ensures.frees
+
+pub returns-in-Indexed-clause-frees : goal.returns-in-Indexed-clause-frees
+returns-in-Indexed-clause-frees c = frees_as _ (Indexed _) c.args.proc.now.size c.args.port _ _ _ (ap plan_of c.in-Indexed.is) c.fire-in-Indexed.ensures.frees
+
+pub returns-in-Signalled-clause-frees : goal.returns-in-Signalled-clause-frees
+returns-in-Signalled-clause-frees c = frees_as _ Signalled c.args.proc.now.size c.args.port _ _ _ (ap plan_of c.in-Signalled.is) c.fire-in-Signalled.ensures.frees
+
+pub returns-in-Decision-clause-frees : goal.returns-in-Decision-clause-frees
+returns-in-Decision-clause-frees c = frees_as _ Decision c.args.proc.now.size c.args.port _ _ _ (ap plan_of c.in-Decision.is) c.fire-in-Decision.ensures.frees
+
+pub returns-in-Bar-clause-frees : goal.returns-in-Bar-clause-frees
+returns-in-Bar-clause-frees c = frees_as _ Bar c.args.proc.now.size c.args.port _ _ _ (ap plan_of c.in-Bar.is) c.fire-in-Bar.ensures.frees

@@ -6,6 +6,7 @@ use Rattle.bz_kinds.specs.Meeting.{into, answer}
 use Rattle.bz_kinds.proofs.MadeLaws.{lead-replied, lead-narrow, leg-asked, leg-got, at-member, at-behind, meeting-is-due, not-opened, some-port}
 use Rattle.bz_kinds.proofs.MeetingDue.{behind-port}
 use Rattle.bz_kinds.proofs.MeetingSteps.{steps-at}
+use Rattle.bz_kinds.proofs.FreedLaws.{frees_at}
 use Rattle.bz_kinds.proofs.meeting.fire.Goals as goal
 
 pub is_to_open-requires : goal.is_to_open-requires
@@ -24,7 +25,8 @@ returns-in-true-false c =
     record {
       made = λ d e. lead-replied (into meet c.args.size (c.args.port - 1)) (answer meet c.args.size (c.args.port - 1)) d c.args.rides _ _ _ _ (at-member meet c.args.size c.args.port _ d e (let in_it = c.in-true-false.is-0 in omega (arith, in_it))) (not-opened _ c.in-true-false.ensures)
           (c.worth.ensures ∙ ap (λ (it : Expr). value_of it (slots_of c.args.slots.now)) c.answer.ensures) refl;
-      steps = steps-at _ _ _ _ _ _ _ _ (some-port meet c.args.size c.args.port _ found due) c.reply.ensures;
+      steps = steps-at _ _ _ _ _ _ _ _ (some-port meet c.args.size c.args.port _ found due) c.reply-freed.ensures.steps;
+      frees = frees_at _ _ _ _ _ _ (some-port meet c.args.size c.args.port _ found due) c.reply-freed.ensures.frees;
     }
 
 pub returns-in-Some-clause-made : goal.returns-in-Some-clause-made
@@ -36,7 +38,13 @@ pub returns-in-Some-clause-steps : goal.returns-in-Some-clause-steps
 returns-in-Some-clause-steps c =
     let (found, due, narrow) = c.requires.due in
     let past = c.in-false-true.is-0 in
-    steps-at _ _ _ _ _ _ _ _ (behind-port _ _ _ _ c.requires.place c.args.port found due (omega (arith, past))) c.ask.ensures
+    steps-at _ _ _ _ _ _ _ _ (behind-port _ _ _ _ c.requires.place c.args.port found due (omega (arith, past))) c.ask.ensures.steps
+
+pub returns-in-Some-clause-frees : goal.returns-in-Some-clause-frees
+returns-in-Some-clause-frees c =
+    let (found, due, narrow) = c.requires.due in
+    let past = c.in-false-true.is-0 in
+    frees_at _ _ _ _ _ _ (behind-port _ _ _ _ c.requires.place c.args.port found due (omega (arith, past))) c.ask.ensures.frees
 
 pub returns-in-Some-leg : goal.returns-in-Some-leg
 returns-in-Some-leg c =
@@ -44,5 +52,6 @@ returns-in-Some-leg c =
     let past = c.in-false-false.is-0 in
     record {
       made = λ d e. leg-got c.in-Some-leg.leg d c.args.rides _ _ _ (at-behind c.args.meet.now c.args.size c.args.port _ d c.in-Some-leg.leg e (omega (arith, past)) c.in-Some-leg.is) (not-opened _ c.in-false-false.ensures) c.keep-in-false-false.ensures;
-      steps = steps-at _ _ _ _ _ _ _ _ (behind-port _ _ _ _ c.requires.place c.args.port found due (omega (arith, past))) c.got.ensures;
+      steps = steps-at _ _ _ _ _ _ _ _ (behind-port _ _ _ _ c.requires.place c.args.port found due (omega (arith, past))) c.got.ensures.steps;
+      frees = frees_at _ _ _ _ _ _ (behind-port _ _ _ _ c.requires.place c.args.port found due (omega (arith, past))) c.got.ensures.frees;
     }

@@ -10,8 +10,8 @@ returns-then-eq-clause-steps c =
     let is : c.get.result ≡ OpenDue = search rules in
     rw c.set.ensures (once-over c.args.row.now _ _ _ _ _ _ ok c.fire-mv.ensures.steps (sym c.get.ensures ∙ is))
 
-pub returns-else-eq-clause-steps : goal.returns-else-eq-clause-steps
-returns-else-eq-clause-steps c =
+pub returns-clause-steps : goal.returns-clause-steps
+returns-clause-steps c =
     let (d, e, narrow) = c.requires.due in
     let ok = going c.args.row.now _ _ _ _ d c.requires.place e in
     let not : c.get.result ≡ OpenDue → ⊥ = search rules in
