@@ -1,4 +1,4 @@
--- The components of a net, and the bits that each is told, as they lie in its arena.
+-- The components of a net, and the bits that each is told, as they lie in its row of nodes.
 use Rattle.std.specs.Prelude.{ℕ, List, map}
 use Rattle.bz_model.specs.Heads.{Component, Proc}
 use Rattle.bz_net.specs.Keeping.{proc_of}

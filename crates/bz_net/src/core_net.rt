@@ -21,7 +21,8 @@ use crate::chan_row::ChanRow;
 use crate::here::{command, has_step, has_step_by, lowest_port, mark_all, move_comp};
 use crate::kept_phases::Phases;
 use crate::moves::{answers, due_at, foresee, mixes, note_clash, port_in, refusal_of, reply_to};
-use crate::node::{Node, dup_all, restart_all, start_all};
+use crate::node::{dup_all, restart_all, start_all};
+use crate::node_row::NodeRow;
 use crate::noted::Noted;
 use crate::ready_row::{Keeping, ReadyRow};
 use crate::same::{first_other, is_other_at, is_same_phases};
@@ -37,7 +38,7 @@ pub struct Core {
     sites: Arena<FlatComp>,
     ends: Vec<Ends>,
     chans: ChanRow,
-    nodes: Arena<Node>,
+    nodes: NodeRow,
     phases: Phases,
     ready: ReadyRow,
     // Whether there is a component at which requests may meet.
@@ -397,6 +398,7 @@ impl Core {
     }
 
     /// The component that is next to fire, from a number on.
+    #[inline(always)]
     pub fn next_ready(&self, from: u32) -> Option<u32>
         ensures { MatchOption result (Rest self.now.wiring.sites self.now.state)
             (IsNext (CanStep self.now.wiring.sites self.now.state) from) }

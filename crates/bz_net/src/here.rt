@@ -22,6 +22,7 @@ use crate::chan_row::ChanRow;
 use crate::kept_phases::Phases;
 use crate::moves::{foresee, next_of, reply_to, sends};
 use crate::node::{Node, node_id};
+use crate::node_row::NodeRow;
 use crate::ready_row::{Keeping, ReadyRow};
 use bz_arena::Arena;
 use bz_bits::PortBits;
@@ -92,10 +93,10 @@ fn can_go(comp: &Comp, here: &PortBits, port: u32) -> bool
     if ready_word(comp, 0, here.word(0)) != 0 {
         return true;
     }
-    if here.word_count() < 2 {
-        return false;
+    if here.word_count() != 1 {
+        return can_go_far(comp, here, port);
     }
-    can_go_far(comp, here, port)
+    false
 }
 
 // The same of the ports from 64 on, where there is none before.
@@ -118,13 +119,7 @@ fn can_go_far(comp: &Comp, here: &PortBits, port: u32) -> bool
 
 /// Whether a component has a step. The ports round `port` are looked at first.
 #[inline(always)]
-fn can_step(
-    sites: &Arena<FlatComp>,
-    phases: &Phases,
-    nodes: &Arena<Node>,
-    comp: u32,
-    port: u32,
-) -> bool
+fn can_step(sites: &Arena<FlatComp>, phases: &Phases, nodes: &NodeRow, comp: u32, port: u32) -> bool
     requires sighted { Sighted (map site_of sites.now) phases.now (comps_of nodes.now) (heres_of nodes.now) }
     requires from { 0 < comp }
     requires to { comp ≤ length sites.now }
@@ -141,7 +136,7 @@ fn can_step(
 pub(crate) fn has_step(
     sites: &Arena<FlatComp>,
     phases: &Phases,
-    nodes: &Arena<Node>,
+    nodes: &NodeRow,
     comp: u32,
     port: u32,
 ) -> bool
@@ -164,7 +159,7 @@ pub(crate) fn has_step(
 pub(crate) fn has_step_by(
     sites: &Arena<FlatComp>,
     phases: &Phases,
-    nodes: &Arena<Node>,
+    nodes: &NodeRow,
     comp: u32,
     port: u32,
     chan: u32,
@@ -199,7 +194,7 @@ pub(crate) fn has_step_by(
 fn carries(
     sites: &Arena<FlatComp>,
     phases: &Phases,
-    nodes: &Arena<Node>,
+    nodes: &NodeRow,
     comp: u32,
     port: u32,
     value: Option<Value>,
@@ -247,7 +242,7 @@ fn goes_at_far(comp: &Comp, here: &PortBits, port: u32) -> bool
 pub(crate) fn lowest_port(
     sites: &Arena<FlatComp>,
     phases: &Phases,
-    nodes: &Arena<Node>,
+    nodes: &NodeRow,
     comp: u32,
 ) -> Option<u32>
     requires sighted { Sighted (map site_of sites.now) phases.now (comps_of nodes.now) (heres_of nodes.now) }
@@ -265,7 +260,7 @@ pub(crate) fn lowest_port(
 #[inline(always)]
 pub(crate) fn retell(
     sites: &Arena<FlatComp>,
-    nodes: &mut Arena<Node>,
+    nodes: &mut NodeRow,
     chan: u32,
     ends: Ends,
     phase: Phase,
@@ -281,7 +276,7 @@ pub(crate) fn retell(
 }
 
 #[inline(always)]
-fn tell_end(nodes: &mut Arena<Node>, end: Option<u32>, port: u32, bit: bool)
+fn tell_end(nodes: &mut NodeRow, end: Option<u32>, port: u32, bit: bool)
     requires { HasBit (heres_of nodes.old) end port }
     ensures put { PutEnd (heres_of nodes.old) (heres_of nodes.new) end port bit }
     ensures comps { comps_of nodes.new ≡ comps_of nodes.old }
@@ -296,7 +291,7 @@ fn tell_end(nodes: &mut Arena<Node>, end: Option<u32>, port: u32, bit: bool)
 fn refresh(
     sites: &Arena<FlatComp>,
     phases: &Phases,
-    nodes: &Arena<Node>,
+    nodes: &NodeRow,
     ready: &mut ReadyRow,
     comp: u32,
     port: u32,
@@ -319,7 +314,7 @@ fn refresh(
 fn refresh_ends(
     sites: &Arena<FlatComp>,
     phases: &Phases,
-    nodes: &Arena<Node>,
+    nodes: &NodeRow,
     ready: &mut ReadyRow,
     ends: Ends,
 )
@@ -342,7 +337,7 @@ pub(crate) fn mark_all(
     alloc: Global,
     sites: &Arena<FlatComp>,
     phases: &Phases,
-    nodes: &Arena<Node>,
+    nodes: &NodeRow,
     keeping: Keeping,
 ) -> Result<ReadyRow, AllocError>
     requires sighted { Sighted (map site_of sites.now) phases.now (comps_of nodes.now) (heres_of nodes.now) }
@@ -365,7 +360,7 @@ pub(crate) fn move_comp(
     sites: &Arena<FlatComp>,
     ends: &[Ends],
     chans: &ChanRow,
-    nodes: &mut Arena<Node>,
+    nodes: &mut NodeRow,
     phases: &mut Phases,
     ready: &mut ReadyRow,
     comp: u32,
@@ -461,7 +456,7 @@ fn keep_marked(ready: &mut ReadyRow, comp: u32, goes: bool)
 
 // Tells the other end of a channel of a move: a request or a reply comes there.
 #[inline(always)]
-fn tell_other(nodes: &mut Arena<Node>, ready: &mut ReadyRow, pair: &Ends, mv: Move)
+fn tell_other(nodes: &mut NodeRow, ready: &mut ReadyRow, pair: &Ends, mv: Move)
     requires active { HasBit (heres_of nodes.old) pair.now.active pair.now.active_port }
     requires passive { HasBit (heres_of nodes.old) pair.now.passive pair.now.passive_port }
     requires row { length ready.old ≡ suc (length nodes.old) }
@@ -483,7 +478,7 @@ fn tell_other(nodes: &mut Arena<Node>, ready: &mut ReadyRow, pair: &Ends, mv: Mo
 
 // Nothing comes to the component at an end. A look at it brings what its type says of its moves.
 #[inline(always)]
-fn look_at(nodes: &Arena<Node>, end: Option<u32>)
+fn look_at(nodes: &NodeRow, end: Option<u32>)
     requires { IfSome end (λ c. (0 < c) × (c ≤ length nodes.now)) }
     ensures { IfSome end (λ c. IsTurning (comp_at (comps_of nodes.now) c)) }
 {
@@ -494,7 +489,7 @@ fn look_at(nodes: &Arena<Node>, end: Option<u32>)
 
 // What a port may wait for comes there: where a move is due at it, its component can move.
 #[inline(always)]
-fn come(nodes: &mut Arena<Node>, ready: &mut ReadyRow, end: Option<u32>, port: u32)
+fn come(nodes: &mut NodeRow, ready: &mut ReadyRow, end: Option<u32>, port: u32)
     requires bit { HasBit (heres_of nodes.old) end port }
     requires row { length ready.old ≡ suc (length nodes.old) }
     ensures came { Came (comps_of nodes.old) (heres_of nodes.old) (heres_of nodes.new) ready.old ready.new end port }
@@ -516,7 +511,7 @@ fn come(nodes: &mut Arena<Node>, ready: &mut ReadyRow, end: Option<u32>, port: u
 pub(crate) fn command(
     sites: &Arena<FlatComp>,
     ends: &[Ends],
-    nodes: &mut Arena<Node>,
+    nodes: &mut NodeRow,
     phases: &mut Phases,
     ready: &mut ReadyRow,
     verb: Verb,

@@ -14,7 +14,8 @@ ghost use Rattle.bz_net.specs.Keeping.{state_of, Placed, ReadsChans};
 ghost use Rattle.bz_net.specs.Nodes.{comps_of};
 
 use crate::kept_phases::Phases;
-use crate::node::{Node, node_id, site_in};
+use crate::node::{node_id, site_in};
+use crate::node_row::NodeRow;
 use crate::noted::Noted;
 use bz_arena::{Arena, Id};
 use bz_flat::{Ends, FlatComp};
@@ -69,7 +70,7 @@ pub(crate) fn port_in(ends: &[Ends], chan: u32, passive: bool, comp: u32) -> Opt
 /// The move that a component has at a port, whether or not it can be made.
 pub(crate) fn due_at(
     sites: &Arena<FlatComp>,
-    nodes: &Arena<Node>,
+    nodes: &NodeRow,
     phases: &Phases,
     comp: u32,
     port: u32,
@@ -87,7 +88,7 @@ pub(crate) fn due_at(
 /// The channel, the move and the value of the step that a component has at a port, where it has one.
 pub(crate) fn foresee(
     sites: &Arena<FlatComp>,
-    nodes: &Arena<Node>,
+    nodes: &NodeRow,
     phases: &Phases,
     comp: u32,
     port: u32,

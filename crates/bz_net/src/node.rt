@@ -10,6 +10,7 @@ ghost use Rattle.bz_net.specs.Keeping.{Started, StartsUnless, StartsWell};
 ghost use Rattle.bz_net.specs.Nodes.{comps_of, heres_of};
 ghost use Rattle.bz_net.specs.Told.{AreBlank};
 
+use crate::node_row::NodeRow;
 use bz_arena::{Arena, Id};
 use bz_bits::PortBits;
 use bz_flat::FlatComp;
@@ -47,18 +48,21 @@ pub(crate) fn start_all(
     alloc: Global,
     chans: &Arena<Chan>,
     sites: &Arena<FlatComp>,
-) -> Result<Arena<Node>, NetError>
+) -> Result<NodeRow, NetError>
     requires { StartsWell chans.now (map site_of sites.now) }
     ensures started { IfOk result (λ nodes. Started chans.now (map site_of sites.now) (comps_of nodes) (length sites.now)) }
     ensures blank { IfOk result (λ nodes. AreBlank (map site_of sites.now) (heres_of nodes) (length sites.now)) }
     ensures err { IfErr result (λ e. e ≡ NetError.Memory) }
 {
-    let mut nodes = Arena::new(alloc);
+    let mut nodes = match NodeRow::new(alloc, sites.len()) {
+        Ok(nodes) => nodes,
+        Err(_) => return Err(NetError::Memory),
+    };
     let mut own = Vec::new(alloc);
     for place in 0..sites.len() {
         let node = start_one(alloc, chans, sites.get(Id::at(place)), &mut own)?;
         match nodes.push(node) {
-            Ok(_) => {}
+            Ok(()) => {}
             Err(_) => return Err(NetError::Memory),
         }
     }
@@ -71,7 +75,7 @@ pub(crate) fn restart_all(
     names: &Names,
     sites: &Arena<FlatComp>,
     moved: &[bool],
-    nodes: &mut Arena<Node>,
+    nodes: &mut NodeRow,
 ) -> Result<(), NetError>
     requires starts { StartsWell names.now.chans (map site_of sites.now) }
     requires each { length nodes.old ≡ length sites.now }
@@ -90,16 +94,13 @@ pub(crate) fn restart_all(
 }
 
 /// The same nodes.
-pub(crate) fn dup_all(alloc: Global, nodes: &Arena<Node>) -> Result<Arena<Node>, AllocError>
+pub(crate) fn dup_all(alloc: Global, nodes: &NodeRow) -> Result<NodeRow, AllocError>
     ensures { IfOk result (λ same. same ≡ nodes.now) }
 {
-    let mut same = Arena::new(alloc);
+    let mut same = NodeRow::new(alloc, nodes.len())?;
     for place in 0..nodes.len() {
         let copy = dup_one(alloc, nodes.get(Id::at(place)))?;
-        match same.push(copy) {
-            Ok(_) => {}
-            Err(_) => return Err(AllocError),
-        }
+        same.push(copy)?;
     }
     Ok(same)
 }

@@ -1,6 +1,8 @@
 //! Which components of a net can move, as the core keeps it.
 
-ghost use Rattle.std.specs.Prelude.{◌≡◌, ◌+◌, ◌<◌, ◌≤◌, ◌^◌, true, false, length, replicate, slice_index_or, slice_set, IfOk};
+ghost use Rattle.std.specs.Prelude.{◌≡◌, ◌+◌, ◌<◌, ◌≤◌, ◌^◌, true, false, None, length, replicate, slice_index_or, slice_set, IfOk};
+ghost use Rattle.bz_bits.specs.Row.{IsNext};
+ghost use Rattle.bz_net.specs.ReadyRow.{bits_of};
 ghost use Rattle.bz_ready.specs.Set.{IsNextFrom};
 
 use bz_bits::SummedRow;
@@ -110,33 +112,31 @@ impl ReadyRow {
         }
     }
 
-    /// The least that can move at or above `from`, else the least of all.
+    /// The least that can move at or above `from`, else the least of all. It mostly lies in the word of `from`.
+    #[inline(always)]
     pub(crate) fn next_from(&self, from: u32) -> Option<u32>
         ensures { IsNextFrom self.now from result }
     {
-        let found = next_in(&self.marks, from);
-        if found.is_some() {
-            return found;
+        if let Some(place) = self.marks.next_from(from as usize) {
+            return Some(place as u32);
         }
-        match &self.listed {
-            Some(set) => set.next_from(from),
-            None => None,
-        }
+        next_around(&self.marks, &self.listed, from)
     }
 }
 
-// The place of the first 1 from a place on, else of the first of all.
-#[inline(always)]
+// The same where the bits have none from there on.
+#[inline(never)]
 #[tactic(auto, using(bz_ready::proofs::Nexts::above, bz_ready::proofs::Nexts::around))]
-fn next_in(row: &SummedRow, from: u32) -> Option<u32>
-    requires { length row.now ≤ 2 ^ 32 }
-    ensures { IsNextFrom row.now from result }
+fn next_around(marks: &SummedRow, listed: &Option<ReadySet>, from: u32) -> Option<u32>
+    requires none { IsNext marks.now from None }
+    requires few { length marks.now ≤ 2 ^ 32 }
+    ensures { IsNextFrom (bits_of listed.now marks.now) from result }
 {
-    if let Some(place) = row.next_from(from as usize) {
-        return Some(place as u32);
-    }
-    match row.next_from(0) {
-        Some(place) => Some(place as u32),
-        None => None,
+    match listed {
+        Some(set) => set.next_from(from),
+        None => match marks.next_from(0) {
+            Some(place) => Some(place as u32),
+            None => None,
+        },
     }
 }

@@ -4,8 +4,8 @@ ghost use Rattle.std.specs.Prelude.{◌≡◌, IfNone, IsTrue};
 ghost use Rattle.bz_net.specs.Nodes.{procs_of};
 
 use crate::kept_phases::Phases;
-use crate::node::Node;
-use bz_arena::{Arena, Id};
+use crate::node_row::NodeRow;
+use bz_arena::Id;
 
 /// Whether the channels are in the same phases.
 pub(crate) fn is_same_phases(phases: &Phases, others: &Phases) -> bool
@@ -23,7 +23,7 @@ pub(crate) fn is_same_phases(phases: &Phases, others: &Phases) -> bool
 }
 
 /// Where a component lies that may have another process there, `None` where all have the same.
-pub(crate) fn first_other(nodes: &Arena<Node>, others: &Arena<Node>) -> Option<usize>
+pub(crate) fn first_other(nodes: &NodeRow, others: &NodeRow) -> Option<usize>
     ensures { IfNone result (procs_of nodes.now ≡ procs_of others.now) }
 {
     if nodes.len() != others.len() {
@@ -40,7 +40,7 @@ pub(crate) fn first_other(nodes: &Arena<Node>, others: &Arena<Node>) -> Option<u
 }
 
 /// Whether the component that lies there may have another process.
-pub(crate) fn is_other_at(nodes: &Arena<Node>, others: &Arena<Node>, place: usize) -> bool {
+pub(crate) fn is_other_at(nodes: &NodeRow, others: &NodeRow, place: usize) -> bool {
     if place >= nodes.len() || place >= others.len() {
         return false;
     }

@@ -10,6 +10,6 @@ pub can_go_far-requires-clause-near : goal.can_go_far-requires-clause-near
 can_go_far-requires-clause-near c q lt =
     word_passes c.args.comp.now c.args.here.now 0 c.ready_word.result c.word.result c.ready_word.type_inv c.ready_word.ensures.ready c.word.ensures c.if-ready_word-ne0.false (λ r low. absurd (omega (arith, low))) q (omega (arith, lt))
 
-pub returns-then-word_count-lt2-clause-goes : goal.returns-then-word_count-lt2-clause-goes
-returns-then-word_count-lt2-clause-goes c p le can =
-    word_passes c.args.comp.now c.args.here.now 0 c.ready_word.result c.word.result c.ready_word.type_inv c.ready_word.ensures.ready c.word.ensures c.if-ready_word-ne0.false (λ r low. absurd (omega (arith, low))) p (let r = c.requires.room in let n = c.word_count.ensures in let one = c.if-word_count-lt2.true in omega (arith, le, r, n, one)) can
+pub returns-clause-goes : goal.returns-clause-goes
+returns-clause-goes c p le can =
+    word_passes c.args.comp.now c.args.here.now 0 c.ready_word.result c.word.result c.ready_word.type_inv c.ready_word.ensures.ready c.word.ensures c.if-ready_word-ne0.false (λ r low. absurd (omega (arith, low))) p (let r = c.requires.room in let n = c.word_count.ensures in let one = c.if-word_count-ne1.false in omega (arith, le, r, n, one)) can

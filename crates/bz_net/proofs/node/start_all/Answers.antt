@@ -24,9 +24,9 @@ loop-place-preserved c =
     let here = site_here chans sites c.loop-place.place x c.requires (omega (arith, c.loop-place-test.true)) (rw c.at.ensures at c.get.ensures) in
     record {
       begun =
-          rw (c.in-Ok.ensures.appended, map-append comp_of nodes (node ∷ []))
+          rw (c.in-Ok-push.ensures, map-append comp_of nodes (node ∷ []))
           (started_more chans (map site_of sites) (comps_of nodes) c.loop-place.place node.comp c.loop-place.invariant.begun (c.in_ok-node.ensures.comp ∙ ap (start_comp chans) (sym here)));
       blank =
-          rw (c.in-Ok.ensures.appended, map-append here_of nodes (node ∷ []))
+          rw (c.in-Ok-push.ensures, map-append here_of nodes (node ∷ []))
           (blank_more sites (heres_of nodes) c.loop-place.place x node.here c.loop-place.invariant.blank (omega (arith, c.loop-place-test.true)) (rw c.at.ensures at c.get.ensures) c.in_ok-node.ensures.words c.in_ok-node.ensures.none);
     }
