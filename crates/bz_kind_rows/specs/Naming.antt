@@ -1,5 +1,5 @@
 -- The kind that a netlist names, with its parameters.
-use Rattle.std.specs.Prelude.{if◌then◌else◌, ℕ, ◌%◌, ◌^◌, ◌&&◌, nat_le, Bool, true, false, bytes_eq, Option, Some, None, List, [], ◌∷◌, codes, find, map, filter_map, slice_get, Result, Ok, Err}
+use Rattle.std.specs.Prelude.{if◌then◌else◌, ℕ, ◌&&◌, nat_le, Bool, true, false, bytes_eq, Option, Some, None, List, [], ◌∷◌, codes, find, map, filter_map, slice_get, Result, Ok, Err}
 use Rattle.std.specs.Option.{option_map, option_and_then}
 use Rattle.bz_model.specs.Limits.{max_width}
 use Rattle.bz_model.specs.declared.operation.UnaryOp.{UnaryOp}

@@ -76,8 +76,8 @@ length-laid (o ∷ os) ds = omega (arith, length-append (laid os o.before) (open
 pub few_pushed : (old new : List Node) (n : Node) (at to : ℕ) → new ≡ old ++ n ∷ [] → length old ≤ at → at < to → length new ≤ to
 few_pushed old new n at to is few more = omega (arith, ap length is, length-append old (n ∷ []), few, more)
 
-pub few_written : (nodes : List Node) (k at : ℕ) (n : Node) → length nodes ≤ at → length (slice_set nodes k n) ≤ at + 1
-few_written nodes k at n few = omega (arith, length-set nodes k n, few)
+pub few_written : (old new : List Node) (k at : ℕ) (n : Node) → new ≡ slice_set old k n → length old ≤ at → length new ≤ at + 1
+few_written old new k at n is few = omega (arith, ap length is, length-set old k n, few)
 
 -- ---- a leaf
 

@@ -3,6 +3,7 @@ use Rattle.std.specs.Prelude.{ℕ, List, [], ◌∷◌, map, Option, Some, None}
 use Rattle.bz_sexpr.specs.Data as spec
 use Rattle.bz_sexpr.specs.Views.{list_of, data_of, datum_view}
 use Rattle.bz_sexpr.specs.Nodes.{between, unquoted, leaf_in, datum_at, forest}
+use Rattle.bz_sexpr.specs.Rows.{nodes_seen}
 use Rattle.bz_sexpr.specs.declared.datum.Span.{Span}
 use Rattle.bz_sexpr.specs.declared.form.Form.{Form}
 use Rattle.bz_sexpr.specs.declared.form.Forms.{Forms}
@@ -22,11 +23,11 @@ text_view (quoting.Quoted raw) = unquoted raw.now
 
 abbrev pub forms_view : Forms → List spec.Datum
 forms_view (forms.Data ds) = map datum_view ds.now
-forms_view (forms.Nodes f) = forest f.text.now f.nodes.now
+forms_view (forms.Nodes f) = forest f.text.now (nodes_seen f.nodes)
 
 abbrev pub form_view : Form → spec.Datum
 form_view (form.Datum d) = datum_view d.now
-form_view (form.Node f) = datum_at (leaf_in (between f.node.from f.node.to f.text.now)) f.node (forest f.text.now f.inner.now)
+form_view (form.Node f) = datum_at (leaf_in (between f.node.from f.node.to f.text.now)) f.node (forest f.text.now (nodes_seen f.inner))
 
 abbrev pub leaf_view : Leaf → spec.Leaf
 leaf_view (leaf.Num n) = spec.num n
@@ -58,4 +59,4 @@ first_and_rest (Some p) = form_view p.0 ∷ forms_view p.1
 
 -- the data of a text
 abbrev pub forest_view : Forest → List spec.Datum
-forest_view f = forest f.text.now f.nodes.items
+forest_view f = forest f.text.now f.nodes

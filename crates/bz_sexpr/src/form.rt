@@ -3,9 +3,11 @@
 ghost use Rattle.std.specs.Prelude.{◌≡◌, length, true, false, IfSome, IsSome, Some, None};
 ghost use Rattle.bz_sexpr.specs.Data.{leaf_of, num, symbol};
 ghost use Rattle.bz_sexpr.specs.Nodes.{row, forest, leaf_in, unmarked};
+ghost use Rattle.bz_sexpr.specs.Rows.{nodes_seen};
 
 use crate::bytes::{number, plain, short_number, unquoted};
 use crate::node::Node;
+use crate::nodes::NodeRow;
 use crate::{Datum, Span};
 use std::alloc::{AllocError, Global};
 
@@ -13,11 +15,11 @@ use std::alloc::{AllocError, Global};
 #[derive(Clone, Copy)]
 pub struct NodeForms<'t> {
     pub(crate) text: &'t [u8],
-    pub(crate) nodes: &'t [Node],
+    pub(crate) nodes: NodeRow<'t>,
     /// How many data.
     pub(crate) len: usize,
-    ghost laid: { nodes.now ≡ row (forest text.now nodes.now) },
-    ghost counted: { len ≡ length (forest text.now nodes.now) },
+    ghost laid: { nodes_seen nodes ≡ row (forest text.now (nodes_seen nodes)) },
+    ghost counted: { len ≡ length (forest text.now (nodes_seen nodes)) },
 }
 
 /// A datum that a node of a text stands for, with the nodes of the data in it.
@@ -25,9 +27,9 @@ pub struct NodeForms<'t> {
 pub struct NodeForm<'t> {
     pub(crate) text: &'t [u8],
     pub(crate) node: Node,
-    pub(crate) inner: &'t [Node],
-    ghost laid: { inner.now ≡ row (forest text.now inner.now) },
-    ghost counted: { node.count ≡ length (forest text.now inner.now) },
+    pub(crate) inner: NodeRow<'t>,
+    ghost laid: { nodes_seen inner ≡ row (forest text.now (nodes_seen inner)) },
+    ghost counted: { node.count ≡ length (forest text.now (nodes_seen inner)) },
 }
 
 /// Data in a row.
@@ -125,15 +127,11 @@ impl<'t> NodeForms<'t> {
         ensures { first_and_rest (option_map (λ p. (Form.Node p.0, Forms.Nodes p.1)) result) ≡ forms_view (Forms.Nodes self.entry) }
     {
         let (node, behind) = self.nodes.split_first()?;
-        let (inner, nodes) = behind.split_at(node.size as usize);
+        let (inner, nodes) = behind.split_at(node.size);
         let text = self.text;
         let len = self.len - 1;
         Some((
-            NodeForm {
-                text,
-                node: *node,
-                inner,
-            },
+            NodeForm { text, node, inner },
             NodeForms { text, nodes, len },
         ))
     }

@@ -10,6 +10,7 @@ ghost use Rattle.bz_sexpr.specs.Reading.{IsFault};
 
 use crate::forest::Forest;
 use crate::form::Leaf;
+use crate::nodes::node_at;
 use crate::reader::scan;
 use crate::{Datum, SexprError, Span};
 use std::alloc::{AllocError, Global};
@@ -40,7 +41,7 @@ fn tree(alloc: Global, forest: &Forest<'_>) -> Result<Vec<Datum>, AllocError>
     let mut left = forest.nodes.len();
     while left > 0 {
         left -= 1;
-        let node = forest.nodes[left];
+        let node = node_at(&forest.nodes, left);
         let datum = match Leaf::of_piece(node.piece(forest.text)) {
             Some(leaf) => lone(alloc, leaf, node.span())?,
             None => Datum::Items(taken(&mut made, node.inside())?, node.span()),

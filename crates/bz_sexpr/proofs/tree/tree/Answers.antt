@@ -11,7 +11,7 @@ use Rattle.bz_sexpr.proofs.tree.tree.Goals.{in-Some+in_ok-datum-in-Some, in-None
 
 pub loop-left-preserved : goal.loop-left-preserved
 loop-left-preserved c =
-    let n = c.index-node.result.now in
+    let n = c.node_at-node.result in
     let whole = c.args.forest.now.text.now in
     let left = c.loop-left.left in
     let made = c.loop-left.made.items in

@@ -5,8 +5,8 @@ use Rattle.bz_sexpr.proofs.tree.tree.Given as goal
 
 abbrev pub invariant-loop-left : goal.invariant-loop-left
 invariant-loop-left l = record {
-  within : l.left ≤ length l.forest.nodes.items;
-  behind : forest l.forest.text.now (drop l.left l.forest.nodes.items) ≡ map datum_view (reverse l.made.items);
+  within : l.left ≤ length l.forest.nodes;
+  behind : forest l.forest.text.now (drop l.left l.forest.nodes) ≡ map datum_view (reverse l.made.items);
 }
 
 abbrev pub decreases-loop-left : goal.decreases-loop-left

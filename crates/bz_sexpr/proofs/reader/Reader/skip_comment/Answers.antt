@@ -7,8 +7,7 @@ use Rattle.bz_sexpr.proofs.Steps.{opened_less}
 use Rattle.bz_sexpr.proofs.reader.Reader.skip_comment.Goals as goal
 
 pub returns-clause-ok : goal.returns-clause-ok
-returns-clause-ok c =
-    let r = c.requires.reading in
+returns-clause-ok c = λ nodes r.
     let whole = c.args.self.now.whole.now in
     let at = c.args.self.now.at in
     let line = c.split_line.result.0.now in
