@@ -13,3 +13,4 @@ pub mod Texts
 pub mod Cuts
 pub mod Counted
 pub mod Firings
+pub mod Kept

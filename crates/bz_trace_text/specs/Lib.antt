@@ -3,4 +3,5 @@ pub mod Reading
 pub mod Texts
 pub mod Counting
 pub mod Spelling
+pub mod Keeping
 pub mod Printing

@@ -3,6 +3,8 @@
 
 mod counting;
 mod firing;
+mod kept_line;
+mod kept_lines;
 mod line;
 mod numeral;
 mod outgoing;

@@ -1,10 +1,12 @@
 //! The line of a firing, written at a place. Each function answers the place after what it wrote.
 
-ghost use Rattle.std.specs.Prelude.{◌≡◌, ◌+◌, ◌<◌, ◌≤◌, List, [], ◌∷◌, ◌++◌, length, take, get_or, codes, decimal};
+ghost use Rattle.std.specs.Prelude.{◌≡◌, ◌+◌, ◌<◌, ◌≤◌, List, [], ◌∷◌, ◌++◌, length, take, drop, get_or, codes, decimal};
 ghost use Rattle.bz_model.specs.Traces.{who_text, move_text, value_text};
+ghost use Rattle.bz_trace_text.specs.Keeping.{kept_text};
 ghost use Rattle.bz_trace_text.specs.Spelling.{AreSpelled};
 ghost use Rattle.bz_trace_text.specs.Writing.{move_line};
 
+use crate::kept_line::KeptLine;
 use crate::numeral::Numeral;
 use crate::page::{set_number, set_value, set_word};
 use bz_model::{Move, Value, Who};
@@ -47,13 +49,68 @@ fn set_far(bytes: &mut [u8], at: usize, who: Who, comp: u32, mv: Move, chan: u32
     ensures text { take result bytes.new ≡ take at bytes.old ++ move_line (who_text who) comp mv chan }
     ensures ended { take (result + 1) bytes.new ≡ take result bytes.new ++ codes "\n" }
 {
-    let after_who = set_who(bytes, at, who);
-    let after_word = set_counted(bytes, after_who, *b" fire \0\x06");
-    let after_comp = set_number(bytes, after_word, comp);
+    let after_word = set_far_start(bytes, at, who);
+    set_told(bytes, after_word, comp, mv, chan)
+}
+
+// Writes component, move and channel, and a line feed behind.
+pub(crate) fn set_told(bytes: &mut [u8], at: usize, comp: u32, mv: Move, chan: u32) -> usize
+    requires { at + 28 ≤ length bytes.old }
+    ensures within { result ≤ at + 27 }
+    ensures text { take result bytes.new ≡ take at bytes.old ++
+        (decimal comp ++ (codes " " ++ (move_text mv ++ (codes " " ++ decimal chan)))) }
+    ensures ended { take (result + 1) bytes.new ≡ take result bytes.new ++ codes "\n" }
+{
+    let after_comp = set_number(bytes, at, comp);
     let after_move = set_counted(bytes, after_comp, move_word(mv));
     let after_chan = set_number(bytes, after_move, chan);
     let _after_line = set_byte(bytes, after_chan, b'\n');
     after_chan
+}
+
+// Writes who fires, in a line that is kept, and all of the line but for its value, with a line feed.
+#[inline(always)]
+pub(crate) fn set_kept(bytes: &mut [u8], at: usize, who: Who, line: KeptLine) -> usize
+    requires { at + 36 ≤ length bytes.old }
+    ensures within { result ≤ at + 33 }
+    ensures text { take result bytes.new ≡ take at bytes.old ++ ((who_text who ++ codes " fire ") ++ kept_text line) }
+{
+    let after_word = set_front(bytes, at, who);
+    set_words(bytes, after_word, line.first, line.second);
+    after_word + line.len
+}
+
+// Writes two words, one behind the other.
+#[inline(always)]
+fn set_words(bytes: &mut [u8], at: usize, first: [u8; 8], second: [u8; 8])
+    requires { at + 16 ≤ length bytes.old }
+    ensures { bytes.new ≡ take at bytes.old ++ ((first ++ second) ++ drop (at + 16) bytes.old) }
+{
+    set_word(bytes, at, first);
+    set_word(bytes, at + 8, second);
+}
+
+// Writes who fires, and the word of a firing.
+#[inline(always)]
+fn set_front(bytes: &mut [u8], at: usize, who: Who) -> usize
+    requires { at + 19 ≤ length bytes.old }
+    ensures within { result ≤ at + 17 }
+    ensures text { take result bytes.new ≡ take at bytes.old ++ (who_text who ++ codes " fire ") }
+{
+    match who {
+        Who::Worker(n) if n < 10 => set_start(bytes, at, n),
+        _ => set_far_start(bytes, at, who),
+    }
+}
+
+// The same of any.
+fn set_far_start(bytes: &mut [u8], at: usize, who: Who) -> usize
+    requires { at + 19 ≤ length bytes.old }
+    ensures within { result ≤ at + 17 }
+    ensures text { take result bytes.new ≡ take at bytes.old ++ (who_text who ++ codes " fire ") }
+{
+    let after_who = set_who(bytes, at, who);
+    set_counted(bytes, after_who, *b" fire \0\x06")
 }
 
 #[inline(always)]
@@ -99,11 +156,23 @@ pub(crate) fn set_end(
 {
     match value {
         None => at + 1,
-        Some(v) if v < spelled.len() as Value => {
-            let after_space = set_byte(bytes, at, b' ');
-            set_numeral(bytes, after_space, spelled, v as usize) + 1
-        }
-        Some(v) => set_far_end(bytes, at, v),
+        Some(value) => set_value_end(bytes, at, spelled, value),
+    }
+}
+
+// Ends the line with a value.
+#[inline(always)]
+pub(crate) fn set_value_end(bytes: &mut [u8], at: usize, spelled: &[Numeral], value: Value) -> usize
+    requires room { at + 41 ≤ length bytes.old }
+    requires told { AreSpelled spelled.now }
+    ensures within { result ≤ at + 41 }
+    ensures text { take result bytes.new ≡ take at bytes.old ++ (codes " " ++ (decimal value ++ codes "\n")) }
+{
+    if value < spelled.len() as Value {
+        let after_space = set_byte(bytes, at, b' ');
+        set_numeral(bytes, after_space, spelled, value as usize) + 1
+    } else {
+        set_far_end(bytes, at, value)
     }
 }
 

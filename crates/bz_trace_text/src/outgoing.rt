@@ -4,6 +4,7 @@ ghost use Rattle.std.specs.Prelude.{◌≡◌, ◌+◌, ◌≤◌, ◌++◌, ℕ
 ghost use Rattle.bz_model.specs.Traces.{fired_text, rested_text};
 ghost use Rattle.bz_trace_text.specs.Writing.{GoneBut, IsGone};
 
+use crate::kept_lines::KeptLines;
 use crate::page::Page;
 use crate::spelled::Spelled;
 use crate::trace::{add_fired, add_rested};
@@ -17,6 +18,7 @@ pub struct Outgoing {
     page: Page,
     failed: bool,
     spelled: Spelled,
+    kept: KeptLines,
 }
 
 impl Outgoing {
@@ -30,6 +32,7 @@ impl Outgoing {
             page: Page::new(),
             failed,
             spelled: Spelled::new(alloc, count),
+            kept: KeptLines::new(alloc, count),
         }
     }
 
@@ -57,6 +60,20 @@ impl Outgoing {
             IsGone start (W.contents out.new) self.new (text ++ fired_text who comp mv chan value) }
     {
         self.make_room(out);
+        match self.kept.find(comp, mv, chan) {
+            Some(line) => self.page.fired_again(&self.spelled, who, line, value),
+            None => self.fired_anew(who, comp, mv, chan, value),
+        }
+    }
+
+    // The same of a line that isn't kept, where there is room for it.
+    #[inline(always)]
+    fn fired_anew(&mut self, who: Who, comp: u32, mv: Move, chan: u32, value: Option<Value>)
+        requires { length self.old.page + 96 ≤ 8192 }
+        ensures text { self.new.page ≡ self.old.page ++ fired_text who comp mv chan value }
+        ensures failed { self.new.failed ≡ self.old.failed }
+    {
+        self.kept.keep(comp, mv, chan);
         let spelled = self.spelled.as_slice();
         add_fired(&mut self.page, spelled, who, comp, mv, chan, value);
     }

@@ -1,12 +1,15 @@
 //! Lines composed on a page, which goes out whole.
 
-ghost use Rattle.std.specs.Prelude.{◌≡◌, ℕ, ◌+◌, ◌<◌, ◌≤◌, List, [], ◌∷◌, ◌++◌, ◌↔◌, length, take, drop, decimal, IsTrue, Some};
-ghost use Rattle.bz_model.specs.Traces.{fired_text};
+ghost use Rattle.std.specs.Prelude.{◌≡◌, ℕ, ◌+◌, ◌<◌, ◌≤◌, List, [], ◌∷◌, ◌++◌, ◌↔◌, length, take, drop, codes, decimal, IsTrue, Some};
+ghost use Rattle.bz_model.specs.Traces.{fired_text, who_text, value_text};
 ghost use Rattle.bz_text.specs.Writing.{Writes};
+ghost use Rattle.bz_trace_text.specs.Keeping.{kept_text, told_line};
 ghost use Rattle.bz_trace_text.specs.Spelling.{AreSpelled};
 
-use crate::line::{set_end, set_move};
+use crate::kept_line::KeptLine;
+use crate::line::{set_end, set_kept, set_move, set_value_end};
 use crate::numeral::Numeral;
+use crate::spelled::Spelled;
 use bz_model::{Move, Value, Who};
 use bz_text::{WriteFault, put};
 use std::io;
@@ -138,6 +141,46 @@ impl Page {
     {
         let after_chan = set_move(&mut self.bytes, self.at, spelled, who, comp, mv, chan);
         self.at = set_end(&mut self.bytes, after_chan, spelled, value);
+    }
+
+    /// The same of a line that is kept.
+    #[inline(always)]
+    pub(crate) fn fired_again(
+        &mut self,
+        spelled: &Spelled,
+        who: Who,
+        line: KeptLine,
+        value: Option<Value>,
+    )
+        requires { length self.old + 96 ≤ 8192 }
+        ensures { (comp chan : ℕ) (mv : Move) → kept_text line ≡ told_line comp mv chan →
+            self.new ≡ self.old ++ fired_text who comp mv chan value }
+    {
+        self.kept(who, line);
+        if let Some(value) = value {
+            self.end_with(spelled, value);
+        }
+    }
+
+    // Composes a line that is kept, without a value.
+    #[inline(always)]
+    fn kept(&mut self, who: Who, line: KeptLine)
+        requires { length self.old + 96 ≤ 8192 }
+        ensures text { self.new ≡ self.old ++ ((who_text who ++ codes " fire ") ++ kept_text line) }
+        ensures short { length self.new ≤ length self.old + 33 }
+    {
+        self.at = set_kept(&mut self.bytes, self.at, who, line);
+    }
+
+    // Puts a value in front of the line feed at the end.
+    #[inline(always)]
+    fn end_with(&mut self, spelled: &Spelled, value: Value)
+        requires some { 0 < length self.old }
+        requires room { length self.old + 40 ≤ 8192 }
+        ensures { (text : List ℕ) → self.old ≡ text ++ codes "\n" →
+            self.new ≡ text ++ (codes " " ++ (decimal value ++ codes "\n")) }
+    {
+        self.at = set_value_end(&mut self.bytes, self.at - 1, spelled.as_slice(), value);
     }
 
     /// Lets all of it go out.
