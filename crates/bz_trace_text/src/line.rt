@@ -103,7 +103,7 @@ fn set_front(bytes: &mut [u8], at: usize, who: Who) -> usize
     }
 }
 
-// The same of any.
+// The same, whoever fires.
 fn set_far_start(bytes: &mut [u8], at: usize, who: Who) -> usize
     requires { at + 19 ≤ length bytes.old }
     ensures within { result ≤ at + 17 }
