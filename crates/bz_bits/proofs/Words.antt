@@ -54,6 +54,42 @@ taken_off (suc zero) (suc zero) a b = refl
 taken_off (suc (suc x)) m a b = absurd (omega arith)
 taken_off x (suc (suc m)) a b = absurd (omega arith)
 
+-- a bit of a word with one of a mask turned
+pub turned_bit : (x m : ℕ) → x < 2 → m < 2 → (x + m) % 2 ≡ (if m == 1 then 1 - x else x)
+turned_bit zero zero l k = refl
+turned_bit zero (suc zero) l k = refl
+turned_bit (suc zero) zero l k = refl
+turned_bit (suc zero) (suc zero) l k = refl
+turned_bit (suc (suc x)) m l k = absurd (omega arith)
+turned_bit x (suc (suc m)) l k = absurd (omega arith)
+
+-- both bits of a place, of which the upper one is turned, or both are, or the lower one of an even number
+pub turned_two : (b : Bool) (d o : ℕ) → d < 2 → o < 2 → d + 2 * (if b then 1 - o else o) ≡ (if b then (d + 2 * o + 2) % 4 else d + 2 * o)
+turned_two false d o l k = refl
+turned_two true zero zero l k = refl
+turned_two true zero (suc zero) l k = refl
+turned_two true (suc zero) zero l k = refl
+turned_two true (suc zero) (suc zero) l k = refl
+turned_two true (suc (suc d)) o l k = absurd (omega arith)
+turned_two true d (suc (suc o)) l k = absurd (omega arith)
+
+pub flipped_two : (b : Bool) (d o : ℕ) → d < 2 → o < 2 → (if b then 1 - d else d) + 2 * (if b then 1 - o else o) ≡ (if b then 3 - (d + 2 * o) else d + 2 * o)
+flipped_two false d o l k = refl
+flipped_two true zero zero l k = refl
+flipped_two true zero (suc zero) l k = refl
+flipped_two true (suc zero) zero l k = refl
+flipped_two true (suc zero) (suc zero) l k = refl
+flipped_two true (suc (suc d)) o l k = absurd (omega arith)
+flipped_two true d (suc (suc o)) l k = absurd (omega arith)
+
+pub raised_two : (b : Bool) (d o : ℕ) → d < 2 → o < 2 → (b ≡ true → (d + 2 * o) % 2 ≡ 0) → (if b then 1 - d else d) + 2 * o ≡ (if b then d + 2 * o + 1 else d + 2 * o)
+raised_two false d o l k even = refl
+raised_two true zero zero l k even = refl
+raised_two true zero (suc zero) l k even = refl
+raised_two true (suc zero) o l k even = absurd (let z = even refl in omega (arith, z))
+raised_two true (suc (suc d)) o l k even = absurd (omega arith)
+raised_two true d (suc (suc o)) l k even = absurd (omega arith)
+
 -- both bits of a place, with a mask
 pub both_filled : (b : Bool) (s x y : ℕ) → s < 4 → (if b then from_bool (s % 2 == 1) else x) + 2 * (if b then from_bool (s / 2 == 1) else y) ≡ (if b then s else x + 2 * y)
 both_filled true zero x y lt = refl
@@ -260,6 +296,9 @@ module _ (ws vs : List PortWord) (n from to s : ℕ) (are : AreNumbers ws n) (le
 only : (k j : ℕ) → (j ≡ k → ⊥) → between k (k + 1) j ≡ false
 only k j ne = grind (arith, ne)
 
+pub only_here : (k j : ℕ) → between k (k + 1) j ≡ true → j ≡ k
+only_here k j is = elim (cases_eq j k) [ inl e ↦ e | inr ne ↦ absurd (let f = only k j ne in cc) ]
+
 pub one_filled : (ws vs : List PortWord) (n k s : ℕ) → AreNumbers ws n → length vs ≡ length ws → ((p : ℕ) → number_at vs p ≡ (if between k (k + 1) p then s else number_at ws p)) → k < n → numbers vs n ≡ set (numbers ws n) k s
 one_filled ws vs n k s are len filled lt =
     let old = numbers ws n in let new = numbers vs n in
@@ -323,12 +362,11 @@ in_word port i =
     ap (λ (b : Bool). b && nat_lt i (m + 1)) (leb_same m i port p (λ le. omega (arith, le)) (λ le. omega (arith, le)))
     ∙ ap (λ (b : Bool). nat_le port p && b) (leb_same (suc i) (m + 1) (suc p) (port + 1) (λ le. omega (arith, le)) (λ le. omega (arith, le)))
 
--- one place of the first word was filled
-pub first_filled : (f w : PortWord) (rest : List PortWord) (n k s mask : ℕ) → AreNumbers (f ∷ rest) n → k < n
-    → ((i : ℕ) → i < 64 → (bit_at mask i == 1) ≡ between k (k + 1) i)
-    → ((i : ℕ) → i < 64 → number_in w i ≡ (if bit_at mask i == 1 then s else number_in f i))
+-- one place of the first word has this number now
+pub first_put : (f w : PortWord) (rest : List PortWord) (n k s : ℕ) → AreNumbers (f ∷ rest) n → k < n
+    → ((i : ℕ) → i < 64 → number_in w i ≡ (if between k (k + 1) i then s else number_in f i))
     → k < 64 → numbers (w ∷ rest) n ≡ set (numbers (f ∷ rest) n) k s
-first_filled f w rest n k s mask are lt masks filled near =
+first_put f w rest n k s are lt put near =
     one_filled (f ∷ rest) (w ∷ rest) n k s are refl each lt
   where
     each : (p : ℕ) → number_at (w ∷ rest) p ≡ (if between k (k + 1) p then s else number_at (f ∷ rest) p)
@@ -336,14 +374,84 @@ first_filled f w rest n k s mask are lt masks filled near =
         let i = p % 64 in
         elim (cases_lt p 64) [
           | inl below ↦ let z : p / 64 ≡ 0 = omega (arith, below) in let il : i < 64 = omega arith in let m : i ≡ p = omega (arith, below) in
-              ap (λ (at : ℕ). number_in (get_or (w ∷ rest) at no_ports) i) z ∙ filled i il
-              ∙ ap (λ (b : Bool). if b then s else number_in f i) (masks i il ∙ ap (between k (k + 1)) m)
+              ap (λ (at : ℕ). number_in (get_or (w ∷ rest) at no_ports) i) z ∙ put i il
+              ∙ ap (λ (m : ℕ). if between k (k + 1) m then s else number_in f i) m
               ∙ ap (λ (x : ℕ). if between k (k + 1) p then s else x) (sym (ap (λ (at : ℕ). number_in (get_or (f ∷ rest) at no_ports) i) z))
           | inr past ↦ let e : p / 64 ≡ suc (p / 64 - 1) = omega (arith, past) in
               ap (λ (at : ℕ). number_in (get_or (w ∷ rest) at no_ports) i) e
               ∙ sym (ap (λ (at : ℕ). number_in (get_or (f ∷ rest) at no_ports) i) e)
               ∙ sym (ap (λ (b : Bool). if b then s else number_at (f ∷ rest) p) (only k p (λ same. omega (arith, same, past, near))))
         ]
+
+-- it was filled
+pub first_filled : (f w : PortWord) (rest : List PortWord) (n k s mask : ℕ) → AreNumbers (f ∷ rest) n → k < n
+    → ((i : ℕ) → i < 64 → (bit_at mask i == 1) ≡ between k (k + 1) i)
+    → ((i : ℕ) → i < 64 → number_in w i ≡ (if bit_at mask i == 1 then s else number_in f i))
+    → k < 64 → numbers (w ∷ rest) n ≡ set (numbers (f ∷ rest) n) k s
+first_filled f w rest n k s mask are lt masks filled near =
+    first_put f w rest n k s are lt (λ i il. filled i il ∙ ap (λ (b : Bool). if b then s else number_in f i) (masks i il)) near
+
+-- its number was changed
+pub first_changed : (g : ℕ → ℕ) (f w : PortWord) (rest : List PortWord) (n k : ℕ) → AreNumbers (f ∷ rest) n → k < n
+    → ((i : ℕ) → i < 64 → number_in w i ≡ (if between k (k + 1) i then g (number_in f i) else number_in f i))
+    → k < 64 → numbers (w ∷ rest) n ≡ set (numbers (f ∷ rest) n) k (g (get_or (numbers (f ∷ rest) n) k 0))
+first_changed g f w rest n k are lt changed near =
+    first_put f w rest n k (g (number_in f k)) are lt (λ i il. changed i il ∙ here i) near
+    ∙ ap (λ (x : ℕ). set (numbers (f ∷ rest) n) k (g x)) (sym (near-number f rest n k are near))
+  where
+    here : (i : ℕ) → (if between k (k + 1) i then g (number_in f i) else number_in f i) ≡ (if between k (k + 1) i then g (number_in f k) else number_in f i)
+    here i = elim (cases_eq i k) [
+      | inl e ↦ ap (λ (m : ℕ). if between k (k + 1) i then g (number_in f m) else number_in f i) e
+      | inr ne ↦ ap (λ (b : Bool). if b then g (number_in f i) else number_in f i) (only k i ne) ∙ sym (ap (λ (b : Bool). if b then g (number_in f k) else number_in f i) (only k i ne))
+    ]
+
+-- and no other
+pub unchanged : (g : ℕ → ℕ) (f w : PortWord) (k i : ℕ) → ((i : ℕ) → i < 64 → number_in w i ≡ (if between k (k + 1) i then g (number_in f i) else number_in f i)) → i < 64 → (i ≡ k → ⊥) → number_in w i ≡ number_in f i
+unchanged g f w k i changed lt ne = changed i lt ∙ ap (λ (b : Bool). if b then g (number_in f i) else number_in f i) (only k i ne)
+
+-- with another word in front
+pub are_changed : (g : ℕ → ℕ) (f w : PortWord) (rest : List PortWord) (n k : ℕ) → AreNumbers (f ∷ rest) n → k < n
+    → ((i : ℕ) → i < 64 → number_in w i ≡ (if between k (k + 1) i then g (number_in f i) else number_in f i))
+    → k < 64 → AreNumbers (w ∷ rest) n
+are_changed g f w rest n k are lt changed near = record {
+  room = are.room;
+  small = are.small;
+  clear = λ p past. elim (cases_lt p 64) [
+    | inl below ↦
+        let z : p / 64 ≡ 0 = omega (arith, below) in let m : p % 64 ≡ p = omega (arith, below) in
+        ap (λ (at : ℕ). number_in (get_or (w ∷ rest) at no_ports) (p % 64)) z ∙ ap (number_in w) m ∙ changed p below
+        ∙ ap (λ (b : Bool). if b then g (number_in f p) else number_in f p) (only k p (λ e. omega (arith, e, past, lt)))
+        ∙ sym (ap (λ (at : ℕ). number_in (get_or (f ∷ rest) at no_ports) (p % 64)) z ∙ ap (number_in f) m) ∙ are.clear p past
+    | inr far ↦ let e : p / 64 ≡ suc (p / 64 - 1) = omega (arith, far) in
+        ap (λ (at : ℕ). number_in (get_or (w ∷ rest) at no_ports) (p % 64)) e
+        ∙ sym (ap (λ (at : ℕ). number_in (get_or (f ∷ rest) at no_ports) (p % 64)) e) ∙ are.clear p past
+  ];
+}
+
+-- the places of it between two were filled
+pub are_between : (f w : PortWord) (rest : List PortWord) (from to s mask p : ℕ) → to ≤ 64
+    → ((i : ℕ) → i < 64 → (bit_at mask i == 1) ≡ between from to (64 * 0 + i))
+    → ((i : ℕ) → i < 64 → number_in w i ≡ (if bit_at mask i == 1 then s else number_in f i))
+    → number_at (w ∷ rest) p ≡ (if between from to p then s else number_at (f ∷ rest) p)
+are_between f w rest from to s mask p near masks filled =
+    let i = p % 64 in
+    elim (cases_lt p 64) [
+      | inl below ↦ let z : p / 64 ≡ 0 = omega (arith, below) in let il : i < 64 = omega arith in let m : 64 * 0 + i ≡ p = omega (arith, below) in
+          ap (λ (at : ℕ). number_in (get_or (w ∷ rest) at no_ports) i) z ∙ filled i il
+          ∙ ap (λ (b : Bool). if b then s else number_in f i) (masks i il ∙ ap (between from to) m)
+          ∙ ap (λ (x : ℕ). if between from to p then s else x) (sym (ap (λ (at : ℕ). number_in (get_or (f ∷ rest) at no_ports) i) z))
+      | inr past ↦ let e : p / 64 ≡ suc (p / 64 - 1) = omega (arith, past) in
+          let out : between from to p ≡ false = grind (arith, past, near) in
+          ap (λ (at : ℕ). number_in (get_or (w ∷ rest) at no_ports) i) e
+          ∙ sym (ap (λ (at : ℕ). number_in (get_or (f ∷ rest) at no_ports) i) e)
+          ∙ sym (ap (λ (b : Bool). if b then s else number_at (f ∷ rest) p) out)
+    ]
+
+-- a number is from 0 to 3
+pub number_small : (ws : List PortWord) (n p : ℕ) → AreNumbers ws n → get_or (numbers ws n) p 0 < 4
+number_small ws n p are =
+    let w = get_or ws (p / 64) no_ports in
+    omega (arith, any-number ws n p are, bit_at-lt w.due (p % 64), bit_at-lt w.opened (p % 64))
 
 -- one more word is filled
 module _ (old ws : List PortWord) (from to at s : ℕ) (inv : (p : ℕ) → number_at ws p ≡ (if between from to p && nat_lt (p / 64) at then s else number_at old p)) where

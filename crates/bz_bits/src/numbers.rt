@@ -1,5 +1,5 @@
 //! The numbers of a component's ports, two bits each, of which the first 64 take no memory of their own.
-ghost use Rattle.std.specs.Prelude.{◌≡◌, ◌≢◌, ◌⊎◌, ◌+◌, ◌*◌, ◌/◌, ◌^◌, ◌<◌, ◌≤◌, ◌∷◌, ℕ, length, replicate, slice_index, slice_index_or, slice_set, take, nat_le, if◌then◌else◌, All, IfOk};
+ghost use Rattle.std.specs.Prelude.{◌≡◌, ◌≢◌, ◌⊎◌, ◌+◌, ◌-◌, ◌*◌, ◌/◌, ◌%◌, ◌^◌, ◌<◌, ◌≤◌, ◌∷◌, ℕ, length, replicate, slice_index, slice_index_or, slice_set, take, nat_le, if◌then◌else◌, All, IfOk};
 ghost use Rattle.bz_bits.specs.PortWords.{between, no_ports, number_at, number_in, HasOdd, IsEven, IsLowest, NoneOdd};
 
 use crate::word::{NO_PORTS, PortWord, one_place, places};
@@ -168,8 +168,108 @@ impl<A: Allocator + Copy> PortNumbers<A> {
         }
     }
 
+    /// Changes the number of a port by 2.
+    #[inline(always)]
+    pub fn turn(&mut self, port: usize)
+        requires { port < length self.old }
+        ensures turned { self.new ≡ slice_set self.old port ((slice_index self.old port + 2) % 4) }
+        ensures small { slice_index self.old port < 4 }
+    {
+        if port < 64 {
+            self.first = self.first.turned(port);
+        } else {
+            self.turn_far(port);
+        }
+    }
+
+    // The same of a port beyond the first 64.
+    #[cold]
+    #[inline(never)]
+    fn turn_far(&mut self, port: usize)
+        requires far { 64 ≤ port }
+        ensures turned { self.new ≡ slice_set self.old port ((slice_index self.old port + 2) % 4) }
+        ensures small { slice_index self.old port < 4 }
+    {
+        let _first = &self.first;
+        let number = self.get_far(port);
+        self.set_far(port, (number % 4 + 2) % 4);
+    }
+
+    /// Takes the number of a port from 3.
+    #[inline(always)]
+    pub fn flip(&mut self, port: usize)
+        requires { port < length self.old }
+        ensures { self.new ≡ slice_set self.old port (3 - slice_index self.old port) }
+    {
+        if port < 64 {
+            self.first = self.first.flipped(port);
+        } else {
+            self.flip_far(port);
+        }
+    }
+
+    // The same of a port beyond the first 64.
+    #[cold]
+    #[inline(never)]
+    fn flip_far(&mut self, port: usize)
+        requires far { 64 ≤ port }
+        ensures { self.new ≡ slice_set self.old port (3 - slice_index self.old port) }
+    {
+        let _first = &self.first;
+        let number = self.get_far(port);
+        self.set_far(port, 3 - number % 4);
+    }
+
+    /// Takes the number of a port from 3, and makes the even number of another port odd.
+    #[inline(always)]
+    pub fn pass(&mut self, from: usize, to: usize)
+        requires from { from < length self.old }
+        requires to { to < length self.old }
+        requires other { from ≢ to }
+        requires even { slice_index self.old to % 2 ≡ 0 }
+        ensures { self.new ≡ slice_set (slice_set self.old from (3 - slice_index self.old from)) to (slice_index self.old to + 1) }
+    {
+        if from < 64 && to < 64 {
+            self.first = self.first.flipped(from).raised(to);
+        } else {
+            self.pass_far(from, to);
+        }
+    }
+
+    // The same where one of them may lie beyond the first 64.
+    #[cold]
+    #[inline(never)]
+    fn pass_far(&mut self, from: usize, to: usize)
+        requires other { from ≢ to }
+        requires even { slice_index self.old to % 2 ≡ 0 }
+        ensures { self.new ≡ slice_set (slice_set self.old from (3 - slice_index self.old from)) to (slice_index self.old to + 1) }
+    {
+        let _first = &self.first;
+        let number = self.get(from);
+        self.set(from, 3 - number % 4);
+        let number = self.get(to);
+        self.set(to, number % 4 + 1);
+    }
+
     /// Gives all ports from `from` on, but before `to`, the same number.
+    #[inline(always)]
     pub fn set_between(&mut self, from: usize, to: usize, number: u8)
+        requires number { number < 4 }
+        requires fits { to ≤ length self.old }
+        ensures long { length self.new ≡ length self.old }
+        ensures each { (p : ℕ) → slice_index self.new p ≡ (if between from to p then number else slice_index self.old p) }
+    {
+        if from < to && to < 64 {
+            self.first = self.first.filled(places(0, from, to), number);
+        } else {
+            self.fill_far(from, to, number);
+        }
+    }
+
+    // The same where some of them may lie beyond the first 64.
+    #[cold]
+    #[inline(never)]
+    fn fill_far(&mut self, from: usize, to: usize, number: u8)
         requires number { number < 4 }
         requires fits { to ≤ length self.old }
         ensures long { length self.new ≡ length self.old }

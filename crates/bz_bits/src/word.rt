@@ -1,5 +1,5 @@
 //! The numbers of 64 ports, from 0 to 3, in two words.
-ghost use Rattle.std.specs.Prelude.{◌≡◌, ◌==◌, ◌&&◌, ◌+◌, ◌*◌, ◌/◌, ◌%◌, ◌<◌, ◌≤◌, ℕ, nat_le, if◌then◌else◌};
+ghost use Rattle.std.specs.Prelude.{◌≡◌, ◌==◌, ◌&&◌, ◌+◌, ◌-◌, ◌*◌, ◌/◌, ◌%◌, ◌<◌, ◌≤◌, ℕ, nat_le, if◌then◌else◌};
 ghost use Rattle.std.specs.Int.{bit_at, from_bool};
 ghost use Rattle.bz_bits.specs.PortWords.{number_in, between, goes};
 
@@ -43,6 +43,43 @@ impl PortWord {
         }
     }
 
+    /// The same but for the port in a place, whose number changes by 2.
+    #[inline(always)]
+    pub(crate) fn turned(self, place: usize) -> PortWord
+        requires { place < 64 }
+        ensures { (i : ℕ) → i < 64 → number_in result i ≡ (if between place (place + 1) i then (number_in self i + 2) % 4 else number_in self i) }
+    {
+        PortWord {
+            due: self.due,
+            opened: flip(self.opened, place),
+        }
+    }
+
+    /// The same but for the port in a place, whose number is taken from 3.
+    #[inline(always)]
+    pub(crate) fn flipped(self, place: usize) -> PortWord
+        requires { place < 64 }
+        ensures { (i : ℕ) → i < 64 → number_in result i ≡ (if between place (place + 1) i then 3 - number_in self i else number_in self i) }
+    {
+        PortWord {
+            due: flip(self.due, place),
+            opened: flip(self.opened, place),
+        }
+    }
+
+    /// The same but for the port in a place, whose even number becomes odd.
+    #[inline(always)]
+    pub(crate) fn raised(self, place: usize) -> PortWord
+        requires place { place < 64 }
+        requires even { number_in self place % 2 ≡ 0 }
+        ensures { (i : ℕ) → i < 64 → number_in result i ≡ (if between place (place + 1) i then number_in self i + 1 else number_in self i) }
+    {
+        PortWord {
+            due: flip(self.due, place),
+            opened: self.opened,
+        }
+    }
+
     /// The ports at which a move is due that waits for nothing, or for what is here. `passive` and `here` have a bit for
     /// each port.
     pub fn ready(self, passive: u64, here: u64) -> u64
@@ -63,6 +100,15 @@ fn has_bit(word: u64, place: usize) -> bool
     ensures { result ≡ (bit_at word place == 1) }
 {
     (word >> place) & 1 == 1
+}
+
+// Turns the bit in a place.
+#[inline(always)]
+fn flip(word: u64, place: usize) -> u64
+    requires { place < 64 }
+    ensures { (i : ℕ) → i < 64 → bit_at result i ≡ (if between place (place + 1) i then 1 - bit_at word i else bit_at word i) }
+{
+    word ^ one_place(place)
 }
 
 /// Gives the places of `mask` one bit.

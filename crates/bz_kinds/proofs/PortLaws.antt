@@ -1,9 +1,9 @@
 -- States and the numbers that they are kept as.
-use Rattle.std.proofs.Common.{◌≡◌, ◌≢◌, ◌⊎◌, inl, inr, ℕ, zero, suc, ◌+◌, ◌*◌, ◌<◌, ◌≤◌, Bool, true, false, ◌&&◌, List, ◌∷◌, length, get_or, set, map, refl, ap, sym, subst, ◌∙◌, arith}
+use Rattle.std.proofs.Common.{◌≡◌, ◌≢◌, ◌⊎◌, inl, inr, ℕ, zero, suc, ◌+◌, ◌-◌, ◌*◌, ◌%◌, ◌<◌, ◌≤◌, Bool, true, false, ◌&&◌, List, ◌∷◌, length, get_or, set, map, refl, ap, sym, subst, ◌∙◌, arith}
 use Rattle.std.specs.Prelude.{if◌then◌else◌, nat_le, nat_lt, not, replicate, MatchBool}
-use Rattle.std.proofs.lemmas.Bool.{false≢true, le-leb, lt-leb, lt-ltb, le-ltb}
+use Rattle.std.proofs.lemmas.Bool.{cases_lt, false≢true, le-leb, lt-leb, lt-ltb, le-ltb}
 use Rattle.std.proofs.Math.ListN.{get_or-map}
-use Rattle.std.proofs.lemmas.List.{length-map, map-set}
+use Rattle.std.proofs.lemmas.List.{length-map, map-set, get_or_past}
 use Rattle.bz_bits.specs.PortWords.{between, HasOdd, IsEven}
 use Rattle.bz_kinds.specs.declared.ports.PortState.{PortState}
 use Rattle.bz_kinds.specs.declared.ports.PortState.TheVariants.{Closed, ClosedDue, Open, OpenDue}
@@ -25,6 +25,78 @@ closed_all (suc n) = ap (λ w. Closed ∷ w) (closed_all n)
 -- one port is put into a state
 pub state_set : (xs : List ℕ) (p x : ℕ) (s : PortState) → x ≡ number_of s → map state_of (set xs p x) ≡ set (map state_of xs) p s
 state_set xs p x s e = map-set state_of xs p x ∙ ap (λ t. set (map state_of xs) p t) (ap state_of e ∙ state_number s)
+
+-- what the number of a state is
+number_closed : (n : ℕ) → state_of n ≡ Closed → n ≡ 0
+number_closed zero e = refl
+number_closed (suc zero) e = absurd (cc)
+number_closed (suc (suc zero)) e = absurd (cc)
+number_closed (suc (suc (suc n))) e = absurd (cc)
+
+number_closed_due : (n : ℕ) → state_of n ≡ ClosedDue → n ≡ 1
+number_closed_due zero e = absurd (cc)
+number_closed_due (suc zero) e = refl
+number_closed_due (suc (suc zero)) e = absurd (cc)
+number_closed_due (suc (suc (suc n))) e = absurd (cc)
+
+number_open : (n : ℕ) → state_of n ≡ Open → n ≡ 2
+number_open zero e = absurd (cc)
+number_open (suc zero) e = absurd (cc)
+number_open (suc (suc zero)) e = refl
+number_open (suc (suc (suc n))) e = absurd (cc)
+
+number_open_due : (n : ℕ) → state_of n ≡ OpenDue → 3 ≤ n
+number_open_due zero e = absurd (cc)
+number_open_due (suc zero) e = absurd (cc)
+number_open_due (suc (suc zero)) e = absurd (cc)
+number_open_due (suc (suc (suc n))) e = omega arith
+
+-- the numbers xs stand for the states w, and port p is in state a
+module _ (xs : List ℕ) (w : List PortState) (view : map state_of xs ≡ w) (p : ℕ) where
+  number_state : (a : PortState) → state_at w p ≡ a → state_of (get_or xs p 0) ≡ a
+  number_state a e = sym (state_map xs p) ∙ ap (λ (v : List PortState). state_at v p) view ∙ e
+
+  put_as : (x : ℕ) (b : PortState) → state_of x ≡ b → map state_of (set xs p x) ≡ set w p b
+  put_as x b e = map-set state_of xs p x ∙ ap (λ (v : List PortState). set v p (state_of x)) view ∙ ap (λ t. set w p t) e
+
+  pub port_held : (a : PortState) → state_at w p ≡ a → a ≢ Closed → p < length xs
+  port_held a e ne = elim (cases_lt p (length xs)) [ inl lt ↦ lt | inr past ↦ absurd (ne (sym (number_state a e) ∙ ap state_of (get_or_past xs p 0 past))) ]
+
+  pub even_closed : state_at w p ≡ Closed → get_or xs p 0 % 2 ≡ 0
+  even_closed e = ap (λ (n : ℕ). n % 2) (number_closed (get_or xs p 0) (number_state Closed e))
+
+  pub even_open : state_at w p ≡ Open → get_or xs p 0 % 2 ≡ 0
+  even_open e = ap (λ (n : ℕ). n % 2) (number_open (get_or xs p 0) (number_state Open e))
+
+  -- its number is changed by 2
+  pub turned_open : state_at w p ≡ ClosedDue → map state_of (set xs p ((get_or xs p 0 + 2) % 4)) ≡ set w p OpenDue
+  turned_open e = put_as _ OpenDue (ap (λ (n : ℕ). state_of ((n + 2) % 4)) (number_closed_due (get_or xs p 0) (number_state ClosedDue e)))
+
+  pub turned_closed : state_at w p ≡ OpenDue → get_or xs p 0 < 4 → map state_of (set xs p ((get_or xs p 0 + 2) % 4)) ≡ set w p ClosedDue
+  turned_closed e small =
+      let three : get_or xs p 0 ≡ 3 = omega (arith, small, number_open_due (get_or xs p 0) (number_state OpenDue e)) in
+      put_as _ ClosedDue (ap (λ (n : ℕ). state_of ((n + 2) % 4)) three)
+
+  -- it is taken from 3
+  pub flipped_open : state_at w p ≡ ClosedDue → map state_of (set xs p (3 - get_or xs p 0)) ≡ set w p Open
+  flipped_open e = put_as _ Open (ap (λ (n : ℕ). state_of (3 - n)) (number_closed_due (get_or xs p 0) (number_state ClosedDue e)))
+
+  pub flipped_closed : state_at w p ≡ OpenDue → map state_of (set xs p (3 - get_or xs p 0)) ≡ set w p Closed
+  flipped_closed e =
+      let none : 3 - get_or xs p 0 ≡ 0 = omega (arith, number_open_due (get_or xs p 0) (number_state OpenDue e)) in
+      put_as _ Closed (ap state_of none)
+
+-- and then that of another port is made odd
+module _ (xs : List ℕ) (w : List PortState) (view : map state_of xs ≡ w) (p q x : ℕ) (b : PortState) (first : map state_of (set xs p x) ≡ set w p b) where
+  pub passed_closed : state_at w q ≡ Closed → map state_of (set (set xs p x) q (get_or xs q 0 + 1)) ≡ set (set w p b) q ClosedDue
+  passed_closed e = put_as (set xs p x) (set w p b) first q _ ClosedDue (ap (λ (n : ℕ). state_of (n + 1)) (number_closed (get_or xs q 0) (number_state xs w view q Closed e)))
+
+  pub passed_open : state_at w q ≡ Open → map state_of (set (set xs p x) q (get_or xs q 0 + 1)) ≡ set (set w p b) q OpenDue
+  passed_open e = put_as (set xs p x) (set w p b) first q _ OpenDue (ap (λ (n : ℕ). state_of (n + 1)) (number_open (get_or xs q 0) (number_state xs w view q Open e)))
+
+-- two ports in different states are different
+pub other_port : (w : List PortState) (p q : ℕ) (a b : PortState) → state_at w p ≡ a → state_at w q ≡ b → a ≢ b → p ≢ q
+other_port w p q a b e f ne same = ne (sym e ∙ ap (state_at w) same ∙ f)
 
 -- the ports between two are put into a state
 pub state_fill : (xs ys : List ℕ) (from to x : ℕ) (s : PortState) → x ≡ number_of s → ((p : ℕ) → get_or ys p 0 ≡ (if between from to p then x else get_or xs p 0)) → (p : ℕ) → state_at (map state_of ys) p ≡ (if between from to p then s else state_at (map state_of xs) p)

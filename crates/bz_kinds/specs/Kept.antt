@@ -40,8 +40,10 @@ meet_of meet.CallMeeting = record { leg = Some (leg Nothing 1); answer = Nothing
 meet_of meet.PullMeeting = record { leg = Some (leg Nothing 0); answer = Slot 0; gives = false }
 
 abbrev pub plan_of : KeptPlan → Plan
+plan_of kept.CallsInTurn = InTurn (row_of row.Calls)
 plan_of (kept.InTurn it) = InTurn (row_of it)
 plan_of (kept.OwnInTurn row) = InTurn row.value
+plan_of kept.CallsTogether = Together (row_of row.Calls)
 plan_of (kept.Together it) = Together (row_of it)
 plan_of (kept.OwnTogether row) = Together row.value
 plan_of (kept.Once it) = Once (row_of it)

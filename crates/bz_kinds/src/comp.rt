@@ -23,14 +23,14 @@ ghost use Rattle.bz_kinds.specs.Comp.{IsFor, plan_due};
 ghost use Rattle.bz_kinds.specs.Turn.{CanTurn, IsRare, HasMade, HasGone, KeepsPlan};
 
 use crate::freed::Freed;
-use crate::kept::KeptPlan;
+use crate::kept::{KeptPlan, KeptRow};
 use crate::kept_lists::{KeptChans, KeptSlots};
 use crate::move_iter::MoveIter;
 use crate::ports::{PortState, Ports};
 use crate::row::{DueMove, Script};
 use crate::same::is_same_plan;
 use crate::sense::{move_at, sense_word};
-use crate::shape::shape_of;
+use crate::shape::{CALLS, FETCHES, shape_of};
 use crate::{
     bar, cells, choice, decision, enclosed, in_turn, indexed, meeting, once, script, select,
     signalled, together,
@@ -204,6 +204,18 @@ fn turn(proc: &mut Process, port: u32, rides: Option<Value>) -> (Move, Option<Va
     ensures frees { FreesIn (sense (plan_of proc.old.plan) proc.old.size) proc.old.ports port proc.new.ports result.2 }
 {
     match &proc.plan {
+        KeptPlan::CallsInTurn => {
+            let (ports, left, slots) = (&mut proc.ports, &mut proc.left, &mut proc.slots);
+            in_turn::fire(&CALLS, ports, left, proc.size, port, slots, rides)
+        }
+        KeptPlan::CallsTogether => {
+            let (ports, left, slots) = (&mut proc.ports, &mut proc.left, &mut proc.slots);
+            together::fire(&CALLS, ports, left, proc.size, port, slots, rides)
+        }
+        KeptPlan::InTurn(KeptRow::Fetches) => {
+            let (ports, left, slots) = (&mut proc.ports, &mut proc.left, &mut proc.slots);
+            in_turn::fire(&FETCHES, ports, left, proc.size, port, slots, rides)
+        }
         KeptPlan::InTurn(_) | KeptPlan::OwnInTurn(_) => {
             let (ports, left, slots) = (&mut proc.ports, &mut proc.left, &mut proc.slots);
             in_turn::fire(proc.plan.row(), ports, left, proc.size, port, slots, rides)
@@ -443,6 +455,8 @@ fn first_ports(alloc: Global, plan: &KeptPlan, legs: u32) -> Result<Ports, Alloc
     ensures { IfOk result (BeginsAt (plan_of plan.now) legs) }
 {
     match plan {
+        KeptPlan::CallsInTurn => first_only(alloc, legs as usize + 2),
+        KeptPlan::CallsTogether => first_only(alloc, legs as usize + 2),
         KeptPlan::InTurn(_) => first_only(alloc, legs as usize + 2),
         KeptPlan::OwnInTurn(_) => first_only(alloc, legs as usize + 2),
         KeptPlan::Together(_) => first_only(alloc, legs as usize + 2),
@@ -528,6 +542,8 @@ pub(crate) fn due_at(
     ensures { option_map seen result ≡ plan_due (plan_of plan.now) size left port state }
 {
     match plan {
+        KeptPlan::CallsInTurn => enclosed::due(&CALLS, port, state),
+        KeptPlan::CallsTogether => enclosed::due(&CALLS, port, state),
         KeptPlan::InTurn(row) => enclosed::due(row.get(), port, state),
         KeptPlan::OwnInTurn(row) => enclosed::due(row, port, state),
         KeptPlan::Together(row) => enclosed::due(row.get(), port, state),

@@ -39,11 +39,14 @@ pub enum KeptMeet {
     PullMeeting,
 }
 
-/// A plan as a component keeps it: small, since a net has many. A row that no other kind has stands in a block of its own.
+/// A plan as a component keeps it: small, since a net has many. The rows of most moves are told without a look at their name;
+/// one that no other kind has stands in a block of its own.
 #[derive(Drop)]
 pub enum KeptPlan {
+    CallsInTurn,
     InTurn(KeptRow),
     OwnInTurn(Box<Row>),
+    CallsTogether,
     Together(KeptRow),
     OwnTogether(Box<Row>),
     Once(KeptRow),
@@ -104,6 +107,7 @@ impl KeptPlan {
         ensures together { (row : Row) → plan_of self.now ≡ Together row → result.now ≡ row }
     {
         match self {
+            KeptPlan::CallsInTurn | KeptPlan::CallsTogether => &CALLS,
             KeptPlan::InTurn(row) | KeptPlan::Together(row) => row.get(),
             KeptPlan::OwnInTurn(row) | KeptPlan::OwnTogether(row) => row,
             _ => &CALLS,
@@ -115,6 +119,8 @@ impl KeptPlan {
         ensures { IfOk result (λ p. plan_of p ≡ plan_of self.now) }
     {
         match self {
+            KeptPlan::CallsInTurn => Ok(KeptPlan::CallsInTurn),
+            KeptPlan::CallsTogether => Ok(KeptPlan::CallsTogether),
             KeptPlan::InTurn(row) => Ok(KeptPlan::InTurn(*row)),
             KeptPlan::OwnInTurn(row) => {
                 let own = Box::new(alloc, **row)?;

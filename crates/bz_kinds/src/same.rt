@@ -12,6 +12,8 @@ pub fn is_same_plan(plan: &KeptPlan, other: &KeptPlan) -> bool
     ensures { IsTrue result → plan_of plan.now ≡ plan_of other.now }
 {
     match (plan, other) {
+        (KeptPlan::CallsInTurn, KeptPlan::CallsInTurn) => true,
+        (KeptPlan::CallsTogether, KeptPlan::CallsTogether) => true,
         (KeptPlan::InTurn(row), KeptPlan::InTurn(same)) => *row == *same,
         (KeptPlan::OwnInTurn(row), KeptPlan::OwnInTurn(same)) => is_same_row(row, same),
         (KeptPlan::Together(row), KeptPlan::Together(same)) => *row == *same,

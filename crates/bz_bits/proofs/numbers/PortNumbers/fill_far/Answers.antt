@@ -5,7 +5,7 @@ use Rattle.std.proofs.lemmas.List.{with_items_is}
 use Rattle.bz_bits.specs.declared.word.PortWord.{PortWord}
 use Rattle.bz_bits.specs.PortWords.{numbers, number_at, between, AreNumbers, IsLowest}
 use Rattle.bz_bits.proofs.Words.{are_filled, each_filled, length-numbers}
-use Rattle.bz_bits.proofs.numbers.PortNumbers.set_between.Goals as goal
+use Rattle.bz_bits.proofs.numbers.PortNumbers.fill_far.Goals as goal
 
 pub fill-requires-clause-fits : goal.fill-requires-clause-fits
 fill-requires-clause-fits g c =
