@@ -24,9 +24,7 @@ use crate::moves::{foresee, next_of, reply_to, sends};
 use crate::node::{Node, node_id};
 use crate::ready_row::{Keeping, ReadyRow};
 use bz_arena::Arena;
-use bz_bits::PortBits;
 use bz_flat::{Ends, FlatComp};
-use bz_kinds::{Comp, next_due, ready_word};
 use bz_model::{Move, Phase, Reply, Value, Verb};
 use std::alloc::{AllocError, Global};
 
@@ -39,81 +37,6 @@ pub(crate) fn is_here(phase: Phase, passive: bool) -> bool
         Phase::Replied(_) => !passive,
         _ => false,
     }
-}
-
-/// The lowest port at which a component can move by what it is told.
-#[inline(always)]
-pub(crate) fn lowest_of(comp: &Comp, here: &PortBits) -> Option<u32>
-    requires room { length comp.now.chans < 64 * length here.now }
-    requires few { length here.now ≤ 2 ^ 26 }
-    ensures lowest { MatchOption result (NoneGoes comp.now here.now) (GoesFirst comp.now here.now) }
-    ensures turning { IsTurning comp.now }
-{
-    let word = ready_word(comp, 0, here.word(0));
-    if word != 0 {
-        return Some(word.trailing_zeros());
-    }
-    if here.word_count() == 1 {
-        return None;
-    }
-    lowest_far(comp, here)
-}
-
-// The same of the ports from 64 on, where there is none before.
-#[cold]
-#[inline(never)]
-fn lowest_far(comp: &Comp, here: &PortBits) -> Option<u32>
-    requires room { length comp.now.chans < 64 * length here.now }
-    requires few { length here.now ≤ 2 ^ 26 }
-    requires near { (p : ℕ) → p < 64 → CanGo comp.now.proc p (flag_of here.now p) → ⊥ }
-    ensures { MatchOption result (NoneGoes comp.now here.now) (GoesFirst comp.now here.now) }
-{
-    let end = here.word_count();
-    let mut at = next_due(comp, 1);
-    while at < end {
-        let word = ready_word(comp, at as u32, here.word(at));
-        if word != 0 {
-            return Some(64 * at as u32 + word.trailing_zeros());
-        }
-        at = next_due(comp, at + 1);
-    }
-    None
-}
-
-/// Whether a component can move by what it is told. Of the ports from 64 on those round `port` are looked at first: there it
-/// often can, and then no others are looked at.
-#[inline(always)]
-fn can_go(comp: &Comp, here: &PortBits, port: u32) -> bool
-    requires room { length comp.now.chans < 64 * length here.now }
-    requires few { length here.now ≤ 2 ^ 26 }
-    ensures goes { MatchBool result (Goes comp.now here.now) (NoneGoes comp.now here.now) }
-    ensures turning { IsTurning comp.now }
-{
-    if ready_word(comp, 0, here.word(0)) != 0 {
-        return true;
-    }
-    if here.word_count() < 2 {
-        return false;
-    }
-    can_go_far(comp, here, port)
-}
-
-// The same of the ports from 64 on, where there is none before.
-#[inline(never)]
-fn can_go_far(comp: &Comp, here: &PortBits, port: u32) -> bool
-    requires room { length comp.now.chans < 64 * length here.now }
-    requires few { length here.now ≤ 2 ^ 26 }
-    requires near { (p : ℕ) → p < 64 → CanGo comp.now.proc p (flag_of here.now p) → ⊥ }
-    ensures { MatchBool result (Goes comp.now here.now) (NoneGoes comp.now here.now) }
-{
-    let at = port / 64;
-    if at > 0 {
-        let word = ready_word(comp, at, here.word(at as usize));
-        if word != 0 {
-            return true;
-        }
-    }
-    lowest_far(comp, here).is_some()
 }
 
 /// Whether a component has a step. The ports round `port` are looked at first.
@@ -132,8 +55,7 @@ fn can_step(
         (CanStep (map site_of sites.now) (state_of phases.now (comps_of nodes.now)) comp)
         (CanStep (map site_of sites.now) (state_of phases.now (comps_of nodes.now)) comp → ⊥) }
 {
-    let node = nodes.get(node_id(comp));
-    can_go(&node.comp, &node.here, port)
+    nodes.get(node_id(comp)).goes(port)
 }
 
 /// Whether a component has a step at a port.
@@ -154,8 +76,7 @@ pub(crate) fn has_step(
     if comp == 0 || comp as usize > nodes.len() {
         return false;
     }
-    let node = nodes.get(node_id(comp));
-    goes_at(&node.comp, &node.here, port)
+    nodes.get(node_id(comp)).goes_at(port)
 }
 
 /// Whether a component has a step by this move on a channel, which it makes at this port, with this value. Which move comes
@@ -215,33 +136,6 @@ fn carries(
     }
 }
 
-// Whether a component can move at a port by what it is told.
-#[inline(always)]
-fn goes_at(comp: &Comp, here: &PortBits, port: u32) -> bool
-    ensures goes { IsTrue result ↔ CanGo comp.now.proc port (flag_of here.now port) }
-    ensures held { (p : ℕ) (h : Head) → IsHeadOn comp.now.proc p h → (0 < p) × (p ≤ length comp.now.chans) }
-    ensures turning { IsTurning comp.now }
-{
-    if port >= 64 {
-        return goes_at_far(comp, here, port);
-    }
-    let near = ready_word(comp, 0, here.word(0));
-    (near >> port) & 1 == 1
-}
-
-// The same of any port.
-#[cold]
-#[inline(never)]
-fn goes_at_far(comp: &Comp, here: &PortBits, port: u32) -> bool
-    ensures goes { IsTrue result ↔ CanGo comp.now.proc port (flag_of here.now port) }
-    ensures held { (p : ℕ) (h : Head) → IsHeadOn comp.now.proc p h → (0 < p) × (p ≤ length comp.now.chans) }
-    ensures turning { IsTurning comp.now }
-{
-    let at = port / 64;
-    let word = ready_word(comp, at, here.word(at as usize));
-    (word >> (port % 64)) & 1 == 1
-}
-
 /// The lowest port at which a component has a step.
 #[inline(always)]
 pub(crate) fn lowest_port(
@@ -257,8 +151,7 @@ pub(crate) fn lowest_port(
         (CanStep (map site_of sites.now) (state_of phases.now (comps_of nodes.now)) comp → ⊥)
         (IsLowest (map site_of sites.now) (state_of phases.now (comps_of nodes.now)) comp) }
 {
-    let node = nodes.get(node_id(comp));
-    lowest_of(&node.comp, &node.here)
+    nodes.get(node_id(comp)).lowest()
 }
 
 /// Tells the ports at both ends of a channel of its phase.
@@ -287,7 +180,7 @@ fn tell_end(nodes: &mut Arena<Node>, end: Option<u32>, port: u32, bit: bool)
     ensures comps { comps_of nodes.new ≡ comps_of nodes.old }
 {
     if let Some(comp) = end {
-        nodes.get_mut(node_id(comp)).here.put(port as usize, bit);
+        nodes.get_mut(node_id(comp)).tell(port, bit);
     }
 }
 
@@ -392,7 +285,7 @@ pub(crate) fn move_comp(
     let chan = chans.chan(comp, port);
     let place = chan as usize - 1;
     let rides = phases.riding(place);
-    let (mv, value, goes) = move_node(node, port, rides);
+    let (mv, value, goes) = node.turn(port, rides);
     keep_marked(ready, comp, goes);
     tell_other(nodes, ready, &ends[place], mv);
     phases.make(place, mv, value);
@@ -409,42 +302,7 @@ fn port_of(node: &Node, at: Option<u32>) -> u32
 {
     match at {
         Some(port) => port,
-        None => lowest_of(&node.comp, &node.here).unwrap(),
-    }
-}
-
-// Moves the component of a node at a port, and tells whether it can move then. What a take or a got waited for is gone from
-// the port.
-#[inline(always)]
-fn move_node(node: &mut Node, port: u32, rides: Option<Value>) -> (Move, Option<Value>, bool)
-    requires can { (phase : Phase) × CanMove node.old.comp.proc port phase × (rides ≡ riding phase) }
-    requires bit { port < 64 * length node.old.here }
-    requires room { length node.old.comp.chans < 64 * length node.old.here }
-    requires few { length node.old.here ≤ 2 ^ 26 }
-    ensures moves { (phase : Phase) → CanMove node.old.comp.proc port phase → rides ≡ riding phase →
-        Moves node.old.comp.proc port phase result.0 result.1 node.new.comp.proc }
-    ensures turns { Turns node.old.comp port result.0 node.new.comp }
-    ensures one { HasOneHead node.old.comp.proc.todo }
-    ensures chans { node.new.comp.chans ≡ node.old.comp.chans }
-    ensures left { Left result.0 node.old.here node.new.here port }
-    ensures goes { MatchBool result.2 (Goes node.new.comp node.new.here) (NoneGoes node.new.comp node.new.here) }
-    ensures turning { IsTurning node.new.comp }
-{
-    let (mv, value) = bz_kinds::fire(&mut node.comp, port, rides);
-    leave(&mut node.here, port, mv);
-    let goes = can_go(&node.comp, &node.here, port);
-    (mv, value, goes)
-}
-
-// What a move leaves at its own port.
-#[inline(always)]
-fn leave(here: &mut PortBits, port: u32, mv: Move)
-    requires { port < 64 * length here.old }
-    ensures { Left mv here.old here.new port }
-{
-    match mv {
-        Move::Take | Move::Got => here.put(port as usize, false),
-        Move::Ask | Move::Reply => {}
+        None => node.lowest().unwrap(),
     }
 }
 
@@ -488,7 +346,7 @@ fn look_at(nodes: &Arena<Node>, end: Option<u32>)
     ensures { IfSome end (λ c. IsTurning (comp_at (comps_of nodes.now) c)) }
 {
     if let Some(comp) = end {
-        let _due = bz_kinds::has_move(&nodes.get(node_id(comp)).comp, 1);
+        let _due = bz_kinds::has_move(nodes.get(node_id(comp)).comp(), 1);
     }
 }
 
@@ -503,10 +361,7 @@ fn come(nodes: &mut Arena<Node>, ready: &mut ReadyRow, end: Option<u32>, port: u
     let Some(comp) = end else {
         return;
     };
-    let node = nodes.get_mut(node_id(comp));
-    let is_due = bz_kinds::has_move(&node.comp, port);
-    node.here.put(port as usize, true);
-    if is_due {
+    if nodes.get_mut(node_id(comp)).come(port) {
         ready.insert(comp);
     }
 }

@@ -80,7 +80,7 @@ pub(crate) fn due_at(
 {
     match chan_of(sites, comp, port) {
         None => None,
-        Some(_) => bz_kinds::next(&nodes.get(node_id(comp)).comp, port),
+        Some(_) => bz_kinds::next(nodes.get(node_id(comp)).comp(), port),
     }
 }
 
@@ -100,7 +100,7 @@ pub(crate) fn foresee(
         return None;
     };
     let phase = phases.get(chan as usize - 1);
-    match bz_kinds::foresee(&nodes.get(node_id(comp)).comp, port, phase) {
+    match bz_kinds::foresee(nodes.get(node_id(comp)).comp(), port, phase) {
         Some((mv, value)) => Some((chan, mv, value)),
         None => None,
     }

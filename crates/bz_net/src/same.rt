@@ -32,7 +32,7 @@ pub(crate) fn first_other(nodes: &Arena<Node>, others: &Arena<Node>) -> Option<u
     for place in 0..nodes.len() {
         let node = nodes.get(Id::at(place));
         let other = others.get(Id::at(place));
-        if !bz_kinds::is_same(&node.comp, &other.comp) {
+        if !bz_kinds::is_same(node.comp(), other.comp()) {
             return Some(place);
         }
     }
@@ -46,5 +46,5 @@ pub(crate) fn is_other_at(nodes: &Arena<Node>, others: &Arena<Node>, place: usiz
     }
     let node = nodes.get(Id::at(place));
     let other = others.get(Id::at(place));
-    !bz_kinds::is_same(&node.comp, &other.comp)
+    !bz_kinds::is_same(node.comp(), other.comp())
 }
