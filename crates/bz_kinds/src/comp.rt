@@ -11,8 +11,6 @@ ghost use Rattle.bz_model.specs.Widths.{Fitted, FitsAt, HoldsAt};
 ghost use Rattle.bz_kinds.specs.declared.ports.PortState.TheVariants.{Closed, ClosedDue};
 ghost use Rattle.bz_kinds.specs.Row.{seen};
 ghost use Rattle.bz_kinds.specs.Moves.{AreEnabled};
-ghost use Rattle.bz_kinds.specs.Sense.{sense};
-ghost use Rattle.bz_kinds.specs.Freed.{Frees, FreesIn};
 ghost use Rattle.bz_kinds.specs.Ready.{AreReady, CanGo, NoneDue};
 ghost use Rattle.bz_kinds.specs.Start.{BeginsAt, IsAllDue, IsDueBut, AreMembersDue};
 ghost use Rattle.bz_kinds.specs.Kept.{plan_of};
@@ -22,7 +20,6 @@ ghost use Rattle.bz_kinds.specs.Riding.{held, riding, taken};
 ghost use Rattle.bz_kinds.specs.Comp.{IsFor, plan_due};
 ghost use Rattle.bz_kinds.specs.Turn.{CanTurn, IsRare, HasMade, HasGone, KeepsPlan};
 
-use crate::freed::Freed;
 use crate::kept::KeptPlan;
 use crate::kept_lists::{KeptChans, KeptSlots};
 use crate::move_iter::MoveIter;
@@ -169,65 +166,34 @@ pub fn fire(comp: &mut Comp, port: u32, rides: Option<Value>) -> (Move, Option<V
     ensures fits { (phase : Phase) → CanMove comp.old.proc port phase → rides ≡ riding phase →
         Fitted comp.old → HoldsAt comp.old.chans port phase → FitsAt comp.old.chans port result.0 result.1 × Fitted comp.new }
 {
-    let (mv, value, _) = fire_freeing(comp, port, rides);
-    (mv, value)
-}
-
-/// The same, with the ports that the move frees.
-#[inline(always)]
-pub fn fire_freeing(
-    comp: &mut Comp,
-    port: u32,
-    rides: Option<Value>,
-) -> (Move, Option<Value>, Freed)
-    requires { (phase : Phase) × CanMove comp.old.proc port phase × (rides ≡ riding phase) }
-    ensures moves { (phase : Phase) → CanMove comp.old.proc port phase → rides ≡ riding phase →
-        Moves comp.old.proc port phase result.0 result.1 comp.new.proc }
-    ensures turns { Turns comp.old port result.0 comp.new }
-    ensures one { HasOneHead comp.old.proc.todo }
-    ensures chans { comp.new.chans ≡ comp.old.chans }
-    ensures fits { (phase : Phase) → CanMove comp.old.proc port phase → rides ≡ riding phase →
-        Fitted comp.old → HoldsAt comp.old.chans port phase → FitsAt comp.old.chans port result.0 result.1 × Fitted comp.new }
-    ensures frees { Frees comp.old.proc port comp.new.proc result.2 }
-{
     turn(&mut comp.proc, port, rides)
 }
 
 // Makes the move that is due at a port. Of the families that most moves are of, a move is told, sent and followed by the ports
 // in one look at the port. Each arm borrows its own fields, so that no address is worked out before the plan is known.
 #[inline(always)]
-fn turn(proc: &mut Process, port: u32, rides: Option<Value>) -> (Move, Option<Value>, Freed)
+fn turn(proc: &mut Process, port: u32, rides: Option<Value>) -> (Move, Option<Value>)
     requires { CanTurn proc.old port }
     ensures made { HasMade proc.old port rides proc.new result.0 result.1 }
     ensures goes { HasGone proc.old port proc.new }
     ensures kept { KeepsPlan proc.old proc.new }
-    ensures frees { FreesIn (sense (plan_of proc.old.plan) proc.old.size) proc.old.ports port proc.new.ports result.2 }
 {
     match &proc.plan {
-        KeptPlan::CallsInTurn => {
-            let (ports, left, slots) = (&mut proc.ports, &mut proc.left, &mut proc.slots);
-            in_turn::fire(&CALLS, ports, left, proc.size, port, slots, rides)
-        }
-        KeptPlan::FetchesInTurn => {
-            let (ports, left, slots) = (&mut proc.ports, &mut proc.left, &mut proc.slots);
-            in_turn::fire(&FETCHES, ports, left, proc.size, port, slots, rides)
-        }
-        KeptPlan::CallsTogether => {
-            let (ports, left, slots) = (&mut proc.ports, &mut proc.left, &mut proc.slots);
-            together::fire(&CALLS, ports, left, proc.size, port, slots, rides)
-        }
-        KeptPlan::PushesInTurn | KeptPlan::OwnInTurn(_) => {
+        KeptPlan::CallsInTurn
+        | KeptPlan::PushesInTurn
+        | KeptPlan::FetchesInTurn
+        | KeptPlan::OwnInTurn(_) => {
             let (ports, left, slots) = (&mut proc.ports, &mut proc.left, &mut proc.slots);
             in_turn::fire(proc.plan.row(), ports, left, proc.size, port, slots, rides)
         }
-        KeptPlan::PushesTogether | KeptPlan::OwnTogether(_) => {
+        KeptPlan::CallsTogether | KeptPlan::PushesTogether | KeptPlan::OwnTogether(_) => {
             let (ports, left, slots) = (&mut proc.ports, &mut proc.left, &mut proc.slots);
             together::fire(proc.plan.row(), ports, left, proc.size, port, slots, rides)
         }
         KeptPlan::Cells => cells::fire(&mut proc.ports, proc.size, port, &mut proc.slots, rides),
         KeptPlan::Loop => {
             let (ports, left, slots) = (&mut proc.ports, &mut proc.left, &mut proc.slots);
-            script::fire(Script::Loop, ports, left, port, slots, rides)
+            script::go_round(ports, left, port, slots, rides)
         }
         KeptPlan::OneByOne(script) => {
             let (ports, left, slots) = (&mut proc.ports, &mut proc.left, &mut proc.slots);
@@ -235,23 +201,18 @@ fn turn(proc: &mut Process, port: u32, rides: Option<Value>) -> (Move, Option<Va
         }
         KeptPlan::Meeting(meet) => {
             let (ports, left, slots) = (&mut proc.ports, &mut proc.left, &mut proc.slots);
-            let (mv, value) = meeting::fire(meet.get(), ports, left, proc.size, port, slots, rides);
-            (mv, value, Freed::Unknown)
+            meeting::fire(meet.get(), ports, left, proc.size, port, slots, rides)
         }
         KeptPlan::Choice(mix) => {
             let (ports, left, slots) = (&mut proc.ports, &mut proc.left, &mut proc.slots);
-            let (mv, value) = choice::fire(mix.get(), ports, left, proc.size, port, slots, rides);
-            (mv, value, Freed::Unknown)
+            choice::fire(mix.get(), ports, left, proc.size, port, slots, rides)
         }
         KeptPlan::Once(_)
         | KeptPlan::Select(_)
         | KeptPlan::Indexed(_)
         | KeptPlan::Signalled
         | KeptPlan::Decision
-        | KeptPlan::Bar => {
-            let (mv, value) = turn_far(proc, port, rides);
-            (mv, value, Freed::Unknown)
-        }
+        | KeptPlan::Bar => turn_far(proc, port, rides),
     }
 }
 

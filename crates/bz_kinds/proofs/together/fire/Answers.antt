@@ -11,12 +11,12 @@ use Rattle.bz_kinds.proofs.together.fire.Goals as goal
 pub returns-then-is_to_open-clause-steps : goal.returns-then-is_to_open-clause-steps
 returns-then-is_to_open-clause-steps c =
     let one : c.args.port ≡ 1 = omega (arith, c.if-port-eq1.true) in
-    steps-at c.args.row.now _ _ _ _ _ _ _ one (c.take-freed.ensures.steps c.args.row.now)
+    steps-at c.args.row.now _ _ _ _ _ _ _ one (c.take.ensures c.args.row.now)
 
 pub returns-else-is_to_open-clause-steps : goal.returns-else-is_to_open-clause-steps
 returns-else-is_to_open-clause-steps c =
     let one : c.args.port ≡ 1 = omega (arith, c.if-port-eq1.true) in
-    steps-at c.args.row.now _ _ _ _ _ _ _ one (c.reply.ensures.steps c.args.row.now)
+    steps-at c.args.row.now _ _ _ _ _ _ _ one (c.reply.ensures c.args.row.now)
 
 pub returns-then-is_to_open-2-clause-made : goal.returns-then-is_to_open-2-clause-made
 returns-then-is_to_open-2-clause-made c d e =
@@ -30,11 +30,11 @@ returns-then-is_to_open-2-clause-steps c =
     let row = c.args.row.now in
     let (d, e, narrow) = c.requires.due in
     let other : c.args.port ≢ 1 = omega (arith, c.if-port-eq1.false) in
-    steps-at row _ _ _ _ _ _ _ (leg-port c.args.port _ (row, d, e) other) (c.ask.ensures.steps row)
+    steps-at row _ _ _ _ _ _ _ (leg-port c.args.port _ (row, d, e) other) (c.ask.ensures row)
 
 pub returns-else-is_to_open-2-clause-steps : goal.returns-else-is_to_open-2-clause-steps
 returns-else-is_to_open-2-clause-steps c =
     let row = c.args.row.now in
     let (d, e, narrow) = c.requires.due in
     let other : c.args.port ≢ 1 = omega (arith, c.if-port-eq1.false) in
-    steps-at row _ _ _ _ _ _ _ (leg-port c.args.port _ (row, d, e) other) (c.got-freed.ensures.steps row)
+    steps-at row _ _ _ _ _ _ _ (leg-port c.args.port _ (row, d, e) other) (c.got.ensures row)
