@@ -169,7 +169,7 @@ impl<A: Allocator + Copy> PortNumbers<A> {
     }
 
     /// Changes the number of a port by 2.
-    #[inline(always)]
+    #[inline]
     pub fn turn(&mut self, port: usize)
         requires { port < length self.old }
         ensures turned { self.new ≡ slice_set self.old port ((slice_index self.old port + 2) % 4) }
@@ -196,7 +196,7 @@ impl<A: Allocator + Copy> PortNumbers<A> {
     }
 
     /// Takes the number of a port from 3.
-    #[inline(always)]
+    #[inline]
     pub fn flip(&mut self, port: usize)
         requires { port < length self.old }
         ensures { self.new ≡ slice_set self.old port (3 - slice_index self.old port) }
@@ -221,7 +221,7 @@ impl<A: Allocator + Copy> PortNumbers<A> {
     }
 
     /// Takes the number of a port from 3, and makes the even number of another port odd.
-    #[inline(always)]
+    #[inline]
     pub fn pass(&mut self, from: usize, to: usize)
         requires from { from < length self.old }
         requires to { to < length self.old }

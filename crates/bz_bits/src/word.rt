@@ -44,7 +44,7 @@ impl PortWord {
     }
 
     /// The same but for the port in a place, whose number changes by 2.
-    #[inline(always)]
+    #[inline]
     pub(crate) fn turned(self, place: usize) -> PortWord
         requires { place < 64 }
         ensures { (i : ℕ) → i < 64 → number_in result i ≡ (if between place (place + 1) i then (number_in self i + 2) % 4 else number_in self i) }
@@ -56,7 +56,7 @@ impl PortWord {
     }
 
     /// The same but for the port in a place, whose number is taken from 3.
-    #[inline(always)]
+    #[inline]
     pub(crate) fn flipped(self, place: usize) -> PortWord
         requires { place < 64 }
         ensures { (i : ℕ) → i < 64 → number_in result i ≡ (if between place (place + 1) i then 3 - number_in self i else number_in self i) }
@@ -68,7 +68,7 @@ impl PortWord {
     }
 
     /// The same but for the port in a place, whose even number becomes odd.
-    #[inline(always)]
+    #[inline]
     pub(crate) fn raised(self, place: usize) -> PortWord
         requires place { place < 64 }
         requires even { number_in self place % 2 ≡ 0 }
@@ -103,7 +103,7 @@ fn has_bit(word: u64, place: usize) -> bool
 }
 
 // Turns the bit in a place.
-#[inline(always)]
+#[inline]
 fn flip(word: u64, place: usize) -> u64
     requires { place < 64 }
     ensures { (i : ℕ) → i < 64 → bit_at result i ≡ (if between place (place + 1) i then 1 - bit_at word i else bit_at word i) }
