@@ -67,7 +67,7 @@ impl KeptSlots {
     }
 
     /// Puts a value that came in into its slot.
-    #[inline(always)]
+    #[inline]
     pub fn keep(&mut self, slot: u32, value: Option<Value>)
         ensures { slots_of self.new ≡ stored slot value (slots_of self.old) }
     {
@@ -77,7 +77,7 @@ impl KeptSlots {
     }
 
     /// What an expression is worth over these.
-    #[inline(always)]
+    #[inline]
     pub fn worth(&self, gives: &Expr) -> Option<Value>
         requires { IsNarrow gives.now }
         ensures { result ≡ value_of gives.now (slots_of self.now) }
@@ -89,7 +89,7 @@ impl KeptSlots {
     }
 
     // The same of what is worth something, which is most often the first of two values.
-    #[inline(always)]
+    #[inline]
     fn worth_some(&self, gives: &Expr) -> Option<Value>
         requires narrow { IsNarrow gives.now }
         requires some { gives.now ≢ Nothing }
@@ -113,7 +113,7 @@ impl KeptSlots {
     }
 
     /// Puts a value into a slot, where there is such a slot.
-    #[inline(always)]
+    #[inline]
     pub fn put(&mut self, slot: u32, value: Value)
         ensures { slots_of self.new ≡ slice_set (slots_of self.old) slot value }
     {
