@@ -12,6 +12,7 @@ ghost use Rattle.bz_kinds.specs.declared.ports.PortState.TheVariants.{Closed, Cl
 ghost use Rattle.bz_kinds.specs.Row.{seen};
 ghost use Rattle.bz_kinds.specs.Moves.{AreEnabled};
 ghost use Rattle.bz_kinds.specs.Ready.{AreReady, CanGo, NoneDue};
+ghost use Rattle.bz_kinds.specs.Sure.{IsNext, IsSure, WaitsAt};
 ghost use Rattle.bz_kinds.specs.Start.{BeginsAt, IsAllDue, IsDueBut, AreMembersDue};
 ghost use Rattle.bz_kinds.specs.Kept.{plan_of};
 ghost use Rattle.bz_kinds.specs.KeptLists.{slots_of};
@@ -167,6 +168,62 @@ pub fn fire(comp: &mut Comp, port: u32, rides: Option<Value>) -> (Move, Option<V
         Fitted comp.old → HoldsAt comp.old.chans port phase → FitsAt comp.old.chans port result.0 result.1 × Fitted comp.new }
 {
     turn(&mut comp.proc, port, rides)
+}
+
+/// Asks at a port where a request is due: the value that it carries, and whether the component is known to wait there alone then.
+#[inline(always)]
+pub fn ask(comp: &mut Comp, port: u32) -> (Option<Value>, bool)
+    requires { IsNext comp.old.proc port Move.Ask }
+    ensures moves { (phase : Phase) → Moves comp.old.proc port phase Move.Ask result.0 comp.new.proc }
+    ensures turns { Turns comp.old port Move.Ask comp.new }
+    ensures one { HasOneHead comp.old.proc.todo }
+    ensures chans { comp.new.chans ≡ comp.old.chans }
+    ensures waits { IsTrue result.1 → WaitsAt comp.new.proc port }
+{
+    let (_, value) = fire(comp, port, None);
+    (value, false)
+}
+
+/// Takes the request at a port where that is due, with the value that rides with it: whether the component is known to move then.
+#[inline(always)]
+pub fn take(comp: &mut Comp, port: u32, rides: Option<Value>) -> bool
+    requires { IsNext comp.old.proc port Move.Take }
+    ensures moves { Moves comp.old.proc port (Phase.Asked rides) Move.Take rides comp.new.proc }
+    ensures turns { Turns comp.old port Move.Take comp.new }
+    ensures one { HasOneHead comp.old.proc.todo }
+    ensures chans { comp.new.chans ≡ comp.old.chans }
+    ensures sure { IsTrue result → IsSure comp.new }
+{
+    let (_, _) = fire(comp, port, rides);
+    false
+}
+
+/// Replies at a port where that is due: the value that it carries, and whether the component is known to wait there alone then.
+#[inline(always)]
+pub fn reply(comp: &mut Comp, port: u32) -> (Option<Value>, bool)
+    requires { IsNext comp.old.proc port Move.Reply }
+    ensures moves { (phase : Phase) → Moves comp.old.proc port phase Move.Reply result.0 comp.new.proc }
+    ensures turns { Turns comp.old port Move.Reply comp.new }
+    ensures one { HasOneHead comp.old.proc.todo }
+    ensures chans { comp.new.chans ≡ comp.old.chans }
+    ensures waits { IsTrue result.1 → WaitsAt comp.new.proc port }
+{
+    let (_, value) = fire(comp, port, None);
+    (value, false)
+}
+
+/// Gets the reply at a port where that is due, with the value that rides with it: whether the component is known to move then.
+#[inline(always)]
+pub fn got(comp: &mut Comp, port: u32, rides: Option<Value>) -> bool
+    requires { IsNext comp.old.proc port Move.Got }
+    ensures moves { Moves comp.old.proc port (Phase.Replied rides) Move.Got rides comp.new.proc }
+    ensures turns { Turns comp.old port Move.Got comp.new }
+    ensures one { HasOneHead comp.old.proc.todo }
+    ensures chans { comp.new.chans ≡ comp.old.chans }
+    ensures sure { IsTrue result → IsSure comp.new }
+{
+    let (_, _) = fire(comp, port, rides);
+    false
 }
 
 // Makes the move that is due at a port. Of the families that most moves are of, a move is told, sent and followed by the ports
