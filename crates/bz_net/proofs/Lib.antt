@@ -1,3 +1,4 @@
+pub mod Hints
 pub mod ChanRows
 pub mod Sites
 pub mod Stands

@@ -20,10 +20,11 @@ ghost use Rattle.bz_net.specs.Unbroken.{IsUnbroken};
 
 use crate::chan_row::ChanRow;
 use crate::foretelling::{Foretold, carries_told, foretell};
-use crate::here::{command, has_step, has_step_by, lowest_port, mark_all, move_comp};
+use crate::here::{command, has_step, has_step_by, lowest_port, mark_all};
 use crate::kept_phases::Phases;
 use crate::moves::{answers, due_at, foresee, mixes, note_clash, port_in, refusal_of, reply_to};
 use crate::node::{dup_all, restart_all, start_all};
+use crate::node_moves::move_comp;
 use crate::node_row::NodeRow;
 use crate::noted::Noted;
 use crate::ready_row::{Keeping, ReadyRow};

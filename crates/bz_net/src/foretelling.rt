@@ -11,9 +11,10 @@ ghost use Rattle.bz_net.specs.Nodes.{comps_of, heres_of};
 ghost use Rattle.bz_net.specs.Told.{Sighted};
 
 use crate::chan_row::ChanRow;
-use crate::here::{carries, look_at, lowest_port};
+use crate::here::{carries, lowest_port};
 use crate::kept_phases::Phases;
 use crate::moves::sends;
+use crate::node_moves::look_at;
 use crate::node_row::NodeRow;
 use bz_arena::Arena;
 use bz_flat::FlatComp;

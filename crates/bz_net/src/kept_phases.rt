@@ -158,19 +158,13 @@ impl Phases {
 fn next_after(mark: Mark) -> Move
     ensures { (v : ℕ) → phase_of mark v ≢ Phase.Broken → next_of (phase_of mark v) ≡ Some result }
 {
-    NEXT[mark as usize]
+    match mark {
+        Mark::Broken | Mark::Idle => Move::Ask,
+        Mark::Asked | Mark::AskedWith => Move::Take,
+        Mark::Taken => Move::Reply,
+        Mark::Replied | Mark::RepliedWith => Move::Got,
+    }
 }
-
-// The same by the mark's number. On a broken channel none does.
-static NEXT: [Move; 7] = [
-    Move::Ask,
-    Move::Take,
-    Move::Reply,
-    Move::Got,
-    Move::Ask,
-    Move::Take,
-    Move::Got,
-];
 
 // The phase that a mark tells, by the value beside it. That is read only where one rides.
 #[inline(always)]

@@ -4,7 +4,7 @@ use Rattle.bz_net.specs.Nodes.{comps_of, heres_of}
 use Rattle.bz_net.proofs.Nodes.{bits_read, heres_changed, comps_stay}
 use Rattle.bz_net.proofs.Telling.{put_end}
 use Rattle.bz_net.proofs.Moving.{comp_is, end_there, marked_due}
-use Rattle.bz_net.proofs.here.come.Goals as goal
+use Rattle.bz_net.proofs.node_moves.come.Goals as goal
 
 pub returns-then-is_due : goal.returns-then-is_due
 returns-then-is_due c =

@@ -1,7 +1,7 @@
 use Rattle.std.proofs.Common.{subst}
 use Rattle.bz_net.specs.Told.{IsTurning}
 use Rattle.bz_net.proofs.Moving.{comp_is}
-use Rattle.bz_net.proofs.here.look_at.Goals as goal
+use Rattle.bz_net.proofs.node_moves.look_at.Goals as goal
 
 pub returns-in-Some : goal.returns-in-Some
 returns-in-Some c =

@@ -1,0 +1,196 @@
+use Rattle.std.proofs.Common.{◌≡◌, map, arith}
+use Rattle.bz_model.specs.Nets.{chan_at}
+use Rattle.bz_flat.specs.Flats.{site_of}
+use Rattle.bz_net.specs.Keeping.{state_of}
+use Rattle.bz_net.specs.Nodes.{comps_of, heres_of}
+use Rattle.bz_net.proofs.Nodes.{bits_read, comp_read}
+use Rattle.bz_net.proofs.Telling.{few_read, goes_read, may_stands, port_read, room_read}
+use Rattle.bz_net.proofs.node_moves.move_comp.Goals as goal
+
+pub port_of-port-requires-clause-room : goal.port_of-port-requires-clause-room
+port_of-port-requires-clause-room c =
+    let sites = map site_of c.args.sites.now in let nodes = c.args.nodes.now in let phases = c.args.phases.now in
+    let stands = may_stands sites (state_of phases (comps_of nodes)) c.args.comp c.args.at c.requires.may in let above = stands.0 in let below = stands.1 in
+    let x = c.get.result.now in let i = c.node_id.result in let at = c.node_id.ensures in let is = c.get.ensures in
+    let x_is = comp_read nodes c.args.comp i x at is in let h_is = bits_read nodes c.args.comp i x at is in
+    room_read sites phases (comps_of nodes) (heres_of nodes) c.requires.sighted c.args.comp above below x.comp x.here x_is h_is
+
+pub port_of-port-requires-clause-few : goal.port_of-port-requires-clause-few
+port_of-port-requires-clause-few c =
+    let sites = map site_of c.args.sites.now in let nodes = c.args.nodes.now in let phases = c.args.phases.now in
+    let stands = may_stands sites (state_of phases (comps_of nodes)) c.args.comp c.args.at c.requires.may in let above = stands.0 in let below = stands.1 in
+    let x = c.get.result.now in let i = c.node_id.result in let at = c.node_id.ensures in let is = c.get.ensures in
+    let x_is = comp_read nodes c.args.comp i x at is in let h_is = bits_read nodes c.args.comp i x at is in
+    few_read sites phases (comps_of nodes) (heres_of nodes) c.requires.sighted c.args.comp above below x.comp x.here x_is h_is
+
+pub port_of-port-requires-clause-goes : goal.port_of-port-requires-clause-goes
+port_of-port-requires-clause-goes c =
+    let sites = map site_of c.args.sites.now in let nodes = c.args.nodes.now in let phases = c.args.phases.now in
+    let stands = may_stands sites (state_of phases (comps_of nodes)) c.args.comp c.args.at c.requires.may in let above = stands.0 in let below = stands.1 in
+    let x = c.get.result.now in let i = c.node_id.result in let at = c.node_id.ensures in let is = c.get.ensures in
+    let x_is = comp_read nodes c.args.comp i x at is in let h_is = bits_read nodes c.args.comp i x at is in
+    goes_read sites phases (comps_of nodes) (heres_of nodes) c.requires.sighted c.args.comp above below x.comp x.here x_is h_is c.args.at c.requires.may
+
+pub chan-chan-requires : goal.chan-chan-requires
+chan-chan-requires c =
+    let sites = map site_of c.args.sites.now in let nodes = c.args.nodes.now in let phases = c.args.phases.now in
+    let stands = may_stands sites (state_of phases (comps_of nodes)) c.args.comp c.args.at c.requires.may in let above = stands.0 in let below = stands.1 in
+    let x = c.get.result.now in let i = c.node_id.result in let at = c.node_id.ensures in let is = c.get.ensures in
+    let x_is = comp_read nodes c.args.comp i x at is in let h_is = bits_read nodes c.args.comp i x at is in
+    let p = c.port_of-port.result in
+    let found = port_read sites phases (comps_of nodes) (heres_of nodes) c.requires.sighted c.args.comp above below x.comp x.here x_is h_is c.args.at p c.requires.may c.port_of-port.ensures in let steps = found.0 in
+    (sites, steps.is_port, c.requires.chans c.args.comp p steps.is_port)
+
+pub overflow_sub-chan : goal.overflow_sub-chan
+overflow_sub-chan c =
+    let sites = map site_of c.args.sites.now in let nodes = c.args.nodes.now in let phases = c.args.phases.now in
+    let stands = may_stands sites (state_of phases (comps_of nodes)) c.args.comp c.args.at c.requires.may in let above = stands.0 in let below = stands.1 in
+    let x = c.get.result.now in let i = c.node_id.result in let at = c.node_id.ensures in let is = c.get.ensures in
+    let x_is = comp_read nodes c.args.comp i x at is in let h_is = bits_read nodes c.args.comp i x at is in
+    let p = c.port_of-port.result in
+    let found = port_read sites phases (comps_of nodes) (heres_of nodes) c.requires.sighted c.args.comp above below x.comp x.here x_is h_is c.args.at p c.requires.may c.port_of-port.ensures in let steps = found.0 in
+    let k = c.chan-chan.result in
+    let chan_is : k ≡ chan_at sites c.args.comp p = c.chan-chan.ensures sites (c.requires.chans c.args.comp p steps.is_port) in
+    let from = c.requires.placed.chan_from c.args.comp p steps.is_port in let to = c.requires.placed.chan_to c.args.comp p steps.is_port in
+    omega (arith, chan_is, from, to)
+
+pub next-requires : goal.next-requires
+next-requires c =
+    let sites = map site_of c.args.sites.now in let nodes = c.args.nodes.now in let phases = c.args.phases.now in
+    let stands = may_stands sites (state_of phases (comps_of nodes)) c.args.comp c.args.at c.requires.may in let above = stands.0 in let below = stands.1 in
+    let x = c.get.result.now in let i = c.node_id.result in let at = c.node_id.ensures in let is = c.get.ensures in
+    let x_is = comp_read nodes c.args.comp i x at is in let h_is = bits_read nodes c.args.comp i x at is in
+    let p = c.port_of-port.result in
+    let found = port_read sites phases (comps_of nodes) (heres_of nodes) c.requires.sighted c.args.comp above below x.comp x.here x_is h_is c.args.at p c.requires.may c.port_of-port.ensures in let steps = found.0 in
+    let k = c.chan-chan.result in
+    let chan_is : k ≡ chan_at sites c.args.comp p = c.chan-chan.ensures sites (c.requires.chans c.args.comp p steps.is_port) in
+    let from = c.requires.placed.chan_from c.args.comp p steps.is_port in let to = c.requires.placed.chan_to c.args.comp p steps.is_port in
+    omega (arith, chan_is, from, to)
+
+pub move_as-value-requires-clause-stays : goal.move_as-value-requires-clause-stays
+move_as-value-requires-clause-stays c =
+    c.requires.stays c.port_of-port.result
+
+pub move_as-value-requires-clause-steps : goal.move_as-value-requires-clause-steps
+move_as-value-requires-clause-steps c =
+    let sites = map site_of c.args.sites.now in let nodes = c.args.nodes.now in let phases = c.args.phases.now in
+    let stands = may_stands sites (state_of phases (comps_of nodes)) c.args.comp c.args.at c.requires.may in let above = stands.0 in let below = stands.1 in
+    let x = c.get.result.now in let i = c.node_id.result in let at = c.node_id.ensures in let is = c.get.ensures in
+    let x_is = comp_read nodes c.args.comp i x at is in let h_is = bits_read nodes c.args.comp i x at is in
+    let p = c.port_of-port.result in
+    let found = port_read sites phases (comps_of nodes) (heres_of nodes) c.requires.sighted c.args.comp above below x.comp x.here x_is h_is c.args.at p c.requires.may c.port_of-port.ensures in let steps = found.0 in
+    steps
+
+pub move_as-value-requires-clause-on : goal.move_as-value-requires-clause-on
+move_as-value-requires-clause-on c =
+    let sites = map site_of c.args.sites.now in let nodes = c.args.nodes.now in let phases = c.args.phases.now in
+    let stands = may_stands sites (state_of phases (comps_of nodes)) c.args.comp c.args.at c.requires.may in let above = stands.0 in let below = stands.1 in
+    let x = c.get.result.now in let i = c.node_id.result in let at = c.node_id.ensures in let is = c.get.ensures in
+    let x_is = comp_read nodes c.args.comp i x at is in let h_is = bits_read nodes c.args.comp i x at is in
+    let p = c.port_of-port.result in
+    let found = port_read sites phases (comps_of nodes) (heres_of nodes) c.requires.sighted c.args.comp above below x.comp x.here x_is h_is c.args.at p c.requires.may c.port_of-port.ensures in let steps = found.0 in
+    c.chan-chan.ensures sites (c.requires.chans c.args.comp p steps.is_port)
+
+pub move_as-value-requires-in-Take-clause-stays : goal.move_as-value-requires-in-Take-clause-stays
+move_as-value-requires-in-Take-clause-stays c =
+    c.requires.stays c.port_of-port.result
+
+pub move_as-value-requires-in-Take-clause-steps : goal.move_as-value-requires-in-Take-clause-steps
+move_as-value-requires-in-Take-clause-steps c =
+    let sites = map site_of c.args.sites.now in let nodes = c.args.nodes.now in let phases = c.args.phases.now in
+    let stands = may_stands sites (state_of phases (comps_of nodes)) c.args.comp c.args.at c.requires.may in let above = stands.0 in let below = stands.1 in
+    let x = c.get.result.now in let i = c.node_id.result in let at = c.node_id.ensures in let is = c.get.ensures in
+    let x_is = comp_read nodes c.args.comp i x at is in let h_is = bits_read nodes c.args.comp i x at is in
+    let p = c.port_of-port.result in
+    let found = port_read sites phases (comps_of nodes) (heres_of nodes) c.requires.sighted c.args.comp above below x.comp x.here x_is h_is c.args.at p c.requires.may c.port_of-port.ensures in let steps = found.0 in
+    steps
+
+pub move_as-value-requires-in-Take-clause-on : goal.move_as-value-requires-in-Take-clause-on
+move_as-value-requires-in-Take-clause-on c =
+    let sites = map site_of c.args.sites.now in let nodes = c.args.nodes.now in let phases = c.args.phases.now in
+    let stands = may_stands sites (state_of phases (comps_of nodes)) c.args.comp c.args.at c.requires.may in let above = stands.0 in let below = stands.1 in
+    let x = c.get.result.now in let i = c.node_id.result in let at = c.node_id.ensures in let is = c.get.ensures in
+    let x_is = comp_read nodes c.args.comp i x at is in let h_is = bits_read nodes c.args.comp i x at is in
+    let p = c.port_of-port.result in
+    let found = port_read sites phases (comps_of nodes) (heres_of nodes) c.requires.sighted c.args.comp above below x.comp x.here x_is h_is c.args.at p c.requires.may c.port_of-port.ensures in let steps = found.0 in
+    c.chan-chan.ensures sites (c.requires.chans c.args.comp p steps.is_port)
+
+pub move_as-value-requires-in-Reply-clause-stays : goal.move_as-value-requires-in-Reply-clause-stays
+move_as-value-requires-in-Reply-clause-stays c =
+    c.requires.stays c.port_of-port.result
+
+pub move_as-value-requires-in-Reply-clause-steps : goal.move_as-value-requires-in-Reply-clause-steps
+move_as-value-requires-in-Reply-clause-steps c =
+    let sites = map site_of c.args.sites.now in let nodes = c.args.nodes.now in let phases = c.args.phases.now in
+    let stands = may_stands sites (state_of phases (comps_of nodes)) c.args.comp c.args.at c.requires.may in let above = stands.0 in let below = stands.1 in
+    let x = c.get.result.now in let i = c.node_id.result in let at = c.node_id.ensures in let is = c.get.ensures in
+    let x_is = comp_read nodes c.args.comp i x at is in let h_is = bits_read nodes c.args.comp i x at is in
+    let p = c.port_of-port.result in
+    let found = port_read sites phases (comps_of nodes) (heres_of nodes) c.requires.sighted c.args.comp above below x.comp x.here x_is h_is c.args.at p c.requires.may c.port_of-port.ensures in let steps = found.0 in
+    steps
+
+pub move_as-value-requires-in-Reply-clause-on : goal.move_as-value-requires-in-Reply-clause-on
+move_as-value-requires-in-Reply-clause-on c =
+    let sites = map site_of c.args.sites.now in let nodes = c.args.nodes.now in let phases = c.args.phases.now in
+    let stands = may_stands sites (state_of phases (comps_of nodes)) c.args.comp c.args.at c.requires.may in let above = stands.0 in let below = stands.1 in
+    let x = c.get.result.now in let i = c.node_id.result in let at = c.node_id.ensures in let is = c.get.ensures in
+    let x_is = comp_read nodes c.args.comp i x at is in let h_is = bits_read nodes c.args.comp i x at is in
+    let p = c.port_of-port.result in
+    let found = port_read sites phases (comps_of nodes) (heres_of nodes) c.requires.sighted c.args.comp above below x.comp x.here x_is h_is c.args.at p c.requires.may c.port_of-port.ensures in let steps = found.0 in
+    c.chan-chan.ensures sites (c.requires.chans c.args.comp p steps.is_port)
+
+pub move_as-value-requires-in-Got-clause-stays : goal.move_as-value-requires-in-Got-clause-stays
+move_as-value-requires-in-Got-clause-stays c =
+    c.requires.stays c.port_of-port.result
+
+pub move_as-value-requires-in-Got-clause-steps : goal.move_as-value-requires-in-Got-clause-steps
+move_as-value-requires-in-Got-clause-steps c =
+    let sites = map site_of c.args.sites.now in let nodes = c.args.nodes.now in let phases = c.args.phases.now in
+    let stands = may_stands sites (state_of phases (comps_of nodes)) c.args.comp c.args.at c.requires.may in let above = stands.0 in let below = stands.1 in
+    let x = c.get.result.now in let i = c.node_id.result in let at = c.node_id.ensures in let is = c.get.ensures in
+    let x_is = comp_read nodes c.args.comp i x at is in let h_is = bits_read nodes c.args.comp i x at is in
+    let p = c.port_of-port.result in
+    let found = port_read sites phases (comps_of nodes) (heres_of nodes) c.requires.sighted c.args.comp above below x.comp x.here x_is h_is c.args.at p c.requires.may c.port_of-port.ensures in let steps = found.0 in
+    steps
+
+pub move_as-value-requires-in-Got-clause-on : goal.move_as-value-requires-in-Got-clause-on
+move_as-value-requires-in-Got-clause-on c =
+    let sites = map site_of c.args.sites.now in let nodes = c.args.nodes.now in let phases = c.args.phases.now in
+    let stands = may_stands sites (state_of phases (comps_of nodes)) c.args.comp c.args.at c.requires.may in let above = stands.0 in let below = stands.1 in
+    let x = c.get.result.now in let i = c.node_id.result in let at = c.node_id.ensures in let is = c.get.ensures in
+    let x_is = comp_read nodes c.args.comp i x at is in let h_is = bits_read nodes c.args.comp i x at is in
+    let p = c.port_of-port.result in
+    let found = port_read sites phases (comps_of nodes) (heres_of nodes) c.requires.sighted c.args.comp above below x.comp x.here x_is h_is c.args.at p c.requires.may c.port_of-port.ensures in let steps = found.0 in
+    c.chan-chan.ensures sites (c.requires.chans c.args.comp p steps.is_port)
+
+pub returns-in-Ask-clause-port : goal.returns-in-Ask-clause-port
+returns-in-Ask-clause-port c =
+    let sites = map site_of c.args.sites.now in let nodes = c.args.nodes.now in let phases = c.args.phases.now in
+    let stands = may_stands sites (state_of phases (comps_of nodes)) c.args.comp c.args.at c.requires.may in let above = stands.0 in let below = stands.1 in
+    let x = c.get.result.now in let i = c.node_id.result in let at = c.node_id.ensures in let is = c.get.ensures in
+    let x_is = comp_read nodes c.args.comp i x at is in let h_is = bits_read nodes c.args.comp i x at is in
+    (port_read sites phases (comps_of nodes) (heres_of nodes) c.requires.sighted c.args.comp above below x.comp x.here x_is h_is c.args.at c.port_of-port.result c.requires.may c.port_of-port.ensures).1
+
+pub returns-in-Take-clause-port : goal.returns-in-Take-clause-port
+returns-in-Take-clause-port c =
+    let sites = map site_of c.args.sites.now in let nodes = c.args.nodes.now in let phases = c.args.phases.now in
+    let stands = may_stands sites (state_of phases (comps_of nodes)) c.args.comp c.args.at c.requires.may in let above = stands.0 in let below = stands.1 in
+    let x = c.get.result.now in let i = c.node_id.result in let at = c.node_id.ensures in let is = c.get.ensures in
+    let x_is = comp_read nodes c.args.comp i x at is in let h_is = bits_read nodes c.args.comp i x at is in
+    (port_read sites phases (comps_of nodes) (heres_of nodes) c.requires.sighted c.args.comp above below x.comp x.here x_is h_is c.args.at c.port_of-port.result c.requires.may c.port_of-port.ensures).1
+
+pub returns-in-Reply-clause-port : goal.returns-in-Reply-clause-port
+returns-in-Reply-clause-port c =
+    let sites = map site_of c.args.sites.now in let nodes = c.args.nodes.now in let phases = c.args.phases.now in
+    let stands = may_stands sites (state_of phases (comps_of nodes)) c.args.comp c.args.at c.requires.may in let above = stands.0 in let below = stands.1 in
+    let x = c.get.result.now in let i = c.node_id.result in let at = c.node_id.ensures in let is = c.get.ensures in
+    let x_is = comp_read nodes c.args.comp i x at is in let h_is = bits_read nodes c.args.comp i x at is in
+    (port_read sites phases (comps_of nodes) (heres_of nodes) c.requires.sighted c.args.comp above below x.comp x.here x_is h_is c.args.at c.port_of-port.result c.requires.may c.port_of-port.ensures).1
+
+pub returns-in-Got-clause-port : goal.returns-in-Got-clause-port
+returns-in-Got-clause-port c =
+    let sites = map site_of c.args.sites.now in let nodes = c.args.nodes.now in let phases = c.args.phases.now in
+    let stands = may_stands sites (state_of phases (comps_of nodes)) c.args.comp c.args.at c.requires.may in let above = stands.0 in let below = stands.1 in
+    let x = c.get.result.now in let i = c.node_id.result in let at = c.node_id.ensures in let is = c.get.ensures in
+    let x_is = comp_read nodes c.args.comp i x at is in let h_is = bits_read nodes c.args.comp i x at is in
+    (port_read sites phases (comps_of nodes) (heres_of nodes) c.requires.sighted c.args.comp above below x.comp x.here x_is h_is c.args.at c.port_of-port.result c.requires.may c.port_of-port.ensures).1
