@@ -80,7 +80,7 @@ impl NodeMove for Asking {
     #[inline(always)]
     fn make(node: &mut Node, port: u32, _rides: Option<Value>) -> (Option<Value>, bool) {
         let (value, waits) = bz_kinds::ask(&mut node.comp, port);
-        let _due = bz_kinds::has_move(&node.comp, port);
+        look_at_moved(node);
         let goes = !waits && can_go(&node.comp, &node.here, port);
         (value, goes)
     }
@@ -100,7 +100,7 @@ impl NodeMove for Taking {
     fn make(node: &mut Node, port: u32, rides: Option<Value>) -> (Option<Value>, bool) {
         node.here.put(port as usize, false);
         let sure = bz_kinds::take(&mut node.comp, port, rides);
-        let _due = bz_kinds::has_move(&node.comp, port);
+        look_at_moved(node);
         let goes = sure || can_go(&node.comp, &node.here, port);
         (rides, goes)
     }
@@ -119,7 +119,7 @@ impl NodeMove for Replying {
     #[inline(always)]
     fn make(node: &mut Node, port: u32, _rides: Option<Value>) -> (Option<Value>, bool) {
         let (value, waits) = bz_kinds::reply(&mut node.comp, port);
-        let _due = bz_kinds::has_move(&node.comp, port);
+        look_at_moved(node);
         let goes = !waits && can_go(&node.comp, &node.here, port);
         (value, goes)
     }
@@ -139,7 +139,7 @@ impl NodeMove for Getting {
     fn make(node: &mut Node, port: u32, rides: Option<Value>) -> (Option<Value>, bool) {
         node.here.put(port as usize, false);
         let sure = bz_kinds::got(&mut node.comp, port, rides);
-        let _due = bz_kinds::has_move(&node.comp, port);
+        look_at_moved(node);
         let goes = sure || can_go(&node.comp, &node.here, port);
         (rides, goes)
     }
@@ -276,6 +276,14 @@ pub(crate) fn look_at(nodes: &NodeRow, end: Option<u32>)
     if let Some(comp) = end {
         let _due = bz_kinds::has_move(&nodes.get(node_id(comp)).comp, 1);
     }
+}
+
+// A look at a component that moved brings what its type says of its moves.
+#[inline(always)]
+fn look_at_moved(node: &Node)
+    ensures { IsTurning node.now.comp }
+{
+    let _due = bz_kinds::has_move(&node.comp, 1);
 }
 
 // What a port may wait for comes there: where a move is due at it, its component can move.
