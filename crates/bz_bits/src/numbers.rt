@@ -1,6 +1,6 @@
 //! The numbers of a component's ports, two bits each, of which the first 64 take no memory of their own.
-ghost use Rattle.std.specs.Prelude.{◌≡◌, ◌≢◌, ◌⊎◌, ◌+◌, ◌-◌, ◌*◌, ◌/◌, ◌%◌, ◌^◌, ◌<◌, ◌≤◌, ◌∷◌, ℕ, length, replicate, slice_index, slice_index_or, slice_set, take, nat_le, if◌then◌else◌, All, IfOk};
-ghost use Rattle.bz_bits.specs.PortWords.{between, no_ports, number_at, number_in, HasOdd, IsEven, IsLowest, NoneOdd};
+ghost use Rattle.std.specs.Prelude.{◌≡◌, ◌≢◌, ◌⊎◌, ◌+◌, ◌-◌, ◌*◌, ◌/◌, ◌%◌, ◌^◌, ◌<◌, ◌≤◌, ◌∷◌, ℕ, suc, length, replicate, slice_index, slice_index_or, slice_set, take, nat_le, if◌then◌else◌, All, IfOk};
+ghost use Rattle.bz_bits.specs.PortWords.{between, no_ports, number_at, number_in, FilledIn, HasOdd, IsEven, IsLowest, NoneOdd};
 
 use crate::word::{NO_PORTS, PortWord, one_place, places};
 use std::alloc::{AllocError, Allocator, Global};
@@ -389,13 +389,55 @@ fn fill(
     ensures filled { (p : ℕ) → number_at (first.new ∷ more.new) p ≡ (if between from to p then number else number_at (first.old ∷ more.old) p) }
     ensures low { IsLowest more.new low.new }
 {
-    for at in from / 64..to.div_ceil(64) {
-        let word = word_at(first, more, at).filled(places(at, from, to), number);
-        store_word(first, more, at, word);
+    if from < to {
+        fill_words(first, more, from, to, number);
     }
     // Of the words in front of the filled ones those before `low` have no odd number still.
     let before = (from / 64).saturating_sub(1).min(more.len());
     *low = lowest_from(more, before.min(*low as usize));
+}
+
+// The first word and the last of those with such ports are filled by a mask, and those between as a whole.
+fn fill_words(
+    first: &mut PortWord,
+    more: &mut [PortWord],
+    from: usize,
+    to: usize,
+    number: u8,
+)
+    requires number { number < 4 }
+    requires some { from < to }
+    requires fits { to ≤ 64 * length (first.old ∷ more.old) }
+    ensures filled { (p : ℕ) → number_at (first.new ∷ more.new) p ≡ (if between from to p then number else number_at (first.old ∷ more.old) p) }
+    ensures before { (k : ℕ) → suc k < from / 64 → slice_index_or more.new k no_ports ≡ slice_index_or more.old k no_ports }
+{
+    let (start, end) = (from / 64, to / 64);
+    fill_word(first, more, start, from, to, number);
+    if start < end {
+        more[start..end - 1].fill(NO_PORTS.filled(u64::MAX, number));
+        if 64 * end < to {
+            fill_word(first, more, end, from, to, number);
+        }
+    }
+}
+
+// Of word `at` the ports from `from` to before `to` get the number.
+fn fill_word(
+    first: &mut PortWord,
+    more: &mut [PortWord],
+    at: usize,
+    from: usize,
+    to: usize,
+    number: u8,
+)
+    requires number { number < 4 }
+    requires some { 64 * at < to }
+    requires held { at < length (first.old ∷ more.old) }
+    ensures filled { FilledIn (first.old ∷ more.old) (first.new ∷ more.new) from to number at (at + 1) }
+    ensures others { (k : ℕ) → suc k ≢ at → slice_index_or more.new k no_ports ≡ slice_index_or more.old k no_ports }
+{
+    let word = word_at(first, more, at).filled(places(at, from, to), number);
+    store_word(first, more, at, word);
 }
 
 #[tactic(auto, using(crate::proofs::Words::set_tail, crate::proofs::Words::set_past))]

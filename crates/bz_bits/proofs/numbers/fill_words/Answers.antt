@@ -1,0 +1,28 @@
+use Rattle.std.proofs.Common.{◌+◌, ◌-◌, ◌/◌, ◌∷◌, arith}
+use borrow.Rule.Slice.PartMut.{put_mid}
+use Rattle.bz_bits.specs.PortWords.{FilledIn}
+use Rattle.bz_bits.proofs.Words.{whole_filled, filled_on, filled_all}
+use Rattle.bz_bits.proofs.numbers.fill_words.Goals as goal
+
+pub returns-then-end-to-clause-filled : goal.returns-then-end-to-clause-filled
+returns-then-end-to-clause-filled c =
+    let from = c.args.from in let to = c.args.to in let start = from / 64 in let end = to / 64 in let s = c.args.number in let some = c.if-start-end.true in
+    let old = c.args.first.now ∷ c.args.more.now in let f = c.fill_word.new.first in let more = c.fill_word.new.more in
+    let mid = f ∷ put_mid start (end - 1 - start) more c.fill.new.self in let new = c.fill_word-then-end-to.new.first ∷ c.fill_word-then-end-to.new.more in
+    let inner : FilledIn (f ∷ more) mid from to s (start + 1) end =
+    whole_filled f c.filled.result more c.fill.new.self from to s start end (omega (arith, some)) (omega (arith, c.requires.fits, c.fill_word.auto.more)) (omega arith) (omega arith)
+    (c.fill.ensures.after (λ y e. e)) c.filled.ensures in
+    filled_all old new from to s start (end + 1) (omega arith) (omega arith)
+    (filled_on old mid new from to s start end (end + 1) (omega (arith, some)) (omega arith)
+    (filled_on old (f ∷ more) mid from to s start (start + 1) end (omega arith) (omega (arith, some)) c.fill_word.ensures.filled inner) c.fill_word-then-end-to.ensures.filled)
+
+pub returns-else-end-to-clause-filled : goal.returns-else-end-to-clause-filled
+returns-else-end-to-clause-filled c =
+    let from = c.args.from in let to = c.args.to in let start = from / 64 in let end = to / 64 in let s = c.args.number in let some = c.if-start-end.true in
+    let old = c.args.first.now ∷ c.args.more.now in let f = c.fill_word.new.first in let more = c.fill_word.new.more in
+    let new = f ∷ put_mid start (end - 1 - start) more c.fill.new.self in
+    let inner : FilledIn (f ∷ more) new from to s (start + 1) end =
+    whole_filled f c.filled.result more c.fill.new.self from to s start end (omega (arith, some)) (omega (arith, c.requires.fits, c.fill_word.auto.more)) (omega arith) (omega arith)
+    (c.fill.ensures.after (λ y e. e)) c.filled.ensures in
+    filled_all old new from to s start end (omega arith) (omega (arith, c.if-end-to.false))
+    (filled_on old (f ∷ more) new from to s start (start + 1) end (omega arith) (omega (arith, some)) c.fill_word.ensures.filled inner)
