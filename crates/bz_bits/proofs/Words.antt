@@ -162,20 +162,43 @@ pub none_put : (ws : List PortWord) (low at n : ℕ) (w : PortWord) → IsLowest
 none_put ws low at n w is up upto k lt =
     ap (λ (v : PortWord). v.due) (get_or-set_other ws at k w no_ports (λ e. omega (arith, e, lt, up))) ∙ is.even k (omega (arith, lt, upto))
 
--- a word with an odd number is put at the lowest, or behind it
-pub lowest_put : (ws : List PortWord) (low at : ℕ) (w : PortWord) → IsLowest ws low → low ≤ at → at < length ws → w.due ≢ 0 → w.due < 2 ^ 64 → IsLowest (set ws at w) low
-lowest_put ws low at w is le lt some small = record {
-  few = omega (arith, is.few, length-set ws at w);
-  even = none_put ws low at low w is le (omega arith);
-  stops = λ below z. elim (cases_eq low at) [
-    | inl e ↦ some (sym (ap (λ (k : ℕ). (get_or (set ws at w) k no_ports).due) e ∙ ap (λ (v : PortWord). v.due) (get_or-set_same ws at w no_ports lt)) ∙ z)
-    | inr f ↦ is.stops (omega (arith, below, length-set ws at w)) (ap (λ (v : PortWord). v.due) (sym (get_or-set_other ws at low w no_ports f)) ∙ z)
-  ];
-  fits = elim (cases_eq low at) [
-    | inl e ↦ omega (arith, small, ap (λ (k : ℕ). (get_or (set ws at w) k no_ports).due) e, ap (λ (v : PortWord). v.due) (get_or-set_same ws at w no_ports lt))
-    | inr f ↦ omega (arith, is.fits, ap (λ (v : PortWord). v.due) (get_or-set_other ws at low w no_ports f))
-  ];
-}
+-- a word with an odd number is put: the lowest is that one, or the one that was
+pub lowest_put : (ws : List PortWord) (low at : ℕ) (w : PortWord) → IsLowest ws low → at < length ws → w.due ≢ 0 → w.due < 2 ^ 64 → IsLowest (set ws at w) (min at low)
+lowest_put ws low at w is lt some small =
+    let n = min at low in let new = λ (k : ℕ). (get_or (set ws at w) k no_ports).due in
+    let there : new at ≡ w.due = ap (λ (v : PortWord). v.due) (get_or-set_same ws at w no_ports lt) in
+    let same = λ (k : ℕ) (other : k ≢ at). ap (λ (v : PortWord). v.due) (get_or-set_other ws at k w no_ports other) in
+    elim (cases_lt low at) [
+      | inl below ↦ let e : n ≡ low = omega (arith, below) in let other : low ≢ at = λ f. omega (arith, f, below) in
+          record {
+            few = omega (arith, is.few, length-set ws at w);
+            even = none_put ws low at n w is (omega arith) (omega arith);
+            stops = λ held z. is.stops (omega (arith, held, e, length-set ws at w)) (sym (ap new e ∙ same low other) ∙ z);
+            fits = let l = ap new e ∙ same low other in omega (arith, is.fits, l);
+          }
+      | inr ge ↦ let e : n ≡ at = omega (arith, ge) in
+          record {
+            few = omega (arith, is.few, length-set ws at w);
+            even = none_put ws low at n w is (omega arith) (omega arith);
+            stops = λ held z. some (sym (ap new e ∙ there) ∙ z);
+            fits = let l = ap new e ∙ there in omega (arith, small, l);
+          }
+    ]
+
+-- a word without one is put, and not at the lowest
+pub lowest_left : (ws : List PortWord) (low at : ℕ) (w : PortWord) → IsLowest ws low → at < length ws → w.due ≡ 0 → at ≢ low → IsLowest (set ws at w) low
+lowest_left ws low at w is lt none other =
+    let same = λ (k : ℕ) (ne : k ≢ at). ap (λ (v : PortWord). v.due) (get_or-set_other ws at k w no_ports ne) in
+    let kept = same low (λ e. other (sym e)) in
+    record {
+      few = omega (arith, is.few, length-set ws at w);
+      even = λ k below. elim (cases_eq k at) [
+        | inl e ↦ ap (λ (j : ℕ). (get_or (set ws at w) j no_ports).due) e ∙ ap (λ (v : PortWord). v.due) (get_or-set_same ws at w no_ports lt) ∙ none
+        | inr f ↦ same k f ∙ is.even k below
+      ];
+      stops = λ held z. is.stops (omega (arith, held, length-set ws at w)) (sym kept ∙ z);
+      fits = omega (arith, is.fits, kept);
+    }
 
 -- where all are without ports
 pub lowest_none : (m : ℕ) → m < 2 ^ 32 → IsLowest (replicate m no_ports) m
@@ -470,6 +493,26 @@ word_filled ws from to at s mask w in' masks filled p =
           ∙ ap (λ (c : Bool). if b && c then s else number_at ws p) (sym here)
       | inr f ↦ ap (λ (v : PortWord). number_in v i) (get_or-set_other ws at (p / 64) w no_ports f)
           ∙ sym (ap (λ (c : Bool). if b && c then s else number_at ws p) (only at (p / 64) f) ∙ and_no b s (number_at ws p))
+    ]
+
+-- the number at one place of it is changed
+pub one_changed : (g : ℕ → ℕ) (ws : List PortWord) (w : PortWord) (k : ℕ) → k / 64 < length ws
+    → ((i : ℕ) → i < 64 → number_in w i ≡ (if between (k % 64) (k % 64 + 1) i then g (number_in (get_or ws (k / 64) no_ports) i) else number_in (get_or ws (k / 64) no_ports) i))
+    → (p : ℕ) → number_at (set ws (k / 64) w) p ≡ (if between k (k + 1) p then g (number_at ws k) else number_at ws p)
+one_changed g ws w k held changed p =
+    let at = k / 64 in let m = k % 64 in let i = p % 64 in let old = get_or ws at no_ports in
+    let there = get_or-set_same ws at w no_ports held in
+    elim (cases_eq p k) [
+      | inl e ↦ let here : between m (m + 1) m ≡ true = grind (arith) in let yes : between k (k + 1) p ≡ true = grind (arith, e) in
+          ap (number_at (set ws at w)) e ∙ ap (λ (v : PortWord). number_in v m) there ∙ changed m (omega arith)
+          ∙ ap (λ (b : Bool). if b then g (number_in old m) else number_in old m) here
+          ∙ sym (ap (λ (b : Bool). if b then g (number_at ws k) else number_at ws p) yes)
+      | inr f ↦ sym (ap (λ (b : Bool). if b then g (number_at ws k) else number_at ws p) (only k p f) ∙ sym (elim (cases_eq (p / 64) at) [
+          | inl e ↦ ap (λ (q : ℕ). number_in (get_or (set ws at w) q no_ports) i) e ∙ ap (λ (v : PortWord). number_in v i) there ∙ changed i (omega arith)
+              ∙ ap (λ (b : Bool). if b then g (number_in old i) else number_in old i) (only m i (λ d. f (omega (arith, d, e))))
+              ∙ sym (ap (λ (q : ℕ). number_in (get_or ws q no_ports) i) e)
+          | inr ne ↦ ap (λ (v : PortWord). number_in v i) (get_or-set_other ws at (p / 64) w no_ports ne)
+        ]))
     ]
 
 -- or whole words are

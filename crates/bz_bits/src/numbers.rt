@@ -186,13 +186,11 @@ impl<A: Allocator + Copy> PortNumbers<A> {
     #[cold]
     #[inline(never)]
     fn turn_far(&mut self, port: usize)
-        requires far { 64 ≤ port }
+        requires held { port < length self.old }
         ensures turned { self.new ≡ slice_set self.old port ((slice_index self.old port + 2) % 4) }
         ensures small { slice_index self.old port < 4 }
     {
-        let _first = &self.first;
-        let number = self.get_far(port);
-        self.set_far(port, (number % 4 + 2) % 4);
+        turn_one(&mut self.first, &mut self.more, &mut self.low, port);
     }
 
     /// Takes the number of a port from 3.
@@ -212,12 +210,10 @@ impl<A: Allocator + Copy> PortNumbers<A> {
     #[cold]
     #[inline(never)]
     fn flip_far(&mut self, port: usize)
-        requires far { 64 ≤ port }
+        requires { port < length self.old }
         ensures { self.new ≡ slice_set self.old port (3 - slice_index self.old port) }
     {
-        let _first = &self.first;
-        let number = self.get_far(port);
-        self.set_far(port, 3 - number % 4);
+        flip_one(&mut self.first, &mut self.more, &mut self.low, port);
     }
 
     /// Takes the number of a port from 3, and makes the even number of another port odd.
@@ -334,17 +330,18 @@ fn put_word(first: &mut PortWord, more: &mut [PortWord], low: &mut u32, at: usiz
     }
 }
 
-#[inline(never)]
+#[inline(always)]
 fn put_far(more: &mut [PortWord], low: &mut u32, at: usize, word: PortWord)
     requires held { at < length more.old }
     requires low { IsLowest more.old low.old }
     ensures put { more.new ≡ slice_set more.old at word }
     ensures low { IsLowest more.new low.new }
 {
-    let lowest = *low as usize;
     more[at] = word;
-    if at < lowest || word.due == 0 {
-        *low = lowest_from(more, at.min(lowest));
+    if word.due != 0 {
+        *low = (at as u32).min(*low);
+    } else if at == *low as usize {
+        *low = lowest_from(more, at);
     }
 }
 
@@ -375,6 +372,30 @@ fn fill_one(first: &mut PortWord, more: &mut [PortWord], low: &mut u32, port: us
     put_word(first, more, low, at, word);
 }
 
+#[inline(always)]
+fn turn_one(first: &mut PortWord, more: &mut [PortWord], low: &mut u32, port: usize)
+    requires fits { port < 64 * length (first.old ∷ more.old) }
+    requires low { IsLowest more.old low.old }
+    ensures turned { (p : ℕ) → number_at (first.new ∷ more.new) p ≡ (if between port (port + 1) p then (number_at (first.old ∷ more.old) port + 2) % 4 else number_at (first.old ∷ more.old) p) }
+    ensures low { IsLowest more.new low.new }
+{
+    let at = port / 64;
+    let word = word_at(first, more, at).turned(port % 64);
+    put_word(first, more, low, at, word);
+}
+
+#[inline(always)]
+fn flip_one(first: &mut PortWord, more: &mut [PortWord], low: &mut u32, port: usize)
+    requires fits { port < 64 * length (first.old ∷ more.old) }
+    requires low { IsLowest more.old low.old }
+    ensures flipped { (p : ℕ) → number_at (first.new ∷ more.new) p ≡ (if between port (port + 1) p then 3 - number_at (first.old ∷ more.old) port else number_at (first.old ∷ more.old) p) }
+    ensures low { IsLowest more.new low.new }
+{
+    let at = port / 64;
+    let word = word_at(first, more, at).flipped(port % 64);
+    put_word(first, more, low, at, word);
+}
+
 fn fill(
     first: &mut PortWord,
     more: &mut [PortWord],
@@ -398,13 +419,7 @@ fn fill(
 }
 
 // The first word and the last of those with such ports are filled by a mask, and those between as a whole.
-fn fill_words(
-    first: &mut PortWord,
-    more: &mut [PortWord],
-    from: usize,
-    to: usize,
-    number: u8,
-)
+fn fill_words(first: &mut PortWord, more: &mut [PortWord], from: usize, to: usize, number: u8)
     requires number { number < 4 }
     requires some { from < to }
     requires fits { to ≤ 64 * length (first.old ∷ more.old) }
