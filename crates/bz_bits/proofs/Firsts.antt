@@ -1,25 +1,16 @@
 -- The first word that has a bit.
-use Rattle.std.proofs.Common.{◌≡◌, ◌≢◌, ℕ, zero, suc, ◌+◌, ◌-◌, ◌<◌, ◌≤◌, List, ◌∷◌, length, get_or, take, drop, sym, ap, ◌∙◌, inl, inr, arith, min}
+use Rattle.std.proofs.Common.{◌≡◌, ◌≢◌, ℕ, zero, suc, ◌+◌, ◌-◌, ◌<◌, ◌≤◌, List, ◌∷◌, length, get_or, take, drop, sym, ap, ◌∙◌, arith, min}
 use Rattle.std.specs.List.{All}
 use Rattle.std.proofs.lemmas.List.Elements.{All-get_or}
 use Rattle.std.proofs.lemmas.List.{get_or-take, get_or-drop, length-take, length-drop}
-use Rattle.std.proofs.lemmas.Bool.{cases_lt}
-use Rattle.bz_bits.specs.Row.{IsFirst}
 
 -- of the words from `start` on the first m are 0
 module _ (ws : List ℕ) (start m : ℕ) (within : m ≤ length (drop start ws)) (all : All (λ (w : ℕ). w ≡ 0) (take m (drop start ws))) where
-  pub zeros_from : (k : ℕ) → start ≤ k → k < start + m → get_or ws k 0 ≡ 0
+  zeros_from : (k : ℕ) → start ≤ k → k < start + m → get_or ws k 0 ≡ 0
   zeros_from k le lt =
       let rest = drop start ws in let j = k - start in let jm : j < m = omega (arith, le, lt) in let there : start + j ≡ k = omega (arith, le) in
       ap (λ (i : ℕ). get_or ws i 0) (sym there) ∙ sym (get_or-take m rest j 0 jm ∙ get_or-drop start ws j 0)
       ∙ All-get_or (λ (w : ℕ). w ≡ 0) (take m rest) j 0 (omega (arith, jm, within, length-take m rest)) all
-
-  pub first_from : start ≤ length ws → ((k : ℕ) → k < start → get_or ws k 0 ≡ 0) → (m < length (drop start ws) → get_or (drop start ws) m 0 ≢ 0) → IsFirst ws (start + m)
-  first_from in' before some = record {
-    zeros = λ k lt. elim (cases_lt k start) [ inl below ↦ before k below | inr past ↦ zeros_from k past lt ];
-    within = omega (arith, within, in', length-drop start ws);
-    stops = λ lt z. some (omega (arith, lt, length-drop start ws)) (get_or-drop start ws m 0 ∙ z);
-  }
 
 -- a word behind the first of all
 pub zero_in : (f : ℕ) (rest : List ℕ) (k : ℕ) → 0 < k → get_or rest (k - 1) 0 ≡ 0 → get_or (f ∷ rest) k 0 ≡ 0

@@ -3,7 +3,7 @@ use Rattle.std.proofs.Common.{◌≡◌, ◌≢◌, ◌⊎◌, ℕ, zero, suc, �
 use Rattle.std.specs.Prelude.{nat_le, nat_lt, if◌then◌else◌}
 use Rattle.std.specs.Int.{bit_at, from_bool, trailing_zeros, w64}
 use Rattle.std.proofs.lemmas.Nat.{one_shl}
-use Rattle.std.proofs.lemmas.Nat.Bits.{bit_at-trailing_zeros, bit_at-zero, bit_at_ones, bit_at-lt, bit_at-pow_same, bit_at-pow_other}
+use Rattle.std.proofs.lemmas.Nat.Bits.{bit_at-trailing_zeros, bit_at-zero, bit_at-lt, bit_at-pow_same, bit_at-pow_other}
 use Rattle.std.specs.List.{All}
 use Rattle.std.proofs.lemmas.List.Elements.{All-get_or}
 use Rattle.std.proofs.lemmas.List.{get_or-take, get_or-drop, length-take, length-drop, ext_get_or, length-set, length-replicate, get_or-replicate, get_or-set_same, get_or-set_other, get_or_past, get_or_append_left, get_or-append_right}
@@ -537,7 +537,7 @@ words_filled ws vs from to s a b word each whole low high p =
     ]
 
 -- those from place a + 1 to before b, of which the first word of all is none
-put_at : (f word : PortWord) (rest ys : List PortWord) (a b : ℕ) → a < b → b ≤ suc (length rest) → ys ≡ replicate (b - 1 - a) word
+pub put_at : (f word : PortWord) (rest ys : List PortWord) (a b : ℕ) → a < b → b ≤ suc (length rest) → ys ≡ replicate (b - 1 - a) word
     → (j : ℕ) → get_or (f ∷ put_mid a (b - 1 - a) rest ys) j no_ports ≡ (if between (a + 1) b j then word else get_or (f ∷ rest) j no_ports)
 put_at f word rest ys a b some held same zero =
     let no : between (a + 1) b 0 ≡ false = grind (arith) in sym (ap (λ (c : Bool). if c then word else f) no)
@@ -559,14 +559,23 @@ put_at f word rest ys a b some held same (suc j) =
         ]
     ]
 
+mid_long : (rest : List PortWord) (a b : ℕ) → a < b → b ≤ suc (length rest) → length (take (b - 1 - a) (drop a rest)) ≡ b - 1 - a
+mid_long rest a b some held = length-take (b - 1 - a) (drop a rest) ∙ omega (arith, some, held, length-drop a rest)
+
 pub whole_filled : (f word : PortWord) (rest ys : List PortWord) (from to s a b : ℕ) → a < b → b ≤ suc (length rest) → from ≤ 64 * (a + 1) → 64 * b ≤ to
-    → ys ≡ replicate (length (take (b - 1 - a) (drop a rest))) word → ((i : ℕ) → i < 64 → number_in word i ≡ (if bit_at (2 ^ 64 - 1) i == 1 then s else number_in no_ports i))
+    → ys ≡ replicate (length (take (b - 1 - a) (drop a rest))) word → ((i : ℕ) → i < 64 → number_in word i ≡ s)
     → FilledIn (f ∷ rest) (f ∷ put_mid a (b - 1 - a) rest ys) from to s (a + 1) b
 whole_filled f word rest ys from to s a b some held low high same whole =
-    let long : length (take (b - 1 - a) (drop a rest)) ≡ b - 1 - a = length-take (b - 1 - a) (drop a rest) ∙ omega (arith, some, held, length-drop a rest) in
     words_filled (f ∷ rest) (f ∷ put_mid a (b - 1 - a) rest ys) from to s (a + 1) b word
-    (put_at f word rest ys a b some held (same ∙ ap (λ (n : ℕ). replicate n word) long))
-    (λ i lt. whole i lt ∙ ap (λ (x : ℕ). if x == 1 then s else number_in no_ports i) (bit_at_ones 64 i lt)) low high
+    (put_at f word rest ys a b some held (same ∙ ap (λ (n : ℕ). replicate n word) (mid_long rest a b some held))) whole low high
+
+-- of these no port is due, if none of the word is
+pub whole_even : (f word : PortWord) (rest ys : List PortWord) (a b : ℕ) → a < b → b ≤ suc (length rest)
+    → ys ≡ replicate (length (take (b - 1 - a) (drop a rest))) word → word.due ≡ 0 → (k : ℕ) → a ≤ k → suc k < b → (get_or (put_mid a (b - 1 - a) rest ys) k no_ports).due ≡ 0
+whole_even f word rest ys a b some held same even k le lt =
+    let yes : between (a + 1) b (suc k) ≡ true = grind (arith, le, lt) in
+    ap (λ (w : PortWord). w.due) (put_at f word rest ys a b some held (same ∙ ap (λ (n : ℕ). replicate n word) (mid_long rest a b some held)) (suc k)
+    ∙ ap (λ (c : Bool). if c then word else get_or rest k no_ports) yes) ∙ even
 
 -- then those that follow
 filled_twice : (out c d : Bool) (s x : ℕ) → (if out && c then s else (if out && d then s else x)) ≡ (if out && (d || c) then s else x)

@@ -1,5 +1,5 @@
 -- A row of bits in words of 64.
-use Rattle.std.specs.Prelude.{◌≡◌, ◌≢◌, ℕ, ◌+◌, ◌*◌, ◌/◌, ◌%◌, ◌^◌, ◌<◌, ◌≤◌, Bool, true, false, ◌==◌, List, map, length, slice_index_or, Option, Some, None}
+use Rattle.std.specs.Prelude.{◌≡◌, ℕ, ◌+◌, ◌*◌, ◌/◌, ◌%◌, ◌^◌, ◌<◌, ◌≤◌, Bool, true, false, ◌==◌, List, map, length, slice_index_or, Option, Some, None}
 use Rattle.std.specs.List.{range_with_len}
 use Rattle.std.specs.Int.{bit_at}
 
@@ -18,12 +18,6 @@ pub record IsRow (words : List ℕ) (n : ℕ) : Type 0 where
   pub tight : 64 * length words < n + 64
   pub clear : (k : ℕ) → n ≤ k → bit_of words k ≡ 0
   pub words_fit : (i : ℕ) → slice_index_or words i 0 < 2 ^ 64
-
--- word n of these is the first that isn't 0, or all are 0 and n is how many there are
-pub record IsFirst (words : List ℕ) (n : ℕ) : Type 0 where
-  pub zeros : (k : ℕ) → k < n → slice_index_or words k 0 ≡ 0
-  pub within : n ≤ length words
-  pub stops : n < length words → slice_index_or words n 0 ≢ 0
 
 -- the first 1 at or above a place
 abbrev pub IsNext : List Bool → ℕ → Option ℕ → Type 0

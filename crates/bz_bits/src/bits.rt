@@ -1,7 +1,7 @@
 //! A bit for each port, of which the first 64 take no memory of their own.
 ghost use Rattle.std.specs.Prelude.{◌≡◌, ◌≢◌, ◌==◌, ◌+◌, ◌-◌, ◌*◌, ◌/◌, ◌%◌, ◌<◌, ◌≤◌, ◌∷◌, ℕ, Bool, length, slice_index_or, slice_set, take, if◌then◌else◌, All, IfOk};
 ghost use Rattle.std.specs.Int.{from_bool};
-ghost use Rattle.bz_bits.specs.Row.{bit_of, IsFirst};
+ghost use Rattle.bz_bits.specs.Row.{bit_of};
 
 use crate::word::{one_place, with};
 use std::alloc::{AllocError, Allocator, Global};
@@ -12,19 +12,14 @@ use std::marker::Model;
 pub struct PortBits<A: Allocator + Copy = Global> {
     first: u64,
     more: Vec<u64, A>,
-    // The first word of `more` that has a bit; past the last word where there is none.
-    low: usize,
 }
 
 impl<A: Allocator + Copy> Model for PortBits<A> {
     ghost use Rattle.std.specs.Prelude.{List, ℕ, ◌∷◌};
-    ghost use Rattle.bz_bits.specs.Row.{IsFirst};
 
     ghost Value = { List ℕ };
 
     ghost view = { λ p. p.first ∷ p.more.items };
-
-    ghost invariant = { λ p. IsFirst p.more.items p.low };
 }
 
 impl<A: Allocator + Copy> PortBits<A> {
@@ -34,13 +29,8 @@ impl<A: Allocator + Copy> PortBits<A> {
         ensures words { IfOk result (λ p. length p ≡ (count - 1) / 64 + 1) }
         ensures none { IfOk result (λ p. (k : ℕ) → bit_of p k ≡ 0) }
     {
-        let low = count.saturating_sub(1) / 64;
-        let more = Vec::from_elem(alloc, 0u64, low)?;
-        Ok(PortBits {
-            first: 0,
-            more,
-            low,
-        })
+        let more = Vec::from_elem(alloc, 0u64, count.saturating_sub(1) / 64)?;
+        Ok(PortBits { first: 0, more })
     }
 
     /// The same bits.
@@ -51,7 +41,6 @@ impl<A: Allocator + Copy> PortBits<A> {
         Ok(PortBits {
             first: self.first,
             more,
-            low: self.low,
         })
     }
 
@@ -70,24 +59,7 @@ impl<A: Allocator + Copy> PortBits<A> {
     }
 
     /// The first word from `at` on that has a bit; past the last word where there is none.
-    #[inline(always)]
     pub fn next_one(&self, at: usize) -> usize
-        requires { 0 < at }
-        ensures from { at ≤ result }
-        ensures passed { (k : ℕ) → at ≤ k → k < result → slice_index_or self.now k 0 ≡ 0 }
-        ensures stops { result < length self.now → slice_index_or self.now result 0 ≢ 0 }
-    {
-        let lowest = self.low + 1;
-        if at <= lowest {
-            return lowest;
-        }
-        self.next_beyond(at)
-    }
-
-    // The same behind the first of all such words.
-    #[cold]
-    #[inline(never)]
-    fn next_beyond(&self, at: usize) -> usize
         requires { 0 < at }
         ensures from { at ≤ result }
         ensures passed { (k : ℕ) → at ≤ k → k < result → slice_index_or self.now k 0 ≡ 0 }
@@ -126,8 +98,18 @@ impl<A: Allocator + Copy> PortBits<A> {
             one_place(port % 64),
             bit,
         );
-        put_bits(&mut self.first, &mut self.more, &mut self.low, at, word);
+        put_bits(&mut self.first, &mut self.more, at, word);
     }
+}
+
+// How many words come before the first that has a bit.
+fn count_zeros(words: &[u64]) -> usize
+    ensures within { result ≤ length words.now }
+    ensures zeros { All (λ w. w ≡ 0) (take result words.now) }
+    ensures stops { result < length words.now → slice_index_or words.now result 0 ≢ 0 }
+{
+    let found = words.iter().position(|word| *word != 0);
+    found.unwrap_or(words.len())
 }
 
 // The word at a place, 0 where there is no such word.
@@ -143,39 +125,13 @@ fn bits_at(first: &u64, more: &[u64], at: usize) -> u64
     }
 }
 
-// How many words come before the first that has a bit.
-fn count_zeros(words: &[u64]) -> usize
-    ensures within { result ≤ length words.now }
-    ensures zeros { All (λ w. w ≡ 0) (take result words.now) }
-    ensures stops { result < length words.now → slice_index_or words.now result 0 ≢ 0 }
-{
-    let found = words.iter().position(|word| *word != 0);
-    found.unwrap_or(words.len())
-}
-
 #[tactic(auto, using(crate::proofs::Words::set_tail, crate::proofs::Words::set_past))]
-fn put_bits(first: &mut u64, more: &mut [u64], low: &mut usize, at: usize, word: u64)
-    requires { IsFirst more.old low.old }
-    ensures put { first.new ∷ more.new ≡ slice_set (first.old ∷ more.old) at word }
-    ensures low { IsFirst more.new low.new }
+fn put_bits(first: &mut u64, more: &mut [u64], at: usize, word: u64)
+    ensures { first.new ∷ more.new ≡ slice_set (first.old ∷ more.old) at word }
 {
     if at == 0 {
         *first = word;
     } else if at <= more.len() {
-        put_more(more, low, at - 1, word);
-    }
-}
-
-fn put_more(more: &mut [u64], low: &mut usize, at: usize, word: u64)
-    requires held { at < length more.old }
-    requires low { IsFirst more.old low.old }
-    ensures put { more.new ≡ slice_set more.old at word }
-    ensures low { IsFirst more.new low.new }
-{
-    more[at] = word;
-    if word != 0 {
-        *low = at.min(*low);
-    } else if at == *low {
-        *low = at + count_zeros(&more[at..]);
+        more[at - 1] = word;
     }
 }

@@ -1,5 +1,6 @@
 //! The numbers of a component's ports, two bits each, of which the first 64 take no memory of their own.
-ghost use Rattle.std.specs.Prelude.{◌≡◌, ◌≢◌, ◌⊎◌, ◌+◌, ◌-◌, ◌*◌, ◌/◌, ◌%◌, ◌^◌, ◌<◌, ◌≤◌, ◌∷◌, ℕ, suc, length, replicate, slice_index, slice_index_or, slice_set, take, nat_le, if◌then◌else◌, All, IfOk};
+ghost use Rattle.std.specs.Prelude.{◌≡◌, ◌≢◌, ◌⊎◌, ◌+◌, ◌-◌, ◌*◌, ◌/◌, ◌%◌, ◌^◌, ◌<◌, ◌≤◌, ◌∷◌, ℕ, suc, false, length, replicate, slice_index, slice_index_or, slice_set, take, nat_le, if◌then◌else◌, All, IfOk};
+ghost use Rattle.std.specs.Int.{bit_at, from_bool};
 ghost use Rattle.bz_bits.specs.PortWords.{between, no_ports, number_at, number_in, FilledIn, HasOdd, IsEven, IsLowest, NoneOdd};
 
 use crate::word::{NO_PORTS, PortWord, one_place, places};
@@ -413,9 +414,14 @@ fn fill(
     if from < to {
         fill_words(first, more, from, to, number);
     }
-    // Of the words in front of the filled ones those before `low` have no odd number still.
-    let before = (from / 64).saturating_sub(1).min(more.len());
-    *low = lowest_from(more, before.min(*low as usize));
+    // From the first word on all that were filled with an even number have no odd one, or else those in front of `low` have none.
+    let start = if number % 2 == 0 && from < 64 {
+        (to / 64).saturating_sub(1)
+    } else {
+        let before = (from / 64).saturating_sub(1).min(more.len());
+        before.min(*low as usize)
+    };
+    *low = lowest_from(more, start);
 }
 
 // The first word and the last of those with such ports are filled by a mask, and those between as a whole.
@@ -425,15 +431,35 @@ fn fill_words(first: &mut PortWord, more: &mut [PortWord], from: usize, to: usiz
     requires fits { to ≤ 64 * length (first.old ∷ more.old) }
     ensures filled { (p : ℕ) → number_at (first.new ∷ more.new) p ≡ (if between from to p then number else number_at (first.old ∷ more.old) p) }
     ensures before { (k : ℕ) → suc k < from / 64 → slice_index_or more.new k no_ports ≡ slice_index_or more.old k no_ports }
+    ensures even { number % 2 ≡ 0 → (k : ℕ) → from / 64 ≤ k → suc k < to / 64 → (slice_index_or more.new k no_ports).due ≡ 0 }
 {
     let (start, end) = (from / 64, to / 64);
     fill_word(first, more, start, from, to, number);
     if start < end {
-        more[start..end - 1].fill(NO_PORTS.filled(u64::MAX, number));
+        more[start..end - 1].fill(whole_word(number));
         if 64 * end < to {
             fill_word(first, more, end, from, to, number);
         }
     }
+}
+
+// A word of 64 ports with the same number.
+fn whole_word(number: u8) -> PortWord
+    requires number { number < 4 }
+    ensures each { (i : ℕ) → i < 64 → number_in result i ≡ number }
+    ensures even { number % 2 ≡ 0 → result.due ≡ 0 }
+{
+    PortWord {
+        due: all_or_none(number % 2 == 1),
+        opened: all_or_none(number / 2 == 1),
+    }
+}
+
+fn all_or_none(bit: bool) -> u64
+    ensures each { (i : ℕ) → i < 64 → bit_at result i ≡ from_bool bit }
+    ensures none { bit ≡ false → result ≡ 0 }
+{
+    if bit { u64::MAX } else { 0 }
 }
 
 // Of word `at` the ports from `from` to before `to` get the number.

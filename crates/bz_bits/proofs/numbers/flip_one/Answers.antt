@@ -1,4 +1,4 @@
-use Rattle.std.proofs.Common.{◌∷◌, ◌+◌, ◌-◌, ◌%◌, ◌/◌, ℕ, List, ap, ◌∙◌, arith}
+use Rattle.std.proofs.Common.{◌∷◌, ◌+◌, ◌-◌, ◌%◌, ℕ, List, ap, ◌∙◌, arith}
 use Rattle.std.specs.Prelude.{if◌then◌else◌}
 use Rattle.bz_bits.specs.declared.word.PortWord.{PortWord}
 use Rattle.bz_bits.specs.PortWords.{between, number_in, number_at}

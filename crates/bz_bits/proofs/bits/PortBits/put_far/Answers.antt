@@ -18,7 +18,7 @@ returns-clause-here g c =
     let len : length c.put_bits.new.more ≡ v.len = c.put_bits.auto.more ∙ ap length c.deref_mut.ensures.value ∙ sym v.ok.0 in
     ap (λ (l : List ℕ). bit_of (c.put_bits.new.first ∷ l) port) (with_items_is v c.put_bits.new.more len)
     ∙ put_here ws (c.put_bits.new.first ∷ c.put_bits.new.more) port c.with-word.result (from_bool c.args.bit)
-    (c.put_bits.ensures.put ∙ ap (λ (l : List ℕ). set (f ∷ l) (port / 64) c.with-word.result) c.deref_mut.ensures.value)
+    (c.put_bits.ensures ∙ ap (λ (l : List ℕ). set (f ∷ l) (port / 64) c.with-word.result) c.deref_mut.ensures.value)
     (let view = ap length c.self.view_is in let r = c.requires in omega (arith, view, r))
     (mask_with c.with-word.result c.bits_at.result c.one_place.result (from_bool c.args.bit) (port % 64) c.with-word.ensures c.one_place.ensures (get_or ws (port / 64) 0)
     (c.bits_at.ensures ∙ ap (λ (l : List ℕ). get_or (f ∷ l) (port / 64) 0) c.deref.ensures.value))
@@ -29,7 +29,7 @@ returns-clause-others g c k ne =
     let len : length c.put_bits.new.more ≡ v.len = c.put_bits.auto.more ∙ ap length c.deref_mut.ensures.value ∙ sym v.ok.0 in
     ap (λ (l : List ℕ). bit_of (c.put_bits.new.first ∷ l) k) (with_items_is v c.put_bits.new.more len)
     ∙ put_other ws (c.put_bits.new.first ∷ c.put_bits.new.more) port c.with-word.result (from_bool c.args.bit)
-    (c.put_bits.ensures.put ∙ ap (λ (l : List ℕ). set (f ∷ l) (port / 64) c.with-word.result) c.deref_mut.ensures.value)
+    (c.put_bits.ensures ∙ ap (λ (l : List ℕ). set (f ∷ l) (port / 64) c.with-word.result) c.deref_mut.ensures.value)
     (let view = ap length c.self.view_is in let r = c.requires in omega (arith, view, r))
     (mask_with c.with-word.result c.bits_at.result c.one_place.result (from_bool c.args.bit) (port % 64) c.with-word.ensures c.one_place.ensures (get_or ws (port / 64) 0)
     (c.bits_at.ensures ∙ ap (λ (l : List ℕ). get_or (f ∷ l) (port / 64) 0) c.deref.ensures.value)) k ne

@@ -1,7 +1,7 @@
 use Rattle.std.proofs.Common.{◌≡◌, ◌+◌, ◌-◌, ℕ, List, sym, ap, ◌∙◌, arith, length, drop, take, get_or}
 use Rattle.std.proofs.lemmas.List.{length-drop, take_all}
 use Rattle.bz_bits.proofs.Firsts.{zeros_behind, stops_behind}
-use Rattle.bz_bits.proofs.bits.PortBits.next_beyond.Goals as goal
+use Rattle.bz_bits.proofs.bits.PortBits.next_one.Goals as goal
 
 pub returns-clause-passed : goal.returns-clause-passed
 returns-clause-passed g c k le lt =
