@@ -3,3 +3,4 @@ pub mod States
 pub mod Scan
 pub mod Search
 pub mod Words
+pub mod Firsts

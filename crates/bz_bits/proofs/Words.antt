@@ -1,18 +1,18 @@
 -- Words of ports: what a mask and one bit leave of them.
-use Rattle.std.proofs.Common.{◌≡◌, ◌≢◌, ◌⊎◌, ℕ, zero, suc, ◌+◌, ◌-◌, ◌*◌, ◌/◌, ◌%◌, ◌^◌, ◌<◌, ◌≤◌, Bool, true, false, not, ◌&&◌, ◌==◌, List, [], ◌∷◌, length, get_or, set, take, drop, replicate, refl, sym, ap, ◌∙◌, subst, inl, inr, arith, min, max}
-use Rattle.std.specs.Prelude.{nat_le, nat_lt, if◌then◌else◌}
-use Rattle.std.specs.Int.{bit_at, from_bool, div_ceil, trailing_zeros, w64}
-use Rattle.std.proofs.lemmas.Grind.{div_ceil_times}
+use Rattle.std.proofs.Common.{◌≡◌, ◌≢◌, ◌⊎◌, ℕ, zero, suc, ◌+◌, ◌-◌, ◌*◌, ◌/◌, ◌%◌, ◌^◌, ◌<◌, ◌≤◌, Bool, true, false, not, ◌&&◌, ◌||◌, ◌==◌, List, [], ◌∷◌, ◌++◌, length, get_or, set, take, drop, replicate, refl, sym, ap, ◌∙◌, subst, inl, inr, arith, min, max}
+use Rattle.std.specs.Prelude.{bit_and, nat_le, nat_lt, if◌then◌else◌}
+use Rattle.std.specs.Int.{bit_at, from_bool, trailing_zeros, w64}
 use Rattle.std.proofs.lemmas.Nat.{one_shl}
-use Rattle.std.proofs.lemmas.Nat.Bits.{bit_at-trailing_zeros, bit_at-zero, bit_at-lt, bit_at-pow_same, bit_at-pow_other}
+use Rattle.std.proofs.lemmas.Nat.Bits.{bit_at-trailing_zeros, bit_at-zero, bit_at_and, bit_at-lt, bit_at-pow_same, bit_at-pow_other}
 use Rattle.std.specs.List.{All}
 use Rattle.std.proofs.lemmas.List.Elements.{All-get_or}
-use Rattle.std.proofs.lemmas.List.{get_or-take, get_or-drop, length-take, length-drop, ext_get_or, length-set, length-replicate, get_or-replicate, get_or-set_same, get_or-set_other, get_or_past}
+use Rattle.std.proofs.lemmas.List.{get_or-take, get_or-drop, length-take, length-drop, ext_get_or, length-set, length-replicate, get_or-replicate, get_or-set_same, get_or-set_other, get_or_past, get_or_append_left, get_or-append_right}
+use borrow.Rule.Slice.PartMut.{put_mid}
 use Rattle.std.proofs.lemmas.List.FromFn.{length-map-range_with_len, get_or-map-range_with_len}
 use Rattle.std.proofs.lemmas.Bool.{cases_eq, cases_lt, le-leb, lt-leb, lt-ltb, le-ltb}
 use Rattle.bz_bits.specs.declared.word.PortWord.{PortWord}
 use Rattle.bz_bits.specs.Row.{bit_of}
-use Rattle.bz_bits.specs.PortWords.{no_ports, number_in, number_at, numbers, AreNumbers, HasOdd, IsEven, IsLowest, NoneOdd, between, goes}
+use Rattle.bz_bits.specs.PortWords.{no_ports, number_in, number_at, numbers, AreNumbers, FilledIn, HasOdd, IsEven, IsLowest, NoneOdd, between, goes}
 
 pub table : (d o p h : ℕ) → d < 2 → o < 2 → p < 2 → h < 2
     → (min d (max h (1 - (p + o) % 2)) == 1) ≡ goes (d == 1) (o == 1) (p == 1) (h == 1)
@@ -162,20 +162,43 @@ pub none_put : (ws : List PortWord) (low at n : ℕ) (w : PortWord) → IsLowest
 none_put ws low at n w is up upto k lt =
     ap (λ (v : PortWord). v.due) (get_or-set_other ws at k w no_ports (λ e. omega (arith, e, lt, up))) ∙ is.even k (omega (arith, lt, upto))
 
--- a word with an odd number is put at the lowest, or behind it
-pub lowest_put : (ws : List PortWord) (low at : ℕ) (w : PortWord) → IsLowest ws low → low ≤ at → at < length ws → w.due ≢ 0 → w.due < 2 ^ 64 → IsLowest (set ws at w) low
-lowest_put ws low at w is le lt some small = record {
-  few = omega (arith, is.few, length-set ws at w);
-  even = none_put ws low at low w is le (omega arith);
-  stops = λ below z. elim (cases_eq low at) [
-    | inl e ↦ some (sym (ap (λ (k : ℕ). (get_or (set ws at w) k no_ports).due) e ∙ ap (λ (v : PortWord). v.due) (get_or-set_same ws at w no_ports lt)) ∙ z)
-    | inr f ↦ is.stops (omega (arith, below, length-set ws at w)) (ap (λ (v : PortWord). v.due) (sym (get_or-set_other ws at low w no_ports f)) ∙ z)
-  ];
-  fits = elim (cases_eq low at) [
-    | inl e ↦ omega (arith, small, ap (λ (k : ℕ). (get_or (set ws at w) k no_ports).due) e, ap (λ (v : PortWord). v.due) (get_or-set_same ws at w no_ports lt))
-    | inr f ↦ omega (arith, is.fits, ap (λ (v : PortWord). v.due) (get_or-set_other ws at low w no_ports f))
-  ];
-}
+-- a word with an odd number is put: the lowest is that one, or the one that was
+pub lowest_put : (ws : List PortWord) (low at : ℕ) (w : PortWord) → IsLowest ws low → at < length ws → w.due ≢ 0 → w.due < 2 ^ 64 → IsLowest (set ws at w) (min at low)
+lowest_put ws low at w is lt some small =
+    let n = min at low in let new = λ (k : ℕ). (get_or (set ws at w) k no_ports).due in
+    let there : new at ≡ w.due = ap (λ (v : PortWord). v.due) (get_or-set_same ws at w no_ports lt) in
+    let same = λ (k : ℕ) (other : k ≢ at). ap (λ (v : PortWord). v.due) (get_or-set_other ws at k w no_ports other) in
+    elim (cases_lt low at) [
+      | inl below ↦ let e : n ≡ low = omega (arith, below) in let other : low ≢ at = λ f. omega (arith, f, below) in
+          record {
+            few = omega (arith, is.few, length-set ws at w);
+            even = none_put ws low at n w is (omega arith) (omega arith);
+            stops = λ held z. is.stops (omega (arith, held, e, length-set ws at w)) (sym (ap new e ∙ same low other) ∙ z);
+            fits = let l = ap new e ∙ same low other in omega (arith, is.fits, l);
+          }
+      | inr ge ↦ let e : n ≡ at = omega (arith, ge) in
+          record {
+            few = omega (arith, is.few, length-set ws at w);
+            even = none_put ws low at n w is (omega arith) (omega arith);
+            stops = λ held z. some (sym (ap new e ∙ there) ∙ z);
+            fits = let l = ap new e ∙ there in omega (arith, small, l);
+          }
+    ]
+
+-- a word without one is put, and not at the lowest
+pub lowest_left : (ws : List PortWord) (low at : ℕ) (w : PortWord) → IsLowest ws low → at < length ws → w.due ≡ 0 → at ≢ low → IsLowest (set ws at w) low
+lowest_left ws low at w is lt none other =
+    let same = λ (k : ℕ) (ne : k ≢ at). ap (λ (v : PortWord). v.due) (get_or-set_other ws at k w no_ports ne) in
+    let kept = same low (λ e. other (sym e)) in
+    record {
+      few = omega (arith, is.few, length-set ws at w);
+      even = λ k below. elim (cases_eq k at) [
+        | inl e ↦ ap (λ (j : ℕ). (get_or (set ws at w) j no_ports).due) e ∙ ap (λ (v : PortWord). v.due) (get_or-set_same ws at w no_ports lt) ∙ none
+        | inr f ↦ same k f ∙ is.even k below
+      ];
+      stops = λ held z. is.stops (omega (arith, held, length-set ws at w)) (sym kept ∙ z);
+      fits = omega (arith, is.fits, kept);
+    }
 
 -- where all are without ports
 pub lowest_none : (m : ℕ) → m < 2 ^ 32 → IsLowest (replicate m no_ports) m
@@ -453,52 +476,137 @@ number_small ws n p are =
     let w = get_or ws (p / 64) no_ports in
     omega (arith, any-number ws n p are, bit_at-lt w.due (p % 64), bit_at-lt w.opened (p % 64))
 
--- one more word is filled
-module _ (old ws : List PortWord) (from to at s : ℕ) (inv : (p : ℕ) → number_at ws p ≡ (if between from to p && nat_lt (p / 64) at then s else number_at old p)) where
-  pub fill_step : (mask : ℕ) (w : PortWord) → at < length ws → ((i : ℕ) → i < 64 → (bit_at mask i == 1) ≡ between from to (64 * at + i))
-      → ((i : ℕ) → i < 64 → number_in w i ≡ (if bit_at mask i == 1 then s else number_in (get_or ws at no_ports) i))
-      → (p : ℕ) → number_at (set ws at w) p ≡ (if between from to p && nat_lt (p / 64) (at + 1) then s else number_at old p)
-  fill_step mask w in' masks filled p =
-      let i = p % 64 in let il : i < 64 = omega arith in let b = between from to p in
-      elim (cases_eq (p / 64) at) [
-        | inl e ↦ let back : 64 * at + i ≡ p = omega (arith, e) in
-            ap (λ (m : ℕ). number_in (get_or (set ws at w) m no_ports) i) e
-            ∙ ap (λ (v : PortWord). number_in v i) (get_or-set_same ws at w no_ports in')
-            ∙ filled i il
-            ∙ ap (λ (c : Bool). if c then s else number_in (get_or ws at no_ports) i) (masks i il ∙ ap (between from to) back)
-            ∙ ap (λ (x : ℕ). if b then s else x) (ap (λ (m : ℕ). number_in (get_or ws m no_ports) i) (sym e) ∙ inv p
-            ∙ ap (λ (c : Bool). if b && c then s else number_at old p) (le-ltb (p / 64) at (omega (arith, e))) ∙ and_no b s (number_at old p))
-            ∙ and_yes b s (number_at old p)
-            ∙ ap (λ (c : Bool). if b && c then s else number_at old p) (sym (lt-ltb (p / 64) (at + 1) (omega (arith, e))))
-        | inr f ↦ ap (λ (v : PortWord). number_in v i) (get_or-set_other ws at (p / 64) w no_ports f) ∙ inv p
-            ∙ ap (λ (c : Bool). if b && c then s else number_at old p) (leb_same (suc (p / 64)) at (suc (p / 64)) (at + 1) (λ le. omega (arith, le)) (λ le. omega (arith, le, f)))
-      ]
-
-  pub fill_end : to ≤ 64 * at → (p : ℕ) → number_at ws p ≡ (if between from to p then s else number_at old p)
-  fill_end past p =
-      elim (cases_lt (p / 64) at) [
-        | inl lt ↦ inv p ∙ ap (λ (c : Bool). if between from to p && c then s else number_at old p) (lt-ltb (p / 64) at lt) ∙ sym (and_yes (between from to p) s (number_at old p))
-        | inr ge ↦ let none : between from to p ≡ false = ap (λ (c : Bool). nat_le from p && c) (le-ltb p to (omega (arith, ge, past))) ∙ no_and (nat_le from p) in
-            inv p ∙ ap (λ (c : Bool). if c && nat_lt (p / 64) at then s else number_at old p) none ∙ ap (λ (c : Bool). if c then s else number_at old p) (sym none)
-      ]
-    where
-      no_and : (b : Bool) → (b && false) ≡ false
-      no_and true = refl
-      no_and false = refl
-
--- before any is
-pub fill_none : (ws : List PortWord) (from to s : ℕ) (p : ℕ) → number_at ws p ≡ (if between from to p && nat_lt (p / 64) (from / 64) then s else number_at ws p)
-fill_none ws from to s p =
-    elim (cases_lt p from) [
-      | inl lt ↦ ap (λ (c : Bool). if (c && nat_lt p to) && nat_lt (p / 64) (from / 64) then s else number_at ws p) (sym (lt-leb from p lt))
-      | inr ge ↦ sym (and_no (between from to p) s (number_at ws p)) ∙ ap (λ (c : Bool). if between from to p && c then s else number_at ws p) (sym (le-ltb (p / 64) (from / 64) (omega (arith, ge))))
+-- one word is filled
+pub word_filled : (ws : List PortWord) (from to at s mask : ℕ) (w : PortWord) → at < length ws → ((i : ℕ) → i < 64 → (bit_at mask i == 1) ≡ between from to (64 * at + i))
+    → ((i : ℕ) → i < 64 → number_in w i ≡ (if bit_at mask i == 1 then s else number_in (get_or ws at no_ports) i))
+    → FilledIn ws (set ws at w) from to s at (at + 1)
+word_filled ws from to at s mask w in' masks filled p =
+    let i = p % 64 in let il : i < 64 = omega arith in let b = between from to p in
+    elim (cases_eq (p / 64) at) [
+      | inl e ↦ let back : 64 * at + i ≡ p = omega (arith, e) in let here : between at (at + 1) (p / 64) ≡ true = grind (arith, e) in
+          ap (λ (m : ℕ). number_in (get_or (set ws at w) m no_ports) i) e
+          ∙ ap (λ (v : PortWord). number_in v i) (get_or-set_same ws at w no_ports in')
+          ∙ filled i il
+          ∙ ap (λ (c : Bool). if c then s else number_in (get_or ws at no_ports) i) (masks i il ∙ ap (between from to) back)
+          ∙ ap (λ (x : ℕ). if b then s else x) (ap (λ (m : ℕ). number_in (get_or ws m no_ports) i) (sym e))
+          ∙ and_yes b s (number_at ws p)
+          ∙ ap (λ (c : Bool). if b && c then s else number_at ws p) (sym here)
+      | inr f ↦ ap (λ (v : PortWord). number_in v i) (get_or-set_other ws at (p / 64) w no_ports f)
+          ∙ sym (ap (λ (c : Bool). if b && c then s else number_at ws p) (only at (p / 64) f) ∙ and_no b s (number_at ws p))
     ]
 
-pub ceil_past : (n at : ℕ) → div_ceil n 64 ≤ at → n ≤ 64 * at
-ceil_past n at le = let b = div_ceil_times n 64 (omega arith) in let q = div_ceil n 64 in let up : n ≤ q * 64 = b.0 in omega (arith, up, le)
+-- the number at one place of it is changed
+pub one_changed : (g : ℕ → ℕ) (ws : List PortWord) (w : PortWord) (k : ℕ) → k / 64 < length ws
+    → ((i : ℕ) → i < 64 → number_in w i ≡ (if between (k % 64) (k % 64 + 1) i then g (number_in (get_or ws (k / 64) no_ports) i) else number_in (get_or ws (k / 64) no_ports) i))
+    → (p : ℕ) → number_at (set ws (k / 64) w) p ≡ (if between k (k + 1) p then g (number_at ws k) else number_at ws p)
+one_changed g ws w k held changed p =
+    let at = k / 64 in let m = k % 64 in let i = p % 64 in let old = get_or ws at no_ports in
+    let there = get_or-set_same ws at w no_ports held in
+    elim (cases_eq p k) [
+      | inl e ↦ let here : between m (m + 1) m ≡ true = grind (arith) in let yes : between k (k + 1) p ≡ true = grind (arith, e) in
+          ap (number_at (set ws at w)) e ∙ ap (λ (v : PortWord). number_in v m) there ∙ changed m (omega arith)
+          ∙ ap (λ (b : Bool). if b then g (number_in old m) else number_in old m) here
+          ∙ sym (ap (λ (b : Bool). if b then g (number_at ws k) else number_at ws p) yes)
+      | inr f ↦ sym (ap (λ (b : Bool). if b then g (number_at ws k) else number_at ws p) (only k p f) ∙ sym (elim (cases_eq (p / 64) at) [
+          | inl e ↦ ap (λ (q : ℕ). number_in (get_or (set ws at w) q no_ports) i) e ∙ ap (λ (v : PortWord). number_in v i) there ∙ changed i (omega arith)
+              ∙ ap (λ (b : Bool). if b then g (number_in old i) else number_in old i) (only m i (λ d. f (omega (arith, d, e))))
+              ∙ sym (ap (λ (q : ℕ). number_in (get_or ws q no_ports) i) e)
+          | inr ne ↦ ap (λ (v : PortWord). number_in v i) (get_or-set_other ws at (p / 64) w no_ports ne)
+        ]))
+    ]
 
-pub ceil_below : (n at : ℕ) → at < div_ceil n 64 → 64 * at < n
-ceil_below n at lt = let b = div_ceil_times n 64 (omega arith) in let q = div_ceil n 64 in let up : q * 64 < n + 64 = b.1 in omega (arith, up, lt)
+-- or whole words are
+words_filled : (ws vs : List PortWord) (from to s a b : ℕ) (word : PortWord) → ((k : ℕ) → get_or vs k no_ports ≡ (if between a b k then word else get_or ws k no_ports))
+    → ((i : ℕ) → i < 64 → number_in word i ≡ s) → from ≤ 64 * a → 64 * b ≤ to → FilledIn ws vs from to s a b
+words_filled ws vs from to s a b word each whole low high p =
+    let i = p % 64 in let q = p / 64 in let il : i < 64 = omega arith in let out = between from to p in
+    ap (λ (w : PortWord). number_in w i) (each q) ∙ elim (cases_lt q a) [
+      | inl lt ↦ let no : between a b q ≡ false = grind (arith, lt) in
+          ap (λ (c : Bool). number_in (if c then word else get_or ws q no_ports) i) no
+          ∙ sym (ap (λ (c : Bool). if out && c then s else number_at ws p) no ∙ and_no out s (number_at ws p))
+      | inr ge ↦ elim (cases_lt q b) [
+          | inl lt ↦ let yes : between a b q ≡ true = grind (arith, ge, lt) in
+              let from_le : from ≤ p = omega (arith, ge, low) in let to_gt : p < to = omega (arith, lt, high) in
+              let all : out ≡ true = grind (arith, from_le, to_gt) in
+              ap (λ (c : Bool). number_in (if c then word else get_or ws q no_ports) i) yes ∙ whole i il
+              ∙ sym (ap (λ (c : Bool). if out && c then s else number_at ws p) yes ∙ ap (λ (c : Bool). if c && true then s else number_at ws p) all)
+          | inr past ↦ let no : between a b q ≡ false = grind (arith, past) in
+              ap (λ (c : Bool). number_in (if c then word else get_or ws q no_ports) i) no
+              ∙ sym (ap (λ (c : Bool). if out && c then s else number_at ws p) no ∙ and_no out s (number_at ws p))
+        ]
+    ]
+
+-- those from place a + 1 to before b, of which the first word of all is none
+pub put_at : (f word : PortWord) (rest ys : List PortWord) (a b : ℕ) → a < b → b ≤ suc (length rest) → ys ≡ replicate (b - 1 - a) word
+    → (j : ℕ) → get_or (f ∷ put_mid a (b - 1 - a) rest ys) j no_ports ≡ (if between (a + 1) b j then word else get_or (f ∷ rest) j no_ports)
+put_at f word rest ys a b some held same zero =
+    let no : between (a + 1) b 0 ≡ false = grind (arith) in sym (ap (λ (c : Bool). if c then word else f) no)
+put_at f word rest ys a b some held same (suc j) =
+    let k = b - 1 - a in let front = take a rest in let back = drop k (drop a rest) in let left = get_or rest j no_ports in
+    let front_len : length front ≡ a = length-take a rest ∙ omega (arith, some, held) in let ys_len : length ys ≡ k = ap length same ∙ length-replicate k word in
+    elim (cases_lt j a) [
+      | inl lt ↦ let no : between (a + 1) b (suc j) ≡ false = grind (arith, lt) in
+          get_or_append_left front (ys ++ back) no_ports j (omega (arith, lt, front_len)) ∙ get_or-take a rest j no_ports lt
+          ∙ sym (ap (λ (c : Bool). if c then word else left) no)
+      | inr ge ↦ get_or-append_right front (ys ++ back) a j no_ports front_len ge ∙ elim (cases_lt (suc j) b) [
+          | inl lt ↦ let yes : between (a + 1) b (suc j) ≡ true = grind (arith, lt, ge) in let within : j - a < k = omega (arith, lt, ge) in
+              get_or_append_left ys back no_ports (j - a) (omega (arith, within, ys_len)) ∙ ap (λ (l : List PortWord). get_or l (j - a) no_ports) same
+              ∙ get_or-replicate k (j - a) word no_ports within ∙ sym (ap (λ (c : Bool). if c then word else left) yes)
+          | inr past ↦ let no : between (a + 1) b (suc j) ≡ false = grind (arith, past) in
+              let there : a + (k + (j - a - k)) ≡ j = omega (arith, past, ge, some) in
+              get_or-append_right ys back k (j - a) no_ports ys_len (omega (arith, past)) ∙ get_or-drop k (drop a rest) (j - a - k) no_ports ∙ get_or-drop a rest (k + (j - a - k)) no_ports
+              ∙ ap (λ (m : ℕ). get_or rest m no_ports) there ∙ sym (ap (λ (c : Bool). if c then word else left) no)
+        ]
+    ]
+
+mid_long : (rest : List PortWord) (a b : ℕ) → a < b → b ≤ suc (length rest) → length (take (b - 1 - a) (drop a rest)) ≡ b - 1 - a
+mid_long rest a b some held = length-take (b - 1 - a) (drop a rest) ∙ omega (arith, some, held, length-drop a rest)
+
+pub whole_filled : (f word : PortWord) (rest ys : List PortWord) (from to s a b : ℕ) → a < b → b ≤ suc (length rest) → from ≤ 64 * (a + 1) → 64 * b ≤ to
+    → ys ≡ replicate (length (take (b - 1 - a) (drop a rest))) word → ((i : ℕ) → i < 64 → number_in word i ≡ s)
+    → FilledIn (f ∷ rest) (f ∷ put_mid a (b - 1 - a) rest ys) from to s (a + 1) b
+whole_filled f word rest ys from to s a b some held low high same whole =
+    words_filled (f ∷ rest) (f ∷ put_mid a (b - 1 - a) rest ys) from to s (a + 1) b word
+    (put_at f word rest ys a b some held (same ∙ ap (λ (n : ℕ). replicate n word) (mid_long rest a b some held))) whole low high
+
+-- of these no port is due, if none of the word is
+pub whole_even : (f word : PortWord) (rest ys : List PortWord) (a b : ℕ) → a < b → b ≤ suc (length rest)
+    → ys ≡ replicate (length (take (b - 1 - a) (drop a rest))) word → word.due ≡ 0 → (k : ℕ) → a ≤ k → suc k < b → (get_or (put_mid a (b - 1 - a) rest ys) k no_ports).due ≡ 0
+whole_even f word rest ys a b some held same even k le lt =
+    let yes : between (a + 1) b (suc k) ≡ true = grind (arith, le, lt) in
+    ap (λ (w : PortWord). w.due) (put_at f word rest ys a b some held (same ∙ ap (λ (n : ℕ). replicate n word) (mid_long rest a b some held)) (suc k)
+    ∙ ap (λ (c : Bool). if c then word else get_or rest k no_ports) yes) ∙ even
+
+-- then those that follow
+filled_twice : (out c d : Bool) (s x : ℕ) → (if out && c then s else (if out && d then s else x)) ≡ (if out && (d || c) then s else x)
+filled_twice true true true s x = refl
+filled_twice true true false s x = refl
+filled_twice true false true s x = refl
+filled_twice true false false s x = refl
+filled_twice false c d s x = refl
+
+pub filled_on : (ws vs us : List PortWord) (from to s a b c : ℕ) → a ≤ b → b ≤ c → FilledIn ws vs from to s a b → FilledIn vs us from to s b c → FilledIn ws us from to s a c
+filled_on ws vs us from to s a b c ab bc one two p =
+    let q = p / 64 in let out = between from to p in
+    let joined : (between a b q || between b c q) ≡ between a c q = elim (cases_lt q b) [ inl lt ↦ grind (arith, lt, bc) | inr ge ↦ grind (arith, ge, ab) ] in
+    two p ∙ ap (λ (x : ℕ). if out && between b c q then s else x) (one p) ∙ filled_twice out (between b c q) (between a b q) s (number_at ws p)
+    ∙ ap (λ (d : Bool). if out && d then s else number_at ws p) joined
+
+-- so all are
+pub filled_all : (ws vs : List PortWord) (from to s a b : ℕ) → 64 * a ≤ from → to ≤ 64 * b → FilledIn ws vs from to s a b → (p : ℕ) → number_at vs p ≡ (if between from to p then s else number_at ws p)
+filled_all ws vs from to s a b low high filled p =
+    let q = p / 64 in
+    filled p ∙ elim (cases_lt p from) [
+      | inl lt ↦ let no : between from to p ≡ false = grind (arith, lt) in
+          ap (λ (c : Bool). if c && between a b q then s else number_at ws p) no ∙ sym (ap (λ (c : Bool). if c then s else number_at ws p) no)
+      | inr ge ↦ elim (cases_lt p to) [
+          | inl lt ↦ let in' : a ≤ q = omega (arith, ge, low) in let in'' : q < b = omega (arith, lt, high) in
+              let yes : between a b q ≡ true = grind (arith, in', in'') in
+              ap (λ (c : Bool). if between from to p && c then s else number_at ws p) yes ∙ sym (and_yes (between from to p) s (number_at ws p))
+          | inr past ↦ let no : between from to p ≡ false = grind (arith, past) in
+              ap (λ (c : Bool). if c && between a b q then s else number_at ws p) no ∙ sym (ap (λ (c : Bool). if c then s else number_at ws p) no)
+        ]
+    ]
 
 -- one bit of a row is written
 module _ (ws vs : List ℕ) (port v : ℕ) (b : ℕ) (is : vs ≡ set ws (port / 64) v) (lt : port < 64 * length ws) (bits : (i : ℕ) → i < 64 → bit_at v i ≡ (if between (port % 64) (port % 64 + 1) i then b else bit_at (get_or ws (port / 64) 0) i)) where
@@ -538,3 +646,28 @@ high_is (suc zero) (suc (suc high)) l h = absurd (omega (arith, h))
 
 pub number_high : (w : PortWord) (i : ℕ) → (bit_at w.opened i == 1) ≡ nat_le 2 (number_in w i)
 number_high w i = high_is (bit_at w.due i) (bit_at w.opened i) (bit_at-lt w.due i) (bit_at-lt w.opened i)
+
+-- no number 1 behind the first word, where those from the lowest on lack it
+two_bits : (d o : ℕ) → d < 2 → o < 2 → min d o ≡ d → d + 2 * o ≢ 1
+two_bits zero zero l k e f = absurd (omega (arith, f))
+two_bits zero (suc o) l k e f = absurd (omega (arith, f))
+two_bits (suc d) zero l k e f = absurd (omega (arith, e))
+two_bits (suc d) (suc o) l k e f = absurd (omega (arith, f))
+
+pub far_lacks : (f : PortWord) (rest : List PortWord) (n low b : ℕ) → AreNumbers (f ∷ rest) n → IsLowest rest low → b ≤ low → All (λ (w : PortWord). bit_and w.due w.opened ≡ w.due) (drop b rest)
+    → (p : ℕ) → 64 ≤ p → get_or (numbers (f ∷ rest) n) p 0 ≢ 1
+far_lacks f rest n low b are is le all p far one =
+    let j = p / 64 - 1 in let i = p % 64 in let w = get_or rest j no_ports in
+    let e : p / 64 ≡ suc j = omega (arith, far) in
+    let number : number_in w i ≡ 1 = sym (any-number (f ∷ rest) n p are ∙ ap (λ (m : ℕ). number_in (get_or (f ∷ rest) m no_ports) i) e) ∙ one in
+    let d = bit_at w.due i in let o = bit_at w.opened i in
+    let lacks : bit_and w.due w.opened ≡ w.due → ⊥ = λ same. two_bits d o (bit_at-lt w.due i) (bit_at-lt w.opened i) (sym (bit_at_and w.due w.opened i) ∙ ap (λ (x : ℕ). bit_at x i) same) number in
+    elim (cases_lt j b) [
+      | inl below ↦ let z : d ≡ 0 = ap (λ (x : ℕ). bit_at x i) (is.even j (omega (arith, below, le))) ∙ bit_at-zero i in omega (arith, z, number, bit_at-lt w.opened i)
+      | inr from ↦ elim (cases_lt j (length rest)) [
+          | inl lt ↦ let there : b + (j - b) ≡ j = omega (arith, from) in
+              let at = All-get_or (λ (w : PortWord). bit_and w.due w.opened ≡ w.due) (drop b rest) (j - b) no_ports (omega (arith, lt, from, length-drop b rest)) all in
+              lacks (subst (λ (v : PortWord). bit_and v.due v.opened ≡ v.due) (get_or-drop b rest (j - b) no_ports ∙ ap (λ (m : ℕ). get_or rest m no_ports) there) at)
+          | inr past ↦ let none : number_in w i ≡ 0 = ap (λ (v : PortWord). number_in v i) (get_or_past rest j no_ports past) ∙ number_none i in omega (arith, none, number)
+        ]
+    ]

@@ -1,5 +1,5 @@
 -- Numbers from 0 to 3, each as one bit of two words.
-use Rattle.std.specs.Prelude.{◌≡◌, ◌≢◌, ◌⊎◌, ◌&&◌, ℕ, ◌+◌, ◌*◌, ◌/◌, ◌%◌, ◌^◌, ◌<◌, ◌≤◌, nat_le, nat_lt, Bool, true, false, List, map, length, slice_index, slice_index_or}
+use Rattle.std.specs.Prelude.{◌≡◌, ◌≢◌, ◌⊎◌, ◌&&◌, ℕ, ◌+◌, ◌*◌, ◌/◌, ◌%◌, ◌^◌, ◌<◌, ◌≤◌, nat_le, nat_lt, if◌then◌else◌, Bool, true, false, List, map, length, slice_index, slice_index_or}
 use Rattle.std.specs.List.{range_with_len}
 use Rattle.std.specs.Int.{bit_at}
 use Rattle.bz_bits.specs.declared.word.PortWord.{PortWord}
@@ -51,6 +51,10 @@ pub record HasOdd (numbers : List ℕ) (k : ℕ) : Type 0 where
 -- whether p stands at `from` or after it, and before `to`
 abbrev pub between : ℕ → ℕ → ℕ → Bool
 between from to p = nat_le from p && nat_lt p to
+
+-- of words a to before b, the places from `from` to before `to` have number s now, and all others what they had
+abbrev pub FilledIn : List PortWord → List PortWord → (from to s a b : ℕ) → Type 0
+FilledIn old new from to s a b = (p : ℕ) → number_at new p ≡ (if between from to p && between a b (p / 64) then s else number_at old p)
 
 -- whether the move that is due at a port can be made: by whether one is due, the port is open, it is passive, and what
 -- it may wait for is here. A closed passive port waits for a request, an open active one for a reply.

@@ -1,5 +1,5 @@
 //! A bit for each port, of which the first 64 take no memory of their own.
-ghost use Rattle.std.specs.Prelude.{◌≡◌, ◌≢◌, ◌==◌, ◌+◌, ◌-◌, ◌*◌, ◌/◌, ◌%◌, ◌<◌, ◌≤◌, ◌∷◌, ℕ, Bool, length, slice_index_or, slice_set, if◌then◌else◌, IfOk};
+ghost use Rattle.std.specs.Prelude.{◌≡◌, ◌≢◌, ◌==◌, ◌+◌, ◌-◌, ◌*◌, ◌/◌, ◌%◌, ◌<◌, ◌≤◌, ◌∷◌, ℕ, Bool, length, slice_index_or, slice_set, take, if◌then◌else◌, All, IfOk};
 ghost use Rattle.std.specs.Int.{from_bool};
 ghost use Rattle.bz_bits.specs.Row.{bit_of};
 
@@ -58,6 +58,17 @@ impl<A: Allocator + Copy> PortBits<A> {
         bits_at(&self.first, &self.more, at)
     }
 
+    /// The first word from `at` on that has a bit; past the last word where there is none.
+    pub fn next_one(&self, at: usize) -> usize
+        requires { 0 < at }
+        ensures from { at ≤ result }
+        ensures passed { (k : ℕ) → at ≤ k → k < result → slice_index_or self.now k 0 ≡ 0 }
+        ensures stops { result < length self.now → slice_index_or self.now result 0 ≢ 0 }
+    {
+        let before = (at - 1).min(self.more.len());
+        at + count_zeros(&self.more[before..])
+    }
+
     /// Gives a port its bit.
     pub fn put(&mut self, port: usize, bit: bool)
         requires { port < 64 * length self.old }
@@ -89,6 +100,16 @@ impl<A: Allocator + Copy> PortBits<A> {
         );
         put_bits(&mut self.first, &mut self.more, at, word);
     }
+}
+
+// How many words come before the first that has a bit.
+fn count_zeros(words: &[u64]) -> usize
+    ensures within { result ≤ length words.now }
+    ensures zeros { All (λ w. w ≡ 0) (take result words.now) }
+    ensures stops { result < length words.now → slice_index_or words.now result 0 ≢ 0 }
+{
+    let found = words.iter().position(|word| *word != 0);
+    found.unwrap_or(words.len())
 }
 
 // The word at a place, 0 where there is no such word.

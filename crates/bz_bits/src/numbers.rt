@@ -1,6 +1,7 @@
 //! The numbers of a component's ports, two bits each, of which the first 64 take no memory of their own.
-ghost use Rattle.std.specs.Prelude.{◌≡◌, ◌≢◌, ◌⊎◌, ◌+◌, ◌-◌, ◌*◌, ◌/◌, ◌%◌, ◌^◌, ◌<◌, ◌≤◌, ◌∷◌, ℕ, length, replicate, slice_index, slice_index_or, slice_set, take, nat_le, if◌then◌else◌, All, IfOk};
-ghost use Rattle.bz_bits.specs.PortWords.{between, no_ports, number_at, number_in, HasOdd, IsEven, IsLowest, NoneOdd};
+ghost use Rattle.std.specs.Prelude.{◌≡◌, ◌≢◌, ◌⊎◌, ◌+◌, ◌-◌, ◌*◌, ◌/◌, ◌%◌, ◌^◌, ◌<◌, ◌≤◌, ◌∷◌, ℕ, suc, false, length, replicate, slice_index, slice_index_or, slice_set, take, nat_le, bit_and, if◌then◌else◌, All, IfOk, IsTrue};
+ghost use Rattle.std.specs.Int.{bit_at, from_bool};
+ghost use Rattle.bz_bits.specs.PortWords.{between, no_ports, number_at, number_in, FilledIn, HasOdd, IsEven, IsLowest, NoneOdd};
 
 use crate::word::{NO_PORTS, PortWord, one_place, places};
 use std::alloc::{AllocError, Allocator, Global};
@@ -142,6 +143,14 @@ impl<A: Allocator + Copy> PortNumbers<A> {
         next
     }
 
+    /// Whether no port from 64 on has the number 1. `false` says nothing.
+    pub fn lacks_far_ones(&self) -> bool
+        ensures { IsTrue result → (p : ℕ) → 64 ≤ p → slice_index self.now p ≢ 1 }
+    {
+        let from = self.more.len().min(self.low as usize);
+        lack_ones(&self.more[from..])
+    }
+
     /// Gives a port a number; nothing where there is no such port.
     #[inline(always)]
     pub fn set(&mut self, port: usize, number: u8)
@@ -186,13 +195,11 @@ impl<A: Allocator + Copy> PortNumbers<A> {
     #[cold]
     #[inline(never)]
     fn turn_far(&mut self, port: usize)
-        requires far { 64 ≤ port }
+        requires held { port < length self.old }
         ensures turned { self.new ≡ slice_set self.old port ((slice_index self.old port + 2) % 4) }
         ensures small { slice_index self.old port < 4 }
     {
-        let _first = &self.first;
-        let number = self.get_far(port);
-        self.set_far(port, (number % 4 + 2) % 4);
+        turn_one(&mut self.first, &mut self.more, &mut self.low, port);
     }
 
     /// Takes the number of a port from 3.
@@ -212,12 +219,10 @@ impl<A: Allocator + Copy> PortNumbers<A> {
     #[cold]
     #[inline(never)]
     fn flip_far(&mut self, port: usize)
-        requires far { 64 ≤ port }
+        requires { port < length self.old }
         ensures { self.new ≡ slice_set self.old port (3 - slice_index self.old port) }
     {
-        let _first = &self.first;
-        let number = self.get_far(port);
-        self.set_far(port, 3 - number % 4);
+        flip_one(&mut self.first, &mut self.more, &mut self.low, port);
     }
 
     /// Takes the number of a port from 3, and makes the even number of another port odd.
@@ -306,6 +311,23 @@ fn count_even(words: &[PortWord]) -> usize
     found.unwrap_or(words.len())
 }
 
+// Whether in none of these words a port has the number 1.
+fn lack_ones(words: &[PortWord]) -> bool
+    ensures { IsTrue result → All (λ w. bit_and w.due w.opened ≡ w.due) words.now }
+{
+    count_lacking(words) == words.len()
+}
+
+fn count_lacking(words: &[PortWord]) -> usize
+    ensures within { result ≤ length words.now }
+    ensures lacking { All (λ w. bit_and w.due w.opened ≡ w.due) (take result words.now) }
+{
+    let found = words
+        .iter()
+        .position(|word| word.due & word.opened != word.due);
+    found.unwrap_or(words.len())
+}
+
 // The word at a place, without ports where there is no such word.
 #[inline(always)]
 fn word_at(first: &PortWord, more: &[PortWord], at: usize) -> PortWord
@@ -334,17 +356,18 @@ fn put_word(first: &mut PortWord, more: &mut [PortWord], low: &mut u32, at: usiz
     }
 }
 
-#[inline(never)]
+#[inline(always)]
 fn put_far(more: &mut [PortWord], low: &mut u32, at: usize, word: PortWord)
     requires held { at < length more.old }
     requires low { IsLowest more.old low.old }
     ensures put { more.new ≡ slice_set more.old at word }
     ensures low { IsLowest more.new low.new }
 {
-    let lowest = *low as usize;
     more[at] = word;
-    if at < lowest || word.due == 0 {
-        *low = lowest_from(more, at.min(lowest));
+    if word.due != 0 {
+        *low = (at as u32).min(*low);
+    } else if at == *low as usize {
+        *low = lowest_from(more, at);
     }
 }
 
@@ -375,6 +398,30 @@ fn fill_one(first: &mut PortWord, more: &mut [PortWord], low: &mut u32, port: us
     put_word(first, more, low, at, word);
 }
 
+#[inline(always)]
+fn turn_one(first: &mut PortWord, more: &mut [PortWord], low: &mut u32, port: usize)
+    requires fits { port < 64 * length (first.old ∷ more.old) }
+    requires low { IsLowest more.old low.old }
+    ensures turned { (p : ℕ) → number_at (first.new ∷ more.new) p ≡ (if between port (port + 1) p then (number_at (first.old ∷ more.old) port + 2) % 4 else number_at (first.old ∷ more.old) p) }
+    ensures low { IsLowest more.new low.new }
+{
+    let at = port / 64;
+    let word = word_at(first, more, at).turned(port % 64);
+    put_word(first, more, low, at, word);
+}
+
+#[inline(always)]
+fn flip_one(first: &mut PortWord, more: &mut [PortWord], low: &mut u32, port: usize)
+    requires fits { port < 64 * length (first.old ∷ more.old) }
+    requires low { IsLowest more.old low.old }
+    ensures flipped { (p : ℕ) → number_at (first.new ∷ more.new) p ≡ (if between port (port + 1) p then 3 - number_at (first.old ∷ more.old) port else number_at (first.old ∷ more.old) p) }
+    ensures low { IsLowest more.new low.new }
+{
+    let at = port / 64;
+    let word = word_at(first, more, at).flipped(port % 64);
+    put_word(first, more, low, at, word);
+}
+
 fn fill(
     first: &mut PortWord,
     more: &mut [PortWord],
@@ -389,13 +436,74 @@ fn fill(
     ensures filled { (p : ℕ) → number_at (first.new ∷ more.new) p ≡ (if between from to p then number else number_at (first.old ∷ more.old) p) }
     ensures low { IsLowest more.new low.new }
 {
-    for at in from / 64..to.div_ceil(64) {
-        let word = word_at(first, more, at).filled(places(at, from, to), number);
-        store_word(first, more, at, word);
+    if from < to {
+        fill_words(first, more, from, to, number);
     }
-    // Of the words in front of the filled ones those before `low` have no odd number still.
-    let before = (from / 64).saturating_sub(1).min(more.len());
-    *low = lowest_from(more, before.min(*low as usize));
+    // From the first word on all that were filled with an even number have no odd one, or else those in front of `low` have none.
+    let start = if number % 2 == 0 && from < 64 {
+        (to / 64).saturating_sub(1)
+    } else {
+        let before = (from / 64).saturating_sub(1).min(more.len());
+        before.min(*low as usize)
+    };
+    *low = lowest_from(more, start);
+}
+
+// The first word and the last of those with such ports are filled by a mask, and those between as a whole.
+fn fill_words(first: &mut PortWord, more: &mut [PortWord], from: usize, to: usize, number: u8)
+    requires number { number < 4 }
+    requires some { from < to }
+    requires fits { to ≤ 64 * length (first.old ∷ more.old) }
+    ensures filled { (p : ℕ) → number_at (first.new ∷ more.new) p ≡ (if between from to p then number else number_at (first.old ∷ more.old) p) }
+    ensures before { (k : ℕ) → suc k < from / 64 → slice_index_or more.new k no_ports ≡ slice_index_or more.old k no_ports }
+    ensures even { number % 2 ≡ 0 → (k : ℕ) → from / 64 ≤ k → suc k < to / 64 → (slice_index_or more.new k no_ports).due ≡ 0 }
+{
+    let (start, end) = (from / 64, to / 64);
+    fill_word(first, more, start, from, to, number);
+    if start < end {
+        more[start..end - 1].fill(whole_word(number));
+        if 64 * end < to {
+            fill_word(first, more, end, from, to, number);
+        }
+    }
+}
+
+// A word of 64 ports with the same number.
+fn whole_word(number: u8) -> PortWord
+    requires number { number < 4 }
+    ensures each { (i : ℕ) → i < 64 → number_in result i ≡ number }
+    ensures even { number % 2 ≡ 0 → result.due ≡ 0 }
+{
+    PortWord {
+        due: all_or_none(number % 2 == 1),
+        opened: all_or_none(number / 2 == 1),
+    }
+}
+
+fn all_or_none(bit: bool) -> u64
+    ensures each { (i : ℕ) → i < 64 → bit_at result i ≡ from_bool bit }
+    ensures none { bit ≡ false → result ≡ 0 }
+{
+    if bit { u64::MAX } else { 0 }
+}
+
+// Of word `at` the ports from `from` to before `to` get the number.
+fn fill_word(
+    first: &mut PortWord,
+    more: &mut [PortWord],
+    at: usize,
+    from: usize,
+    to: usize,
+    number: u8,
+)
+    requires number { number < 4 }
+    requires some { 64 * at < to }
+    requires held { at < length (first.old ∷ more.old) }
+    ensures filled { FilledIn (first.old ∷ more.old) (first.new ∷ more.new) from to number at (at + 1) }
+    ensures others { (k : ℕ) → suc k ≢ at → slice_index_or more.new k no_ports ≡ slice_index_or more.old k no_ports }
+{
+    let word = word_at(first, more, at).filled(places(at, from, to), number);
+    store_word(first, more, at, word);
 }
 
 #[tactic(auto, using(crate::proofs::Words::set_tail, crate::proofs::Words::set_past))]

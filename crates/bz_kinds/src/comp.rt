@@ -1,6 +1,6 @@
 //! A component: where its ports are, and the values that it keeps.
 
-ghost use Rattle.std.specs.Prelude.{◌≡◌, ◌≤◌, ◌-◌, ◌^◌, ◌<◌, ◌↔◌, true, not, ℕ, Some, IsTrue, IfSome, IfOk, IfErr, MatchOption, length, slice_set, replicate};
+ghost use Rattle.std.specs.Prelude.{◌≡◌, ◌≤◌, ◌-◌, ◌^◌, ◌<◌, ◌↔◌, Bool, true, not, ℕ, Some, IsTrue, IfSome, IfOk, IfErr, MatchOption, length, slice_set, replicate};
 ghost use Rattle.std.specs.Option.{option_map};
 ghost use Rattle.bz_model.specs.declared.error.KindError.TheVariants.{Memory};
 ghost use Rattle.bz_model.specs.Heads.{Head, IsHeadOn, CanMove, Moves, Proc, Turns, HasOneHead, carried, opens, open_at};
@@ -27,7 +27,7 @@ use crate::move_iter::MoveIter;
 use crate::ports::{PortState, Ports};
 use crate::row::{DueMove, Script};
 use crate::same::is_same_plan;
-use crate::sense::{move_at, sense_word};
+use crate::sense::{move_at, sense_word, sense_word_here};
 use crate::shape::{CALLS, FETCHES, PUSHES, shape_of};
 use crate::{
     bar, cells, choice, decision, enclosed, in_turn, indexed, meeting, once, script, select,
@@ -416,6 +416,23 @@ pub fn ready_word(comp: &Comp, at: u32, here: u64) -> u64
     word.ready(passive, here)
 }
 
+/// The same of a word behind the first.
+#[inline(always)]
+pub fn far_word(comp: &Comp, at: u32, here: u64) -> u64
+    requires far { 0 < at }
+    requires few { at < 2 ^ 26 }
+    ensures ready { AreReady comp.now.proc at here result }
+    ensures held { (p : ℕ) (h : Head) → IsHeadOn comp.now.proc p h → (0 < p) × (p ≤ length comp.now.chans) }
+    ensures turns { (p : ℕ) (h : Head) → IsHeadOn comp.now.proc p h → opens h.move ≡ not (open_at comp.now p) }
+{
+    let word = comp.proc.ports.word(at);
+    if word.due == 0 {
+        return 0;
+    }
+    let passive = sense_word_here(&comp.proc.plan, comp.proc.size, at);
+    word.ready(passive, here)
+}
+
 /// Whether a component has a move due at a port: it can be made there once what it may wait for is on its channel.
 #[inline(always)]
 pub fn has_move(comp: &Comp, port: u32) -> bool
@@ -434,6 +451,23 @@ pub fn next_due(comp: &Comp, at: usize) -> usize
     ensures stops { NoneDue comp.now.proc result → (k : ℕ) → at ≤ k → NoneDue comp.now.proc k }
 {
     comp.proc.ports.next_due(at)
+}
+
+/// Whether each move that is due at a port from 64 on waits for what comes on its channel, a take for a request and a got for a
+/// reply. `false` says nothing.
+#[inline(always)]
+pub fn only_waits(comp: &Comp) -> bool
+    ensures { IsTrue result → (p : ℕ) (here : Bool) → 64 ≤ p → CanGo comp.now.proc p here → here ≡ true }
+{
+    let proc = &comp.proc;
+    match &proc.plan {
+        KeptPlan::Choice(_) => proc.left == 0,
+        KeptPlan::Meeting(_) => meeting::only_takes(&proc.ports, proc.size),
+        KeptPlan::CallsTogether => proc.ports.lacks_far_to_open(),
+        KeptPlan::PushesTogether => proc.ports.lacks_far_to_open(),
+        KeptPlan::OwnTogether(_) => proc.ports.lacks_far_to_open(),
+        _ => false,
+    }
 }
 
 /// The same component in the same state.

@@ -74,6 +74,18 @@ words_pass c here from to none before q lt can =
           absurd (false≢true (sym (ap (λ (x : ℕ). x == 1) (bit_at-zero i)) ∙ both.1 (subst (λ (r : ℕ). CanGo c.proc r (flag_of here q)) (sym back) can)))
     ]
 
+-- nor where nothing is here, if it waits at each port from 64 on where a move is due
+pub zeros_pass : (c : Component) (here : List ℕ) (from to : ℕ) → 0 < from → ((p : ℕ) (flag : Bool) → 64 ≤ p → CanGo c.proc p flag → flag ≡ true) → ((k : ℕ) → from ≤ k → k < to → get_or here k 0 ≡ 0)
+    → ((q : ℕ) → q < 64 * from → CanGo c.proc q (flag_of here q) → ⊥) → (q : ℕ) → q < 64 * to → CanGo c.proc q (flag_of here q) → ⊥
+zeros_pass c here from to some waits zeros before q lt can =
+    elim (cases_lt q (64 * from)) [
+      | inl low ↦ before q low can
+      | inr high ↦
+          let none : flag_of here q ≡ false =
+          ap (λ (w : ℕ). bit_at w (q % 64) == 1) (zeros (q / 64) (omega (arith, high)) (omega (arith, lt))) ∙ ap (λ (x : ℕ). x == 1) (bit_at-zero (q % 64)) in
+          absurd (false≢true (sym none ∙ waits q (flag_of here q) (omega (arith, some, high)) can))
+    ]
+
 -- so a component that is told rightly can move where its bits say
 module _ (sites : List Site) (phases : List Phase) (comps : List Component) (heres : List (List ℕ)) (sighted : Sighted sites phases comps heres) (c : ℕ) (turning : IsTurning (comp_at comps c)) where
   may : (p : ℕ) (port : IsPort sites c p) (h : Head) → IsHeadOn (comp_at comps c).proc p h → allows (phase_in phases (chan_at sites c p)) h.move ≡ is_free h.move (flag_of (here_at heres c) p)

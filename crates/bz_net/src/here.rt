@@ -1,6 +1,6 @@
 //! What each component is told of its channels, the lowest port at which it can move by that, and its moves.
 
-ghost use Rattle.std.specs.Prelude.{◌≡◌, ◌≤◌, ◌<◌, ◌*◌, ◌^◌, ℕ, suc, false, length, map, slice_set, if◌then◌else◌, ◌↔◌, IsTrue, MatchOption, MatchBool, Option, IfSome, IfNone, IfOk};
+ghost use Rattle.std.specs.Prelude.{◌≡◌, ◌≤◌, ◌<◌, ◌*◌, ◌^◌, ℕ, Bool, suc, false, true, length, map, slice_set, if◌then◌else◌, ◌↔◌, IsTrue, MatchOption, MatchBool, Option, IfSome, IfNone, IfOk};
 ghost use Rattle.bz_model.specs.declared.channel.Phase.{Phase};
 ghost use Rattle.bz_model.specs.Heads.{CanMove, Head, HasOneHead, IsHeadOn, Moves, Turns};
 ghost use Rattle.bz_kinds.specs.Riding.{riding};
@@ -27,7 +27,7 @@ use crate::ready_row::{Keeping, ReadyRow};
 use bz_arena::Arena;
 use bz_bits::PortBits;
 use bz_flat::{Ends, FlatComp};
-use bz_kinds::{Comp, next_due, ready_word};
+use bz_kinds::{Comp, far_word, next_due, only_waits, ready_word};
 use bz_model::{Move, Phase, Reply, Value, Verb};
 use std::alloc::{AllocError, Global};
 
@@ -69,14 +69,59 @@ fn lowest_far(comp: &Comp, here: &PortBits) -> Option<u32>
     requires near { (p : ℕ) → p < 64 → CanGo comp.now.proc p (flag_of here.now p) → ⊥ }
     ensures { MatchOption result (NoneGoes comp.now here.now) (GoesFirst comp.now here.now) }
 {
+    let at = next_due(comp, 1);
+    if at >= here.word_count() {
+        return None;
+    }
+    let word = far_word(comp, at as u32, here.word(at));
+    if word != 0 {
+        return Some(64 * at as u32 + word.trailing_zeros());
+    }
+    if only_waits(comp) {
+        return lowest_here(comp, here, at + 1);
+    }
+    lowest_from(comp, here, at + 1)
+}
+
+// The same of the words from one on, where there is none before.
+#[inline(never)]
+fn lowest_from(comp: &Comp, here: &PortBits, from: usize) -> Option<u32>
+    requires room { length comp.now.chans < 64 * length here.now }
+    requires few { length here.now ≤ 2 ^ 26 }
+    requires far { 0 < from }
+    requires before { (p : ℕ) → p < 64 * from → CanGo comp.now.proc p (flag_of here.now p) → ⊥ }
+    ensures { MatchOption result (NoneGoes comp.now here.now) (GoesFirst comp.now here.now) }
+{
     let end = here.word_count();
-    let mut at = next_due(comp, 1);
+    let mut at = next_due(comp, from);
     while at < end {
-        let word = ready_word(comp, at as u32, here.word(at));
+        let word = far_word(comp, at as u32, here.word(at));
         if word != 0 {
             return Some(64 * at as u32 + word.trailing_zeros());
         }
         at = next_due(comp, at + 1);
+    }
+    None
+}
+
+// The same of a component that waits at each of these ports where a move is due: it can move where something is here alone.
+#[inline(never)]
+fn lowest_here(comp: &Comp, here: &PortBits, from: usize) -> Option<u32>
+    requires room { length comp.now.chans < 64 * length here.now }
+    requires few { length here.now ≤ 2 ^ 26 }
+    requires far { 0 < from }
+    requires before { (p : ℕ) → p < 64 * from → CanGo comp.now.proc p (flag_of here.now p) → ⊥ }
+    requires waits { (p : ℕ) (flag : Bool) → 64 ≤ p → CanGo comp.now.proc p flag → flag ≡ true }
+    ensures { MatchOption result (NoneGoes comp.now here.now) (GoesFirst comp.now here.now) }
+{
+    let end = here.word_count();
+    let mut at = here.next_one(from);
+    while at < end {
+        let word = far_word(comp, at as u32, here.word(at));
+        if word != 0 {
+            return Some(64 * at as u32 + word.trailing_zeros());
+        }
+        at = here.next_one(at + 1);
     }
     None
 }
@@ -109,7 +154,7 @@ fn can_go_far(comp: &Comp, here: &PortBits, port: u32) -> bool
 {
     let at = port / 64;
     if at > 0 {
-        let word = ready_word(comp, at, here.word(at as usize));
+        let word = far_word(comp, at, here.word(at as usize));
         if word != 0 {
             return true;
         }

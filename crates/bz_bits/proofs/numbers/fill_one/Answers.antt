@@ -3,7 +3,7 @@ use Rattle.std.specs.Prelude.{if◌then◌else◌}
 use Rattle.std.specs.Int.{bit_at}
 use Rattle.bz_bits.specs.declared.word.PortWord.{PortWord}
 use Rattle.bz_bits.specs.PortWords.{number_in, number_at}
-use Rattle.bz_bits.proofs.Words.{fill_step, fill_end, fill_none, in_word}
+use Rattle.bz_bits.proofs.Words.{word_filled, filled_all, in_word}
 use Rattle.bz_bits.proofs.numbers.fill_one.Goals as goal
 
 pub returns-clause-filled : goal.returns-clause-filled
@@ -11,8 +11,8 @@ returns-clause-filled c =
     let old = c.args.first.now ∷ c.args.more.now in let new = c.put_word.new.first ∷ c.put_word.new.more in
     let port = c.args.port in let at = port / 64 in let s = c.args.number in let mask = c.one_place.result in
     let held : at < length old = omega (arith, c.requires.fits) in
-    fill_end old new port (port + 1) (at + 1) s (λ p.
+    filled_all old new port (port + 1) s at (at + 1) (omega arith) (omega arith) (λ p.
     ap (λ (l : List PortWord). number_at l p) c.put_word.ensures.put
-    ∙ fill_step old old port (port + 1) at s (fill_none old port (port + 1) s) mask c.filled-word.result held
+    ∙ word_filled old port (port + 1) at s mask c.filled-word.result held
     (λ i lt. c.one_place.ensures i lt ∙ in_word port i)
-    (λ i lt. c.filled-word.ensures i lt ∙ ap (λ (w : PortWord). if bit_at mask i == 1 then s else number_in w i) c.word_at.ensures) p) (omega arith)
+    (λ i lt. c.filled-word.ensures i lt ∙ ap (λ (w : PortWord). if bit_at mask i == 1 then s else number_in w i) c.word_at.ensures) p)

@@ -1,0 +1,21 @@
+use Rattle.bz_kinds.proofs.ReadyLaws.{ready_at, none_due, at_ports, opens_closed}
+use Rattle.bz_kinds.proofs.comp.far_word.Goals as goal
+
+pub returns-clause-ready : goal.returns-clause-ready
+returns-clause-ready c =
+    ready_at _ _ _ _ _ _ _ c.comp.view_is c.comp.invariant.0 c.args.at c.sense_word_here-passive.result c.args.here c.ready.result c.word-word.result c.sense_word_here-passive.ensures c.word-word.ensures c.ready.ensures
+
+pub returns-then-word-eq0-clause-ready : goal.returns-then-word-eq0-clause-ready
+returns-then-word-eq0-clause-ready c = none_due _ _ _ _ _ _ _ c.comp.view_is c.comp.invariant.0 c.args.at c.args.here c.word-word.result c.if-word-eq0.true c.word-word.ensures
+
+pub returns-then-word-eq0-clause-held : goal.returns-then-word-eq0-clause-held
+returns-then-word-eq0-clause-held c = at_ports _ _ _ _ _ _ _ c.comp.view_is c.comp.invariant.0 c.comp.invariant.1.2
+
+pub returns-then-word-eq0-clause-turns : goal.returns-then-word-eq0-clause-turns
+returns-then-word-eq0-clause-turns c = opens_closed _ _ _ _ _ _ _ c.comp.view_is c.comp.invariant.0 c.comp.invariant.1.2
+
+pub returns-clause-held : goal.returns-clause-held
+returns-clause-held c = at_ports _ _ _ _ _ _ _ c.comp.view_is c.comp.invariant.0 c.comp.invariant.1.2
+
+pub returns-clause-turns : goal.returns-clause-turns
+returns-clause-turns c = opens_closed _ _ _ _ _ _ _ c.comp.view_is c.comp.invariant.0 c.comp.invariant.1.2
