@@ -347,9 +347,30 @@ pub(crate) fn mark_all(
     let count = sites.len() as u32;
     let mut ready = ReadyRow::new(alloc, count, keeping)?;
     for place in 0..count {
-        refresh(sites, phases, nodes, &mut ready, place + 1, 1);
+        mark(sites, phases, nodes, &mut ready, place + 1);
     }
     Ok(ready)
+}
+
+// Marks a component that is not marked, where it can move.
+#[inline(always)]
+fn mark(
+    sites: &Arena<FlatComp>,
+    phases: &Phases,
+    nodes: &NodeRow,
+    ready: &mut ReadyRow,
+    comp: u32,
+)
+    requires sighted { Sighted (map site_of sites.now) phases.now (comps_of nodes.now) (heres_of nodes.now) }
+    requires from { 0 < comp }
+    requires to { comp ≤ length sites.now }
+    requires row { length ready.old ≡ suc (length sites.now) }
+    requires unmarked { flag_at ready.old comp ≡ false }
+    ensures { Refreshed (map site_of sites.now) (state_of phases.now (comps_of nodes.now)) ready.old ready.new comp }
+{
+    if can_step(sites, phases, nodes, comp, 1) {
+        ready.insert(comp);
+    }
 }
 
 /// Moves a component at the port that is given, or else at the lowest where it can move. Tells the ends of the channel what the
