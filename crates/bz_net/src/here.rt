@@ -10,7 +10,7 @@ ghost use Rattle.bz_flat.specs.Wires.{IsEnd, StandsIn, ends_in};
 ghost use Rattle.bz_flat.specs.Flats.{site_of};
 ghost use Rattle.bz_kinds.specs.Ready.{CanGo};
 ghost use Rattle.bz_model.specs.Runs.{CanStep, IsLowest};
-ghost use Rattle.bz_net.specs.Keeping.{comp_at, state_of, Exact, Placed, Refreshed, RefreshedEnds, MarksAll, CommandedAt, phase_in};
+ghost use Rattle.bz_net.specs.Keeping.{comp_at, flag_at, state_of, Exact, Placed, Refreshed, RefreshedEnds, MarksAll, CommandedAt, phase_in};
 ghost use Rattle.bz_model.specs.Hosts.{host_after};
 ghost use Rattle.bz_net.specs.ChanRow.{InRow};
 ghost use Rattle.bz_net.specs.Due.{GivesAsSteps, HasStep};
