@@ -354,13 +354,7 @@ pub(crate) fn mark_all(
 
 // Marks a component that is not marked, where it can move.
 #[inline(always)]
-fn mark(
-    sites: &Arena<FlatComp>,
-    phases: &Phases,
-    nodes: &NodeRow,
-    ready: &mut ReadyRow,
-    comp: u32,
-)
+fn mark(sites: &Arena<FlatComp>, phases: &Phases, nodes: &NodeRow, ready: &mut ReadyRow, comp: u32)
     requires sighted { Sighted (map site_of sites.now) phases.now (comps_of nodes.now) (heres_of nodes.now) }
     requires from { 0 < comp }
     requires to { comp ≤ length sites.now }
