@@ -168,14 +168,31 @@ fn are_alike(name: &[u8], text: &[u8]) -> bool
     requires { length name.now ≡ length text.now }
     ensures { result ≡ bytes_eq name.now text.now }
 {
-    let [a, b, c, d, e, f, g, h, rest @ ..] = name else {
+    let [one, two, three, four, five, six, seven, eight, rest @ ..] = name else {
         return are_alike_near(name, text);
     };
-    let [i, j, k, l, m, n, o, p, others @ ..] = text else {
+    let [
+        first,
+        second,
+        third,
+        fourth,
+        fifth,
+        sixth,
+        seventh,
+        eighth,
+        others @ ..,
+    ] = text
+    else {
         return false;
     };
-    let front = differ(*a, *i) | differ(*b, *j) | differ(*c, *k) | differ(*d, *l);
-    let back = differ(*e, *m) | differ(*f, *n) | differ(*g, *o) | differ(*h, *p);
+    let front = differ(*one, *first)
+        | differ(*two, *second)
+        | differ(*three, *third)
+        | differ(*four, *fourth);
+    let back = differ(*five, *fifth)
+        | differ(*six, *sixth)
+        | differ(*seven, *seventh)
+        | differ(*eight, *eighth);
     if front | back {
         return false;
     }
