@@ -1,6 +1,6 @@
 //! One component of a part: what it is, and whether its entries are what its kind or its part asks for.
 
-ghost use Rattle.std.specs.Prelude.{◌≡◌, ◌<◌, ◌≤◌, ◌⊎◌, ◌↔◌, ◌+◌, ◌++◌, ◌∷◌, [], ℕ, length, take, map, not, count_by, slice_get, slice_index_or, MatchOption, IsTrue, IfOk, IfErr, IfSome, OnOk};
+ghost use Rattle.std.specs.Prelude.{◌≡◌, ◌<◌, ◌≤◌, ◌⊎◌, ◌↔◌, ◌+◌, ◌++◌, ◌∷◌, [], ℕ, length, take, map, not, count_by, slice_get, slice_index_or, MatchOption, IsTrue, IfOk, IfErr, IfSome, IsSome, OnOk};
 ghost use Rattle.std.specs.List.{All};
 ghost use Rattle.std.specs.Option.{option_copied};
 ghost use Rattle.bz_model.specs.Rows.{row_of};
@@ -38,13 +38,12 @@ pub fn leaf_of(
         component.name.as_slice(),
         component.params.as_slice(),
     )?;
-    if !fits_ports(&kind, entries) {
+    let Some(sizes) = fitting_sizes(&kind, entries) else {
         return Err(Fault::PortCount);
-    }
+    };
     if !name_channels(entries, channels.len()) {
         return Err(Fault::BadChannel);
     }
-    let sizes = sizes_of(entries);
     let chans = arranged_list(alloc, &kind, channels, entries)?;
     gather(channels, chans.as_slice(), carried)?;
     if !kinds_are(&kind, sizes, carried.as_slice()) {
@@ -134,13 +133,19 @@ fn list(entries: &[Slot], place: usize) -> Option<&[u32]>
     None
 }
 
-// Whether the entries are what a kind's ports ask for.
-fn fits_ports(kind: &Kind, entries: &[Slot]) -> bool
-    ensures { IsTrue result ↔ FitsPorts kind.now entries.now }
+// The lengths of the lists among the entries, where the entries are what a kind's ports ask for.
+fn fitting_sizes(kind: &Kind, entries: &[Slot]) -> Option<[u32; 2]>
+    ensures fits { IfSome result (λ sizes. FitsPorts kind.now entries.now × (sizes ≡ sizes_of entries.now)) }
+    ensures none { FitsPorts kind.now entries.now → IsSome result }
 {
-    has_entries(port_table(kind), entries)
-        && has_members(entries)
-        && sizes_fit(kind, sizes_of(entries))
+    if !has_entries(port_table(kind), entries) {
+        return None;
+    }
+    let sizes = array_sizes(entries)?;
+    if !sizes_fit(kind, sizes) {
+        return None;
+    }
+    Some(sizes)
 }
 
 // Whether there is a single entry for each single port and a list for each array.

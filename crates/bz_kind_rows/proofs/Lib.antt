@@ -1,4 +1,4 @@
 mod Tables
 pub mod Pieces
 pub mod Numbers
-mod Lengths
+mod Names

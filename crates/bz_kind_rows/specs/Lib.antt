@@ -3,4 +3,3 @@ pub mod Texts
 pub mod Naming
 pub mod Table
 pub mod KindWords
-pub mod Lengths

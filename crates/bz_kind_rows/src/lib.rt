@@ -1,7 +1,7 @@
 //! The kinds of component by name and parameters, the row of ports of each, and what meets a row.
 #![tactic(auto)]
 
-mod by_length;
+mod likely;
 mod naming;
 mod specification;
 mod table;

@@ -1,12 +1,12 @@
 //! Kinds by the names and parameters that netlists give them.
 
-ghost use Rattle.std.specs.Prelude.{◌≡◌, ◌⊎◌, ◌%◌, ◌^◌, length, map, bytes_eq, IfOk, IfErr, Ok, Err};
+ghost use Rattle.std.specs.Prelude.{◌≡◌, ◌⊎◌, ◌%◌, ◌^◌, ◌==◌, not, length, map, bytes_eq, IfOk, IfErr, Ok, Err};
 ghost use Rattle.bz_model.specs.declared.kind.Kind.TheVariants.{Adapt};
 ghost use Rattle.bz_model.specs.declared.error.KindError.TheVariants.{Memory};
 ghost use Rattle.std.specs.Option.{option_copied};
 ghost use Rattle.bz_kind_rows.specs.Naming.{name_rows, named, meant, kind_by, kind_with, text, number, flag, given_flag, case_by, case_fetch_by, variable_by, false_variable_by, reads_whole, last_text, constant_by, unary_by, binary_by, const_by, slice_by, given, unary_named, binary_named};
 
-use crate::by_length::names_of_length;
+use crate::likely::{likely, name_of};
 use crate::specification::specification;
 use bz_model::{BinaryOp, Kind, KindError, MAX_WIDTH, Param, UnaryOp};
 use std::alloc::{AllocError, Global};
@@ -136,7 +136,11 @@ pub fn kind_names() -> &'static [(&'static str, KindName)]
 pub fn kind_named(name: &[u8]) -> Option<KindName>
     ensures { result ≡ named name.now }
 {
-    meant(names_of_length(name.len()), name)
+    let likely = likely(name);
+    if is(name, name_of(likely)) {
+        return Some(likely);
+    }
+    meant(kind_names(), name)
 }
 
 // What stands beside a name in a table.
@@ -151,23 +155,53 @@ fn meant<T: Copy>(table: &[(&str, T)], name: &[u8]) -> Option<T>
     None
 }
 
-// Whether a name is this text. Most others have another fifth byte, behind the `$Brz` that all names of kinds begin with, and
-// nearly all the rest another eighth.
+// Whether a name is this text.
+#[inline(always)]
 fn is(name: &[u8], text: &[u8]) -> bool
     ensures { result ≡ bytes_eq name.now text.now }
 {
-    if name.len() != text.len() {
-        return false;
-    }
-    if name.len() > 7 && (name[4] != text[4] || name[7] != text[7]) {
-        return false;
-    }
-    are_alike(name, text)
+    name.len() == text.len() && are_alike(name, text)
 }
 
-// Whether two texts of one length have the same bytes. They are short, so a loop takes half of what a call of `==` does.
-#[inline(always)]
+// Whether two texts of one length have the same bytes: eight at once, which the compiler compares as one, and then the rest.
 fn are_alike(name: &[u8], text: &[u8]) -> bool
+    requires { length name.now ≡ length text.now }
+    ensures { result ≡ bytes_eq name.now text.now }
+{
+    let [one, two, three, four, five, six, seven, eight, rest @ ..] = name else {
+        return are_alike_near(name, text);
+    };
+    let [
+        first,
+        second,
+        third,
+        fourth,
+        fifth,
+        sixth,
+        seventh,
+        eighth,
+        others @ ..,
+    ] = text
+    else {
+        return false;
+    };
+    let front = differ(*one, *first)
+        | differ(*two, *second)
+        | differ(*three, *third)
+        | differ(*four, *fourth);
+    let back = differ(*five, *fifth)
+        | differ(*six, *sixth)
+        | differ(*seven, *seventh)
+        | differ(*eight, *eighth);
+    if front | back {
+        return false;
+    }
+    are_alike(rest, others)
+}
+
+// The same of few bytes: a loop takes half of what a call of `==` does.
+#[inline(always)]
+fn are_alike_near(name: &[u8], text: &[u8]) -> bool
     requires { length name.now ≡ length text.now }
     ensures { result ≡ bytes_eq name.now text.now }
 {
@@ -177,6 +211,13 @@ fn are_alike(name: &[u8], text: &[u8]) -> bool
         }
     }
     true
+}
+
+#[inline(always)]
+fn differ(a: u8, b: u8) -> bool
+    ensures { result ≡ not (a == b) }
+{
+    a != b
 }
 
 // The kind of this name, unless it cannot have these parameters.

@@ -1,6 +1,6 @@
 //! The channels at the ports of all components in one row, so that a move finds its own by two looks.
 
-ghost use Rattle.std.specs.Prelude.{◌≡◌, List, map, IfOk};
+ghost use Rattle.std.specs.Prelude.{◌≡◌, ◌++◌, List, map, IfOk, OnOk};
 ghost use Rattle.bz_flat.specs.Flats.{site_of};
 ghost use Rattle.bz_model.specs.Nets.{Site, IsPort, chan_at};
 ghost use Rattle.bz_net.specs.ChanRow.{InRow, StandsInRow};
@@ -16,6 +16,17 @@ pub(crate) struct ChanRow {
     row: Vec<u32>,
 }
 
+// Appends channels one by one: they are few, and a call that copies them takes longer.
+#[inline(always)]
+fn add_all(row: &mut Vec<u32>, chans: &[u32]) -> Result<(), AllocError>
+    ensures { OnOk result (row.new.items ≡ row.old.items ++ chans.now) }
+{
+    for chan in chans {
+        row.push(*chan)?;
+    }
+    Ok(())
+}
+
 impl ChanRow {
     /// Those of these components.
     pub(crate) fn of(alloc: Global, sites: &Arena<FlatComp>) -> Result<ChanRow, AllocError>
@@ -28,7 +39,7 @@ impl ChanRow {
                 return Err(AllocError);
             };
             starts.push(start)?;
-            row.extend_from_slice(&sites.get(Id::at(place)).chans)?;
+            add_all(&mut row, &sites.get(Id::at(place)).chans)?;
         }
         Ok(ChanRow { starts, row })
     }

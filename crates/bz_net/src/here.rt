@@ -10,7 +10,7 @@ ghost use Rattle.bz_flat.specs.Wires.{IsEnd, StandsIn, ends_in};
 ghost use Rattle.bz_flat.specs.Flats.{site_of};
 ghost use Rattle.bz_kinds.specs.Ready.{CanGo};
 ghost use Rattle.bz_model.specs.Runs.{CanStep, IsLowest};
-ghost use Rattle.bz_net.specs.Keeping.{comp_at, state_of, Exact, Placed, Refreshed, RefreshedEnds, MarksAll, CommandedAt, phase_in};
+ghost use Rattle.bz_net.specs.Keeping.{comp_at, flag_at, state_of, Exact, Placed, Refreshed, RefreshedEnds, MarksAll, CommandedAt, phase_in};
 ghost use Rattle.bz_model.specs.Hosts.{host_after};
 ghost use Rattle.bz_net.specs.ChanRow.{InRow};
 ghost use Rattle.bz_net.specs.Due.{GivesAsSteps, HasStep};
@@ -392,9 +392,24 @@ pub(crate) fn mark_all(
     let count = sites.len() as u32;
     let mut ready = ReadyRow::new(alloc, count, keeping)?;
     for place in 0..count {
-        refresh(sites, phases, nodes, &mut ready, place + 1, 1);
+        mark(sites, phases, nodes, &mut ready, place + 1);
     }
     Ok(ready)
+}
+
+// Marks a component that is not marked, where it can move.
+#[inline(always)]
+fn mark(sites: &Arena<FlatComp>, phases: &Phases, nodes: &NodeRow, ready: &mut ReadyRow, comp: u32)
+    requires sighted { Sighted (map site_of sites.now) phases.now (comps_of nodes.now) (heres_of nodes.now) }
+    requires from { 0 < comp }
+    requires to { comp ≤ length sites.now }
+    requires row { length ready.old ≡ suc (length sites.now) }
+    requires unmarked { flag_at ready.old comp ≡ false }
+    ensures { Refreshed (map site_of sites.now) (state_of phases.now (comps_of nodes.now)) ready.old ready.new comp }
+{
+    if can_step(sites, phases, nodes, comp, 1) {
+        ready.insert(comp);
+    }
 }
 
 /// Makes a host command at an external port, tells both ends of its channel, and looks again whether the components there

@@ -28,13 +28,28 @@ pub(crate) fn add_node(nodes: &mut Arena<Node>, node: Node) -> Result<(), AllocE
     }
 }
 
-/// Puts a node in the place of another.
+/// Gives the node of a list that is open what it has when the list is closed, and answers what it was.
 #[inline(always)]
-pub(crate) fn put_node(nodes: &mut Arena<Node>, place: usize, node: Node)
+pub(crate) fn close_node(
+    nodes: &mut Arena<Node>,
+    place: usize,
+    to: u32,
+    size: u32,
+    count: u32,
+) -> Node
     requires { place < length nodes.old }
-    ensures { nodes.new ≡ slice_set nodes.old place node }
+    ensures was { result ≡ slice_index_or nodes.old place result }
+    ensures closed { nodes.new ≡ slice_set nodes.old place (record { from = result.from; to = to; size = size; count = count }) }
 {
-    *nodes.get_mut(Id::at(place)) = node;
+    let node = nodes.get_mut(Id::at(place));
+    let opened = *node;
+    *node = Node {
+        from: opened.from,
+        to,
+        size,
+        count,
+    };
+    opened
 }
 
 /// Nodes that stand one behind the other.

@@ -12,11 +12,11 @@ returns-in_err-kind-clause-err c =
     let why = rw (c.as_slice.ensures.value, c.as_slice-2.ensures.value) at c.in_err-kind.ensures.err in
     rw (p.1, p.2) (role_fault_or c.args.channels.now c.args.component.now c.in_err-kind.field-0.0 why)
 
-pub returns-then-not-fits_ports-clause-err : goal.returns-then-not-fits_ports-clause-err
-returns-then-not-fits_ports-clause-err c =
+pub returns-in_default-clause-err : goal.returns-in_default-clause-err
+returns-in_default-clause-err c =
     let role = role_kind c.args.component.now c.in_ok-kind.kind (rw (c.as_slice.ensures.value, c.as_slice-2.ensures.value) at c.in_ok-kind.ensures.ok) in
-    let tells = rw c.as_slice-entries.ensures.value at c.fits_ports.ensures in
-    leaf_fault c.args.channels.now c.args.component.now _ fault.PortCount role (λ fits. not_both _ (tells.1 fits) c.if-not-fits_ports.true)
+    let none = rw c.as_slice-entries.ensures.value at c.in_default.ensures.none in
+    leaf_fault c.args.channels.now c.args.component.now _ fault.PortCount role (λ fits. let e = none fits in cc)
 
 pub returns-then-not-name_channels-clause-err : goal.returns-then-not-name_channels-clause-err
 returns-then-not-name_channels-clause-err c =
@@ -36,7 +36,7 @@ returns-then-not-kinds_are-clause-err c =
     let role = role_kind c.args.component.now c.in_ok-kind.kind (rw (c.as_slice.ensures.value, c.as_slice-2.ensures.value) at c.in_ok-kind.ensures.ok) in
     let chans = rw c.as_slice-entries.ensures.value at c.in_ok-chans.ensures in
     let carried = rw (c.as_slice-3.ensures.value, chans) at c.in_ok-gather.ensures in
-    let sizes = rw c.as_slice-entries.ensures.value at c.sizes_of-sizes.ensures in
+    let sizes = (rw c.as_slice-entries.ensures.value at c.in-Some.ensures.fits).1 in
     let tells = rw (c.as_slice-4.ensures.value, carried, sizes) at c.kinds_are.ensures in
     leaf_fault c.args.channels.now c.args.component.now _ fault.KindMismatch role (λ kinds. not_both _ (tells.1 kinds) c.if-not-kinds_are.true)
 
@@ -51,11 +51,11 @@ returns-then-not-widths_fit-clause-err c =
 pub returns-clause-ok : goal.returns-clause-ok
 returns-clause-ok c =
     let role = role_kind c.args.component.now c.in_ok-kind.kind (rw (c.as_slice.ensures.value, c.as_slice-2.ensures.value) at c.in_ok-kind.ensures.ok) in
-    let fits = rw c.as_slice-entries.ensures.value at c.fits_ports.ensures in
+    let fits = rw c.as_slice-entries.ensures.value at c.in-Some.ensures.fits in
     let within = tells_named (IsChannel c.args.channels.now) _ _ (rw c.as_slice-entries.ensures.value at c.name_channels.ensures) in
     let chans = rw c.as_slice-entries.ensures.value at c.in_ok-chans.ensures in
     let carried = rw (c.as_slice-3.ensures.value, chans) at c.in_ok-gather.ensures in
-    let sizes = rw c.as_slice-entries.ensures.value at c.sizes_of-sizes.ensures in
+    let sizes = (rw c.as_slice-entries.ensures.value at c.in-Some.ensures.fits).1 in
     let kinds = rw (c.as_slice-4.ensures.value, carried, sizes) at c.kinds_are.ensures in
     let widths = rw (c.as_slice-5.ensures.value, carried) at c.widths_fit.ensures in
     record {
@@ -63,7 +63,7 @@ returns-clause-ok c =
       sizes_are = sizes;
       chans_are = chans;
       sound = record {
-        fits = fits.0 c.if-not-fits_ports.false;
+        fits = fits.0;
         within = within.0 c.if-not-name_channels.false;
         kinds = kinds.0 c.if-not-kinds_are.false;
         widths = widths.0 c.if-not-widths_fit.false;
@@ -78,33 +78,33 @@ returns-in_err-kind-clause-first c =
     let why = rw (c.as_slice.ensures.value, c.as_slice-2.ensures.value) at c.in_err-kind.ensures.err in
     rw (p.1, p.2) (role_first_or c.args.channels.now c.args.component.now c.in_err-kind.field-0.0 why)
 
-pub returns-then-not-fits_ports-clause-first : goal.returns-then-not-fits_ports-clause-first
-returns-then-not-fits_ports-clause-first c =
+pub returns-in_default-clause-first : goal.returns-in_default-clause-first
+returns-in_default-clause-first c =
     let role = role_kind c.args.component.now c.in_ok-kind.kind (rw (c.as_slice.ensures.value, c.as_slice-2.ensures.value) at c.in_ok-kind.ensures.ok) in
     by_kind c.args.channels.now c.args.component.now _ fault.PortCount role (count_first c.args.channels.now c.args.component.now _)
 
 pub returns-then-not-name_channels-clause-first : goal.returns-then-not-name_channels-clause-first
 returns-then-not-name_channels-clause-first c =
     let role = role_kind c.args.component.now c.in_ok-kind.kind (rw (c.as_slice.ensures.value, c.as_slice-2.ensures.value) at c.in_ok-kind.ensures.ok) in
-    let fits = rw c.as_slice-entries.ensures.value at c.fits_ports.ensures in
-    by_kind c.args.channels.now c.args.component.now _ fault.BadChannel role (channel_first c.args.channels.now c.args.component.now _ (fits.0 c.if-not-fits_ports.false))
+    let fits = rw c.as_slice-entries.ensures.value at c.in-Some.ensures.fits in
+    by_kind c.args.channels.now c.args.component.now _ fault.BadChannel role (channel_first c.args.channels.now c.args.component.now _ fits.0)
 
 pub returns-then-not-kinds_are-clause-first : goal.returns-then-not-kinds_are-clause-first
 returns-then-not-kinds_are-clause-first c =
     let role = role_kind c.args.component.now c.in_ok-kind.kind (rw (c.as_slice.ensures.value, c.as_slice-2.ensures.value) at c.in_ok-kind.ensures.ok) in
-    let fits = rw c.as_slice-entries.ensures.value at c.fits_ports.ensures in
+    let fits = rw c.as_slice-entries.ensures.value at c.in-Some.ensures.fits in
     let within = tells_named (IsChannel c.args.channels.now) _ _ (rw c.as_slice-entries.ensures.value at c.name_channels.ensures) in
     by_kind c.args.channels.now c.args.component.now _ fault.KindMismatch role
-    (kinds_first c.args.channels.now c.args.component.now _ (fits.0 c.if-not-fits_ports.false) (within.0 c.if-not-name_channels.false))
+    (kinds_first c.args.channels.now c.args.component.now _ fits.0 (within.0 c.if-not-name_channels.false))
 
 pub returns-then-not-widths_fit-clause-first : goal.returns-then-not-widths_fit-clause-first
 returns-then-not-widths_fit-clause-first c =
     let role = role_kind c.args.component.now c.in_ok-kind.kind (rw (c.as_slice.ensures.value, c.as_slice-2.ensures.value) at c.in_ok-kind.ensures.ok) in
-    let fits = rw c.as_slice-entries.ensures.value at c.fits_ports.ensures in
+    let fits = rw c.as_slice-entries.ensures.value at c.in-Some.ensures.fits in
     let within = tells_named (IsChannel c.args.channels.now) _ _ (rw c.as_slice-entries.ensures.value at c.name_channels.ensures) in
     let chans = rw c.as_slice-entries.ensures.value at c.in_ok-chans.ensures in
     let carried = rw (c.as_slice-3.ensures.value, chans) at c.in_ok-gather.ensures in
-    let sizes = rw c.as_slice-entries.ensures.value at c.sizes_of-sizes.ensures in
+    let sizes = (rw c.as_slice-entries.ensures.value at c.in-Some.ensures.fits).1 in
     let kinds = rw (c.as_slice-4.ensures.value, carried, sizes) at c.kinds_are.ensures in
     by_kind c.args.channels.now c.args.component.now _ fault.WidthMismatch role
-    (widths_first c.args.channels.now c.args.component.now _ (fits.0 c.if-not-fits_ports.false) (within.0 c.if-not-name_channels.false) (kinds.0 c.if-not-kinds_are.false))
+    (widths_first c.args.channels.now c.args.component.now _ fits.0 (within.0 c.if-not-name_channels.false) (kinds.0 c.if-not-kinds_are.false))

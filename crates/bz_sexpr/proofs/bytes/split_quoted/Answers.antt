@@ -1,10 +1,9 @@
-use Rattle.std.proofs.Common.{[], refl, rules, arith}
-use Rattle.bz_sexpr.specs.Pieces.{nothing}
-use Rattle.bz_sexpr.proofs.Texts.{goes_by_byte, goes_by_escape, closes_at}
+use Rattle.std.proofs.Common.{rules, arith}
+use Rattle.bz_sexpr.proofs.Texts.{goes_plain, goes_by_byte, goes_by_escape, closes_at}
 use Rattle.bz_sexpr.proofs.bytes.split_quoted.Goals as goal
 
 pub loop-at-init : goal.loop-at-init
-loop-at-init c = ([], [], nothing, refl)
+loop-at-init c = goes_plain _ _ c.plain_front-at.ensures.within c.plain_front-at.ensures.plain
 
 pub returns-in-34-clause-closed : goal.returns-in-34-clause-closed
 returns-in-34-clause-closed c =

@@ -1,7 +1,7 @@
 use Rattle.std.proofs.Common.{◌≡◌, arith, sym, ◌∙◌}
 use Rattle.std.proofs.lemmas.List.{take_all}
 use Rattle.std.proofs.lemmas.Slice.Eq.{bytes_eq-Decides}
-use Rattle.bz_kind_rows.proofs.naming.are_alike.Goals as goal
+use Rattle.bz_kind_rows.proofs.naming.are_alike_near.Goals as goal
 
 pub returns : goal.returns
 returns c =
