@@ -1,4 +1,4 @@
-use Rattle.std.proofs.Common.{◌+◌, arith}
+use Rattle.std.proofs.Common.{arith}
 use Rattle.bz_net.proofs.Telling.{word_passes, words_pass, word_hits}
 use Rattle.bz_net.proofs.here.lowest_far.Goals as goal
 
