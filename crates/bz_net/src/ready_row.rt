@@ -112,13 +112,19 @@ impl ReadyRow {
         }
     }
 
-    /// The least that can move at or above `from`, else the least of all. It mostly lies in the word of `from`.
+    /// The least that can move at or above `from`, else the least of all. It mostly lies in the word of `from`, and where there
+    /// are few, it always does.
     #[inline(always)]
     pub(crate) fn next_from(&self, from: u32) -> Option<u32>
         ensures { IsNextFrom self.now from result }
     {
         if let Some(place) = self.marks.next_from(from as usize) {
             return Some(place as u32);
+        }
+        if self.marks.len() <= 64 {
+            if let Some(place) = self.marks.next_from(0) {
+                return Some(place as u32);
+            }
         }
         next_around(&self.marks, &self.listed, from)
     }
