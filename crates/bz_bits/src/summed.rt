@@ -99,7 +99,7 @@ impl<A: Allocator + Copy> SummedRow<A> {
         if let Some(place) = self.row.next_in_word(from) {
             return Some(place);
         }
-        if self.row.len() <= 64 {
+        if self.len() <= 64 {
             return None;
         }
         self.next_beyond(from)
