@@ -1,9 +1,9 @@
 -- Words of ports: what a mask and one bit leave of them.
 use Rattle.std.proofs.Common.{◌≡◌, ◌≢◌, ◌⊎◌, ℕ, zero, suc, ◌+◌, ◌-◌, ◌*◌, ◌/◌, ◌%◌, ◌^◌, ◌<◌, ◌≤◌, Bool, true, false, not, ◌&&◌, ◌||◌, ◌==◌, List, [], ◌∷◌, ◌++◌, length, get_or, set, take, drop, replicate, refl, sym, ap, ◌∙◌, subst, inl, inr, arith, min, max}
-use Rattle.std.specs.Prelude.{nat_le, nat_lt, if◌then◌else◌}
+use Rattle.std.specs.Prelude.{bit_and, nat_le, nat_lt, if◌then◌else◌}
 use Rattle.std.specs.Int.{bit_at, from_bool, trailing_zeros, w64}
 use Rattle.std.proofs.lemmas.Nat.{one_shl}
-use Rattle.std.proofs.lemmas.Nat.Bits.{bit_at-trailing_zeros, bit_at-zero, bit_at-lt, bit_at-pow_same, bit_at-pow_other}
+use Rattle.std.proofs.lemmas.Nat.Bits.{bit_at-trailing_zeros, bit_at-zero, bit_at_and, bit_at-lt, bit_at-pow_same, bit_at-pow_other}
 use Rattle.std.specs.List.{All}
 use Rattle.std.proofs.lemmas.List.Elements.{All-get_or}
 use Rattle.std.proofs.lemmas.List.{get_or-take, get_or-drop, length-take, length-drop, ext_get_or, length-set, length-replicate, get_or-replicate, get_or-set_same, get_or-set_other, get_or_past, get_or_append_left, get_or-append_right}
@@ -646,3 +646,28 @@ high_is (suc zero) (suc (suc high)) l h = absurd (omega (arith, h))
 
 pub number_high : (w : PortWord) (i : ℕ) → (bit_at w.opened i == 1) ≡ nat_le 2 (number_in w i)
 number_high w i = high_is (bit_at w.due i) (bit_at w.opened i) (bit_at-lt w.due i) (bit_at-lt w.opened i)
+
+-- no number 1 behind the first word, where those from the lowest on lack it
+two_bits : (d o : ℕ) → d < 2 → o < 2 → min d o ≡ d → d + 2 * o ≢ 1
+two_bits zero zero l k e f = absurd (omega (arith, f))
+two_bits zero (suc o) l k e f = absurd (omega (arith, f))
+two_bits (suc d) zero l k e f = absurd (omega (arith, e))
+two_bits (suc d) (suc o) l k e f = absurd (omega (arith, f))
+
+pub far_lacks : (f : PortWord) (rest : List PortWord) (n low b : ℕ) → AreNumbers (f ∷ rest) n → IsLowest rest low → b ≤ low → All (λ (w : PortWord). bit_and w.due w.opened ≡ w.due) (drop b rest)
+    → (p : ℕ) → 64 ≤ p → get_or (numbers (f ∷ rest) n) p 0 ≢ 1
+far_lacks f rest n low b are is le all p far one =
+    let j = p / 64 - 1 in let i = p % 64 in let w = get_or rest j no_ports in
+    let e : p / 64 ≡ suc j = omega (arith, far) in
+    let number : number_in w i ≡ 1 = sym (any-number (f ∷ rest) n p are ∙ ap (λ (m : ℕ). number_in (get_or (f ∷ rest) m no_ports) i) e) ∙ one in
+    let d = bit_at w.due i in let o = bit_at w.opened i in
+    let lacks : bit_and w.due w.opened ≡ w.due → ⊥ = λ same. two_bits d o (bit_at-lt w.due i) (bit_at-lt w.opened i) (sym (bit_at_and w.due w.opened i) ∙ ap (λ (x : ℕ). bit_at x i) same) number in
+    elim (cases_lt j b) [
+      | inl below ↦ let z : d ≡ 0 = ap (λ (x : ℕ). bit_at x i) (is.even j (omega (arith, below, le))) ∙ bit_at-zero i in omega (arith, z, number, bit_at-lt w.opened i)
+      | inr from ↦ elim (cases_lt j (length rest)) [
+          | inl lt ↦ let there : b + (j - b) ≡ j = omega (arith, from) in
+              let at = All-get_or (λ (w : PortWord). bit_and w.due w.opened ≡ w.due) (drop b rest) (j - b) no_ports (omega (arith, lt, from, length-drop b rest)) all in
+              lacks (subst (λ (v : PortWord). bit_and v.due v.opened ≡ v.due) (get_or-drop b rest (j - b) no_ports ∙ ap (λ (m : ℕ). get_or rest m no_ports) there) at)
+          | inr past ↦ let none : number_in w i ≡ 0 = ap (λ (v : PortWord). number_in v i) (get_or_past rest j no_ports past) ∙ number_none i in omega (arith, none, number)
+        ]
+    ]

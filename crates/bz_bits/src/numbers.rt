@@ -1,5 +1,5 @@
 //! The numbers of a component's ports, two bits each, of which the first 64 take no memory of their own.
-ghost use Rattle.std.specs.Prelude.{◌≡◌, ◌≢◌, ◌⊎◌, ◌+◌, ◌-◌, ◌*◌, ◌/◌, ◌%◌, ◌^◌, ◌<◌, ◌≤◌, ◌∷◌, ℕ, suc, false, length, replicate, slice_index, slice_index_or, slice_set, take, nat_le, if◌then◌else◌, All, IfOk};
+ghost use Rattle.std.specs.Prelude.{◌≡◌, ◌≢◌, ◌⊎◌, ◌+◌, ◌-◌, ◌*◌, ◌/◌, ◌%◌, ◌^◌, ◌<◌, ◌≤◌, ◌∷◌, ℕ, suc, false, length, replicate, slice_index, slice_index_or, slice_set, take, nat_le, bit_and, if◌then◌else◌, All, IfOk, IsTrue};
 ghost use Rattle.std.specs.Int.{bit_at, from_bool};
 ghost use Rattle.bz_bits.specs.PortWords.{between, no_ports, number_at, number_in, FilledIn, HasOdd, IsEven, IsLowest, NoneOdd};
 
@@ -141,6 +141,14 @@ impl<A: Allocator + Copy> PortNumbers<A> {
         // A look at the word's bits brings what their type says of them.
         let _odd = odd_at(&self.more, next - 1);
         next
+    }
+
+    /// Whether no port from 64 on has the number 1. `false` says nothing.
+    pub fn lacks_far_ones(&self) -> bool
+        ensures { IsTrue result → (p : ℕ) → 64 ≤ p → slice_index self.now p ≢ 1 }
+    {
+        let from = self.more.len().min(self.low as usize);
+        lack_ones(&self.more[from..])
     }
 
     /// Gives a port a number; nothing where there is no such port.
@@ -300,6 +308,23 @@ fn count_even(words: &[PortWord]) -> usize
     ensures stops { result < length words.now → (slice_index_or words.now result no_ports).due ≢ 0 }
 {
     let found = words.iter().position(|word| word.due != 0);
+    found.unwrap_or(words.len())
+}
+
+// Whether in none of these words a port has the number 1.
+fn lack_ones(words: &[PortWord]) -> bool
+    ensures { IsTrue result → All (λ w. bit_and w.due w.opened ≡ w.due) words.now }
+{
+    count_lacking(words) == words.len()
+}
+
+fn count_lacking(words: &[PortWord]) -> usize
+    ensures within { result ≤ length words.now }
+    ensures lacking { All (λ w. bit_and w.due w.opened ≡ w.due) (take result words.now) }
+{
+    let found = words
+        .iter()
+        .position(|word| word.due & word.opened != word.due);
     found.unwrap_or(words.len())
 }
 

@@ -165,3 +165,14 @@ opens_next xs p high e due =
     by_number (suc zero) high e due = subst (λ (b : Bool). MatchBool (not b) (ClosedDue ≡ ClosedDue) (ClosedDue ≡ OpenDue)) (sym e) refl
     by_number (suc (suc zero)) high e due = absurd (false≢true due)
     by_number (suc (suc (suc n))) high e due = subst (λ (b : Bool). MatchBool (not b) (OpenDue ≡ ClosedDue) (OpenDue ≡ OpenDue)) (sym (e ∙ le-leb 2 (suc (suc (suc n))) (omega arith))) refl
+
+-- a port that is closed with a move due has the number 1
+to_open_one : (n : ℕ) → state_of n ≡ ClosedDue → n ≡ 1
+to_open_one zero e = absurd (cc)
+to_open_one (suc zero) e = refl
+to_open_one (suc (suc zero)) e = absurd (cc)
+to_open_one (suc (suc (suc n))) e = absurd (cc)
+
+pub none_to_open : (ns : List ℕ) (w : List PortState) → map state_of ns ≡ w → ((p : ℕ) → 64 ≤ p → get_or ns p 0 ≢ 1) → (p : ℕ) → 64 ≤ p → state_at w p ≢ ClosedDue
+none_to_open ns w view none p far e =
+    none p far (to_open_one (get_or ns p 0) (sym (state_map ns p) ∙ ap (λ (v : List PortState). state_at v p) view ∙ e))

@@ -1,5 +1,5 @@
 -- Where each move that is due waits for what comes on its channel.
-use Rattle.std.proofs.Common.{◌≡◌, ℕ, zero, suc, ◌≤◌, inl, inr, Bool, true, List, Option, Some, None, IsTrue, get_or, map, refl, sym, ap, subst, ◌∙◌, arith}
+use Rattle.std.proofs.Common.{◌≡◌, ◌≢◌, ℕ, zero, suc, ◌≤◌, inl, inr, Bool, true, false, List, Option, Some, None, IsTrue, get_or, map, refl, sym, ap, subst, ◌∙◌, arith}
 use Rattle.std.specs.Prelude.{not, if◌then◌else◌}
 use Rattle.std.proofs.lemmas.List.{get_or_past}
 use Rattle.std.proofs.lemmas.Bool.{cases_lt, lt-ltb, le-ltb, false≢true}
@@ -7,12 +7,13 @@ use Rattle.bz_model.specs.declared.channel.Chan.{Chan}
 use Rattle.bz_model.specs.Heads.{Component}
 use Rattle.bz_model.specs.Terms.{Store}
 use Rattle.bz_kinds.specs.declared.ports.PortState.{PortState}
-use Rattle.bz_kinds.specs.declared.ports.PortState.TheVariants.{Closed, ClosedDue, Open}
+use Rattle.bz_kinds.specs.declared.ports.PortState.TheVariants.{Closed, ClosedDue, Open, OpenDue}
 use Rattle.bz_kinds.specs.declared.row.Leg.{Leg}
+use Rattle.bz_kinds.specs.declared.row.Row.{Row}
 use Rattle.bz_kinds.specs.declared.row.Mix.{Mix}
 use Rattle.bz_kinds.specs.declared.row.Meet.{Meet}
 use Rattle.bz_kinds.specs.declared.row.Plan.{Plan}
-use Rattle.bz_kinds.specs.declared.row.Plan.TheVariants.{Choice, Meeting}
+use Rattle.bz_kinds.specs.declared.row.Plan.TheVariants.{Together, Choice, Meeting}
 use Rattle.bz_kinds.specs.Row.{is_open}
 use Rattle.bz_kinds.specs.Comp.{todo_of, IsAt}
 use Rattle.bz_kinds.specs.Sense.{sense, behind, move_by}
@@ -70,16 +71,31 @@ meeting_waits meet n moved w ok some (suc i) =
         ]
     ]
 
-module _ (plan : Plan) (n left : ℕ) (w : List PortState) (s : Store) (chans : List Chan) (c : Component) (view : record { proc = record { todo = todo_of plan n left w; store = s }; chans = chans; open_ports = map is_open w } ≡ c) (ok : IsAt plan n left w s) where
-  waits_at : ((p : ℕ) → Waits (sense plan n p) (get_or w p Closed)) → (p : ℕ) (here : Bool) → CanGo c.proc p here → here ≡ true
-  waits_at waits p here can = waits p here ((goes_by plan n left w s chans c view ok p here).1 can)
+-- each port from 64 on that is enclosed, where none is to open
+far_waits : (x : PortState) → x ≢ ClosedDue → Waits (Some false) x
+far_waits Closed ne = waits_closed (Some false)
+far_waits ClosedDue ne = absurd (ne refl)
+far_waits Open ne = waits_open (Some false)
+far_waits OpenDue ne = λ here can. can
 
-  pub choice_only : (mix : Mix) → plan ≡ Choice mix → left ≡ 0 → (p : ℕ) (here : Bool) → CanGo c.proc p here → here ≡ true
+together_waits : (row : Row) (n : ℕ) (w : List PortState) → ((p : ℕ) → 64 ≤ p → get_or w p Closed ≢ ClosedDue) → (p : ℕ) → 64 ≤ p → Waits (sense (Together row) n p) (get_or w p Closed)
+together_waits row n w none zero far = absurd (omega (arith, far))
+together_waits row n w none (suc zero) far = absurd (omega (arith, far))
+together_waits row n w none (suc (suc i)) far = far_waits (get_or w (suc (suc i)) Closed) (none (suc (suc i)) far)
+
+module _ (plan : Plan) (n left : ℕ) (w : List PortState) (s : Store) (chans : List Chan) (c : Component) (view : record { proc = record { todo = todo_of plan n left w; store = s }; chans = chans; open_ports = map is_open w } ≡ c) (ok : IsAt plan n left w s) where
+  waits_at : ((p : ℕ) → 64 ≤ p → Waits (sense plan n p) (get_or w p Closed)) → (p : ℕ) (here : Bool) → 64 ≤ p → CanGo c.proc p here → here ≡ true
+  waits_at waits p here far can = waits p far here ((goes_by plan n left w s chans c view ok p here).1 can)
+
+  pub choice_only : (mix : Mix) → plan ≡ Choice mix → left ≡ 0 → (p : ℕ) (here : Bool) → 64 ≤ p → CanGo c.proc p here → here ≡ true
   choice_only mix e z =
       let place : choosing.IsPlace mix n 0 w = subst (λ (k : ℕ). choosing.IsPlace mix n k w) z (subst (λ (q : Plan). IsAt q n left w s) e ok) in
-      waits_at (λ p. subst (λ (q : Plan). Waits (sense q n p) (get_or w p Closed)) (sym e) (choice_waits mix n w place p))
+      waits_at (λ p far. subst (λ (q : Plan). Waits (sense q n p) (get_or w p Closed)) (sym e) (choice_waits mix n w place p))
 
-  pub meeting_only : (meet : Meet) → plan ≡ Meeting meet → ((m : Meet) (moved : ℕ) → gathering.IsPlace m n moved w → gathering.IsGathering n moved w) → (p : ℕ) (here : Bool) → CanGo c.proc p here → here ≡ true
+  pub meeting_only : (meet : Meet) → plan ≡ Meeting meet → ((m : Meet) (moved : ℕ) → gathering.IsPlace m n moved w → gathering.IsGathering n moved w) → (p : ℕ) (here : Bool) → 64 ≤ p → CanGo c.proc p here → here ≡ true
   meeting_only meet e some =
       let place : gathering.IsPlace meet n left w = subst (λ (q : Plan). IsAt q n left w s) e ok in
-      waits_at (λ p. subst (λ (q : Plan). Waits (sense q n p) (get_or w p Closed)) (sym e) (meeting_waits meet n left w place (some meet left place) p))
+      waits_at (λ p far. subst (λ (q : Plan). Waits (sense q n p) (get_or w p Closed)) (sym e) (meeting_waits meet n left w place (some meet left place) p))
+
+  pub together_only : (row : Row) → plan ≡ Together row → ((p : ℕ) → 64 ≤ p → get_or w p Closed ≢ ClosedDue) → (p : ℕ) (here : Bool) → 64 ≤ p → CanGo c.proc p here → here ≡ true
+  together_only row e none = waits_at (λ p far. subst (λ (q : Plan). Waits (sense q n p) (get_or w p Closed)) (sym e) (together_waits row n w none p far))

@@ -396,16 +396,19 @@ pub fn next_due(comp: &Comp, at: usize) -> usize
     comp.proc.ports.next_due(at)
 }
 
-/// Whether each move that is due waits for what comes on its channel, a take for a request and a got for a reply. `false` says
-/// nothing.
+/// Whether each move that is due at a port from 64 on waits for what comes on its channel, a take for a request and a got for a
+/// reply. `false` says nothing.
 #[inline(always)]
 pub fn only_waits(comp: &Comp) -> bool
-    ensures { IsTrue result → (p : ℕ) (here : Bool) → CanGo comp.now.proc p here → here ≡ true }
+    ensures { IsTrue result → (p : ℕ) (here : Bool) → 64 ≤ p → CanGo comp.now.proc p here → here ≡ true }
 {
     let proc = &comp.proc;
     match &proc.plan {
         KeptPlan::Choice(_) => proc.left == 0,
         KeptPlan::Meeting(_) => meeting::only_takes(&proc.ports, proc.size),
+        KeptPlan::CallsTogether => proc.ports.lacks_far_to_open(),
+        KeptPlan::PushesTogether => proc.ports.lacks_far_to_open(),
+        KeptPlan::OwnTogether(_) => proc.ports.lacks_far_to_open(),
         _ => false,
     }
 }

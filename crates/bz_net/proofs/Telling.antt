@@ -74,16 +74,16 @@ words_pass c here from to none before q lt can =
           absurd (false≢true (sym (ap (λ (x : ℕ). x == 1) (bit_at-zero i)) ∙ both.1 (subst (λ (r : ℕ). CanGo c.proc r (flag_of here q)) (sym back) can)))
     ]
 
--- nor where nothing is here, if it waits at each port where a move is due
-pub zeros_pass : (c : Component) (here : List ℕ) (from to : ℕ) → ((p : ℕ) (flag : Bool) → CanGo c.proc p flag → flag ≡ true) → ((k : ℕ) → from ≤ k → k < to → get_or here k 0 ≡ 0)
+-- nor where nothing is here, if it waits at each port from 64 on where a move is due
+pub zeros_pass : (c : Component) (here : List ℕ) (from to : ℕ) → 0 < from → ((p : ℕ) (flag : Bool) → 64 ≤ p → CanGo c.proc p flag → flag ≡ true) → ((k : ℕ) → from ≤ k → k < to → get_or here k 0 ≡ 0)
     → ((q : ℕ) → q < 64 * from → CanGo c.proc q (flag_of here q) → ⊥) → (q : ℕ) → q < 64 * to → CanGo c.proc q (flag_of here q) → ⊥
-zeros_pass c here from to waits zeros before q lt can =
+zeros_pass c here from to some waits zeros before q lt can =
     elim (cases_lt q (64 * from)) [
       | inl low ↦ before q low can
       | inr high ↦
           let none : flag_of here q ≡ false =
           ap (λ (w : ℕ). bit_at w (q % 64) == 1) (zeros (q / 64) (omega (arith, high)) (omega (arith, lt))) ∙ ap (λ (x : ℕ). x == 1) (bit_at-zero (q % 64)) in
-          absurd (false≢true (sym none ∙ waits q (flag_of here q) can))
+          absurd (false≢true (sym none ∙ waits q (flag_of here q) (omega (arith, some, high)) can))
     ]
 
 -- so a component that is told rightly can move where its bits say

@@ -69,9 +69,6 @@ fn lowest_far(comp: &Comp, here: &PortBits) -> Option<u32>
     requires near { (p : ℕ) → p < 64 → CanGo comp.now.proc p (flag_of here.now p) → ⊥ }
     ensures { MatchOption result (NoneGoes comp.now here.now) (GoesFirst comp.now here.now) }
 {
-    if only_waits(comp) {
-        return lowest_here(comp, here);
-    }
     let at = next_due(comp, 1);
     if at >= here.word_count() {
         return None;
@@ -79,6 +76,9 @@ fn lowest_far(comp: &Comp, here: &PortBits) -> Option<u32>
     let word = far_word(comp, at as u32, here.word(at));
     if word != 0 {
         return Some(64 * at as u32 + word.trailing_zeros());
+    }
+    if only_waits(comp) {
+        return lowest_here(comp, here, at + 1);
     }
     lowest_from(comp, here, at + 1)
 }
@@ -104,17 +104,18 @@ fn lowest_from(comp: &Comp, here: &PortBits, from: usize) -> Option<u32>
     None
 }
 
-// The same of a component that waits at each port where a move is due: it can move where something is here, and nowhere else.
+// The same of a component that waits at each of these ports where a move is due: it can move where something is here alone.
 #[inline(never)]
-fn lowest_here(comp: &Comp, here: &PortBits) -> Option<u32>
+fn lowest_here(comp: &Comp, here: &PortBits, from: usize) -> Option<u32>
     requires room { length comp.now.chans < 64 * length here.now }
     requires few { length here.now ≤ 2 ^ 26 }
-    requires near { (p : ℕ) → p < 64 → CanGo comp.now.proc p (flag_of here.now p) → ⊥ }
-    requires waits { (p : ℕ) (flag : Bool) → CanGo comp.now.proc p flag → flag ≡ true }
+    requires far { 0 < from }
+    requires before { (p : ℕ) → p < 64 * from → CanGo comp.now.proc p (flag_of here.now p) → ⊥ }
+    requires waits { (p : ℕ) (flag : Bool) → 64 ≤ p → CanGo comp.now.proc p flag → flag ≡ true }
     ensures { MatchOption result (NoneGoes comp.now here.now) (GoesFirst comp.now here.now) }
 {
     let end = here.word_count();
-    let mut at = here.next_one(1);
+    let mut at = here.next_one(from);
     while at < end {
         let word = far_word(comp, at as u32, here.word(at));
         if word != 0 {

@@ -3,7 +3,7 @@ use Rattle.bz_net.proofs.Telling.{word_passes, zeros_pass, word_hits}
 use Rattle.bz_net.proofs.here.lowest_here.Goals as goal
 
 pub loop-at-init : goal.loop-at-init
-loop-at-init c = (omega (arith, c.next_one-at.ensures.from), zeros_pass c.args.comp.now c.args.here.now 1 c.next_one-at.result c.requires.waits c.next_one-at.ensures.passed (λ q lt. c.requires.near q (omega (arith, lt))))
+loop-at-init c = (omega (arith, c.next_one-at.ensures.from, c.requires.far), zeros_pass c.args.comp.now c.args.here.now c.args.from c.next_one-at.result c.requires.far c.requires.waits c.next_one-at.ensures.passed c.requires.before)
 
 pub returns-then-word-ne0 : goal.returns-then-word-ne0
 returns-then-word-ne0 c =
@@ -13,7 +13,7 @@ pub loop-at-preserved : goal.loop-at-preserved
 loop-at-preserved c =
     (
       omega (arith, c.next_one-at-in-loop-at.ensures.from),
-      zeros_pass c.args.comp.now c.args.here.now (c.loop-at.at + 1) c.next_one-at-in-loop-at.result c.requires.waits c.next_one-at-in-loop-at.ensures.passed
+      zeros_pass c.args.comp.now c.args.here.now (c.loop-at.at + 1) c.next_one-at-in-loop-at.result (omega arith) c.requires.waits c.next_one-at-in-loop-at.ensures.passed
           (word_passes c.args.comp.now c.args.here.now c.loop-at.at c.far_word-word.result c.word.result c.far_word-word.type_inv c.far_word-word.ensures.ready c.word.ensures c.if-word-ne0.false c.loop-at.invariant.1),
     )
 
