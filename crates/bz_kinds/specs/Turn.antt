@@ -1,14 +1,17 @@
 -- A move of a component's process, as the code keeps it: when it can be made, and what it leaves.
-use Rattle.std.specs.Prelude.{◌≡◌, ◌<◌, ◌^◌, ℕ, Option, Some, ⊤}
+use Rattle.std.specs.Prelude.{◌≡◌, ◌≢◌, ◌<◌, ◌^◌, ℕ, Bool, true, false, Option, Some, None, List, ⊤}
 use Rattle.bz_model.specs.declared.channel.Move.{Move}
 use Rattle.bz_kinds.specs.declared.comp.Process.{Process}
-use Rattle.bz_kinds.specs.Ports.{state_at}
+use Rattle.bz_kinds.specs.declared.ports.PortState.{PortState}
+use Rattle.bz_kinds.specs.declared.ports.PortState.TheVariants.{Closed, ClosedDue, Open, OpenDue}
+use Rattle.bz_kinds.specs.Ports.{is_due, state_at}
 use Rattle.bz_kinds.specs.declared.row.Plan.{Plan}
 use Rattle.bz_kinds.specs.declared.row.Plan.TheVariants.{InTurn, Together, Cells, OneByOne, Choice, Meeting}
 use Rattle.bz_kinds.specs.Row.{Due}
 use Rattle.bz_kinds.specs.Riding.{Made}
 use Rattle.bz_kinds.specs.Kept.{plan_of}
 use Rattle.bz_kinds.specs.KeptLists.{slots_of}
+use Rattle.bz_kinds.specs.Sense.{move_by, sense}
 use Rattle.bz_kinds.specs.Comp.{IsAt, IsNarrowDue, Goes, plan_due}
 
 -- a move is due at port p of process c
@@ -16,6 +19,10 @@ pub record CanTurn (c : Process) (p : ℕ) : Type 0 where
   pub place : IsAt (plan_of c.plan) c.size c.left c.ports (slots_of c.slots)
   pub small : c.size < 2 ^ 30
   pub due : IsNarrowDue (plan_of c.plan) c.size c.left p c.ports
+
+-- and it is this move
+abbrev pub IsDueMove : Process → ℕ → Move → Type 0
+IsDueMove c p mv = move_by (sense (plan_of c.plan) c.size p) (state_at c.ports p) ≡ Some mv
 
 -- most moves are of other plans
 abbrev pub IsRare : Plan → Type 0
@@ -37,3 +44,28 @@ HasGone c p c' = Goes (plan_of c.plan) c.size c.left c.ports p c'.left c'.ports 
 
 abbrev pub KeepsPlan : Process → Process → Type 0
 KeepsPlan c c' = (c'.plan ≡ c.plan) × (c'.size ≡ c.size) × (c'.passive ≡ c.passive)
+
+-- whether the move due at a port of this sense, in this state, waits for nothing
+abbrev pub is_sure : Option Bool → PortState → Bool
+is_sure None a = false
+is_sure (Some passive) Closed = false
+is_sure (Some true) ClosedDue = false
+is_sure (Some false) ClosedDue = true
+is_sure (Some passive) Open = false
+is_sure (Some true) OpenDue = true
+is_sure (Some false) OpenDue = false
+
+-- with ports of these senses: at one of them a move is due that waits for nothing
+abbrev pub SomeSure : (ℕ → Option Bool) → List PortState → Type 0
+SomeSure senses w = (q : ℕ) × (is_sure (senses q) (state_at w q) ≡ true)
+
+-- or a move is due at p alone, and waits
+pub record OneWaits (senses : ℕ → Option Bool) (w : List PortState) (p : ℕ) : Type 0 where
+  pub waits : is_sure (senses p) (state_at w p) ≡ false
+  pub alone : (q : ℕ) → q ≢ p → is_due (state_at w q) ≡ false
+
+abbrev pub GoesOn : Process → Type 0
+GoesOn c = SomeSure (sense (plan_of c.plan) c.size) c.ports
+
+abbrev pub StaysAt : Process → ℕ → Type 0
+StaysAt c p = OneWaits (sense (plan_of c.plan) c.size) c.ports p
