@@ -29,7 +29,8 @@ use Rattle.bz_kinds.specs.InTurn as turn
 use Rattle.bz_kinds.specs.Sense.{enclosing, move_by, sense}
 use Rattle.bz_kinds.specs.Ready.{CanGo}
 use Rattle.bz_kinds.specs.Sure.{IsNext, IsSure, WaitsAt}
-use Rattle.bz_kinds.specs.Turn.{GoesOn, HasGone, HasMade, IsDueMove, KeepsPlan, OneWaits, SomeSure, StaysAt, is_sure}
+use Rattle.bz_kinds.specs.Turn.{GoesOn, HasGone, HasMade, IsDueMove, KeepsPlan, StaysAt}
+use Rattle.bz_kinds.specs.Onward.{OneWaits, SomeSure, is_sure}
 use Rattle.bz_kinds.proofs.InTurnLaws.{leg_turn, steps-at}
 use Rattle.bz_kinds.proofs.MadeLaws.{at-lead, at-leg, lead-replied, leg-asked}
 use Rattle.bz_kinds.proofs.PlanLaws.{head-on-due, moves, turn-step}

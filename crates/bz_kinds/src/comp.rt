@@ -241,6 +241,14 @@ fn turn_ask(proc: &mut Process, port: u32) -> (Option<Value>, bool)
             in_turn::ask(&mut proc.ports, &mut proc.left, proc.size, port - 2);
             (proc.slots.worth(proc.plan.row().legs.gives(port - 2)), true)
         }
+        KeptPlan::Loop => {
+            script::ask(Script::Loop, &mut proc.ports, &mut proc.left, 2);
+            (None, true)
+        }
+        KeptPlan::OneByOne(script) => {
+            script::ask(*script, &mut proc.ports, &mut proc.left, port);
+            (None, true)
+        }
         _ => {
             let (_, value) = turn(proc, port, None);
             (value, false)
@@ -271,6 +279,16 @@ fn turn_take(proc: &mut Process, port: u32, rides: Option<Value>) -> bool
             in_turn::take(ports, left, proc.size);
             true
         }
+        KeptPlan::Loop => {
+            proc.slots.keep(1, rides);
+            script::take(Script::Loop, &mut proc.ports, &mut proc.left);
+            true
+        }
+        KeptPlan::OneByOne(script) => {
+            proc.slots.keep(script::taken_into(*script), rides);
+            script::take(*script, &mut proc.ports, &mut proc.left);
+            script::goes_round(*script)
+        }
         _ => {
             let (_, _) = turn(proc, port, rides);
             false
@@ -296,6 +314,14 @@ fn turn_reply(proc: &mut Process, port: u32) -> (Option<Value>, bool)
         KeptPlan::PushesInTurn | KeptPlan::FetchesInTurn | KeptPlan::OwnInTurn(_) => {
             in_turn::reply(&mut proc.ports, &mut proc.left, proc.size);
             (proc.slots.worth(&proc.plan.row().answer), true)
+        }
+        KeptPlan::Loop => {
+            script::reply(Script::Loop, &mut proc.ports, &mut proc.left);
+            (None, true)
+        }
+        KeptPlan::OneByOne(script) => {
+            script::reply(*script, &mut proc.ports, &mut proc.left);
+            (None, true)
         }
         _ => {
             let (_, value) = turn(proc, port, None);
@@ -325,6 +351,18 @@ fn turn_got(proc: &mut Process, port: u32, rides: Option<Value>) -> bool
             let (ports, left, slots) = (&mut proc.ports, &mut proc.left, &mut proc.slots);
             slots.keep(proc.plan.row().legs.slot(port - 2), rides);
             in_turn::got(ports, left, proc.size, port - 2);
+            true
+        }
+        KeptPlan::Loop => {
+            let (ports, left, slots) = (&mut proc.ports, &mut proc.left, &mut proc.slots);
+            slots.keep(1, rides);
+            script::got(Script::Loop, ports, left, port, slots);
+            true
+        }
+        KeptPlan::OneByOne(script) => {
+            let (ports, left, slots) = (&mut proc.ports, &mut proc.left, &mut proc.slots);
+            slots.keep(script::got_into(*script, port), rides);
+            script::got(*script, ports, left, port, slots);
             true
         }
         _ => {

@@ -1,7 +1,11 @@
-use Rattle.std.proofs.Common.{rules, ◌≡◌, ap, refl}
+use Rattle.std.proofs.Common.{rules, ◌≡◌, ◌∙◌, ap, refl}
 use Rattle.bz_kinds.specs.declared.row.Plan.TheVariants.{InTurn}
 use Rattle.bz_kinds.specs.Kept.{plan_of}
 use Rattle.bz_kinds.proofs.OnwardLaws.{in-turn-at, gets-leg, in-turn-got, made-got, went, sure-of}
+use Rattle.bz_kinds.proofs.ScriptOnward.{script-at, script-got}
+use Rattle.bz_model.specs.Terms.{stored}
+use Rattle.bz_kinds.specs.KeptLists.{slots_of}
+use Rattle.bz_kinds.proofs.PlanLaws.{due-of}
 use Rattle.bz_kinds.proofs.comp.turn_got.Goals as goal
 
 pub returns-in-CallsInTurn-clause-goes : goal.returns-in-CallsInTurn-clause-goes
@@ -26,3 +30,8 @@ returns-in-PushesInTurn-clause-sure c t =
 
 pub returns-in_default-clause-made : goal.returns-in_default-clause-made
 returns-in_default-clause-made c = made-got c.args.proc.now c.args.port c.args.rides c.turn.new.proc _ _ c.requires.got c.turn.ensures.made
+
+pub returns-in-OneByOne-clause-made : goal.returns-in-OneByOne-clause-made
+returns-in-OneByOne-clause-made c d e =
+    let is = ap plan_of c.in-OneByOne.is in
+    script-got c.in-OneByOne.script c.args.port _ d c.args.rides _ _ (due-of _ _ is _ _ _ _ d e) (script-at _ _ is _ _ _ _ c.requires.got) (c.keep-in-OneByOne.ensures ∙ ap (λ k. stored k c.args.rides (slots_of c.args.proc.now.slots)) c.got_into.ensures)

@@ -7,6 +7,7 @@ use Rattle.bz_model.specs.Terms.{value_of}
 use Rattle.bz_kinds.specs.KeptLists.{slots_of}
 use Rattle.bz_kinds.proofs.PlanLaws.{due-of}
 use Rattle.bz_kinds.proofs.OnwardLaws.{row-replied, in-turn-at, replies-one, in-turn-replied, made-as, went, waits-of}
+use Rattle.bz_kinds.proofs.ScriptOnward.{replies-first, script-at, script-replied, script-went}
 use Rattle.bz_kinds.proofs.comp.turn_reply.Goals as goal
 
 pub returns-in-CallsInTurn-clause-goes : goal.returns-in-CallsInTurn-clause-goes
@@ -39,3 +40,13 @@ returns-in-PushesInTurn-clause-made c d e =
     let same = ap (λ (it : Process). slots_of it.slots) own in
     row-replied c.row.result.now c.args.port _ d None _ _ _ (due-of _ _ is _ _ _ _ d e) (in-turn-at _ _ is _ _ _ _ c.requires.reply)
     (c.worth.ensures ∙ ap (value_of c.row.result.now.answer) same) same
+
+pub returns-in-OneByOne-clause-made : goal.returns-in-OneByOne-clause-made
+returns-in-OneByOne-clause-made c d e =
+    let is = ap plan_of c.in-OneByOne.is in
+    script-replied c.in-OneByOne.script c.args.port _ d None _ (due-of _ _ is _ _ _ _ d e) (script-at _ _ is _ _ _ _ c.requires.reply)
+
+pub returns-in-OneByOne-clause-goes : goal.returns-in-OneByOne-clause-goes
+returns-in-OneByOne-clause-goes c =
+    let is = ap plan_of c.in-OneByOne.is in
+    script-went c.args.proc.now _ is c.args.port _ _ _ _ (replies-first _ _ (script-at _ _ is _ _ _ _ c.requires.reply)) (c.reply-in-OneByOne.ensures.steps _)
