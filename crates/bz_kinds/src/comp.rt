@@ -19,7 +19,7 @@ ghost use Rattle.bz_kinds.specs.KeptLists.{slots_of};
 ghost use Rattle.bz_model.specs.declared.channel.Phase.{Phase};
 ghost use Rattle.bz_kinds.specs.Riding.{held, riding, taken};
 ghost use Rattle.bz_kinds.specs.Comp.{IsFor, plan_due};
-ghost use Rattle.bz_kinds.specs.Turn.{CanTurn, IsRare, HasMade, HasGone, KeepsPlan};
+ghost use Rattle.bz_kinds.specs.Turn.{CanTurn, GoesOn, IsDueMove, IsRare, HasMade, HasGone, KeepsPlan, StaysAt};
 
 use crate::kept::KeptPlan;
 use crate::kept_lists::{KeptChans, KeptSlots};
@@ -180,8 +180,7 @@ pub fn ask(comp: &mut Comp, port: u32) -> (Option<Value>, bool)
     ensures chans { comp.new.chans ≡ comp.old.chans }
     ensures waits { IsTrue result.1 → WaitsAt comp.new.proc port }
 {
-    let (_, value) = fire(comp, port, None);
-    (value, false)
+    turn_ask(&mut comp.proc, port)
 }
 
 /// Takes the request at a port where that is due, with the value that rides with it: whether the component is known to move then.
@@ -194,8 +193,7 @@ pub fn take(comp: &mut Comp, port: u32, rides: Option<Value>) -> bool
     ensures chans { comp.new.chans ≡ comp.old.chans }
     ensures sure { IsTrue result → IsSure comp.new }
 {
-    let (_, _) = fire(comp, port, rides);
-    false
+    turn_take(&mut comp.proc, port, rides)
 }
 
 /// Replies at a port where that is due: the value that it carries, and whether the component is known to wait there alone then.
@@ -208,8 +206,7 @@ pub fn reply(comp: &mut Comp, port: u32) -> (Option<Value>, bool)
     ensures chans { comp.new.chans ≡ comp.old.chans }
     ensures waits { IsTrue result.1 → WaitsAt comp.new.proc port }
 {
-    let (_, value) = fire(comp, port, None);
-    (value, false)
+    turn_reply(&mut comp.proc, port)
 }
 
 /// Gets the reply at a port where that is due, with the value that rides with it: whether the component is known to move then.
@@ -222,8 +219,157 @@ pub fn got(comp: &mut Comp, port: u32, rides: Option<Value>) -> bool
     ensures chans { comp.new.chans ≡ comp.old.chans }
     ensures sure { IsTrue result → IsSure comp.new }
 {
-    let (_, _) = fire(comp, port, rides);
-    false
+    turn_got(&mut comp.proc, port, rides)
+}
+
+// Asks at a port where a request is due.
+#[inline(always)]
+fn turn_ask(proc: &mut Process, port: u32) -> (Option<Value>, bool)
+    requires due { CanTurn proc.old port }
+    requires ask { IsDueMove proc.old port Move.Ask }
+    ensures made { HasMade proc.old port None proc.new Move.Ask result.0 }
+    ensures goes { HasGone proc.old port proc.new }
+    ensures kept { KeepsPlan proc.old proc.new }
+    ensures waits { IsTrue result.1 → StaysAt proc.new port }
+{
+    match &proc.plan {
+        KeptPlan::CallsInTurn => {
+            in_turn::ask(&mut proc.ports, &mut proc.left, proc.size, port - 2);
+            (None, true)
+        }
+        KeptPlan::PushesInTurn | KeptPlan::FetchesInTurn | KeptPlan::OwnInTurn(_) => {
+            in_turn::ask(&mut proc.ports, &mut proc.left, proc.size, port - 2);
+            (proc.slots.worth(proc.plan.row().legs.gives(port - 2)), true)
+        }
+        KeptPlan::Loop => {
+            script::ask(Script::Loop, &mut proc.ports, &mut proc.left, 2);
+            (None, true)
+        }
+        KeptPlan::OneByOne(script) => {
+            script::ask(*script, &mut proc.ports, &mut proc.left, port);
+            (None, true)
+        }
+        _ => {
+            let (_, value) = turn(proc, port, None);
+            (value, false)
+        }
+    }
+}
+
+// Takes the request at a port where that is due. Of what never carries a value the slots need not be looked up in its row.
+#[inline(always)]
+fn turn_take(proc: &mut Process, port: u32, rides: Option<Value>) -> bool
+    requires due { CanTurn proc.old port }
+    requires take { IsDueMove proc.old port Move.Take }
+    ensures made { HasMade proc.old port rides proc.new Move.Take rides }
+    ensures goes { HasGone proc.old port proc.new }
+    ensures kept { KeepsPlan proc.old proc.new }
+    ensures sure { IsTrue result → GoesOn proc.new }
+{
+    match &proc.plan {
+        KeptPlan::CallsInTurn => {
+            let (ports, left, slots) = (&mut proc.ports, &mut proc.left, &mut proc.slots);
+            slots.keep(1, rides);
+            in_turn::take(ports, left, proc.size);
+            true
+        }
+        KeptPlan::PushesInTurn | KeptPlan::FetchesInTurn | KeptPlan::OwnInTurn(_) => {
+            let (ports, left, slots) = (&mut proc.ports, &mut proc.left, &mut proc.slots);
+            slots.keep(proc.plan.row().into, rides);
+            in_turn::take(ports, left, proc.size);
+            true
+        }
+        KeptPlan::Loop => {
+            proc.slots.keep(1, rides);
+            script::take(Script::Loop, &mut proc.ports, &mut proc.left);
+            true
+        }
+        KeptPlan::OneByOne(script) => {
+            proc.slots.keep(script::taken_into(*script), rides);
+            script::take(*script, &mut proc.ports, &mut proc.left);
+            script::goes_round(*script)
+        }
+        _ => {
+            let (_, _) = turn(proc, port, rides);
+            false
+        }
+    }
+}
+
+// Replies at a port where that is due.
+#[inline(always)]
+fn turn_reply(proc: &mut Process, port: u32) -> (Option<Value>, bool)
+    requires due { CanTurn proc.old port }
+    requires reply { IsDueMove proc.old port Move.Reply }
+    ensures made { HasMade proc.old port None proc.new Move.Reply result.0 }
+    ensures goes { HasGone proc.old port proc.new }
+    ensures kept { KeepsPlan proc.old proc.new }
+    ensures waits { IsTrue result.1 → StaysAt proc.new port }
+{
+    match &proc.plan {
+        KeptPlan::CallsInTurn => {
+            in_turn::reply(&mut proc.ports, &mut proc.left, proc.size);
+            (None, true)
+        }
+        KeptPlan::PushesInTurn | KeptPlan::FetchesInTurn | KeptPlan::OwnInTurn(_) => {
+            in_turn::reply(&mut proc.ports, &mut proc.left, proc.size);
+            (proc.slots.worth(&proc.plan.row().answer), true)
+        }
+        KeptPlan::Loop => {
+            script::reply(Script::Loop, &mut proc.ports, &mut proc.left);
+            (None, true)
+        }
+        KeptPlan::OneByOne(script) => {
+            script::reply(*script, &mut proc.ports, &mut proc.left);
+            (None, true)
+        }
+        _ => {
+            let (_, value) = turn(proc, port, None);
+            (value, false)
+        }
+    }
+}
+
+// Gets the reply at a port where that is due.
+#[inline(always)]
+fn turn_got(proc: &mut Process, port: u32, rides: Option<Value>) -> bool
+    requires due { CanTurn proc.old port }
+    requires got { IsDueMove proc.old port Move.Got }
+    ensures made { HasMade proc.old port rides proc.new Move.Got rides }
+    ensures goes { HasGone proc.old port proc.new }
+    ensures kept { KeepsPlan proc.old proc.new }
+    ensures sure { IsTrue result → GoesOn proc.new }
+{
+    match &proc.plan {
+        KeptPlan::CallsInTurn => {
+            let (ports, left, slots) = (&mut proc.ports, &mut proc.left, &mut proc.slots);
+            slots.keep(1, rides);
+            in_turn::got(ports, left, proc.size, port - 2);
+            true
+        }
+        KeptPlan::PushesInTurn | KeptPlan::FetchesInTurn | KeptPlan::OwnInTurn(_) => {
+            let (ports, left, slots) = (&mut proc.ports, &mut proc.left, &mut proc.slots);
+            slots.keep(proc.plan.row().legs.slot(port - 2), rides);
+            in_turn::got(ports, left, proc.size, port - 2);
+            true
+        }
+        KeptPlan::Loop => {
+            let (ports, left, slots) = (&mut proc.ports, &mut proc.left, &mut proc.slots);
+            slots.keep(1, rides);
+            script::got(Script::Loop, ports, left, port, slots);
+            true
+        }
+        KeptPlan::OneByOne(script) => {
+            let (ports, left, slots) = (&mut proc.ports, &mut proc.left, &mut proc.slots);
+            slots.keep(script::got_into(*script, port), rides);
+            script::got(*script, ports, left, port, slots);
+            true
+        }
+        _ => {
+            let (_, _) = turn(proc, port, rides);
+            false
+        }
+    }
 }
 
 // Makes the move that is due at a port. Of the families that most moves are of, a move is told, sent and followed by the ports

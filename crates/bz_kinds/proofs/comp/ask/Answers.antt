@@ -1,16 +1,47 @@
-use Rattle.std.proofs.Common.{refl}
+use Rattle.std.proofs.Common.{None, refl}
 use Rattle.bz_model.specs.declared.channel.Move.TheVariants.{Ask}
 use Rattle.bz_model.specs.declared.channel.Phase.TheVariants.{Idle}
-use Rattle.bz_kinds.proofs.SureLaws.{asks, can, moves_as, turns_as}
+use Rattle.bz_kinds.specs.KeptLists.{chans_of}
+use Rattle.bz_kinds.specs.Row.{due_of}
+use Rattle.bz_kinds.proofs.OnwardLaws.{due-by, moved, waits-at}
+use Rattle.bz_kinds.proofs.PlanLaws.{due-narrow, head-on-due, one-head-on, still-sends, turns}
+use Rattle.bz_kinds.proofs.SureLaws.{asks}
 use Rattle.bz_kinds.proofs.comp.ask.Goals as goal
 
-pub fire-value-requires : goal.fire-value-requires
-fire-value-requires c = (Idle, can c.args.comp.now.proc _ Ask Idle c.requires refl, refl)
+pub turn_ask-requires-clause-due : goal.turn_ask-requires-clause-due
+turn_ask-requires-clause-due c =
+    let (h, on, is) = c.requires in
+    let due = head-on-due _ _ _ _ _ _ _ c.comp.view_is c.comp.invariant.0 c.args.port h on in
+    let (at, (small, sensed, held), (bits, sends)) = c.comp.invariant in
+    record { place = at; small = small; due = (due_of h, due, due-narrow _ _ _ _ _ _ bits at sends c.args.port (due_of h) due) }
+
+pub turn_ask-requires-clause-ask : goal.turn_ask-requires-clause-ask
+turn_ask-requires-clause-ask c =
+    let (h, on, is) = c.requires in
+    due-by _ _ _ c.args.port _ h Ask (head-on-due _ _ _ _ _ _ _ c.comp.view_is c.comp.invariant.0 c.args.port h on) is
 
 pub returns-clause-moves : goal.returns-clause-moves
 returns-clause-moves c phase =
-    asks _ _ _ _ phase _ (moves_as _ _ _ Idle Ask _ _ c.fire-value.ensures.one c.requires (c.fire-value.ensures.moves Idle (can c.args.comp.now.proc _ Ask Idle c.requires refl) refl))
+    asks _ _ _ _ phase _ (moved c.comp.inside.proc c.turn_ask.new.proc c.args.port c.turn_ask.ensures.kept c.turn_ask.ensures.goes _ _ c.comp.view_is c.comp.invariant.0 Idle None Ask _ c.requires refl refl c.turn_ask.ensures.made)
 
 pub returns-clause-turns : goal.returns-clause-turns
 returns-clause-turns c =
-    turns_as _ _ _ Idle Ask _ _ c.fire-value.ensures.one c.requires (c.fire-value.ensures.moves Idle (can c.args.comp.now.proc _ Ask Idle c.requires refl) refl) c.fire-value.ensures.turns
+    let (h, on, is) = c.requires in
+    let due = head-on-due _ _ _ _ _ _ _ c.comp.view_is c.comp.invariant.0 c.args.port h on in
+    let made = c.turn_ask.ensures.made (due_of h) due in
+    rw made.move_is (rw c.turn_ask.ensures.kept.0 (rw c.turn_ask.ensures.kept.1
+    (turns _ _ _ _ _ _ _ c.comp.view_is c.comp.invariant.0 c.args.port (due_of h) _ _ _ due c.turn_ask.ensures.goes)))
+
+pub returns-clause-one : goal.returns-clause-one
+returns-clause-one c = one-head-on _ _ _ _ _ _ _ c.comp.view_is c.comp.invariant.0
+
+pub returns-clause-waits : goal.returns-clause-waits
+returns-clause-waits c t = waits-at c.comp.inside.proc c.turn_ask.new.proc c.args.port c.turn_ask.ensures.kept c.turn_ask.ensures.goes (chans_of c.comp.inside.chans) (c.turn_ask.ensures.waits t)
+
+pub invariant_of-comp : goal.invariant_of-comp
+invariant_of-comp c =
+    let (h, on, is) = c.requires in
+    let due = head-on-due _ _ _ _ _ _ _ c.comp.view_is c.comp.invariant.0 c.args.port h on in
+    let (at, small, (bits, sends)) = c.comp.invariant in
+    rw c.turn_ask.ensures.kept.0 (rw c.turn_ask.ensures.kept.1 (rw c.turn_ask.ensures.kept.2
+    (c.turn_ask.ensures.goes.place, small, (bits, still-sends _ _ _ _ _ _ bits at sends c.args.port (due_of h) _ _ _ due c.turn_ask.ensures.goes))))

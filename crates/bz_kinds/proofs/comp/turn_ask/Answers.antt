@@ -1,0 +1,60 @@
+use Rattle.std.proofs.Common.{rules, ◌≡◌, ◌∙◌, ◌-◌, None, ap, refl, subst}
+use Rattle.bz_model.specs.declared.channel.Move.TheVariants.{Ask}
+use Rattle.bz_kinds.specs.declared.comp.Process.{Process}
+use Rattle.bz_kinds.specs.declared.row.Plan.TheVariants.{InTurn}
+use Rattle.bz_kinds.specs.Kept.{plan_of}
+use Rattle.bz_model.specs.declared.expr.Expr.{Expr}
+use Rattle.bz_model.specs.Terms.{value_of}
+use Rattle.bz_kinds.specs.KeptLists.{slots_of}
+use Rattle.bz_kinds.specs.Row.{leg_of}
+use Rattle.bz_kinds.proofs.PlanLaws.{due-of}
+use Rattle.bz_kinds.proofs.OnwardLaws.{row-asked, in-turn-at, asks-leg, in-turn-asked, made-as, went, waits-of}
+use Rattle.bz_kinds.proofs.ScriptOnward.{loop-asks, script-asked, script-at, script-went}
+use Rattle.bz_kinds.specs.Comp.{IsAt}
+use Rattle.bz_kinds.specs.declared.row.Plan.{Plan}
+use Rattle.bz_kinds.specs.declared.row.Script.TheVariants.{Loop}
+use Rattle.bz_kinds.proofs.comp.turn_ask.Goals as goal
+
+pub returns-in-CallsInTurn-clause-goes : goal.returns-in-CallsInTurn-clause-goes
+returns-in-CallsInTurn-clause-goes c =
+    let is = ap plan_of c.in-CallsInTurn.is in
+    went _ c.args.proc.now refl _ is c.args.port _ _ _ _ (asks-leg _ _ (in-turn-at _ _ is _ _ _ _ c.requires.ask)) (c.ask.ensures _)
+
+pub returns-in-CallsInTurn-clause-waits : goal.returns-in-CallsInTurn-clause-waits
+returns-in-CallsInTurn-clause-waits c t = in-turn-asked _ _ (ap plan_of c.in-CallsInTurn.is) _ _ _ _ _ _ _ _ c.requires.due.place c.requires.ask (returns-in-CallsInTurn-clause-goes c)
+
+pub returns-in-PushesInTurn-clause-goes : goal.returns-in-PushesInTurn-clause-goes
+returns-in-PushesInTurn-clause-goes c =
+    let is : plan_of c.args.proc.now.plan ≡ InTurn c.row.result.now = search rules in
+    let own : c.in-PushesInTurn.match-proc-own.proc ≡ c.args.proc.now = search rules in
+    went _ c.args.proc.now own _ is c.args.port _ _ _ _ (asks-leg _ _ (in-turn-at _ _ is _ _ _ _ c.requires.ask)) (c.ask-in-PushesInTurn.ensures _)
+
+pub returns-in-PushesInTurn-clause-waits : goal.returns-in-PushesInTurn-clause-waits
+returns-in-PushesInTurn-clause-waits c t =
+    let is : plan_of c.args.proc.now.plan ≡ InTurn c.row.result.now = search rules in
+    let own : c.in-PushesInTurn.match-proc-own.proc ≡ c.args.proc.now = search rules in
+    waits-of _ _ own _ c.args.port (in-turn-asked _ _ is _ _ _ _ _ _ _ _ c.requires.due.place c.requires.ask (returns-in-PushesInTurn-clause-goes c))
+
+pub returns-in_default-clause-made : goal.returns-in_default-clause-made
+returns-in_default-clause-made c = made-as c.args.proc.now c.args.port None c.turn-value.new.proc Ask _ _ c.requires.ask c.turn-value.ensures.made
+
+pub returns-in-PushesInTurn-clause-made : goal.returns-in-PushesInTurn-clause-made
+returns-in-PushesInTurn-clause-made c d e =
+    let is : plan_of c.args.proc.now.plan ≡ InTurn c.row.result.now = search rules in
+    let own : c.in-PushesInTurn.match-proc-own.proc ≡ c.args.proc.now = search rules in
+    let same = ap (λ (it : Process). slots_of it.slots) own in
+    row-asked c.row.result.now c.args.port _ d None _ _ _ (due-of _ _ is _ _ _ _ d e) (in-turn-at _ _ is _ _ _ _ c.requires.ask)
+    (c.worth.ensures ∙ ap (λ (it : Expr). value_of it (slots_of c.in-PushesInTurn.match-proc-own.proc.slots)) c.gives.ensures ∙ ap (value_of (leg_of c.row.result.now.legs (c.args.port - 2)).gives) same) same
+
+pub returns-in-Loop-clause-goes : goal.returns-in-Loop-clause-goes
+returns-in-Loop-clause-goes c =
+    let is = ap plan_of c.in-Loop.is in
+    script-went c.args.proc.now Loop is c.args.port _ _ _ _ (loop-asks _ _ _ (subst (λ (q : Plan). IsAt q c.args.proc.now.size c.args.proc.now.left c.args.proc.now.ports (slots_of c.args.proc.now.slots)) is c.requires.due.place) (script-at _ _ is _ _ _ _ c.requires.ask)) (c.ask-in-Loop.ensures.steps _)
+
+pub returns-in-OneByOne-clause-made : goal.returns-in-OneByOne-clause-made
+returns-in-OneByOne-clause-made c d e =
+    let is = ap plan_of c.in-OneByOne.is in
+    script-asked c.in-OneByOne.script c.args.port _ d None _ (due-of _ _ is _ _ _ _ d e) (script-at _ _ is _ _ _ _ c.requires.ask)
+
+pub returns-in-OneByOne-clause-goes : goal.returns-in-OneByOne-clause-goes
+returns-in-OneByOne-clause-goes c = script-went c.args.proc.now _ (ap plan_of c.in-OneByOne.is) c.args.port _ _ _ _ refl (c.ask-in-OneByOne.ensures.steps _)

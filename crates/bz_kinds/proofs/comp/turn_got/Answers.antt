@@ -1,0 +1,37 @@
+use Rattle.std.proofs.Common.{rules, ◌≡◌, ◌∙◌, ap, refl}
+use Rattle.bz_kinds.specs.declared.row.Plan.TheVariants.{InTurn}
+use Rattle.bz_kinds.specs.Kept.{plan_of}
+use Rattle.bz_kinds.proofs.OnwardLaws.{in-turn-at, gets-leg, in-turn-got, made-got, went, sure-of}
+use Rattle.bz_kinds.proofs.ScriptOnward.{script-at, script-got}
+use Rattle.bz_model.specs.Terms.{stored}
+use Rattle.bz_kinds.specs.KeptLists.{slots_of}
+use Rattle.bz_kinds.proofs.PlanLaws.{due-of}
+use Rattle.bz_kinds.proofs.comp.turn_got.Goals as goal
+
+pub returns-in-CallsInTurn-clause-goes : goal.returns-in-CallsInTurn-clause-goes
+returns-in-CallsInTurn-clause-goes c =
+    let is = ap plan_of c.in-CallsInTurn.is in
+    went _ c.args.proc.now refl _ is c.args.port _ _ _ _ (gets-leg _ _ (in-turn-at _ _ is _ _ _ _ c.requires.got)) (c.got.ensures _)
+
+pub returns-in-CallsInTurn-clause-sure : goal.returns-in-CallsInTurn-clause-sure
+returns-in-CallsInTurn-clause-sure c t = in-turn-got _ _ (ap plan_of c.in-CallsInTurn.is) _ _ _ _ _ _ _ _ c.requires.due.place c.requires.got (returns-in-CallsInTurn-clause-goes c)
+
+pub returns-in-PushesInTurn-clause-goes : goal.returns-in-PushesInTurn-clause-goes
+returns-in-PushesInTurn-clause-goes c =
+    let is : plan_of c.args.proc.now.plan ≡ InTurn c.row.result.now = search rules in
+    let own : c.in-PushesInTurn.match-proc-own.proc ≡ c.args.proc.now = search rules in
+    went _ c.args.proc.now own _ is c.args.port _ _ _ _ (gets-leg _ _ (in-turn-at _ _ is _ _ _ _ c.requires.got)) (c.got-in-PushesInTurn.ensures _)
+
+pub returns-in-PushesInTurn-clause-sure : goal.returns-in-PushesInTurn-clause-sure
+returns-in-PushesInTurn-clause-sure c t =
+    let is : plan_of c.args.proc.now.plan ≡ InTurn c.row.result.now = search rules in
+    let own : c.in-PushesInTurn.match-proc-own.proc ≡ c.args.proc.now = search rules in
+    sure-of _ _ own _ (in-turn-got _ _ is _ _ _ _ _ _ _ _ c.requires.due.place c.requires.got (returns-in-PushesInTurn-clause-goes c))
+
+pub returns-in_default-clause-made : goal.returns-in_default-clause-made
+returns-in_default-clause-made c = made-got c.args.proc.now c.args.port c.args.rides c.turn.new.proc _ _ c.requires.got c.turn.ensures.made
+
+pub returns-in-OneByOne-clause-made : goal.returns-in-OneByOne-clause-made
+returns-in-OneByOne-clause-made c d e =
+    let is = ap plan_of c.in-OneByOne.is in
+    script-got c.in-OneByOne.script c.args.port _ d c.args.rides _ _ (due-of _ _ is _ _ _ _ d e) (script-at _ _ is _ _ _ _ c.requires.got) (c.keep-in-OneByOne.ensures ∙ ap (λ k. stored k c.args.rides (slots_of c.args.proc.now.slots)) c.got_into.ensures)
