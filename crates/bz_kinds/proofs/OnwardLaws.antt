@@ -11,7 +11,7 @@ use Rattle.bz_model.specs.declared.channel.Move.TheVariants.{Ask, Take, Reply, G
 use Rattle.bz_model.specs.declared.channel.Chan.{Chan}
 use Rattle.bz_model.specs.Heads.{Component, Head, Moves, carried}
 use Rattle.bz_model.specs.Processes.{member}
-use Rattle.bz_model.specs.Terms.{Store, value_of}
+use Rattle.bz_model.specs.Terms.{Store, stored, value_of}
 use Rattle.bz_kinds.specs.declared.comp.Process.{Process}
 use Rattle.bz_kinds.specs.declared.kept.KeptPlan.{KeptPlan}
 use Rattle.bz_kinds.specs.declared.ports.PortState.{PortState}
@@ -32,7 +32,7 @@ use Rattle.bz_kinds.specs.Sure.{IsNext, IsSure, WaitsAt}
 use Rattle.bz_kinds.specs.Turn.{GoesOn, HasGone, HasMade, IsDueMove, KeepsPlan, StaysAt}
 use Rattle.bz_kinds.specs.Onward.{OneWaits, SomeSure, is_sure}
 use Rattle.bz_kinds.proofs.InTurnLaws.{leg_turn, steps-at}
-use Rattle.bz_kinds.proofs.MadeLaws.{at-lead, at-leg, lead-replied, leg-asked}
+use Rattle.bz_kinds.proofs.MadeLaws.{at-lead, at-leg, lead-replied, lead-taken, leg-asked, leg-got}
 use Rattle.bz_kinds.proofs.PlanLaws.{head-on-due, moves, turn-step}
 use Rattle.bz_kinds.proofs.ReadyLaws.{at_ports, can_go, goes_by, was_due}
 use Rattle.bz_kinds.proofs.RidingLaws.{came}
@@ -261,6 +261,15 @@ row-asked row p a d rides s s' value e mv sent same =
 
 pub row-replied : (row : Row) (p : ℕ) (a : PortState) (d : Due) (rides : Option ℕ) (s s' : Store) (value : Option ℕ) → row_due row p a ≡ Some d → move_by (enclosing p) a ≡ Some Reply → value ≡ value_of row.answer s → s' ≡ s → Made d rides s s' Reply value
 row-replied row p a d rides s s' value e mv sent same = lead-replied row.into row.answer d rides s s' a value (at-lead row p a d e (replies-one p a mv)) (λ closed. let due = (replies-at (enclosing p) a mv).1 in cc) sent same
+
+-- and what came in
+pub row-taken : (row : Row) (p : ℕ) (a : PortState) (d : Due) (rides : Option ℕ) (s s' : Store) → row_due row p a ≡ Some d → move_by (enclosing p) a ≡ Some Take → s' ≡ stored row.into rides s → Made d rides s s' Take rides
+row-taken row p a d rides s s' e mv kept = lead-taken row.into row.answer d rides s s' a (at-lead row p a d e (takes-one p a mv)) (takes-at (enclosing p) a mv).1 kept
+
+pub row-got : (row : Row) (p : ℕ) (a : PortState) (d : Due) (rides : Option ℕ) (s s' : Store) → row_due row p a ≡ Some d → move_by (enclosing p) a ≡ Some Got → s' ≡ stored (leg_of row.legs (p - 2)).into rides s → Made d rides s s' Got rides
+row-got row p a d rides s s' e mv kept =
+    let leg = gets-leg p a mv in
+    leg-got (leg_of row.legs (p - 2)) d rides s s' a (at-leg row p a d e (let ne : p ≢ 1 = omega (arith, leg) in ne)) (λ closed. let due = (gets-at (enclosing p) a mv).1 in cc) kept
 
 -- of a component: it goes where something is sure, and waits where one move waits
 sure-goes : (o : Option Bool) (a : PortState) (here : Bool) → is_sure o a ≡ true → IsTrue (can_go (move_by o a) here)

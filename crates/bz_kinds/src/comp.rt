@@ -241,6 +241,14 @@ fn turn_ask(proc: &mut Process, port: u32) -> (Option<Value>, bool)
             in_turn::ask(&mut proc.ports, &mut proc.left, proc.size, port - 2);
             (proc.slots.worth(proc.plan.row().legs.gives(port - 2)), true)
         }
+        KeptPlan::CallsTogether => {
+            together::ask(&mut proc.ports, &mut proc.left, proc.size, port - 2);
+            (None, false)
+        }
+        KeptPlan::PushesTogether | KeptPlan::OwnTogether(_) => {
+            together::ask(&mut proc.ports, &mut proc.left, proc.size, port - 2);
+            (proc.slots.worth(proc.plan.row().legs.gives(port - 2)), false)
+        }
         KeptPlan::Loop => {
             script::ask(Script::Loop, &mut proc.ports, &mut proc.left, 2);
             (None, true)
@@ -279,6 +287,12 @@ fn turn_take(proc: &mut Process, port: u32, rides: Option<Value>) -> bool
             in_turn::take(ports, left, proc.size);
             true
         }
+        KeptPlan::CallsTogether | KeptPlan::PushesTogether | KeptPlan::OwnTogether(_) => {
+            let (ports, left, slots) = (&mut proc.ports, &mut proc.left, &mut proc.slots);
+            slots.keep(proc.plan.row().into, rides);
+            together::take(ports, left, proc.size);
+            true
+        }
         KeptPlan::Loop => {
             proc.slots.keep(1, rides);
             script::take(Script::Loop, &mut proc.ports, &mut proc.left);
@@ -313,6 +327,10 @@ fn turn_reply(proc: &mut Process, port: u32) -> (Option<Value>, bool)
         }
         KeptPlan::PushesInTurn | KeptPlan::FetchesInTurn | KeptPlan::OwnInTurn(_) => {
             in_turn::reply(&mut proc.ports, &mut proc.left, proc.size);
+            (proc.slots.worth(&proc.plan.row().answer), true)
+        }
+        KeptPlan::CallsTogether | KeptPlan::PushesTogether | KeptPlan::OwnTogether(_) => {
+            together::reply(&mut proc.ports, &mut proc.left, proc.size);
             (proc.slots.worth(&proc.plan.row().answer), true)
         }
         KeptPlan::Loop => {
@@ -352,6 +370,18 @@ fn turn_got(proc: &mut Process, port: u32, rides: Option<Value>) -> bool
             slots.keep(proc.plan.row().legs.slot(port - 2), rides);
             in_turn::got(ports, left, proc.size, port - 2);
             true
+        }
+        KeptPlan::CallsTogether => {
+            let (ports, left, slots) = (&mut proc.ports, &mut proc.left, &mut proc.slots);
+            slots.keep(1, rides);
+            together::got(ports, left, proc.size, port - 2);
+            false
+        }
+        KeptPlan::PushesTogether | KeptPlan::OwnTogether(_) => {
+            let (ports, left, slots) = (&mut proc.ports, &mut proc.left, &mut proc.slots);
+            slots.keep(proc.plan.row().legs.slot(port - 2), rides);
+            together::got(ports, left, proc.size, port - 2);
+            false
         }
         KeptPlan::Loop => {
             let (ports, left, slots) = (&mut proc.ports, &mut proc.left, &mut proc.slots);

@@ -1,8 +1,9 @@
 use Rattle.std.proofs.Common.{rules, ◌≡◌, ◌∙◌, ◌-◌, None, ap, refl, subst}
 use Rattle.bz_model.specs.declared.channel.Move.TheVariants.{Ask}
 use Rattle.bz_kinds.specs.declared.comp.Process.{Process}
-use Rattle.bz_kinds.specs.declared.row.Plan.TheVariants.{InTurn}
-use Rattle.bz_kinds.specs.Kept.{plan_of}
+use Rattle.bz_kinds.specs.declared.row.Plan.TheVariants.{InTurn, Together}
+use Rattle.bz_kinds.specs.declared.kept.KeptRow.TheVariants.{Calls}
+use Rattle.bz_kinds.specs.Kept.{plan_of, row_of}
 use Rattle.bz_model.specs.declared.expr.Expr.{Expr}
 use Rattle.bz_model.specs.Terms.{value_of}
 use Rattle.bz_kinds.specs.KeptLists.{slots_of}
@@ -13,6 +14,7 @@ use Rattle.bz_kinds.proofs.ScriptOnward.{loop-asks, script-asked, script-at, scr
 use Rattle.bz_kinds.specs.Comp.{IsAt}
 use Rattle.bz_kinds.specs.declared.row.Plan.{Plan}
 use Rattle.bz_kinds.specs.declared.row.Script.TheVariants.{Loop}
+use Rattle.bz_kinds.proofs.TogetherOnward.{at-once-at, went-at-once}
 use Rattle.bz_kinds.proofs.comp.turn_ask.Goals as goal
 
 pub returns-in-CallsInTurn-clause-goes : goal.returns-in-CallsInTurn-clause-goes
@@ -25,13 +27,13 @@ returns-in-CallsInTurn-clause-waits c t = in-turn-asked _ _ (ap plan_of c.in-Cal
 
 pub returns-in-PushesInTurn-clause-goes : goal.returns-in-PushesInTurn-clause-goes
 returns-in-PushesInTurn-clause-goes c =
-    let is : plan_of c.args.proc.now.plan ≡ InTurn c.row.result.now = search rules in
+    let is : plan_of c.args.proc.now.plan ≡ InTurn c.row-in-PushesInTurn.result.now = search rules in
     let own : c.in-PushesInTurn.match-proc-own.proc ≡ c.args.proc.now = search rules in
     went _ c.args.proc.now own _ is c.args.port _ _ _ _ (asks-leg _ _ (in-turn-at _ _ is _ _ _ _ c.requires.ask)) (c.ask-in-PushesInTurn.ensures _)
 
 pub returns-in-PushesInTurn-clause-waits : goal.returns-in-PushesInTurn-clause-waits
 returns-in-PushesInTurn-clause-waits c t =
-    let is : plan_of c.args.proc.now.plan ≡ InTurn c.row.result.now = search rules in
+    let is : plan_of c.args.proc.now.plan ≡ InTurn c.row-in-PushesInTurn.result.now = search rules in
     let own : c.in-PushesInTurn.match-proc-own.proc ≡ c.args.proc.now = search rules in
     waits-of _ _ own _ c.args.port (in-turn-asked _ _ is _ _ _ _ _ _ _ _ c.requires.due.place c.requires.ask (returns-in-PushesInTurn-clause-goes c))
 
@@ -40,11 +42,11 @@ returns-in_default-clause-made c = made-as c.args.proc.now c.args.port None c.tu
 
 pub returns-in-PushesInTurn-clause-made : goal.returns-in-PushesInTurn-clause-made
 returns-in-PushesInTurn-clause-made c d e =
-    let is : plan_of c.args.proc.now.plan ≡ InTurn c.row.result.now = search rules in
+    let is : plan_of c.args.proc.now.plan ≡ InTurn c.row-in-PushesInTurn.result.now = search rules in
     let own : c.in-PushesInTurn.match-proc-own.proc ≡ c.args.proc.now = search rules in
     let same = ap (λ (it : Process). slots_of it.slots) own in
-    row-asked c.row.result.now c.args.port _ d None _ _ _ (due-of _ _ is _ _ _ _ d e) (in-turn-at _ _ is _ _ _ _ c.requires.ask)
-    (c.worth.ensures ∙ ap (λ (it : Expr). value_of it (slots_of c.in-PushesInTurn.match-proc-own.proc.slots)) c.gives.ensures ∙ ap (value_of (leg_of c.row.result.now.legs (c.args.port - 2)).gives) same) same
+    row-asked c.row-in-PushesInTurn.result.now c.args.port _ d None _ _ _ (due-of _ _ is _ _ _ _ d e) (in-turn-at _ _ is _ _ _ _ c.requires.ask)
+    (c.worth-in-PushesInTurn.ensures ∙ ap (λ (it : Expr). value_of it (slots_of c.in-PushesInTurn.match-proc-own.proc.slots)) c.gives-in-PushesInTurn.ensures ∙ ap (value_of (leg_of c.row-in-PushesInTurn.result.now.legs (c.args.port - 2)).gives) same) same
 
 pub returns-in-Loop-clause-goes : goal.returns-in-Loop-clause-goes
 returns-in-Loop-clause-goes c =
@@ -58,3 +60,27 @@ returns-in-OneByOne-clause-made c d e =
 
 pub returns-in-OneByOne-clause-goes : goal.returns-in-OneByOne-clause-goes
 returns-in-OneByOne-clause-goes c = script-went c.args.proc.now _ (ap plan_of c.in-OneByOne.is) c.args.port _ _ _ _ refl (c.ask-in-OneByOne.ensures.steps _)
+
+pub returns-in-CallsTogether-clause-goes : goal.returns-in-CallsTogether-clause-goes
+returns-in-CallsTogether-clause-goes c =
+    let is = ap plan_of c.in-CallsTogether.is in
+    went-at-once _ c.args.proc.now refl _ is c.args.port _ _ _ _ (asks-leg _ _ (at-once-at _ _ is _ _ _ _ c.requires.ask)) (c.ask-in-CallsTogether.ensures _)
+
+pub returns-in-CallsTogether-clause-made : goal.returns-in-CallsTogether-clause-made
+returns-in-CallsTogether-clause-made c d e =
+    let is = ap plan_of c.in-CallsTogether.is in
+    row-asked (row_of Calls) c.args.port _ d None _ _ None (due-of _ _ is _ _ _ _ d e) (at-once-at _ _ is _ _ _ _ c.requires.ask) refl refl
+
+pub returns-in-PushesTogether-clause-goes : goal.returns-in-PushesTogether-clause-goes
+returns-in-PushesTogether-clause-goes c =
+    let is : plan_of c.args.proc.now.plan ≡ Together c.row.result.now = search rules in
+    let own : c.in-PushesTogether.match-proc-own.proc ≡ c.args.proc.now = search rules in
+    went-at-once _ c.args.proc.now own _ is c.args.port _ _ _ _ (asks-leg _ _ (at-once-at _ _ is _ _ _ _ c.requires.ask)) (c.ask-in-PushesTogether.ensures _)
+
+pub returns-in-PushesTogether-clause-made : goal.returns-in-PushesTogether-clause-made
+returns-in-PushesTogether-clause-made c d e =
+    let is : plan_of c.args.proc.now.plan ≡ Together c.row.result.now = search rules in
+    let own : c.in-PushesTogether.match-proc-own.proc ≡ c.args.proc.now = search rules in
+    let same = ap (λ (it : Process). slots_of it.slots) own in
+    row-asked c.row.result.now c.args.port _ d None _ _ _ (due-of _ _ is _ _ _ _ d e) (at-once-at _ _ is _ _ _ _ c.requires.ask)
+    (c.worth.ensures ∙ ap (λ (it : Expr). value_of it (slots_of c.in-PushesTogether.match-proc-own.proc.slots)) c.gives.ensures ∙ ap (value_of (leg_of c.row.result.now.legs (c.args.port - 2)).gives) same) same

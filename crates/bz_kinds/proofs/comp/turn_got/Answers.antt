@@ -1,11 +1,14 @@
-use Rattle.std.proofs.Common.{rules, ◌≡◌, ◌∙◌, ap, refl}
-use Rattle.bz_kinds.specs.declared.row.Plan.TheVariants.{InTurn}
+use Rattle.std.proofs.Common.{rules, ◌≡◌, ◌∙◌, ap, refl, ◌-◌}
+use Rattle.bz_kinds.specs.declared.row.Plan.TheVariants.{InTurn, Together}
 use Rattle.bz_kinds.specs.Kept.{plan_of}
-use Rattle.bz_kinds.proofs.OnwardLaws.{in-turn-at, gets-leg, in-turn-got, made-got, went, sure-of}
+use Rattle.bz_kinds.proofs.OnwardLaws.{in-turn-at, gets-leg, in-turn-got, made-got, went, sure-of, row-got}
 use Rattle.bz_kinds.proofs.ScriptOnward.{script-at, script-got}
 use Rattle.bz_model.specs.Terms.{stored}
 use Rattle.bz_kinds.specs.KeptLists.{slots_of}
 use Rattle.bz_kinds.proofs.PlanLaws.{due-of}
+use Rattle.bz_kinds.proofs.TogetherOnward.{at-once-at, went-at-once}
+use Rattle.bz_kinds.specs.declared.comp.Process.{Process}
+use Rattle.bz_kinds.specs.Row.{leg_of}
 use Rattle.bz_kinds.proofs.comp.turn_got.Goals as goal
 
 pub returns-in-CallsInTurn-clause-goes : goal.returns-in-CallsInTurn-clause-goes
@@ -18,13 +21,13 @@ returns-in-CallsInTurn-clause-sure c t = in-turn-got _ _ (ap plan_of c.in-CallsI
 
 pub returns-in-PushesInTurn-clause-goes : goal.returns-in-PushesInTurn-clause-goes
 returns-in-PushesInTurn-clause-goes c =
-    let is : plan_of c.args.proc.now.plan ≡ InTurn c.row.result.now = search rules in
+    let is : plan_of c.args.proc.now.plan ≡ InTurn c.row-in-PushesInTurn.result.now = search rules in
     let own : c.in-PushesInTurn.match-proc-own.proc ≡ c.args.proc.now = search rules in
     went _ c.args.proc.now own _ is c.args.port _ _ _ _ (gets-leg _ _ (in-turn-at _ _ is _ _ _ _ c.requires.got)) (c.got-in-PushesInTurn.ensures _)
 
 pub returns-in-PushesInTurn-clause-sure : goal.returns-in-PushesInTurn-clause-sure
 returns-in-PushesInTurn-clause-sure c t =
-    let is : plan_of c.args.proc.now.plan ≡ InTurn c.row.result.now = search rules in
+    let is : plan_of c.args.proc.now.plan ≡ InTurn c.row-in-PushesInTurn.result.now = search rules in
     let own : c.in-PushesInTurn.match-proc-own.proc ≡ c.args.proc.now = search rules in
     sure-of _ _ own _ (in-turn-got _ _ is _ _ _ _ _ _ _ _ c.requires.due.place c.requires.got (returns-in-PushesInTurn-clause-goes c))
 
@@ -35,3 +38,22 @@ pub returns-in-OneByOne-clause-made : goal.returns-in-OneByOne-clause-made
 returns-in-OneByOne-clause-made c d e =
     let is = ap plan_of c.in-OneByOne.is in
     script-got c.in-OneByOne.script c.args.port _ d c.args.rides _ _ (due-of _ _ is _ _ _ _ d e) (script-at _ _ is _ _ _ _ c.requires.got) (c.keep-in-OneByOne.ensures ∙ ap (λ k. stored k c.args.rides (slots_of c.args.proc.now.slots)) c.got_into.ensures)
+
+pub returns-in-CallsTogether-clause-goes : goal.returns-in-CallsTogether-clause-goes
+returns-in-CallsTogether-clause-goes c =
+    let is = ap plan_of c.in-CallsTogether.is in
+    went-at-once _ c.args.proc.now refl _ is c.args.port _ _ _ _ (gets-leg _ _ (at-once-at _ _ is _ _ _ _ c.requires.got)) (c.got-in-CallsTogether.ensures _)
+
+pub returns-in-PushesTogether-clause-goes : goal.returns-in-PushesTogether-clause-goes
+returns-in-PushesTogether-clause-goes c =
+    let is : plan_of c.args.proc.now.plan ≡ Together c.row.result.now = search rules in
+    let own : c.in-PushesTogether.match-proc-own.proc ≡ c.args.proc.now = search rules in
+    went-at-once _ c.args.proc.now own _ is c.args.port _ _ _ _ (gets-leg _ _ (at-once-at _ _ is _ _ _ _ c.requires.got)) (c.got-in-PushesTogether.ensures _)
+
+pub returns-in-PushesTogether-clause-made : goal.returns-in-PushesTogether-clause-made
+returns-in-PushesTogether-clause-made c d e =
+    let is : plan_of c.args.proc.now.plan ≡ Together c.row.result.now = search rules in
+    let own : c.in-PushesTogether.match-proc-own.proc ≡ c.args.proc.now = search rules in
+    let same = ap (λ (it : Process). slots_of it.slots) own in
+    row-got c.row.result.now c.args.port _ d c.args.rides _ _ (due-of _ _ is _ _ _ _ d e) (at-once-at _ _ is _ _ _ _ c.requires.got)
+    (c.keep-in-PushesTogether.ensures ∙ ap (λ k. stored k c.args.rides (slots_of c.in-PushesTogether.match-proc-own.proc.slots)) c.slot.ensures ∙ ap (stored (leg_of c.row.result.now.legs (c.args.port - 2)).into c.args.rides) same)

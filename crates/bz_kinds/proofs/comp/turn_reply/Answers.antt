@@ -1,13 +1,14 @@
 use Rattle.std.proofs.Common.{rules, ◌≡◌, ◌∙◌, None, ap, refl}
 use Rattle.bz_model.specs.declared.channel.Move.TheVariants.{Reply}
 use Rattle.bz_kinds.specs.declared.comp.Process.{Process}
-use Rattle.bz_kinds.specs.declared.row.Plan.TheVariants.{InTurn}
+use Rattle.bz_kinds.specs.declared.row.Plan.TheVariants.{InTurn, Together}
 use Rattle.bz_kinds.specs.Kept.{plan_of}
 use Rattle.bz_model.specs.Terms.{value_of}
 use Rattle.bz_kinds.specs.KeptLists.{slots_of}
 use Rattle.bz_kinds.proofs.PlanLaws.{due-of}
 use Rattle.bz_kinds.proofs.OnwardLaws.{row-replied, in-turn-at, replies-one, in-turn-replied, made-as, went, waits-of}
 use Rattle.bz_kinds.proofs.ScriptOnward.{replies-first, script-at, script-replied, script-went}
+use Rattle.bz_kinds.proofs.TogetherOnward.{at-once-at, went-at-once}
 use Rattle.bz_kinds.proofs.comp.turn_reply.Goals as goal
 
 pub returns-in-CallsInTurn-clause-goes : goal.returns-in-CallsInTurn-clause-goes
@@ -20,13 +21,13 @@ returns-in-CallsInTurn-clause-waits c t = in-turn-replied _ _ (ap plan_of c.in-C
 
 pub returns-in-PushesInTurn-clause-goes : goal.returns-in-PushesInTurn-clause-goes
 returns-in-PushesInTurn-clause-goes c =
-    let is : plan_of c.args.proc.now.plan ≡ InTurn c.row.result.now = search rules in
+    let is : plan_of c.args.proc.now.plan ≡ InTurn c.row-in-PushesInTurn.result.now = search rules in
     let own : c.in-PushesInTurn.match-proc-own.proc ≡ c.args.proc.now = search rules in
     went _ c.args.proc.now own _ is c.args.port _ _ _ _ (replies-one _ _ (in-turn-at _ _ is _ _ _ _ c.requires.reply)) (c.reply-in-PushesInTurn.ensures _)
 
 pub returns-in-PushesInTurn-clause-waits : goal.returns-in-PushesInTurn-clause-waits
 returns-in-PushesInTurn-clause-waits c t =
-    let is : plan_of c.args.proc.now.plan ≡ InTurn c.row.result.now = search rules in
+    let is : plan_of c.args.proc.now.plan ≡ InTurn c.row-in-PushesInTurn.result.now = search rules in
     let own : c.in-PushesInTurn.match-proc-own.proc ≡ c.args.proc.now = search rules in
     waits-of _ _ own _ c.args.port (in-turn-replied _ _ is _ _ _ _ _ _ _ _ c.requires.due.place c.requires.reply (returns-in-PushesInTurn-clause-goes c))
 
@@ -35,11 +36,11 @@ returns-in_default-clause-made c = made-as c.args.proc.now c.args.port None c.tu
 
 pub returns-in-PushesInTurn-clause-made : goal.returns-in-PushesInTurn-clause-made
 returns-in-PushesInTurn-clause-made c d e =
-    let is : plan_of c.args.proc.now.plan ≡ InTurn c.row.result.now = search rules in
+    let is : plan_of c.args.proc.now.plan ≡ InTurn c.row-in-PushesInTurn.result.now = search rules in
     let own : c.in-PushesInTurn.match-proc-own.proc ≡ c.args.proc.now = search rules in
     let same = ap (λ (it : Process). slots_of it.slots) own in
-    row-replied c.row.result.now c.args.port _ d None _ _ _ (due-of _ _ is _ _ _ _ d e) (in-turn-at _ _ is _ _ _ _ c.requires.reply)
-    (c.worth.ensures ∙ ap (value_of c.row.result.now.answer) same) same
+    row-replied c.row-in-PushesInTurn.result.now c.args.port _ d None _ _ _ (due-of _ _ is _ _ _ _ d e) (in-turn-at _ _ is _ _ _ _ c.requires.reply)
+    (c.worth-in-PushesInTurn.ensures ∙ ap (value_of c.row-in-PushesInTurn.result.now.answer) same) same
 
 pub returns-in-OneByOne-clause-made : goal.returns-in-OneByOne-clause-made
 returns-in-OneByOne-clause-made c d e =
@@ -50,3 +51,17 @@ pub returns-in-OneByOne-clause-goes : goal.returns-in-OneByOne-clause-goes
 returns-in-OneByOne-clause-goes c =
     let is = ap plan_of c.in-OneByOne.is in
     script-went c.args.proc.now _ is c.args.port _ _ _ _ (replies-first _ _ (script-at _ _ is _ _ _ _ c.requires.reply)) (c.reply-in-OneByOne.ensures.steps _)
+
+pub returns-in-CallsTogether-clause-goes : goal.returns-in-CallsTogether-clause-goes
+returns-in-CallsTogether-clause-goes c =
+    let is : plan_of c.args.proc.now.plan ≡ Together c.row.result.now = search rules in
+    let own : c.in-CallsTogether.match-proc-own.proc ≡ c.args.proc.now = search rules in
+    went-at-once _ c.args.proc.now own _ is c.args.port _ _ _ _ (replies-one _ _ (at-once-at _ _ is _ _ _ _ c.requires.reply)) (c.reply-in-CallsTogether.ensures.steps _)
+
+pub returns-in-CallsTogether-clause-made : goal.returns-in-CallsTogether-clause-made
+returns-in-CallsTogether-clause-made c d e =
+    let is : plan_of c.args.proc.now.plan ≡ Together c.row.result.now = search rules in
+    let own : c.in-CallsTogether.match-proc-own.proc ≡ c.args.proc.now = search rules in
+    let same = ap (λ (it : Process). slots_of it.slots) own in
+    row-replied c.row.result.now c.args.port _ d None _ _ _ (due-of _ _ is _ _ _ _ d e) (at-once-at _ _ is _ _ _ _ c.requires.reply)
+    (c.worth.ensures ∙ ap (value_of c.row.result.now.answer) same) same

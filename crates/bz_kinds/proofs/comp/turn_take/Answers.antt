@@ -1,11 +1,13 @@
 use Rattle.std.proofs.Common.{rules, ◌≡◌, ◌∙◌, ap, refl}
-use Rattle.bz_kinds.specs.declared.row.Plan.TheVariants.{InTurn}
+use Rattle.bz_kinds.specs.declared.row.Plan.TheVariants.{InTurn, Together}
 use Rattle.bz_kinds.specs.Kept.{plan_of}
-use Rattle.bz_kinds.proofs.OnwardLaws.{in-turn-at, takes-one, in-turn-took, made-taken, went, sure-of}
+use Rattle.bz_kinds.proofs.OnwardLaws.{in-turn-at, takes-one, in-turn-took, made-taken, went, sure-of, row-taken}
 use Rattle.bz_kinds.proofs.ScriptOnward.{script-at, script-taken, script-went, takes-first}
 use Rattle.bz_model.specs.Terms.{stored}
 use Rattle.bz_kinds.specs.KeptLists.{slots_of}
 use Rattle.bz_kinds.proofs.PlanLaws.{due-of}
+use Rattle.bz_kinds.proofs.TogetherOnward.{at-once-at, went-at-once}
+use Rattle.bz_kinds.specs.declared.comp.Process.{Process}
 use Rattle.bz_kinds.proofs.comp.turn_take.Goals as goal
 
 pub returns-in-CallsInTurn-clause-goes : goal.returns-in-CallsInTurn-clause-goes
@@ -18,13 +20,13 @@ returns-in-CallsInTurn-clause-sure c t = in-turn-took _ _ (ap plan_of c.in-Calls
 
 pub returns-in-PushesInTurn-clause-goes : goal.returns-in-PushesInTurn-clause-goes
 returns-in-PushesInTurn-clause-goes c =
-    let is : plan_of c.args.proc.now.plan ≡ InTurn c.row.result.now = search rules in
+    let is : plan_of c.args.proc.now.plan ≡ InTurn c.row-in-PushesInTurn.result.now = search rules in
     let own : c.in-PushesInTurn.match-proc-own.proc ≡ c.args.proc.now = search rules in
     went _ c.args.proc.now own _ is c.args.port _ _ _ _ (takes-one _ _ (in-turn-at _ _ is _ _ _ _ c.requires.take)) (c.take-in-PushesInTurn.ensures _)
 
 pub returns-in-PushesInTurn-clause-sure : goal.returns-in-PushesInTurn-clause-sure
 returns-in-PushesInTurn-clause-sure c t =
-    let is : plan_of c.args.proc.now.plan ≡ InTurn c.row.result.now = search rules in
+    let is : plan_of c.args.proc.now.plan ≡ InTurn c.row-in-PushesInTurn.result.now = search rules in
     let own : c.in-PushesInTurn.match-proc-own.proc ≡ c.args.proc.now = search rules in
     sure-of _ _ own _ (in-turn-took _ _ is _ _ _ _ _ _ _ _ c.requires.due.place c.requires.take (returns-in-PushesInTurn-clause-goes c))
 
@@ -45,3 +47,17 @@ pub returns-in-OneByOne-clause-goes : goal.returns-in-OneByOne-clause-goes
 returns-in-OneByOne-clause-goes c =
     let is = ap plan_of c.in-OneByOne.is in
     script-went c.args.proc.now _ is c.args.port _ _ _ _ (takes-first _ _ (script-at _ _ is _ _ _ _ c.requires.take)) (c.take-in-OneByOne.ensures.steps _)
+
+pub returns-in-CallsTogether-clause-goes : goal.returns-in-CallsTogether-clause-goes
+returns-in-CallsTogether-clause-goes c =
+    let is : plan_of c.args.proc.now.plan ≡ Together c.row.result.now = search rules in
+    let own : c.in-CallsTogether.match-proc-own.proc ≡ c.args.proc.now = search rules in
+    went-at-once _ c.args.proc.now own _ is c.args.port _ _ _ _ (takes-one _ _ (at-once-at _ _ is _ _ _ _ c.requires.take)) (c.take-in-CallsTogether.ensures.steps _)
+
+pub returns-in-CallsTogether-clause-made : goal.returns-in-CallsTogether-clause-made
+returns-in-CallsTogether-clause-made c d e =
+    let is : plan_of c.args.proc.now.plan ≡ Together c.row.result.now = search rules in
+    let own : c.in-CallsTogether.match-proc-own.proc ≡ c.args.proc.now = search rules in
+    let same = ap (λ (it : Process). slots_of it.slots) own in
+    row-taken c.row.result.now c.args.port _ d c.args.rides _ _ (due-of _ _ is _ _ _ _ d e) (at-once-at _ _ is _ _ _ _ c.requires.take)
+    (c.keep-in-CallsTogether.ensures ∙ ap (stored c.row.result.now.into c.args.rides) same)

@@ -11,12 +11,12 @@ use Rattle.bz_kinds.proofs.together.fire.Goals as goal
 pub returns-then-is_to_open-clause-steps : goal.returns-then-is_to_open-clause-steps
 returns-then-is_to_open-clause-steps c =
     let one : c.args.port ≡ 1 = omega (arith, c.if-port-eq1.true) in
-    steps-at c.args.row.now _ _ _ _ _ _ _ one (c.take.ensures c.args.row.now)
+    steps-at c.args.row.now _ _ _ _ _ _ _ one (c.take.ensures.steps c.args.row.now)
 
 pub returns-else-is_to_open-clause-steps : goal.returns-else-is_to_open-clause-steps
 returns-else-is_to_open-clause-steps c =
     let one : c.args.port ≡ 1 = omega (arith, c.if-port-eq1.true) in
-    steps-at c.args.row.now _ _ _ _ _ _ _ one (c.reply.ensures c.args.row.now)
+    steps-at c.args.row.now _ _ _ _ _ _ _ one (c.reply.ensures.steps c.args.row.now)
 
 pub returns-then-is_to_open-2-clause-made : goal.returns-then-is_to_open-2-clause-made
 returns-then-is_to_open-2-clause-made c d e =
