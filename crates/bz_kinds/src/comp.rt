@@ -247,7 +247,10 @@ fn turn_ask(proc: &mut Process, port: u32) -> (Option<Value>, bool)
         }
         KeptPlan::PushesTogether | KeptPlan::OwnTogether(_) => {
             together::ask(&mut proc.ports, &mut proc.left, proc.size, port - 2);
-            (proc.slots.worth(proc.plan.row().legs.gives(port - 2)), false)
+            (
+                proc.slots.worth(proc.plan.row().legs.gives(port - 2)),
+                false,
+            )
         }
         KeptPlan::Loop => {
             script::ask(Script::Loop, &mut proc.ports, &mut proc.left, 2);
@@ -257,8 +260,25 @@ fn turn_ask(proc: &mut Process, port: u32) -> (Option<Value>, bool)
             script::ask(*script, &mut proc.ports, &mut proc.left, port);
             (None, true)
         }
-        _ => {
-            let (_, value) = turn(proc, port, None);
+        KeptPlan::Cells => unreachable!(),
+        KeptPlan::Choice(mix) => {
+            choice::ask(mix.get(), &mut proc.ports, proc.size, proc.left - 1);
+            (proc.slots.worth(&mix.get().leg.gives), true)
+        }
+        KeptPlan::Meeting(meet) => {
+            let Some(leg) = &meet.get().leg else {
+                unreachable!()
+            };
+            meeting::ask(meet.get(), &mut proc.ports, &mut proc.left, proc.size);
+            (proc.slots.worth(&leg.gives), true)
+        }
+        KeptPlan::Once(_)
+        | KeptPlan::Select(_)
+        | KeptPlan::Indexed(_)
+        | KeptPlan::Signalled
+        | KeptPlan::Decision
+        | KeptPlan::Bar => {
+            let (_, value) = turn_far(proc, port, None);
             (value, false)
         }
     }
@@ -303,8 +323,30 @@ fn turn_take(proc: &mut Process, port: u32, rides: Option<Value>) -> bool
             script::take(*script, &mut proc.ports, &mut proc.left);
             script::goes_round(*script)
         }
-        _ => {
-            let (_, _) = turn(proc, port, rides);
+        KeptPlan::Cells => {
+            cells::keep(&mut proc.slots, port, rides);
+            cells::take(&mut proc.ports, proc.size, port);
+            true
+        }
+        KeptPlan::Choice(mix) => {
+            let (ports, left, slots) = (&mut proc.ports, &mut proc.left, &mut proc.slots);
+            slots.keep(mix.get().into, rides);
+            choice::take(mix.get(), ports, left, proc.size, port - 1);
+            true
+        }
+        KeptPlan::Meeting(meet) => {
+            let (ports, left, slots) = (&mut proc.ports, &mut proc.left, &mut proc.slots);
+            slots.keep(meeting::into(meet.get(), proc.size, port - 1), rides);
+            meeting::take(meet.get(), ports, left, proc.size, port - 1);
+            false
+        }
+        KeptPlan::Once(_)
+        | KeptPlan::Select(_)
+        | KeptPlan::Indexed(_)
+        | KeptPlan::Signalled
+        | KeptPlan::Decision
+        | KeptPlan::Bar => {
+            let (_, _) = turn_far(proc, port, rides);
             false
         }
     }
@@ -341,8 +383,41 @@ fn turn_reply(proc: &mut Process, port: u32) -> (Option<Value>, bool)
             script::reply(*script, &mut proc.ports, &mut proc.left);
             (None, true)
         }
-        _ => {
-            let (_, value) = turn(proc, port, None);
+        KeptPlan::Cells => {
+            cells::reply(&mut proc.ports, proc.size, port);
+            (cells::answer(&proc.slots, port), false)
+        }
+        KeptPlan::Choice(mix) => {
+            choice::reply(
+                mix.get(),
+                &mut proc.ports,
+                &mut proc.left,
+                proc.size,
+                port - 1,
+            );
+            (proc.slots.worth(&mix.get().answer), false)
+        }
+        KeptPlan::Meeting(meet) => {
+            meeting::reply(
+                meet.get(),
+                &mut proc.ports,
+                &mut proc.left,
+                proc.size,
+                port - 1,
+            );
+            (
+                proc.slots
+                    .worth(meeting::answer(meet.get(), proc.size, port - 1)),
+                false,
+            )
+        }
+        KeptPlan::Once(_)
+        | KeptPlan::Select(_)
+        | KeptPlan::Indexed(_)
+        | KeptPlan::Signalled
+        | KeptPlan::Decision
+        | KeptPlan::Bar => {
+            let (_, value) = turn_far(proc, port, None);
             (value, false)
         }
     }
@@ -395,8 +470,29 @@ fn turn_got(proc: &mut Process, port: u32, rides: Option<Value>) -> bool
             script::got(*script, ports, left, port, slots);
             true
         }
-        _ => {
-            let (_, _) = turn(proc, port, rides);
+        KeptPlan::Cells => unreachable!(),
+        KeptPlan::Choice(mix) => {
+            let (ports, left, slots) = (&mut proc.ports, &mut proc.left, &mut proc.slots);
+            slots.keep(mix.get().leg.into, rides);
+            choice::got(mix.get(), ports, proc.size, *left - 1);
+            true
+        }
+        KeptPlan::Meeting(meet) => {
+            let (ports, left, slots) = (&mut proc.ports, &mut proc.left, &mut proc.slots);
+            let Some(leg) = &meet.get().leg else {
+                unreachable!()
+            };
+            slots.keep(leg.into, rides);
+            meeting::got(meet.get(), ports, left, proc.size);
+            true
+        }
+        KeptPlan::Once(_)
+        | KeptPlan::Select(_)
+        | KeptPlan::Indexed(_)
+        | KeptPlan::Signalled
+        | KeptPlan::Decision
+        | KeptPlan::Bar => {
+            let (_, _) = turn_far(proc, port, rides);
             false
         }
     }

@@ -35,7 +35,7 @@ returns-then-chosen-eq0 c =
     let (le, closed) = taken-at c.args.mix.now c.args.size _ _ c.args.port found c.requires.place due (omega arith) in
     record {
       made = λ d e. lead-taken c.args.mix.now.into c.args.mix.now.answer d c.args.rides _ _ _ (at-branch c.args.mix.now c.args.size c.args.port _ d e le) closed c.keep.ensures;
-      steps = steps-as c.args.mix.now c.args.size _ _ _ _ _ _ _ _ (omega arith) (omega arith) refl c.take.ensures;
+      steps = steps-as c.args.mix.now c.args.size _ _ _ _ _ _ _ _ (omega arith) (omega arith) refl c.take.ensures.steps;
     }
 
 pub returns-then-port-size : goal.returns-then-port-size
@@ -58,7 +58,7 @@ returns-then-is_to_open c =
     let opens : c.is_to_open.result ≡ true = search rules in
     record {
       made = λ d e. leg-asked c.args.mix.now.leg d c.args.rides _ _ _ _ (at-out c.args.mix.now c.args.size c.args.port _ d e (omega arith)) (to-open _ _ opens c.is_to_open.ensures) c.worth-then-is_to_open.ensures refl;
-      steps = steps-as c.args.mix.now c.args.size _ _ _ _ _ _ _ _ (omega arith) is (omega arith) c.ask.ensures;
+      steps = steps-as c.args.mix.now c.args.size _ _ _ _ _ _ _ _ (omega arith) is (omega arith) c.ask.ensures.steps;
     }
 
 pub returns-else-is_to_open : goal.returns-else-is_to_open
@@ -69,5 +69,5 @@ returns-else-is_to_open c =
     let closes : c.is_to_open.result ≡ false = search rules in
     record {
       made = λ d e. leg-got c.args.mix.now.leg d c.args.rides _ _ _ (at-out c.args.mix.now c.args.size c.args.port _ d e (omega arith)) (not-opened _ (to-close _ _ closes c.is_to_open.ensures)) c.keep-else-is_to_open.ensures;
-      steps = steps-as c.args.mix.now c.args.size _ _ _ _ _ _ _ _ (omega arith) is (omega arith) c.got.ensures;
+      steps = steps-as c.args.mix.now c.args.size _ _ _ _ _ _ _ _ (omega arith) is (omega arith) c.got.ensures.steps;
     }

@@ -1,4 +1,4 @@
-use Rattle.std.proofs.Common.{rules, ◌≡◌, ◌∙◌, ◌-◌, None, ap, refl, subst}
+use Rattle.std.proofs.Common.{rules, ◌≡◌, ◌∙◌, ◌-◌, None, ap, refl, subst, arith}
 use Rattle.bz_model.specs.declared.channel.Move.TheVariants.{Ask}
 use Rattle.bz_kinds.specs.declared.comp.Process.{Process}
 use Rattle.bz_kinds.specs.declared.row.Plan.TheVariants.{InTurn, Together}
@@ -15,6 +15,9 @@ use Rattle.bz_kinds.specs.Comp.{IsAt}
 use Rattle.bz_kinds.specs.declared.row.Plan.{Plan}
 use Rattle.bz_kinds.specs.declared.row.Script.TheVariants.{Loop}
 use Rattle.bz_kinds.proofs.TogetherOnward.{at-once-at, went-at-once}
+use Rattle.bz_kinds.specs.Turn.{HasMade}
+use Rattle.bz_kinds.proofs.ChoiceTurn.{asks-out, choice-goes-on, choice-waits, choice-went, mix-is, out-busy, out-is}
+use Rattle.bz_kinds.proofs.MeetingTurn.{asks-behind, meet-is, meeting-asked, meeting-waits, meeting-went}
 use Rattle.bz_kinds.proofs.comp.turn_ask.Goals as goal
 
 pub returns-in-CallsInTurn-clause-goes : goal.returns-in-CallsInTurn-clause-goes
@@ -37,8 +40,11 @@ returns-in-PushesInTurn-clause-waits c t =
     let own : c.in-PushesInTurn.match-proc-own.proc ≡ c.args.proc.now = search rules in
     waits-of _ _ own _ c.args.port (in-turn-asked _ _ is _ _ _ _ _ _ _ _ c.requires.due.place c.requires.ask (returns-in-PushesInTurn-clause-goes c))
 
-pub returns-in_default-clause-made : goal.returns-in_default-clause-made
-returns-in_default-clause-made c = made-as c.args.proc.now c.args.port None c.turn-value.new.proc Ask _ _ c.requires.ask c.turn-value.ensures.made
+pub returns-in-Once-clause-made : goal.returns-in-Once-clause-made
+returns-in-Once-clause-made c =
+    let own : c.in-Once.match-proc-own.proc ≡ c.args.proc.now = search rules in
+    made-as c.args.proc.now c.args.port None c.turn_far-value.new.proc Ask _ _ c.requires.ask
+    (subst (λ (it : Process). HasMade it c.args.port None c.turn_far-value.new.proc c.turn_far-value.result.0 c.turn_far-value.result.1) own c.turn_far-value.ensures.made)
 
 pub returns-in-PushesInTurn-clause-made : goal.returns-in-PushesInTurn-clause-made
 returns-in-PushesInTurn-clause-made c d e =
@@ -83,4 +89,25 @@ returns-in-PushesTogether-clause-made c d e =
     let own : c.in-PushesTogether.match-proc-own.proc ≡ c.args.proc.now = search rules in
     let same = ap (λ (it : Process). slots_of it.slots) own in
     row-asked c.row.result.now c.args.port _ d None _ _ _ (due-of _ _ is _ _ _ _ d e) (at-once-at _ _ is _ _ _ _ c.requires.ask)
-    (c.worth.ensures ∙ ap (λ (it : Expr). value_of it (slots_of c.in-PushesTogether.match-proc-own.proc.slots)) c.gives.ensures ∙ ap (value_of (leg_of c.row.result.now.legs (c.args.port - 2)).gives) same) same
+    (c.worth-in-PushesTogether.ensures ∙ ap (λ (it : Expr). value_of it (slots_of c.in-PushesTogether.match-proc-own.proc.slots)) c.gives.ensures ∙ ap (value_of (leg_of c.row.result.now.legs (c.args.port - 2)).gives) same) same
+
+pub ask-requires-in-Choice-clause-place : goal.ask-requires-in-Choice-clause-place
+ask-requires-in-Choice-clause-place c = choice-goes-on c.args.proc.now c.get.result.now (mix-is _ _ _ c.in-Choice.is c.get.ensures) c.args.port c.requires.due (asks-out c.args.proc.now c.get.result.now (mix-is _ _ _ c.in-Choice.is c.get.ensures) c.args.port c.requires.due c.requires.ask).0
+
+pub returns-in-Choice-clause-goes : goal.returns-in-Choice-clause-goes
+returns-in-Choice-clause-goes c =
+    let past = (asks-out c.args.proc.now c.get.result.now (mix-is _ _ _ c.in-Choice.is c.get.ensures) c.args.port c.requires.due c.requires.ask).0 in
+    let busy = out-busy c.args.proc.now c.get.result.now (mix-is _ _ _ c.in-Choice.is c.get.ensures) c.args.port c.requires.due past in
+    choice-went c.args.proc.now c.get.result.now (mix-is _ _ _ c.in-Choice.is c.get.ensures) c.args.port c.requires.due _ _ _ _ _ _ (omega (arith, busy)) (out-is c.args.proc.now c.get.result.now (mix-is _ _ _ c.in-Choice.is c.get.ensures) c.args.port c.requires.due past) (omega (arith, busy)) c.ask-in-Choice.ensures.steps
+
+pub returns-in-Choice-clause-waits : goal.returns-in-Choice-clause-waits
+returns-in-Choice-clause-waits c t = choice-waits c.args.proc.now c.get.result.now (mix-is _ _ _ c.in-Choice.is c.get.ensures) c.args.port c.requires.due (asks-out c.args.proc.now c.get.result.now (mix-is _ _ _ c.in-Choice.is c.get.ensures) c.args.port c.requires.due c.requires.ask).0 _ c.ask-in-Choice.ensures.waits
+
+pub returns-in-Some-clause-made : goal.returns-in-Some-clause-made
+returns-in-Some-clause-made c d e = meeting-asked c.args.proc.now c.get-in-Meeting.result.now (meet-is _ _ _ c.in-Meeting.is c.get-in-Meeting.ensures) c.args.port c.requires.due d c.in-Some.leg _ e c.requires.ask c.in-Some.is c.worth-in-Meeting.ensures
+
+pub returns-in-Some-clause-goes : goal.returns-in-Some-clause-goes
+returns-in-Some-clause-goes c = let (past, last, due) = asks-behind c.args.proc.now c.get-in-Meeting-2.result.now (meet-is _ _ _ c.in-Meeting.is c.get-in-Meeting-2.ensures) c.args.port c.requires.due c.requires.ask in meeting-went c.args.proc.now c.get-in-Meeting-2.result.now (meet-is _ _ _ c.in-Meeting.is c.get-in-Meeting-2.ensures) c.args.port c.requires.due _ _ _ _ last c.ask-in-Meeting.ensures.steps
+
+pub returns-in-Some-clause-waits : goal.returns-in-Some-clause-waits
+returns-in-Some-clause-waits c t = let (past, last, due) = asks-behind c.args.proc.now c.get-in-Meeting-2.result.now (meet-is _ _ _ c.in-Meeting.is c.get-in-Meeting-2.ensures) c.args.port c.requires.due c.requires.ask in meeting-waits c.args.proc.now c.get-in-Meeting-2.result.now (meet-is _ _ _ c.in-Meeting.is c.get-in-Meeting-2.ensures) c.args.port c.requires.due _ _ last c.ask-in-Meeting.ensures.waits

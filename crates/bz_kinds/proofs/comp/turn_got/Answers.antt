@@ -1,4 +1,4 @@
-use Rattle.std.proofs.Common.{rules, ◌≡◌, ◌∙◌, ap, refl, ◌-◌}
+use Rattle.std.proofs.Common.{rules, ◌≡◌, ◌∙◌, ap, refl, ◌-◌, subst, arith}
 use Rattle.bz_kinds.specs.declared.row.Plan.TheVariants.{InTurn, Together}
 use Rattle.bz_kinds.specs.Kept.{plan_of}
 use Rattle.bz_kinds.proofs.OnwardLaws.{in-turn-at, gets-leg, in-turn-got, made-got, went, sure-of, row-got}
@@ -9,6 +9,9 @@ use Rattle.bz_kinds.proofs.PlanLaws.{due-of}
 use Rattle.bz_kinds.proofs.TogetherOnward.{at-once-at, went-at-once}
 use Rattle.bz_kinds.specs.declared.comp.Process.{Process}
 use Rattle.bz_kinds.specs.Row.{leg_of}
+use Rattle.bz_kinds.specs.Turn.{HasMade}
+use Rattle.bz_kinds.proofs.ChoiceTurn.{choice-goes-on, choice-got, choice-went, gets-out, mix-is, out-busy, out-is}
+use Rattle.bz_kinds.proofs.MeetingTurn.{gets-behind, meet-is, meeting-got, meeting-went}
 use Rattle.bz_kinds.proofs.comp.turn_got.Goals as goal
 
 pub returns-in-CallsInTurn-clause-goes : goal.returns-in-CallsInTurn-clause-goes
@@ -31,8 +34,11 @@ returns-in-PushesInTurn-clause-sure c t =
     let own : c.in-PushesInTurn.match-proc-own.proc ≡ c.args.proc.now = search rules in
     sure-of _ _ own _ (in-turn-got _ _ is _ _ _ _ _ _ _ _ c.requires.due.place c.requires.got (returns-in-PushesInTurn-clause-goes c))
 
-pub returns-in_default-clause-made : goal.returns-in_default-clause-made
-returns-in_default-clause-made c = made-got c.args.proc.now c.args.port c.args.rides c.turn.new.proc _ _ c.requires.got c.turn.ensures.made
+pub returns-in-Once-clause-made : goal.returns-in-Once-clause-made
+returns-in-Once-clause-made c =
+    let own : c.in-Once.match-proc-own.proc ≡ c.args.proc.now = search rules in
+    made-got c.args.proc.now c.args.port c.args.rides c.turn_far.new.proc _ _ c.requires.got
+    (subst (λ (it : Process). HasMade it c.args.port c.args.rides c.turn_far.new.proc c.turn_far.result.0 c.turn_far.result.1) own c.turn_far.ensures.made)
 
 pub returns-in-OneByOne-clause-made : goal.returns-in-OneByOne-clause-made
 returns-in-OneByOne-clause-made c d e =
@@ -57,3 +63,21 @@ returns-in-PushesTogether-clause-made c d e =
     let same = ap (λ (it : Process). slots_of it.slots) own in
     row-got c.row.result.now c.args.port _ d c.args.rides _ _ (due-of _ _ is _ _ _ _ d e) (at-once-at _ _ is _ _ _ _ c.requires.got)
     (c.keep-in-PushesTogether.ensures ∙ ap (λ k. stored k c.args.rides (slots_of c.in-PushesTogether.match-proc-own.proc.slots)) c.slot.ensures ∙ ap (stored (leg_of c.row.result.now.legs (c.args.port - 2)).into c.args.rides) same)
+
+pub got-requires-in-Choice-clause-place : goal.got-requires-in-Choice-clause-place
+got-requires-in-Choice-clause-place c = choice-goes-on c.args.proc.now c.get-in-Choice.result.now (mix-is _ _ _ c.in-Choice.is c.get-in-Choice.ensures) c.args.port c.requires.due (gets-out c.args.proc.now c.get-in-Choice.result.now (mix-is _ _ _ c.in-Choice.is c.get-in-Choice.ensures) c.args.port c.requires.due c.requires.got).0
+
+pub returns-in-Choice-clause-made : goal.returns-in-Choice-clause-made
+returns-in-Choice-clause-made c d e = choice-got c.args.proc.now c.get.result.now (mix-is _ _ _ c.in-Choice.is c.get.ensures) c.args.port c.requires.due d c.args.rides _ e c.requires.got c.keep-in-Choice.ensures
+
+pub returns-in-Choice-clause-goes : goal.returns-in-Choice-clause-goes
+returns-in-Choice-clause-goes c =
+    let past = (gets-out c.args.proc.now c.get-in-Choice.result.now (mix-is _ _ _ c.in-Choice.is c.get-in-Choice.ensures) c.args.port c.requires.due c.requires.got).0 in
+    let busy = out-busy c.args.proc.now c.get-in-Choice.result.now (mix-is _ _ _ c.in-Choice.is c.get-in-Choice.ensures) c.args.port c.requires.due past in
+    choice-went c.args.proc.now c.get-in-Choice.result.now (mix-is _ _ _ c.in-Choice.is c.get-in-Choice.ensures) c.args.port c.requires.due _ _ _ _ _ _ (omega (arith, busy)) (out-is c.args.proc.now c.get-in-Choice.result.now (mix-is _ _ _ c.in-Choice.is c.get-in-Choice.ensures) c.args.port c.requires.due past) (omega (arith, busy)) c.got-in-Choice.ensures.steps
+
+pub returns-in-Some-clause-made : goal.returns-in-Some-clause-made
+returns-in-Some-clause-made c d e = meeting-got c.args.proc.now c.get-in-Meeting.result.now (meet-is _ _ _ c.in-Meeting.is c.get-in-Meeting.ensures) c.args.port c.requires.due d c.in-Some.leg c.args.rides _ e c.requires.got c.in-Some.is c.keep-in-Meeting.ensures
+
+pub returns-in-Some-clause-goes : goal.returns-in-Some-clause-goes
+returns-in-Some-clause-goes c = let (past, last, due) = gets-behind c.args.proc.now c.get-in-Meeting-2.result.now (meet-is _ _ _ c.in-Meeting.is c.get-in-Meeting-2.ensures) c.args.port c.requires.due c.requires.got in meeting-went c.args.proc.now c.get-in-Meeting-2.result.now (meet-is _ _ _ c.in-Meeting.is c.get-in-Meeting-2.ensures) c.args.port c.requires.due _ _ _ _ last c.got-in-Meeting.ensures.steps

@@ -1,4 +1,4 @@
-use Rattle.std.proofs.Common.{rules, ◌≡◌, ◌∙◌, None, ap, refl}
+use Rattle.std.proofs.Common.{rules, ◌≡◌, ◌∙◌, None, ap, refl, subst, sym}
 use Rattle.bz_model.specs.declared.channel.Move.TheVariants.{Reply}
 use Rattle.bz_kinds.specs.declared.comp.Process.{Process}
 use Rattle.bz_kinds.specs.declared.row.Plan.TheVariants.{InTurn, Together}
@@ -9,6 +9,11 @@ use Rattle.bz_kinds.proofs.PlanLaws.{due-of}
 use Rattle.bz_kinds.proofs.OnwardLaws.{row-replied, in-turn-at, replies-one, in-turn-replied, made-as, went, waits-of}
 use Rattle.bz_kinds.proofs.ScriptOnward.{replies-first, script-at, script-replied, script-went}
 use Rattle.bz_kinds.proofs.TogetherOnward.{at-once-at, went-at-once}
+use Rattle.bz_kinds.specs.Turn.{HasMade}
+use Rattle.bz_model.specs.declared.expr.Expr.{Expr}
+use Rattle.bz_kinds.proofs.ChoiceTurn.{choice-first, choice-is-chosen, choice-replied, choice-went, mix-is, replies-chosen}
+use Rattle.bz_kinds.proofs.MeetingTurn.{meet-is, meeting-replied, meeting-went, replies-member}
+use Rattle.bz_kinds.proofs.MeetingTurn as meeting
 use Rattle.bz_kinds.proofs.comp.turn_reply.Goals as goal
 
 pub returns-in-CallsInTurn-clause-goes : goal.returns-in-CallsInTurn-clause-goes
@@ -31,8 +36,11 @@ returns-in-PushesInTurn-clause-waits c t =
     let own : c.in-PushesInTurn.match-proc-own.proc ≡ c.args.proc.now = search rules in
     waits-of _ _ own _ c.args.port (in-turn-replied _ _ is _ _ _ _ _ _ _ _ c.requires.due.place c.requires.reply (returns-in-PushesInTurn-clause-goes c))
 
-pub returns-in_default-clause-made : goal.returns-in_default-clause-made
-returns-in_default-clause-made c = made-as c.args.proc.now c.args.port None c.turn-value.new.proc Reply _ _ c.requires.reply c.turn-value.ensures.made
+pub returns-in-Once-clause-made : goal.returns-in-Once-clause-made
+returns-in-Once-clause-made c =
+    let own : c.in-Once.match-proc-own.proc ≡ c.args.proc.now = search rules in
+    made-as c.args.proc.now c.args.port None c.turn_far-value.new.proc Reply _ _ c.requires.reply
+    (subst (λ (it : Process). HasMade it c.args.port None c.turn_far-value.new.proc c.turn_far-value.result.0 c.turn_far-value.result.1) own c.turn_far-value.ensures.made)
 
 pub returns-in-PushesInTurn-clause-made : goal.returns-in-PushesInTurn-clause-made
 returns-in-PushesInTurn-clause-made c d e =
@@ -64,4 +72,24 @@ returns-in-CallsTogether-clause-made c d e =
     let own : c.in-CallsTogether.match-proc-own.proc ≡ c.args.proc.now = search rules in
     let same = ap (λ (it : Process). slots_of it.slots) own in
     row-replied c.row.result.now c.args.port _ d None _ _ _ (due-of _ _ is _ _ _ _ d e) (at-once-at _ _ is _ _ _ _ c.requires.reply)
-    (c.worth.ensures ∙ ap (value_of c.row.result.now.answer) same) same
+    (c.worth-in-CallsTogether.ensures ∙ ap (value_of c.row.result.now.answer) same) same
+
+pub reply-requires-in-Choice-clause-place : goal.reply-requires-in-Choice-clause-place
+reply-requires-in-Choice-clause-place c = choice-is-chosen c.args.proc.now c.get.result.now (mix-is _ _ _ c.in-Choice.is c.get.ensures) c.args.port c.requires.due c.requires.reply
+
+pub reply-requires-in-Meeting-clause-due : goal.reply-requires-in-Meeting-clause-due
+reply-requires-in-Meeting-clause-due c = meeting.replies-first c.args.proc.now c.get-in-Meeting.result.now (meet-is _ _ _ c.in-Meeting.is c.get-in-Meeting.ensures) c.args.port c.requires.due c.requires.reply
+
+pub returns-in-Choice-clause-made : goal.returns-in-Choice-clause-made
+returns-in-Choice-clause-made c d e = choice-replied c.args.proc.now c.get-in-Choice.result.now (mix-is _ _ _ c.in-Choice.is c.get-in-Choice.ensures) c.args.port c.requires.due d _ e c.requires.reply c.worth.ensures
+
+pub returns-in-Choice-clause-goes : goal.returns-in-Choice-clause-goes
+returns-in-Choice-clause-goes c =
+    let one = choice-first c.args.proc.now c.get.result.now (mix-is _ _ _ c.in-Choice.is c.get.ensures) c.args.port c.requires.due in
+    choice-went c.args.proc.now c.get.result.now (mix-is _ _ _ c.in-Choice.is c.get.ensures) c.args.port c.requires.due _ _ _ _ _ _ (sym one ∙ sym (replies-chosen c.args.proc.now c.get.result.now (mix-is _ _ _ c.in-Choice.is c.get.ensures) c.args.port c.requires.due c.requires.reply)) (sym one) refl c.reply-in-Choice.ensures
+
+pub returns-in-Meeting-clause-made : goal.returns-in-Meeting-clause-made
+returns-in-Meeting-clause-made c d e = meeting-replied c.args.proc.now c.get-in-Meeting-2.result.now (meet-is _ _ _ c.in-Meeting.is c.get-in-Meeting-2.ensures) c.args.port c.requires.due d _ e c.requires.reply (c.worth-in-Meeting.ensures ∙ ap (λ (it : Expr). value_of it (slots_of c.args.proc.now.slots)) c.answer-in-Meeting.ensures)
+
+pub returns-in-Meeting-clause-goes : goal.returns-in-Meeting-clause-goes
+returns-in-Meeting-clause-goes c = let (one, in_it, due) = replies-member c.args.proc.now c.get-in-Meeting.result.now (meet-is _ _ _ c.in-Meeting.is c.get-in-Meeting.ensures) c.args.port c.requires.due c.requires.reply in meeting-went c.args.proc.now c.get-in-Meeting.result.now (meet-is _ _ _ c.in-Meeting.is c.get-in-Meeting.ensures) c.args.port c.requires.due _ _ _ _ one c.reply-in-Meeting.ensures

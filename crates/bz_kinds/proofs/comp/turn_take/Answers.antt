@@ -1,4 +1,4 @@
-use Rattle.std.proofs.Common.{rules, ◌≡◌, ◌∙◌, ap, refl}
+use Rattle.std.proofs.Common.{rules, ◌≡◌, ◌∙◌, ap, refl, subst, sym}
 use Rattle.bz_kinds.specs.declared.row.Plan.TheVariants.{InTurn, Together}
 use Rattle.bz_kinds.specs.Kept.{plan_of}
 use Rattle.bz_kinds.proofs.OnwardLaws.{in-turn-at, takes-one, in-turn-took, made-taken, went, sure-of, row-taken}
@@ -8,6 +8,10 @@ use Rattle.bz_kinds.specs.KeptLists.{slots_of}
 use Rattle.bz_kinds.proofs.PlanLaws.{due-of}
 use Rattle.bz_kinds.proofs.TogetherOnward.{at-once-at, went-at-once}
 use Rattle.bz_kinds.specs.declared.comp.Process.{Process}
+use Rattle.bz_kinds.specs.Turn.{HasMade}
+use Rattle.bz_kinds.proofs.ChoiceTurn.{choice-first, choice-taken, choice-went, mix-is, takes-idle}
+use Rattle.bz_kinds.proofs.MeetingTurn.{meet-is, meeting-taken, meeting-went, takes-member}
+use Rattle.bz_kinds.proofs.MeetingTurn as meeting
 use Rattle.bz_kinds.proofs.comp.turn_take.Goals as goal
 
 pub returns-in-CallsInTurn-clause-goes : goal.returns-in-CallsInTurn-clause-goes
@@ -30,8 +34,11 @@ returns-in-PushesInTurn-clause-sure c t =
     let own : c.in-PushesInTurn.match-proc-own.proc ≡ c.args.proc.now = search rules in
     sure-of _ _ own _ (in-turn-took _ _ is _ _ _ _ _ _ _ _ c.requires.due.place c.requires.take (returns-in-PushesInTurn-clause-goes c))
 
-pub returns-in_default-clause-made : goal.returns-in_default-clause-made
-returns-in_default-clause-made c = made-taken c.args.proc.now c.args.port c.args.rides c.turn.new.proc _ _ c.requires.take c.turn.ensures.made
+pub returns-in-Once-clause-made : goal.returns-in-Once-clause-made
+returns-in-Once-clause-made c =
+    let own : c.in-Once.match-proc-own.proc ≡ c.args.proc.now = search rules in
+    made-taken c.args.proc.now c.args.port c.args.rides c.turn_far.new.proc _ _ c.requires.take
+    (subst (λ (it : Process). HasMade it c.args.port c.args.rides c.turn_far.new.proc c.turn_far.result.0 c.turn_far.result.1) own c.turn_far.ensures.made)
 
 pub returns-in-Loop-clause-goes : goal.returns-in-Loop-clause-goes
 returns-in-Loop-clause-goes c =
@@ -61,3 +68,20 @@ returns-in-CallsTogether-clause-made c d e =
     let same = ap (λ (it : Process). slots_of it.slots) own in
     row-taken c.row.result.now c.args.port _ d c.args.rides _ _ (due-of _ _ is _ _ _ _ d e) (at-once-at _ _ is _ _ _ _ c.requires.take)
     (c.keep-in-CallsTogether.ensures ∙ ap (stored c.row.result.now.into c.args.rides) same)
+
+pub take-requires-in-Meeting-clause-due : goal.take-requires-in-Meeting-clause-due
+take-requires-in-Meeting-clause-due c = meeting.takes-first c.args.proc.now c.get-in-Meeting.result.now (meet-is _ _ _ c.in-Meeting.is c.get-in-Meeting.ensures) c.args.port c.requires.due c.requires.take
+
+pub returns-in-Choice-clause-made : goal.returns-in-Choice-clause-made
+returns-in-Choice-clause-made c d e = choice-taken c.args.proc.now c.get.result.now (mix-is _ _ _ c.in-Choice.is c.get.ensures) c.args.port c.requires.due d c.args.rides _ e c.requires.take c.keep-in-Choice.ensures
+
+pub returns-in-Choice-clause-goes : goal.returns-in-Choice-clause-goes
+returns-in-Choice-clause-goes c =
+    let one = choice-first c.args.proc.now c.get-in-Choice.result.now (mix-is _ _ _ c.in-Choice.is c.get-in-Choice.ensures) c.args.port c.requires.due in
+    choice-went c.args.proc.now c.get-in-Choice.result.now (mix-is _ _ _ c.in-Choice.is c.get-in-Choice.ensures) c.args.port c.requires.due _ _ _ _ _ _ (sym (takes-idle c.args.proc.now c.get-in-Choice.result.now (mix-is _ _ _ c.in-Choice.is c.get-in-Choice.ensures) c.args.port c.requires.due c.requires.take)) (sym one) refl c.take-in-Choice.ensures.steps
+
+pub returns-in-Meeting-clause-made : goal.returns-in-Meeting-clause-made
+returns-in-Meeting-clause-made c d e = meeting-taken c.args.proc.now c.get-in-Meeting.result.now (meet-is _ _ _ c.in-Meeting.is c.get-in-Meeting.ensures) c.args.port c.requires.due d c.args.rides _ e c.requires.take (c.keep-in-Meeting.ensures ∙ ap (λ k. stored k c.args.rides (slots_of c.args.proc.now.slots)) c.into.ensures)
+
+pub returns-in-Meeting-clause-goes : goal.returns-in-Meeting-clause-goes
+returns-in-Meeting-clause-goes c = let (one, in_it, due) = takes-member c.args.proc.now c.get-in-Meeting-2.result.now (meet-is _ _ _ c.in-Meeting.is c.get-in-Meeting-2.ensures) c.args.port c.requires.due c.requires.take in meeting-went c.args.proc.now c.get-in-Meeting-2.result.now (meet-is _ _ _ c.in-Meeting.is c.get-in-Meeting-2.ensures) c.args.port c.requires.due _ _ _ _ one c.take-in-Meeting.ensures

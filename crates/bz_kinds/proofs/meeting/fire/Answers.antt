@@ -36,7 +36,7 @@ pub returns-in-Some-clause-steps : goal.returns-in-Some-clause-steps
 returns-in-Some-clause-steps c =
     let (found, due, narrow) = c.requires.due in
     let past = c.in-false-true.is-0 in
-    steps-at _ _ _ _ _ _ _ _ (behind-port _ _ _ _ c.requires.place c.args.port found due (omega (arith, past))) c.ask.ensures
+    steps-at _ _ _ _ _ _ _ _ (behind-port _ _ _ _ c.requires.place c.args.port found due (omega (arith, past))) c.ask.ensures.steps
 
 pub returns-in-Some-leg : goal.returns-in-Some-leg
 returns-in-Some-leg c =
@@ -44,5 +44,5 @@ returns-in-Some-leg c =
     let past = c.in-false-false.is-0 in
     record {
       made = λ d e. leg-got c.in-Some-leg.leg d c.args.rides _ _ _ (at-behind c.args.meet.now c.args.size c.args.port _ d c.in-Some-leg.leg e (omega (arith, past)) c.in-Some-leg.is) (not-opened _ c.in-false-false.ensures) c.keep-in-false-false.ensures;
-      steps = steps-at _ _ _ _ _ _ _ _ (behind-port _ _ _ _ c.requires.place c.args.port found due (omega (arith, past))) c.got.ensures;
+      steps = steps-at _ _ _ _ _ _ _ _ (behind-port _ _ _ _ c.requires.place c.args.port found due (omega (arith, past))) c.got.ensures.steps;
     }
