@@ -647,27 +647,24 @@ high_is (suc zero) (suc (suc high)) l h = absurd (omega (arith, h))
 pub number_high : (w : PortWord) (i : ℕ) → (bit_at w.opened i == 1) ≡ nat_le 2 (number_in w i)
 number_high w i = high_is (bit_at w.due i) (bit_at w.opened i) (bit_at-lt w.due i) (bit_at-lt w.opened i)
 
--- no number 1 behind the first word, where those from the lowest on lack it
+-- no number 1 at a place whose bits lack it, so at none of the words that do
 two_bits : (d o : ℕ) → d < 2 → o < 2 → min d o ≡ d → d + 2 * o ≢ 1
 two_bits zero zero l k e f = absurd (omega (arith, f))
 two_bits zero (suc o) l k e f = absurd (omega (arith, f))
 two_bits (suc d) zero l k e f = absurd (omega (arith, e))
 two_bits (suc d) (suc o) l k e f = absurd (omega (arith, f))
 
-pub far_lacks : (f : PortWord) (rest : List PortWord) (n low b : ℕ) → AreNumbers (f ∷ rest) n → IsLowest rest low → b ≤ low → All (λ (w : PortWord). bit_and w.due w.opened ≡ w.due) (drop b rest)
-    → (p : ℕ) → 64 ≤ p → get_or (numbers (f ∷ rest) n) p 0 ≢ 1
-far_lacks f rest n low b are is le all p far one =
-    let j = p / 64 - 1 in let i = p % 64 in let w = get_or rest j no_ports in
-    let e : p / 64 ≡ suc j = omega (arith, far) in
-    let number : number_in w i ≡ 1 = sym (any-number (f ∷ rest) n p are ∙ ap (λ (m : ℕ). number_in (get_or (f ∷ rest) m no_ports) i) e) ∙ one in
-    let d = bit_at w.due i in let o = bit_at w.opened i in
-    let lacks : bit_and w.due w.opened ≡ w.due → ⊥ = λ same. two_bits d o (bit_at-lt w.due i) (bit_at-lt w.opened i) (sym (bit_at_and w.due w.opened i) ∙ ap (λ (x : ℕ). bit_at x i) same) number in
-    elim (cases_lt j b) [
-      | inl below ↦ let z : d ≡ 0 = ap (λ (x : ℕ). bit_at x i) (is.even j (omega (arith, below, le))) ∙ bit_at-zero i in omega (arith, z, number, bit_at-lt w.opened i)
-      | inr from ↦ elim (cases_lt j (length rest)) [
-          | inl lt ↦ let there : b + (j - b) ≡ j = omega (arith, from) in
-              let at = All-get_or (λ (w : PortWord). bit_and w.due w.opened ≡ w.due) (drop b rest) (j - b) no_ports (omega (arith, lt, from, length-drop b rest)) all in
-              lacks (subst (λ (v : PortWord). bit_and v.due v.opened ≡ v.due) (get_or-drop b rest (j - b) no_ports ∙ ap (λ (m : ℕ). get_or rest m no_ports) there) at)
-          | inr past ↦ let none : number_in w i ≡ 0 = ap (λ (v : PortWord). number_in v i) (get_or_past rest j no_ports past) ∙ number_none i in omega (arith, none, number)
-        ]
-    ]
+pub lacks_behind : (f : PortWord) (rest : List PortWord) (n at b m : ℕ) → AreNumbers (f ∷ rest) n → 0 < at → b ≡ min (at - 1) (length rest) → m ≤ length (drop b rest)
+    → All (λ (w : PortWord). bit_and w.due w.opened ≡ w.due) (take m (drop b rest)) → (p : ℕ) → 64 * at ≤ p → p < 64 * (at + m) → get_or (numbers (f ∷ rest) n) p 0 ≢ 1
+lacks_behind f rest n at b m are from is within all p le lt one =
+    let j = p / 64 - 1 in let i = p % 64 in let w = get_or rest j no_ports in let ws = drop b rest in
+    let e : p / 64 ≡ suc j = omega (arith, from, le) in
+    let number : number_in w i ≡ 1 = sym (any-number (f ∷ rest) n p are ∙ ap (λ (q : ℕ). number_in (get_or (f ∷ rest) q no_ports) i) e) ∙ one in
+    let long = length-drop b rest in
+    let first : b ≡ at - 1 = omega (arith, is, within, long, le, lt) in
+    let there : b + (j - b) ≡ j = omega (arith, first, le) in
+    let before : j - b < m = omega (arith, first, from, le, lt) in
+    let held = All-get_or (λ (v : PortWord). bit_and v.due v.opened ≡ v.due) (take m ws) (j - b) no_ports (omega (arith, before, within, length-take m ws)) all in
+    let same : bit_and w.due w.opened ≡ w.due =
+    subst (λ (v : PortWord). bit_and v.due v.opened ≡ v.due) (get_or-take m ws (j - b) no_ports before ∙ get_or-drop b rest (j - b) no_ports ∙ ap (λ (q : ℕ). get_or rest q no_ports) there) held in
+    two_bits (bit_at w.due i) (bit_at w.opened i) (bit_at-lt w.due i) (bit_at-lt w.opened i) (sym (bit_at_and w.due w.opened i) ∙ ap (λ (x : ℕ). bit_at x i) same) number

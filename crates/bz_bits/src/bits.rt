@@ -58,15 +58,18 @@ impl<A: Allocator + Copy> PortBits<A> {
         bits_at(&self.first, &self.more, at)
     }
 
-    /// The first word from `at` on that has a bit; past the last word where there is none.
-    pub fn next_one(&self, at: usize) -> usize
-        requires { 0 < at }
+    /// The first word from `at` on, but before `end`, that has a bit; `end`, or past the last word, where there is none.
+    pub fn next_one(&self, at: usize, end: usize) -> usize
+        requires behind { 0 < at }
+        requires ordered { at ≤ end }
         ensures from { at ≤ result }
+        ensures within { result ≤ end }
         ensures passed { (k : ℕ) → at ≤ k → k < result → slice_index_or self.now k 0 ≡ 0 }
-        ensures stops { result < length self.now → slice_index_or self.now result 0 ≢ 0 }
+        ensures stops { result < end → result < length self.now → slice_index_or self.now result 0 ≢ 0 }
     {
         let before = (at - 1).min(self.more.len());
-        at + count_zeros(&self.more[before..])
+        let last = (end - 1).min(self.more.len());
+        at + count_zeros(&self.more[before..last])
     }
 
     /// Gives a port its bit.

@@ -143,12 +143,14 @@ impl<A: Allocator + Copy> PortNumbers<A> {
         next
     }
 
-    /// Whether no port from 64 on has the number 1. `false` says nothing.
-    pub fn lacks_far_ones(&self) -> bool
-        ensures { IsTrue result → (p : ℕ) → 64 ≤ p → slice_index self.now p ≢ 1 }
+    /// The first word from `at` on in which a port has the number 1; past the last word where there is none.
+    pub fn next_with_one(&self, at: usize) -> usize
+        requires { 0 < at }
+        ensures from { at ≤ result }
+        ensures passed { (p : ℕ) → 64 * at ≤ p → p < 64 * result → slice_index self.now p ≢ 1 }
     {
-        let from = self.more.len().min(self.low as usize);
-        lack_ones(&self.more[from..])
+        let front = (at - 1).min(self.more.len());
+        at + count_lacking(&self.more[front..])
     }
 
     /// Gives a port a number; nothing where there is no such port.
@@ -311,13 +313,7 @@ fn count_even(words: &[PortWord]) -> usize
     found.unwrap_or(words.len())
 }
 
-// Whether in none of these words a port has the number 1.
-fn lack_ones(words: &[PortWord]) -> bool
-    ensures { IsTrue result → All (λ w. bit_and w.due w.opened ≡ w.due) words.now }
-{
-    count_lacking(words) == words.len()
-}
-
+// How many words come before the first in which a port has the number 1.
 fn count_lacking(words: &[PortWord]) -> usize
     ensures within { result ≤ length words.now }
     ensures lacking { All (λ w. bit_and w.due w.opened ≡ w.due) (take result words.now) }

@@ -173,6 +173,5 @@ to_open_one (suc zero) e = refl
 to_open_one (suc (suc zero)) e = absurd (cc)
 to_open_one (suc (suc (suc n))) e = absurd (cc)
 
-pub none_to_open : (ns : List ℕ) (w : List PortState) → map state_of ns ≡ w → ((p : ℕ) → 64 ≤ p → get_or ns p 0 ≢ 1) → (p : ℕ) → 64 ≤ p → state_at w p ≢ ClosedDue
-none_to_open ns w view none p far e =
-    none p far (to_open_one (get_or ns p 0) (sym (state_map ns p) ∙ ap (λ (v : List PortState). state_at v p) view ∙ e))
+pub not_to_open : (ns : List ℕ) (w : List PortState) → map state_of ns ≡ w → (p : ℕ) → get_or ns p 0 ≢ 1 → state_at w p ≢ ClosedDue
+not_to_open ns w view p not e = not (to_open_one (get_or ns p 0) (sym (state_map ns p) ∙ ap (λ (v : List PortState). state_at v p) view ∙ e))

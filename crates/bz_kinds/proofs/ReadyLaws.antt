@@ -225,6 +225,15 @@ sense_lead zero = between_low 1 2 0 (omega arith)
 sense_lead (suc zero) = between_in 1 2 1 (omega arith) (omega arith)
 sense_lead (suc (suc i)) = between_high 1 2 (suc (suc i)) (omega arith)
 
+-- none behind the first word
+told_behind : (p : ℕ) → 2 ≤ p → is_told (enclosing p) ≡ false
+told_behind zero le = absurd (omega (arith, le))
+told_behind (suc zero) le = absurd (omega (arith, le))
+told_behind (suc (suc i)) le = refl
+
+pub lead_behind : (at : ℕ) → 0 < at → (i : ℕ) → i < 64 → (bit_at 0 i == 1) ≡ is_told (enclosing (64 * at + i))
+lead_behind at some i lt = ap (λ (x : ℕ). x == 1) (bit_at-zero i) ∙ sym (told_behind (64 * at + i) (omega (arith, some)))
+
 pub sense_script : (p : ℕ) → between 1 2 p ≡ (p == 1)
 sense_script zero = between_low 1 2 0 (omega arith)
 sense_script (suc zero) = between_in 1 2 1 (omega arith) (omega arith)

@@ -71,31 +71,31 @@ meeting_waits meet n moved w ok some (suc i) =
         ]
     ]
 
--- each port from 64 on that is enclosed, where none is to open
+-- a port from 64 on that is enclosed, where it is not to open
 far_waits : (x : PortState) → x ≢ ClosedDue → Waits (Some false) x
 far_waits Closed ne = waits_closed (Some false)
 far_waits ClosedDue ne = absurd (ne refl)
 far_waits Open ne = waits_open (Some false)
 far_waits OpenDue ne = λ here can. can
 
-together_waits : (row : Row) (n : ℕ) (w : List PortState) → ((p : ℕ) → 64 ≤ p → get_or w p Closed ≢ ClosedDue) → (p : ℕ) → 64 ≤ p → Waits (sense (Together row) n p) (get_or w p Closed)
-together_waits row n w none zero far = absurd (omega (arith, far))
-together_waits row n w none (suc zero) far = absurd (omega (arith, far))
-together_waits row n w none (suc (suc i)) far = far_waits (get_or w (suc (suc i)) Closed) (none (suc (suc i)) far)
+together_waits : (row : Row) (n : ℕ) (w : List PortState) (p : ℕ) → 64 ≤ p → get_or w p Closed ≢ ClosedDue → Waits (sense (Together row) n p) (get_or w p Closed)
+together_waits row n w zero far ne = absurd (omega (arith, far))
+together_waits row n w (suc zero) far ne = absurd (omega (arith, far))
+together_waits row n w (suc (suc i)) far ne = far_waits (get_or w (suc (suc i)) Closed) ne
 
 module _ (plan : Plan) (n left : ℕ) (w : List PortState) (s : Store) (chans : List Chan) (c : Component) (view : record { proc = record { todo = todo_of plan n left w; store = s }; chans = chans; open_ports = map is_open w } ≡ c) (ok : IsAt plan n left w s) where
-  waits_at : ((p : ℕ) → 64 ≤ p → Waits (sense plan n p) (get_or w p Closed)) → (p : ℕ) (here : Bool) → 64 ≤ p → CanGo c.proc p here → here ≡ true
-  waits_at waits p here far can = waits p far here ((goes_by plan n left w s chans c view ok p here).1 can)
+  waits_at : (p : ℕ) (here : Bool) → Waits (sense plan n p) (get_or w p Closed) → CanGo c.proc p here → here ≡ true
+  waits_at p here waits can = waits here ((goes_by plan n left w s chans c view ok p here).1 can)
 
-  pub choice_only : (mix : Mix) → plan ≡ Choice mix → left ≡ 0 → (p : ℕ) (here : Bool) → 64 ≤ p → CanGo c.proc p here → here ≡ true
-  choice_only mix e z =
+  pub choice_only : (mix : Mix) → plan ≡ Choice mix → left ≡ 0 → (p : ℕ) (here : Bool) → CanGo c.proc p here → here ≡ true
+  choice_only mix e z p here =
       let place : choosing.IsPlace mix n 0 w = subst (λ (k : ℕ). choosing.IsPlace mix n k w) z (subst (λ (q : Plan). IsAt q n left w s) e ok) in
-      waits_at (λ p far. subst (λ (q : Plan). Waits (sense q n p) (get_or w p Closed)) (sym e) (choice_waits mix n w place p))
+      waits_at p here (subst (λ (q : Plan). Waits (sense q n p) (get_or w p Closed)) (sym e) (choice_waits mix n w place p))
 
-  pub meeting_only : (meet : Meet) → plan ≡ Meeting meet → ((m : Meet) (moved : ℕ) → gathering.IsPlace m n moved w → gathering.IsGathering n moved w) → (p : ℕ) (here : Bool) → 64 ≤ p → CanGo c.proc p here → here ≡ true
-  meeting_only meet e some =
+  pub meeting_only : (meet : Meet) → plan ≡ Meeting meet → ((m : Meet) (moved : ℕ) → gathering.IsPlace m n moved w → gathering.IsGathering n moved w) → (p : ℕ) (here : Bool) → CanGo c.proc p here → here ≡ true
+  meeting_only meet e some p here =
       let place : gathering.IsPlace meet n left w = subst (λ (q : Plan). IsAt q n left w s) e ok in
-      waits_at (λ p far. subst (λ (q : Plan). Waits (sense q n p) (get_or w p Closed)) (sym e) (meeting_waits meet n left w place (some meet left place) p))
+      waits_at p here (subst (λ (q : Plan). Waits (sense q n p) (get_or w p Closed)) (sym e) (meeting_waits meet n left w place (some meet left place) p))
 
-  pub together_only : (row : Row) → plan ≡ Together row → ((p : ℕ) → 64 ≤ p → get_or w p Closed ≢ ClosedDue) → (p : ℕ) (here : Bool) → 64 ≤ p → CanGo c.proc p here → here ≡ true
-  together_only row e none = waits_at (λ p far. subst (λ (q : Plan). Waits (sense q n p) (get_or w p Closed)) (sym e) (together_waits row n w none p far))
+  pub together_only : (row : Row) → plan ≡ Together row → (p : ℕ) (here : Bool) → 64 ≤ p → get_or w p Closed ≢ ClosedDue → CanGo c.proc p here → here ≡ true
+  together_only row e p here far ne = waits_at p here (subst (λ (q : Plan). Waits (sense q n p) (get_or w p Closed)) (sym e) (together_waits row n w p far ne))

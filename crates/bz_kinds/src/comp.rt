@@ -1,6 +1,6 @@
 //! A component: where its ports are, and the values that it keeps.
 
-ghost use Rattle.std.specs.Prelude.{◌≡◌, ◌≤◌, ◌-◌, ◌^◌, ◌<◌, ◌↔◌, Bool, true, not, ℕ, Some, IsTrue, IfSome, IfOk, IfErr, MatchOption, length, slice_set, replicate};
+ghost use Rattle.std.specs.Prelude.{◌≡◌, ◌≤◌, ◌-◌, ◌*◌, ◌^◌, ◌<◌, ◌↔◌, Bool, true, not, ℕ, Some, IsTrue, IfSome, IfOk, IfErr, MatchOption, length, slice_set, replicate};
 ghost use Rattle.std.specs.Option.{option_map};
 ghost use Rattle.bz_model.specs.declared.error.KindError.TheVariants.{Memory};
 ghost use Rattle.bz_model.specs.Heads.{Head, IsHeadOn, CanMove, Moves, Proc, Turns, HasOneHead, carried, opens, open_at};
@@ -27,7 +27,7 @@ use crate::move_iter::MoveIter;
 use crate::ports::{PortState, Ports};
 use crate::row::{DueMove, Script};
 use crate::same::is_same_plan;
-use crate::sense::{move_at, sense_word, sense_word_here};
+use crate::sense::{is_active_behind, move_at, sense_word, sense_word_here};
 use crate::shape::{CALLS, FETCHES, PUSHES, shape_of};
 use crate::{
     bar, cells, choice, decision, enclosed, in_turn, indexed, meeting, once, script, select,
@@ -701,7 +701,11 @@ pub fn far_word(comp: &Comp, at: u32, here: u64) -> u64
     if word.due == 0 {
         return 0;
     }
-    let passive = sense_word_here(&comp.proc.plan, comp.proc.size, at);
+    let passive = if is_active_behind(&comp.proc.plan) {
+        0
+    } else {
+        sense_word_here(&comp.proc.plan, comp.proc.size, at)
+    };
     word.ready(passive, here)
 }
 
@@ -725,21 +729,32 @@ pub fn next_due(comp: &Comp, at: usize) -> usize
     comp.proc.ports.next_due(at)
 }
 
-/// Whether each move that is due at a port from 64 on waits for what comes on its channel, a take for a request and a got for a
-/// reply. `false` says nothing.
+/// The first word from `at` on in which a move may be due that waits for nothing. Each that is due in a word before it waits for
+/// what comes on its channel, a take for a request and a got for a reply.
 #[inline(always)]
-pub fn only_waits(comp: &Comp) -> bool
-    ensures { IsTrue result → (p : ℕ) (here : Bool) → 64 ≤ p → CanGo comp.now.proc p here → here ≡ true }
+pub fn waits_to(comp: &Comp, at: usize) -> usize
+    requires { 0 < at }
+    ensures from { at ≤ result }
+    ensures waits { (p : ℕ) (here : Bool) → 64 * at ≤ p → p < 64 * result → CanGo comp.now.proc p here → here ≡ true }
 {
     let proc = &comp.proc;
     match &proc.plan {
-        KeptPlan::Choice(_) => proc.left == 0,
-        KeptPlan::Meeting(_) => meeting::only_takes(&proc.ports, proc.size),
-        KeptPlan::CallsTogether => proc.ports.lacks_far_to_open(),
-        KeptPlan::PushesTogether => proc.ports.lacks_far_to_open(),
-        KeptPlan::OwnTogether(_) => proc.ports.lacks_far_to_open(),
-        _ => false,
+        KeptPlan::Choice(_) => past_all_if(proc.left == 0, at),
+        KeptPlan::Meeting(_) => past_all_if(meeting::only_takes(&proc.ports, proc.size), at),
+        KeptPlan::CallsTogether => proc.ports.next_to_open(at),
+        KeptPlan::PushesTogether => proc.ports.next_to_open(at),
+        KeptPlan::OwnTogether(_) => proc.ports.next_to_open(at),
+        _ => at,
     }
+}
+
+// A word past all, or else this one.
+#[inline(always)]
+fn past_all_if(all: bool, at: usize) -> usize
+    ensures from { at ≤ result }
+    ensures only { at < result → IsTrue all }
+{
+    if all { usize::MAX } else { at }
 }
 
 /// The same component in the same state.

@@ -63,28 +63,32 @@ allowed (Replied v) Got true u e f = absurd (cc)
 allowed (Replied v) Got false u e f = refl
 
 -- at the ports of words at which nothing can go, whatever is here, it can't
-pub words_pass : (c : Component) (here : List ℕ) (from to : ℕ) → ((k : ℕ) → from ≤ k → k < to → NoneDue c.proc k)
+pub none_pass : (c : Component) (here : List ℕ) (from to : ℕ) → ((k : ℕ) → from ≤ k → k < to → NoneDue c.proc k) → (q : ℕ) → 64 * from ≤ q → q < 64 * to → CanGo c.proc q (flag_of here q) → ⊥
+none_pass c here from to none q le lt can =
+    let k = q / 64 in let i = q % 64 in let back : 64 * k + i ≡ q = omega arith in
+    let both = none k (omega (arith, le)) (omega (arith, lt)) (get_or here k 0) i (omega arith) in
+    false≢true (sym (ap (λ (x : ℕ). x == 1) (bit_at-zero i)) ∙ both.1 (subst (λ (r : ℕ). CanGo c.proc r (flag_of here q)) (sym back) can))
+
+-- nor where nothing is here, if it waits at each port there where a move is due
+pub zeros_pass : (c : Component) (here : List ℕ) (from to end : ℕ) → to ≤ end → ((p : ℕ) (flag : Bool) → 64 * from ≤ p → p < 64 * end → CanGo c.proc p flag → flag ≡ true)
+    → ((k : ℕ) → from ≤ k → k < to → get_or here k 0 ≡ 0) → (q : ℕ) → 64 * from ≤ q → q < 64 * to → CanGo c.proc q (flag_of here q) → ⊥
+zeros_pass c here from to end within waits zeros q le lt can =
+    let none : flag_of here q ≡ false =
+    ap (λ (w : ℕ). bit_at w (q % 64) == 1) (zeros (q / 64) (omega (arith, le)) (omega (arith, lt))) ∙ ap (λ (x : ℕ). x == 1) (bit_at-zero (q % 64)) in
+    false≢true (sym none ∙ waits q (flag_of here q) le (omega (arith, lt, within)) can)
+
+-- so at none before, if at none before the first of these words
+pub pass_on : (c : Component) (here : List ℕ) (from to : ℕ) → ((q : ℕ) → 64 * from ≤ q → q < 64 * to → CanGo c.proc q (flag_of here q) → ⊥)
     → ((q : ℕ) → q < 64 * from → CanGo c.proc q (flag_of here q) → ⊥) → (q : ℕ) → q < 64 * to → CanGo c.proc q (flag_of here q) → ⊥
-words_pass c here from to none before q lt can =
+pass_on c here from to passed before q lt can =
     elim (cases_lt q (64 * from)) [
       | inl low ↦ before q low can
-      | inr high ↦
-          let k = q / 64 in let i = q % 64 in let back : 64 * k + i ≡ q = omega arith in
-          let both = none k (omega (arith, high)) (omega (arith, lt)) (get_or here k 0) i (omega arith) in
-          absurd (false≢true (sym (ap (λ (x : ℕ). x == 1) (bit_at-zero i)) ∙ both.1 (subst (λ (r : ℕ). CanGo c.proc r (flag_of here q)) (sym back) can)))
+      | inr high ↦ passed q high lt can
     ]
 
--- nor where nothing is here, if it waits at each port from 64 on where a move is due
-pub zeros_pass : (c : Component) (here : List ℕ) (from to : ℕ) → 0 < from → ((p : ℕ) (flag : Bool) → 64 ≤ p → CanGo c.proc p flag → flag ≡ true) → ((k : ℕ) → from ≤ k → k < to → get_or here k 0 ≡ 0)
+pub words_pass : (c : Component) (here : List ℕ) (from to : ℕ) → ((k : ℕ) → from ≤ k → k < to → NoneDue c.proc k)
     → ((q : ℕ) → q < 64 * from → CanGo c.proc q (flag_of here q) → ⊥) → (q : ℕ) → q < 64 * to → CanGo c.proc q (flag_of here q) → ⊥
-zeros_pass c here from to some waits zeros before q lt can =
-    elim (cases_lt q (64 * from)) [
-      | inl low ↦ before q low can
-      | inr high ↦
-          let none : flag_of here q ≡ false =
-          ap (λ (w : ℕ). bit_at w (q % 64) == 1) (zeros (q / 64) (omega (arith, high)) (omega (arith, lt))) ∙ ap (λ (x : ℕ). x == 1) (bit_at-zero (q % 64)) in
-          absurd (false≢true (sym none ∙ waits q (flag_of here q) (omega (arith, some, high)) can))
-    ]
+words_pass c here from to none = pass_on c here from to (none_pass c here from to none)
 
 -- so a component that is told rightly can move where its bits say
 module _ (sites : List Site) (phases : List Phase) (comps : List Component) (heres : List (List ℕ)) (sighted : Sighted sites phases comps heres) (c : ℕ) (turning : IsTurning (comp_at comps c)) where

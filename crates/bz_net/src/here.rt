@@ -27,7 +27,7 @@ use crate::ready_row::{Keeping, ReadyRow};
 use bz_arena::Arena;
 use bz_bits::PortBits;
 use bz_flat::{Ends, FlatComp};
-use bz_kinds::{Comp, far_word, next_due, only_waits, ready_word};
+use bz_kinds::{Comp, far_word, next_due, ready_word, waits_to};
 use bz_model::{Move, Phase, Reply, Value, Verb};
 use std::alloc::{AllocError, Global};
 
@@ -77,9 +77,6 @@ fn lowest_far(comp: &Comp, here: &PortBits) -> Option<u32>
     if word != 0 {
         return Some(64 * at as u32 + word.trailing_zeros());
     }
-    if only_waits(comp) {
-        return lowest_here(comp, here, at + 1);
-    }
     lowest_from(comp, here, at + 1)
 }
 
@@ -93,37 +90,29 @@ fn lowest_from(comp: &Comp, here: &PortBits, from: usize) -> Option<u32>
     ensures { MatchOption result (NoneGoes comp.now here.now) (GoesFirst comp.now here.now) }
 {
     let end = here.word_count();
-    let mut at = next_due(comp, from);
+    let mut at = next_word(comp, here, from);
     while at < end {
         let word = far_word(comp, at as u32, here.word(at));
         if word != 0 {
             return Some(64 * at as u32 + word.trailing_zeros());
         }
-        at = next_due(comp, at + 1);
+        at = next_word(comp, here, at + 1);
     }
     None
 }
 
-// The same of a component that waits at each of these ports where a move is due: it can move where something is here alone.
-#[inline(never)]
-fn lowest_here(comp: &Comp, here: &PortBits, from: usize) -> Option<u32>
-    requires room { length comp.now.chans < 64 * length here.now }
-    requires few { length here.now ≤ 2 ^ 26 }
-    requires far { 0 < from }
-    requires before { (p : ℕ) → p < 64 * from → CanGo comp.now.proc p (flag_of here.now p) → ⊥ }
-    requires waits { (p : ℕ) (flag : Bool) → 64 ≤ p → CanGo comp.now.proc p flag → flag ≡ true }
-    ensures { MatchOption result (NoneGoes comp.now here.now) (GoesFirst comp.now here.now) }
+// The first word from one on in which it may be able to move: as far as it waits there, one in which something is here.
+#[inline(always)]
+fn next_word(comp: &Comp, here: &PortBits, from: usize) -> usize
+    requires { 0 < from }
+    ensures from { from ≤ result }
+    ensures passed { (p : ℕ) → 64 * from ≤ p → p < 64 * result → CanGo comp.now.proc p (flag_of here.now p) → ⊥ }
 {
-    let end = here.word_count();
-    let mut at = here.next_one(from);
-    while at < end {
-        let word = far_word(comp, at as u32, here.word(at));
-        if word != 0 {
-            return Some(64 * at as u32 + word.trailing_zeros());
-        }
-        at = here.next_one(at + 1);
+    let end = waits_to(comp, from);
+    if end == from {
+        return next_due(comp, from);
     }
-    None
+    here.next_one(from, end)
 }
 
 /// Whether a component can move by what it is told. Of the ports from 64 on those round `port` are looked at first: there it

@@ -1,9 +1,18 @@
+use Rattle.std.proofs.Common.{subst, sym}
+use Rattle.bz_kinds.specs.Ready.{IsSensed}
+use Rattle.bz_kinds.specs.Kept.{plan_of}
 use Rattle.bz_kinds.proofs.ReadyLaws.{ready_at, none_due, at_ports, opens_closed}
 use Rattle.bz_kinds.proofs.comp.far_word.Goals as goal
+use Rattle.bz_kinds.proofs.comp.far_word.Goals.{then-is_active_behind, else-is_active_behind}
 
 pub returns-clause-ready : goal.returns-clause-ready
 returns-clause-ready c =
-    ready_at _ _ _ _ _ _ _ c.comp.view_is c.comp.invariant.0 c.args.at c.sense_word_here-passive.result c.args.here c.ready.result c.word-word.result c.sense_word_here-passive.ensures c.word-word.ensures c.ready.ensures
+    let known : IsSensed (plan_of c.comp.inside.proc.plan) c.comp.inside.proc.size c.args.at c.if-is_active_behind.passive =
+    elim c.if-is_active_behind.branch [
+      | then-is_active_behind w ↦ subst (IsSensed (plan_of c.comp.inside.proc.plan) c.comp.inside.proc.size c.args.at) (sym w.passive-is) (c.is_active_behind.ensures w.if-is_active_behind.true c.comp.inside.proc.size c.args.at c.requires.far)
+      | else-is_active_behind w ↦ subst (IsSensed (plan_of c.comp.inside.proc.plan) c.comp.inside.proc.size c.args.at) (sym w.passive-is) w.sense_word_here-passive.ensures
+    ] in
+    ready_at _ _ _ _ _ _ _ c.comp.view_is c.comp.invariant.0 c.args.at c.if-is_active_behind.passive c.args.here c.ready.result c.word-word.result known c.word-word.ensures c.ready.ensures
 
 pub returns-then-word-eq0-clause-ready : goal.returns-then-word-eq0-clause-ready
 returns-then-word-eq0-clause-ready c = none_due _ _ _ _ _ _ _ c.comp.view_is c.comp.invariant.0 c.args.at c.args.here c.word-word.result c.if-word-eq0.true c.word-word.ensures

@@ -18,9 +18,3 @@ lowest_from-requires-clause-before c =
     let at = c.next_due-at.result in
     word_passes c.args.comp.now c.args.here.now at c.far_word-word.result c.word.result c.far_word-word.type_inv c.far_word-word.ensures.ready c.word.ensures c.if-word-ne0.false
     (words_pass c.args.comp.now c.args.here.now 1 at c.next_due-at.ensures.passed (λ q lt. c.requires.near q (omega (arith, lt))))
-
-pub lowest_here-requires-clause-before : goal.lowest_here-requires-clause-before
-lowest_here-requires-clause-before c =
-    let at = c.next_due-at.result in
-    word_passes c.args.comp.now c.args.here.now at c.far_word-word.result c.word.result c.far_word-word.type_inv c.far_word-word.ensures.ready c.word.ensures c.if-word-ne0.false
-    (words_pass c.args.comp.now c.args.here.now 1 at c.next_due-at.ensures.passed (λ q lt. c.requires.near q (omega (arith, lt))))
