@@ -508,11 +508,11 @@ one_changed g ws w k held changed p =
           ∙ ap (λ (b : Bool). if b then g (number_in old m) else number_in old m) here
           ∙ sym (ap (λ (b : Bool). if b then g (number_at ws k) else number_at ws p) yes)
       | inr f ↦ sym (ap (λ (b : Bool). if b then g (number_at ws k) else number_at ws p) (only k p f) ∙ sym (elim (cases_eq (p / 64) at) [
-          | inl e ↦ ap (λ (q : ℕ). number_in (get_or (set ws at w) q no_ports) i) e ∙ ap (λ (v : PortWord). number_in v i) there ∙ changed i (omega arith)
-              ∙ ap (λ (b : Bool). if b then g (number_in old i) else number_in old i) (only m i (λ d. f (omega (arith, d, e))))
-              ∙ sym (ap (λ (q : ℕ). number_in (get_or ws q no_ports) i) e)
-          | inr ne ↦ ap (λ (v : PortWord). number_in v i) (get_or-set_other ws at (p / 64) w no_ports ne)
-        ]))
+        | inl e ↦ ap (λ (q : ℕ). number_in (get_or (set ws at w) q no_ports) i) e ∙ ap (λ (v : PortWord). number_in v i) there ∙ changed i (omega arith)
+            ∙ ap (λ (b : Bool). if b then g (number_in old i) else number_in old i) (only m i (λ d. f (omega (arith, d, e))))
+            ∙ sym (ap (λ (q : ℕ). number_in (get_or ws q no_ports) i) e)
+        | inr ne ↦ ap (λ (v : PortWord). number_in v i) (get_or-set_other ws at (p / 64) w no_ports ne)
+      ]))
     ]
 
 -- or whole words are
@@ -525,15 +525,15 @@ words_filled ws vs from to s a b word each whole low high p =
           ap (λ (c : Bool). number_in (if c then word else get_or ws q no_ports) i) no
           ∙ sym (ap (λ (c : Bool). if out && c then s else number_at ws p) no ∙ and_no out s (number_at ws p))
       | inr ge ↦ elim (cases_lt q b) [
-          | inl lt ↦ let yes : between a b q ≡ true = grind (arith, ge, lt) in
-              let from_le : from ≤ p = omega (arith, ge, low) in let to_gt : p < to = omega (arith, lt, high) in
-              let all : out ≡ true = grind (arith, from_le, to_gt) in
-              ap (λ (c : Bool). number_in (if c then word else get_or ws q no_ports) i) yes ∙ whole i il
-              ∙ sym (ap (λ (c : Bool). if out && c then s else number_at ws p) yes ∙ ap (λ (c : Bool). if c && true then s else number_at ws p) all)
-          | inr past ↦ let no : between a b q ≡ false = grind (arith, past) in
-              ap (λ (c : Bool). number_in (if c then word else get_or ws q no_ports) i) no
-              ∙ sym (ap (λ (c : Bool). if out && c then s else number_at ws p) no ∙ and_no out s (number_at ws p))
-        ]
+        | inl lt ↦ let yes : between a b q ≡ true = grind (arith, ge, lt) in
+            let from_le : from ≤ p = omega (arith, ge, low) in let to_gt : p < to = omega (arith, lt, high) in
+            let all : out ≡ true = grind (arith, from_le, to_gt) in
+            ap (λ (c : Bool). number_in (if c then word else get_or ws q no_ports) i) yes ∙ whole i il
+            ∙ sym (ap (λ (c : Bool). if out && c then s else number_at ws p) yes ∙ ap (λ (c : Bool). if c && true then s else number_at ws p) all)
+        | inr past ↦ let no : between a b q ≡ false = grind (arith, past) in
+            ap (λ (c : Bool). number_in (if c then word else get_or ws q no_ports) i) no
+            ∙ sym (ap (λ (c : Bool). if out && c then s else number_at ws p) no ∙ and_no out s (number_at ws p))
+      ]
     ]
 
 -- those from place a + 1 to before b, of which the first word of all is none
@@ -549,14 +549,14 @@ put_at f word rest ys a b some held same (suc j) =
           get_or_append_left front (ys ++ back) no_ports j (omega (arith, lt, front_len)) ∙ get_or-take a rest j no_ports lt
           ∙ sym (ap (λ (c : Bool). if c then word else left) no)
       | inr ge ↦ get_or-append_right front (ys ++ back) a j no_ports front_len ge ∙ elim (cases_lt (suc j) b) [
-          | inl lt ↦ let yes : between (a + 1) b (suc j) ≡ true = grind (arith, lt, ge) in let within : j - a < k = omega (arith, lt, ge) in
-              get_or_append_left ys back no_ports (j - a) (omega (arith, within, ys_len)) ∙ ap (λ (l : List PortWord). get_or l (j - a) no_ports) same
-              ∙ get_or-replicate k (j - a) word no_ports within ∙ sym (ap (λ (c : Bool). if c then word else left) yes)
-          | inr past ↦ let no : between (a + 1) b (suc j) ≡ false = grind (arith, past) in
-              let there : a + (k + (j - a - k)) ≡ j = omega (arith, past, ge, some) in
-              get_or-append_right ys back k (j - a) no_ports ys_len (omega (arith, past)) ∙ get_or-drop k (drop a rest) (j - a - k) no_ports ∙ get_or-drop a rest (k + (j - a - k)) no_ports
-              ∙ ap (λ (m : ℕ). get_or rest m no_ports) there ∙ sym (ap (λ (c : Bool). if c then word else left) no)
-        ]
+        | inl lt ↦ let yes : between (a + 1) b (suc j) ≡ true = grind (arith, lt, ge) in let within : j - a < k = omega (arith, lt, ge) in
+            get_or_append_left ys back no_ports (j - a) (omega (arith, within, ys_len)) ∙ ap (λ (l : List PortWord). get_or l (j - a) no_ports) same
+            ∙ get_or-replicate k (j - a) word no_ports within ∙ sym (ap (λ (c : Bool). if c then word else left) yes)
+        | inr past ↦ let no : between (a + 1) b (suc j) ≡ false = grind (arith, past) in
+            let there : a + (k + (j - a - k)) ≡ j = omega (arith, past, ge, some) in
+            get_or-append_right ys back k (j - a) no_ports ys_len (omega (arith, past)) ∙ get_or-drop k (drop a rest) (j - a - k) no_ports ∙ get_or-drop a rest (k + (j - a - k)) no_ports
+            ∙ ap (λ (m : ℕ). get_or rest m no_ports) there ∙ sym (ap (λ (c : Bool). if c then word else left) no)
+      ]
     ]
 
 mid_long : (rest : List PortWord) (a b : ℕ) → a < b → b ≤ suc (length rest) → length (take (b - 1 - a) (drop a rest)) ≡ b - 1 - a
@@ -600,12 +600,12 @@ filled_all ws vs from to s a b low high filled p =
       | inl lt ↦ let no : between from to p ≡ false = grind (arith, lt) in
           ap (λ (c : Bool). if c && between a b q then s else number_at ws p) no ∙ sym (ap (λ (c : Bool). if c then s else number_at ws p) no)
       | inr ge ↦ elim (cases_lt p to) [
-          | inl lt ↦ let in' : a ≤ q = omega (arith, ge, low) in let in'' : q < b = omega (arith, lt, high) in
-              let yes : between a b q ≡ true = grind (arith, in', in'') in
-              ap (λ (c : Bool). if between from to p && c then s else number_at ws p) yes ∙ sym (and_yes (between from to p) s (number_at ws p))
-          | inr past ↦ let no : between from to p ≡ false = grind (arith, past) in
-              ap (λ (c : Bool). if c && between a b q then s else number_at ws p) no ∙ sym (ap (λ (c : Bool). if c then s else number_at ws p) no)
-        ]
+        | inl lt ↦ let in' : a ≤ q = omega (arith, ge, low) in let in'' : q < b = omega (arith, lt, high) in
+            let yes : between a b q ≡ true = grind (arith, in', in'') in
+            ap (λ (c : Bool). if between from to p && c then s else number_at ws p) yes ∙ sym (and_yes (between from to p) s (number_at ws p))
+        | inr past ↦ let no : between from to p ≡ false = grind (arith, past) in
+            ap (λ (c : Bool). if c && between a b q then s else number_at ws p) no ∙ sym (ap (λ (c : Bool). if c then s else number_at ws p) no)
+      ]
     ]
 
 -- one bit of a row is written

@@ -30,12 +30,12 @@ module _ (mix : Mix) (n i : ℕ) where
   -- and waits once it has called
   pub asked-waits : (w : List PortState) → IsPlace mix n (suc i) w → get_or w (out mix n i) Closed ≡ ClosedDue → OneWaits (sense (Choice mix) n) (set w (out mix n i) OpenDue) (out mix n i)
   asked-waits w ok due = record {
-      waits = ap (λ o. is_sure o (get_or (set w (out mix n i) OpenDue) (out mix n i) Closed)) active ∙ ap (is_sure (Some false)) (get_or-set_same w (out mix n i) OpenDue Closed (out-within mix n i w ok.turn.within ok.long));
-      alone = λ q ne. ap is_due (get_or-set_other w (out mix n i) q OpenDue Closed ne) ∙ elim (cases_eq q (suc i)) [
-        | inl e ↦ ap (λ r. is_due (get_or w r Closed)) e ∙ elim ok.turn.goes [ inl x ↦ ap is_due x.0 | inr x ↦ absurd (let y = x.1 in cc) ]
-        | inr apart ↦ ap is_due (ok.turn.quiet q apart ne)
-      ];
-    }
+    waits = ap (λ o. is_sure o (get_or (set w (out mix n i) OpenDue) (out mix n i) Closed)) active ∙ ap (is_sure (Some false)) (get_or-set_same w (out mix n i) OpenDue Closed (out-within mix n i w ok.turn.within ok.long));
+    alone = λ q ne. ap is_due (get_or-set_other w (out mix n i) q OpenDue Closed ne) ∙ elim (cases_eq q (suc i)) [
+      | inl e ↦ ap (λ r. is_due (get_or w r Closed)) e ∙ elim ok.turn.goes [ inl x ↦ ap is_due x.0 | inr x ↦ absurd (let y = x.1 in cc) ]
+      | inr apart ↦ ap is_due (ok.turn.quiet q apart ne)
+    ];
+  }
 
   -- with its answer it is to reply
   pub got-sure : (w : List PortState) → IsPlace mix n (suc i) w → SomeSure (sense (Choice mix) n) (set (set w (out mix n i) Closed) (suc i) OpenDue)

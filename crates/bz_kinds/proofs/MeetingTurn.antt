@@ -39,17 +39,20 @@ never-passive (Some leg) e = absurd (cc)
 
 member-side : (meet : Meet) (n p : ℕ) → sense (Meeting meet) n p ≡ Some true → (p ≡ suc (p - 1)) × (p ≤ n)
 member-side meet n zero e = absurd (cc)
-member-side meet n (suc i) e = (omega arith, elim (cases_lt i n) [
+member-side meet n (suc i) e = (
+  omega arith,
+  elim (cases_lt i n) [
     | inl lt ↦ omega (arith, lt)
     | inr ge ↦ absurd (never-passive meet.leg (sym (ap (λ (b : Bool). if b then Some true else senses.behind meet.leg) (le-ltb i n ge)) ∙ e))
-  ])
+  ],
+)
 
 behind-side : (meet : Meet) (n p : ℕ) → sense (Meeting meet) n p ≡ Some false → n < p
 behind-side meet n zero e = absurd (cc)
 behind-side meet n (suc i) e = elim (cases_lt i n) [
-    | inl lt ↦ absurd (let f : (if nat_lt i n then Some true else senses.behind meet.leg) ≡ Some true = ap (λ (b : Bool). if b then Some true else senses.behind meet.leg) (lt-ltb i n lt) in cc)
-    | inr ge ↦ omega (arith, ge)
-  ]
+  | inl lt ↦ absurd (let f : (if nat_lt i n then Some true else senses.behind meet.leg) ≡ Some true = ap (λ (b : Bool). if b then Some true else senses.behind meet.leg) (lt-ltb i n lt) in cc)
+  | inr ge ↦ omega (arith, ge)
+]
 
 -- of a process of this plan, at whose port p a move is due
 module _ (c : Process) (meet : Meet) (is : plan_of c.plan ≡ Meeting meet) (p : ℕ) (turn : CanTurn c p) where

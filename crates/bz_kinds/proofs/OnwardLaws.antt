@@ -148,17 +148,19 @@ up-some a up is = false≢true (sym (ap is_open is) ∙ up)
 -- a row in turn: where nothing enclosed is open, the next one begins, or the enclosing port replies
 turn-on : (n left : ℕ) (w : List PortState) → turn.IsPlace n left w → is_open (get_or w 1 Closed) ≡ true → ((i : ℕ) → is_open (get_or w (member i) Closed) ≡ false) → SomeSure enclosing w
 turn-on n left w ok up down = elim ok.lead [
-    | inl x ↦ absurd (open-lead _ up x.0)
-    | inr (inl x) ↦
-        let k : ℕ = n - left in
-        let b = x.1 in
-        let c = x.2 in
-        (member k, elim (ok.due k (omega (arith, b, c)) (omega (arith, b, c))) [
+  | inl x ↦ absurd (open-lead _ up x.0)
+  | inr (inl x) ↦
+      let k : ℕ = n - left in
+      let b = x.1 in
+      let c = x.2 in (
+        member k,
+        elim (ok.due k (omega (arith, b, c)) (omega (arith, b, c))) [
           | inl y ↦ ap (is_sure (Some false)) y
           | inr y ↦ absurd (down-due _ (down k) y)
-        ])
-    | inr (inr x) ↦ (1, ap (is_sure (Some true)) x.0)
-  ]
+        ],
+      )
+  | inr (inr x) ↦ (1, ap (is_sure (Some true)) x.0)
+]
 
 -- where an enclosed one is open, it waits
 turn-in : (n left : ℕ) (w : List PortState) (i : ℕ) → turn.IsPlace n left w → is_open (get_or w (member i) Closed) ≡ true → OneWaits enclosing w (member i)
@@ -177,19 +179,19 @@ turn-in n left w i ok up =
 -- with none left each is closed
 turn-closed : (n : ℕ) (w : List PortState) → turn.IsPlace n 0 w → (i : ℕ) → get_or w (member i) Closed ≡ Closed
 turn-closed n w ok i = elim (cases_lt i n) [
-    | inl lt ↦ ok.quiet i (let d : i + 0 ≢ n = omega (arith, lt) in d)
-    | inr ge ↦ get_or_past w (member i) Closed (let l = ok.long in omega (arith, ge, l))
-  ]
+  | inl lt ↦ ok.quiet i (let d : i + 0 ≢ n = omega (arith, lt) in d)
+  | inr ge ↦ get_or_past w (member i) Closed (let l = ok.long in omega (arith, ge, l))
+]
 
 -- and where the enclosing port is closed, it waits
 turn-out : (n left : ℕ) (w : List PortState) → turn.IsPlace n left w → is_open (get_or w 1 Closed) ≡ false → OneWaits enclosing w 1
 turn-out n left w ok down = elim ok.lead [
-    | inl x ↦
-        let ok' : turn.IsPlace n 0 w = subst (λ k. turn.IsPlace n k w) x.1 ok in
-        record { waits = ap (is_sure (Some true)) x.0; alone = alone ok' }
-    | inr (inl x) ↦ absurd (down-open _ down x.0)
-    | inr (inr x) ↦ absurd (down-due _ down x.0)
-  ]
+  | inl x ↦
+      let ok' : turn.IsPlace n 0 w = subst (λ k. turn.IsPlace n k w) x.1 ok in
+      record { waits = ap (is_sure (Some true)) x.0; alone = alone ok' }
+  | inr (inl x) ↦ absurd (down-open _ down x.0)
+  | inr (inr x) ↦ absurd (down-due _ down x.0)
+]
   where
     alone : turn.IsPlace n 0 w → (q : ℕ) → q ≢ 1 → is_due (get_or w q Closed) ≡ false
     alone ok' zero ne = ap is_due ok.none

@@ -30,9 +30,9 @@ begins u due = (2, ap (is_sure (Some false)) (get_or-set_other u 1 2 Open Closed
 -- after the reply nothing enclosed goes on
 pub ended-waits : (n left : ℕ) (w : List PortState) → IsPlace n left w → get_or w 1 Closed ≡ OpenDue → OneWaits enclosing (set w 1 ClosedDue) 1
 ended-waits n left w ok due = record {
-    waits = ap (is_sure (Some true)) (get_or-set_same w 1 ClosedDue Closed (let l = ok.long in omega (arith, l)));
-    alone = alone;
-  }
+  waits = ap (is_sure (Some true)) (get_or-set_same w 1 ClosedDue Closed (let l = ok.long in omega (arith, l)));
+  alone = alone;
+}
   where
     closed : (a : PortState) → (a ≢ Closed → get_or w 1 Closed ≡ Open) → is_due a ≡ false
     closed Closed up = refl

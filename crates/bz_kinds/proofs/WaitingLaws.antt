@@ -61,14 +61,14 @@ meeting_waits meet n moved w ok some (suc i) =
     let o = sense (Meeting meet) n (suc i) in let x = get_or w (suc i) Closed in
     elim (cases_lt i n) [
       | inl lt ↦ elim (some.states i lt) [
-          | inl due ↦ waits_as o (Some true) x ClosedDue (ap (λ (b : Bool). if b then Some true else behind meet.leg) (lt-ltb i n lt)) due waits_take
-          | inr up ↦ waits_as o o x Open refl up (waits_open o)
-        ]
+        | inl due ↦ waits_as o (Some true) x ClosedDue (ap (λ (b : Bool). if b then Some true else behind meet.leg) (lt-ltb i n lt)) due waits_take
+        | inr up ↦ waits_as o o x Open refl up (waits_open o)
+      ]
       | inr ge ↦ elim (cases_lt n i) [
-          | inl lt ↦ waits_as o o x Closed refl (get_or_past w (suc i) Closed (let l = ok.long in let f = past_behind meet.leg in omega (arith, l, f, lt))) (waits_closed o)
-          | inr le ↦ let e : suc n ≡ suc i = omega (arith, ge, le) in
-              waits_as o o x Closed refl (sym (ap (λ (q : ℕ). get_or w q Closed) e) ∙ some.quiet) (waits_closed o)
-        ]
+        | inl lt ↦ waits_as o o x Closed refl (get_or_past w (suc i) Closed (let l = ok.long in let f = past_behind meet.leg in omega (arith, l, f, lt))) (waits_closed o)
+        | inr le ↦ let e : suc n ≡ suc i = omega (arith, ge, le) in
+            waits_as o o x Closed refl (sym (ap (λ (q : ℕ). get_or w q Closed) e) ∙ some.quiet) (waits_closed o)
+      ]
     ]
 
 -- a port from 64 on that is enclosed, where it is not to open

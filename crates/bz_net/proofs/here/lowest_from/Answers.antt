@@ -10,12 +10,11 @@ returns-then-word-ne0 c =
     word_hits c.args.comp.now c.args.here.now c.loop-at.at c.far_word-word.result c.word.result c.far_word-word.type_inv c.far_word-word.ensures.ready c.word.ensures (omega (arith, c.if-word-ne0.true)) c.loop-at.invariant.1 c.far_word-word.ensures.held
 
 pub loop-at-preserved : goal.loop-at-preserved
-loop-at-preserved c =
-    (
-      omega (arith, c.next_word-at-in-loop-at.ensures.from),
-      pass_on c.args.comp.now c.args.here.now (c.loop-at.at + 1) c.next_word-at-in-loop-at.result c.next_word-at-in-loop-at.ensures.passed
-          (word_passes c.args.comp.now c.args.here.now c.loop-at.at c.far_word-word.result c.word.result c.far_word-word.type_inv c.far_word-word.ensures.ready c.word.ensures c.if-word-ne0.false c.loop-at.invariant.1),
-    )
+loop-at-preserved c = (
+  omega (arith, c.next_word-at-in-loop-at.ensures.from),
+  pass_on c.args.comp.now c.args.here.now (c.loop-at.at + 1) c.next_word-at-in-loop-at.result c.next_word-at-in-loop-at.ensures.passed
+      (word_passes c.args.comp.now c.args.here.now c.loop-at.at c.far_word-word.result c.word.result c.far_word-word.type_inv c.far_word-word.ensures.ready c.word.ensures c.if-word-ne0.false c.loop-at.invariant.1),
+)
 
 pub returns : goal.returns
 returns c p le can = c.loop-at.invariant.1 p (let r = c.requires.room in let e = c.loop-at-test.false in let n = c.word_count-end.ensures in omega (arith, le, r, e, n)) can
