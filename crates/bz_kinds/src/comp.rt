@@ -247,10 +247,8 @@ fn turn_ask(proc: &mut Process, port: u32) -> (Option<Value>, bool)
         }
         KeptPlan::PushesTogether | KeptPlan::OwnTogether(_) => {
             together::ask(&mut proc.ports, &mut proc.left, proc.size, port - 2);
-            (
-                proc.slots.worth(proc.plan.row().legs.gives(port - 2)),
-                false,
-            )
+            let gives = proc.plan.row().legs.gives(port - 2);
+            (proc.slots.worth(gives), false)
         }
         KeptPlan::Loop => {
             script::ask(Script::Loop, &mut proc.ports, &mut proc.left, 2);
@@ -388,28 +386,15 @@ fn turn_reply(proc: &mut Process, port: u32) -> (Option<Value>, bool)
             (cells::answer(&proc.slots, port), false)
         }
         KeptPlan::Choice(mix) => {
-            choice::reply(
-                mix.get(),
-                &mut proc.ports,
-                &mut proc.left,
-                proc.size,
-                port - 1,
-            );
+            let (ports, left) = (&mut proc.ports, &mut proc.left);
+            choice::reply(mix.get(), ports, left, proc.size, port - 1);
             (proc.slots.worth(&mix.get().answer), false)
         }
         KeptPlan::Meeting(meet) => {
-            meeting::reply(
-                meet.get(),
-                &mut proc.ports,
-                &mut proc.left,
-                proc.size,
-                port - 1,
-            );
-            (
-                proc.slots
-                    .worth(meeting::answer(meet.get(), proc.size, port - 1)),
-                false,
-            )
+            let (ports, left) = (&mut proc.ports, &mut proc.left);
+            meeting::reply(meet.get(), ports, left, proc.size, port - 1);
+            let answer = meeting::answer(meet.get(), proc.size, port - 1);
+            (proc.slots.worth(answer), false)
         }
         KeptPlan::Once(_)
         | KeptPlan::Select(_)

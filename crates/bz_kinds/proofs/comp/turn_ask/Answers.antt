@@ -52,7 +52,7 @@ returns-in-PushesInTurn-clause-made c d e =
     let own : c.in-PushesInTurn.match-proc-own.proc ≡ c.args.proc.now = search rules in
     let same = ap (λ (it : Process). slots_of it.slots) own in
     row-asked c.row-in-PushesInTurn.result.now c.args.port _ d None _ _ _ (due-of _ _ is _ _ _ _ d e) (in-turn-at _ _ is _ _ _ _ c.requires.ask)
-    (c.worth-in-PushesInTurn.ensures ∙ ap (λ (it : Expr). value_of it (slots_of c.in-PushesInTurn.match-proc-own.proc.slots)) c.gives-in-PushesInTurn.ensures ∙ ap (value_of (leg_of c.row-in-PushesInTurn.result.now.legs (c.args.port - 2)).gives) same) same
+    (c.worth-in-PushesInTurn.ensures ∙ ap (λ (it : Expr). value_of it (slots_of c.in-PushesInTurn.match-proc-own.proc.slots)) c.gives.ensures ∙ ap (value_of (leg_of c.row-in-PushesInTurn.result.now.legs (c.args.port - 2)).gives) same) same
 
 pub returns-in-Loop-clause-goes : goal.returns-in-Loop-clause-goes
 returns-in-Loop-clause-goes c =
@@ -89,7 +89,7 @@ returns-in-PushesTogether-clause-made c d e =
     let own : c.in-PushesTogether.match-proc-own.proc ≡ c.args.proc.now = search rules in
     let same = ap (λ (it : Process). slots_of it.slots) own in
     row-asked c.row.result.now c.args.port _ d None _ _ _ (due-of _ _ is _ _ _ _ d e) (at-once-at _ _ is _ _ _ _ c.requires.ask)
-    (c.worth-in-PushesTogether.ensures ∙ ap (λ (it : Expr). value_of it (slots_of c.in-PushesTogether.match-proc-own.proc.slots)) c.gives.ensures ∙ ap (value_of (leg_of c.row.result.now.legs (c.args.port - 2)).gives) same) same
+    (c.worth-in-PushesTogether.ensures ∙ ap (λ (it : Expr). value_of it (slots_of c.in-PushesTogether.match-proc-own.proc.slots)) c.gives-gives.ensures ∙ ap (value_of (leg_of c.row.result.now.legs (c.args.port - 2)).gives) same) same
 
 pub ask-requires-in-Choice-clause-place : goal.ask-requires-in-Choice-clause-place
 ask-requires-in-Choice-clause-place c = choice-goes-on c.args.proc.now c.get.result.now (mix-is _ _ _ c.in-Choice.is c.get.ensures) c.args.port c.requires.due (asks-out c.args.proc.now c.get.result.now (mix-is _ _ _ c.in-Choice.is c.get.ensures) c.args.port c.requires.due c.requires.ask).0

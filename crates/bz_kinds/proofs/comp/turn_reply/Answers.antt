@@ -89,7 +89,7 @@ returns-in-Choice-clause-goes c =
     choice-went c.args.proc.now c.get.result.now (mix-is _ _ _ c.in-Choice.is c.get.ensures) c.args.port c.requires.due _ _ _ _ _ _ (sym one ∙ sym (replies-chosen c.args.proc.now c.get.result.now (mix-is _ _ _ c.in-Choice.is c.get.ensures) c.args.port c.requires.due c.requires.reply)) (sym one) refl c.reply-in-Choice.ensures
 
 pub returns-in-Meeting-clause-made : goal.returns-in-Meeting-clause-made
-returns-in-Meeting-clause-made c d e = meeting-replied c.args.proc.now c.get-in-Meeting-2.result.now (meet-is _ _ _ c.in-Meeting.is c.get-in-Meeting-2.ensures) c.args.port c.requires.due d _ e c.requires.reply (c.worth-in-Meeting.ensures ∙ ap (λ (it : Expr). value_of it (slots_of c.args.proc.now.slots)) c.answer-in-Meeting.ensures)
+returns-in-Meeting-clause-made c d e = meeting-replied c.args.proc.now c.get-in-Meeting-2.result.now (meet-is _ _ _ c.in-Meeting.is c.get-in-Meeting-2.ensures) c.args.port c.requires.due d _ e c.requires.reply (c.worth-in-Meeting.ensures ∙ ap (λ (it : Expr). value_of it (slots_of c.args.proc.now.slots)) c.answer-answer.ensures)
 
 pub returns-in-Meeting-clause-goes : goal.returns-in-Meeting-clause-goes
 returns-in-Meeting-clause-goes c = let (one, in_it, due) = replies-member c.args.proc.now c.get-in-Meeting.result.now (meet-is _ _ _ c.in-Meeting.is c.get-in-Meeting.ensures) c.args.port c.requires.due c.requires.reply in meeting-went c.args.proc.now c.get-in-Meeting.result.now (meet-is _ _ _ c.in-Meeting.is c.get-in-Meeting.ensures) c.args.port c.requires.due _ _ _ _ one c.reply-in-Meeting.ensures
