@@ -112,3 +112,11 @@ lowered_told xs ys s k at lt (j, e, is) = by_told (get_or ys at false) (s.told a
     by_told : (b : Bool) → HasOne xs at b → b ≡ true
     by_told true has = refl
     by_told false has = absurd (true≢false (sym was ∙ has j e))
+
+-- in a row of one word none in the word is none at all
+near_none : (xs : List Bool) (from : ℕ) → length xs ≤ 64 → IsNextInWord xs from None → IsNext xs from None
+near_none xs from few near j le = elim (cases_lt j 64) [ inl lt ↦ near j le (omega (arith, lt, le)) | inr ge ↦ nothing_past xs j (omega (arith, few, ge)) ]
+
+pub near_all : (xs : List Bool) (from : ℕ) (r : Option ℕ) → length xs ≤ 64 → IsNextInWord xs from r → IsNext xs from r
+near_all xs from None few near = near_none xs from few near
+near_all xs from (Some k) few near = near.1

@@ -1,5 +1,5 @@
 //! A row of bits that can be searched without reading all its words.
-ghost use Rattle.std.specs.Prelude.{◌≡◌, ◌<◌, true, false, None, length, replicate, slice_index_or, slice_set, IfOk};
+ghost use Rattle.std.specs.Prelude.{◌≡◌, ◌<◌, ◌≤◌, true, false, None, length, replicate, slice_index_or, slice_set, IfOk};
 ghost use Rattle.bz_bits.specs.Row.{IsNext, IsNextInWord, Sums};
 
 use crate::row::BitRow;
@@ -102,13 +102,31 @@ impl<A: Allocator + Copy> SummedRow<A> {
         if self.len() <= 64 {
             return None;
         }
-        self.next_beyond(from)
+        self.next_far(from)
     }
 
     // The same where its own word has none.
     #[cold]
     #[inline(never)]
-    fn next_beyond(&self, from: usize) -> Option<usize>
+    fn next_far(&self, from: usize) -> Option<usize>
+        requires { IsNextInWord self.now from None }
+        ensures { IsNext self.now from result }
+    {
+        self.next_beyond(from)
+    }
+
+    /// The first place at or above `from`, in the word of `from`, whose bit is 1.
+    #[inline(always)]
+    pub fn next_near(&self, from: usize) -> Option<usize>
+        ensures near { IsNextInWord self.now from result }
+        ensures few { length self.now ≤ 64 → IsNext self.now from result }
+    {
+        self.row.next_in_word(from)
+    }
+
+    /// The first place at or above `from` whose bit is 1, where the word of `from` has none.
+    #[inline(always)]
+    pub fn next_beyond(&self, from: usize) -> Option<usize>
         requires { IsNextInWord self.now from None }
         ensures { IsNext self.now from result }
     {

@@ -1,7 +1,7 @@
 //! Which components of a net can move, as the core keeps it.
 
 ghost use Rattle.std.specs.Prelude.{◌≡◌, ◌+◌, ◌<◌, ◌≤◌, ◌^◌, true, false, None, length, replicate, slice_index_or, slice_set, IfOk};
-ghost use Rattle.bz_bits.specs.Row.{IsNext};
+ghost use Rattle.bz_bits.specs.Row.{IsNextInWord};
 ghost use Rattle.bz_net.specs.ReadyRow.{bits_of};
 ghost use Rattle.bz_ready.specs.Set.{IsNextFrom};
 
@@ -118,11 +118,11 @@ impl ReadyRow {
     pub(crate) fn next_from(&self, from: u32) -> Option<u32>
         ensures { IsNextFrom self.now from result }
     {
-        if let Some(place) = self.marks.next_from(from as usize) {
+        if let Some(place) = self.marks.next_near(from as usize) {
             return Some(place as u32);
         }
         if self.marks.len() <= 64 {
-            if let Some(place) = self.marks.next_from(0) {
+            if let Some(place) = self.marks.next_near(0) {
                 return Some(place as u32);
             }
         }
@@ -130,19 +130,22 @@ impl ReadyRow {
     }
 }
 
-// The same where the bits have none from there on.
+// The same where the bits have none in the word of `from`. Mostly there is none behind it either.
 #[inline(never)]
 #[tactic(auto, using(bz_ready::proofs::Nexts::above, bz_ready::proofs::Nexts::around))]
 fn next_around(marks: &SummedRow, listed: &Option<ReadySet>, from: u32) -> Option<u32>
-    requires none { IsNext marks.now from None }
+    requires none { IsNextInWord marks.now from None }
     requires few { length marks.now ≤ 2 ^ 32 }
     ensures { IsNextFrom (bits_of listed.now marks.now) from result }
 {
-    match listed {
-        Some(set) => set.next_from(from),
-        None => match marks.next_from(0) {
-            Some(place) => Some(place as u32),
-            None => None,
-        },
+    if let Some(set) = listed {
+        return set.next_from(from);
+    }
+    if let Some(place) = marks.next_beyond(from as usize) {
+        return Some(place as u32);
+    }
+    match marks.next_from(0) {
+        Some(place) => Some(place as u32),
+        None => None,
     }
 }
