@@ -108,6 +108,39 @@ impl<A: Allocator + Copy> PortBits<A> {
 // How many words come before the first that has a bit.
 fn count_zeros(words: &[u64]) -> usize
     ensures within { result ≤ length words.now }
+    ensures zeros { (k : ℕ) → k < result → slice_index_or words.now k 0 ≡ 0 }
+    ensures stops { result < length words.now → slice_index_or words.now result 0 ≢ 0 }
+{
+    let before = pass_fours(words);
+    before + count_singly(&words[before..])
+}
+
+// A number of words that come before it, found four at a time.
+#[inline(always)]
+fn pass_fours(words: &[u64]) -> usize
+    ensures within { result ≤ length words.now }
+    ensures zeros { (k : ℕ) → k < result → slice_index_or words.now k 0 ≡ 0 }
+{
+    let mut at = 0;
+    while at + 4 <= words.len() && four_from(words, at) == 0 {
+        at += 4;
+    }
+    at
+}
+
+// The bits of four words together.
+#[inline(always)]
+fn four_from(words: &[u64], at: usize) -> u64
+    requires { at + 4 ≤ length words.now }
+    ensures { result ≡ 0 → (k : ℕ) → at ≤ k → k < at + 4 → slice_index_or words.now k 0 ≡ 0 }
+{
+    words[at] | words[at + 1] | words[at + 2] | words[at + 3]
+}
+
+// The same found one at a time.
+#[inline(always)]
+fn count_singly(words: &[u64]) -> usize
+    ensures within { result ≤ length words.now }
     ensures zeros { All (λ w. w ≡ 0) (take result words.now) }
     ensures stops { result < length words.now → slice_index_or words.now result 0 ≢ 0 }
 {

@@ -1,4 +1,4 @@
-use Rattle.std.proofs.Common.{◌≤◌, Bool, List, length, sym, subst}
+use Rattle.std.proofs.Common.{◌≤◌, Bool, List, length, subst}
 use Rattle.bz_bits.specs.Row.{IsNext}
 use Rattle.bz_bits.proofs.Search.{near_all}
 use Rattle.bz_bits.proofs.summed.SummedRow.next_near.Goals as goal
