@@ -42,12 +42,12 @@ none_of_four ws at none k le lt =
     elim (cases_lt k (at + 1)) [
       | inl l1 ↦ by at (omega (arith, le, l1)) za
       | inr g1 ↦ elim (cases_lt k (at + 2)) [
-          | inl l2 ↦ by (at + 1) (omega (arith, g1, l2)) zb
-          | inr g2 ↦ elim (cases_lt k (at + 3)) [
-              | inl l3 ↦ by (at + 2) (omega (arith, g2, l3)) zc
-              | inr g3 ↦ by (at + 3) (omega (arith, g3, lt)) zd
-            ]
+        | inl l2 ↦ by (at + 1) (omega (arith, g1, l2)) zb
+        | inr g2 ↦ elim (cases_lt k (at + 3)) [
+          | inl l3 ↦ by (at + 2) (omega (arith, g2, l3)) zc
+          | inr g3 ↦ by (at + 3) (omega (arith, g3, lt)) zd
         ]
+      ]
     ]
 
 -- a word behind the first of all

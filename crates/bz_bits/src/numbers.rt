@@ -66,7 +66,7 @@ impl<A: Allocator + Copy> PortNumbers<A> {
     }
 
     /// The number of a port, 0 where there is no such port.
-    #[inline(always)]
+    #[inline]
     pub fn get(&self, port: usize) -> u8
         ensures { result ≡ slice_index self.now port }
     {
@@ -259,7 +259,7 @@ impl<A: Allocator + Copy> PortNumbers<A> {
     }
 
     /// Gives all ports from `from` on, but before `to`, the same number.
-    #[inline(always)]
+    #[inline]
     pub fn set_between(&mut self, from: usize, to: usize, number: u8)
         requires number { number < 4 }
         requires fits { to ≤ length self.old }

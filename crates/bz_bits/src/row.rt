@@ -74,7 +74,7 @@ impl<A: Allocator> BitRow<A> {
     }
 
     /// Lowers a bit, and answers whether its word still has a 1.
-    #[inline(always)]
+    #[inline]
     pub(crate) fn lower_leaves_one(&mut self, place: usize) -> bool
         requires { place < length self.old }
         ensures lowered { self.new ≡ slice_set self.old place false }

@@ -61,7 +61,7 @@ impl<A: Allocator + Copy> SummedRow<A> {
         }
     }
 
-    #[inline(always)]
+    #[inline]
     pub fn raise(&mut self, place: usize)
         requires { place < length self.old }
         ensures { self.new ≡ slice_set self.old place true }
@@ -76,7 +76,7 @@ impl<A: Allocator + Copy> SummedRow<A> {
         self.blocks.raise(word / 64);
     }
 
-    #[inline(always)]
+    #[inline]
     pub fn lower(&mut self, place: usize)
         requires { place < length self.old }
         ensures { self.new ≡ slice_set self.old place false }

@@ -561,7 +561,7 @@ fn turn_held(proc: &mut Process, port: u32, rides: bool, value: &mut Value) -> (
 }
 
 // Whether there is a value, and which.
-#[inline(always)]
+#[inline]
 fn parts(value: Option<Value>) -> (bool, Value)
     ensures { held result.0 result.1 ≡ value }
 {
@@ -572,7 +572,7 @@ fn parts(value: Option<Value>) -> (bool, Value)
 }
 
 // The value, if it is there.
-#[inline(always)]
+#[inline]
 fn held(is_there: bool, value: Value) -> Option<Value>
     ensures { result ≡ held is_there value }
 {

@@ -103,7 +103,7 @@ impl KeptMeet {
 
 impl KeptPlan {
     /// The row of a plan that has one.
-    #[inline(always)]
+    #[inline]
     pub fn row(&self) -> &Row
         ensures in_turn { (row : Row) → plan_of self.now ≡ InTurn row → result.now ≡ row }
         ensures together { (row : Row) → plan_of self.now ≡ Together row → result.now ≡ row }

@@ -484,7 +484,7 @@ impl Core {
     }
 
     /// Notes the component at the passive end of a channel, where requests meet there.
-    #[inline(always)]
+    #[inline]
     pub(crate) fn note_clash(&self, chan: u32, noted: &mut Noted)
         requires from { 0 < chan }
         requires to { chan ≤ length self.now.wiring.chans }

@@ -111,7 +111,7 @@ impl Phases {
     }
 
     /// The value that rides on the channel in a place, counted from 0.
-    #[inline(always)]
+    #[inline]
     #[tactic(auto, using(crate::proofs::Marks::length_phases, crate::proofs::Marks::request_rides, crate::proofs::Marks::reply_rides, crate::proofs::Marks::none_rides))]
     pub(crate) fn riding(&self, place: usize) -> Option<Value>
         requires { place < length self.now }
@@ -124,7 +124,7 @@ impl Phases {
     }
 
     /// Makes a move that breaks no handshake on the channel in a place, counted from 0, with this value.
-    #[inline(always)]
+    #[inline]
     #[tactic(auto, using(crate::proofs::Marks::length_phases, crate::proofs::Marks::mark_put, crate::proofs::Marks::both_put))]
     pub(crate) fn make(&mut self, place: usize, mv: Move, value: Option<Value>)
         requires within { place < length self.old }
@@ -183,7 +183,7 @@ fn phase_of(mark: Mark, value: &Value) -> Phase
 }
 
 // The mark after a move that carries this value, and breaks no handshake; and the value that is kept beside it.
-#[inline(always)]
+#[inline]
 fn mark_after(mv: Move, value: Option<Value>) -> (Mark, Option<Value>)
     ensures { (phase : Phase) → phase_after phase mv value ≢ Phase.Broken → MarksPhase (phase_after phase mv value) result.0 result.1 }
 {

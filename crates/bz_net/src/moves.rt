@@ -151,7 +151,7 @@ fn is_busy(phases: &Phases, chan: u32) -> bool
 }
 
 /// Notes the component at the passive end of a channel, where two requests meet there.
-#[inline(always)]
+#[inline]
 pub(crate) fn note_clash(
     sites: &Arena<FlatComp>,
     phases: &Phases,
