@@ -50,25 +50,20 @@ none_of_four ws at none k le lt =
       ]
     ]
 
--- a word behind the first of all
-pub zero_in : (f : ℕ) (rest : List ℕ) (k : ℕ) → 0 < k → get_or rest (k - 1) 0 ≡ 0 → get_or (f ∷ rest) k 0 ≡ 0
-zero_in f rest zero from z = absurd (omega (arith, from))
-zero_in f rest (suc j) from z = let e : suc j - 1 ≡ j = omega arith in ap (λ (i : ℕ). get_or rest i 0) (sym e) ∙ z
+-- those from `from` on, but before `end`
+module _ (ws : List ℕ) (from end l b m : ℕ) (last : l ≡ min end (length ws)) (is : b ≡ min from l) (within : m ≤ length (take (l - b) (drop b ws))) where
+  part_long : length (take (l - b) (drop b ws)) ≡ l - b
+  part_long = omega (arith, length-take (l - b) (drop b ws), length-drop b ws, is, last)
 
--- those from `at` on, but before `end`, where the search begins at place at - 1 behind the first and ends at place end - 1
-module _ (f : ℕ) (rest : List ℕ) (at end b l m : ℕ) (from : 0 < at) (ordered : at ≤ end) (is : b ≡ min (at - 1) (length rest)) (last : l ≡ min (end - 1) (length rest)) (within : m ≤ length (take (l - b) (drop b rest))) where
-  part_long : length (take (l - b) (drop b rest)) ≡ l - b
-  part_long = omega (arith, length-take (l - b) (drop b rest), length-drop b rest, is, last, ordered)
+  pub zeros_on_from : ((k : ℕ) → k < m → get_or (take (l - b) (drop b ws)) k 0 ≡ 0) → (k : ℕ) → from ≤ k → k < from + m → get_or ws k 0 ≡ 0
+  zeros_on_from all k le lt = zeros_from ws b l m within all k (omega (arith, is, le)) (omega (arith, is, within, part_long, le, lt))
 
-  pub zeros_behind : ((k : ℕ) → k < m → get_or (take (l - b) (drop b rest)) k 0 ≡ 0) → (k : ℕ) → at ≤ k → k < at + m → get_or (f ∷ rest) k 0 ≡ 0
-  zeros_behind all k le lt =
-      zero_in f rest k (omega (arith, from, le)) (zeros_from rest b l m within all (k - 1) (omega (arith, is, le)) (omega (arith, is, last, within, part_long, le, lt, from)))
+  pub ends_before : from ≤ end → from + m ≤ end
+  ends_before ordered = omega (arith, is, last, within, part_long, ordered)
 
-  pub ends_before : at + m ≤ end
-  ends_before = omega (arith, is, last, within, part_long, from, ordered)
-
-  pub stops_behind : (m < length (take (l - b) (drop b rest)) → get_or (take (l - b) (drop b rest)) m 0 ≢ 0) → at + m < end → at + m < length (f ∷ rest) → get_or (f ∷ rest) (at + m) 0 ≢ 0
-  stops_behind some before lt z =
-      let e : suc (b + m) ≡ at + m = omega (arith, is, from, lt) in
-      let inside : m < l - b = omega (arith, is, last, from, before, lt) in
-      some (omega (arith, inside, part_long)) (get_or-take (l - b) (drop b rest) m 0 inside ∙ get_or-drop b rest m 0 ∙ ap (λ (i : ℕ). get_or (f ∷ rest) i 0) e ∙ z)
+  pub stops_before : (m < length (take (l - b) (drop b ws)) → get_or (take (l - b) (drop b ws)) m 0 ≢ 0) → from + m < end → from + m < length ws → get_or ws (from + m) 0 ≢ 0
+  stops_before some before lt z =
+      let first : b ≡ from = omega (arith, is, last, before, lt) in
+      let inside : m < l - b = omega (arith, first, last, before, lt) in
+      let e : b + m ≡ from + m = omega (arith, first) in
+      some (omega (arith, inside, part_long)) (get_or-take (l - b) (drop b ws) m 0 inside ∙ get_or-drop b ws m 0 ∙ ap (λ (i : ℕ). get_or ws i 0) e ∙ z)

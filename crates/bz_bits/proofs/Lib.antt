@@ -3,4 +3,6 @@ pub mod States
 pub mod Scan
 pub mod Search
 pub mod Words
+pub mod Ones
+pub mod Told
 pub mod Firsts

@@ -1,9 +1,9 @@
 -- Words of ports: what a mask and one bit leave of them.
 use Rattle.std.proofs.Common.{◌≡◌, ◌≢◌, ◌⊎◌, ℕ, zero, suc, ◌+◌, ◌-◌, ◌*◌, ◌/◌, ◌%◌, ◌^◌, ◌<◌, ◌≤◌, Bool, true, false, not, ◌&&◌, ◌||◌, ◌==◌, List, [], ◌∷◌, ◌++◌, length, get_or, set, take, drop, replicate, refl, sym, ap, ◌∙◌, subst, inl, inr, arith, min, max}
-use Rattle.std.specs.Prelude.{bit_and, nat_le, nat_lt, if◌then◌else◌}
+use Rattle.std.specs.Prelude.{nat_le, nat_lt, if◌then◌else◌}
 use Rattle.std.specs.Int.{bit_at, from_bool, trailing_zeros, w64}
 use Rattle.std.proofs.lemmas.Nat.{one_shl}
-use Rattle.std.proofs.lemmas.Nat.Bits.{bit_at-trailing_zeros, bit_at-zero, bit_at_and, bit_at-lt, bit_at-pow_same, bit_at-pow_other}
+use Rattle.std.proofs.lemmas.Nat.Bits.{bit_at-trailing_zeros, bit_at-zero, bit_at-lt, bit_at-pow_same, bit_at-pow_other}
 use Rattle.std.specs.List.{All}
 use Rattle.std.proofs.lemmas.List.Elements.{All-get_or}
 use Rattle.std.proofs.lemmas.List.{get_or-take, get_or-drop, length-take, length-drop, ext_get_or, length-set, length-replicate, get_or-replicate, get_or-set_same, get_or-set_other, get_or_past, get_or_append_left, get_or-append_right}
@@ -139,7 +139,7 @@ even_word f rest n (suc j) are from w is none =
     }
 
 -- the words before `start` have no odd number, and of those that follow m have none
-pub lowest_on : (ws : List PortWord) (start m : ℕ) → length ws < 2 ^ 32 → NoneOdd ws start → m ≤ length (drop start ws) → All (λ (w : PortWord). w.due ≡ 0) (take m (drop start ws))
+pub lowest_on : (ws : List PortWord) (start m : ℕ) → length ws < 2 ^ 16 → NoneOdd ws start → m ≤ length (drop start ws) → All (λ (w : PortWord). w.due ≡ 0) (take m (drop start ws))
     → (m < length (drop start ws) → (get_or (drop start ws) m no_ports).due ≢ 0) → (get_or ws (start + m) no_ports).due < 2 ^ 64 → IsLowest ws (start + m)
 lowest_on ws start m few before within all stops fits =
     let rest = drop start ws in
@@ -200,8 +200,25 @@ lowest_left ws low at w is lt none other =
       fits = omega (arith, is.fits, kept);
     }
 
+-- a word with the same odd numbers is put
+pub lowest_same : (ws : List PortWord) (low at : ℕ) (w : PortWord) → IsLowest ws low → at < length ws → w.due ≡ (get_or ws at no_ports).due → IsLowest (set ws at w) low
+lowest_same ws low at w is lt same =
+    record {
+      few = omega (arith, is.few, length-set ws at w);
+      even = λ k below. each k ∙ is.even k below;
+      stops = λ held z. is.stops (omega (arith, held, length-set ws at w)) (sym (each low) ∙ z);
+      fits = omega (arith, is.fits, each low);
+    }
+  where
+    each : (k : ℕ) → (get_or (set ws at w) k no_ports).due ≡ (get_or ws k no_ports).due
+    each k = elim (cases_eq k at) [
+      | inl e ↦ ap (λ (j : ℕ). (get_or (set ws at w) j no_ports).due) e ∙ ap (λ (v : PortWord). v.due) (get_or-set_same ws at w no_ports lt)
+          ∙ same ∙ sym (ap (λ (j : ℕ). (get_or ws j no_ports).due) e)
+      | inr ne ↦ ap (λ (v : PortWord). v.due) (get_or-set_other ws at k w no_ports ne)
+    ]
+
 -- where all are without ports
-pub lowest_none : (m : ℕ) → m < 2 ^ 32 → IsLowest (replicate m no_ports) m
+pub lowest_none : (m : ℕ) → m < 2 ^ 16 → IsLowest (replicate m no_ports) m
 lowest_none m few = record {
   few = omega (arith, few, length-replicate m no_ports);
   even = λ k lt. ap (λ (w : PortWord). w.due) (get_or-replicate m k no_ports no_ports lt);
@@ -352,6 +369,10 @@ window from to start i s is lt =
 pub set_tail : {X : Type 0} (x v : X) (xs : List X) (at : ℕ) → (at ≡ 0 → ⊥) → x ∷ set xs (at - 1) v ≡ set (x ∷ xs) at v
 set_tail x v xs zero ne = absurd (ne refl)
 set_tail x v xs (suc at) ne = let e : suc at - 1 ≡ at = omega arith in ap (λ (k : ℕ). x ∷ set xs k v) e
+
+pub get_tail : {X : Type 0} (x d : X) (xs : List X) (at : ℕ) → (at ≡ 0 → ⊥) → get_or xs (at - 1) d ≡ get_or (x ∷ xs) at d
+get_tail x d xs zero ne = absurd (ne refl)
+get_tail x d xs (suc at) ne = let e : suc at - 1 ≡ at = omega arith in ap (λ (k : ℕ). get_or xs k d) e
 
 pub set_beyond : {X : Type 0} (ys : List X) (k : ℕ) (v : X) → length ys ≤ k → set ys k v ≡ ys
 set_beyond [] k v le = refl
@@ -646,25 +667,3 @@ high_is (suc zero) (suc (suc high)) l h = absurd (omega (arith, h))
 
 pub number_high : (w : PortWord) (i : ℕ) → (bit_at w.opened i == 1) ≡ nat_le 2 (number_in w i)
 number_high w i = high_is (bit_at w.due i) (bit_at w.opened i) (bit_at-lt w.due i) (bit_at-lt w.opened i)
-
--- no number 1 at a place whose bits lack it, so at none of the words that do
-two_bits : (d o : ℕ) → d < 2 → o < 2 → min d o ≡ d → d + 2 * o ≢ 1
-two_bits zero zero l k e f = absurd (omega (arith, f))
-two_bits zero (suc o) l k e f = absurd (omega (arith, f))
-two_bits (suc d) zero l k e f = absurd (omega (arith, e))
-two_bits (suc d) (suc o) l k e f = absurd (omega (arith, f))
-
-pub lacks_behind : (f : PortWord) (rest : List PortWord) (n at b m : ℕ) → AreNumbers (f ∷ rest) n → 0 < at → b ≡ min (at - 1) (length rest) → m ≤ length (drop b rest)
-    → All (λ (w : PortWord). bit_and w.due w.opened ≡ w.due) (take m (drop b rest)) → (p : ℕ) → 64 * at ≤ p → p < 64 * (at + m) → get_or (numbers (f ∷ rest) n) p 0 ≢ 1
-lacks_behind f rest n at b m are from is within all p le lt one =
-    let j = p / 64 - 1 in let i = p % 64 in let w = get_or rest j no_ports in let ws = drop b rest in
-    let e : p / 64 ≡ suc j = omega (arith, from, le) in
-    let number : number_in w i ≡ 1 = sym (any-number (f ∷ rest) n p are ∙ ap (λ (q : ℕ). number_in (get_or (f ∷ rest) q no_ports) i) e) ∙ one in
-    let long = length-drop b rest in
-    let first : b ≡ at - 1 = omega (arith, is, within, long, le, lt) in
-    let there : b + (j - b) ≡ j = omega (arith, first, le) in
-    let before : j - b < m = omega (arith, first, from, le, lt) in
-    let held = All-get_or (λ (v : PortWord). bit_and v.due v.opened ≡ v.due) (take m ws) (j - b) no_ports (omega (arith, before, within, length-take m ws)) all in
-    let same : bit_and w.due w.opened ≡ w.due =
-    subst (λ (v : PortWord). bit_and v.due v.opened ≡ v.due) (get_or-take m ws (j - b) no_ports before ∙ get_or-drop b rest (j - b) no_ports ∙ ap (λ (q : ℕ). get_or rest q no_ports) there) held in
-    two_bits (bit_at w.due i) (bit_at w.opened i) (bit_at-lt w.due i) (bit_at-lt w.opened i) (sym (bit_at_and w.due w.opened i) ∙ ap (λ (x : ℕ). bit_at x i) same) number

@@ -1,5 +1,5 @@
 -- Numbers from 0 to 3, each as one bit of two words.
-use Rattle.std.specs.Prelude.{◌≡◌, ◌≢◌, ◌⊎◌, ◌&&◌, ℕ, ◌+◌, ◌*◌, ◌/◌, ◌%◌, ◌^◌, ◌<◌, ◌≤◌, nat_le, nat_lt, if◌then◌else◌, Bool, true, false, List, map, length, slice_index, slice_index_or}
+use Rattle.std.specs.Prelude.{◌≡◌, ◌≢◌, ◌⊎◌, ◌&&◌, ℕ, ◌+◌, ◌*◌, ◌/◌, ◌%◌, ◌^◌, ◌<◌, ◌≤◌, bit_and, nat_le, nat_lt, if◌then◌else◌, Bool, true, false, List, map, length, slice_index, slice_index_or}
 use Rattle.std.specs.List.{range_with_len}
 use Rattle.std.specs.Int.{bit_at}
 use Rattle.bz_bits.specs.declared.word.PortWord.{PortWord}
@@ -31,10 +31,18 @@ NoneOdd words n = (k : ℕ) → k < n → (slice_index_or words k no_ports).due 
 
 -- word n of these is the first with an odd number, or there is none and n is past them all
 pub record IsLowest (words : List PortWord) (n : ℕ) : Type 0 where
-  pub few : length words < 2 ^ 32
+  pub few : length words < 2 ^ 16
   pub even : NoneOdd words n
   pub stops : n < length words → (slice_index_or words n no_ports).due ≢ 0
   pub fits : (slice_index_or words n no_ports).due < 2 ^ 64
+
+-- no port of a word has the number 1
+abbrev pub LacksOne : PortWord → Type 0
+LacksOne w = bit_and w.due w.opened ≡ w.due
+
+-- no port of the first n of these words has
+abbrev pub NoneOne : List PortWord → ℕ → Type 0
+NoneOne words n = (k : ℕ) → k < n → LacksOne (slice_index_or words k no_ports)
 
 -- word k of these numbers, of which none is odd
 pub record IsEven (numbers : List ℕ) (k : ℕ) : Type 0 where

@@ -1,5 +1,5 @@
 -- A row of bits in words of 64.
-use Rattle.std.specs.Prelude.{◌≡◌, ℕ, ◌+◌, ◌*◌, ◌/◌, ◌%◌, ◌^◌, ◌<◌, ◌≤◌, Bool, true, false, ◌==◌, List, map, length, slice_index_or, Option, Some, None}
+use Rattle.std.specs.Prelude.{◌≡◌, ◌≢◌, ℕ, suc, ◌+◌, ◌*◌, ◌/◌, ◌%◌, ◌^◌, ◌<◌, ◌≤◌, Bool, true, false, ◌==◌, List, map, length, slice_index_or, Option, Some, None}
 use Rattle.std.specs.List.{range_with_len}
 use Rattle.std.specs.Int.{bit_at}
 
@@ -10,6 +10,11 @@ bit_of words k = bit_at (slice_index_or words (k / 64) 0) (k % 64)
 -- the first n bits
 unfoldable pub bits : List ℕ → ℕ → List Bool
 bits words n = map (λ k. bit_of words k == 1) (range_with_len 0 n)
+
+-- bit i of the first of these words tells whether word i + 1 has a bit
+pub record Tells (words : List ℕ) : Type 0 where
+  pub none : (i : ℕ) → i < 64 → bit_at (slice_index_or words 0 0) i ≡ 0 → slice_index_or words (suc i) 0 ≡ 0
+  pub some : (i : ℕ) → i < 64 → bit_at (slice_index_or words 0 0) i ≡ 1 → slice_index_or words (suc i) 0 ≢ 0
 
 -- the words hold n bits, and no 1 past them
 pub record IsRow (words : List ℕ) (n : ℕ) : Type 0 where

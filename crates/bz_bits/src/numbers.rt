@@ -1,7 +1,8 @@
 //! The numbers of a component's ports, two bits each, of which the first 64 take no memory of their own.
-ghost use Rattle.std.specs.Prelude.{◌≡◌, ◌≢◌, ◌⊎◌, ◌+◌, ◌-◌, ◌*◌, ◌/◌, ◌%◌, ◌^◌, ◌<◌, ◌≤◌, ◌∷◌, ℕ, suc, false, length, replicate, slice_index, slice_index_or, slice_set, take, nat_le, bit_and, if◌then◌else◌, All, IfOk, IsTrue};
+ghost use Rattle.std.specs.Prelude.{◌≡◌, ◌≢◌, ◌⊎◌, ◌+◌, ◌-◌, ◌*◌, ◌/◌, ◌%◌, ◌^◌, ◌<◌, ◌≤◌, ◌∷◌, ℕ, List, suc, false, length, replicate, slice_index, slice_index_or, slice_set, take, nat_le, if◌then◌else◌, All, IfOk, IsTrue};
 ghost use Rattle.std.specs.Int.{bit_at, from_bool};
-ghost use Rattle.bz_bits.specs.PortWords.{between, no_ports, number_at, number_in, FilledIn, HasOdd, IsEven, IsLowest, NoneOdd};
+ghost use Rattle.bz_bits.specs.declared.word.PortWord.{PortWord};
+ghost use Rattle.bz_bits.specs.PortWords.{between, no_ports, number_at, number_in, FilledIn, HasOdd, IsEven, IsLowest, LacksOne, NoneOdd, NoneOne};
 
 use crate::word::{NO_PORTS, PortWord, one_place, places};
 use std::alloc::{AllocError, Allocator, Global};
@@ -14,35 +15,40 @@ pub struct PortNumbers<A: Allocator + Copy = Global> {
     more: Vec<PortWord, A>,
     len: u32,
     // The first word of `more` in which a port has an odd number; past the last word where there is none.
-    low: u32,
+    low: u16,
+    // No word of `more` in front of this one has a port with the number 1.
+    ones: u16,
 }
 
 impl<A: Allocator + Copy> Model for PortNumbers<A> {
     ghost use Rattle.std.specs.Prelude.{List, ℕ, ◌∷◌};
-    ghost use Rattle.bz_bits.specs.PortWords.{numbers, AreNumbers, IsLowest};
+    ghost use Rattle.bz_bits.specs.PortWords.{numbers, AreNumbers, IsLowest, NoneOne};
 
     ghost Value = { List ℕ };
 
     ghost view = { λ p. numbers (p.first ∷ p.more.items) p.len };
 
-    ghost invariant = { λ p. AreNumbers (p.first ∷ p.more.items) p.len × IsLowest p.more.items p.low };
+    ghost invariant = { λ p. AreNumbers (p.first ∷ p.more.items) p.len × IsLowest p.more.items p.low × NoneOne p.more.items p.ones };
 }
 
 impl<A: Allocator + Copy> PortNumbers<A> {
-    /// `count` ports, all with the number 0. There is no room for 2^32 or more.
+    /// `count` ports, all with the number 0. There is no room for 2^22 or more.
     pub fn new(alloc: A, count: usize) -> Result<Self, AllocError>
         ensures { IfOk result (λ p. p ≡ replicate count 0) }
     {
         let Ok(len) = u32::try_from(count) else {
             return Err(AllocError);
         };
-        let low = len.saturating_sub(1) / 64;
+        let Ok(low) = u16::try_from(len.saturating_sub(1) / 64) else {
+            return Err(AllocError);
+        };
         let more = Vec::from_elem(alloc, NO_PORTS, low as usize)?;
         Ok(PortNumbers {
             first: NO_PORTS,
             more,
             len,
             low,
+            ones: 0,
         })
     }
 
@@ -56,6 +62,7 @@ impl<A: Allocator + Copy> PortNumbers<A> {
             more,
             len: self.len,
             low: self.low,
+            ones: self.ones,
         })
     }
 
@@ -80,9 +87,10 @@ impl<A: Allocator + Copy> PortNumbers<A> {
     #[cold]
     #[inline(never)]
     fn get_far(&self, port: usize) -> u8
+        requires { 64 ≤ port }
         ensures { result ≡ slice_index self.now port }
     {
-        word_at(&self.first, &self.more, port / 64).number(port % 64)
+        far_word(&self.more, port).number(port % 64)
     }
 
     /// Whether the number of a port is 2 or 3.
@@ -100,9 +108,10 @@ impl<A: Allocator + Copy> PortNumbers<A> {
     #[cold]
     #[inline(never)]
     fn is_high_far(&self, port: usize) -> bool
+        requires { 64 ≤ port }
         ensures { result ≡ nat_le 2 (slice_index self.now port) }
     {
-        word_at(&self.first, &self.more, port / 64).is_high(port % 64)
+        far_word(&self.more, port).is_high(port % 64)
     }
 
     /// The numbers of 64 ports, 0 where there is no such port.
@@ -149,8 +158,9 @@ impl<A: Allocator + Copy> PortNumbers<A> {
         ensures from { at ≤ result }
         ensures passed { (p : ℕ) → 64 * at ≤ p → p < 64 * result → slice_index self.now p ≢ 1 }
     {
-        let front = (at - 1).min(self.more.len());
-        at + count_lacking(&self.more[front..])
+        let start = at.max(self.ones as usize + 1);
+        let front = (start - 1).min(self.more.len());
+        start + count_lacking(&self.more[front..])
     }
 
     /// Gives a port a number; nothing where there is no such port.
@@ -175,7 +185,8 @@ impl<A: Allocator + Copy> PortNumbers<A> {
         ensures { self.new ≡ slice_set self.old port number }
     {
         if port < self.len as usize {
-            fill_one(&mut self.first, &mut self.more, &mut self.low, port, number);
+            let (low, ones) = (&mut self.low, &mut self.ones);
+            fill_one(&mut self.more, low, ones, port, number);
         }
     }
 
@@ -197,11 +208,12 @@ impl<A: Allocator + Copy> PortNumbers<A> {
     #[cold]
     #[inline(never)]
     fn turn_far(&mut self, port: usize)
+        requires far { 64 ≤ port }
         requires held { port < length self.old }
         ensures turned { self.new ≡ slice_set self.old port ((slice_index self.old port + 2) % 4) }
         ensures small { slice_index self.old port < 4 }
     {
-        turn_one(&mut self.first, &mut self.more, &mut self.low, port);
+        turn_one(&mut self.more, &mut self.ones, port);
     }
 
     /// Takes the number of a port from 3.
@@ -221,10 +233,11 @@ impl<A: Allocator + Copy> PortNumbers<A> {
     #[cold]
     #[inline(never)]
     fn flip_far(&mut self, port: usize)
-        requires { port < length self.old }
+        requires far { 64 ≤ port }
+        requires held { port < length self.old }
         ensures { self.new ≡ slice_set self.old port (3 - slice_index self.old port) }
     {
-        flip_one(&mut self.first, &mut self.more, &mut self.low, port);
+        flip_one(&mut self.more, &mut self.low, &mut self.ones, port);
     }
 
     /// Takes the number of a port from 3, and makes the even number of another port odd.
@@ -247,15 +260,39 @@ impl<A: Allocator + Copy> PortNumbers<A> {
     #[cold]
     #[inline(never)]
     fn pass_far(&mut self, from: usize, to: usize)
+        requires from { from < length self.old }
+        requires to { to < length self.old }
         requires other { from ≢ to }
         requires even { slice_index self.old to % 2 ≡ 0 }
         ensures { self.new ≡ slice_set (slice_set self.old from (3 - slice_index self.old from)) to (slice_index self.old to + 1) }
     {
-        let _first = &self.first;
-        let number = self.get(from);
-        self.set(from, 3 - number % 4);
-        let number = self.get(to);
-        self.set(to, number % 4 + 1);
+        self.flip(from);
+        self.raise(to);
+    }
+
+    // Makes the even number of a port odd.
+    #[inline(always)]
+    fn raise(&mut self, port: usize)
+        requires held { port < length self.old }
+        requires even { slice_index self.old port % 2 ≡ 0 }
+        ensures { self.new ≡ slice_set self.old port (slice_index self.old port + 1) }
+    {
+        if port < 64 {
+            self.first = self.first.raised(port);
+        } else {
+            self.raise_far(port);
+        }
+    }
+
+    // The same of a port beyond the first 64.
+    #[inline(always)]
+    fn raise_far(&mut self, port: usize)
+        requires far { 64 ≤ port }
+        requires held { port < length self.old }
+        requires even { slice_index self.old port % 2 ≡ 0 }
+        ensures { self.new ≡ slice_set self.old port (slice_index self.old port + 1) }
+    {
+        raise_one(&mut self.more, &mut self.low, &mut self.ones, port);
     }
 
     /// Gives all ports from `from` on, but before `to`, the same number.
@@ -282,14 +319,8 @@ impl<A: Allocator + Copy> PortNumbers<A> {
         ensures long { length self.new ≡ length self.old }
         ensures each { (p : ℕ) → slice_index self.new p ≡ (if between from to p then number else slice_index self.old p) }
     {
-        fill(
-            &mut self.first,
-            &mut self.more,
-            &mut self.low,
-            from,
-            to,
-            number,
-        );
+        let (low, ones) = (&mut self.low, &mut self.ones);
+        fill(&mut self.first, &mut self.more, low, ones, from, to, number);
     }
 }
 
@@ -316,7 +347,7 @@ fn count_even(words: &[PortWord]) -> usize
 // How many words come before the first in which a port has the number 1.
 fn count_lacking(words: &[PortWord]) -> usize
     ensures within { result ≤ length words.now }
-    ensures lacking { All (λ w. bit_and w.due w.opened ≡ w.due) (take result words.now) }
+    ensures lacking { All LacksOne (take result words.now) }
 {
     let found = words
         .iter()
@@ -338,39 +369,55 @@ fn word_at(first: &PortWord, more: &[PortWord], at: usize) -> PortWord
     }
 }
 
-#[tactic(auto, using(crate::proofs::Words::set_tail, crate::proofs::Words::set_past))]
+// The word of a port beyond the first 64, without ports where there is no such word.
 #[inline(always)]
-fn put_word(first: &mut PortWord, more: &mut [PortWord], low: &mut u32, at: usize, word: PortWord)
-    requires { IsLowest more.old low.old }
-    ensures put { first.new ∷ more.new ≡ slice_set (first.old ∷ more.old) at word }
-    ensures low { IsLowest more.new low.new }
+fn far_word(more: &[PortWord], port: usize) -> PortWord
+    requires { 64 ≤ port }
+    ensures { (first : PortWord) → result ≡ slice_index_or (first ∷ more.now) (port / 64) no_ports }
 {
-    if at == 0 {
-        *first = word;
-    } else if at <= more.len() {
-        put_far(more, low, at - 1, word);
+    match more.get(port / 64 - 1) {
+        Some(word) => *word,
+        None => NO_PORTS,
     }
 }
 
 #[inline(always)]
-fn put_far(more: &mut [PortWord], low: &mut u32, at: usize, word: PortWord)
+fn put_far(more: &mut [PortWord], low: &mut u16, ones: &mut u16, at: usize, word: PortWord)
     requires held { at < length more.old }
     requires low { IsLowest more.old low.old }
+    requires ones { NoneOne more.old ones.old }
     ensures put { more.new ≡ slice_set more.old at word }
     ensures low { IsLowest more.new low.new }
+    ensures ones { NoneOne more.new ones.new }
 {
-    more[at] = word;
+    store_far(more, at, word);
+    *ones = ones_after(*ones, at as u16, word);
     if word.due != 0 {
-        *low = (at as u32).min(*low);
+        *low = (at as u16).min(*low);
     } else if at == *low as usize {
         *low = lowest_from(more, at);
     }
 }
 
+// A word in front of which none has a port with the number 1, once `word` is put in place `at`.
+#[inline(always)]
+fn ones_after(ones: u16, at: u16, word: PortWord) -> u16
+    requires { at + 1 < 2 ^ 16 }
+    ensures { (words : List PortWord) → at < length words → NoneOne words ones → NoneOne (slice_set words at word) result }
+{
+    if word.due & word.opened != word.due {
+        ones.min(at)
+    } else if ones == at {
+        at + 1
+    } else {
+        ones
+    }
+}
+
 // The first word with an odd number where none before `start` has one.
 #[inline(never)]
-fn lowest_from(words: &[PortWord], start: usize) -> u32
-    requires few { length words.now < 2 ^ 32 }
+fn lowest_from(words: &[PortWord], start: usize) -> u16
+    requires few { length words.now < 2 ^ 16 }
     requires held { start ≤ length words.now }
     requires even { NoneOdd words.now start }
     ensures { IsLowest words.now result }
@@ -378,50 +425,86 @@ fn lowest_from(words: &[PortWord], start: usize) -> u32
     let lowest = start + count_even(&words[start..]);
     // A look at the word's bits brings what their type says of them.
     let _odd = odd_at(words, lowest);
-    lowest as u32
+    lowest as u16
 }
 
 #[inline(always)]
-fn fill_one(first: &mut PortWord, more: &mut [PortWord], low: &mut u32, port: usize, number: u8)
+fn fill_one(more: &mut [PortWord], low: &mut u16, ones: &mut u16, port: usize, number: u8)
     requires number { number < 4 }
-    requires fits { port < 64 * length (first.old ∷ more.old) }
+    requires far { 64 ≤ port }
+    requires fits { port < 64 + 64 * length more.old }
     requires low { IsLowest more.old low.old }
-    ensures filled { (p : ℕ) → number_at (first.new ∷ more.new) p ≡ (if between port (port + 1) p then number else number_at (first.old ∷ more.old) p) }
+    requires ones { NoneOne more.old ones.old }
+    ensures filled { (first : PortWord) (p : ℕ) → number_at (first ∷ more.new) p ≡ (if between port (port + 1) p then number else number_at (first ∷ more.old) p) }
     ensures low { IsLowest more.new low.new }
+    ensures ones { NoneOne more.new ones.new }
 {
-    let at = port / 64;
-    let word = word_at(first, more, at).filled(one_place(port % 64), number);
-    put_word(first, more, low, at, word);
+    let at = port / 64 - 1;
+    let word = more[at].filled(one_place(port % 64), number);
+    put_far(more, low, ones, at, word);
+}
+
+// Which word is the lowest with an odd number stays as it was.
+#[inline(always)]
+fn turn_one(more: &mut [PortWord], ones: &mut u16, port: usize)
+    requires far { 64 ≤ port }
+    requires fits { port < 64 + 64 * length more.old }
+    requires few { length more.old < 2 ^ 16 }
+    requires ones { NoneOne more.old ones.old }
+    ensures turned { (first : PortWord) (p : ℕ) → number_at (first ∷ more.new) p ≡ (if between port (port + 1) p then (number_at (first ∷ more.old) port + 2) % 4 else number_at (first ∷ more.old) p) }
+    ensures low { (low : ℕ) → IsLowest more.old low → IsLowest more.new low }
+    ensures ones { NoneOne more.new ones.new }
+{
+    let at = port / 64 - 1;
+    let word = more[at].turned(port % 64);
+    store_far(more, at, word);
+    *ones = ones_after(*ones, at as u16, word);
 }
 
 #[inline(always)]
-fn turn_one(first: &mut PortWord, more: &mut [PortWord], low: &mut u32, port: usize)
-    requires fits { port < 64 * length (first.old ∷ more.old) }
-    requires low { IsLowest more.old low.old }
-    ensures turned { (p : ℕ) → number_at (first.new ∷ more.new) p ≡ (if between port (port + 1) p then (number_at (first.old ∷ more.old) port + 2) % 4 else number_at (first.old ∷ more.old) p) }
-    ensures low { IsLowest more.new low.new }
+fn store_far(more: &mut [PortWord], at: usize, word: PortWord)
+    requires { at < length more.old }
+    ensures { more.new ≡ slice_set more.old at word }
 {
-    let at = port / 64;
-    let word = word_at(first, more, at).turned(port % 64);
-    put_word(first, more, low, at, word);
+    more[at] = word;
 }
 
 #[inline(always)]
-fn flip_one(first: &mut PortWord, more: &mut [PortWord], low: &mut u32, port: usize)
-    requires fits { port < 64 * length (first.old ∷ more.old) }
+fn flip_one(more: &mut [PortWord], low: &mut u16, ones: &mut u16, port: usize)
+    requires far { 64 ≤ port }
+    requires fits { port < 64 + 64 * length more.old }
     requires low { IsLowest more.old low.old }
-    ensures flipped { (p : ℕ) → number_at (first.new ∷ more.new) p ≡ (if between port (port + 1) p then 3 - number_at (first.old ∷ more.old) port else number_at (first.old ∷ more.old) p) }
+    requires ones { NoneOne more.old ones.old }
+    ensures flipped { (first : PortWord) (p : ℕ) → number_at (first ∷ more.new) p ≡ (if between port (port + 1) p then 3 - number_at (first ∷ more.old) port else number_at (first ∷ more.old) p) }
     ensures low { IsLowest more.new low.new }
+    ensures ones { NoneOne more.new ones.new }
 {
-    let at = port / 64;
-    let word = word_at(first, more, at).flipped(port % 64);
-    put_word(first, more, low, at, word);
+    let at = port / 64 - 1;
+    let word = more[at].flipped(port % 64);
+    put_far(more, low, ones, at, word);
+}
+
+#[inline(always)]
+fn raise_one(more: &mut [PortWord], low: &mut u16, ones: &mut u16, port: usize)
+    requires far { 64 ≤ port }
+    requires fits { port < 64 + 64 * length more.old }
+    requires even { (first : PortWord) → number_at (first ∷ more.old) port % 2 ≡ 0 }
+    requires low { IsLowest more.old low.old }
+    requires ones { NoneOne more.old ones.old }
+    ensures raised { (first : PortWord) (p : ℕ) → number_at (first ∷ more.new) p ≡ (if between port (port + 1) p then number_at (first ∷ more.old) port + 1 else number_at (first ∷ more.old) p) }
+    ensures low { IsLowest more.new low.new }
+    ensures ones { NoneOne more.new ones.new }
+{
+    let at = port / 64 - 1;
+    let word = more[at].raised(port % 64);
+    put_far(more, low, ones, at, word);
 }
 
 fn fill(
     first: &mut PortWord,
     more: &mut [PortWord],
-    low: &mut u32,
+    low: &mut u16,
+    ones: &mut u16,
     from: usize,
     to: usize,
     number: u8,
@@ -429,12 +512,15 @@ fn fill(
     requires number { number < 4 }
     requires fits { to ≤ 64 * length (first.old ∷ more.old) }
     requires low { IsLowest more.old low.old }
+    requires ones { NoneOne more.old ones.old }
     ensures filled { (p : ℕ) → number_at (first.new ∷ more.new) p ≡ (if between from to p then number else number_at (first.old ∷ more.old) p) }
     ensures low { IsLowest more.new low.new }
+    ensures ones { NoneOne more.new ones.new }
 {
     if from < to {
         fill_words(first, more, from, to, number);
     }
+    *ones = (from / 64).saturating_sub(1).min(*ones as usize) as u16;
     // From the first word on all that were filled with an even number have no odd one, or else those in front of `low` have none.
     let start = if number % 2 == 0 && from < 64 {
         (to / 64).saturating_sub(1)

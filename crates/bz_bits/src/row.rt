@@ -1,5 +1,5 @@
 //! A row of bits, in words of 64.
-ghost use Rattle.std.specs.Prelude.{◌≡◌, ◌+◌, ◌*◌, ◌/◌, ◌==◌, ◌^◌, ◌<◌, ◌≤◌, ℕ, true, false, length, replicate, slice_index_or, slice_set, IfOk};
+ghost use Rattle.std.specs.Prelude.{◌≡◌, ◌+◌, ◌*◌, ◌/◌, ◌==◌, ◌^◌, ◌<◌, ◌≤◌, ℕ, true, false, length, replicate, slice_index_or, slice_set, IfOk, Some};
 ghost use Rattle.std.specs.Int.{bit_at};
 ghost use Rattle.bz_bits.specs.Row.{bits, IsNext, IsNextInWord, HasOne};
 
@@ -122,6 +122,16 @@ impl<A: Allocator> BitRow<A> {
             return None;
         }
         Some(from / 64 * 64 + found.trailing_zeros() as usize)
+    }
+
+    /// The first place of a word that has a 1.
+    #[inline(always)]
+    pub(crate) fn first_in(&self, at: usize) -> usize
+        requires { HasOne self.now at true }
+        ensures { IsNextInWord self.now (64 * at) (Some result) }
+    {
+        let found = self.words[at];
+        64 * at + found.trailing_zeros() as usize
     }
 
     /// Whether the word of `place` has a 1.

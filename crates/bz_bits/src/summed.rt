@@ -72,7 +72,11 @@ impl<A: Allocator + Copy> SummedRow<A> {
             return;
         }
         let word = place / 64;
+        let had_word = self.words.has_one(word);
         self.words.raise(word);
+        if had_word {
+            return;
+        }
         self.blocks.raise(word / 64);
     }
 
@@ -131,13 +135,14 @@ impl<A: Allocator + Copy> SummedRow<A> {
         ensures { IsNext self.now from result }
     {
         match next_word(&self.words, &self.blocks, from / 64 + 1) {
-            Some(word) => self.row.next_in_word(64 * word),
+            Some(word) => Some(self.row.first_in(word)),
             None => None,
         }
     }
 }
 
 // The first word at or above `from` that has a 1.
+#[inline(always)]
 fn next_word<A: Allocator>(words: &BitRow<A>, blocks: &BitRow<A>, from: usize) -> Option<usize>
     requires { Sums words.now blocks.now }
     ensures { IsNext words.now from result }
@@ -145,8 +150,19 @@ fn next_word<A: Allocator>(words: &BitRow<A>, blocks: &BitRow<A>, from: usize) -
     if let Some(word) = words.next_in_word(from) {
         return Some(word);
     }
-    match blocks.next_from(from / 64 + 1) {
+    match next_block(blocks, from / 64 + 1) {
         Some(block) => words.next_in_word(64 * block),
         None => None,
     }
+}
+
+// The first block at or above `from` that has a 1. Of up to 64 one word tells.
+#[inline(always)]
+fn next_block<A: Allocator>(blocks: &BitRow<A>, from: usize) -> Option<usize>
+    ensures { IsNext blocks.now from result }
+{
+    if blocks.len() <= 64 {
+        return blocks.next_in_word(from);
+    }
+    blocks.next_from(from)
 }

@@ -47,7 +47,8 @@ impl PortWord {
     #[inline]
     pub(crate) fn turned(self, place: usize) -> PortWord
         requires { place < 64 }
-        ensures { (i : ℕ) → i < 64 → number_in result i ≡ (if between place (place + 1) i then (number_in self i + 2) % 4 else number_in self i) }
+        ensures turned { (i : ℕ) → i < 64 → number_in result i ≡ (if between place (place + 1) i then (number_in self i + 2) % 4 else number_in self i) }
+        ensures due { result.due ≡ self.due }
     {
         PortWord {
             due: self.due,

@@ -1,6 +1,6 @@
 //! The members of a part's lists.
 
-ghost use Rattle.std.specs.Prelude.{◌≡◌, List, ◌∷◌, true, map, bytes_eq, codes, IfOk, IfErr, Ok, Some};
+ghost use Rattle.std.specs.Prelude.{◌≡◌, List, [], ◌∷◌, true, map, bytes_eq, codes, IfOk, IfErr, Ok, Some};
 ghost use Rattle.std.specs.List.{filter_map};
 ghost use Rattle.std.specs.Option.{option_map};
 ghost use Rattle.bz_model.specs.Names.{external};
@@ -14,6 +14,7 @@ ghost use Rattle.bz_breeze.specs.Forms.{named_port, listed_port, port, ports, wi
 
 use crate::error::{Code, Refusal};
 use bz_breeze_records::{Component, Entries, Name, Slot};
+use bz_gap::gap;
 use bz_model::{Chan, ChanKind, MAX_WIDTH, NameSet, Param, Port};
 use bz_sexpr::{Form, Forms, Leaf, Shape, Text};
 use std::alloc::{AllocError, Global};
@@ -438,12 +439,24 @@ fn component(alloc: Global, member: Form<'_>) -> Result<Component, Refusal>
     }
 }
 
+// A list with room for so many components. A long one lies in the heap, with room for half as many again: so the nodes of a net,
+// which are larger, can lie where it was, and what was read before it.
+fn room_for(alloc: Global, count: usize) -> Result<Vec<Component>, AllocError>
+    ensures { IfOk result (λ v. v.items ≡ []) }
+{
+    let wide = count.saturating_add(count / 2);
+    match gap(alloc, wide.saturating_mul(size_of::<Component>())) {
+        Some(_gap) => Vec::with_capacity(alloc, wide),
+        None => Vec::with_capacity(alloc, count),
+    }
+}
+
 /// The components that the members of `components` name.
 pub(crate) fn components(alloc: Global, members: Forms<'_>) -> Result<Vec<Component>, Refusal>
     ensures ok { IfOk result (λ v. components (forms_view members.entry) ≡ Ok (map component_record v.items)) }
     ensures err { IfErr result (HasFault (components (forms_view members.entry))) }
 {
-    let mut components = Vec::with_capacity(alloc, members.len())?;
+    let mut components = room_for(alloc, members.len())?;
     let mut rest = members;
     while let Some((member, after)) = rest.split_first() {
         components.push(component(alloc, member)?)?;

@@ -2,12 +2,13 @@
 //!
 //! An interrupted read counts as a failure, and so does an interrupted write.
 
-ghost use Rattle.std.specs.Prelude.{◌≡◌, ◌≤◌, vec_len, IfOk, IfSome, OnOk};
+ghost use Rattle.std.specs.Prelude.{◌≡◌, ◌≤◌, ◌++◌, vec_len, IfOk, IfSome, OnErr, OnOk};
 ghost use Rattle.std.specs.Io.KnownBytes.{IsAtEnd};
 ghost use Rattle.bz_cli_input.specs.Limits.{input_limit};
 ghost use Rattle.bz_cli_input.specs.Reading.{ReadsWithin};
 ghost use Rattle.bz_cli_input.specs.declared.input.InputFault.TheVariants.{Memory};
 
+use bz_gap::gap;
 use std::alloc::{AllocError, Global};
 use std::io::Read;
 use thiserror::Error;
@@ -48,10 +49,27 @@ pub fn read_input<R: Read>(alloc: Global, input: &mut R) -> Result<Vec<u8>, Inpu
     'reading: while text.len() <= INPUT_LIMIT {
         let room = chunk.len().min(INPUT_LIMIT + 1 - text.len());
         match input.read(&mut chunk[..room]) {
-            Ok(0) => return Ok(text),
-            Ok(n) => text.extend_from_slice(&chunk[..n])?,
+            Ok(0) => {
+                text.shrink_to_fit();
+                return Ok(text);
+            }
+            Ok(n) => append(alloc, &mut text, &chunk[..n])?,
             Err(_) => return Err(InputFault::Read),
         }
     }
     Err(InputFault::Read)
+}
+
+// Appends a piece. Where there is no room the text grows to twice what it had room for. A long one does so in the heap, into a
+// gap for all of it, whether it can stay where it is or not: so a net lies where it was.
+fn append(alloc: Global, text: &mut Vec<u8>, piece: &[u8]) -> Result<(), AllocError>
+    ensures ok { OnOk result (text.new.items ≡ text.old.items ++ piece.now) }
+    ensures err { OnErr result (text.new.items ≡ text.old.items) }
+{
+    let _gap = if text.capacity() - text.len() < piece.len() {
+        gap(alloc, text.capacity().saturating_mul(2))
+    } else {
+        None
+    };
+    text.extend_from_slice(piece)
 }

@@ -1,5 +1,5 @@
 -- What a Bar does next: the heads of its two sides, and what each leaves.
-use Rattle.std.proofs.Common.{◌≡◌, ◌≢◌, ◌⊎◌, inl, inr, ℕ, zero, suc, ◌+◌, ◌-◌, ◌<◌, ◌≤◌, true, false, List, length, get_or, Some, refl, ap, sym, ◌∙◌, subst, arith}
+use Rattle.std.proofs.Common.{◌≡◌, ◌≢◌, ◌⊎◌, inl, inr, ℕ, zero, suc, ◌+◌, ◌-◌, ◌<◌, true, false, List, get_or, Some, refl, ap, sym, ◌∙◌, subst, arith}
 use Rattle.std.specs.Prelude.{min}
 use Rattle.std.proofs.lemmas.Bool.{cases_lt}
 use Rattle.std.proofs.lemmas.List.{get_or_past}
@@ -13,7 +13,7 @@ use Rattle.bz_kinds.specs.declared.ports.PortState.{PortState}
 use Rattle.bz_kinds.specs.declared.ports.PortState.TheVariants.{Closed, ClosedDue, Open, OpenDue}
 use Rattle.bz_kinds.specs.Row.{Due, due_of, lead_due, leg_due, is_open}
 use Rattle.bz_kinds.specs.Together.{IsLegState}
-use Rattle.bz_kinds.specs.Bar.{Side, round, leg_left, legs_left, left_at, side_left, IsQuiet, IsSide, out, guard, activate, todo, bar_due, IsPlace}
+use Rattle.bz_kinds.specs.Bar.{Side, round, leg_left, legs_left, left_at, side_left, IsQuiet, IsSide, guard, activate, todo, bar_due, IsPlace}
 use Rattle.bz_kinds.proofs.Arrays.{head-in-all, head-at-all, all-cong, with_term-all, tidy-all, all-done, all-busy, tidy-with_term}
 
 module _ (n : ℕ) (side : Side) where
@@ -343,28 +343,3 @@ module _ (n : ℕ) where
       | inr past ↦ absurd (no-leg (min k n) d (subst (λ a. leg_due (record { gives = Nothing; into = min k n }) a ≡ Some d) (get_or_past w (after k) Closed (let l = ok.long in omega arith)) e))
     ]
   ]
-
-  -- a move is due where the state says so
-  side-number : (side : Side) (w : List PortState) (h : Head) → OfSide n side w h → (get_or w h.port Closed ≡ ClosedDue) ⊎ (get_or w h.port Closed ≡ OpenDue)
-  side-number side w h (inl (one, is)) = rw is (inl one)
-  side-number side w h (inr (inl (three, is))) = rw is (inr three)
-  side-number side w h (inr (inr (i, lt, inl (one, is)))) = rw is (inl one)
-  side-number side w h (inr (inr (i, lt, inr (three, is)))) = rw is (inr three)
-
-  pub due-number : (left : ℕ) (w : List PortState) → IsPlace n left w → (p : ℕ) (d : Due) → bar_due n p (get_or w p Closed) ≡ Some d → (get_or w p Closed ≡ ClosedDue) ⊎ (get_or w p Closed ≡ OpenDue)
-  due-number left w ok p d e =
-      let (h, at, q) = due-heads left w ok p d e in
-      subst (λ p. (get_or w p Closed ≡ ClosedDue) ⊎ (get_or w p Closed ≡ OpenDue)) q (elim (any-head w h at) [
-        | inl (r, x, f) ↦ rw f (side-number (guard n) w r (side-head n (guard n) w ok.guards r x))
-        | inr (r, x, f) ↦ rw f (side-number (activate n) w r (side-head n (activate n) w ok.activates r x))
-      ])
-
-  -- an output that is due to end
-  pub output-three : (left : ℕ) (w : List PortState) → IsPlace n left w → (p : ℕ) (d : Due) → bar_due n p (get_or w p Closed) ≡ Some d → p ≢ 1 → p ≢ 2 → n ≤ p - 3 → get_or w p Closed ≢ ClosedDue → (p - 3 - n < n) × (get_or w (out n (p - 3 - n)) Closed ≡ OpenDue)
-  output-three left w ok p d e one two far late =
-      let three : get_or w p Closed ≡ OpenDue = elim (due-number left w ok p d e) [ inl x ↦ absurd (late x) | inr x ↦ x ] in
-      let within : p < length w = elim (cases_lt p (length w)) [ inl lt ↦ lt | inr le ↦ absurd (let z = get_or_past w p Closed le in cc) ] in
-      let some = ok.some in
-      let long = ok.long in
-      let is : p ≡ out n (p - 3 - n) = omega arith in
-      (omega arith, subst (λ q. get_or w q Closed ≡ OpenDue) is three)

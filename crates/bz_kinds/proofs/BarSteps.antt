@@ -1,5 +1,5 @@
 -- What each move of a Bar leaves.
-use Rattle.std.proofs.Common.{◌≡◌, ◌≢◌, inl, inr, ℕ, zero, suc, ◌+◌, ◌-◌, ◌<◌, ◌≤◌, Bool, true, false, ◌&&◌, List, length, get_or, set, refl, ap, sym, ◌∙◌, arith}
+use Rattle.std.proofs.Common.{◌≡◌, ◌≢◌, inl, inr, ℕ, zero, suc, ◌+◌, ◌-◌, ◌<◌, ◌≤◌, true, false, List, length, get_or, set, refl, ap, sym, ◌∙◌, arith}
 use Rattle.std.specs.Prelude.{nat_eq}
 use Rattle.std.proofs.lemmas.Bool.{cases_eq, cases_lt, eq-eqb, ne_eqb}
 use Rattle.std.proofs.lemmas.List.{get_or-set_same, get_or-set_other}
@@ -50,12 +50,6 @@ busy-none ClosedDue e = absurd (omega arith)
 busy-none Open e = absurd (omega arith)
 busy-none OpenDue e = absurd (omega arith)
 
-busy-up : (a : PortState) → a ≢ Closed → busy a ≡ 1
-busy-up Closed ne = absurd (ne refl)
-busy-up ClosedDue lt = refl
-busy-up Open lt = refl
-busy-up OpenDue lt = refl
-
 pub busy-zero : (n : ℕ) (f : ℕ → PortState) → busy_of n f ≡ 0 → (i : ℕ) → i < n → f i ≡ Closed
 busy-zero zero f e i lt = absurd (omega arith)
 busy-zero (suc n) f e i lt = elim (cases_eq i n) [
@@ -75,10 +69,6 @@ busy-some (suc n) f lt = elim (cases_lt 0 (busy (f n))) [
 -- two terms side by side, one of which moves
 beside-first : (s : Store) (t a b : Term) → tidy s t ≡ a → tidy s b ≡ b → is_done a ≡ false → tidy s (par (term t (term b no_terms))) ≡ both a b
 beside-first s t a b x y z = rw (x, y, z) refl
-
-and-false : (b : Bool) → (b && false) ≡ false
-and-false true = refl
-and-false false = refl
 
 beside-second : (s : Store) (t a b : Term) → tidy s t ≡ a → tidy s b ≡ b → is_done b ≡ false → tidy s (par (term b (term t no_terms))) ≡ both b a
 beside-second s t a b x y z = rw (x, y, z) refl

@@ -11,7 +11,7 @@ use Rattle.bz_kinds.specs.Riding.{Made}
 use Rattle.bz_kinds.specs.Row.{Due}
 use Rattle.bz_kinds.specs.Sense.{move_by, sense}
 use Rattle.bz_kinds.specs.Turn.{CanTurn, IsDueMove}
-use Rattle.bz_kinds.specs.declared.comp.Process.{Process}
+use Rattle.bz_kinds.specs.declared.process.Process.{Process}
 use Rattle.bz_kinds.specs.declared.kept.KeptMix.{KeptMix}
 use Rattle.bz_kinds.specs.declared.kept.KeptPlan.{KeptPlan}
 use Rattle.bz_kinds.specs.declared.kept.KeptPlan.TheVariants as plans
@@ -20,7 +20,7 @@ use Rattle.bz_model.specs.Terms.{Store, stored, value_of}
 use Rattle.bz_model.specs.declared.channel.Move.{Move}
 use Rattle.bz_model.specs.declared.channel.Move.TheVariants.{Ask, Take, Reply, Got}
 use Rattle.bz_kinds.proofs.ChoiceDue.{chosen-at, idle-at, out-at, some-port, steps-as, taken-at}
-use Rattle.bz_kinds.proofs.MadeLaws.{at-branch, at-out, lead-replied, lead-taken, leg-asked, leg-got, not-opened}
+use Rattle.bz_kinds.proofs.MadeLaws.{at-branch, at-out, lead-replied, lead-taken, leg-got, not-opened}
 use Rattle.bz_kinds.proofs.OnwardLaws.{asks-at, gets-at, replies-at, takes-at}
 use Rattle.bz_kinds.proofs.PlanLaws.{choice-step, due-of}
 use Rattle.bz_kinds.specs.declared.ports.PortState.{PortState}
@@ -100,11 +100,6 @@ module _ (c : Process) (mix : Mix) (is : plan_of c.plan ≡ Choice mix) (p : ℕ
   choice-replied d value e named sent =
       let at = replies-branch named in
       lead-replied mix.into mix.answer d None (slots_of c.slots) (slots_of c.slots) _ value (at-branch mix c.size p _ d (due-of (plan_of c.plan) (Choice mix) is c.size c.left p (get_or c.ports p Closed) d e) at.0) (not-opened _ at.1) sent refl
-
-  pub choice-asked : (d : Due) (value : Option ℕ) → plan_due (plan_of c.plan) c.size c.left p (get_or c.ports p Closed) ≡ Some d → IsDueMove c p Ask → value ≡ value_of mix.leg.gives (slots_of c.slots) → Made d None (slots_of c.slots) (slots_of c.slots) Ask value
-  choice-asked d value e named sent =
-      let at = asks-out named in
-      leg-asked mix.leg d None (slots_of c.slots) (slots_of c.slots) _ value (at-out mix c.size p _ d (due-of (plan_of c.plan) (Choice mix) is c.size c.left p (get_or c.ports p Closed) d e) at.0) at.1 sent refl
 
   pub choice-got : (d : Due) (rides : Option ℕ) (s' : Store) → plan_due (plan_of c.plan) c.size c.left p (get_or c.ports p Closed) ≡ Some d → IsDueMove c p Got → s' ≡ stored mix.leg.into rides (slots_of c.slots) → Made d rides (slots_of c.slots) s' Got rides
   choice-got d rides s' e named kept =

@@ -1,14 +1,13 @@
 -- What the move due at a port carries and keeps.
-use Rattle.std.proofs.Common.{◌≡◌, ◌≢◌, ◌≤◌, ◌<◌, ℕ, zero, suc, ◌-◌, Bool, true, false, Option, Some, None, refl, subst, arith}
-use Rattle.std.specs.Prelude.{if◌then◌else◌, nat_lt, MatchBool}
+use Rattle.std.proofs.Common.{◌≡◌, ◌≢◌, ◌≤◌, ◌<◌, ℕ, zero, suc, ◌-◌, Option, Some, refl, subst, arith}
+use Rattle.std.specs.Prelude.{if◌then◌else◌}
 use Rattle.std.proofs.lemmas.Bool.{lt-ltb, le-ltb}
 use Rattle.bz_model.specs.declared.channel.Move.TheVariants.{Ask, Take, Reply, Got}
 use Rattle.bz_model.specs.declared.expr.Expr.{Expr}
 use Rattle.bz_model.specs.declared.expr.Expr.TheVariants.{Nothing}
-use Rattle.bz_model.specs.Terms.{Store, stored, value_of, IsNarrow}
+use Rattle.bz_model.specs.Terms.{Store, stored, value_of}
 use Rattle.bz_kinds.specs.declared.ports.PortState.{PortState}
 use Rattle.bz_kinds.specs.declared.ports.PortState.TheVariants.{Closed, ClosedDue, Open, OpenDue}
-use Rattle.bz_kinds.specs.Ports.{is_due}
 use Rattle.bz_kinds.specs.declared.row.Leg.{Leg}
 use Rattle.bz_kinds.specs.declared.row.Meet.{Meet}
 use Rattle.bz_kinds.specs.declared.row.Mix.{Mix}
@@ -50,21 +49,6 @@ module _ (leg : Leg) (d : Due) (rides : Option ℕ) (s s' : Store) where
       let q : record { mv = Got; gives = Nothing; into = leg.into } ≡ d = cc in
       subst (λ (d : Due). Made d rides s s' Got rides) q (record { move_is = refl; value_is = refl; kept = kept })
 
--- what is sent is narrow
-pub lead-narrow : (into : ℕ) (answer : Expr) (d : Due) (a : PortState) → lead_due into answer a ≡ Some d → a ≢ ClosedDue → IsNarrow d.gives → IsNarrow answer
-lead-narrow into answer d Closed e ne narrow = absurd (cc)
-lead-narrow into answer d ClosedDue e ne narrow = absurd (ne refl)
-lead-narrow into answer d Open e ne narrow = absurd (cc)
-lead-narrow into answer d OpenDue e ne narrow =
-    let q : d ≡ record { mv = Reply; gives = answer; into = 0 } = cc in
-    subst (λ (d : Due). IsNarrow d.gives) q narrow
-
-pub leg-narrow : (leg : Leg) (d : Due) (a : PortState) → leg_due leg a ≡ Some d → a ≡ ClosedDue → IsNarrow d.gives → IsNarrow leg.gives
-leg-narrow leg d a e is narrow =
-    let f : leg_due leg ClosedDue ≡ Some d = subst (λ a. leg_due leg a ≡ Some d) is e in
-    let q : d ≡ record { mv = Ask; gives = leg.gives; into = 0 } = cc in
-    subst (λ (d : Due). IsNarrow d.gives) q narrow
-
 -- of a row
 pub at-lead : (row : Row) (p : ℕ) (a : PortState) (d : Due) → row_due row p a ≡ Some d → p ≡ 1 → lead_due row.into row.answer a ≡ Some d
 at-lead row p a d e is = subst (λ p. row_due row p a ≡ Some d) is e
@@ -98,55 +82,6 @@ at-branch mix n p a d e le = subst (λ b. (if b then leg_due mix.leg a else lead
 
 pub at-out : (mix : Mix) (n p : ℕ) (a : PortState) (d : Due) → choice_due mix n p a ≡ Some d → n < p → leg_due mix.leg a ≡ Some d
 at-out mix n p a d e lt = subst (λ b. (if b then leg_due mix.leg a else lead_due mix.into mix.answer a) ≡ Some d) (lt-ltb n p lt) e
-
--- a port at which a move is due has a number
-pub some-port : (meet : Meet) (n p : ℕ) (a : PortState) (d : Due) → meeting_due meet n p a ≡ Some d → p ≡ suc (p - 1)
-some-port meet n zero a d e = absurd (cc)
-some-port meet n (suc i) a d e = omega arith
-
--- where a move is due
-lead-is-due : (into : ℕ) (answer : Expr) (a : PortState) (d : Due) → lead_due into answer a ≡ Some d → is_due a ≡ true
-lead-is-due into answer Closed d e = absurd (cc)
-lead-is-due into answer ClosedDue d e = refl
-lead-is-due into answer Open d e = absurd (cc)
-lead-is-due into answer OpenDue d e = refl
-
-leg-is-due : (leg : Leg) (a : PortState) (d : Due) → leg_due leg a ≡ Some d → is_due a ≡ true
-leg-is-due leg Closed d e = absurd (cc)
-leg-is-due leg ClosedDue d e = refl
-leg-is-due leg Open d e = absurd (cc)
-leg-is-due leg OpenDue d e = refl
-
-pub row-is-due : (row : Row) (p : ℕ) (a : PortState) (d : Due) → row_due row p a ≡ Some d → is_due a ≡ true
-row-is-due row zero a d e = absurd (cc)
-row-is-due row (suc zero) a d e = lead-is-due row.into row.answer a d e
-row-is-due row (suc (suc i)) a d e = leg-is-due (leg_of row.legs i) a d e
-
-behind-is-due : (meet : Meet) (n : ℕ) (leg : Option Leg) (a : PortState) (d : Due) → behind_due meet n leg a ≡ Some d → is_due a ≡ true
-behind-is-due meet n None a d e = absurd (cc)
-behind-is-due meet n (Some leg) a d e = leg-is-due leg a d e
-
-pub meeting-is-due : (meet : Meet) (n p : ℕ) (a : PortState) (d : Due) → meeting_due meet n p a ≡ Some d → is_due a ≡ true
-meeting-is-due meet n zero a d e = absurd (cc)
-meeting-is-due meet n (suc i) a d e = cases (nat_lt i n) e
-  where
-    cases : (b : Bool) → (if b then lead_due (into meet n i) (answer meet n i) a else behind_due meet n meet.leg a) ≡ Some d → is_due a ≡ true
-    cases true e = lead-is-due (into meet n i) (answer meet n i) a d e
-    cases false e = behind-is-due meet n meet.leg a d e
-
-pub choice-is-due : (mix : Mix) (n p : ℕ) (a : PortState) (d : Due) → choice_due mix n p a ≡ Some d → is_due a ≡ true
-choice-is-due mix n p a d e = cases (nat_lt n p) e
-  where
-    cases : (b : Bool) → (if b then leg_due mix.leg a else lead_due mix.into mix.answer a) ≡ Some d → is_due a ≡ true
-    cases true e = leg-is-due mix.leg a d e
-    cases false e = lead-is-due mix.into mix.answer a d e
-
--- by an answer, what is due opens a port or closes it
-pub to-open : (b : Bool) (a : PortState) → b ≡ true → MatchBool b (a ≡ ClosedDue) (a ≡ OpenDue) → a ≡ ClosedDue
-to-open b a is opens = subst (λ b. MatchBool b (a ≡ ClosedDue) (a ≡ OpenDue)) is opens
-
-pub to-close : (b : Bool) (a : PortState) → b ≡ false → MatchBool b (a ≡ ClosedDue) (a ≡ OpenDue) → a ≡ OpenDue
-to-close b a is closes = subst (λ b. MatchBool b (a ≡ ClosedDue) (a ≡ OpenDue)) is closes
 
 -- what closes a port opens none
 pub not-opened : (a : PortState) → a ≡ OpenDue → a ≢ ClosedDue

@@ -16,7 +16,7 @@ use Rattle.bz_kinds.specs.Row.{Due}
 use Rattle.bz_kinds.specs.Sense.{move_by, sense}
 use Rattle.bz_kinds.specs.Sense as senses
 use Rattle.bz_kinds.specs.Turn.{CanTurn, IsDueMove}
-use Rattle.bz_kinds.specs.declared.comp.Process.{Process}
+use Rattle.bz_kinds.specs.declared.process.Process.{Process}
 use Rattle.bz_kinds.specs.declared.kept.KeptMeet.{KeptMeet}
 use Rattle.bz_kinds.specs.declared.kept.KeptPlan.{KeptPlan}
 use Rattle.bz_kinds.specs.declared.kept.KeptPlan.TheVariants as plans

@@ -12,7 +12,7 @@ use Rattle.bz_model.specs.declared.channel.Chan.{Chan}
 use Rattle.bz_model.specs.Heads.{Component, Head, Moves, carried}
 use Rattle.bz_model.specs.Processes.{member}
 use Rattle.bz_model.specs.Terms.{Store, stored, value_of}
-use Rattle.bz_kinds.specs.declared.comp.Process.{Process}
+use Rattle.bz_kinds.specs.declared.process.Process.{Process}
 use Rattle.bz_kinds.specs.declared.kept.KeptPlan.{KeptPlan}
 use Rattle.bz_kinds.specs.declared.ports.PortState.{PortState}
 use Rattle.bz_kinds.specs.declared.ports.PortState.TheVariants.{Closed, ClosedDue, Open, OpenDue}
@@ -28,7 +28,7 @@ use Rattle.bz_kinds.specs.Comp.{IsAt, Goes, places, plan_due, todo_of}
 use Rattle.bz_kinds.specs.InTurn as turn
 use Rattle.bz_kinds.specs.Sense.{enclosing, move_by, sense}
 use Rattle.bz_kinds.specs.Ready.{CanGo}
-use Rattle.bz_kinds.specs.Sure.{IsNext, IsSure, WaitsAt}
+use Rattle.bz_kinds.specs.Sure.{HasMove, IsSure, WaitsAt}
 use Rattle.bz_kinds.specs.Turn.{GoesOn, HasGone, HasMade, IsDueMove, KeepsPlan, StaysAt}
 use Rattle.bz_kinds.specs.Onward.{OneWaits, SomeSure, is_sure}
 use Rattle.bz_kinds.proofs.InTurnLaws.{leg_turn, steps-at}
@@ -297,7 +297,7 @@ module _ (c c' : Process) (p : ℕ) (kept : KeepsPlan c c') (gone : HasGone c p 
   after = record { proc = record { todo = todo_of (plan_of c'.plan) c'.size c'.left c'.ports; store = slots_of c'.slots }; chans = chans; open_ports = map is_open c'.ports }
 
   -- it is what the move leaves
-  pub moved : (comp : Component) → record { proc = record { todo = todo_of (plan_of c.plan) c.size c.left c.ports; store = slots_of c.slots }; chans = chans; open_ports = map is_open c.ports } ≡ comp → IsAt (plan_of c.plan) c.size c.left c.ports (slots_of c.slots) → (phase : Phase) (rides : Option ℕ) (mv : Move) (value : Option ℕ) → IsNext comp.proc p mv → IsTrue (allows phase mv) → rides ≡ riding phase → HasMade c p rides c' mv value → Moves comp.proc p phase mv value after.proc
+  pub moved : (comp : Component) → record { proc = record { todo = todo_of (plan_of c.plan) c.size c.left c.ports; store = slots_of c.slots }; chans = chans; open_ports = map is_open c.ports } ≡ comp → IsAt (plan_of c.plan) c.size c.left c.ports (slots_of c.slots) → (phase : Phase) (rides : Option ℕ) (mv : Move) (value : Option ℕ) → HasMove comp.proc p mv → IsTrue (allows phase mv) → rides ≡ riding phase → HasMade c p rides c' mv value → Moves comp.proc p phase mv value after.proc
   moved comp view ok phase rides mv value next may rode has =
       let (h, on, can) = can comp.proc p mv phase next may in
       let due = head-on-due (plan_of c.plan) c.size c.left c.ports (slots_of c.slots) chans comp view ok p h on in

@@ -220,29 +220,6 @@ between_low from to p lt = ap (λ (b : Bool). b && nat_lt p to) (lt-leb from p l
 between_high : (from to p : ℕ) → to ≤ p → between from to p ≡ false
 between_high from to p le = ap (λ (b : Bool). nat_le from p && b) (le-ltb p to le) ∙ no_and (nat_le from p)
 
-pub sense_lead : (p : ℕ) → between 1 2 p ≡ is_told (enclosing p)
-sense_lead zero = between_low 1 2 0 (omega arith)
-sense_lead (suc zero) = between_in 1 2 1 (omega arith) (omega arith)
-sense_lead (suc (suc i)) = between_high 1 2 (suc (suc i)) (omega arith)
-
--- none behind the first word
-told_behind : (p : ℕ) → 2 ≤ p → is_told (enclosing p) ≡ false
-told_behind zero le = absurd (omega (arith, le))
-told_behind (suc zero) le = absurd (omega (arith, le))
-told_behind (suc (suc i)) le = refl
-
-pub lead_behind : (at : ℕ) → 0 < at → (i : ℕ) → i < 64 → (bit_at 0 i == 1) ≡ is_told (enclosing (64 * at + i))
-lead_behind at some i lt = ap (λ (x : ℕ). x == 1) (bit_at-zero i) ∙ sym (told_behind (64 * at + i) (omega (arith, some)))
-
-pub sense_script : (p : ℕ) → between 1 2 p ≡ (p == 1)
-sense_script zero = between_low 1 2 0 (omega arith)
-sense_script (suc zero) = between_in 1 2 1 (omega arith) (omega arith)
-sense_script (suc (suc i)) = let e : (suc (suc i) == 1) ≡ false = grind (arith) in between_high 1 2 (suc (suc i)) (omega arith) ∙ sym e
-
-pub sense_cells : (n to p : ℕ) → p < to → between 1 to p ≡ is_told (sense Cells n p)
-sense_cells n to zero lt = between_low 1 to 0 (omega arith)
-sense_cells n to (suc i) lt = between_in 1 to (suc i) (omega arith) lt
-
 pub sense_signal : (n to p : ℕ) → p < to → (between 1 to p && not (between 2 3 p)) ≡ is_told (sense Signalled n p)
 sense_signal n to zero lt = ap (λ (b : Bool). b && not (between 2 3 0)) (between_low 1 to 0 (omega arith))
 sense_signal n to (suc zero) lt = ap (λ (b : Bool). b && not (between 2 3 1)) (between_in 1 to 1 (omega arith) lt) ∙ ap not (between_low 2 3 1 (omega arith))
@@ -250,41 +227,6 @@ sense_signal n to (suc (suc zero)) lt = ap (λ (b : Bool). b && not (between 2 3
 sense_signal n to (suc (suc (suc i))) lt =
     let p = suc (suc (suc i)) in let e : (suc (suc i) == 1) ≡ false = grind (arith) in
     ap (λ (b : Bool). b && not (between 2 3 p)) (between_in 1 to p (omega arith) lt) ∙ ap not (between_high 2 3 p (omega arith)) ∙ ap not (sym e)
-
-pub sense_choice : (n p : ℕ) → between 0 (n + 1) p ≡ not (nat_lt n p)
-sense_choice n p =
-    elim (cases_lt n p) [
-      | inl lt ↦ between_high 0 (n + 1) p (omega (arith, lt)) ∙ sym (ap not (lt-ltb n p lt))
-      | inr ge ↦ between_in 0 (n + 1) p (omega arith) (omega (arith, ge)) ∙ sym (ap not (le-ltb n p ge))
-    ]
-
-behind_told : (leg : Option Leg) → is_told (behind leg) ≡ false
-behind_told None = refl
-behind_told (Some leg) = refl
-
-pub sense_meeting : (meet : Meet) (n p : ℕ) → between 1 (n + 1) p ≡ is_told (sense (Meeting meet) n p)
-sense_meeting meet n zero = between_low 1 (n + 1) 0 (omega arith)
-sense_meeting meet n (suc i) =
-    elim (cases_lt i n) [
-      | inl lt ↦ between_in 1 (n + 1) (suc i) (omega arith) (omega (arith, lt)) ∙ sym (ap (λ (b : Bool). is_told (if b then Some true else behind meet.leg)) (lt-ltb i n lt))
-      | inr ge ↦ between_high 1 (n + 1) (suc i) (omega (arith, ge)) ∙ sym (ap (λ (b : Bool). is_told (if b then Some true else behind meet.leg)) (le-ltb i n ge) ∙ behind_told meet.leg)
-    ]
-
-pub sense_decision : (n p : ℕ) → between 1 (n + 2) p ≡ is_told (sense Decision n p)
-sense_decision n zero = between_low 1 (n + 2) 0 (omega arith)
-sense_decision n (suc j) =
-    elim (cases_lt n j) [
-      | inl lt ↦ between_high 1 (n + 2) (suc j) (omega (arith, lt)) ∙ sym (ap not (lt-ltb n j lt))
-      | inr ge ↦ between_in 1 (n + 2) (suc j) (omega arith) (omega (arith, ge)) ∙ sym (ap not (le-ltb n j ge))
-    ]
-
-pub sense_bar : (n p : ℕ) → between 1 3 p ≡ is_told (sense Bar n p)
-sense_bar n zero = between_low 1 3 0 (omega arith)
-sense_bar n (suc j) =
-    elim (cases_lt 1 j) [
-      | inl lt ↦ between_high 1 3 (suc j) (omega (arith, lt)) ∙ sym (lt-leb j 1 lt)
-      | inr ge ↦ between_in 1 3 (suc j) (omega arith) (omega (arith, ge)) ∙ sym (le-leb j 1 ge)
-    ]
 
 -- of the plan that it is
 pub sensed_as : (plan plan' : Plan) (n at word : ℕ) → plan ≡ plan' → IsSensed plan' n at word → IsSensed plan n at word

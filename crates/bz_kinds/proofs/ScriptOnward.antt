@@ -10,7 +10,7 @@ use Rattle.bz_kinds.specs.Comp.{Goes}
 use Rattle.bz_kinds.specs.Kept.{plan_of}
 use Rattle.bz_kinds.specs.Riding.{Made}
 use Rattle.bz_kinds.specs.Row.{Due}
-use Rattle.bz_kinds.specs.declared.comp.Process.{Process}
+use Rattle.bz_kinds.specs.declared.process.Process.{Process}
 use Rattle.bz_kinds.specs.declared.row.Plan.{Plan}
 use Rattle.bz_kinds.specs.declared.row.Plan.TheVariants.{OneByOne}
 use Rattle.bz_kinds.specs.declared.ports.PortState.{PortState}

@@ -1,5 +1,6 @@
 -- A move made by its name.
 use Rattle.std.proofs.Common.{◌≡◌, ◌∙◌, ℕ, Option, None, refl, sym, ap, subst, true, IsTrue}
+use Rattle.std.proofs.lemmas.Bool.{false≢true}
 use Rattle.bz_model.specs.declared.channel.Move.{Move}
 use Rattle.bz_model.specs.declared.channel.Move.TheVariants.{Ask, Take, Reply, Got}
 use Rattle.bz_model.specs.declared.channel.Phase.{Phase}
@@ -7,23 +8,12 @@ use Rattle.bz_model.specs.declared.channel.Phase.TheVariants.{Idle, Asked, Taken
 use Rattle.bz_model.specs.declared.expr.Expr.{Expr}
 use Rattle.bz_model.specs.Phases.{allows, incoming}
 use Rattle.bz_model.specs.Terms.{Store}
-use Rattle.bz_model.specs.Heads.{CanMove, Component, HasOneHead, Head, Moves, Proc, Turns, after_head, carried}
-use Rattle.bz_kinds.specs.Sure.{IsNext}
+use Rattle.bz_model.specs.Heads.{CanMove, Moves, Proc, after_head, carried}
+use Rattle.bz_kinds.specs.Riding.{riding}
+use Rattle.bz_kinds.specs.Sure.{HasMove}
 
-pub can : (c : Proc) (p : ℕ) (mv : Move) (phase : Phase) → IsNext c p mv → IsTrue (allows phase mv) → CanMove c p phase
+pub can : (c : Proc) (p : ℕ) (mv : Move) (phase : Phase) → HasMove c p mv → IsTrue (allows phase mv) → CanMove c p phase
 can c p mv phase next may = (next.0, next.1, subst (λ (m : Move). IsTrue (allows phase m)) (sym next.2) may)
-
--- the move that was made is the one that was due
-pub is_move : (c c' : Proc) (p : ℕ) (phase : Phase) (mv made : Move) (v : Option ℕ) → HasOneHead c.todo → IsNext c p mv → Moves c p phase made v c' → made ≡ mv
-is_move c c' p phase mv made v one next moves =
-    let same = one moves.head next.0 moves.on.0 next.1.0 (moves.on.1 ∙ sym next.1.1) in
-    moves.move_is ∙ ap (λ (h : Head). h.move) same ∙ next.2
-
-pub moves_as : (c c' : Proc) (p : ℕ) (phase : Phase) (mv made : Move) (v : Option ℕ) → HasOneHead c.todo → IsNext c p mv → Moves c p phase made v c' → Moves c p phase mv v c'
-moves_as c c' p phase mv made v one next moves = subst (λ (m : Move). Moves c p phase m v c') (is_move c c' p phase mv made v one next moves) moves
-
-pub turns_as : (c c' : Component) (p : ℕ) (phase : Phase) (mv made : Move) (v : Option ℕ) → HasOneHead c.proc.todo → IsNext c.proc p mv → Moves c.proc p phase made v c'.proc → Turns c p made c' → Turns c p mv c'
-turns_as c c' p phase mv made v one next moves turns = subst (λ (m : Move). Turns c p m c') (is_move c.proc c'.proc p phase mv made v one next moves) turns
 
 -- what came in is what rode
 came_asked : (mv : Move) (e : Expr) (s : Store) (r : Option ℕ) → mv ≡ Take → carried mv e s (incoming (Asked r) mv) ≡ r
@@ -85,3 +75,18 @@ asks c c' p phase other v moves = moves_in c c' p phase other Ask v (none_asked 
 
 pub replies : (c c' : Proc) (p : ℕ) (phase other : Phase) (v : Option ℕ) → Moves c p phase Reply v c' → Moves c p other Reply v c'
 replies c c' p phase other v moves = moves_in c c' p phase other Reply v (none_replied other ∙ sym (none_replied phase)) (allowed_replied other) moves
+
+-- and what comes in is what rides, by the phase
+pub takes_in : (c c' : Proc) (p : ℕ) (phase : Phase) (r : Option ℕ) → r ≡ riding phase → IsTrue (allows phase Take) → Moves c p (Asked r) Take r c' → Moves c p phase Take r c'
+takes_in c c' p Idle r rides may moves = absurd (false≢true may)
+takes_in c c' p (Asked v) r rides may moves = subst (λ (w : Option ℕ). Moves c p (Asked w) Take r c') rides moves
+takes_in c c' p Taken r rides may moves = absurd (false≢true may)
+takes_in c c' p (Replied v) r rides may moves = absurd (false≢true may)
+takes_in c c' p Broken r rides may moves = absurd (false≢true may)
+
+pub gets_in : (c c' : Proc) (p : ℕ) (phase : Phase) (r : Option ℕ) → r ≡ riding phase → IsTrue (allows phase Got) → Moves c p (Replied r) Got r c' → Moves c p phase Got r c'
+gets_in c c' p Idle r rides may moves = absurd (false≢true may)
+gets_in c c' p (Asked v) r rides may moves = absurd (false≢true may)
+gets_in c c' p Taken r rides may moves = absurd (false≢true may)
+gets_in c c' p (Replied v) r rides may moves = subst (λ (w : Option ℕ). Moves c p (Replied w) Got r c') rides moves
+gets_in c c' p Broken r rides may moves = absurd (false≢true may)

@@ -4,7 +4,7 @@ use Rattle.std.proofs.lemmas.List.{get_or-set_same, get_or-set_other}
 use Rattle.bz_model.specs.declared.channel.Move.{Move}
 use Rattle.bz_model.specs.Processes.{member}
 use Rattle.bz_model.specs.Terms.{Store}
-use Rattle.bz_kinds.specs.declared.comp.Process.{Process}
+use Rattle.bz_kinds.specs.declared.process.Process.{Process}
 use Rattle.bz_kinds.specs.declared.ports.PortState.{PortState}
 use Rattle.bz_kinds.specs.declared.ports.PortState.TheVariants.{Closed, ClosedDue, Open, OpenDue}
 use Rattle.bz_kinds.specs.declared.row.Plan.{Plan}
@@ -51,9 +51,3 @@ at-once-at plan row is n p a mv e = subst (λ (q : Plan). move_by (sense q n p) 
 
 pub went-at-once : (own c : Process) → own ≡ c → (row : Row) → plan_of c.plan ≡ Together row → (p q left' : ℕ) (w' : List PortState) (s' : Store) → p ≡ q → Steps row own.size own.left own.ports q left' w' → Goes (plan_of c.plan) c.size c.left c.ports p left' w' s'
 went-at-once own c same row is p q left' w' s' at = subst (λ (it : Process). Steps row it.size it.left it.ports q left' w' → Goes (plan_of c.plan) c.size c.left c.ports p left' w' s') (sym same) (λ st. whole-step (plan_of c.plan) row is c.size c.left c.ports p left' w' s' (steps-at row c.size c.left c.ports p q left' w' at st))
-
-pub at-once-sure : (own c : Process) → own ≡ c → (row : Row) → plan_of c.plan ≡ Together row → (w' : List PortState) → SomeSure enclosing w' → SomeSure (sense (plan_of own.plan) own.size) w'
-at-once-sure own c same row is w' sure = subst (λ (it : Process). SomeSure (sense (plan_of it.plan) it.size) w') (sym same) (subst (λ (q : Plan). SomeSure (sense q c.size) w') (sym is) sure)
-
-pub at-once-waits : (own c : Process) → own ≡ c → (row : Row) → plan_of c.plan ≡ Together row → (w' : List PortState) (p : ℕ) → p ≡ 1 → OneWaits enclosing w' 1 → OneWaits (sense (plan_of own.plan) own.size) w' p
-at-once-waits own c same row is w' p one waits = subst (λ (it : Process). OneWaits (sense (plan_of it.plan) it.size) w' p) (sym same) (subst (λ (q : Plan). OneWaits (sense q c.size) w' p) (sym is) (subst (λ q. OneWaits enclosing w' q) (sym one) waits))

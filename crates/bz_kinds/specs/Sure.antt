@@ -5,8 +5,8 @@ use Rattle.bz_model.specs.Heads.{Component, Head, Proc, IsHeadOn}
 use Rattle.bz_kinds.specs.Ready.{CanGo}
 
 -- a process has this move at port p
-abbrev pub IsNext : Proc → ℕ → Move → Type 0
-IsNext c p mv = (h : Head) × IsHeadOn c p h × (h.move ≡ mv)
+abbrev pub HasMove : Proc → ℕ → Move → Type 0
+HasMove c p mv = (h : Head) × IsHeadOn c p h × (h.move ≡ mv)
 
 -- it can move at one of its ports, whatever is there
 abbrev pub IsSure : Component → Type 0

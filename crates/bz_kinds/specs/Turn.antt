@@ -1,7 +1,7 @@
 -- A move of a component's process, as the code keeps it: when it can be made, and what it leaves.
 use Rattle.std.specs.Prelude.{◌≡◌, ◌<◌, ◌^◌, ℕ, Option, Some, ⊤}
 use Rattle.bz_model.specs.declared.channel.Move.{Move}
-use Rattle.bz_kinds.specs.declared.comp.Process.{Process}
+use Rattle.bz_kinds.specs.declared.process.Process.{Process}
 use Rattle.bz_kinds.specs.Ports.{state_at}
 use Rattle.bz_kinds.specs.Onward.{OneWaits, SomeSure}
 use Rattle.bz_kinds.specs.declared.row.Plan.{Plan}

@@ -6,32 +6,31 @@ ghost use Rattle.bz_model.specs.declared.error.KindError.TheVariants.{Memory};
 ghost use Rattle.bz_model.specs.Heads.{Head, IsHeadOn, CanMove, Moves, Proc, Turns, HasOneHead, carried, opens, open_at};
 ghost use Rattle.bz_model.specs.Terms.{IsNarrow};
 ghost use Rattle.bz_model.specs.Rows.{MeetsRow};
-ghost use Rattle.bz_model.specs.Processes.{member, start_of};
+ghost use Rattle.bz_model.specs.Processes.{start_of};
 ghost use Rattle.bz_model.specs.Widths.{Fitted, FitsAt, HoldsAt};
 ghost use Rattle.bz_kinds.specs.declared.ports.PortState.TheVariants.{Closed, ClosedDue};
 ghost use Rattle.bz_kinds.specs.Row.{seen};
 ghost use Rattle.bz_kinds.specs.Moves.{AreEnabled};
 ghost use Rattle.bz_kinds.specs.Ready.{AreReady, CanGo, NoneDue};
-ghost use Rattle.bz_kinds.specs.Sure.{IsNext, IsSure, WaitsAt};
+ghost use Rattle.bz_kinds.specs.Sure.{HasMove, IsSure, WaitsAt};
 ghost use Rattle.bz_kinds.specs.Start.{BeginsAt, IsAllDue, IsDueBut, AreMembersDue};
 ghost use Rattle.bz_kinds.specs.Kept.{plan_of};
 ghost use Rattle.bz_kinds.specs.KeptLists.{slots_of};
 ghost use Rattle.bz_model.specs.declared.channel.Phase.{Phase};
-ghost use Rattle.bz_kinds.specs.Riding.{held, riding, taken};
+ghost use Rattle.bz_kinds.specs.Riding.{riding, taken};
 ghost use Rattle.bz_kinds.specs.Comp.{IsFor, plan_due};
-ghost use Rattle.bz_kinds.specs.Turn.{CanTurn, GoesOn, IsDueMove, IsRare, HasMade, HasGone, KeepsPlan, StaysAt};
 
 use crate::kept::KeptPlan;
 use crate::kept_lists::{KeptChans, KeptSlots};
 use crate::move_iter::MoveIter;
 use crate::ports::{PortState, Ports};
+use crate::process::Process;
 use crate::row::{DueMove, Script};
 use crate::same::is_same_plan;
 use crate::sense::{is_active_behind, move_at, sense_word, sense_word_here};
 use crate::shape::{CALLS, FETCHES, PUSHES, shape_of};
 use crate::{
-    bar, cells, choice, decision, enclosed, in_turn, indexed, meeting, once, script, select,
-    signalled, together,
+    bar, cells, choice, decision, enclosed, indexed, meeting, process, script, select, signalled,
 };
 use bz_model::{Chan, Kind, KindError, Move, Phase, Value};
 use std::alloc::{AllocError, Global};
@@ -45,24 +44,11 @@ pub struct Comp {
     chans: KeptChans,
 }
 
-// A component's process: its plan and the plan's size, and where it is in it, by its ports, a counter and the values it keeps.
-// `passive` has a bit for each of the first 64 ports of the plan.
-#[derive(Drop)]
-struct Process {
-    ports: Ports,
-    plan: KeptPlan,
-    size: u32,
-    left: u32,
-    passive: u64,
-    slots: KeptSlots,
-}
-
 impl Model for Comp {
     ghost use Rattle.std.specs.Prelude.{◌≡◌, ◌<◌, ◌^◌, ◌-◌, ℕ, suc, length, map};
     ghost use Rattle.std.specs.Coded.{codes};
     ghost use Rattle.bz_model.specs.Heads.{Component};
     ghost use Rattle.bz_model.specs.Codes.{term_code};
-    ghost use Rattle.bz_model.specs.Processes.{member};
     ghost use Rattle.bz_model.specs.Widths.{Sends};
 
     ghost Value = { Component };
@@ -142,7 +128,6 @@ pub fn foresee(comp: &Comp, port: u32, phase: Phase) -> Option<(Move, Option<Val
 }
 
 /// Makes the move at a port whose channel has this phase: the move, and the value that it carries.
-#[inline(always)]
 pub fn apply(comp: &mut Comp, port: u32, phase: Phase) -> (Move, Option<Value>)
     requires { CanMove comp.old.proc port phase }
     ensures moves { Moves comp.old.proc port phase result.0 result.1 comp.new.proc }
@@ -151,470 +136,72 @@ pub fn apply(comp: &mut Comp, port: u32, phase: Phase) -> (Move, Option<Value>)
     ensures chans { comp.new.chans ≡ comp.old.chans }
     ensures fits { Fitted comp.old → HoldsAt comp.old.chans port phase → FitsAt comp.old.chans port result.0 result.1 × Fitted comp.new }
 {
-    fire(comp, port, riding(phase))
-}
-
-/// Makes the move at a port where it can be made: the move, and the value that it carries. `rides` is the value that rides
-/// on the port's channel.
-#[inline(always)]
-pub fn fire(comp: &mut Comp, port: u32, rides: Option<Value>) -> (Move, Option<Value>)
-    requires { (phase : Phase) × CanMove comp.old.proc port phase × (rides ≡ riding phase) }
-    ensures moves { (phase : Phase) → CanMove comp.old.proc port phase → rides ≡ riding phase →
-        Moves comp.old.proc port phase result.0 result.1 comp.new.proc }
-    ensures turns { Turns comp.old port result.0 comp.new }
-    ensures one { HasOneHead comp.old.proc.todo }
-    ensures chans { comp.new.chans ≡ comp.old.chans }
-    ensures fits { (phase : Phase) → CanMove comp.old.proc port phase → rides ≡ riding phase →
-        Fitted comp.old → HoldsAt comp.old.chans port phase → FitsAt comp.old.chans port result.0 result.1 × Fitted comp.new }
-{
-    turn(&mut comp.proc, port, rides)
+    let rides = riding(phase);
+    match next(comp, port) {
+        Some(Move::Ask) => (Move::Ask, ask(comp, port).0),
+        Some(Move::Take) => {
+            take(comp, port, rides);
+            (Move::Take, rides)
+        }
+        Some(Move::Reply) => (Move::Reply, reply(comp, port).0),
+        Some(Move::Got) => {
+            got(comp, port, rides);
+            (Move::Got, rides)
+        }
+        None => unreachable!(),
+    }
 }
 
 /// Asks at a port where a request is due: the value that it carries, and whether the component is known to wait there alone then.
 #[inline(always)]
 pub fn ask(comp: &mut Comp, port: u32) -> (Option<Value>, bool)
-    requires { IsNext comp.old.proc port Move.Ask }
+    requires { HasMove comp.old.proc port Move.Ask }
     ensures moves { (phase : Phase) → Moves comp.old.proc port phase Move.Ask result.0 comp.new.proc }
     ensures turns { Turns comp.old port Move.Ask comp.new }
     ensures one { HasOneHead comp.old.proc.todo }
     ensures chans { comp.new.chans ≡ comp.old.chans }
     ensures waits { IsTrue result.1 → WaitsAt comp.new.proc port }
 {
-    turn_ask(&mut comp.proc, port)
+    process::ask(&mut comp.proc, port)
 }
 
 /// Takes the request at a port where that is due, with the value that rides with it: whether the component is known to move then.
 #[inline(always)]
 pub fn take(comp: &mut Comp, port: u32, rides: Option<Value>) -> bool
-    requires { IsNext comp.old.proc port Move.Take }
+    requires { HasMove comp.old.proc port Move.Take }
     ensures moves { Moves comp.old.proc port (Phase.Asked rides) Move.Take rides comp.new.proc }
     ensures turns { Turns comp.old port Move.Take comp.new }
     ensures one { HasOneHead comp.old.proc.todo }
     ensures chans { comp.new.chans ≡ comp.old.chans }
     ensures sure { IsTrue result → IsSure comp.new }
 {
-    turn_take(&mut comp.proc, port, rides)
+    process::take(&mut comp.proc, port, rides)
 }
 
 /// Replies at a port where that is due: the value that it carries, and whether the component is known to wait there alone then.
 #[inline(always)]
 pub fn reply(comp: &mut Comp, port: u32) -> (Option<Value>, bool)
-    requires { IsNext comp.old.proc port Move.Reply }
+    requires { HasMove comp.old.proc port Move.Reply }
     ensures moves { (phase : Phase) → Moves comp.old.proc port phase Move.Reply result.0 comp.new.proc }
     ensures turns { Turns comp.old port Move.Reply comp.new }
     ensures one { HasOneHead comp.old.proc.todo }
     ensures chans { comp.new.chans ≡ comp.old.chans }
     ensures waits { IsTrue result.1 → WaitsAt comp.new.proc port }
 {
-    turn_reply(&mut comp.proc, port)
+    process::reply(&mut comp.proc, port)
 }
 
 /// Gets the reply at a port where that is due, with the value that rides with it: whether the component is known to move then.
 #[inline(always)]
 pub fn got(comp: &mut Comp, port: u32, rides: Option<Value>) -> bool
-    requires { IsNext comp.old.proc port Move.Got }
+    requires { HasMove comp.old.proc port Move.Got }
     ensures moves { Moves comp.old.proc port (Phase.Replied rides) Move.Got rides comp.new.proc }
     ensures turns { Turns comp.old port Move.Got comp.new }
     ensures one { HasOneHead comp.old.proc.todo }
     ensures chans { comp.new.chans ≡ comp.old.chans }
     ensures sure { IsTrue result → IsSure comp.new }
 {
-    turn_got(&mut comp.proc, port, rides)
-}
-
-// Asks at a port where a request is due.
-#[inline(always)]
-fn turn_ask(proc: &mut Process, port: u32) -> (Option<Value>, bool)
-    requires due { CanTurn proc.old port }
-    requires ask { IsDueMove proc.old port Move.Ask }
-    ensures made { HasMade proc.old port None proc.new Move.Ask result.0 }
-    ensures goes { HasGone proc.old port proc.new }
-    ensures kept { KeepsPlan proc.old proc.new }
-    ensures waits { IsTrue result.1 → StaysAt proc.new port }
-{
-    match &proc.plan {
-        KeptPlan::CallsInTurn => {
-            in_turn::ask(&mut proc.ports, &mut proc.left, proc.size, port - 2);
-            (None, true)
-        }
-        KeptPlan::PushesInTurn | KeptPlan::FetchesInTurn | KeptPlan::OwnInTurn(_) => {
-            in_turn::ask(&mut proc.ports, &mut proc.left, proc.size, port - 2);
-            (proc.slots.worth(proc.plan.row().legs.gives(port - 2)), true)
-        }
-        KeptPlan::CallsTogether => {
-            together::ask(&mut proc.ports, &mut proc.left, proc.size, port - 2);
-            (None, false)
-        }
-        KeptPlan::PushesTogether | KeptPlan::OwnTogether(_) => {
-            together::ask(&mut proc.ports, &mut proc.left, proc.size, port - 2);
-            let gives = proc.plan.row().legs.gives(port - 2);
-            (proc.slots.worth(gives), false)
-        }
-        KeptPlan::Loop => {
-            script::ask(Script::Loop, &mut proc.ports, &mut proc.left, 2);
-            (None, true)
-        }
-        KeptPlan::OneByOne(script) => {
-            script::ask(*script, &mut proc.ports, &mut proc.left, port);
-            (None, true)
-        }
-        KeptPlan::Cells => unreachable!(),
-        KeptPlan::Choice(mix) => {
-            choice::ask(mix.get(), &mut proc.ports, proc.size, proc.left - 1);
-            (proc.slots.worth(&mix.get().leg.gives), true)
-        }
-        KeptPlan::Meeting(meet) => {
-            let Some(leg) = &meet.get().leg else {
-                unreachable!()
-            };
-            meeting::ask(meet.get(), &mut proc.ports, &mut proc.left, proc.size);
-            (proc.slots.worth(&leg.gives), true)
-        }
-        KeptPlan::Once(_)
-        | KeptPlan::Select(_)
-        | KeptPlan::Indexed(_)
-        | KeptPlan::Signalled
-        | KeptPlan::Decision
-        | KeptPlan::Bar => {
-            let (_, value) = turn_far(proc, port, None);
-            (value, false)
-        }
-    }
-}
-
-// Takes the request at a port where that is due. Of what never carries a value the slots need not be looked up in its row.
-#[inline(always)]
-fn turn_take(proc: &mut Process, port: u32, rides: Option<Value>) -> bool
-    requires due { CanTurn proc.old port }
-    requires take { IsDueMove proc.old port Move.Take }
-    ensures made { HasMade proc.old port rides proc.new Move.Take rides }
-    ensures goes { HasGone proc.old port proc.new }
-    ensures kept { KeepsPlan proc.old proc.new }
-    ensures sure { IsTrue result → GoesOn proc.new }
-{
-    match &proc.plan {
-        KeptPlan::CallsInTurn => {
-            let (ports, left, slots) = (&mut proc.ports, &mut proc.left, &mut proc.slots);
-            slots.keep(1, rides);
-            in_turn::take(ports, left, proc.size);
-            true
-        }
-        KeptPlan::PushesInTurn | KeptPlan::FetchesInTurn | KeptPlan::OwnInTurn(_) => {
-            let (ports, left, slots) = (&mut proc.ports, &mut proc.left, &mut proc.slots);
-            slots.keep(proc.plan.row().into, rides);
-            in_turn::take(ports, left, proc.size);
-            true
-        }
-        KeptPlan::CallsTogether | KeptPlan::PushesTogether | KeptPlan::OwnTogether(_) => {
-            let (ports, left, slots) = (&mut proc.ports, &mut proc.left, &mut proc.slots);
-            slots.keep(proc.plan.row().into, rides);
-            together::take(ports, left, proc.size);
-            true
-        }
-        KeptPlan::Loop => {
-            proc.slots.keep(1, rides);
-            script::take(Script::Loop, &mut proc.ports, &mut proc.left);
-            true
-        }
-        KeptPlan::OneByOne(script) => {
-            proc.slots.keep(script::taken_into(*script), rides);
-            script::take(*script, &mut proc.ports, &mut proc.left);
-            script::goes_round(*script)
-        }
-        KeptPlan::Cells => {
-            cells::keep(&mut proc.slots, port, rides);
-            cells::take(&mut proc.ports, proc.size, port);
-            true
-        }
-        KeptPlan::Choice(mix) => {
-            let (ports, left, slots) = (&mut proc.ports, &mut proc.left, &mut proc.slots);
-            slots.keep(mix.get().into, rides);
-            choice::take(mix.get(), ports, left, proc.size, port - 1);
-            true
-        }
-        KeptPlan::Meeting(meet) => {
-            let (ports, left, slots) = (&mut proc.ports, &mut proc.left, &mut proc.slots);
-            slots.keep(meeting::into(meet.get(), proc.size, port - 1), rides);
-            meeting::take(meet.get(), ports, left, proc.size, port - 1);
-            false
-        }
-        KeptPlan::Once(_)
-        | KeptPlan::Select(_)
-        | KeptPlan::Indexed(_)
-        | KeptPlan::Signalled
-        | KeptPlan::Decision
-        | KeptPlan::Bar => {
-            let (_, _) = turn_far(proc, port, rides);
-            false
-        }
-    }
-}
-
-// Replies at a port where that is due.
-#[inline(always)]
-fn turn_reply(proc: &mut Process, port: u32) -> (Option<Value>, bool)
-    requires due { CanTurn proc.old port }
-    requires reply { IsDueMove proc.old port Move.Reply }
-    ensures made { HasMade proc.old port None proc.new Move.Reply result.0 }
-    ensures goes { HasGone proc.old port proc.new }
-    ensures kept { KeepsPlan proc.old proc.new }
-    ensures waits { IsTrue result.1 → StaysAt proc.new port }
-{
-    match &proc.plan {
-        KeptPlan::CallsInTurn => {
-            in_turn::reply(&mut proc.ports, &mut proc.left, proc.size);
-            (None, true)
-        }
-        KeptPlan::PushesInTurn | KeptPlan::FetchesInTurn | KeptPlan::OwnInTurn(_) => {
-            in_turn::reply(&mut proc.ports, &mut proc.left, proc.size);
-            (proc.slots.worth(&proc.plan.row().answer), true)
-        }
-        KeptPlan::CallsTogether | KeptPlan::PushesTogether | KeptPlan::OwnTogether(_) => {
-            together::reply(&mut proc.ports, &mut proc.left, proc.size);
-            (proc.slots.worth(&proc.plan.row().answer), true)
-        }
-        KeptPlan::Loop => {
-            script::reply(Script::Loop, &mut proc.ports, &mut proc.left);
-            (None, true)
-        }
-        KeptPlan::OneByOne(script) => {
-            script::reply(*script, &mut proc.ports, &mut proc.left);
-            (None, true)
-        }
-        KeptPlan::Cells => {
-            cells::reply(&mut proc.ports, proc.size, port);
-            (cells::answer(&proc.slots, port), false)
-        }
-        KeptPlan::Choice(mix) => {
-            let (ports, left) = (&mut proc.ports, &mut proc.left);
-            choice::reply(mix.get(), ports, left, proc.size, port - 1);
-            (proc.slots.worth(&mix.get().answer), false)
-        }
-        KeptPlan::Meeting(meet) => {
-            let (ports, left) = (&mut proc.ports, &mut proc.left);
-            meeting::reply(meet.get(), ports, left, proc.size, port - 1);
-            let answer = meeting::answer(meet.get(), proc.size, port - 1);
-            (proc.slots.worth(answer), false)
-        }
-        KeptPlan::Once(_)
-        | KeptPlan::Select(_)
-        | KeptPlan::Indexed(_)
-        | KeptPlan::Signalled
-        | KeptPlan::Decision
-        | KeptPlan::Bar => {
-            let (_, value) = turn_far(proc, port, None);
-            (value, false)
-        }
-    }
-}
-
-// Gets the reply at a port where that is due.
-#[inline(always)]
-fn turn_got(proc: &mut Process, port: u32, rides: Option<Value>) -> bool
-    requires due { CanTurn proc.old port }
-    requires got { IsDueMove proc.old port Move.Got }
-    ensures made { HasMade proc.old port rides proc.new Move.Got rides }
-    ensures goes { HasGone proc.old port proc.new }
-    ensures kept { KeepsPlan proc.old proc.new }
-    ensures sure { IsTrue result → GoesOn proc.new }
-{
-    match &proc.plan {
-        KeptPlan::CallsInTurn => {
-            let (ports, left, slots) = (&mut proc.ports, &mut proc.left, &mut proc.slots);
-            slots.keep(1, rides);
-            in_turn::got(ports, left, proc.size, port - 2);
-            true
-        }
-        KeptPlan::PushesInTurn | KeptPlan::FetchesInTurn | KeptPlan::OwnInTurn(_) => {
-            let (ports, left, slots) = (&mut proc.ports, &mut proc.left, &mut proc.slots);
-            slots.keep(proc.plan.row().legs.slot(port - 2), rides);
-            in_turn::got(ports, left, proc.size, port - 2);
-            true
-        }
-        KeptPlan::CallsTogether => {
-            let (ports, left, slots) = (&mut proc.ports, &mut proc.left, &mut proc.slots);
-            slots.keep(1, rides);
-            together::got(ports, left, proc.size, port - 2);
-            false
-        }
-        KeptPlan::PushesTogether | KeptPlan::OwnTogether(_) => {
-            let (ports, left, slots) = (&mut proc.ports, &mut proc.left, &mut proc.slots);
-            slots.keep(proc.plan.row().legs.slot(port - 2), rides);
-            together::got(ports, left, proc.size, port - 2);
-            false
-        }
-        KeptPlan::Loop => {
-            let (ports, left, slots) = (&mut proc.ports, &mut proc.left, &mut proc.slots);
-            slots.keep(1, rides);
-            script::got(Script::Loop, ports, left, port, slots);
-            true
-        }
-        KeptPlan::OneByOne(script) => {
-            let (ports, left, slots) = (&mut proc.ports, &mut proc.left, &mut proc.slots);
-            slots.keep(script::got_into(*script, port), rides);
-            script::got(*script, ports, left, port, slots);
-            true
-        }
-        KeptPlan::Cells => unreachable!(),
-        KeptPlan::Choice(mix) => {
-            let (ports, left, slots) = (&mut proc.ports, &mut proc.left, &mut proc.slots);
-            slots.keep(mix.get().leg.into, rides);
-            choice::got(mix.get(), ports, proc.size, *left - 1);
-            true
-        }
-        KeptPlan::Meeting(meet) => {
-            let (ports, left, slots) = (&mut proc.ports, &mut proc.left, &mut proc.slots);
-            let Some(leg) = &meet.get().leg else {
-                unreachable!()
-            };
-            slots.keep(leg.into, rides);
-            meeting::got(meet.get(), ports, left, proc.size);
-            true
-        }
-        KeptPlan::Once(_)
-        | KeptPlan::Select(_)
-        | KeptPlan::Indexed(_)
-        | KeptPlan::Signalled
-        | KeptPlan::Decision
-        | KeptPlan::Bar => {
-            let (_, _) = turn_far(proc, port, rides);
-            false
-        }
-    }
-}
-
-// Makes the move that is due at a port. Of the families that most moves are of, a move is told, sent and followed by the ports
-// in one look at the port. Each arm borrows its own fields, so that no address is worked out before the plan is known.
-#[inline(always)]
-fn turn(proc: &mut Process, port: u32, rides: Option<Value>) -> (Move, Option<Value>)
-    requires { CanTurn proc.old port }
-    ensures made { HasMade proc.old port rides proc.new result.0 result.1 }
-    ensures goes { HasGone proc.old port proc.new }
-    ensures kept { KeepsPlan proc.old proc.new }
-{
-    match &proc.plan {
-        KeptPlan::CallsInTurn
-        | KeptPlan::PushesInTurn
-        | KeptPlan::FetchesInTurn
-        | KeptPlan::OwnInTurn(_) => {
-            let (ports, left, slots) = (&mut proc.ports, &mut proc.left, &mut proc.slots);
-            in_turn::fire(proc.plan.row(), ports, left, proc.size, port, slots, rides)
-        }
-        KeptPlan::CallsTogether | KeptPlan::PushesTogether | KeptPlan::OwnTogether(_) => {
-            let (ports, left, slots) = (&mut proc.ports, &mut proc.left, &mut proc.slots);
-            together::fire(proc.plan.row(), ports, left, proc.size, port, slots, rides)
-        }
-        KeptPlan::Cells => cells::fire(&mut proc.ports, proc.size, port, &mut proc.slots, rides),
-        KeptPlan::Loop => {
-            let (ports, left, slots) = (&mut proc.ports, &mut proc.left, &mut proc.slots);
-            script::go_round(ports, left, port, slots, rides)
-        }
-        KeptPlan::OneByOne(script) => {
-            let (ports, left, slots) = (&mut proc.ports, &mut proc.left, &mut proc.slots);
-            script::fire(*script, ports, left, port, slots, rides)
-        }
-        KeptPlan::Meeting(meet) => {
-            let (ports, left, slots) = (&mut proc.ports, &mut proc.left, &mut proc.slots);
-            meeting::fire(meet.get(), ports, left, proc.size, port, slots, rides)
-        }
-        KeptPlan::Choice(mix) => {
-            let (ports, left, slots) = (&mut proc.ports, &mut proc.left, &mut proc.slots);
-            choice::fire(mix.get(), ports, left, proc.size, port, slots, rides)
-        }
-        KeptPlan::Once(_)
-        | KeptPlan::Select(_)
-        | KeptPlan::Indexed(_)
-        | KeptPlan::Signalled
-        | KeptPlan::Decision
-        | KeptPlan::Bar => turn_far(proc, port, rides),
-    }
-}
-
-// The same of a plan that few moves are of. What is called is small in its caller: the value goes there and back by its place.
-#[inline(always)]
-fn turn_far(proc: &mut Process, port: u32, rides: Option<Value>) -> (Move, Option<Value>)
-    requires rare { IsRare (plan_of proc.old.plan) }
-    requires due { CanTurn proc.old port }
-    ensures made { HasMade proc.old port rides proc.new result.0 result.1 }
-    ensures goes { HasGone proc.old port proc.new }
-    ensures kept { KeepsPlan proc.old proc.new }
-{
-    let (is_there, mut value) = parts(rides);
-    let (mv, carries) = turn_held(proc, port, is_there, &mut value);
-    (mv, held(carries, value))
-}
-
-// The same with the value that rides in `value`, if `rides`, and then what is carried in it, if the second answer is true.
-#[inline(never)]
-fn turn_held(proc: &mut Process, port: u32, rides: bool, value: &mut Value) -> (Move, bool)
-    requires rare { IsRare (plan_of proc.old.plan) }
-    requires due { CanTurn proc.old port }
-    ensures made { HasMade proc.old port (held rides value.old) proc.new result.0 (held result.1 value.new) }
-    ensures goes { HasGone proc.old port proc.new }
-    ensures kept { KeepsPlan proc.old proc.new }
-{
-    let before = held(rides, *value);
-    let (mv, carried) = turn_rare(proc, port, before);
-    let (carries, after) = parts(carried);
-    *value = after;
-    (mv, carries)
-}
-
-// Whether there is a value, and which.
-#[inline]
-fn parts(value: Option<Value>) -> (bool, Value)
-    ensures { held result.0 result.1 ≡ value }
-{
-    match value {
-        Some(value) => (true, value),
-        None => (false, 0),
-    }
-}
-
-// The value, if it is there.
-#[inline]
-fn held(is_there: bool, value: Value) -> Option<Value>
-    ensures { result ≡ held is_there value }
-{
-    if is_there { Some(value) } else { None }
-}
-
-// The same with the value in hand. Each arm borrows its own fields, as in `turn`.
-#[inline(always)]
-fn turn_rare(proc: &mut Process, port: u32, rides: Option<Value>) -> (Move, Option<Value>)
-    requires rare { IsRare (plan_of proc.old.plan) }
-    requires due { CanTurn proc.old port }
-    ensures made { HasMade proc.old port rides proc.new result.0 result.1 }
-    ensures goes { HasGone proc.old port proc.new }
-    ensures kept { KeepsPlan proc.old proc.new }
-{
-    match &proc.plan {
-        KeptPlan::Once(row) => {
-            let (ports, left, slots) = (&mut proc.ports, &mut proc.left, &mut proc.slots);
-            once::fire(row.get(), ports, left, proc.size, port, slots, rides)
-        }
-        KeptPlan::Select(spans) => {
-            let (ports, left, slots) = (&mut proc.ports, &mut proc.left, &mut proc.slots);
-            select::fire(spans, ports, left, proc.size, port, slots, rides)
-        }
-        KeptPlan::Indexed(spans) => {
-            let (ports, left, slots) = (&mut proc.ports, &mut proc.left, &mut proc.slots);
-            indexed::fire(spans, ports, left, proc.size, port, slots, rides)
-        }
-        KeptPlan::Signalled => {
-            let (ports, slots) = (&mut proc.ports, &mut proc.slots);
-            signalled::fire(ports, proc.size, port, slots, rides)
-        }
-        KeptPlan::Decision => {
-            let (ports, left, slots) = (&mut proc.ports, &mut proc.left, &mut proc.slots);
-            decision::fire(ports, left, proc.size, port, slots, rides)
-        }
-        KeptPlan::Bar => {
-            let (ports, left, slots) = (&mut proc.ports, &mut proc.left, &mut proc.slots);
-            bar::fire(ports, left, proc.size, port, slots, rides)
-        }
-        _ => unreachable!(),
-    }
+    process::got(&mut comp.proc, port, rides)
 }
 
 // The value that rides on a channel in this phase.

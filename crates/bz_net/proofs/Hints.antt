@@ -9,7 +9,7 @@ use Rattle.bz_model.specs.declared.channel.Phase.{Phase}
 use Rattle.bz_model.specs.declared.channel.Phase.TheVariants.{Idle, Asked, Taken, Replied, Broken}
 use Rattle.bz_model.specs.Heads.{Component, Proc}
 use Rattle.bz_model.specs.Nets.{Site, StepsAt, chan_at, passive_at}
-use Rattle.bz_kinds.specs.Sure.{IsNext, WaitsAt}
+use Rattle.bz_kinds.specs.Sure.{HasMove, WaitsAt}
 use Rattle.bz_net.specs.Due.{HasStep, next_of}
 use Rattle.bz_net.specs.Keeping.{comp_at, no_comp, phase_in, state_of}
 use Rattle.bz_net.specs.Sides.{answers, sends}
@@ -41,10 +41,10 @@ module _ (sites : List Site) (phases : List Phase) (comps : List Component) (her
   step : (value : Option ℕ) × HasStep sites (state_of phases comps) c p k mv value
   step = step_next sites phases comps heres sighted c p k (passive_at sites c p) (record { is_port = steps.is_port; on = sym on; sense = refl }) turning mv steps next
 
-  pub has_next : IsNext (comp_at comps c).proc p mv
+  pub has_next : HasMove (comp_at comps c).proc p mv
   has_next =
       let (value, (last, made)) = step in
-      subst (λ (q : Proc). IsNext q p mv) (proc_is phases comps c) (made.moves.head, made.moves.on, sym made.moves.move_is)
+      subst (λ (q : Proc). HasMove q p mv) (proc_is phases comps c) (made.moves.head, made.moves.on, sym made.moves.move_is)
 
   side : answers mv ≡ passive_at sites c p
   side =
@@ -59,11 +59,11 @@ module _ (sites : List Site) (phases : List Phase) (comps : List Component) (her
       ∙ here_is (phase_in phases k) mv next
 
   -- by its node
-  pub next_read : (x : Component) → x ≡ get_or comps (c - 1) x → IsNext x.proc p mv
+  pub next_read : (x : Component) → x ≡ get_or comps (c - 1) x → HasMove x.proc p mv
   next_read x is =
       let from = steps.is_port.comp_from in let to = steps.is_port.comp_to in let n = sighted.comps_len in
       let same : x ≡ comp_at comps c = get_or_read comps (c - 1) x (omega (arith, from, to, n)) is no_comp in
-      subst (λ (y : Component). IsNext y.proc p mv) (sym same) has_next
+      subst (λ (y : Component). HasMove y.proc p mv) (sym same) has_next
 
   pub told_read : (h : List ℕ) → h ≡ get_or heres (c - 1) h → flag_of h p ≡ not (sends mv)
   told_read h is =

@@ -5,12 +5,8 @@ use Rattle.bz_model.specs.declared.channel.Move.{Move}
 use Rattle.bz_model.specs.declared.channel.Move.TheVariants.{Ask, Take, Reply, Got}
 use Rattle.bz_model.specs.declared.channel.Phase.{Phase}
 use Rattle.bz_model.specs.declared.channel.Phase.TheVariants.{Idle, Asked, Taken, Replied, Broken}
-use Rattle.bz_model.specs.Heads.{Head, Proc, IsHeadOn}
 use Rattle.bz_model.specs.Nets.{Site, State, IsPort, Step, StepsAt, proc_at}
-
--- a process has this move at a port
-abbrev pub HasMove : Proc → ℕ → Move → Type 0
-HasMove proc p mv = (h : Head) × IsHeadOn proc p h × (h.move ≡ mv)
+pub use Rattle.bz_kinds.specs.Sure.{HasMove}
 
 -- the move that component c has at port p, or none where it has none there or there is no such port
 abbrev pub TellsDue : List Site → State → ℕ → ℕ → Option Move → Type 0

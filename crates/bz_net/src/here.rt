@@ -141,11 +141,15 @@ fn can_go_far(comp: &Comp, here: &PortBits, port: u32) -> bool
     requires near { (p : ℕ) → p < 64 → CanGo comp.now.proc p (flag_of here.now p) → ⊥ }
     ensures { MatchBool result (Goes comp.now here.now) (NoneGoes comp.now here.now) }
 {
-    let at = port / 64;
+    let at = port as usize / 64;
     if at > 0 {
-        let word = far_word(comp, at, here.word(at as usize));
+        let word = far_word(comp, at as u32, here.word(at));
         if word != 0 {
             return true;
+        }
+        let next = next_due(comp, 1);
+        if next == at {
+            return lowest_from(comp, here, next + 1).is_some();
         }
     }
     lowest_far(comp, here).is_some()

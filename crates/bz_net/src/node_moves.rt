@@ -8,7 +8,7 @@ ghost use Rattle.bz_model.specs.Nets.{StepsAt, chan_at};
 ghost use Rattle.bz_flat.specs.Flats.{site_of};
 ghost use Rattle.bz_flat.specs.Wires.{StandsIn, ends_in};
 ghost use Rattle.bz_kinds.specs.Riding.{riding};
-ghost use Rattle.bz_kinds.specs.Sure.{IsNext};
+ghost use Rattle.bz_kinds.specs.Sure.{HasMove};
 ghost use Rattle.bz_net.specs.ChanRow.{InRow};
 ghost use Rattle.bz_net.specs.Due.{next_of};
 ghost use Rattle.bz_net.specs.Keeping.{comp_at, state_of, phase_in, Exact, Placed, RefreshedEnds};
@@ -37,7 +37,7 @@ trait NodeMove {
     /// Makes it at a port, where `rides` rides on the channel: the value that it carries, and whether the component can move
     /// then.
     fn make(node: &mut Node, port: u32, rides: Option<Value>) -> (Option<Value>, bool)
-        requires next { IsNext node.old.comp.proc port MOVE }
+        requires next { HasMove node.old.comp.proc port MOVE }
         requires told { flag_of node.old.here port ≡ not (sends MOVE) }
         requires bit { port < 64 * length node.old.here }
         requires room { length node.old.comp.chans < 64 * length node.old.here }

@@ -1,7 +1,7 @@
 //! Which components of a net can move, as the core keeps it.
 
 ghost use Rattle.std.specs.Prelude.{◌≡◌, ◌+◌, ◌<◌, ◌≤◌, ◌^◌, true, false, None, length, replicate, slice_index_or, slice_set, IfOk};
-ghost use Rattle.bz_bits.specs.Row.{IsNextInWord};
+ghost use Rattle.bz_bits.specs.Row.{IsNext, IsNextInWord};
 ghost use Rattle.bz_net.specs.ReadyRow.{bits_of};
 ghost use Rattle.bz_ready.specs.Set.{IsNextFrom};
 
@@ -132,18 +132,36 @@ impl ReadyRow {
 
 // The same where the bits have none in the word of `from`. Mostly there is none behind it either.
 #[inline(never)]
-#[tactic(auto, using(bz_ready::proofs::Nexts::above, bz_ready::proofs::Nexts::around))]
+#[tactic(auto, using(bz_ready::proofs::Nexts::above, bz_ready::proofs::Nexts::around_all))]
 fn next_around(marks: &SummedRow, listed: &Option<ReadySet>, from: u32) -> Option<u32>
     requires none { IsNextInWord marks.now from None }
     requires few { length marks.now ≤ 2 ^ 32 }
     ensures { IsNextFrom (bits_of listed.now marks.now) from result }
 {
     if let Some(set) = listed {
-        return set.next_from(from);
+        return next_listed(set, from);
     }
     if let Some(place) = marks.next_beyond(from as usize) {
         return Some(place as u32);
     }
+    first_marked(marks)
+}
+
+// The same of components that are listed.
+#[cold]
+#[inline(never)]
+fn next_listed(set: &ReadySet, from: u32) -> Option<u32>
+    ensures { IsNextFrom set.now.row from result }
+{
+    set.next_from(from)
+}
+
+// The least of all.
+#[inline(never)]
+fn first_marked(marks: &SummedRow) -> Option<u32>
+    requires { length marks.now ≤ 2 ^ 32 }
+    ensures { IsNext marks.now 0 result }
+{
     match marks.next_from(0) {
         Some(place) => Some(place as u32),
         None => None,

@@ -24,3 +24,8 @@ around row from m none (high, within, is_in, first) = (is_in, inr (λ j member. 
       | inl le ↦ absurd (false≢true (sym (none j le.1) ∙ member))
       | inr lt ↦ lt.1
     ]
+
+-- there is none, and the first of all, if there is one, is below
+pub around_all : (row : List Bool) (from : ℕ) (r : Option ℕ) → IsNext row from None → IsNext row 0 r → IsNextFrom row from r
+around_all row from None none first = λ j. first j (omega arith)
+around_all row from (Some m) none first = around row from m none first

@@ -6,6 +6,7 @@ mod firing;
 mod foretold;
 mod kept_line;
 mod kept_lines;
+mod kept_values;
 mod line;
 mod numeral;
 mod outgoing;

@@ -1,9 +1,9 @@
 //! The line of a firing, written at a place. Each function answers the place after what it wrote.
 
-ghost use Rattle.std.specs.Prelude.{◌≡◌, ◌+◌, ◌<◌, ◌≤◌, List, [], ◌∷◌, ◌++◌, length, take, drop, get_or, codes, decimal};
+ghost use Rattle.std.specs.Prelude.{◌≡◌, ℕ, ◌+◌, ◌<◌, ◌≤◌, List, [], ◌∷◌, ◌++◌, length, take, drop, get_or, codes, decimal};
 ghost use Rattle.bz_model.specs.Traces.{who_text, move_text, value_text};
 ghost use Rattle.bz_trace_text.specs.Keeping.{kept_text};
-ghost use Rattle.bz_trace_text.specs.Spelling.{AreSpelled};
+ghost use Rattle.bz_trace_text.specs.Spelling.{AreSpelled, Spells};
 ghost use Rattle.bz_trace_text.specs.Writing.{move_line};
 
 use crate::kept_line::KeptLine;
@@ -162,7 +162,7 @@ pub(crate) fn set_end(
 
 // Ends the line with a value.
 #[inline(always)]
-pub(crate) fn set_value_end(bytes: &mut [u8], at: usize, spelled: &[Numeral], value: Value) -> usize
+fn set_value_end(bytes: &mut [u8], at: usize, spelled: &[Numeral], value: Value) -> usize
     requires room { at + 41 ≤ length bytes.old }
     requires told { AreSpelled spelled.now }
     ensures within { result ≤ at + 41 }
@@ -176,9 +176,21 @@ pub(crate) fn set_value_end(bytes: &mut [u8], at: usize, spelled: &[Numeral], va
     }
 }
 
+// The same of a value whose numeral is at hand.
+#[inline(always)]
+pub(crate) fn set_numeral_end(bytes: &mut [u8], at: usize, numeral: Numeral) -> usize
+    requires { at + 9 ≤ length bytes.old }
+    ensures within { result ≤ at + 8 }
+    ensures text { (value : ℕ) → Spells numeral value →
+        take result bytes.new ≡ take at bytes.old ++ (codes " " ++ (decimal value ++ codes "\n")) }
+{
+    let after_space = set_byte(bytes, at, b' ');
+    set_counted(bytes, after_space, numeral.bytes) + 1
+}
+
 // The same of a value that is spelled anew.
 #[inline(never)]
-fn set_far_end(bytes: &mut [u8], at: usize, value: Value) -> usize
+pub(crate) fn set_far_end(bytes: &mut [u8], at: usize, value: Value) -> usize
     requires { at + 41 ≤ length bytes.old }
     ensures within { result ≤ at + 41 }
     ensures text { take result bytes.new ≡ take at bytes.old ++ (codes " " ++ (decimal value ++ codes "\n")) }

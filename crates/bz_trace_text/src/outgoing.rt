@@ -5,6 +5,7 @@ ghost use Rattle.bz_model.specs.Traces.{fired_text, rested_text};
 ghost use Rattle.bz_trace_text.specs.Writing.{GoneBut, IsGone};
 
 use crate::kept_lines::KeptLines;
+use crate::kept_values::KeptValues;
 use crate::page::Page;
 use crate::spelled::Spelled;
 use crate::trace::{add_fired, add_rested};
@@ -19,6 +20,7 @@ pub struct Outgoing {
     failed: bool,
     spelled: Spelled,
     kept: KeptLines,
+    values: KeptValues,
 }
 
 impl Outgoing {
@@ -33,6 +35,7 @@ impl Outgoing {
             failed,
             spelled: Spelled::new(alloc, count),
             kept: KeptLines::new(alloc, count),
+            values: KeptValues::new(),
         }
     }
 
@@ -61,7 +64,11 @@ impl Outgoing {
     {
         self.make_room(out);
         match self.kept.find(comp, mv, chan) {
-            Some(line) => self.page.fired_again(&self.spelled, who, line, value),
+            Some(line) => {
+                let values = &mut self.values;
+                self.page
+                    .fired_again(&self.spelled, values, who, line, value);
+            }
             None => self.fired_anew(who, comp, mv, chan, value),
         }
     }

@@ -1,13 +1,14 @@
 //! Lines composed on a page, which goes out whole.
 
-ghost use Rattle.std.specs.Prelude.{◌≡◌, ℕ, ◌+◌, ◌<◌, ◌≤◌, List, [], ◌∷◌, ◌++◌, ◌↔◌, length, take, drop, codes, decimal, IsTrue, Some};
+ghost use Rattle.std.specs.Prelude.{◌≡◌, ℕ, ◌+◌, ◌<◌, ◌≤◌, List, [], ◌∷◌, ◌++◌, ◌↔◌, length, take, drop, codes, decimal, IsTrue, IfSome, Some};
 ghost use Rattle.bz_model.specs.Traces.{fired_text, who_text, value_text};
 ghost use Rattle.bz_text.specs.Writing.{Writes};
 ghost use Rattle.bz_trace_text.specs.Keeping.{kept_text, told_line};
-ghost use Rattle.bz_trace_text.specs.Spelling.{AreSpelled};
+ghost use Rattle.bz_trace_text.specs.Spelling.{AreSpelled, Spells};
 
 use crate::kept_line::KeptLine;
-use crate::line::{set_end, set_kept, set_move, set_value_end};
+use crate::kept_values::KeptValues;
+use crate::line::{set_end, set_far_end, set_kept, set_move, set_numeral_end};
 use crate::numeral::Numeral;
 use crate::spelled::Spelled;
 use bz_model::{Move, Value, Who};
@@ -148,6 +149,7 @@ impl Page {
     pub(crate) fn fired_again(
         &mut self,
         spelled: &Spelled,
+        values: &mut KeptValues,
         who: Who,
         line: KeptLine,
         value: Option<Value>,
@@ -158,7 +160,7 @@ impl Page {
     {
         self.kept(who, line);
         if let Some(value) = value {
-            self.end_with(spelled, value);
+            self.end_with(spelled, values, value);
         }
     }
 
@@ -174,13 +176,20 @@ impl Page {
 
     // Puts a value in front of the line feed at the end.
     #[inline(always)]
-    fn end_with(&mut self, spelled: &Spelled, value: Value)
+    fn end_with(&mut self, spelled: &Spelled, values: &mut KeptValues, value: Value)
         requires some { 0 < length self.old }
         requires room { length self.old + 40 ≤ 8192 }
         ensures { (text : List ℕ) → self.old ≡ text ++ codes "\n" →
             self.new ≡ text ++ (codes " " ++ (decimal value ++ codes "\n")) }
     {
-        self.at = set_value_end(&mut self.bytes, self.at - 1, spelled.as_slice(), value);
+        let at = self.at - 1;
+        self.at = match numeral_in(spelled, values, value) {
+            Some(numeral) => set_numeral_end(&mut self.bytes, at, numeral),
+            None => {
+                values.keep(value);
+                set_far_end(&mut self.bytes, at, value)
+            }
+        };
     }
 
     /// Lets all of it go out.
@@ -210,6 +219,19 @@ impl Write for Page {
 
     fn flush(&mut self) -> io::Result<()> {
         Ok(())
+    }
+}
+
+// The numeral of a value, where it is spelled for all lines or was kept.
+#[inline(always)]
+fn numeral_in(spelled: &Spelled, values: &KeptValues, value: Value) -> Option<Numeral>
+    ensures { IfSome result (λ numeral. Spells numeral value) }
+{
+    let numerals = spelled.as_slice();
+    if value < numerals.len() as Value {
+        Some(numerals[value as usize])
+    } else {
+        values.find(value)
     }
 }
 

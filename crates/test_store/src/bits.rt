@@ -1,7 +1,7 @@
 //! Rows of bits, and the states and numbers of ports.
 
 use crate::table::{Bench, Words, done, gives, show};
-use bz_bits::{BitRow, PortNumbers, PortStates, SummedRow};
+use bz_bits::{BitRow, PortBits, PortNumbers, PortStates, SummedRow};
 use std::alloc::Global;
 use std::test::Fail;
 
@@ -89,6 +89,17 @@ impl Bench for PortNumbers {
                 let at = place.max(1);
                 show(alloc, &(self.next_odd(at), plain_next_odd(self, at)))
             }
+            "one" => {
+                let at = place.max(1);
+                show(
+                    alloc,
+                    &(self.next_with_one(at), plain_next_with_one(self, at)),
+                )
+            }
+            "turn" if place < self.len() => {
+                self.turn(place);
+                done(alloc)
+            }
             "fill" => {
                 let to = words.number().min(self.len());
                 self.set_between(place, to, (words.number() % 4) as u8);
@@ -110,6 +121,36 @@ fn plain_next_odd(numbers: &PortNumbers, at: usize) -> usize {
         }
     }
     at.max(numbers.len().div_ceil(64))
+}
+
+// The first word from `at` on in which a port has the number 1, by a look at each port.
+fn plain_next_with_one(numbers: &PortNumbers, at: usize) -> usize {
+    for port in at.saturating_mul(64)..numbers.len() {
+        if numbers.get(port) == 1 {
+            return port / 64;
+        }
+    }
+    at.max(numbers.len().div_ceil(64))
+}
+
+impl Bench for PortBits {
+    fn call(&mut self, alloc: Global, name: &str, words: &mut Words<'_>) -> Result<String, Fail> {
+        let place = words.number();
+        match name {
+            "words" => show(alloc, &self.word_count()),
+            "word" => show(alloc, &self.word(place)),
+            "one" => {
+                let at = place.max(1);
+                let end = words.number().max(at);
+                show(alloc, &self.next_one(at, end))
+            }
+            _ if place / 64 >= self.word_count() => Err("no such place".into()),
+            _ => {
+                self.put(place, name == "raise");
+                done(alloc)
+            }
+        }
+    }
 }
 
 const BITS: &str = "
@@ -208,6 +249,58 @@ fill 0 400 0
 set 400 1
 next 1 | (7, 7)
 get 128 | 0
+one 1 | (7, 7)
+fill 64 400 1
+one 1 | (1, 1)
+one 4 | (4, 4)
+fill 64 192 0
+one 1 | (3, 3)
+set 64 1
+one 1 | (1, 1)
+turn 64
+one 1 | (3, 3)
+fill 192 399 3
+one 1 | (6, 6)
+turn 399
+one 2 | (7, 7)
+turn 200
+one 1 | (3, 3)
+one 9 | (9, 9)
+";
+
+/// The first word that has a bit is asked for as `one 2 70`: from word 2 on, but before word 70.
+const BITS_OF_PORTS: &str = "
+words 0 | 79
+one 1 79 | 79
+raise 63
+raise 64
+word 0 | 9223372036854775808
+word 1 | 1
+one 1 79 | 1
+one 2 79 | 79
+raise 4159
+one 2 79 | 64
+one 2 40 | 40
+one 64 79 | 64
+one 65 79 | 79
+raise 4160
+raise 4999
+one 65 79 | 65
+one 66 79 | 78
+one 66 70 | 70
+raise 65
+lower 64
+one 1 79 | 1
+lower 65
+one 1 79 | 64
+lower 4159
+one 1 79 | 65
+lower 4160
+lower 4160
+one 1 79 | 78
+word 78 | 128
+word 79 | 0
+one 100 200 | 100
 ";
 
 #[test]
@@ -232,4 +325,10 @@ fn states_of_ports(rt: HostRuntime) -> Result<(), Fail> {
 fn numbers_of_ports(rt: HostRuntime) -> Result<(), Fail> {
     let mut ports = PortNumbers::new(rt.alloc(), given(400))?;
     gives(&rt, rt.alloc(), &mut ports, NUMBERS)
+}
+
+#[test]
+fn bits_of_ports(rt: HostRuntime) -> Result<(), Fail> {
+    let mut bits = PortBits::new(rt.alloc(), given(5000))?;
+    gives(&rt, rt.alloc(), &mut bits, BITS_OF_PORTS)
 }

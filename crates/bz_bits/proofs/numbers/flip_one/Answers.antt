@@ -1,13 +1,14 @@
-use Rattle.std.proofs.Common.{◌∷◌, ◌+◌, ◌-◌, ◌%◌, ℕ, List, ap, ◌∙◌, arith}
+use Rattle.std.proofs.Common.{◌≡◌, ◌∷◌, ◌+◌, ◌-◌, ◌/◌, ◌%◌, ℕ, List, ap, ◌∙◌, arith}
 use Rattle.std.specs.Prelude.{if◌then◌else◌}
 use Rattle.bz_bits.specs.declared.word.PortWord.{PortWord}
-use Rattle.bz_bits.specs.PortWords.{between, number_in, number_at}
-use Rattle.bz_bits.proofs.Words.{one_changed}
+use Rattle.bz_bits.specs.PortWords.{between, no_ports, number_in, number_at}
+use Rattle.bz_bits.proofs.Words.{get_tail, one_changed, set_tail}
 use Rattle.bz_bits.proofs.numbers.flip_one.Goals as goal
 
 pub returns-clause-flipped : goal.returns-clause-flipped
-returns-clause-flipped c p =
-    let old = c.args.first.now ∷ c.args.more.now in let g = λ (x : ℕ). 3 - x in let m = c.args.port % 64 in
-    ap (λ (l : List PortWord). number_at l p) c.put_word.ensures.put
-    ∙ one_changed g old c.flipped-word.result c.args.port (omega (arith, c.requires.fits))
-    (λ i lt. c.flipped-word.ensures i lt ∙ ap (λ (v : PortWord). if between m (m + 1) i then g (number_in v i) else number_in v i) c.word_at.ensures) p
+returns-clause-flipped c first p =
+    let more = c.args.more.now in let port = c.args.port in let old = first ∷ more in let g = λ (x : ℕ). 3 - x in let m = port % 64 in
+    let behind : port / 64 ≡ 0 → ⊥ = λ e. omega (arith, e, c.requires.far) in
+    ap (λ (l : List PortWord). number_at (first ∷ l) p) c.put_far.ensures.put ∙ ap (λ (l : List PortWord). number_at l p) (set_tail first c.flipped-word.result more (port / 64) behind)
+    ∙ one_changed g old c.flipped-word.result port (omega (arith, c.requires.fits))
+    (λ i lt. c.flipped-word.ensures i lt ∙ ap (λ (v : PortWord). if between m (m + 1) i then g (number_in v i) else number_in v i) (get_tail first no_ports more (port / 64) behind)) p

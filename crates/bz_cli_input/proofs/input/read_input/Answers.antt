@@ -3,8 +3,8 @@ use Rattle.std.proofs.lemmas.List.{length-take}
 use Rattle.std.proofs.KnownBytes.{Consumes-trans}
 use Rattle.bz_cli_input.proofs.input.read_input.Goals as goal
 
-pub returns-in_err-extend_from_slice-in-Ok-clause-bounded : goal.returns-in_err-extend_from_slice-in-Ok-clause-bounded
-returns-in_err-extend_from_slice-in-Ok-clause-bounded g c =
+pub returns-in_err-append-in-Ok-clause-bounded : goal.returns-in_err-append-in-Ok-clause-bounded
+returns-in_err-append-in-Ok-clause-bounded g c =
     let text = c.reading.text in
     let piece = take c.in-Ok.n c.read.new.buf in
     let b = c.in-Ok.ensures.bound in

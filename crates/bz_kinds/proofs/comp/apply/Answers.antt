@@ -1,10 +1,27 @@
+use Rattle.std.proofs.Common.{◌≡◌, IsTrue, subst}
+use Rattle.bz_model.specs.declared.channel.Move.{Move}
+use Rattle.bz_model.specs.declared.channel.Move.TheVariants.{Take, Got}
+use Rattle.bz_model.specs.Phases.{allows}
+use Rattle.bz_model.proofs.Fitting.{fits-move}
+use Rattle.bz_kinds.proofs.SureLaws.{gets_in, takes_in}
 use Rattle.bz_kinds.proofs.comp.apply.Goals as goal
 
-pub fire-requires : goal.fire-requires
-fire-requires c = (c.args.phase, c.requires, c.riding.ensures)
+pub returns-in-Some-Ask-clause-fits : goal.returns-in-Some-Ask-clause-fits
+returns-in-Some-Ask-clause-fits c fitted holds = fits-move _ _ c.args.port c.args.phase _ _ c.ask.ensures.chans (c.ask.ensures.moves c.args.phase) holds fitted
 
-pub returns-clause-moves : goal.returns-clause-moves
-returns-clause-moves c = c.fire.ensures.moves c.args.phase c.requires c.riding.ensures
+pub returns-in-Some-Take-clause-fits : goal.returns-in-Some-Take-clause-fits
+returns-in-Some-Take-clause-fits c fitted holds =
+    let (h, on, ok) = c.requires in
+    let told = c.next.ensures.only h on in
+    let is : h.move ≡ Take = let due = c.in-Some-Take.is in cc in
+    fits-move _ _ c.args.port c.args.phase _ _ c.take.ensures.chans (takes_in _ _ _ c.args.phase _ c.riding-rides.ensures (subst (λ (m : Move). IsTrue (allows c.args.phase m)) is ok) c.take.ensures.moves) holds fitted
 
-pub returns-clause-fits : goal.returns-clause-fits
-returns-clause-fits c = c.fire.ensures.fits c.args.phase c.requires c.riding.ensures
+pub returns-in-Some-Reply-clause-fits : goal.returns-in-Some-Reply-clause-fits
+returns-in-Some-Reply-clause-fits c fitted holds = fits-move _ _ c.args.port c.args.phase _ _ c.reply.ensures.chans (c.reply.ensures.moves c.args.phase) holds fitted
+
+pub returns-in-Some-Got-clause-fits : goal.returns-in-Some-Got-clause-fits
+returns-in-Some-Got-clause-fits c fitted holds =
+    let (h, on, ok) = c.requires in
+    let told = c.next.ensures.only h on in
+    let is : h.move ≡ Got = let due = c.in-Some-Got.is in cc in
+    fits-move _ _ c.args.port c.args.phase _ _ c.got.ensures.chans (gets_in _ _ _ c.args.phase _ c.riding-rides.ensures (subst (λ (m : Move). IsTrue (allows c.args.phase m)) is ok) c.got.ensures.moves) holds fitted

@@ -1,4 +1,4 @@
-use Rattle.std.proofs.Common.{◌≡◌, ◌∷◌, ◌/◌, ◌%◌, ℕ, List, length, get_or, set, sym, ap, ◌∙◌, arith}
+use Rattle.std.proofs.Common.{◌≡◌, ◌∷◌, ◌/◌, ◌%◌, ℕ, List, length, drop, get_or, set, sym, ap, ◌∙◌, arith}
 use Rattle.std.specs.Int.{from_bool}
 use Rattle.bz_bits.specs.Row.{bit_of}
 use Rattle.bz_bits.proofs.Words.{put_here, put_other, mask_with}
@@ -6,7 +6,7 @@ use Rattle.bz_bits.proofs.bits.PortBits.put.Goals as goal
 
 pub returns-then-port-lt64-clause-here : goal.returns-then-port-lt64-clause-here
 returns-then-port-lt64-clause-here g c =
-    let f = c.self.inside.first in let rest = c.self.inside.more.items in let ws = f ∷ rest in let port = c.args.port in
+    let f = c.self.inside.first in let rest = drop 1 c.self.inside.more.items in let ws = f ∷ rest in let port = c.args.port in
     let w = c.with-self-inside.result in let z : port / 64 ≡ 0 = omega (arith, c.if-port-lt64.true) in
     put_here ws (w ∷ rest) port w (from_bool c.args.bit) (ap (λ (at : ℕ). set ws at w) (sym z))
     (let view = ap length c.self.view_is in let r = c.requires in omega (arith, view, r))
@@ -15,7 +15,7 @@ returns-then-port-lt64-clause-here g c =
 
 pub returns-then-port-lt64-clause-others : goal.returns-then-port-lt64-clause-others
 returns-then-port-lt64-clause-others g c k ne =
-    let f = c.self.inside.first in let rest = c.self.inside.more.items in let ws = f ∷ rest in let port = c.args.port in
+    let f = c.self.inside.first in let rest = drop 1 c.self.inside.more.items in let ws = f ∷ rest in let port = c.args.port in
     let w = c.with-self-inside.result in let z : port / 64 ≡ 0 = omega (arith, c.if-port-lt64.true) in
     put_other ws (w ∷ rest) port w (from_bool c.args.bit) (ap (λ (at : ℕ). set ws at w) (sym z))
     (let view = ap length c.self.view_is in let r = c.requires in omega (arith, view, r))

@@ -8,6 +8,7 @@ invariant_of-self g c =
       are_changed (λ (x : ℕ). 3 - x) f c.flipped-self-inside.result rest n c.args.port c.self.invariant.0
           (omega (arith, c.requires, length-numbers (f ∷ rest) n, ap length c.self.view_is)) c.flipped-self-inside.ensures (omega (arith, c.if-port-lt64.true)),
       c.self.invariant.1,
+      c.self.invariant.2,
     )
 
 pub returns-then-port-lt64 : goal.returns-then-port-lt64

@@ -8,5 +8,5 @@ pub returns : goal.returns
 returns g c =
     let f = c.self.inside.first in let ws = f ∷ c.self.inside.more.items in let p = c.args.port in
     c.number.ensures
-    ∙ ap (λ (w : PortWord). number_in w (p % 64)) (c.word_at.ensures ∙ ap (λ (l : List PortWord). get_or (f ∷ l) (p / 64) no_ports) c.deref.ensures.value)
+    ∙ ap (λ (w : PortWord). number_in w (p % 64)) (c.far_word.ensures f ∙ ap (λ (l : List PortWord). get_or (f ∷ l) (p / 64) no_ports) c.deref.ensures.value)
     ∙ sym (any-number ws c.self.inside.len p c.self.invariant.0) ∙ ap (λ (l : List ℕ). get_or l p 0) c.self.view_is

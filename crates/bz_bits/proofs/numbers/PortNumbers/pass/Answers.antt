@@ -14,7 +14,7 @@ invariant_of-self g c =
     let f = c.self.inside.first in let rest = c.self.inside.more.items in let n = c.self.inside.len in
     let long = length-numbers (f ∷ rest) n in let same = ap length c.self.view_is in
     let mid = are_changed (λ (x : ℕ). 3 - x) f c.flipped.result rest n c.args.from c.self.invariant.0 (omega (arith, c.requires.from, long, same)) c.flipped.ensures (omega (arith, c.if-from-lt64.true)) in
-    (are_changed (λ (x : ℕ). x + 1) c.flipped.result c.raised-self-inside.result rest n c.args.to mid (omega (arith, c.requires.to, long, same)) c.raised-self-inside.ensures (omega (arith, c.if-to-lt64.true)), c.self.invariant.1)
+    (are_changed (λ (x : ℕ). x + 1) c.flipped.result c.raised-self-inside.result rest n c.args.to mid (omega (arith, c.requires.to, long, same)) c.raised-self-inside.ensures (omega (arith, c.if-to-lt64.true)), c.self.invariant.1, c.self.invariant.2)
 
 pub returns-then-to-lt64 : goal.returns-then-to-lt64
 returns-then-to-lt64 g c =

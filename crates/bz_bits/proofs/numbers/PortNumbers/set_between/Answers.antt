@@ -12,6 +12,7 @@ invariant_of-self g c =
       are_filled (f ∷ rest) (w ∷ rest) n c.args.from c.args.to c.args.number c.self.invariant.0 refl
           (λ p. are_between f w rest c.args.from c.args.to c.args.number c.places.result p near c.places.ensures c.filled-self-inside.ensures) fits,
       c.self.invariant.1,
+      c.self.invariant.2,
     )
 
 pub returns-then-from-to-clause-long : goal.returns-then-from-to-clause-long
