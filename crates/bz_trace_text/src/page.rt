@@ -1,10 +1,10 @@
 //! Lines composed on a page, which goes out whole.
 
-ghost use Rattle.std.specs.Prelude.{◌≡◌, ℕ, ◌+◌, ◌<◌, ◌≤◌, List, [], ◌∷◌, ◌++◌, ◌↔◌, length, take, drop, codes, decimal, IsTrue, IfSome, Some};
+ghost use Rattle.std.specs.Prelude.{◌≡◌, ℕ, ◌+◌, ◌<◌, ◌≤◌, List, [], ◌∷◌, ◌++◌, ◌↔◌, length, take, drop, codes, decimal, IsTrue, Some};
 ghost use Rattle.bz_model.specs.Traces.{fired_text, who_text, value_text};
 ghost use Rattle.bz_text.specs.Writing.{Writes};
 ghost use Rattle.bz_trace_text.specs.Keeping.{kept_text, told_line};
-ghost use Rattle.bz_trace_text.specs.Spelling.{AreSpelled, Spells};
+ghost use Rattle.bz_trace_text.specs.Spelling.{AreSpelled};
 
 use crate::kept_line::KeptLine;
 use crate::kept_values::KeptValues;
@@ -183,12 +183,11 @@ impl Page {
             self.new ≡ text ++ (codes " " ++ (decimal value ++ codes "\n")) }
     {
         let at = self.at - 1;
-        self.at = match numeral_in(spelled, values, value) {
-            Some(numeral) => set_numeral_end(&mut self.bytes, at, numeral),
-            None => {
-                values.keep(value);
-                set_far_end(&mut self.bytes, at, value)
-            }
+        let numerals = spelled.as_slice();
+        self.at = if value < numerals.len() as Value {
+            set_numeral_end(&mut self.bytes, at, numerals[value as usize])
+        } else {
+            end_far(&mut self.bytes, at, values, value)
         };
     }
 
@@ -222,16 +221,19 @@ impl Write for Page {
     }
 }
 
-// The numeral of a value, where it is spelled for all lines or was kept.
-#[inline(always)]
-fn numeral_in(spelled: &Spelled, values: &KeptValues, value: Value) -> Option<Numeral>
-    ensures { IfSome result (λ numeral. Spells numeral value) }
+// Ends a line with a value that isn't spelled for all lines. It is a call, so that lines without one keep their registers.
+#[inline(never)]
+fn end_far(bytes: &mut [u8], at: usize, values: &mut KeptValues, value: Value) -> usize
+    requires { at + 41 ≤ length bytes.old }
+    ensures within { result ≤ at + 41 }
+    ensures text { take result bytes.new ≡ take at bytes.old ++ (codes " " ++ (decimal value ++ codes "\n")) }
 {
-    let numerals = spelled.as_slice();
-    if value < numerals.len() as Value {
-        Some(numerals[value as usize])
-    } else {
-        values.find(value)
+    match values.find(value) {
+        Some(numeral) => set_numeral_end(bytes, at, numeral),
+        None => {
+            values.keep(value);
+            set_far_end(bytes, at, value)
+        }
     }
 }
 
