@@ -13,6 +13,7 @@ ghost use Rattle.bz_net.specs.Core.{IsSole};
 ghost use Rattle.bz_net.specs.Due.{Foresees, GivesAsSteps, HasStep, IsSoleDue, TellsDue};
 ghost use Rattle.bz_net.specs.Ends.{TellsEnds, TellsPort, IsSolePort};
 ghost use Rattle.bz_net.specs.Foretelling.{IsForetold};
+ghost use Rattle.bz_net.specs.Near.{NoneNear};
 ghost use Rattle.bz_net.specs.Noted.{AskedBefore, NotedAt, NotedMove, WatchesBut};
 ghost use Rattle.bz_net.specs.Sides.{answers};
 ghost use Rattle.bz_net.specs.Told.{MayMove, MovesAt};
@@ -27,7 +28,7 @@ use crate::node::{dup_all, restart_all, start_all};
 use crate::node_moves::move_comp;
 use crate::node_row::NodeRow;
 use crate::noted::Noted;
-use crate::ready_row::{Keeping, ReadyRow};
+use crate::ready_row::ReadyRow;
 use crate::same::{first_other, is_other_at, is_same_phases};
 use bz_arena::Arena;
 use bz_flat::{Ends, Flat, FlatComp, Pieces, dup_comps};
@@ -104,7 +105,7 @@ impl Model for Core {
 impl Core {
     /// A flat net at its opening: all channels are idle, and each component is at its start. Where memory is refused, the
     /// flat net is gone.
-    pub(crate) fn open(alloc: Global, flat: Flat, keeping: Keeping) -> Result<Core, NetError>
+    pub(crate) fn open(alloc: Global, flat: Flat) -> Result<Core, NetError>
         ensures wiring { IfOk result (λ core. core.wiring ≡ flat.wiring) }
         ensures state { IfOk result (λ core. core.state ≡ opening flat.wiring) }
         ensures wired { IfOk result (λ core. WellWired core.wiring) }
@@ -116,7 +117,7 @@ impl Core {
             Ok(phases) => phases,
             Err(_) => return Err(NetError::Memory),
         };
-        let ready = match mark_all(alloc, &pieces.comps, &phases, &nodes, keeping) {
+        let ready = match mark_all(alloc, &pieces.comps, &phases, &nodes) {
             Ok(ready) => ready,
             Err(_) => return Err(NetError::Memory),
         };
@@ -155,7 +156,7 @@ impl Core {
             chans,
             nodes,
             phases,
-            ready,
+            ready: _,
             mixes,
             moved,
         } = self;
@@ -163,7 +164,7 @@ impl Core {
         restart_all(alloc, &names, &sites, &moved, &mut nodes)?;
         let mut phases = phases;
         phases.clear();
-        let ready = match mark_all(alloc, &sites, &phases, &nodes, ready.keeping()) {
+        let ready = match mark_all(alloc, &sites, &phases, &nodes) {
             Ok(ready) => ready,
             Err(_) => return Err(NetError::Memory),
         };
@@ -192,8 +193,7 @@ impl Core {
         let chans = self.chans.dup(alloc)?;
         let nodes = dup_all(alloc, &self.nodes)?;
         let phases = self.phases.dup(alloc)?;
-        let keeping = self.ready.keeping();
-        let ready = mark_all(alloc, &self.sites, &self.phases, &self.nodes, keeping)?;
+        let ready = mark_all(alloc, &self.sites, &self.phases, &self.nodes)?;
         let moved = Vec::from_slice(alloc, &self.moved)?;
         Ok(Core {
             names,
@@ -406,7 +406,29 @@ impl Core {
         ensures { MatchOption result (Rest self.now.wiring.sites self.now.state)
             (IsNext (CanStep self.now.wiring.sites self.now.state) from) }
     {
-        self.ready.next_from(from)
+        if let Some(comp) = self.next_near(from) {
+            return Some(comp);
+        }
+        self.next_around(from)
+    }
+
+    /// The same, where it is found by one look.
+    #[inline(always)]
+    pub(crate) fn next_near(&self, from: u32) -> Option<u32>
+        ensures some { IfSome result (IsNext (CanStep self.now.wiring.sites self.now.state) from) }
+        ensures none { IfNone result (NoneNear (CanStep self.now.wiring.sites self.now.state) from) }
+    {
+        self.ready.next_near(from)
+    }
+
+    /// The same, wherever it is. It is called with the whole core, so that no address in it is kept for this call.
+    #[inline(never)]
+    pub(crate) fn next_around(&self, from: u32) -> Option<u32>
+        requires { NoneNear (CanStep self.now.wiring.sites self.now.state) from }
+        ensures { MatchOption result (Rest self.now.wiring.sites self.now.state)
+            (IsNext (CanStep self.now.wiring.sites self.now.state) from) }
+    {
+        self.ready.next_around(from)
     }
 
     /// The lowest port at which a component can move.
@@ -484,7 +506,7 @@ impl Core {
     }
 
     /// Notes the component at the passive end of a channel, where requests meet there.
-    #[inline]
+    #[inline(never)]
     pub(crate) fn note_clash(&self, chan: u32, noted: &mut Noted)
         requires from { 0 < chan }
         requires to { chan ≤ length self.now.wiring.chans }

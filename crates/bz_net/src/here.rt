@@ -23,7 +23,7 @@ use crate::kept_phases::Phases;
 use crate::moves::{foresee, next_of, reply_to, sends};
 use crate::node::{Node, node_id};
 use crate::node_row::NodeRow;
-use crate::ready_row::{Keeping, ReadyRow};
+use crate::ready_row::ReadyRow;
 use bz_arena::Arena;
 use bz_bits::PortBits;
 use bz_flat::{Ends, FlatComp};
@@ -376,14 +376,13 @@ pub(crate) fn mark_all(
     sites: &Arena<FlatComp>,
     phases: &Phases,
     nodes: &NodeRow,
-    keeping: Keeping,
 ) -> Result<ReadyRow, AllocError>
     requires sighted { Sighted (map site_of sites.now) phases.now (comps_of nodes.now) (heres_of nodes.now) }
     requires few { length sites.now ≤ 1000000 }
     ensures { IfOk result (λ ready. MarksAll (map site_of sites.now) (state_of phases.now (comps_of nodes.now)) ready (length sites.now)) }
 {
     let count = sites.len() as u32;
-    let mut ready = ReadyRow::new(alloc, count, keeping)?;
+    let mut ready = ReadyRow::new(alloc, count)?;
     for place in 0..count {
         mark(sites, phases, nodes, &mut ready, place + 1);
     }

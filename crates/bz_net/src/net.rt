@@ -23,7 +23,6 @@ use crate::core_net::Core;
 use crate::event::{Answer, Event, RestReply, RunEnd};
 use crate::moves::{refusal_of, reply_to};
 use crate::noted::Noted;
-use crate::ready_row::Keeping;
 use bz_flat::Flat;
 use bz_model::{Entry, HostCmd, Move, Names, NetError, Phase, Reply, Value, Verb, Who};
 use std::alloc::{AllocError, Global};
@@ -81,7 +80,7 @@ impl Net {
         ensures ok { IfOk result (IsOpened flat.wiring limit) }
         ensures err { IfErr result (λ e. e ≡ NetError.Memory) }
     {
-        let core = Core::open(alloc, flat, Keeping::Listed)?;
+        let core = Core::open(alloc, flat)?;
         let noted = match Noted::listed(alloc, core.comp_count()) {
             Ok(noted) => noted,
             Err(_) => return Err(NetError::Memory),

@@ -20,7 +20,6 @@ use crate::event::{Piece, RestReply, RunEnd};
 use crate::foretelling::Foretold;
 use crate::moves::refusal_of;
 use crate::noted::Noted;
-use crate::ready_row::Keeping;
 use bz_flat::Flat;
 use bz_model::{Entry, HostCmd, Move, Names, NetError, Reply, Value, Verb, Who};
 use std::alloc::{AllocError, Global};
@@ -75,7 +74,7 @@ impl Play {
         ensures told { IfOk result (λ play. IsToldBy play []) }
         ensures err { IfErr result (λ e. e ≡ NetError.Memory) }
     {
-        let core = Core::open(alloc, flat, Keeping::Marked)?;
+        let core = Core::open(alloc, flat)?;
         Play::of(alloc, core, limit)
     }
 
@@ -257,9 +256,15 @@ impl Play {
         ensures enters { Enters self.old result self.new }
         ensures above { IsBelowLast result }
     {
-        let Some(comp) = self.core.next_ready(from) else {
-            self.left -= 1;
-            return Entry::Rested { who };
+        let comp = match self.core.next_near(from) {
+            Some(comp) => comp,
+            None => match self.core.next_around(from) {
+                Some(comp) => comp,
+                None => {
+                    self.left -= 1;
+                    return Entry::Rested { who };
+                }
+            },
         };
         self.fire(who, comp, None)
     }
