@@ -46,7 +46,7 @@ module _ (sites : List Site) (phases : List Phase) (comps : List Component) (her
       let (value, (last, made)) = step in
       subst (λ (q : Proc). HasMove q p mv) (proc_is phases comps c) (made.moves.head, made.moves.on, sym made.moves.move_is)
 
-  side : answers mv ≡ passive_at sites c p
+  pub side : answers mv ≡ passive_at sites c p
   side =
       let (h, at, is) = has_next in let port = steps.is_port in
       ap answers (sym is) ∙ (sided-head (passive_at sites c) (comp_at comps c).proc.todo h at.0 (sighted.sides c port.comp_from port.comp_to)).0 ∙ ap (passive_at sites c) at.1

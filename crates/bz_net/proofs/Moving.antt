@@ -8,16 +8,19 @@ use Rattle.bz_model.specs.declared.channel.Move.TheVariants.{Ask, Take, Reply, G
 use Rattle.bz_model.specs.declared.channel.Phase.{Phase}
 use Rattle.bz_model.specs.declared.channel.Phase.TheVariants.{Idle, Asked, Taken, Replied, Broken}
 use Rattle.bz_model.specs.Phases.{allows, phase_after}
-use Rattle.bz_model.specs.Heads.{Component, HasOneHead, Moves, Turns, opens}
+use Rattle.bz_model.specs.Heads.{Component, HasOneHead, Moves, Turns, open_at, opens}
 use Rattle.bz_model.specs.Nets.{Site, IsPort, StepsAt, chan_at, passive_at}
 use Rattle.bz_kinds.specs.Ready.{CanGo, is_free}
 use Rattle.bz_flat.specs.declared.flat.Ends.{Ends}
 use Rattle.bz_flat.specs.Wires.{IsEnd, at_side, port_of_side}
-use Rattle.bz_net.specs.Sides.{answers}
+use Rattle.bz_kinds.specs.Riding.{riding}
+use Rattle.bz_net.specs.Sides.{answers, sends}
 use Rattle.bz_net.specs.Keeping.{Exact, Refreshed, RefreshedEnds, comp_at, flag_at, is_open, no_comp, phase_in, state_of}
 use Rattle.bz_net.specs.declared.node.Node.{Node}
 use Rattle.bz_net.specs.Nodes.{comp_of, comps_of, here_of, heres_of}
 use Rattle.bz_net.specs.Told.{AreEnds, Came, Goes, HasBit, IsTurning, Left, MarkedDue, NoneGoes, PutAt, PutEnd, Retold, Sighted, ToldOther, Turned, flag_of, here_at, is_here}
+use Rattle.bz_net.specs.Due.{next_of}
+use Rattle.bz_net.proofs.Hints as hints
 use Rattle.bz_net.proofs.Nodes.{bits_read, comp_read}
 use Rattle.bz_net.proofs.Sides.{sided-head}
 use Rattle.bz_net.proofs.Ties.{at_other, either_of, not_same}
@@ -79,6 +82,36 @@ around (Replied v) Reply value true u e f ok = absurd (cc)
 around (Replied v) Reply value false u e f ok = absurd (cc)
 around (Replied v) Got value false u e f ok = record { after = refl; before = refl; other_after = refl; other_before = refl }
 around (Replied v) Got value true u e f ok = absurd (cc)
+
+-- a move that turns its port breaks no handshake
+pub whole_after : (phase : Phase) (mv : Move) (value : Option ℕ) → opens mv ≡ not (is_open phase (answers mv)) → phase_after phase mv value ≢ Broken
+whole_after Idle Ask value f = λ e. absurd (cc)
+whole_after (Asked v) Ask value f = absurd (cc)
+whole_after Taken Ask value f = absurd (cc)
+whole_after (Replied v) Ask value f = absurd (cc)
+whole_after Broken Ask value f = absurd (cc)
+whole_after phase Take value f = λ e. absurd (cc)
+whole_after Idle Reply value f = absurd (cc)
+whole_after (Asked v) Reply value f = absurd (cc)
+whole_after Taken Reply value f = λ e. absurd (cc)
+whole_after (Replied v) Reply value f = absurd (cc)
+whole_after Broken Reply value f = absurd (cc)
+whole_after phase Got value f = λ e. absurd (cc)
+
+-- and what is sent rides then
+pub rides_after : (phase : Phase) (mv : Move) (value : Option ℕ) → phase_after phase mv value ≢ Broken → sends mv ≡ true → riding (phase_after phase mv value) ≡ value
+rides_after Idle Ask value u s = refl
+rides_after (Asked v) Ask value u s = absurd (u refl)
+rides_after Taken Ask value u s = absurd (u refl)
+rides_after (Replied v) Ask value u s = absurd (u refl)
+rides_after Broken Ask value u s = absurd (u refl)
+rides_after phase Take value u s = absurd (false≢true s)
+rides_after Idle Reply value u s = absurd (u refl)
+rides_after (Asked v) Reply value u s = absurd (u refl)
+rides_after Taken Reply value u s = refl
+rides_after (Replied v) Reply value u s = absurd (u refl)
+rides_after Broken Reply value u s = absurd (u refl)
+rides_after phase Got value u s = absurd (false≢true s)
 
 -- on an idle channel a request alone is made
 asks_alone : (phase : Phase) (mv : Move) → phase ≡ Idle → opens mv ≡ not (is_open phase (answers mv)) → IsTrue (allows phase mv) → mv ≡ Ask
@@ -598,3 +631,12 @@ module _ (sites : List Site) (phases : List Phase) (comps comps' : List Componen
       moved_refreshed sites phases comps comps' comps' heres heres heres' c p k mv value x rest next pair old mid sighted steps chan_is x_is moves turns one chans refl ends comps_is refl refl both after new long exact
       (own_refreshed comps' heres heres1 heres' c p pair old row new h goes from stands heres_is row_is sites (set phases (k - 1) next) k after ends steps.is_port.comp_to long ((exact c).marks (p, steps))
       (subst IsTurning rest_at turning) (subst (λ (y : Component). MatchBool goes (Goes y h) (NoneGoes y h)) rest_at tells) mv told)
+
+-- a move of what was read breaks no handshake
+pub whole_by : (sites : List Site) (phases : List Phase) (comps : List Component) (heres : List (List ℕ)) → Sighted sites phases comps heres → (c p k : ℕ) → IsTurning (comp_at comps c) → StepsAt sites (state_of phases comps) c p → k ≡ chan_at sites c p → (mv : Move) (value : Option ℕ) (x rest : Component) → x ≡ get_or comps (c - 1) x → next_of (phase_in phases k) ≡ Some mv → Turns x p mv rest → phase_after (phase_in phases k) mv value ≢ Broken
+whole_by sites phases comps heres sighted c p k turning steps on mv value x rest x_is next turns =
+    let port = steps.is_port in let from = port.comp_from in let to = port.comp_to in let len = sighted.comps_len in
+    let x_at : x ≡ comp_at comps c = get_or_read comps (c - 1) x (omega (arith, from, to, len)) x_is no_comp in
+    let side : answers mv ≡ passive_at sites c p = hints.side sites phases comps heres sighted c p k turning steps on mv next in
+    whole_after (phase_in phases k) mv value
+    (turns.before ∙ ap not (ap (λ (y : Component). open_at y p) x_at ∙ sighted.opened c p port ∙ ap (λ (j : ℕ). is_open (phase_in phases j) (passive_at sites c p)) (sym on) ∙ ap (is_open (phase_in phases k)) (sym side)))

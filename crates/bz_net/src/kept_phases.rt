@@ -1,6 +1,6 @@
 //! The phases of a net's channels, in little room: a mark for each channel, and the values in a row of their own.
 
-ghost use Rattle.std.specs.Prelude.{◌≡◌, ◌≢◌, ◌<◌, ℕ, IfOk, Some, length, replicate, slice_index_or, slice_set};
+ghost use Rattle.std.specs.Prelude.{◌≡◌, ◌≢◌, ◌<◌, ℕ, IfOk, IsSome, Some, length, replicate, slice_index_or, slice_set};
 ghost use Rattle.bz_model.specs.declared.channel.Phase.{Phase};
 ghost use Rattle.bz_model.specs.declared.channel.Phase.TheVariants.{Idle};
 ghost use Rattle.bz_model.specs.Phases.{phase_after};
@@ -121,6 +121,17 @@ impl Phases {
             Mark::AskedWith | Mark::RepliedWith => Some(self.values[place]),
             _ => None,
         }
+    }
+
+    /// The same where one rides.
+    #[inline]
+    #[tactic(auto, using(crate::proofs::Marks::length_phases, crate::proofs::Marks::rides_here))]
+    pub(crate) fn value(&self, place: usize) -> Value
+        requires there { place < length self.now }
+        requires rides { IsSome (riding (slice_index_or self.now place Idle)) }
+        ensures { riding (slice_index_or self.now place Idle) ≡ Some result }
+    {
+        self.values[place]
     }
 
     /// Makes a move that breaks no handshake on the channel in a place, counted from 0, with this value.

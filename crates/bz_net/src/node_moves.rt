@@ -1,8 +1,9 @@
 //! The moves of a net's components: what each does at its node, on its channel, and at the channel's other end.
 
-ghost use Rattle.std.specs.Prelude.{◌≡◌, ◌≤◌, ◌<◌, ◌*◌, ◌^◌, ℕ, suc, length, map, slice_set, if◌then◌else◌, not, false, Some, MatchBool, IfNone, IfSome};
+ghost use Rattle.std.specs.Prelude.{◌≡◌, ◌≤◌, ◌<◌, ◌*◌, ◌^◌, ℕ, suc, length, map, slice_index_or, slice_set, if◌then◌else◌, not, false, true, Some, MatchBool, IfNone, IfSome};
 ghost use Rattle.bz_model.specs.declared.channel.Move.{Move};
 ghost use Rattle.bz_model.specs.declared.channel.Phase.{Phase};
+ghost use Rattle.bz_model.specs.declared.channel.Phase.TheVariants.{Idle};
 ghost use Rattle.bz_model.specs.Heads.{HasOneHead, Moves, Turns};
 ghost use Rattle.bz_model.specs.Nets.{StepsAt, chan_at};
 ghost use Rattle.bz_flat.specs.Flats.{site_of};
@@ -51,6 +52,13 @@ trait NodeMove {
         ensures goes { MatchBool result.1 (Goes node.new.comp node.new.here) (NoneGoes node.new.comp node.new.here) }
         ensures turning { IsTurning node.new.comp };
 
+    /// What it carried: of a request or a reply that rides on the channel in this place, counted from 0. So it need not be held
+    /// while the other end is told.
+    fn carried(phases: &Phases, place: usize, value: Option<Value>) -> Option<Value>
+        requires there { place < length phases.now }
+        requires rides { sends MOVE ≡ true → riding (slice_index_or phases.now place Idle) ≡ value }
+        ensures { result ≡ value };
+
     /// Tells the other end of its channel: a request or a reply comes there.
     fn tell(nodes: &mut NodeRow, ready: &mut ReadyRow, pair: &Ends)
         requires active { HasBit (heres_of nodes.old) pair.now.active pair.now.active_port }
@@ -86,6 +94,14 @@ impl NodeMove for Asking {
     }
 
     #[inline(always)]
+    fn carried(phases: &Phases, place: usize, value: Option<Value>) -> Option<Value> {
+        match value {
+            Some(_) => Some(phases.value(place)),
+            None => None,
+        }
+    }
+
+    #[inline(always)]
     fn tell(nodes: &mut NodeRow, ready: &mut ReadyRow, pair: &Ends) {
         come(nodes, ready, pair.passive, pair.passive_port);
     }
@@ -103,6 +119,11 @@ impl NodeMove for Taking {
         look_at_moved(node);
         let goes = sure || can_go(&node.comp, &node.here, port);
         (rides, goes)
+    }
+
+    #[inline(always)]
+    fn carried(_phases: &Phases, _place: usize, value: Option<Value>) -> Option<Value> {
+        value
     }
 
     #[inline(always)]
@@ -125,6 +146,14 @@ impl NodeMove for Replying {
     }
 
     #[inline(always)]
+    fn carried(phases: &Phases, place: usize, value: Option<Value>) -> Option<Value> {
+        match value {
+            Some(_) => Some(phases.value(place)),
+            None => None,
+        }
+    }
+
+    #[inline(always)]
     fn tell(nodes: &mut NodeRow, ready: &mut ReadyRow, pair: &Ends) {
         come(nodes, ready, pair.active, pair.active_port);
     }
@@ -142,6 +171,11 @@ impl NodeMove for Getting {
         look_at_moved(node);
         let goes = sure || can_go(&node.comp, &node.here, port);
         (rides, goes)
+    }
+
+    #[inline(always)]
+    fn carried(_phases: &Phases, _place: usize, value: Option<Value>) -> Option<Value> {
+        value
     }
 
     #[inline(always)]
@@ -236,10 +270,10 @@ fn move_as<M: NodeMove>(
     let rides = phases.riding(place);
     let node = nodes.get_mut(node_id(comp));
     let (value, goes) = M::make(node, port, rides);
+    phases.make(place, M::MOVE, value);
     keep_marked(ready, comp, goes);
     M::tell(nodes, ready, &ends[place]);
-    phases.make(place, M::MOVE, value);
-    value
+    M::carried(phases, place, value)
 }
 
 // The port at which the component of a node is to move: the one that is given, or the lowest at which it can.

@@ -5,13 +5,14 @@ use Rattle.bz_model.specs.declared.channel.Phase.TheVariants.{Idle, Broken}
 use Rattle.bz_model.specs.Phases.{phase_after}
 use Rattle.bz_flat.specs.Flats.{site_of}
 use Rattle.bz_flat.specs.Wires.{ends_in}
+use Rattle.bz_kinds.specs.Riding.{riding}
 use Rattle.bz_net.specs.Keeping.{phase_in}
 use Rattle.bz_net.specs.Nodes.{comp_of, comps_of, heres_of}
 use Rattle.bz_net.specs.Told.{Left, ToldOther}
 use Rattle.bz_net.proofs.Hints.{next_read, told_read}
 use Rattle.bz_net.proofs.Nodes.{bits_read, comp_read, node_comps, node_heres}
 use Rattle.bz_net.proofs.Telling.{has_bit, few_read, room_read}
-use Rattle.bz_net.proofs.Moving.{bit_stays, bits_at, left_long, node_refreshed, node_turned}
+use Rattle.bz_net.proofs.Moving.{bit_stays, bits_at, left_long, node_refreshed, node_turned, rides_after, whole_by}
 use Rattle.bz_net.proofs.node_moves.move_as.Goals as goal
 
 pub make-value-requires-clause-next : goal.make-value-requires-clause-next
@@ -107,12 +108,23 @@ make-requires-clause-whole g c =
     let last = steps.is_port.port_to in let nodes_len = length-map nodes comp_of in let len = c.requires.sighted.comps_len in
     let bits = bits_at nodes c.args.comp i x above (omega (arith, below, len, nodes_len)) at is in
     let y = c.make-value.new.node in
-    let turned = node_turned sites phases (comps_of nodes) (comps_of c.tell.new.nodes) (heres_of nodes) (heres_of (set nodes i y)) (heres_of c.tell.new.nodes) c.args.comp p k g.M.NodeMove.MOVE c.make-value.result.0 x.comp y.comp (ends_in c.args.ends.now k) c.args.ready.now c.keep_marked.new.ready c.tell.new.ready y.here c.make-value.result.1
-    c.requires.sighted steps chan_is x_is (c.make-value.ensures.moves _ c.requires.next c.riding-rides.ensures) c.make-value.ensures.turns c.make-value.ensures.one c.make-value.ensures.chans
-    (c.requires.are_ends k (omega (arith, chan_is, from))) (c.tell.ensures.comps ∙ node_comps nodes c.args.comp i x at is y) (node_heres nodes c.args.comp i x at is y) c.keep_marked.ensures
-    (subst (λ l. Left g.M.NodeMove.MOVE l y.here p) bits c.make-value.ensures.left)
-    (subst (λ l. ToldOther l (heres_of (set nodes i y)) (heres_of c.tell.new.nodes) c.keep_marked.new.ready c.tell.new.ready (ends_in c.args.ends.now k) g.M.NodeMove.MOVE) (sym c.tell.ensures.comps) c.tell.ensures.told) in
-    rw c.MOVE.ensures (subst (λ (f : Phase). f ≢ Broken) (get_or-set_same phases (k - 1) (phase_after (phase_in phases k) g.M.NodeMove.MOVE c.make-value.result.0) Idle (omega (arith, chan_is, from, to))) ((c.requires.stays _ _ _ k g.M.NodeMove.MOVE c.make-value.result.0 turned).kept k))
+    rw c.MOVE.ensures (whole_by sites phases (comps_of nodes) (heres_of nodes) c.requires.sighted c.args.comp p k c.requires.turning steps chan_is g.M.NodeMove.MOVE c.make-value.result.0 x.comp y.comp x_is c.requires.next c.make-value.ensures.turns)
+
+pub carried-requires-clause-rides : goal.carried-requires-clause-rides
+carried-requires-clause-rides g c sends =
+    let sites = map site_of c.args.sites.now in let nodes = c.args.nodes.now in let phases = c.args.phases.now in
+    let steps = c.requires.steps in let above = steps.is_port.comp_from in let below = steps.is_port.comp_to in
+    let x = c.get_mut-node.result.now in let i = c.node_id.result in let at = c.node_id.ensures in let is = c.get_mut-node.ensures.value in
+    let x_is = comp_read nodes c.args.comp i x at is in let h_is = bits_read nodes c.args.comp i x at is in
+    let p = c.args.port in let k = c.args.chan in
+    let from = c.requires.placed.chan_from c.args.comp p steps.is_port in let to = c.requires.placed.chan_to c.args.comp p steps.is_port in
+    let chan_is = c.requires.on in
+    let last = steps.is_port.port_to in let nodes_len = length-map nodes comp_of in let len = c.requires.sighted.comps_len in
+    let bits = bits_at nodes c.args.comp i x above (omega (arith, below, len, nodes_len)) at is in
+    let y = c.make-value.new.node in
+    let phase = phase_after (phase_in phases k) g.M.NodeMove.MOVE c.make-value.result.0 in
+    let whole = whole_by sites phases (comps_of nodes) (heres_of nodes) c.requires.sighted c.args.comp p k c.requires.turning steps chan_is g.M.NodeMove.MOVE c.make-value.result.0 x.comp y.comp x_is c.requires.next c.make-value.ensures.turns in
+    rw c.make.ensures (rw c.MOVE.ensures (ap riding (get_or-set_same phases (k - 1) phase Idle (omega (arith, chan_is, from, to))) ∙ rides_after (phase_in phases k) g.M.NodeMove.MOVE c.make-value.result.0 whole sends))
 
 pub returns-clause-told : goal.returns-clause-told
 returns-clause-told g c =
@@ -126,12 +138,12 @@ returns-clause-told g c =
     let last = steps.is_port.port_to in let nodes_len = length-map nodes comp_of in let len = c.requires.sighted.comps_len in
     let bits = bits_at nodes c.args.comp i x above (omega (arith, below, len, nodes_len)) at is in
     let y = c.make-value.new.node in
-    rw c.make.ensures (rw c.MOVE.ensures
+    rw c.carried.ensures (rw c.make.ensures (rw c.MOVE.ensures
     (node_turned sites phases (comps_of nodes) (comps_of c.tell.new.nodes) (heres_of nodes) (heres_of (set nodes i y)) (heres_of c.tell.new.nodes) c.args.comp p k g.M.NodeMove.MOVE c.make-value.result.0 x.comp y.comp (ends_in c.args.ends.now k) c.args.ready.now c.keep_marked.new.ready c.tell.new.ready y.here c.make-value.result.1
     c.requires.sighted steps chan_is x_is (c.make-value.ensures.moves _ c.requires.next c.riding-rides.ensures) c.make-value.ensures.turns c.make-value.ensures.one c.make-value.ensures.chans
     (c.requires.are_ends k (omega (arith, chan_is, from))) (c.tell.ensures.comps ∙ node_comps nodes c.args.comp i x at is y) (node_heres nodes c.args.comp i x at is y) c.keep_marked.ensures
     (subst (λ l. Left g.M.NodeMove.MOVE l y.here p) bits c.make-value.ensures.left)
-    (subst (λ l. ToldOther l (heres_of (set nodes i y)) (heres_of c.tell.new.nodes) c.keep_marked.new.ready c.tell.new.ready (ends_in c.args.ends.now k) g.M.NodeMove.MOVE) (sym c.tell.ensures.comps) c.tell.ensures.told)))
+    (subst (λ l. ToldOther l (heres_of (set nodes i y)) (heres_of c.tell.new.nodes) c.keep_marked.new.ready c.tell.new.ready (ends_in c.args.ends.now k) g.M.NodeMove.MOVE) (sym c.tell.ensures.comps) c.tell.ensures.told))))
 
 pub returns-clause-refreshed : goal.returns-clause-refreshed
 returns-clause-refreshed g c =
