@@ -34,6 +34,11 @@ abbrev pub IsNextInWord : List Bool → ℕ → Option ℕ → Type 0
 IsNextInWord xs from None = (k : ℕ) → from ≤ k → k / 64 ≡ from / 64 → slice_index_or xs k false ≡ false
 IsNextInWord xs from (Some k) = (k / 64 ≡ from / 64) × IsNext xs from (Some k)
 
+-- the first 1 above a place in the word of that place
+abbrev pub IsNextAfter : List Bool → ℕ → Option ℕ → Type 0
+IsNextAfter xs place None = (k : ℕ) → place < k → k / 64 ≡ place / 64 → slice_index_or xs k false ≡ false
+IsNextAfter xs place (Some k) = (k / 64 ≡ place / 64) × IsNext xs (suc place) (Some k)
+
 -- whether a word has a 1
 abbrev pub HasOne : List Bool → ℕ → Bool → Type 0
 HasOne xs at true = (k : ℕ) × (k / 64 ≡ at) × (slice_index_or xs k false ≡ true)

@@ -1,7 +1,7 @@
 //! A row of bits, in words of 64.
 ghost use Rattle.std.specs.Prelude.{◌≡◌, ◌+◌, ◌*◌, ◌/◌, ◌==◌, ◌^◌, ◌<◌, ◌≤◌, ℕ, true, false, length, replicate, slice_index_or, slice_set, IfOk, Some};
 ghost use Rattle.std.specs.Int.{bit_at};
-ghost use Rattle.bz_bits.specs.Row.{bits, IsNext, IsNextInWord, HasOne};
+ghost use Rattle.bz_bits.specs.Row.{bits, IsNext, IsNextAfter, IsNextInWord, HasOne};
 
 use std::alloc::{AllocError, Allocator, Global};
 use std::marker::Model;
@@ -122,6 +122,19 @@ impl<A: Allocator> BitRow<A> {
             return None;
         }
         Some(from / 64 * 64 + found.trailing_zeros() as usize)
+    }
+
+    /// The first place above `place`, in its word, whose bit is 1.
+    #[inline(always)]
+    pub(crate) fn next_after(&self, place: usize) -> Option<usize>
+        requires { place < length self.now }
+        ensures { IsNextAfter self.now place result }
+    {
+        let found = self.words[place / 64] >> (place % 64) >> 1;
+        if found == 0 {
+            return None;
+        }
+        Some(place + 1 + found.trailing_zeros() as usize)
     }
 
     /// The first place of a word that has a 1.

@@ -1,6 +1,6 @@
 //! A row of bits that can be searched without reading all its words.
-ghost use Rattle.std.specs.Prelude.{◌≡◌, ◌<◌, ◌≤◌, true, false, None, length, replicate, slice_index_or, slice_set, IfOk};
-ghost use Rattle.bz_bits.specs.Row.{IsNext, IsNextInWord, Sums};
+ghost use Rattle.std.specs.Prelude.{◌≡◌, ◌+◌, ◌*◌, ◌/◌, ◌<◌, ◌≤◌, suc, true, false, None, length, replicate, slice_index_or, slice_set, IfOk};
+ghost use Rattle.bz_bits.specs.Row.{IsNext, IsNextAfter, IsNextInWord, Sums};
 
 use crate::row::BitRow;
 use std::alloc::{AllocError, Allocator, Global};
@@ -116,7 +116,7 @@ impl<A: Allocator + Copy> SummedRow<A> {
         requires { IsNextInWord self.now from None }
         ensures { IsNext self.now from result }
     {
-        self.next_beyond(from)
+        self.next_behind(from)
     }
 
     /// The first place at or above `from`, in the word of `from`, whose bit is 1.
@@ -128,13 +128,31 @@ impl<A: Allocator + Copy> SummedRow<A> {
         self.row.next_in_word(from)
     }
 
-    /// The first place at or above `from` whose bit is 1, where the word of `from` has none.
+    /// The first place above `place`, in its word, whose bit is 1.
     #[inline(always)]
-    pub fn next_beyond(&self, from: usize) -> Option<usize>
-        requires { IsNextInWord self.now from None }
-        ensures { IsNext self.now from result }
+    pub fn next_after(&self, place: usize) -> Option<usize>
+        requires { place < length self.now }
+        ensures near { IsNextAfter self.now place result }
+        ensures few { length self.now ≤ 64 → IsNext self.now (suc place) result }
     {
-        match next_word(&self.words, &self.blocks, from / 64 + 1) {
+        self.row.next_after(place)
+    }
+
+    /// The first place above `place` whose bit is 1, where its word has none above it.
+    #[inline(always)]
+    pub fn next_past(&self, place: usize) -> Option<usize>
+        requires { IsNextAfter self.now place None }
+        ensures { IsNext self.now (suc place) result }
+    {
+        self.next_behind(place)
+    }
+
+    // The first place in a word behind that of `place` whose bit is 1.
+    #[inline(always)]
+    fn next_behind(&self, place: usize) -> Option<usize>
+        ensures { IsNext self.now (64 * (place / 64 + 1)) result }
+    {
+        match next_word(&self.words, &self.blocks, place / 64 + 1) {
             Some(word) => Some(self.row.first_in(word)),
             None => None,
         }

@@ -161,9 +161,9 @@ fn fire_out<W: Write>(play: &mut Play, fuel: u64, lines: &mut Outgoing, out: &mu
         (λ old new. Ran old new (who.Worker 1) 1 fuel result) }
 {
     let due = play.let_in(fuel);
-    let mut next = 1;
+    let mut last = 0;
     for fired in 0..due {
-        match play.step_within(Who::Worker(1), next) {
+        match play.step_after(Who::Worker(1), last) {
             Entry::Fired {
                 who,
                 comp,
@@ -173,7 +173,7 @@ fn fire_out<W: Write>(play: &mut Play, fuel: u64, lines: &mut Outgoing, out: &mu
                 value,
             } => {
                 lines.fired(out, who, comp, mv, chan, value);
-                next = comp + 1;
+                last = comp;
             }
             _ => {
                 lines.rested(out, Who::Worker(1));

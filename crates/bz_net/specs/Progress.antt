@@ -1,5 +1,5 @@
 -- What contracts see of a net that keeps no journal. Whoever plays it may keep one: then it is a net with that journal.
-use Rattle.std.specs.Prelude.{◌≡◌, ℕ, Bool, ◌+◌, ◌^◌, ◌<◌, ⊤, Option, Some, None, List, [], ◌∷◌, ◌++◌, length, Contains, ◌↔◌}
+use Rattle.std.specs.Prelude.{◌≡◌, ℕ, Bool, ◌+◌, ◌<◌, ◌≤◌, ⊤, Option, Some, None, List, [], ◌∷◌, ◌++◌, length, Contains, ◌↔◌}
 use Rattle.bz_model.specs.declared.event.NetError.{NetError}
 use Rattle.bz_model.specs.declared.event.NetError.TheVariants.{JournalFull}
 use Rattle.bz_model.specs.declared.event.Verb.{Verb}
@@ -63,11 +63,11 @@ RefusesAt old verb port value e = refusal_at old.wiring verb port value ≡ Some
 abbrev pub FiresAt : Progress → Progress → Who → ℕ → Option ℕ → Entry → Type 0
 FiresAt old new who c at entry = (p : ℕ) × MovesAt old.wiring.sites old.state c at p × IsFiring who c p entry × IsSoleStep (with_journal old []) (with_journal new []) who c p entry
 
--- the number after that of the component that moved is one of 32 bits
-abbrev pub IsBelowLast : Entry → Type 0
-IsBelowLast (Fired who c p k mv value) = c + 1 < 2 ^ 32
-IsBelowLast (Host who verb port value reply) = ⊤
-IsBelowLast (Rested who) = ⊤
+-- the component that moved is one of so many
+abbrev pub IsOneOf : ℕ → Entry → Type 0
+IsOneOf count (Fired who c p k mv value) = c ≤ count
+IsOneOf count (Host who verb port value reply) = ⊤
+IsOneOf count (Rested who) = ⊤
 
 -- a number of firings in a row; where all that were due are made, the next search begins at `next`
 abbrev pub RanTo : Simulation → Simulation → Who → ℕ → ℕ → ℕ → RunEnd → Type 0

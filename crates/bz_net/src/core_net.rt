@@ -1,7 +1,7 @@
 //! A net without a journal: its wiring, one state of it, and which components can move in it. Who reads a net reads its core,
 //! whether it keeps a journal (`Net`) or none (`Play`).
 
-ghost use Rattle.std.specs.Prelude.{◌≡◌, ◌≢◌, ◌≤◌, ◌<◌, None, Some, IfSome, IsTrue, MatchBool, MatchOption, OnOk, IfOk, IfErr, IfNone, length};
+ghost use Rattle.std.specs.Prelude.{◌≡◌, ◌≢◌, ◌-◌, ◌≤◌, ◌<◌, None, Some, IfSome, IsTrue, MatchBool, MatchOption, OnOk, IfOk, IfErr, IfNone, length, min, suc};
 ghost use Rattle.std.specs.Option.{option_copied, option_map};
 ghost use Rattle.bz_model.specs.Hosts.{HostStep, command_refusal, refusal_at, reply_to};
 ghost use Rattle.bz_model.specs.Names.{NamesDiffer, numbered, port_number};
@@ -13,7 +13,7 @@ ghost use Rattle.bz_net.specs.Core.{IsSole};
 ghost use Rattle.bz_net.specs.Due.{Foresees, GivesAsSteps, HasStep, IsSoleDue, TellsDue};
 ghost use Rattle.bz_net.specs.Ends.{TellsEnds, TellsPort, IsSolePort};
 ghost use Rattle.bz_net.specs.Foretelling.{IsForetold};
-ghost use Rattle.bz_net.specs.Near.{NoneNear};
+ghost use Rattle.bz_net.specs.Near.{NoneAfter};
 ghost use Rattle.bz_net.specs.Noted.{AskedBefore, NotedAt, NotedMove, WatchesBut};
 ghost use Rattle.bz_net.specs.Sides.{answers};
 ghost use Rattle.bz_net.specs.Told.{MayMove, MovesAt};
@@ -406,29 +406,39 @@ impl Core {
         ensures { MatchOption result (Rest self.now.wiring.sites self.now.state)
             (IsNext (CanStep self.now.wiring.sites self.now.state) from) }
     {
-        if let Some(comp) = self.next_near(from) {
+        let last = self.last_before(from);
+        if let Some(comp) = self.next_after(last) {
             return Some(comp);
         }
-        self.next_around(from)
+        self.next_past(last)
     }
 
-    /// The same, where it is found by one look.
+    /// The last component before a number, 0 where there is none: who looks for the next one from that number on looks behind it.
     #[inline(always)]
-    pub(crate) fn next_near(&self, from: u32) -> Option<u32>
-        ensures some { IfSome result (IsNext (CanStep self.now.wiring.sites self.now.state) from) }
-        ensures none { IfNone result (NoneNear (CanStep self.now.wiring.sites self.now.state) from) }
+    pub(crate) fn last_before(&self, from: u32) -> u32
+        ensures { result ≡ min (from - 1) (length self.now.wiring.sites) }
     {
-        self.ready.next_near(from)
+        from.saturating_sub(1).min(self.comp_count())
+    }
+
+    /// The component that is next to fire from the number after this one, where it is found by one look.
+    #[inline(always)]
+    pub(crate) fn next_after(&self, last: u32) -> Option<u32>
+        requires { last ≤ length self.now.wiring.sites }
+        ensures some { IfSome result (IsNext (CanStep self.now.wiring.sites self.now.state) (suc last)) }
+        ensures none { IfNone result (NoneAfter (CanStep self.now.wiring.sites self.now.state) last) }
+    {
+        self.ready.next_after(last)
     }
 
     /// The same, wherever it is. It is called with the whole core, so that no address in it is kept for this call.
     #[inline(never)]
-    pub(crate) fn next_around(&self, from: u32) -> Option<u32>
-        requires { NoneNear (CanStep self.now.wiring.sites self.now.state) from }
+    pub(crate) fn next_past(&self, last: u32) -> Option<u32>
+        requires { NoneAfter (CanStep self.now.wiring.sites self.now.state) last }
         ensures { MatchOption result (Rest self.now.wiring.sites self.now.state)
-            (IsNext (CanStep self.now.wiring.sites self.now.state) from) }
+            (IsNext (CanStep self.now.wiring.sites self.now.state) (suc last)) }
     {
-        self.ready.next_around(from)
+        self.ready.next_past(last)
     }
 
     /// The lowest port at which a component can move.

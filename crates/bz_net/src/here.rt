@@ -25,9 +25,8 @@ use crate::node::{Node, node_id};
 use crate::node_row::NodeRow;
 use crate::ready_row::ReadyRow;
 use bz_arena::Arena;
-use bz_bits::PortBits;
 use bz_flat::{Ends, FlatComp};
-use bz_kinds::{Comp, far_word, next_due, ready_word, waits_to};
+use bz_kinds::{far_word, next_due, ready_word, waits_to};
 use bz_model::{Move, Phase, Reply, Value, Verb};
 use std::alloc::{AllocError, Global};
 
@@ -44,115 +43,115 @@ pub(crate) fn is_here(phase: Phase, passive: bool) -> bool
 
 /// The lowest port at which a component can move by what it is told.
 #[inline(always)]
-pub(crate) fn lowest_of(comp: &Comp, here: &PortBits) -> Option<u32>
-    requires room { length comp.now.chans < 64 * length here.now }
-    requires few { length here.now ≤ 2 ^ 26 }
-    ensures lowest { MatchOption result (NoneGoes comp.now here.now) (GoesFirst comp.now here.now) }
-    ensures turning { IsTurning comp.now }
+pub(crate) fn lowest_of(node: &Node) -> Option<u32>
+    requires room { length node.now.comp.chans < 64 * length node.now.here }
+    requires few { length node.now.here ≤ 2 ^ 26 }
+    ensures lowest { MatchOption result (NoneGoes node.now.comp node.now.here) (GoesFirst node.now.comp node.now.here) }
+    ensures turning { IsTurning node.now.comp }
 {
-    let word = ready_word(comp, 0, here.word(0));
+    let word = ready_word(&node.comp, 0, node.here.word(0));
     if word != 0 {
         return Some(word.trailing_zeros());
     }
-    if here.word_count() == 1 {
+    if node.here.word_count() == 1 {
         return None;
     }
-    lowest_far(comp, here)
+    lowest_far(node)
 }
 
 // The same of the ports from 64 on, where there is none before.
 #[cold]
 #[inline(never)]
-fn lowest_far(comp: &Comp, here: &PortBits) -> Option<u32>
-    requires room { length comp.now.chans < 64 * length here.now }
-    requires few { length here.now ≤ 2 ^ 26 }
-    requires near { (p : ℕ) → p < 64 → CanGo comp.now.proc p (flag_of here.now p) → ⊥ }
-    ensures { MatchOption result (NoneGoes comp.now here.now) (GoesFirst comp.now here.now) }
+fn lowest_far(node: &Node) -> Option<u32>
+    requires room { length node.now.comp.chans < 64 * length node.now.here }
+    requires few { length node.now.here ≤ 2 ^ 26 }
+    requires near { (p : ℕ) → p < 64 → CanGo node.now.comp.proc p (flag_of node.now.here p) → ⊥ }
+    ensures { MatchOption result (NoneGoes node.now.comp node.now.here) (GoesFirst node.now.comp node.now.here) }
 {
-    let at = next_due(comp, 1);
-    if at >= here.word_count() {
+    let at = next_due(&node.comp, 1);
+    if at >= node.here.word_count() {
         return None;
     }
-    let word = far_word(comp, at as u32, here.word(at));
+    let word = far_word(&node.comp, at as u32, node.here.word(at));
     if word != 0 {
         return Some(64 * at as u32 + word.trailing_zeros());
     }
-    lowest_from(comp, here, at + 1)
+    lowest_from(node, at + 1)
 }
 
 // The same of the words from one on, where there is none before.
 #[inline(never)]
-fn lowest_from(comp: &Comp, here: &PortBits, from: usize) -> Option<u32>
-    requires room { length comp.now.chans < 64 * length here.now }
-    requires few { length here.now ≤ 2 ^ 26 }
+fn lowest_from(node: &Node, from: usize) -> Option<u32>
+    requires room { length node.now.comp.chans < 64 * length node.now.here }
+    requires few { length node.now.here ≤ 2 ^ 26 }
     requires far { 0 < from }
-    requires before { (p : ℕ) → p < 64 * from → CanGo comp.now.proc p (flag_of here.now p) → ⊥ }
-    ensures { MatchOption result (NoneGoes comp.now here.now) (GoesFirst comp.now here.now) }
+    requires before { (p : ℕ) → p < 64 * from → CanGo node.now.comp.proc p (flag_of node.now.here p) → ⊥ }
+    ensures { MatchOption result (NoneGoes node.now.comp node.now.here) (GoesFirst node.now.comp node.now.here) }
 {
-    let end = here.word_count();
-    let mut at = next_word(comp, here, from);
+    let end = node.here.word_count();
+    let mut at = next_word(node, from);
     while at < end {
-        let word = far_word(comp, at as u32, here.word(at));
+        let word = far_word(&node.comp, at as u32, node.here.word(at));
         if word != 0 {
             return Some(64 * at as u32 + word.trailing_zeros());
         }
-        at = next_word(comp, here, at + 1);
+        at = next_word(node, at + 1);
     }
     None
 }
 
 // The first word from one on in which it may be able to move: as far as it waits there, one in which something is here.
 #[inline(always)]
-fn next_word(comp: &Comp, here: &PortBits, from: usize) -> usize
+fn next_word(node: &Node, from: usize) -> usize
     requires { 0 < from }
     ensures from { from ≤ result }
-    ensures passed { (p : ℕ) → 64 * from ≤ p → p < 64 * result → CanGo comp.now.proc p (flag_of here.now p) → ⊥ }
+    ensures passed { (p : ℕ) → 64 * from ≤ p → p < 64 * result → CanGo node.now.comp.proc p (flag_of node.now.here p) → ⊥ }
 {
-    let end = waits_to(comp, from);
+    let end = waits_to(&node.comp, from);
     if end == from {
-        return next_due(comp, from);
+        return next_due(&node.comp, from);
     }
-    here.next_one(from, end)
+    node.here.next_one(from, end)
 }
 
 /// Whether a component can move by what it is told. Of the ports from 64 on those round `port` are looked at first: there it
 /// often can, and then no others are looked at.
 #[inline(always)]
-pub(crate) fn can_go(comp: &Comp, here: &PortBits, port: u32) -> bool
-    requires room { length comp.now.chans < 64 * length here.now }
-    requires few { length here.now ≤ 2 ^ 26 }
-    ensures goes { MatchBool result (Goes comp.now here.now) (NoneGoes comp.now here.now) }
-    ensures turning { IsTurning comp.now }
+pub(crate) fn can_go(node: &Node, port: u32) -> bool
+    requires room { length node.now.comp.chans < 64 * length node.now.here }
+    requires few { length node.now.here ≤ 2 ^ 26 }
+    ensures goes { MatchBool result (Goes node.now.comp node.now.here) (NoneGoes node.now.comp node.now.here) }
+    ensures turning { IsTurning node.now.comp }
 {
-    if ready_word(comp, 0, here.word(0)) != 0 {
+    if ready_word(&node.comp, 0, node.here.word(0)) != 0 {
         return true;
     }
-    if here.word_count() != 1 {
-        return can_go_far(comp, here, port);
+    if node.here.word_count() != 1 {
+        return can_go_far(node, port);
     }
     false
 }
 
 // The same of the ports from 64 on, where there is none before.
 #[inline(never)]
-fn can_go_far(comp: &Comp, here: &PortBits, port: u32) -> bool
-    requires room { length comp.now.chans < 64 * length here.now }
-    requires few { length here.now ≤ 2 ^ 26 }
-    requires near { (p : ℕ) → p < 64 → CanGo comp.now.proc p (flag_of here.now p) → ⊥ }
-    ensures { MatchBool result (Goes comp.now here.now) (NoneGoes comp.now here.now) }
+fn can_go_far(node: &Node, port: u32) -> bool
+    requires room { length node.now.comp.chans < 64 * length node.now.here }
+    requires few { length node.now.here ≤ 2 ^ 26 }
+    requires near { (p : ℕ) → p < 64 → CanGo node.now.comp.proc p (flag_of node.now.here p) → ⊥ }
+    ensures { MatchBool result (Goes node.now.comp node.now.here) (NoneGoes node.now.comp node.now.here) }
 {
     let at = port as usize / 64;
     if at > 0 {
-        let word = far_word(comp, at as u32, here.word(at));
+        let word = far_word(&node.comp, at as u32, node.here.word(at));
         if word != 0 {
             return true;
         }
-        let next = next_due(comp, 1);
+        let next = next_due(&node.comp, 1);
         if next == at {
-            return lowest_from(comp, here, next + 1).is_some();
+            return lowest_from(node, next + 1).is_some();
         }
     }
-    lowest_far(comp, here).is_some()
+    lowest_far(node).is_some()
 }
 
 /// Whether a component has a step. The ports round `port` are looked at first.
@@ -166,7 +165,7 @@ fn can_step(sites: &Arena<FlatComp>, phases: &Phases, nodes: &NodeRow, comp: u32
         (CanStep (map site_of sites.now) (state_of phases.now (comps_of nodes.now)) comp → ⊥) }
 {
     let node = nodes.get(node_id(comp));
-    can_go(&node.comp, &node.here, port)
+    can_go(node, port)
 }
 
 /// Whether a component has a step at a port.
@@ -188,7 +187,7 @@ pub(crate) fn has_step(
         return false;
     }
     let node = nodes.get(node_id(comp));
-    goes_at(&node.comp, &node.here, port)
+    goes_at(node, port)
 }
 
 /// Whether a component has a step by this move on a channel, which it makes at this port, with this value. Which move comes
@@ -250,28 +249,28 @@ pub(crate) fn carries(
 
 // Whether a component can move at a port by what it is told.
 #[inline(always)]
-fn goes_at(comp: &Comp, here: &PortBits, port: u32) -> bool
-    ensures goes { IsTrue result ↔ CanGo comp.now.proc port (flag_of here.now port) }
-    ensures held { (p : ℕ) (h : Head) → IsHeadOn comp.now.proc p h → (0 < p) × (p ≤ length comp.now.chans) }
-    ensures turning { IsTurning comp.now }
+fn goes_at(node: &Node, port: u32) -> bool
+    ensures goes { IsTrue result ↔ CanGo node.now.comp.proc port (flag_of node.now.here port) }
+    ensures held { (p : ℕ) (h : Head) → IsHeadOn node.now.comp.proc p h → (0 < p) × (p ≤ length node.now.comp.chans) }
+    ensures turning { IsTurning node.now.comp }
 {
     if port >= 64 {
-        return goes_at_far(comp, here, port);
+        return goes_at_far(node, port);
     }
-    let near = ready_word(comp, 0, here.word(0));
+    let near = ready_word(&node.comp, 0, node.here.word(0));
     (near >> port) & 1 == 1
 }
 
 // The same of any port.
 #[cold]
 #[inline(never)]
-fn goes_at_far(comp: &Comp, here: &PortBits, port: u32) -> bool
-    ensures goes { IsTrue result ↔ CanGo comp.now.proc port (flag_of here.now port) }
-    ensures held { (p : ℕ) (h : Head) → IsHeadOn comp.now.proc p h → (0 < p) × (p ≤ length comp.now.chans) }
-    ensures turning { IsTurning comp.now }
+fn goes_at_far(node: &Node, port: u32) -> bool
+    ensures goes { IsTrue result ↔ CanGo node.now.comp.proc port (flag_of node.now.here port) }
+    ensures held { (p : ℕ) (h : Head) → IsHeadOn node.now.comp.proc p h → (0 < p) × (p ≤ length node.now.comp.chans) }
+    ensures turning { IsTurning node.now.comp }
 {
     let at = port / 64;
-    let word = ready_word(comp, at, here.word(at as usize));
+    let word = ready_word(&node.comp, at, node.here.word(at as usize));
     (word >> (port % 64)) & 1 == 1
 }
 
@@ -291,7 +290,7 @@ pub(crate) fn lowest_port(
         (IsLowest (map site_of sites.now) (state_of phases.now (comps_of nodes.now)) comp) }
 {
     let node = nodes.get(node_id(comp));
-    lowest_of(&node.comp, &node.here)
+    lowest_of(node)
 }
 
 /// Tells the ports at both ends of a channel of its phase.

@@ -89,7 +89,7 @@ impl NodeMove for Asking {
     fn make(node: &mut Node, port: u32, _rides: Option<Value>) -> (Option<Value>, bool) {
         let (value, waits) = bz_kinds::ask(&mut node.comp, port);
         look_at_moved(node);
-        let goes = !waits && can_go(&node.comp, &node.here, port);
+        let goes = !waits && can_go(node, port);
         (value, goes)
     }
 
@@ -117,7 +117,7 @@ impl NodeMove for Taking {
         node.here.put(port as usize, false);
         let sure = bz_kinds::take(&mut node.comp, port, rides);
         look_at_moved(node);
-        let goes = sure || can_go(&node.comp, &node.here, port);
+        let goes = sure || can_go(node, port);
         (rides, goes)
     }
 
@@ -141,7 +141,7 @@ impl NodeMove for Replying {
     fn make(node: &mut Node, port: u32, _rides: Option<Value>) -> (Option<Value>, bool) {
         let (value, waits) = bz_kinds::reply(&mut node.comp, port);
         look_at_moved(node);
-        let goes = !waits && can_go(&node.comp, &node.here, port);
+        let goes = !waits && can_go(node, port);
         (value, goes)
     }
 
@@ -169,7 +169,7 @@ impl NodeMove for Getting {
         node.here.put(port as usize, false);
         let sure = bz_kinds::got(&mut node.comp, port, rides);
         look_at_moved(node);
-        let goes = sure || can_go(&node.comp, &node.here, port);
+        let goes = sure || can_go(node, port);
         (rides, goes)
     }
 
@@ -286,7 +286,7 @@ fn port_of(node: &Node, at: Option<u32>) -> u32
 {
     match at {
         Some(port) => port,
-        None => lowest_of(&node.comp, &node.here).unwrap(),
+        None => lowest_of(node).unwrap(),
     }
 }
 

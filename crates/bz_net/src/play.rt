@@ -1,6 +1,6 @@
 //! A net that keeps no journal: the entries of its events go to whoever plays it.
 
-ghost use Rattle.std.specs.Prelude.{◌≡◌, ◌⊎◌, ◌-◌, ◌≤◌, ◌<◌, ℕ, min, length, [], ◌∷◌, ◌++◌, None, false, true, vec_len, vec_capacity, IfOk, IfErr, IfSome, IfNone, IsTrue, OnErr, List};
+ghost use Rattle.std.specs.Prelude.{◌≡◌, ◌⊎◌, ◌-◌, ◌≤◌, ◌<◌, ℕ, min, suc, length, [], ◌∷◌, ◌++◌, None, false, true, vec_len, vec_capacity, IfOk, IfErr, IfSome, IfNone, IsTrue, OnErr, List};
 ghost use Rattle.std.specs.List.Sorted.{IsStrictlyIncreasing};
 ghost use Rattle.bz_model.specs.declared.event.Entry.{Entry};
 ghost use Rattle.bz_model.specs.declared.event.Reply.{Reply};
@@ -11,7 +11,7 @@ ghost use Rattle.bz_model.specs.Runs.{Rest};
 ghost use Rattle.bz_flat.specs.Wires.{WellWired};
 ghost use Rattle.bz_net.specs.Due.{GivesAsSteps, HasStep, LeadsOnlyTo};
 ghost use Rattle.bz_net.specs.Foretelling.{IsForetold};
-ghost use Rattle.bz_net.specs.Progress.{Enters, EntersRest, FiresAt, IsBelowLast, IsToldBy, LeadsOn, RefusesAt, RunsInto, with_journal};
+ghost use Rattle.bz_net.specs.Progress.{Enters, EntersRest, FiresAt, IsOneOf, IsToldBy, LeadsOn, RefusesAt, RunsInto, with_journal};
 ghost use Rattle.bz_net.specs.Replies.{IsPicked, RefusesCommand, RefusesEntry, Replies};
 ghost use Rattle.bz_net.specs.Told.{MayMove};
 
@@ -240,25 +240,27 @@ impl Play {
         ensures enters { IfSome result (λ entry. Enters self.old entry self.new) }
         ensures full { IfNone result ((self.new ≡ self.old) × (self.old.left ≡ 0)) }
         // So the next search can begin at the number after that of the component.
-        ensures above { IfSome result IsBelowLast }
+        ensures within { IfSome result (IsOneOf (length self.old.wiring.sites)) }
     {
         if self.left == 0 {
             return None;
         }
-        Some(self.step_within(who, from))
+        let last = self.core.last_before(from);
+        Some(self.step_after(who, last))
     }
 
-    /// The same where one more entry is let in.
+    /// The same from the number after this one, which is that of a component or 0, where one more entry is let in.
     #[inline(always)]
-    pub fn step_within(&mut self, who: Who, from: u32) -> Entry
-        requires { 0 < self.old.left }
-        ensures picked { IsPicked (with_journal self.old []) who from result }
+    pub fn step_after(&mut self, who: Who, last: u32) -> Entry
+        requires place { 0 < self.old.left }
+        requires from { last ≤ length self.old.wiring.sites }
+        ensures picked { IsPicked (with_journal self.old []) who (suc last) result }
         ensures enters { Enters self.old result self.new }
-        ensures above { IsBelowLast result }
+        ensures within { IsOneOf (length self.old.wiring.sites) result }
     {
-        let comp = match self.core.next_near(from) {
+        let comp = match self.core.next_after(last) {
             Some(comp) => comp,
-            None => match self.core.next_around(from) {
+            None => match self.core.next_past(last) {
                 Some(comp) => comp,
                 None => {
                     self.left -= 1;

@@ -1,7 +1,7 @@
 //! Which components of a net can move, as the core keeps it.
 
-ghost use Rattle.std.specs.Prelude.{◌≡◌, ◌+◌, ◌<◌, ◌≤◌, ◌^◌, false, length, replicate, slice_index_or, slice_set, true, IfNone, IfOk, IfSome, None, Some};
-ghost use Rattle.bz_bits.specs.Row.{IsNext, IsNextInWord};
+ghost use Rattle.std.specs.Prelude.{◌≡◌, ◌+◌, ◌<◌, ◌≤◌, ◌^◌, false, length, replicate, slice_index_or, slice_set, suc, true, IfNone, IfOk, IfSome, None, Some};
+ghost use Rattle.bz_bits.specs.Row.{IsNext, IsNextAfter};
 ghost use Rattle.bz_ready.specs.Set.{IsNextFrom};
 
 use bz_bits::SummedRow;
@@ -64,15 +64,16 @@ impl ReadyRow {
         self.marks.lower(comp as usize);
     }
 
-    /// The least that can move at or above `from`, else the least of all, where that is found by one look: it mostly lies in the
-    /// word of `from`, and where there are few, it always does.
+    /// The least that can move behind `last`, else the least of all, where that is found by one look: it mostly lies in the word
+    /// of `last`, and where there are few, it always does.
     #[inline(always)]
     #[tactic(auto, using(bz_ready::proofs::Nexts::above, bz_ready::proofs::Nexts::around_all))]
-    pub(crate) fn next_near(&self, from: u32) -> Option<u32>
-        ensures some { IfSome result (λ comp. IsNextFrom self.now from (Some comp)) }
-        ensures none { IfNone result (IsNextInWord self.now from None) }
+    pub(crate) fn next_after(&self, last: u32) -> Option<u32>
+        requires { last < length self.now }
+        ensures some { IfSome result (λ comp. IsNextFrom self.now (suc last) (Some comp)) }
+        ensures none { IfNone result (IsNextAfter self.now last None) }
     {
-        if let Some(place) = self.marks.next_near(from as usize) {
+        if let Some(place) = self.marks.next_after(last as usize) {
             return Some(place as u32);
         }
         if self.marks.len() > 64 {
@@ -84,15 +85,14 @@ impl ReadyRow {
         }
     }
 
-    /// The same where none in the word of `from` can move from there on. `None` where none can at all. Mostly there is none behind
-    /// it either.
+    /// The same where none behind it in its word can move. `None` where none can at all. Mostly there is none behind it either.
     #[inline(always)]
     #[tactic(auto, using(bz_ready::proofs::Nexts::above, bz_ready::proofs::Nexts::around_all))]
-    pub(crate) fn next_around(&self, from: u32) -> Option<u32>
-        requires { IsNextInWord self.now from None }
-        ensures { IsNextFrom self.now from result }
+    pub(crate) fn next_past(&self, last: u32) -> Option<u32>
+        requires { IsNextAfter self.now last None }
+        ensures { IsNextFrom self.now (suc last) result }
     {
-        if let Some(place) = self.marks.next_beyond(from as usize) {
+        if let Some(place) = self.marks.next_past(last as usize) {
             return Some(place as u32);
         }
         first_marked(&self.marks)

@@ -42,6 +42,10 @@ impl Bench for SummedRow {
             "next" => show(alloc, &self.next_from(place)),
             _ if place >= self.len() => Err("no such place".into()),
             "get" => show(alloc, &self.get(place)),
+            "after" => match self.next_after(place) {
+                None => show(alloc, &self.next_past(place)),
+                found => show(alloc, &found),
+            },
             "raise" => {
                 self.raise(place);
                 done(alloc)
@@ -182,6 +186,13 @@ next 0 | Some(63)
 next 64 | Some(64)
 next 65 | Some(4095)
 next 4096 | Some(599999)
+after 0 | Some(63)
+after 62 | Some(63)
+after 63 | Some(64)
+after 64 | Some(4095)
+after 4094 | Some(4095)
+after 4095 | Some(599999)
+after 599999 | None
 set 4095 false
 get 4095 | false
 next 65 | Some(599999)

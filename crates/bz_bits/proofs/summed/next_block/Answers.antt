@@ -1,4 +1,4 @@
-use Rattle.std.proofs.Common.{◌≤◌, arith, length}
+use Rattle.std.proofs.Common.{arith}
 use Rattle.bz_bits.proofs.Search.{near_all}
 use Rattle.bz_bits.proofs.summed.next_block.Goals as goal
 
