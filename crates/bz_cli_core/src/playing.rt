@@ -161,9 +161,9 @@ fn fire_out<W: Write>(play: &mut Play, fuel: u64, lines: &mut Outgoing, out: &mu
         (λ old new. Ran old new (who.Worker 1) 1 fuel result) }
 {
     let due = play.let_in(fuel);
-    let mut last = 0;
+    let (mut last, mut room) = (0, 0);
     for fired in 0..due {
-        match play.step_after(Who::Worker(1), last) {
+        match play.step_after(Who::Worker(1), last, &mut room) {
             Entry::Fired {
                 who,
                 comp,

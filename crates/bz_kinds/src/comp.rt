@@ -17,7 +17,7 @@ ghost use Rattle.bz_kinds.specs.Start.{BeginsAt, IsAllDue, IsDueBut, AreMembersD
 ghost use Rattle.bz_kinds.specs.Kept.{plan_of};
 ghost use Rattle.bz_kinds.specs.KeptLists.{slots_of};
 ghost use Rattle.bz_model.specs.declared.channel.Phase.{Phase};
-ghost use Rattle.bz_kinds.specs.Riding.{riding, taken};
+ghost use Rattle.bz_kinds.specs.Riding.{held, riding, taken};
 ghost use Rattle.bz_kinds.specs.Comp.{IsFor, plan_due};
 
 use crate::kept::KeptPlan;
@@ -136,17 +136,18 @@ pub fn apply(comp: &mut Comp, port: u32, phase: Phase) -> (Move, Option<Value>)
     ensures chans { comp.new.chans ≡ comp.old.chans }
     ensures fits { Fitted comp.old → HoldsAt comp.old.chans port phase → FitsAt comp.old.chans port result.0 result.1 × Fitted comp.new }
 {
-    let rides = riding(phase);
+    let incoming = riding(phase);
+    let (rides, value) = process::parts(incoming);
     match next(comp, port) {
         Some(Move::Ask) => (Move::Ask, ask(comp, port).0),
         Some(Move::Take) => {
-            take(comp, port, rides);
-            (Move::Take, rides)
+            take(comp, port, rides, value);
+            (Move::Take, incoming)
         }
         Some(Move::Reply) => (Move::Reply, reply(comp, port).0),
         Some(Move::Got) => {
-            got(comp, port, rides);
-            (Move::Got, rides)
+            got(comp, port, rides, value);
+            (Move::Got, incoming)
         }
         None => unreachable!(),
     }
@@ -165,17 +166,17 @@ pub fn ask(comp: &mut Comp, port: u32) -> (Option<Value>, bool)
     process::ask(&mut comp.proc, port)
 }
 
-/// Takes the request at a port where that is due, with the value that rides with it: whether the component is known to move then.
+/// Takes the request at a port where that is due, with the value if one rides with it: whether the component is known to move then.
 #[inline(always)]
-pub fn take(comp: &mut Comp, port: u32, rides: Option<Value>) -> bool
+pub fn take(comp: &mut Comp, port: u32, rides: bool, value: Value) -> bool
     requires { HasMove comp.old.proc port Move.Take }
-    ensures moves { Moves comp.old.proc port (Phase.Asked rides) Move.Take rides comp.new.proc }
+    ensures moves { Moves comp.old.proc port (Phase.Asked (held rides value)) Move.Take (held rides value) comp.new.proc }
     ensures turns { Turns comp.old port Move.Take comp.new }
     ensures one { HasOneHead comp.old.proc.todo }
     ensures chans { comp.new.chans ≡ comp.old.chans }
     ensures sure { IsTrue result → IsSure comp.new }
 {
-    process::take(&mut comp.proc, port, rides)
+    process::take(&mut comp.proc, port, rides, value)
 }
 
 /// Replies at a port where that is due: the value that it carries, and whether the component is known to wait there alone then.
@@ -191,17 +192,17 @@ pub fn reply(comp: &mut Comp, port: u32) -> (Option<Value>, bool)
     process::reply(&mut comp.proc, port)
 }
 
-/// Gets the reply at a port where that is due, with the value that rides with it: whether the component is known to move then.
+/// Gets the reply at a port where that is due, with the value if one rides with it: whether the component is known to move then.
 #[inline(always)]
-pub fn got(comp: &mut Comp, port: u32, rides: Option<Value>) -> bool
+pub fn got(comp: &mut Comp, port: u32, rides: bool, value: Value) -> bool
     requires { HasMove comp.old.proc port Move.Got }
-    ensures moves { Moves comp.old.proc port (Phase.Replied rides) Move.Got rides comp.new.proc }
+    ensures moves { Moves comp.old.proc port (Phase.Replied (held rides value)) Move.Got (held rides value) comp.new.proc }
     ensures turns { Turns comp.old port Move.Got comp.new }
     ensures one { HasOneHead comp.old.proc.todo }
     ensures chans { comp.new.chans ≡ comp.old.chans }
     ensures sure { IsTrue result → IsSure comp.new }
 {
-    process::got(&mut comp.proc, port, rides)
+    process::got(&mut comp.proc, port, rides, value)
 }
 
 // The value that rides on a channel in this phase.

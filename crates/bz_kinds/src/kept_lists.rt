@@ -5,6 +5,7 @@ ghost use Rattle.std.specs.List.{All};
 ghost use Rattle.bz_model.specs.declared.expr.Expr.TheVariants.{Nothing};
 ghost use Rattle.bz_model.specs.Terms.{stored, value_of, IsNarrow};
 ghost use Rattle.bz_kinds.specs.KeptLists.{chan_of, chans_of, slots_of};
+ghost use Rattle.bz_kinds.specs.Riding.{held};
 
 use bz_model::{Chan, ChanKind, Expr, Value};
 use std::alloc::{AllocError, Global};
@@ -72,6 +73,16 @@ impl KeptSlots {
         ensures { slots_of self.new ≡ stored slot value (slots_of self.old) }
     {
         if let Some(value) = value {
+            self.put(slot, value);
+        }
+    }
+
+    /// The same of a value that is at hand, if one came in.
+    #[inline]
+    pub fn keep_riding(&mut self, slot: u32, rides: bool, value: Value)
+        ensures { slots_of self.new ≡ stored slot (held rides value) (slots_of self.old) }
+    {
+        if rides {
             self.put(slot, value);
         }
     }

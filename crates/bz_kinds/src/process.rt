@@ -77,66 +77,67 @@ pub fn ask(proc: &mut Process, port: u32) -> (Option<Value>, bool)
             meeting::ask(meet, &mut proc.ports, &mut proc.left, proc.size);
             (proc.slots.worth(&leg.gives), true)
         }
-        _ => (turn_far(proc, port, None).1, false),
+        _ => (turn_far(proc, port, false, 0).1, false),
     }
 }
 
-/// Takes the request at a port where that is due, with the value that rides with it: whether the process is known to move then.
+/// Takes the request at a port where that is due, with the value if one rides with it: whether the process is known to move then.
 /// Of what never carries a value the slots need not be looked up in its row.
 #[inline(always)]
-pub fn take(proc: &mut Process, port: u32, rides: Option<Value>) -> bool
+pub fn take(proc: &mut Process, port: u32, rides: bool, value: Value) -> bool
     requires due { CanTurn proc.old port }
     requires take { IsDueMove proc.old port Move.Take }
-    ensures made { HasMade proc.old port rides proc.new Move.Take rides }
+    ensures made { HasMade proc.old port (held rides value) proc.new Move.Take (held rides value) }
     ensures goes { HasGone proc.old port proc.new }
     ensures kept { KeepsPlan proc.old proc.new }
     ensures sure { IsTrue result → GoesOn proc.new }
 {
     match &proc.plan {
         KeptPlan::CallsInTurn => {
-            proc.slots.keep(1, rides);
+            proc.slots.keep_riding(1, rides, value);
             in_turn::take(&mut proc.ports, &mut proc.left, proc.size);
             true
         }
         KeptPlan::PushesInTurn | KeptPlan::FetchesInTurn | KeptPlan::OwnInTurn(_) => {
-            proc.slots.keep(proc.plan.row().into, rides);
+            proc.slots.keep_riding(proc.plan.row().into, rides, value);
             in_turn::take(&mut proc.ports, &mut proc.left, proc.size);
             true
         }
         KeptPlan::CallsTogether | KeptPlan::PushesTogether | KeptPlan::OwnTogether(_) => {
-            proc.slots.keep(proc.plan.row().into, rides);
+            proc.slots.keep_riding(proc.plan.row().into, rides, value);
             together::take(&mut proc.ports, &mut proc.left, proc.size);
             true
         }
         KeptPlan::Loop => {
-            proc.slots.keep(1, rides);
+            proc.slots.keep_riding(1, rides, value);
             script::take(Script::Loop, &mut proc.ports, &mut proc.left);
             true
         }
         KeptPlan::OneByOne(script) => {
-            proc.slots.keep(script::taken_into(*script), rides);
+            proc.slots
+                .keep_riding(script::taken_into(*script), rides, value);
             script::take(*script, &mut proc.ports, &mut proc.left);
             script::goes_round(*script)
         }
         KeptPlan::Cells => {
-            cells::keep(&mut proc.slots, port, rides);
+            cells::keep(&mut proc.slots, port, rides, value);
             cells::take(&mut proc.ports, proc.size, port);
             true
         }
         KeptPlan::Choice(mix) => {
             let (ports, left, slots) = (&mut proc.ports, &mut proc.left, &mut proc.slots);
-            slots.keep(mix.get().into, rides);
+            slots.keep_riding(mix.get().into, rides, value);
             choice::take(mix.get(), ports, left, proc.size, port - 1);
             true
         }
         KeptPlan::Meeting(meet) => {
             let (ports, left, slots) = (&mut proc.ports, &mut proc.left, &mut proc.slots);
-            slots.keep(meeting::into(meet.get(), proc.size, port - 1), rides);
+            slots.keep_riding(meeting::into(meet.get(), proc.size, port - 1), rides, value);
             meeting::take(meet.get(), ports, left, proc.size, port - 1);
             false
         }
         _ => {
-            let (_, _) = turn_far(proc, port, rides);
+            let (_, _) = turn_far(proc, port, rides, value);
             false
         }
     }
@@ -188,68 +189,71 @@ pub fn reply(proc: &mut Process, port: u32) -> (Option<Value>, bool)
             let answer = meeting::answer(meet.get(), proc.size, port - 1);
             (proc.slots.worth(answer), false)
         }
-        _ => (turn_far(proc, port, None).1, false),
+        _ => (turn_far(proc, port, false, 0).1, false),
     }
 }
 
-/// Gets the reply at a port where that is due, with the value that rides with it: whether the process is known to move then.
+/// Gets the reply at a port where that is due, with the value if one rides with it: whether the process is known to move then.
 #[inline(always)]
-pub fn got(proc: &mut Process, port: u32, rides: Option<Value>) -> bool
+pub fn got(proc: &mut Process, port: u32, rides: bool, value: Value) -> bool
     requires due { CanTurn proc.old port }
     requires got { IsDueMove proc.old port Move.Got }
-    ensures made { HasMade proc.old port rides proc.new Move.Got rides }
+    ensures made { HasMade proc.old port (held rides value) proc.new Move.Got (held rides value) }
     ensures goes { HasGone proc.old port proc.new }
     ensures kept { KeepsPlan proc.old proc.new }
     ensures sure { IsTrue result → GoesOn proc.new }
 {
     match &proc.plan {
         KeptPlan::CallsInTurn => {
-            proc.slots.keep(1, rides);
+            proc.slots.keep_riding(1, rides, value);
             in_turn::got(&mut proc.ports, &mut proc.left, proc.size, port - 2);
             true
         }
         KeptPlan::PushesInTurn | KeptPlan::FetchesInTurn | KeptPlan::OwnInTurn(_) => {
-            proc.slots.keep(proc.plan.row().legs.slot(port - 2), rides);
+            proc.slots
+                .keep_riding(proc.plan.row().legs.slot(port - 2), rides, value);
             in_turn::got(&mut proc.ports, &mut proc.left, proc.size, port - 2);
             true
         }
         KeptPlan::CallsTogether => {
-            proc.slots.keep(1, rides);
+            proc.slots.keep_riding(1, rides, value);
             together::got(&mut proc.ports, &mut proc.left, proc.size, port - 2);
             false
         }
         KeptPlan::PushesTogether | KeptPlan::OwnTogether(_) => {
-            proc.slots.keep(proc.plan.row().legs.slot(port - 2), rides);
+            proc.slots
+                .keep_riding(proc.plan.row().legs.slot(port - 2), rides, value);
             together::got(&mut proc.ports, &mut proc.left, proc.size, port - 2);
             false
         }
         KeptPlan::Loop => {
-            proc.slots.keep(1, rides);
+            proc.slots.keep_riding(1, rides, value);
             let (ports, left) = (&mut proc.ports, &mut proc.left);
             script::got(Script::Loop, ports, left, port, &proc.slots);
             true
         }
         KeptPlan::OneByOne(script) => {
-            proc.slots.keep(script::got_into(*script, port), rides);
+            proc.slots
+                .keep_riding(script::got_into(*script, port), rides, value);
             let (ports, left) = (&mut proc.ports, &mut proc.left);
             script::got(*script, ports, left, port, &proc.slots);
             true
         }
         KeptPlan::Cells => unreachable!(),
         KeptPlan::Choice(mix) => {
-            proc.slots.keep(mix.get().leg.into, rides);
+            proc.slots.keep_riding(mix.get().leg.into, rides, value);
             choice::got(mix.get(), &mut proc.ports, proc.size, proc.left - 1);
             true
         }
         KeptPlan::Meeting(meet) => {
             let meet = meet.get();
             let Some(leg) = &meet.leg else { unreachable!() };
-            proc.slots.keep(leg.into, rides);
+            proc.slots.keep_riding(leg.into, rides, value);
             meeting::got(meet, &mut proc.ports, &mut proc.left, proc.size);
             true
         }
         _ => {
-            let (_, _) = turn_far(proc, port, rides);
+            let (_, _) = turn_far(proc, port, rides, value);
             false
         }
     }
@@ -258,15 +262,15 @@ pub fn got(proc: &mut Process, port: u32, rides: Option<Value>) -> bool
 // Makes the move that is due at a port, of a plan that few moves are of. What is called is small in its caller: the value goes
 // there and back by its place.
 #[inline(always)]
-fn turn_far(proc: &mut Process, port: u32, rides: Option<Value>) -> (Move, Option<Value>)
+fn turn_far(proc: &mut Process, port: u32, rides: bool, value: Value) -> (Move, Option<Value>)
     requires rare { IsRare (plan_of proc.old.plan) }
     requires due { CanTurn proc.old port }
-    ensures made { HasMade proc.old port rides proc.new result.0 result.1 }
+    ensures made { HasMade proc.old port (held rides value) proc.new result.0 result.1 }
     ensures goes { HasGone proc.old port proc.new }
     ensures kept { KeepsPlan proc.old proc.new }
 {
-    let (is_there, mut value) = parts(rides);
-    let (mv, carries) = turn_held(proc, port, is_there, &mut value);
+    let mut value = value;
+    let (mv, carries) = turn_held(proc, port, rides, &mut value);
     (mv, held(carries, value))
 }
 
@@ -324,9 +328,9 @@ fn turn_rare(proc: &mut Process, port: u32, rides: Option<Value>) -> (Move, Opti
     }
 }
 
-// Whether there is a value, and which.
+/// Whether there is a value, and which.
 #[inline]
-fn parts(value: Option<Value>) -> (bool, Value)
+pub fn parts(value: Option<Value>) -> (bool, Value)
     ensures { held result.0 result.1 ≡ value }
 {
     match value {
@@ -335,9 +339,9 @@ fn parts(value: Option<Value>) -> (bool, Value)
     }
 }
 
-// The value, if it is there.
+/// The value, if it is there.
 #[inline]
-fn held(is_there: bool, value: Value) -> Option<Value>
+pub fn held(is_there: bool, value: Value) -> Option<Value>
     ensures { result ≡ held is_there value }
 {
     if is_there { Some(value) } else { None }

@@ -1,7 +1,5 @@
 -- What is read of marks and values, and written to them, as the phases that they tell show it.
-use Rattle.std.specs.Prelude.{IsSome}
 use Rattle.std.proofs.Common.{◌≡◌, ◌≢◌, ◌<◌, ℕ, zero, suc, List, [], ◌∷◌, length, replicate, get_or, set, Some, None, refl, sym, ap, subst, ◌∙◌, arith}
-use Rattle.std.proofs.lemmas.Bool.{false≢true}
 use Rattle.std.proofs.lemmas.List.{get_or_default}
 use Rattle.bz_model.specs.declared.channel.Move.{Move}
 use Rattle.bz_model.specs.declared.channel.Phase.{Phase}
@@ -47,7 +45,7 @@ both_put (a ∷ ms) (b ∷ vs) zero m v f same tells = ap (λ (x : Phase). x ∷
 both_put (a ∷ ms) (b ∷ vs) (suc i) m v f same tells = ap (λ l. phase_of a b ∷ l) (both_put ms vs i m v f (omega arith) tells)
 
 -- what rides where a mark and the value beside it were read
-riding_read : (ms : List Mark) (vs : List ℕ) (i : ℕ) (m : Mark) (v : ℕ) → length vs ≡ length ms → i < length ms → m ≡ get_or ms i m → v ≡ get_or vs i v
+pub riding_read : (ms : List Mark) (vs : List ℕ) (i : ℕ) (m : Mark) (v : ℕ) → length vs ≡ length ms → i < length ms → m ≡ get_or ms i m → v ≡ get_or vs i v
     → riding (phase_of m v) ≡ riding (get_or (phases_of ms vs) i Idle)
 riding_read ms vs i m v same lt is on = ap riding (phase_read ms vs i m v same lt is on)
 
@@ -81,20 +79,3 @@ next_read ms vs i m mv same lt is tells whole =
     let v = get_or vs i 0 in
     let read = phase_read ms vs i m v same lt is (get_or_default vs i 0 v (omega (arith, same, lt))) in
     subst (λ (f : Phase). f ≢ Broken → next_of f ≡ Some mv) read (tells v) whole
-
--- what rides is the value beside the mark
-some_rides : (m : Mark) (v : ℕ) → IsSome (riding (phase_of m v)) → riding (phase_of m v) ≡ Some v
-some_rides mark.Idle v has = absurd (false≢true has)
-some_rides mark.Asked v has = absurd (false≢true has)
-some_rides mark.AskedWith v has = refl
-some_rides mark.Taken v has = absurd (false≢true has)
-some_rides mark.Replied v has = absurd (false≢true has)
-some_rides mark.RepliedWith v has = refl
-some_rides mark.Broken v has = absurd (false≢true has)
-
-pub rides_here : (ms : List Mark) (vs : List ℕ) (i v : ℕ) → length vs ≡ length ms → i < length ms → v ≡ get_or vs i v → IsSome (riding (get_or (phases_of ms vs) i Idle))
-    → riding (get_or (phases_of ms vs) i Idle) ≡ Some v
-rides_here ms vs i v same lt on has =
-    let m = get_or ms i mark.Idle in
-    let read = riding_read ms vs i m v same lt (get_or_default ms i mark.Idle m lt) on in
-    sym read ∙ some_rides m v (subst IsSome (sym read) has)

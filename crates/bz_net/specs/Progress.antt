@@ -1,5 +1,5 @@
 -- What contracts see of a net that keeps no journal. Whoever plays it may keep one: then it is a net with that journal.
-use Rattle.std.specs.Prelude.{◌≡◌, ℕ, Bool, ◌+◌, ◌<◌, ◌≤◌, ⊤, Option, Some, None, List, [], ◌∷◌, ◌++◌, length, Contains, ◌↔◌}
+use Rattle.std.specs.Prelude.{◌≡◌, ℕ, Bool, ◌+◌, ◌≤◌, ⊤, Option, Some, None, List, [], ◌∷◌, ◌++◌, length, Contains, ◌↔◌}
 use Rattle.bz_model.specs.declared.event.NetError.{NetError}
 use Rattle.bz_model.specs.declared.event.NetError.TheVariants.{JournalFull}
 use Rattle.bz_model.specs.declared.event.Verb.{Verb}

@@ -9,6 +9,7 @@ ghost use Rattle.bz_model.specs.Nets.{Step, StepsAt, opening, outside, phase_at}
 ghost use Rattle.bz_model.specs.Runs.{CanStep, IsLowest, IsNext, Rest};
 ghost use Rattle.bz_flat.specs.Flats.{site_of};
 ghost use Rattle.bz_flat.specs.Wires.{IsEnd, WellWired};
+ghost use Rattle.bz_kinds.specs.Riding.{held};
 ghost use Rattle.bz_net.specs.Core.{IsSole};
 ghost use Rattle.bz_net.specs.Due.{Foresees, GivesAsSteps, HasStep, IsSoleDue, TellsDue};
 ghost use Rattle.bz_net.specs.Ends.{TellsEnds, TellsPort, IsSolePort};
@@ -32,6 +33,7 @@ use crate::ready_row::ReadyRow;
 use crate::same::{first_other, is_other_at, is_same_phases};
 use bz_arena::Arena;
 use bz_flat::{Ends, Flat, FlatComp, Pieces, dup_comps};
+use bz_kinds::held;
 use bz_model::{Chan, Move, Names, NetError, Phase, Reply, Value, Verb, dup_ports, node_of};
 use std::alloc::{AllocError, Global};
 use std::marker::Model;
@@ -432,6 +434,7 @@ impl Core {
     }
 
     /// The same, wherever it is. It is called with the whole core, so that no address in it is kept for this call.
+    #[cold]
     #[inline(never)]
     pub(crate) fn next_past(&self, last: u32) -> Option<u32>
         requires { NoneAfter (CanStep self.now.wiring.sites self.now.state) last }
@@ -451,15 +454,20 @@ impl Core {
         lowest_port(&self.sites, &self.phases, &self.nodes, comp)
     }
 
-    /// Moves a component at the port that is given, or else at the lowest where it can move: the channel, the move, its value and
-    /// the port.
+    /// Moves a component at the port that is given, or else at the lowest where it can move: the channel, the move, whether it carries
+    /// a value, which is in `value` then, and the port.
     #[inline(always)]
-    pub(crate) fn fire(&mut self, comp: u32, at: Option<u32>) -> (u32, Move, Option<Value>, u32)
+    pub(crate) fn fire(
+        &mut self,
+        comp: u32,
+        at: Option<u32>,
+        value: &mut Value,
+    ) -> (u32, Move, bool, u32)
         requires { MayMove self.old.wiring.sites self.old.state comp at }
         ensures wiring { self.new.wiring ≡ self.old.wiring }
         ensures port { MovesAt self.old.wiring.sites self.old.state comp at result.3 }
-        ensures step { Step self.old.wiring.sites self.old.state comp result.3 result.0 result.1 result.2 self.new.state }
-        ensures sole { IsSole self.old self.new comp result.3 result.0 result.1 result.2 }
+        ensures step { Step self.old.wiring.sites self.old.state comp result.3 result.0 result.1 (held result.2 value.new) self.new.state }
+        ensures sole { IsSole self.old self.new comp result.3 result.0 result.1 (held result.2 value.new) }
         ensures from { 0 < result.0 }
         ensures to { result.0 ≤ length self.old.wiring.chans }
         ensures met { AskedBefore self.old.wiring.sites self.old.state.phases self.new.state.phases result.1 }
@@ -475,6 +483,7 @@ impl Core {
             &mut self.ready,
             comp,
             at,
+            value,
         )
     }
 
@@ -489,8 +498,9 @@ impl Core {
         ensures met { AskedBefore self.old.wiring.sites self.old.state.phases self.new.state.phases result.1 }
         ensures unbroken { IsUnbroken self.new.state }
     {
-        let (chan, mv, value, _) = self.fire(comp, Some(port));
-        (chan, mv, value)
+        let mut value = 0;
+        let (chan, mv, carries, _) = self.fire(comp, Some(port), &mut value);
+        (chan, mv, held(carries, value))
     }
 
     /// Makes a host command that is not refused at an external port.

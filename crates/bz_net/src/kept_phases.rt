@@ -1,14 +1,15 @@
 //! The phases of a net's channels, in little room: a mark for each channel, and the values in a row of their own.
 
-ghost use Rattle.std.specs.Prelude.{◌≡◌, ◌≢◌, ◌<◌, ℕ, IfOk, IsSome, Some, length, replicate, slice_index_or, slice_set};
+ghost use Rattle.std.specs.Prelude.{◌≡◌, ◌≢◌, ◌<◌, ℕ, IfOk, Some, length, replicate, slice_index_or, slice_set};
 ghost use Rattle.bz_model.specs.declared.channel.Phase.{Phase};
 ghost use Rattle.bz_model.specs.declared.channel.Phase.TheVariants.{Idle};
 ghost use Rattle.bz_model.specs.Phases.{phase_after};
-ghost use Rattle.bz_kinds.specs.Riding.{riding};
+ghost use Rattle.bz_kinds.specs.Riding.{held, riding};
 ghost use Rattle.bz_net.specs.Due.{next_of};
 ghost use Rattle.bz_net.specs.KeptPhases.{phase_of, MarksPhase};
 
 use crate::moves::sends;
+use bz_kinds::held;
 use bz_model::{Move, Phase, Value};
 use std::alloc::{AllocError, Global};
 use std::marker::Model;
@@ -107,7 +108,22 @@ impl Phases {
         requires { place < length self.now }
         ensures { slice_index_or self.now place Idle ≢ Phase.Broken → next_of (slice_index_or self.now place Idle) ≡ Some result }
     {
-        next_after(self.marks[place])
+        next_after(self.marks[place]).0
+    }
+
+    /// The same, and whether a value rides there, which is put into `value`.
+    #[inline(always)]
+    #[tactic(auto, using(crate::proofs::Marks::length_phases))]
+    pub(crate) fn next_riding(&self, place: usize, value: &mut Value) -> (Move, bool)
+        requires { place < length self.now }
+        ensures next { slice_index_or self.now place Idle ≢ Phase.Broken → next_of (slice_index_or self.now place Idle) ≡ Some result.0 }
+        ensures rides { held result.1 value.new ≡ riding (slice_index_or self.now place Idle) }
+    {
+        let (next, rides) = next_after(self.marks[place]);
+        if rides {
+            *value = self.values[place];
+        }
+        (next, rides)
     }
 
     /// The value that rides on the channel in a place, counted from 0.
@@ -123,26 +139,15 @@ impl Phases {
         }
     }
 
-    /// The same where one rides.
-    #[inline]
-    #[tactic(auto, using(crate::proofs::Marks::length_phases, crate::proofs::Marks::rides_here))]
-    pub(crate) fn value(&self, place: usize) -> Value
-        requires there { place < length self.now }
-        requires rides { IsSome (riding (slice_index_or self.now place Idle)) }
-        ensures { riding (slice_index_or self.now place Idle) ≡ Some result }
-    {
-        self.values[place]
-    }
-
-    /// Makes a move that breaks no handshake on the channel in a place, counted from 0, with this value.
+    /// Makes a move that breaks no handshake on the channel in a place, counted from 0, with the value if it carries one.
     #[inline]
     #[tactic(auto, using(crate::proofs::Marks::length_phases, crate::proofs::Marks::mark_put, crate::proofs::Marks::both_put))]
-    pub(crate) fn make(&mut self, place: usize, mv: Move, value: Option<Value>)
+    pub(crate) fn make(&mut self, place: usize, mv: Move, carries: bool, value: Value)
         requires within { place < length self.old }
-        requires whole { phase_after (slice_index_or self.old place Idle) mv value ≢ Phase.Broken }
-        ensures { self.new ≡ slice_set self.old place (phase_after (slice_index_or self.old place Idle) mv value) }
+        requires whole { phase_after (slice_index_or self.old place Idle) mv (held carries value) ≢ Phase.Broken }
+        ensures { self.new ≡ slice_set self.old place (phase_after (slice_index_or self.old place Idle) mv (held carries value)) }
     {
-        let (mark, kept) = mark_after(mv, value);
+        let (mark, kept) = mark_after(mv, held(carries, value));
         self.marks[place] = mark;
         if let Some(value) = kept {
             self.values[place] = value;
@@ -164,16 +169,19 @@ impl Phases {
     }
 }
 
-// The move that comes next by a mark, where that isn't broken.
+// The move that comes next by a mark, where that isn't broken, and whether a value rides.
 #[inline(always)]
-fn next_after(mark: Mark) -> Move
-    ensures { (v : ℕ) → phase_of mark v ≢ Phase.Broken → next_of (phase_of mark v) ≡ Some result }
+fn next_after(mark: Mark) -> (Move, bool)
+    ensures next { (v : ℕ) → phase_of mark v ≢ Phase.Broken → next_of (phase_of mark v) ≡ Some result.0 }
+    ensures rides { (v : ℕ) → held result.1 v ≡ riding (phase_of mark v) }
 {
     match mark {
-        Mark::Broken | Mark::Idle => Move::Ask,
-        Mark::Asked | Mark::AskedWith => Move::Take,
-        Mark::Taken => Move::Reply,
-        Mark::Replied | Mark::RepliedWith => Move::Got,
+        Mark::Broken | Mark::Idle => (Move::Ask, false),
+        Mark::Asked => (Move::Take, false),
+        Mark::AskedWith => (Move::Take, true),
+        Mark::Taken => (Move::Reply, false),
+        Mark::Replied => (Move::Got, false),
+        Mark::RepliedWith => (Move::Got, true),
     }
 }
 

@@ -21,8 +21,8 @@ use std::alloc::{AllocError, Global};
 /// A component, and a bit for each of its ports: whether what a take or a got there waits for is on the channel.
 #[derive(Drop)]
 pub(crate) struct Node {
-    pub(crate) here: PortBits,
     pub(crate) comp: Comp,
+    pub(crate) here: PortBits,
 }
 
 /// Where the node of a component lies.
@@ -130,7 +130,7 @@ fn start_one(
         return Err(NetError::Memory);
     };
     match bz_kinds::start(alloc, &site.kind, site.sizes, own) {
-        Ok(comp) => Ok(Node { here, comp }),
+        Ok(comp) => Ok(Node { comp, here }),
         Err(_) => Err(NetError::Memory),
     }
 }
@@ -193,7 +193,7 @@ fn dup_one(alloc: Global, node: &Node) -> Result<Node, AllocError>
 {
     let here = node.here.dup(alloc)?;
     match bz_kinds::dup(alloc, &node.comp) {
-        Ok(comp) => Ok(Node { here, comp }),
+        Ok(comp) => Ok(Node { comp, here }),
         Err(_) => Err(AllocError),
     }
 }

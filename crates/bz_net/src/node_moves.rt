@@ -8,7 +8,7 @@ ghost use Rattle.bz_model.specs.Heads.{HasOneHead, Moves, Turns};
 ghost use Rattle.bz_model.specs.Nets.{StepsAt, chan_at};
 ghost use Rattle.bz_flat.specs.Flats.{site_of};
 ghost use Rattle.bz_flat.specs.Wires.{StandsIn, ends_in};
-ghost use Rattle.bz_kinds.specs.Riding.{riding};
+ghost use Rattle.bz_kinds.specs.Riding.{held, riding};
 ghost use Rattle.bz_kinds.specs.Sure.{HasMove};
 ghost use Rattle.bz_net.specs.ChanRow.{InRow};
 ghost use Rattle.bz_net.specs.Due.{next_of};
@@ -35,29 +35,22 @@ trait NodeMove {
     /// Which move it is.
     const MOVE: Move;
 
-    /// Makes it at a port, where `rides` rides on the channel: the value that it carries, and whether the component can move
-    /// then.
-    fn make(node: &mut Node, port: u32, rides: Option<Value>) -> (Option<Value>, bool)
+    /// Makes it at a port, where `value` rides on the channel if `rides`: whether it carries one, which is in `value` then, and
+    /// whether the component can move then.
+    fn make(node: &mut Node, port: u32, rides: bool, value: &mut Value) -> (bool, bool)
         requires next { HasMove node.old.comp.proc port MOVE }
         requires told { flag_of node.old.here port ≡ not (sends MOVE) }
         requires bit { port < 64 * length node.old.here }
         requires room { length node.old.comp.chans < 64 * length node.old.here }
         requires few { length node.old.here ≤ 2 ^ 26 }
-        ensures moves { (phase : Phase) → next_of phase ≡ Some MOVE → rides ≡ riding phase →
-            Moves node.old.comp.proc port phase MOVE result.0 node.new.comp.proc }
+        ensures moves { (phase : Phase) → next_of phase ≡ Some MOVE → held rides value.old ≡ riding phase →
+            Moves node.old.comp.proc port phase MOVE (held result.0 value.new) node.new.comp.proc }
         ensures turns { Turns node.old.comp port MOVE node.new.comp }
         ensures one { HasOneHead node.old.comp.proc.todo }
         ensures chans { node.new.comp.chans ≡ node.old.comp.chans }
         ensures left { Left MOVE node.old.here node.new.here port }
         ensures goes { MatchBool result.1 (Goes node.new.comp node.new.here) (NoneGoes node.new.comp node.new.here) }
         ensures turning { IsTurning node.new.comp };
-
-    /// What it carried: of a request or a reply that rides on the channel in this place, counted from 0. So it need not be held
-    /// while the other end is told.
-    fn carried(phases: &Phases, place: usize, value: Option<Value>) -> Option<Value>
-        requires there { place < length phases.now }
-        requires rides { sends MOVE ≡ true → riding (slice_index_or phases.now place Idle) ≡ value }
-        ensures { result ≡ value };
 
     /// Tells the other end of its channel: a request or a reply comes there.
     fn tell(nodes: &mut NodeRow, ready: &mut ReadyRow, pair: &Ends)
@@ -86,19 +79,12 @@ impl NodeMove for Asking {
     const MOVE: Move = Move::Ask;
 
     #[inline(always)]
-    fn make(node: &mut Node, port: u32, _rides: Option<Value>) -> (Option<Value>, bool) {
-        let (value, waits) = bz_kinds::ask(&mut node.comp, port);
+    fn make(node: &mut Node, port: u32, _rides: bool, value: &mut Value) -> (bool, bool) {
+        let (carried, waits) = bz_kinds::ask(&mut node.comp, port);
+        let carries = put_into(value, carried);
         look_at_moved(node);
         let goes = !waits && can_go(node, port);
-        (value, goes)
-    }
-
-    #[inline(always)]
-    fn carried(phases: &Phases, place: usize, value: Option<Value>) -> Option<Value> {
-        match value {
-            Some(_) => Some(phases.value(place)),
-            None => None,
-        }
+        (carries, goes)
     }
 
     #[inline(always)]
@@ -113,17 +99,12 @@ impl NodeMove for Taking {
     const MOVE: Move = Move::Take;
 
     #[inline(always)]
-    fn make(node: &mut Node, port: u32, rides: Option<Value>) -> (Option<Value>, bool) {
+    fn make(node: &mut Node, port: u32, rides: bool, value: &mut Value) -> (bool, bool) {
         node.here.put(port as usize, false);
-        let sure = bz_kinds::take(&mut node.comp, port, rides);
+        let sure = bz_kinds::take(&mut node.comp, port, rides, *value);
         look_at_moved(node);
         let goes = sure || can_go(node, port);
         (rides, goes)
-    }
-
-    #[inline(always)]
-    fn carried(_phases: &Phases, _place: usize, value: Option<Value>) -> Option<Value> {
-        value
     }
 
     #[inline(always)]
@@ -138,19 +119,12 @@ impl NodeMove for Replying {
     const MOVE: Move = Move::Reply;
 
     #[inline(always)]
-    fn make(node: &mut Node, port: u32, _rides: Option<Value>) -> (Option<Value>, bool) {
-        let (value, waits) = bz_kinds::reply(&mut node.comp, port);
+    fn make(node: &mut Node, port: u32, _rides: bool, value: &mut Value) -> (bool, bool) {
+        let (carried, waits) = bz_kinds::reply(&mut node.comp, port);
+        let carries = put_into(value, carried);
         look_at_moved(node);
         let goes = !waits && can_go(node, port);
-        (value, goes)
-    }
-
-    #[inline(always)]
-    fn carried(phases: &Phases, place: usize, value: Option<Value>) -> Option<Value> {
-        match value {
-            Some(_) => Some(phases.value(place)),
-            None => None,
-        }
+        (carries, goes)
     }
 
     #[inline(always)]
@@ -165,17 +139,12 @@ impl NodeMove for Getting {
     const MOVE: Move = Move::Got;
 
     #[inline(always)]
-    fn make(node: &mut Node, port: u32, rides: Option<Value>) -> (Option<Value>, bool) {
+    fn make(node: &mut Node, port: u32, rides: bool, value: &mut Value) -> (bool, bool) {
         node.here.put(port as usize, false);
-        let sure = bz_kinds::got(&mut node.comp, port, rides);
+        let sure = bz_kinds::got(&mut node.comp, port, rides, *value);
         look_at_moved(node);
         let goes = sure || can_go(node, port);
         (rides, goes)
-    }
-
-    #[inline(always)]
-    fn carried(_phases: &Phases, _place: usize, value: Option<Value>) -> Option<Value> {
-        value
     }
 
     #[inline(always)]
@@ -186,18 +155,20 @@ impl NodeMove for Getting {
 
 /// Moves a component at the port that is given, or else at the lowest where it can move. Tells the ends of the channel what the
 /// move has changed, and looks again whether the components there can move where that may have changed. Answers the channel,
-/// the move, its value and the port.
+/// the move, whether it carries a value, which is in `value` then, and the port. An `Option` of a value that comes from several
+/// sides would be written whole on each, and most moves carry none.
 #[inline(always)]
 pub(crate) fn move_comp(
     sites: &Arena<FlatComp>,
-    ends: &[Ends],
+    ends: &Vec<Ends>,
     chans: &ChanRow,
     nodes: &mut NodeRow,
     phases: &mut Phases,
     ready: &mut ReadyRow,
     comp: u32,
     at: Option<u32>,
-) -> (u32, Move, Option<Value>, u32)
+    value: &mut Value,
+) -> (u32, Move, bool, u32)
     requires chans { InRow (map site_of sites.now) chans.now.starts.items chans.now.row.items }
     requires placed { Placed (map site_of sites.now) phases.old (comps_of nodes.old) }
     requires sighted { Sighted (map site_of sites.now) phases.old (comps_of nodes.old) (heres_of nodes.old) }
@@ -205,51 +176,63 @@ pub(crate) fn move_comp(
     requires may { MayMove (map site_of sites.now) (state_of phases.old (comps_of nodes.old)) comp at }
     requires row { length ready.old ≡ suc (length sites.now) }
     requires exact { (c : ℕ) → Exact (map site_of sites.now) (state_of phases.old (comps_of nodes.old)) ready.old c }
-    requires ends_len { length ends.now ≡ length phases.old }
-    requires stands { StandsIn (map site_of sites.now) ends.now }
-    requires are_ends { AllAreEnds (map site_of sites.now) ends.now }
+    requires ends_len { length ends.now.items ≡ length phases.old }
+    requires stands { StandsIn (map site_of sites.now) ends.now.items }
+    requires are_ends { AllAreEnds (map site_of sites.now) ends.now.items }
     ensures port { MovesAt (map site_of sites.now) (state_of phases.old (comps_of nodes.old)) comp at result.3 }
     ensures told { Turned (map site_of sites.now)
-        phases.old (comps_of nodes.old) (heres_of nodes.old) phases.new (comps_of nodes.new) (heres_of nodes.new) comp result.3 result.0 result.1 result.2 }
+        phases.old (comps_of nodes.old) (heres_of nodes.old) phases.new (comps_of nodes.new) (heres_of nodes.new) comp result.3 result.0 result.1 (held result.2 value.new) }
     ensures refreshed { RefreshedEnds (map site_of sites.now) (state_of phases.new (comps_of nodes.new))
-        ready.old ready.new (ends_in ends.now result.0) }
+        ready.old ready.new (ends_in ends.now.items result.0) }
 {
     look_at(nodes, Some(comp));
     let port = port_of(nodes.get(node_id(comp)), at);
     let chan = chans.chan(comp, port);
-    let (mv, value) = match phases.next(chan as usize - 1) {
+    let (next, rides) = phases.next_riding(chan as usize - 1, value);
+    let (mv, carries) = match next {
         Move::Ask => {
-            let value = move_as::<Asking>(sites, ends, nodes, phases, ready, comp, port, chan);
-            (Move::Ask, value)
+            let carries = move_as::<Asking>(
+                sites, ends, nodes, phases, ready, comp, port, chan, rides, value,
+            );
+            (Move::Ask, carries)
         }
         Move::Take => {
-            let value = move_as::<Taking>(sites, ends, nodes, phases, ready, comp, port, chan);
-            (Move::Take, value)
+            let carries = move_as::<Taking>(
+                sites, ends, nodes, phases, ready, comp, port, chan, rides, value,
+            );
+            (Move::Take, carries)
         }
         Move::Reply => {
-            let value = move_as::<Replying>(sites, ends, nodes, phases, ready, comp, port, chan);
-            (Move::Reply, value)
+            let carries = move_as::<Replying>(
+                sites, ends, nodes, phases, ready, comp, port, chan, rides, value,
+            );
+            (Move::Reply, carries)
         }
         Move::Got => {
-            let value = move_as::<Getting>(sites, ends, nodes, phases, ready, comp, port, chan);
-            (Move::Got, value)
+            let carries = move_as::<Getting>(
+                sites, ends, nodes, phases, ready, comp, port, chan, rides, value,
+            );
+            (Move::Got, carries)
         }
     };
-    (chan, mv, value, port)
+    (chan, mv, carries, port)
 }
 
-// The move of a component at a port of this channel, where it is the one that comes next there: the value that it carries.
+// The move of a component at a port of this channel, where it is the one that comes next there, and `value` rides if `rides`:
+// whether it carries a value, which is in `value` then.
 #[inline(always)]
 fn move_as<M: NodeMove>(
     sites: &Arena<FlatComp>,
-    ends: &[Ends],
+    ends: &Vec<Ends>,
     nodes: &mut NodeRow,
     phases: &mut Phases,
     ready: &mut ReadyRow,
     comp: u32,
     port: u32,
     chan: u32,
-) -> Option<Value>
+    rides: bool,
+    value: &mut Value,
+) -> bool
     requires placed { Placed (map site_of sites.now) phases.old (comps_of nodes.old) }
     requires sighted { Sighted (map site_of sites.now) phases.old (comps_of nodes.old) (heres_of nodes.old) }
     requires stays { StaysSighted (map site_of sites.now) phases.old (comps_of nodes.old) (heres_of nodes.old) comp port }
@@ -257,23 +240,47 @@ fn move_as<M: NodeMove>(
     requires steps { StepsAt (map site_of sites.now) (state_of phases.old (comps_of nodes.old)) comp port }
     requires on { chan ≡ chan_at (map site_of sites.now) comp port }
     requires next { next_of (phase_in phases.old chan) ≡ Some M.MOVE }
+    requires rides { held rides value.old ≡ riding (phase_in phases.old chan) }
     requires row { length ready.old ≡ suc (length sites.now) }
     requires exact { (c : ℕ) → Exact (map site_of sites.now) (state_of phases.old (comps_of nodes.old)) ready.old c }
-    requires ends_len { length ends.now ≡ length phases.old }
-    requires are_ends { AllAreEnds (map site_of sites.now) ends.now }
+    requires ends_len { length ends.now.items ≡ length phases.old }
+    requires are_ends { AllAreEnds (map site_of sites.now) ends.now.items }
     ensures told { Turned (map site_of sites.now)
-        phases.old (comps_of nodes.old) (heres_of nodes.old) phases.new (comps_of nodes.new) (heres_of nodes.new) comp port chan M.MOVE result }
+        phases.old (comps_of nodes.old) (heres_of nodes.old) phases.new (comps_of nodes.new) (heres_of nodes.new) comp port chan M.MOVE (held result value.new) }
     ensures refreshed { RefreshedEnds (map site_of sites.now) (state_of phases.new (comps_of nodes.new))
-        ready.old ready.new (ends_in ends.now chan) }
+        ready.old ready.new (ends_in ends.now.items chan) }
 {
     let place = chan as usize - 1;
-    let rides = phases.riding(place);
     let node = nodes.get_mut(node_id(comp));
-    let (value, goes) = M::make(node, port, rides);
-    phases.make(place, M::MOVE, value);
+    let (carries, goes) = M::make(node, port, rides, value);
+    phases.make(place, M::MOVE, carries, *value);
     keep_marked(ready, comp, goes);
-    M::tell(nodes, ready, &ends[place]);
-    M::carried(phases, place, value)
+    M::tell(nodes, ready, ends_at(ends, chan));
+    carries
+}
+
+// Puts a value where one is carried: whether one is.
+#[inline(always)]
+fn put_into(value: &mut Value, carried: Option<Value>) -> bool
+    ensures { held result value.new ≡ carried }
+{
+    match carried {
+        Some(carried) => {
+            *value = carried;
+            true
+        }
+        None => false,
+    }
+}
+
+// The ends of a channel. It gets the vector: of a slice the place of its first element is kept in memory during a move.
+#[inline(always)]
+fn ends_at(ends: &Vec<Ends>, chan: u32) -> &Ends
+    requires from { 0 < chan }
+    requires to { chan ≤ length ends.now.items }
+    ensures { result.now ≡ ends_in ends.now.items chan }
+{
+    &ends[chan as usize - 1]
 }
 
 // The port at which the component of a node is to move: the one that is given, or the lowest at which it can.

@@ -21,6 +21,7 @@ use crate::foretelling::Foretold;
 use crate::moves::refusal_of;
 use crate::noted::Noted;
 use bz_flat::Flat;
+use bz_kinds::held;
 use bz_model::{Entry, HostCmd, Move, Names, NetError, Reply, Value, Verb, Who};
 use std::alloc::{AllocError, Global};
 use std::marker::Model;
@@ -246,12 +247,13 @@ impl Play {
             return None;
         }
         let last = self.core.last_before(from);
-        Some(self.step_after(who, last))
+        Some(self.step_after(who, last, &mut 0))
     }
 
-    /// The same from the number after this one, which is that of a component or 0, where one more entry is let in.
+    /// The same from the number after this one, which is that of a component or 0, where one more entry is let in. `room` is for
+    /// the value that a move carries: who makes many moves has one room for all.
     #[inline(always)]
-    pub fn step_after(&mut self, who: Who, last: u32) -> Entry
+    pub fn step_after(&mut self, who: Who, last: u32, room: &mut Value) -> Entry
         requires place { 0 < self.old.left }
         requires from { last ≤ length self.old.wiring.sites }
         ensures picked { IsPicked (with_journal self.old []) who (suc last) result }
@@ -268,7 +270,7 @@ impl Play {
                 }
             },
         };
-        self.fire(who, comp, None)
+        self.fire(who, comp, None, room)
     }
 
     /// How many of so many entries are still let in.
@@ -281,14 +283,14 @@ impl Play {
 
     /// Fires the move of a component at the port that is given, or else at the lowest where it can move.
     #[inline(always)]
-    fn fire(&mut self, who: Who, comp: u32, at: Option<u32>) -> Entry
+    fn fire(&mut self, who: Who, comp: u32, at: Option<u32>, room: &mut Value) -> Entry
         requires may { MayMove self.old.wiring.sites self.old.state comp at }
         requires place { 0 < self.old.left }
         ensures fired { FiresAt self.old self.new who comp at result }
         ensures enters { Enters self.old result self.new }
     {
         self.left -= 1;
-        let (chan, mv, value, port) = self.core.fire(comp, at);
+        let (chan, mv, carries, port) = self.core.fire(comp, at, room);
         self.core.note_move(chan, mv, &mut self.noted);
         Entry::Fired {
             who,
@@ -296,7 +298,7 @@ impl Play {
             port,
             chan,
             mv,
-            value,
+            value: held(carries, *room),
         }
     }
 
@@ -326,7 +328,7 @@ impl Play {
         if !self.core.has_step(comp, port, chan, mv, value) {
             return None;
         }
-        self.fire(who, comp, Some(port));
+        self.fire(who, comp, Some(port), &mut 0);
         Some(port)
     }
 
@@ -346,7 +348,7 @@ impl Play {
         if !self.core.carries(told, value) {
             return false;
         }
-        self.fire(who, told.comp, Some(told.port));
+        self.fire(who, told.comp, Some(told.port), &mut 0);
         true
     }
 

@@ -2,6 +2,7 @@ use Rattle.std.proofs.Common.{refl}
 use Rattle.bz_model.specs.declared.channel.Move.TheVariants.{Got}
 use Rattle.bz_model.specs.declared.channel.Phase.TheVariants.{Replied}
 use Rattle.bz_kinds.specs.KeptLists.{chans_of}
+use Rattle.bz_kinds.specs.Riding.{held}
 use Rattle.bz_kinds.specs.Row.{due_of}
 use Rattle.bz_kinds.proofs.OnwardLaws.{due-by, moved, is-sure}
 use Rattle.bz_kinds.proofs.PlanLaws.{due-narrow, head-on-due, one-head-on, still-sends, turns}
@@ -22,7 +23,7 @@ got-requires-clause-got c =
 
 pub returns-clause-moves : goal.returns-clause-moves
 returns-clause-moves c =
-    gets _ _ _ _ _ (moved c.comp.inside.proc c.got.new.proc c.args.port c.got.ensures.kept c.got.ensures.goes _ _ c.comp.view_is c.comp.invariant.0 (Replied c.args.rides) c.args.rides Got _ c.requires refl refl c.got.ensures.made)
+    gets _ _ _ _ _ (moved c.comp.inside.proc c.got.new.proc c.args.port c.got.ensures.kept c.got.ensures.goes _ _ c.comp.view_is c.comp.invariant.0 (Replied (held c.args.rides c.args.value)) (held c.args.rides c.args.value) Got _ c.requires refl refl c.got.ensures.made)
 
 pub returns-clause-turns : goal.returns-clause-turns
 returns-clause-turns c =

@@ -2,6 +2,7 @@ use Rattle.std.proofs.Common.{refl}
 use Rattle.bz_model.specs.declared.channel.Move.TheVariants.{Take}
 use Rattle.bz_model.specs.declared.channel.Phase.TheVariants.{Asked}
 use Rattle.bz_kinds.specs.KeptLists.{chans_of}
+use Rattle.bz_kinds.specs.Riding.{held}
 use Rattle.bz_kinds.specs.Row.{due_of}
 use Rattle.bz_kinds.proofs.OnwardLaws.{due-by, moved, is-sure}
 use Rattle.bz_kinds.proofs.PlanLaws.{due-narrow, head-on-due, one-head-on, still-sends, turns}
@@ -22,7 +23,7 @@ take-requires-clause-take c =
 
 pub returns-clause-moves : goal.returns-clause-moves
 returns-clause-moves c =
-    takes _ _ _ _ _ (moved c.comp.inside.proc c.take.new.proc c.args.port c.take.ensures.kept c.take.ensures.goes _ _ c.comp.view_is c.comp.invariant.0 (Asked c.args.rides) c.args.rides Take _ c.requires refl refl c.take.ensures.made)
+    takes _ _ _ _ _ (moved c.comp.inside.proc c.take.new.proc c.args.port c.take.ensures.kept c.take.ensures.goes _ _ c.comp.view_is c.comp.invariant.0 (Asked (held c.args.rides c.args.value)) (held c.args.rides c.args.value) Take _ c.requires refl refl c.take.ensures.made)
 
 pub returns-clause-turns : goal.returns-clause-turns
 returns-clause-turns c =

@@ -1,6 +1,7 @@
 use Rattle.std.proofs.Common.{rules, ◌≡◌, ◌∙◌, ap, refl, ◌-◌, arith}
 use Rattle.bz_kinds.specs.declared.row.Plan.TheVariants.{InTurn, Together}
 use Rattle.bz_kinds.specs.Kept.{plan_of}
+use Rattle.bz_kinds.specs.Riding.{held}
 use Rattle.bz_kinds.proofs.OnwardLaws.{in-turn-at, gets-leg, in-turn-got, made-got, went, sure-of, row-got}
 use Rattle.bz_kinds.proofs.ScriptOnward.{script-at, script-got}
 use Rattle.bz_model.specs.Terms.{stored}
@@ -34,12 +35,12 @@ returns-in-PushesInTurn-clause-sure c t =
     sure-of _ _ own _ (in-turn-got _ _ is _ _ _ _ _ _ _ _ c.requires.due.place c.requires.got (returns-in-PushesInTurn-clause-goes c))
 
 pub returns-in_default-clause-made : goal.returns-in_default-clause-made
-returns-in_default-clause-made c = made-got c.args.proc.now c.args.port c.args.rides c.turn_far.new.proc _ _ c.requires.got c.turn_far.ensures.made
+returns-in_default-clause-made c = made-got c.args.proc.now c.args.port (held c.args.rides c.args.value) c.turn_far.new.proc _ _ c.requires.got c.turn_far.ensures.made
 
 pub returns-in-OneByOne-clause-made : goal.returns-in-OneByOne-clause-made
 returns-in-OneByOne-clause-made c d e =
     let is = ap plan_of c.in-OneByOne.is in
-    script-got c.in-OneByOne.script c.args.port _ d c.args.rides _ _ (due-of _ _ is _ _ _ _ d e) (script-at _ _ is _ _ _ _ c.requires.got) (c.keep-in-OneByOne.ensures ∙ ap (λ k. stored k c.args.rides (slots_of c.args.proc.now.slots)) c.got_into.ensures)
+    script-got c.in-OneByOne.script c.args.port _ d (held c.args.rides c.args.value) _ _ (due-of _ _ is _ _ _ _ d e) (script-at _ _ is _ _ _ _ c.requires.got) (c.keep_riding-in-OneByOne.ensures ∙ ap (λ k. stored k (held c.args.rides c.args.value) (slots_of c.args.proc.now.slots)) c.got_into.ensures)
 
 pub returns-in-CallsTogether-clause-goes : goal.returns-in-CallsTogether-clause-goes
 returns-in-CallsTogether-clause-goes c =
@@ -57,14 +58,14 @@ returns-in-PushesTogether-clause-made c d e =
     let is : plan_of c.args.proc.now.plan ≡ Together c.row.result.now = search rules in
     let own : c.in-PushesTogether.match-proc-own.proc ≡ c.args.proc.now = search rules in
     let same = ap (λ (it : Process). slots_of it.slots) own in
-    row-got c.row.result.now c.args.port _ d c.args.rides _ _ (due-of _ _ is _ _ _ _ d e) (at-once-at _ _ is _ _ _ _ c.requires.got)
-    (c.keep-in-PushesTogether.ensures ∙ ap (λ k. stored k c.args.rides (slots_of c.in-PushesTogether.match-proc-own.proc.slots)) c.slot.ensures ∙ ap (stored (leg_of c.row.result.now.legs (c.args.port - 2)).into c.args.rides) same)
+    row-got c.row.result.now c.args.port _ d (held c.args.rides c.args.value) _ _ (due-of _ _ is _ _ _ _ d e) (at-once-at _ _ is _ _ _ _ c.requires.got)
+    (c.keep_riding-in-PushesTogether.ensures ∙ ap (λ k. stored k (held c.args.rides c.args.value) (slots_of c.in-PushesTogether.match-proc-own.proc.slots)) c.slot.ensures ∙ ap (stored (leg_of c.row.result.now.legs (c.args.port - 2)).into (held c.args.rides c.args.value)) same)
 
 pub got-requires-in-Choice-clause-place : goal.got-requires-in-Choice-clause-place
 got-requires-in-Choice-clause-place c = choice-goes-on c.args.proc.now c.get-in-Choice.result.now (mix-is _ _ _ c.in-Choice.is c.get-in-Choice.ensures) c.args.port c.requires.due (gets-out c.args.proc.now c.get-in-Choice.result.now (mix-is _ _ _ c.in-Choice.is c.get-in-Choice.ensures) c.args.port c.requires.due c.requires.got).0
 
 pub returns-in-Choice-clause-made : goal.returns-in-Choice-clause-made
-returns-in-Choice-clause-made c d e = choice-got c.args.proc.now c.get.result.now (mix-is _ _ _ c.in-Choice.is c.get.ensures) c.args.port c.requires.due d c.args.rides _ e c.requires.got c.keep-in-Choice.ensures
+returns-in-Choice-clause-made c d e = choice-got c.args.proc.now c.get.result.now (mix-is _ _ _ c.in-Choice.is c.get.ensures) c.args.port c.requires.due d (held c.args.rides c.args.value) _ e c.requires.got c.keep_riding-in-Choice.ensures
 
 pub returns-in-Choice-clause-goes : goal.returns-in-Choice-clause-goes
 returns-in-Choice-clause-goes c =
@@ -73,7 +74,7 @@ returns-in-Choice-clause-goes c =
     choice-went c.args.proc.now c.get-in-Choice.result.now (mix-is _ _ _ c.in-Choice.is c.get-in-Choice.ensures) c.args.port c.requires.due _ _ _ _ _ _ (omega (arith, busy)) (out-is c.args.proc.now c.get-in-Choice.result.now (mix-is _ _ _ c.in-Choice.is c.get-in-Choice.ensures) c.args.port c.requires.due past) (omega (arith, busy)) c.got-in-Choice.ensures.steps
 
 pub returns-in-Some-clause-made : goal.returns-in-Some-clause-made
-returns-in-Some-clause-made c d e = meeting-got c.args.proc.now c.get-meet.result.now (meet-is _ _ _ c.in-Meeting.is c.get-meet.ensures) c.args.port c.requires.due d c.in-Some.leg c.args.rides _ e c.requires.got c.in-Some.is c.keep-in-Meeting.ensures
+returns-in-Some-clause-made c d e = meeting-got c.args.proc.now c.get-meet.result.now (meet-is _ _ _ c.in-Meeting.is c.get-meet.ensures) c.args.port c.requires.due d c.in-Some.leg (held c.args.rides c.args.value) _ e c.requires.got c.in-Some.is c.keep_riding-in-Meeting.ensures
 
 pub returns-in-Some-clause-goes : goal.returns-in-Some-clause-goes
 returns-in-Some-clause-goes c = let (past, last, due) = gets-behind c.args.proc.now c.get-meet.result.now (meet-is _ _ _ c.in-Meeting.is c.get-meet.ensures) c.args.port c.requires.due c.requires.got in meeting-went c.args.proc.now c.get-meet.result.now (meet-is _ _ _ c.in-Meeting.is c.get-meet.ensures) c.args.port c.requires.due _ _ _ _ last c.got-in-Meeting.ensures.steps

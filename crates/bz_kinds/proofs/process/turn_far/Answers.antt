@@ -6,6 +6,4 @@ use Rattle.bz_kinds.proofs.process.turn_far.Goals as goal
 pub returns-clause-made : goal.returns-clause-made
 returns-clause-made c d e =
     let before = slots_of c.args.proc.now.slots in let after = slots_of c.turn_held-mv.new.proc.slots in let mv = c.turn_held-mv.result.0 in
-    let carried = held c.turn_held-mv.result.1 c.turn_held-mv.new.value in
-    subst (λ (v : Option ℕ). Made d c.args.rides before after mv v) (sym c.held.ensures)
-    (subst (λ (r : Option ℕ). Made d r before after mv carried) c.parts-is_there.ensures (c.turn_held-mv.ensures.made d e))
+    subst (λ (v : Option ℕ). Made d (held c.args.rides c.args.value) before after mv v) (sym c.held.ensures) (c.turn_held-mv.ensures.made d e)

@@ -54,8 +54,8 @@ overflow_sub-chan c =
     let from = c.requires.placed.chan_from c.args.comp p steps.is_port in let to = c.requires.placed.chan_to c.args.comp p steps.is_port in
     omega (arith, chan_is, from, to)
 
-pub next-requires : goal.next-requires
-next-requires c =
+pub next_riding-next-requires : goal.next_riding-next-requires
+next_riding-next-requires c =
     let sites = map site_of c.args.sites.now in let nodes = c.args.nodes.now in let phases = c.args.phases.now in
     let stands = may_stands sites (state_of phases (comps_of nodes)) c.args.comp c.args.at c.requires.may in let above = stands.0 in let below = stands.1 in
     let x = c.get.result.now in let i = c.node_id.result in let at = c.node_id.ensures in let is = c.get.ensures in
@@ -67,12 +67,12 @@ next-requires c =
     let from = c.requires.placed.chan_from c.args.comp p steps.is_port in let to = c.requires.placed.chan_to c.args.comp p steps.is_port in
     omega (arith, chan_is, from, to)
 
-pub move_as-value-requires-clause-stays : goal.move_as-value-requires-clause-stays
-move_as-value-requires-clause-stays c =
+pub move_as-carries-requires-clause-stays : goal.move_as-carries-requires-clause-stays
+move_as-carries-requires-clause-stays c =
     c.requires.stays c.port_of-port.result
 
-pub move_as-value-requires-clause-steps : goal.move_as-value-requires-clause-steps
-move_as-value-requires-clause-steps c =
+pub move_as-carries-requires-clause-steps : goal.move_as-carries-requires-clause-steps
+move_as-carries-requires-clause-steps c =
     let sites = map site_of c.args.sites.now in let nodes = c.args.nodes.now in let phases = c.args.phases.now in
     let stands = may_stands sites (state_of phases (comps_of nodes)) c.args.comp c.args.at c.requires.may in let above = stands.0 in let below = stands.1 in
     let x = c.get.result.now in let i = c.node_id.result in let at = c.node_id.ensures in let is = c.get.ensures in
@@ -81,8 +81,8 @@ move_as-value-requires-clause-steps c =
     let found = port_read sites phases (comps_of nodes) (heres_of nodes) c.requires.sighted c.args.comp above below x.comp x.here x_is h_is c.args.at p c.requires.may c.port_of-port.ensures in let steps = found.0 in
     steps
 
-pub move_as-value-requires-clause-on : goal.move_as-value-requires-clause-on
-move_as-value-requires-clause-on c =
+pub move_as-carries-requires-clause-on : goal.move_as-carries-requires-clause-on
+move_as-carries-requires-clause-on c =
     let sites = map site_of c.args.sites.now in let nodes = c.args.nodes.now in let phases = c.args.phases.now in
     let stands = may_stands sites (state_of phases (comps_of nodes)) c.args.comp c.args.at c.requires.may in let above = stands.0 in let below = stands.1 in
     let x = c.get.result.now in let i = c.node_id.result in let at = c.node_id.ensures in let is = c.get.ensures in
@@ -91,12 +91,12 @@ move_as-value-requires-clause-on c =
     let found = port_read sites phases (comps_of nodes) (heres_of nodes) c.requires.sighted c.args.comp above below x.comp x.here x_is h_is c.args.at p c.requires.may c.port_of-port.ensures in let steps = found.0 in
     c.chan-chan.ensures sites (c.requires.chans c.args.comp p steps.is_port)
 
-pub move_as-value-requires-in-Take-clause-stays : goal.move_as-value-requires-in-Take-clause-stays
-move_as-value-requires-in-Take-clause-stays c =
+pub move_as-carries-requires-in-Take-clause-stays : goal.move_as-carries-requires-in-Take-clause-stays
+move_as-carries-requires-in-Take-clause-stays c =
     c.requires.stays c.port_of-port.result
 
-pub move_as-value-requires-in-Take-clause-steps : goal.move_as-value-requires-in-Take-clause-steps
-move_as-value-requires-in-Take-clause-steps c =
+pub move_as-carries-requires-in-Take-clause-steps : goal.move_as-carries-requires-in-Take-clause-steps
+move_as-carries-requires-in-Take-clause-steps c =
     let sites = map site_of c.args.sites.now in let nodes = c.args.nodes.now in let phases = c.args.phases.now in
     let stands = may_stands sites (state_of phases (comps_of nodes)) c.args.comp c.args.at c.requires.may in let above = stands.0 in let below = stands.1 in
     let x = c.get.result.now in let i = c.node_id.result in let at = c.node_id.ensures in let is = c.get.ensures in
@@ -105,8 +105,8 @@ move_as-value-requires-in-Take-clause-steps c =
     let found = port_read sites phases (comps_of nodes) (heres_of nodes) c.requires.sighted c.args.comp above below x.comp x.here x_is h_is c.args.at p c.requires.may c.port_of-port.ensures in let steps = found.0 in
     steps
 
-pub move_as-value-requires-in-Take-clause-on : goal.move_as-value-requires-in-Take-clause-on
-move_as-value-requires-in-Take-clause-on c =
+pub move_as-carries-requires-in-Take-clause-on : goal.move_as-carries-requires-in-Take-clause-on
+move_as-carries-requires-in-Take-clause-on c =
     let sites = map site_of c.args.sites.now in let nodes = c.args.nodes.now in let phases = c.args.phases.now in
     let stands = may_stands sites (state_of phases (comps_of nodes)) c.args.comp c.args.at c.requires.may in let above = stands.0 in let below = stands.1 in
     let x = c.get.result.now in let i = c.node_id.result in let at = c.node_id.ensures in let is = c.get.ensures in
@@ -115,12 +115,12 @@ move_as-value-requires-in-Take-clause-on c =
     let found = port_read sites phases (comps_of nodes) (heres_of nodes) c.requires.sighted c.args.comp above below x.comp x.here x_is h_is c.args.at p c.requires.may c.port_of-port.ensures in let steps = found.0 in
     c.chan-chan.ensures sites (c.requires.chans c.args.comp p steps.is_port)
 
-pub move_as-value-requires-in-Reply-clause-stays : goal.move_as-value-requires-in-Reply-clause-stays
-move_as-value-requires-in-Reply-clause-stays c =
+pub move_as-carries-requires-in-Reply-clause-stays : goal.move_as-carries-requires-in-Reply-clause-stays
+move_as-carries-requires-in-Reply-clause-stays c =
     c.requires.stays c.port_of-port.result
 
-pub move_as-value-requires-in-Reply-clause-steps : goal.move_as-value-requires-in-Reply-clause-steps
-move_as-value-requires-in-Reply-clause-steps c =
+pub move_as-carries-requires-in-Reply-clause-steps : goal.move_as-carries-requires-in-Reply-clause-steps
+move_as-carries-requires-in-Reply-clause-steps c =
     let sites = map site_of c.args.sites.now in let nodes = c.args.nodes.now in let phases = c.args.phases.now in
     let stands = may_stands sites (state_of phases (comps_of nodes)) c.args.comp c.args.at c.requires.may in let above = stands.0 in let below = stands.1 in
     let x = c.get.result.now in let i = c.node_id.result in let at = c.node_id.ensures in let is = c.get.ensures in
@@ -129,8 +129,8 @@ move_as-value-requires-in-Reply-clause-steps c =
     let found = port_read sites phases (comps_of nodes) (heres_of nodes) c.requires.sighted c.args.comp above below x.comp x.here x_is h_is c.args.at p c.requires.may c.port_of-port.ensures in let steps = found.0 in
     steps
 
-pub move_as-value-requires-in-Reply-clause-on : goal.move_as-value-requires-in-Reply-clause-on
-move_as-value-requires-in-Reply-clause-on c =
+pub move_as-carries-requires-in-Reply-clause-on : goal.move_as-carries-requires-in-Reply-clause-on
+move_as-carries-requires-in-Reply-clause-on c =
     let sites = map site_of c.args.sites.now in let nodes = c.args.nodes.now in let phases = c.args.phases.now in
     let stands = may_stands sites (state_of phases (comps_of nodes)) c.args.comp c.args.at c.requires.may in let above = stands.0 in let below = stands.1 in
     let x = c.get.result.now in let i = c.node_id.result in let at = c.node_id.ensures in let is = c.get.ensures in
@@ -139,12 +139,12 @@ move_as-value-requires-in-Reply-clause-on c =
     let found = port_read sites phases (comps_of nodes) (heres_of nodes) c.requires.sighted c.args.comp above below x.comp x.here x_is h_is c.args.at p c.requires.may c.port_of-port.ensures in let steps = found.0 in
     c.chan-chan.ensures sites (c.requires.chans c.args.comp p steps.is_port)
 
-pub move_as-value-requires-in-Got-clause-stays : goal.move_as-value-requires-in-Got-clause-stays
-move_as-value-requires-in-Got-clause-stays c =
+pub move_as-carries-requires-in-Got-clause-stays : goal.move_as-carries-requires-in-Got-clause-stays
+move_as-carries-requires-in-Got-clause-stays c =
     c.requires.stays c.port_of-port.result
 
-pub move_as-value-requires-in-Got-clause-steps : goal.move_as-value-requires-in-Got-clause-steps
-move_as-value-requires-in-Got-clause-steps c =
+pub move_as-carries-requires-in-Got-clause-steps : goal.move_as-carries-requires-in-Got-clause-steps
+move_as-carries-requires-in-Got-clause-steps c =
     let sites = map site_of c.args.sites.now in let nodes = c.args.nodes.now in let phases = c.args.phases.now in
     let stands = may_stands sites (state_of phases (comps_of nodes)) c.args.comp c.args.at c.requires.may in let above = stands.0 in let below = stands.1 in
     let x = c.get.result.now in let i = c.node_id.result in let at = c.node_id.ensures in let is = c.get.ensures in
@@ -153,8 +153,8 @@ move_as-value-requires-in-Got-clause-steps c =
     let found = port_read sites phases (comps_of nodes) (heres_of nodes) c.requires.sighted c.args.comp above below x.comp x.here x_is h_is c.args.at p c.requires.may c.port_of-port.ensures in let steps = found.0 in
     steps
 
-pub move_as-value-requires-in-Got-clause-on : goal.move_as-value-requires-in-Got-clause-on
-move_as-value-requires-in-Got-clause-on c =
+pub move_as-carries-requires-in-Got-clause-on : goal.move_as-carries-requires-in-Got-clause-on
+move_as-carries-requires-in-Got-clause-on c =
     let sites = map site_of c.args.sites.now in let nodes = c.args.nodes.now in let phases = c.args.phases.now in
     let stands = may_stands sites (state_of phases (comps_of nodes)) c.args.comp c.args.at c.requires.may in let above = stands.0 in let below = stands.1 in
     let x = c.get.result.now in let i = c.node_id.result in let at = c.node_id.ensures in let is = c.get.ensures in

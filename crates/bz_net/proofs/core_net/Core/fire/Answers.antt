@@ -2,6 +2,7 @@ use Rattle.std.proofs.Common.{◌<◌, ◌≤◌, ℕ, length, map, sym, subst}
 use Rattle.bz_model.specs.Nets.{Wiring, Step}
 use Rattle.bz_flat.specs.Flats.{site_of}
 use Rattle.bz_flat.specs.Wires.{ends_in}
+use Rattle.bz_kinds.specs.Riding.{held}
 use Rattle.bz_net.specs.Core.{Standing}
 use Rattle.bz_net.specs.Keeping.{RefreshedEnds, state_of}
 use Rattle.bz_net.specs.Told.{MayMove, MovesAt, Turned}
@@ -26,11 +27,11 @@ pub invariant_of-self : goal.invariant_of-self
 invariant_of-self c =
     let n = c.self.inside in let d = c.move_comp.new in let r = c.move_comp.result in
     let w : Wiring = record { chans = n.names.chans; sites = map site_of n.sites; ports = n.names.ports } in
-    let told : Turned w.sites n.phases (comps_of n.nodes) (heres_of n.nodes) d.phases (comps_of d.nodes) (heres_of d.nodes) c.args.comp r.3 r.0 r.1 r.2 =
+    let told : Turned w.sites n.phases (comps_of n.nodes) (heres_of n.nodes) d.phases (comps_of d.nodes) (heres_of d.nodes) c.args.comp r.3 r.0 r.1 (held r.2 c.move_comp.new.value) =
     c.move_comp.ensures.told in
     let refreshed : RefreshedEnds w.sites (state_of d.phases (comps_of d.nodes)) n.ready d.ready (ends_in n.ends.items r.0) =
-    rw c.deref.ensures.value at c.move_comp.ensures.refreshed in (
-      core_moved w n.phases (comps_of n.nodes) (heres_of n.nodes) n.ends.items n.ready c.self.invariant.0 d.phases (comps_of d.nodes) (heres_of d.nodes) d.ready c.args.comp r.3 r.0 r.1 r.2 told refreshed,
+    c.move_comp.ensures.refreshed in (
+      core_moved w n.phases (comps_of n.nodes) (heres_of n.nodes) n.ends.items n.ready c.self.invariant.0 d.phases (comps_of d.nodes) (heres_of d.nodes) d.ready c.args.comp r.3 r.0 r.1 (held r.2 c.move_comp.new.value) told refreshed,
       c.self.invariant.1,
       c.self.invariant.2,
       rw told.comps_is (unless_moved w.chans w.sites (comps_of n.nodes) n.moved.items c.args.comp told.rest told.steps_at.is_port.comp_from told.steps_at.is_port.comp_to c.self.invariant.3),
@@ -40,32 +41,32 @@ pub returns-clause-step : goal.returns-clause-step
 returns-clause-step c =
     let n = c.self.inside in let d = c.move_comp.new in let r = c.move_comp.result in
     let w : Wiring = record { chans = n.names.chans; sites = map site_of n.sites; ports = n.names.ports } in
-    let told : Turned w.sites n.phases (comps_of n.nodes) (heres_of n.nodes) d.phases (comps_of d.nodes) (heres_of d.nodes) c.args.comp r.3 r.0 r.1 r.2 =
+    let told : Turned w.sites n.phases (comps_of n.nodes) (heres_of n.nodes) d.phases (comps_of d.nodes) (heres_of d.nodes) c.args.comp r.3 r.0 r.1 (held r.2 c.move_comp.new.value) =
     c.move_comp.ensures.told in
     let refreshed : RefreshedEnds w.sites (state_of d.phases (comps_of d.nodes)) n.ready d.ready (ends_in n.ends.items r.0) =
-    rw c.deref.ensures.value at c.move_comp.ensures.refreshed in
-    let step : Step w.sites (state_of n.phases (comps_of n.nodes)) c.args.comp r.3 r.0 r.1 r.2 (state_of d.phases (comps_of d.nodes)) =
-    core_step w n.phases (comps_of n.nodes) (heres_of n.nodes) n.ends.items n.ready c.self.invariant.0 d.phases (comps_of d.nodes) (heres_of d.nodes) d.ready c.args.comp r.3 r.0 r.1 r.2 told refreshed in
-    (subst (λ (v : Standing). Step v.wiring.sites v.state c.args.comp r.3 r.0 r.1 r.2 (state_of d.phases (comps_of d.nodes))) c.self.view_is step)
+    c.move_comp.ensures.refreshed in
+    let step : Step w.sites (state_of n.phases (comps_of n.nodes)) c.args.comp r.3 r.0 r.1 (held r.2 c.move_comp.new.value) (state_of d.phases (comps_of d.nodes)) =
+    core_step w n.phases (comps_of n.nodes) (heres_of n.nodes) n.ends.items n.ready c.self.invariant.0 d.phases (comps_of d.nodes) (heres_of d.nodes) d.ready c.args.comp r.3 r.0 r.1 (held r.2 c.move_comp.new.value) told refreshed in
+    (subst (λ (v : Standing). Step v.wiring.sites v.state c.args.comp r.3 r.0 r.1 (held r.2 c.move_comp.new.value) (state_of d.phases (comps_of d.nodes))) c.self.view_is step)
 
 pub returns-clause-sole : goal.returns-clause-sole
 returns-clause-sole c j mw other next step =
     let n = c.self.inside in let d = c.move_comp.new in let r = c.move_comp.result in
     let w : Wiring = record { chans = n.names.chans; sites = map site_of n.sites; ports = n.names.ports } in
-    let told : Turned w.sites n.phases (comps_of n.nodes) (heres_of n.nodes) d.phases (comps_of d.nodes) (heres_of d.nodes) c.args.comp r.3 r.0 r.1 r.2 =
+    let told : Turned w.sites n.phases (comps_of n.nodes) (heres_of n.nodes) d.phases (comps_of d.nodes) (heres_of d.nodes) c.args.comp r.3 r.0 r.1 (held r.2 c.move_comp.new.value) =
     c.move_comp.ensures.told in
     let refreshed : RefreshedEnds w.sites (state_of d.phases (comps_of d.nodes)) n.ready d.ready (ends_in n.ends.items r.0) =
-    rw c.deref.ensures.value at c.move_comp.ensures.refreshed in
+    c.move_comp.ensures.refreshed in
     let back : Step w.sites (state_of n.phases (comps_of n.nodes)) c.args.comp r.3 j mw other next =
     subst (λ (v : Standing). Step v.wiring.sites v.state c.args.comp r.3 j mw other next) (sym c.self.view_is) step in
-    let same = core_sole w n.phases (comps_of n.nodes) (heres_of n.nodes) n.ends.items n.ready c.self.invariant.0 d.phases (comps_of d.nodes) (heres_of d.nodes) d.ready c.args.comp r.3 r.0 r.1 r.2 told refreshed j mw other next back in
+    let same = core_sole w n.phases (comps_of n.nodes) (heres_of n.nodes) n.ends.items n.ready c.self.invariant.0 d.phases (comps_of d.nodes) (heres_of d.nodes) d.ready c.args.comp r.3 r.0 r.1 (held r.2 c.move_comp.new.value) told refreshed j mw other next back in
     (same.chan, same.move, same.value_is, same.next_is)
 
 pub returns-clause-from : goal.returns-clause-from
 returns-clause-from c =
     let n = c.self.inside in let d = c.move_comp.new in let r = c.move_comp.result in
     let w : Wiring = record { chans = n.names.chans; sites = map site_of n.sites; ports = n.names.ports } in
-    let told : Turned w.sites n.phases (comps_of n.nodes) (heres_of n.nodes) d.phases (comps_of d.nodes) (heres_of d.nodes) c.args.comp r.3 r.0 r.1 r.2 =
+    let told : Turned w.sites n.phases (comps_of n.nodes) (heres_of n.nodes) d.phases (comps_of d.nodes) (heres_of d.nodes) c.args.comp r.3 r.0 r.1 (held r.2 c.move_comp.new.value) =
     c.move_comp.ensures.told in
     subst (λ (k : ℕ). 0 < k) (sym told.chan_is) (c.self.invariant.0.wired.chan_from c.args.comp r.3 told.steps_at.is_port)
 
@@ -73,7 +74,7 @@ pub returns-clause-to : goal.returns-clause-to
 returns-clause-to c =
     let n = c.self.inside in let d = c.move_comp.new in let r = c.move_comp.result in
     let w : Wiring = record { chans = n.names.chans; sites = map site_of n.sites; ports = n.names.ports } in
-    let told : Turned w.sites n.phases (comps_of n.nodes) (heres_of n.nodes) d.phases (comps_of d.nodes) (heres_of d.nodes) c.args.comp r.3 r.0 r.1 r.2 =
+    let told : Turned w.sites n.phases (comps_of n.nodes) (heres_of n.nodes) d.phases (comps_of d.nodes) (heres_of d.nodes) c.args.comp r.3 r.0 r.1 (held r.2 c.move_comp.new.value) =
     c.move_comp.ensures.told in
     subst (λ (v : Standing). r.0 ≤ length v.wiring.chans) c.self.view_is
     (subst (λ (k : ℕ). k ≤ length w.chans) (sym told.chan_is) (c.self.invariant.0.wired.chan_to c.args.comp r.3 told.steps_at.is_port))
@@ -87,7 +88,7 @@ pub move_comp-requires-clause-are_ends : goal.move_comp-requires-clause-are_ends
 move_comp-requires-clause-are_ends c =
     let n = c.self.inside in
     let w : Wiring = record { chans = n.names.chans; sites = map site_of n.sites; ports = n.names.ports } in
-    rw c.deref.ensures.value (all_are_ends w n.ends.items c.self.invariant.0.ends_of)
+    all_are_ends w n.ends.items c.self.invariant.0.ends_of
 
 pub move_comp-requires-clause-exact : goal.move_comp-requires-clause-exact
 move_comp-requires-clause-exact c = c.self.invariant.0.ready.exact
@@ -96,12 +97,12 @@ pub returns-clause-met : goal.returns-clause-met
 returns-clause-met c =
     let n = c.self.inside in let d = c.move_comp.new in let r = c.move_comp.result in
     let w : Wiring = record { chans = n.names.chans; sites = map site_of n.sites; ports = n.names.ports } in
-    let told : Turned w.sites n.phases (comps_of n.nodes) (heres_of n.nodes) d.phases (comps_of d.nodes) (heres_of d.nodes) c.args.comp r.3 r.0 r.1 r.2 =
+    let told : Turned w.sites n.phases (comps_of n.nodes) (heres_of n.nodes) d.phases (comps_of d.nodes) (heres_of d.nodes) c.args.comp r.3 r.0 r.1 (held r.2 c.move_comp.new.value) =
     c.move_comp.ensures.told in
     let refreshed : RefreshedEnds w.sites (state_of d.phases (comps_of d.nodes)) n.ready d.ready (ends_in n.ends.items r.0) =
-    rw c.deref.ensures.value at c.move_comp.ensures.refreshed in
+    c.move_comp.ensures.refreshed in
     subst (λ (v : Standing). AskedBefore v.wiring.sites v.state.phases d.phases r.1) c.self.view_is
-    (core_met w n.phases (comps_of n.nodes) (heres_of n.nodes) n.ends.items n.ready c.self.invariant.0 d.phases (comps_of d.nodes) (heres_of d.nodes) d.ready c.args.comp r.3 r.0 r.1 r.2 told refreshed)
+    (core_met w n.phases (comps_of n.nodes) (heres_of n.nodes) n.ends.items n.ready c.self.invariant.0 d.phases (comps_of d.nodes) (heres_of d.nodes) d.ready c.args.comp r.3 r.0 r.1 (held r.2 c.move_comp.new.value) told refreshed)
 
 pub move_comp-requires-clause-may : goal.move_comp-requires-clause-may
 move_comp-requires-clause-may c = subst (λ (v : Standing). MayMove v.wiring.sites v.state c.args.comp c.args.at) (sym c.self.view_is) c.requires
@@ -113,8 +114,8 @@ pub returns-clause-unbroken : goal.returns-clause-unbroken
 returns-clause-unbroken c =
     let n = c.self.inside in let d = c.move_comp.new in let r = c.move_comp.result in
     let w : Wiring = record { chans = n.names.chans; sites = map site_of n.sites; ports = n.names.ports } in
-    let told : Turned w.sites n.phases (comps_of n.nodes) (heres_of n.nodes) d.phases (comps_of d.nodes) (heres_of d.nodes) c.args.comp r.3 r.0 r.1 r.2 =
+    let told : Turned w.sites n.phases (comps_of n.nodes) (heres_of n.nodes) d.phases (comps_of d.nodes) (heres_of d.nodes) c.args.comp r.3 r.0 r.1 (held r.2 c.move_comp.new.value) =
     c.move_comp.ensures.told in
     let refreshed : RefreshedEnds w.sites (state_of d.phases (comps_of d.nodes)) n.ready d.ready (ends_in n.ends.items r.0) =
-    rw c.deref.ensures.value at c.move_comp.ensures.refreshed in
-    (core_moved w n.phases (comps_of n.nodes) (heres_of n.nodes) n.ends.items n.ready c.self.invariant.0 d.phases (comps_of d.nodes) (heres_of d.nodes) d.ready c.args.comp r.3 r.0 r.1 r.2 told refreshed).tied.kept
+    c.move_comp.ensures.refreshed in
+    (core_moved w n.phases (comps_of n.nodes) (heres_of n.nodes) n.ends.items n.ready c.self.invariant.0 d.phases (comps_of d.nodes) (heres_of d.nodes) d.ready c.args.comp r.3 r.0 r.1 (held r.2 c.move_comp.new.value) told refreshed).tied.kept

@@ -2,4 +2,4 @@ use Rattle.bz_net.proofs.Hints.{waits_still}
 use Rattle.bz_net.proofs.node_moves.AskingNodeMove.make.Goals as goal
 
 pub returns-else-not-waits-clause-goes : goal.returns-else-not-waits-clause-goes
-returns-else-not-waits-clause-goes c = waits_still c.ask-value.new.comp _ c.args.port _ c.if-not-waits.false c.ask-value.ensures.waits c.requires.told
+returns-else-not-waits-clause-goes c = waits_still c.ask-carried.new.comp _ c.args.port _ c.if-not-waits.false c.ask-carried.ensures.waits c.requires.told

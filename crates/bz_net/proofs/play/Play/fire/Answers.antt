@@ -1,6 +1,7 @@
 use Rattle.std.proofs.Common.{◌≡◌, ◌<◌, ◌≤◌, ◌+◌, ◌-◌, length, refl, sym, ap, ◌∙◌, subst, arith}
 use Rattle.bz_model.specs.declared.event.Entry.TheVariants.{Fired}
 use Rattle.bz_model.specs.Nets.{Wiring, Step}
+use Rattle.bz_kinds.specs.Riding.{held}
 use Rattle.bz_net.specs.Progress.{Progress, Enters}
 use Rattle.bz_net.specs.Told.{MayMove, MovesAt}
 use Rattle.bz_net.proofs.Clashing.{but_fired}
@@ -19,7 +20,7 @@ note_move-requires-clause-most c = c.self.invariant.most ∙ ap (λ (w : Wiring)
 pub note_move-requires-clause-watches : goal.note_move-requires-clause-watches
 note_move-requires-clause-watches c =
     let n = c.self.inside in let r = c.fire-chan.result in let core = c.fire-chan.new.self in
-    but_fired n.core.wiring core.wiring n.core.state core.state n.noted c.fire-chan.ensures.wiring c.self.invariant.wired c.self.invariant.watches c.args.comp r.3 r.0 r.1 r.2 c.fire-chan.ensures.from c.fire-chan.ensures.step
+    but_fired n.core.wiring core.wiring n.core.state core.state n.noted c.fire-chan.ensures.wiring c.self.invariant.wired c.self.invariant.watches c.args.comp r.3 r.0 r.1 (held r.2 c.fire-chan.new.value) c.fire-chan.ensures.from c.fire-chan.ensures.step
 
 pub invariant_of-self : goal.invariant_of-self
 invariant_of-self c =
@@ -31,8 +32,9 @@ returns-clause-enters c =
     let n = c.self.inside in let r = c.fire-chan.result in let core = c.fire-chan.new.self in
     let place : 0 < n.left = subst (λ (v : Progress). 0 < v.left) (sym c.self.view_is) c.requires.place in
     let one : n.left ≡ (n.left - 1) + 1 = omega (arith, place) in
-    subst (λ (v : Progress). Enters v (Fired c.args.who c.args.comp r.3 r.0 r.1 r.2) (progress core.wiring core.state c.note_move.new.noted (n.left - 1))) c.self.view_is
-    (enters_fired n.core.wiring core.wiring n.core.state core.state n.noted c.note_move.new.noted n.left (n.left - 1) c.fire-chan.ensures.wiring c.self.invariant.wired one c.args.who c.args.comp r.3 r.0 r.1 r.2 c.fire-chan.ensures.step c.fire-chan.ensures.met c.note_move.ensures)
+    rw c.held.ensures
+    (subst (λ (v : Progress). Enters v (Fired c.args.who c.args.comp r.3 r.0 r.1 (held r.2 c.fire-chan.new.value)) (progress core.wiring core.state c.note_move.new.noted (n.left - 1))) c.self.view_is
+    (enters_fired n.core.wiring core.wiring n.core.state core.state n.noted c.note_move.new.noted n.left (n.left - 1) c.fire-chan.ensures.wiring c.self.invariant.wired one c.args.who c.args.comp r.3 r.0 r.1 (held r.2 c.fire-chan.new.value) c.fire-chan.ensures.step c.fire-chan.ensures.met c.note_move.ensures))
 
 pub returns-clause-fired : goal.returns-clause-fired
 returns-clause-fired c =
@@ -42,5 +44,5 @@ returns-clause-fired c =
       (refl, refl, refl),
       λ k mv value next other.
           let (chan, move, val, state) = c.fire-chan.ensures.sole k mv value next (subst (λ (v : Progress). Step v.wiring.sites v.state c.args.comp r.3 k mv value next) (sym c.self.view_is) other) in
-          ((λ i. Fired c.args.who c.args.comp r.3 (chan i) (move i) (val i)), state),
+          ((λ i. Fired c.args.who c.args.comp r.3 (chan i) (move i) ((c.held.ensures ∙ val) i)), state),
     )
