@@ -6,7 +6,9 @@ use bz_net::Play;
 use std::alloc::Global;
 use std::process::Abort;
 use std::test::Fail;
-use test_kit::calls::{ask_rest, command, has_chan, has_clashes, host_at, port_of_move, run_into};
+use test_kit::calls::{
+    ask_rest, command, has_chan, has_clashes, host_at, port_of_move, run_into, step_after,
+};
 use test_kit::play_of;
 
 /// A net without a journal, and the buffer for its firings.
@@ -40,6 +42,7 @@ impl Bench for PlayBench {
             }
             "buffer" => entries_text(alloc, self.buffer.as_slice()),
             "run" => run(alloc, &mut self.play, &mut self.buffer, words),
+            "after" => after(alloc, &mut self.play, words),
             "host" => host(alloc, &mut self.play, words),
             "host-at" | "rest" => make(alloc, &mut self.play, name, words),
             _ => look(alloc, &mut self.play, name, words),
@@ -55,6 +58,13 @@ fn run(
 ) -> Result<String, Fail> {
     let piece = run_into(play, words.number(), u64::from(words.number()), buffer);
     Ok(format!(in alloc; "{:?}, next {}", piece.end, piece.next)?)
+}
+
+fn after(alloc: Global, play: &mut Play, words: &mut Words<'_>) -> Result<String, Fail> {
+    Ok(match step_after(play, words.number()) {
+        Some(entry) => entry_text(alloc, &entry)?,
+        None => "none".to_string(alloc)?,
+    })
 }
 
 fn host(alloc: Global, play: &mut Play, words: &mut Words<'_>) -> Result<String, Fail> {

@@ -40,6 +40,17 @@ host offer activate | N7 JournalFull
 host offer zz | N1 UnknownPort
 ";
 
+/// A play that lets in five entries. Each step is of the next component behind a number, which is 0 or that of a component.
+const BEHIND: &str = "
+after 0 | Rested { who: Worker(1) }
+host offer activate | Host { who: Host(1), verb: Offer, port: 1, value: None, reply: Done }
+after 9 | none
+after 0 | 2.1 take 1
+after 2 | 2.2 ask 4
+after 1 | 3.1 take 4
+after 0 | none
+";
+
 const MEETS: &str = "
 host offer a | Host { who: Host(1), verb: Offer, port: 1, value: None, reply: Done }
 clashes-none | true
@@ -85,4 +96,9 @@ fn requests_that_meet(rt: HostRuntime) -> Result<(), Fail> {
 #[test]
 fn one_move_at_a_time(rt: HostRuntime) -> Result<(), Fail> {
     plays(&rt, rt.alloc(), BUFFER, "buffer", 4, SINGLE_MOVES)
+}
+
+#[test]
+fn next_behind_a_component(rt: HostRuntime) -> Result<(), Fail> {
+    plays(&rt, rt.alloc(), BUFFER, "buffer", 5, BEHIND)
 }
