@@ -173,7 +173,7 @@ fn fire_out<W: Write>(play: &mut Play, fuel: u64, lines: &mut Outgoing, out: &mu
                 value,
             } => {
                 lines.fired(out, who, comp, mv, chan, value);
-                last = comp;
+                last = comp as usize;
             }
             _ => {
                 lines.rested(out, Who::Worker(1));

@@ -417,15 +417,15 @@ impl Core {
 
     /// The last component before a number, 0 where there is none: who looks for the next one from that number on looks behind it.
     #[inline(always)]
-    pub(crate) fn last_before(&self, from: u32) -> u32
+    pub(crate) fn last_before(&self, from: u32) -> usize
         ensures { result ≡ min (from - 1) (length self.now.wiring.sites) }
     {
-        from.saturating_sub(1).min(self.comp_count())
+        from.saturating_sub(1).min(self.comp_count()) as usize
     }
 
     /// The component that is next to fire from the number after this one, where it is found by one look.
     #[inline(always)]
-    pub(crate) fn next_after(&self, last: u32) -> Option<u32>
+    pub(crate) fn next_after(&self, last: usize) -> Option<u32>
         requires { last ≤ length self.now.wiring.sites }
         ensures some { IfSome result (IsNext (CanStep self.now.wiring.sites self.now.state) (suc last)) }
         ensures none { IfNone result (NoneAfter (CanStep self.now.wiring.sites self.now.state) last) }
@@ -436,7 +436,7 @@ impl Core {
     /// The same, wherever it is. It is called with the whole core, so that no address in it is kept for this call.
     #[cold]
     #[inline(never)]
-    pub(crate) fn next_past(&self, last: u32) -> Option<u32>
+    pub(crate) fn next_past(&self, last: usize) -> Option<u32>
         requires { NoneAfter (CanStep self.now.wiring.sites self.now.state) last }
         ensures { MatchOption result (Rest self.now.wiring.sites self.now.state)
             (IsNext (CanStep self.now.wiring.sites self.now.state) (suc last)) }

@@ -250,10 +250,11 @@ impl Play {
         Some(self.step_after(who, last, &mut 0))
     }
 
-    /// The same from the number after this one, which is that of a component or 0, where one more entry is let in. `room` is for
-    /// the value that a move carries: who makes many moves has one room for all.
+    /// The same from the number after this one, which is that of a component or 0, where one more entry is let in. It is as wide as
+    /// a place in a row, so that it need not be widened at each move. `room` is for the value that a move carries: who makes many
+    /// moves has one room for all.
     #[inline(always)]
-    pub fn step_after(&mut self, who: Who, last: u32, room: &mut Value) -> Entry
+    pub fn step_after(&mut self, who: Who, last: usize, room: &mut Value) -> Entry
         requires place { 0 < self.old.left }
         requires from { last ≤ length self.old.wiring.sites }
         ensures picked { IsPicked (with_journal self.old []) who (suc last) result }

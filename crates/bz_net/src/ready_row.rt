@@ -68,12 +68,12 @@ impl ReadyRow {
     /// of `last`, and where there are few, it always does.
     #[inline(always)]
     #[tactic(auto, using(bz_ready::proofs::Nexts::above, bz_ready::proofs::Nexts::around_all))]
-    pub(crate) fn next_after(&self, last: u32) -> Option<u32>
+    pub(crate) fn next_after(&self, last: usize) -> Option<u32>
         requires { last < length self.now }
         ensures some { IfSome result (λ comp. IsNextFrom self.now (suc last) (Some comp)) }
         ensures none { IfNone result (IsNextAfter self.now last None) }
     {
-        if let Some(place) = self.marks.next_after(last as usize) {
+        if let Some(place) = self.marks.next_after(last) {
             return Some(place as u32);
         }
         if self.marks.len() > 64 {
@@ -88,11 +88,11 @@ impl ReadyRow {
     /// The same where none behind it in its word can move. `None` where none can at all. Mostly there is none behind it either.
     #[inline(always)]
     #[tactic(auto, using(bz_ready::proofs::Nexts::above, bz_ready::proofs::Nexts::around_all))]
-    pub(crate) fn next_past(&self, last: u32) -> Option<u32>
+    pub(crate) fn next_past(&self, last: usize) -> Option<u32>
         requires { IsNextAfter self.now last None }
         ensures { IsNextFrom self.now (suc last) result }
     {
-        if let Some(place) = self.marks.next_past(last as usize) {
+        if let Some(place) = self.marks.next_past(last) {
             return Some(place as u32);
         }
         first_marked(&self.marks)

@@ -113,7 +113,7 @@ pub fn step_after(play: &mut Play, last: u32) -> Option<Entry> {
     if play.let_in(1) == 0 || last > play.core().comp_count() {
         return None;
     }
-    Some(play.step_after(WORKER, last, &mut 0))
+    Some(play.step_after(WORKER, last as usize, &mut 0))
 }
 
 /// Whether these are the components at which requests met.
