@@ -3,9 +3,10 @@ use Rattle.std.proofs.Common.{◌≡◌, ◌≢◌, ℕ, zero, suc, refl, nat_eq
 use Rattle.std.proofs.lemmas.List.{ext_get_or, length-set, length-replicate, get_or-replicate, get_or-set_same, get_or-set_other, get_or_past}
 use Rattle.std.proofs.lemmas.List.FromFn.{length-map-range_with_len, get_or-map-range_with_len}
 use Rattle.std.proofs.lemmas.Bool.{cases_eq, cases_lt}
-use Rattle.std.proofs.lemmas.Nat.Bits.{bit_at-suc, bit_at-zero, bit_at-trailing_zeros, bit_at_above, bit_at_cat_low, bit_at_cat_high, and_high_mask, ones_shl, bit_at_set_same, bit_at_set_other, bit_at_clear_same, bit_at_clear_other}
+use Rattle.std.proofs.lemmas.Nat.Bits.{bit_at-zero, bit_at-trailing_zeros, bit_at_cat_low, bit_at_cat_high, and_high_mask, ones_shl, bit_at_set_same, bit_at_set_other, bit_at_clear_same, bit_at_clear_other}
 use Rattle.std.specs.Int.{bit_at, bit_not, trailing_zeros, w64}
 use Rattle.std.proofs.lemmas.List.{get_or_read}
+use Rattle.std.proofs.Math.Pow.{pow_mono}
 use Rattle.std.proofs.lemmas.Nat.{or_lt, mod_below, pow_pos, and_le_l, shr_split}
 use Rattle.std.specs.Prelude.{bit_or, bit_and}
 use Rattle.bz_bits.specs.Row.{bit_of, bits, IsRow, IsNext, IsNextAfter, IsNextInWord, HasOne}
@@ -103,28 +104,25 @@ module _ (words : List ℕ) (n : ℕ) (row : IsRow words n) where
         )
 
   -- `found` has the 1s of the word of `place` that stand above it
-  module _ (place found : ℕ) (rest : (i : ℕ) → bit_at found i ≡ bit_at (get_or words (place / 64) 0) (place % 64 + suc i)) where
-    marked_above : (j : ℕ) → place < j → j / 64 ≡ place / 64 → bit_of words j ≡ bit_at found (j - suc place)
-    marked_above j lt at =
-        let e : j % 64 ≡ place % 64 + suc (j - suc place) = omega (arith, at, lt) in
-        ap (λ (i : ℕ). bit_at (get_or words i 0) (j % 64)) at ∙ ap (bit_at (get_or words (place / 64) 0)) e ∙ sym (rest (j - suc place))
+  module _ (place found : ℕ) (below : (i : ℕ) → i ≤ place % 64 → bit_at found i ≡ 0) (rest : (i : ℕ) → place % 64 < i → bit_at found i ≡ bit_at (get_or words (place / 64) 0) i) where
+    marked_above : (j : ℕ) → place < j → j / 64 ≡ place / 64 → bit_of words j ≡ bit_at found (j % 64)
+    marked_above j lt at = ap (λ (m : ℕ). bit_at (get_or words m 0) (j % 64)) at ∙ sym (rest (j % 64) (omega (arith, lt, at)))
 
     pub none_above : found ≡ 0 → IsNextAfter (bits words n) place None
-    none_above none j lt at = bit_false j (marked_above j lt at ∙ ap (λ (x : ℕ). bit_at x (j - suc place)) none ∙ bit_at-zero (j - suc place))
+    none_above none j lt at = bit_false j (marked_above j lt at ∙ ap (λ (x : ℕ). bit_at x (j % 64)) none ∙ bit_at-zero (j % 64))
 
-    pub first_above : found < 2 ^ 64 → 0 < found → IsNextAfter (bits words n) place (Some (place + 1 + trailing_zeros w64 found))
+    pub first_above : found < 2 ^ 64 → 0 < found → IsNextAfter (bits words n) place (Some (place / 64 * 64 + trailing_zeros w64 found))
     first_above fits pos =
-        let t = trailing_zeros w64 found in let f = bit_at-trailing_zeros w64 found pos fits in
-        let w = get_or words (place / 64) 0 in let one : bit_at w (place % 64 + suc t) ≡ 1 = sym (rest t) ∙ f.1 in
-        let within : place % 64 + suc t < 64 = elim (cases_lt (place % 64 + suc t) 64) [
-          | inl lt ↦ lt
-          | inr ge ↦ absurd (omega (arith, bit_at_above w 64 (place % 64 + suc t) (row.words_fit (place / 64)) ge, one))
-        ] in
-        let k = place + 1 + t in let at : k / 64 ≡ place / 64 = omega (arith, within) in let e : k - suc place ≡ t = omega arith in (
+        let t = trailing_zeros w64 found in let f = bit_at-trailing_zeros w64 found pos fits in let tl : t < 64 = f.0 in
+        let high : place % 64 < t = elim (cases_lt (place % 64) t) [ inl lt ↦ lt | inr ge ↦ absurd (omega (arith, below t ge, f.1)) ] in
+        let k = place / 64 * 64 + t in
+        let at : k / 64 ≡ place / 64 = omega arith in let in' : k % 64 ≡ t = omega arith in (
           at,
-          next_some (suc place) k (omega arith)
-              (marked_above k (omega arith) at ∙ ap (bit_at found) e ∙ f.1)
-              (λ j le lt. marked_above j (omega (arith, le)) (omega (arith, within, le, lt)) ∙ f.2 (j - suc place) (omega (arith, le, lt))),
+          next_some (suc place) k (omega (arith, high))
+              (marked_above k (omega (arith, high)) at ∙ ap (bit_at found) in' ∙ f.1)
+              (λ j from_le lt.
+              let jat : j / 64 ≡ place / 64 = omega arith in
+              marked_above j (omega (arith, from_le)) jat ∙ f.2 (j % 64) (omega (arith, jat))),
         )
 
   -- `word |= 1 << place % 64`
@@ -178,12 +176,23 @@ module _ (w k : ℕ) (within : k < 64) (fits : w < 2 ^ 64) where
       ap (λ (x : ℕ). bit_at x i) (above_is ∙ sym (add-zero (w / 2 ^ k * 2 ^ k))) ∙ bit_at_cat_high (w / 2 ^ k) k 0 i (pow_pos k) le
       ∙ sym (bit_at_cat_high (w / 2 ^ k) k (w % 2 ^ k) i (mod_below w (2 ^ k) (pow_pos k)) le) ∙ ap (λ (x : ℕ). bit_at x i) (shr_split w k)
 
--- `word >> k >> 1`
-pub shifted_past : (w k i : ℕ) → bit_at (w / 2 ^ k / 2) i ≡ bit_at w (k + suc i)
-shifted_past w k i =
-    let e : k + suc i - k ≡ suc i = omega arith in
-    sym (bit_at-suc (w / 2 ^ k) i) ∙ ap (bit_at (w / 2 ^ k)) (sym e)
-    ∙ sym (bit_at_cat_high (w / 2 ^ k) k (w % 2 ^ k) (k + suc i) (mod_below w (2 ^ k) (pow_pos k)) (omega arith)) ∙ ap (λ (x : ℕ). bit_at x (k + suc i)) (shr_split w k)
+-- `word & (MAX << k << 1)`
+module _ (w k : ℕ) (lt : k < 64) (fits : w < 2 ^ 64) where
+  mask_is : (2 ^ 64 - 1) * 2 ^ k % 2 ^ 64 * 2 ^ 1 % 2 ^ 64 ≡ 2 ^ 64 - 2 ^ suc k
+  mask_is =
+      let x = 2 ^ k in let some : 0 < x = pow_pos k in let to : k ≤ 63 = omega (arith, lt) in let most : x ≤ 2 ^ 63 = pow_mono to in
+      ap (λ (m : ℕ). m * 2 ^ 1 % 2 ^ 64) (ones_shl 64 k (omega (arith, lt))) ∙ omega (arith, some, most)
+
+  past_is : bit_and w ((2 ^ 64 - 1) * 2 ^ k % 2 ^ 64 * 2 ^ 1 % 2 ^ 64) ≡ w / 2 ^ suc k * 2 ^ suc k
+  past_is = ap (bit_and w) mask_is ∙ and_high_mask 64 (suc k) (omega (arith, lt)) w fits
+
+  pub past_below : (i : ℕ) → i ≤ k → bit_at (bit_and w ((2 ^ 64 - 1) * 2 ^ k % 2 ^ 64 * 2 ^ 1 % 2 ^ 64)) i ≡ 0
+  past_below i le = ap (λ (x : ℕ). bit_at x i) (past_is ∙ sym (add-zero (w / 2 ^ suc k * 2 ^ suc k))) ∙ bit_at_cat_low (w / 2 ^ suc k) (suc k) 0 i (omega (arith, le)) ∙ bit_at-zero i
+
+  pub past_rest : (i : ℕ) → k < i → bit_at (bit_and w ((2 ^ 64 - 1) * 2 ^ k % 2 ^ 64 * 2 ^ 1 % 2 ^ 64)) i ≡ bit_at w i
+  past_rest i lt =
+      ap (λ (x : ℕ). bit_at x i) (past_is ∙ sym (add-zero (w / 2 ^ suc k * 2 ^ suc k))) ∙ bit_at_cat_high (w / 2 ^ suc k) (suc k) 0 i (pow_pos (suc k)) (omega (arith, lt))
+      ∙ sym (bit_at_cat_high (w / 2 ^ suc k) (suc k) (w % 2 ^ suc k) i (mod_below w (2 ^ suc k) (pow_pos (suc k))) (omega (arith, lt))) ∙ ap (λ (x : ℕ). bit_at x i) (shr_split w (suc k))
 
 -- a word of a row
 pub word_bits : (words : List ℕ) (n at i : ℕ) → IsRow words n → i < 64 → (bit_at (get_or words at 0) i == 1) ≡ get_or (bits words n) (64 * at + i) false

@@ -130,11 +130,11 @@ impl<A: Allocator> BitRow<A> {
         requires { place < length self.now }
         ensures { IsNextAfter self.now place result }
     {
-        let found = self.words[place / 64] >> (place % 64) >> 1;
+        let found = past(self.words[place / 64], place % 64);
         if found == 0 {
             return None;
         }
-        Some(place + 1 + found.trailing_zeros() as usize)
+        Some(place / 64 * 64 + found.trailing_zeros() as usize)
     }
 
     /// The first place of a word that has a 1.
@@ -181,4 +181,14 @@ pub(crate) fn above(word: u64, place: usize) -> u64
     ensures rest { (i : ℕ) → place ≤ i → bit_at result i ≡ bit_at word i }
 {
     word & (u64::MAX << place)
+}
+
+// The bits of `word` after a place. The mask needs no word, so that who waits for the word has one step left.
+#[inline(always)]
+fn past(word: u64, place: usize) -> u64
+    requires { place < 64 }
+    ensures before { (i : ℕ) → i ≤ place → bit_at result i ≡ 0 }
+    ensures rest { (i : ℕ) → place < i → bit_at result i ≡ bit_at word i }
+{
+    word & (u64::MAX << place << 1)
 }

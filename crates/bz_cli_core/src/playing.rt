@@ -3,17 +3,18 @@
 //! A writer that fails does not end a play: nothing more is written, and the words are played to their end, which the limit
 //! bounds. So what went out is a front of the trace of the whole play.
 
-ghost use Rattle.std.specs.Prelude.{◌≡◌, ◌≢◌, ◌≤◌, ◌<◌, [], None, if◌then◌else◌, vec_capacity, IfOk, IfErr};
+ghost use Rattle.std.specs.Prelude.{◌≡◌, ◌≢◌, ◌+◌, ◌-◌, ◌*◌, ◌≤◌, ◌<◌, suc, [], None, if◌then◌else◌, length, vec_capacity, IfSome, IfNone, OnSome, IfOk, IfErr};
 ghost use Rattle.bz_model.specs.declared.event.Cmd.TheVariants as word;
 ghost use Rattle.bz_model.specs.declared.event.Who.TheVariants as who;
 ghost use Rattle.bz_net.specs.Progress.{IsToldBy};
-ghost use Rattle.bz_net.specs.Running.{Ran};
+ghost use Rattle.bz_net.specs.declared.event.RunEnd.TheVariants as ended;
+ghost use Rattle.bz_net.specs.Running.{Plays, Ran};
 ghost use Rattle.bz_cli_core.specs.Playing.{PlaysOne, StopsOne};
 ghost use Rattle.bz_cli_core.specs.Running.{refusal_in};
 ghost use Rattle.bz_cli_core.specs.Sending.{GoesOut, PlaysOut, RunsOut};
 
 use crate::pending::Pending;
-use bz_model::{Cmd, Entry, HostCmd, NetError, Reply, Who};
+use bz_model::{Cmd, Entry, HostCmd, NetError, Reply, Value, Who};
 use bz_net::{Play, RunEnd};
 use bz_trace_text::Outgoing;
 use std::io::Write;
@@ -160,10 +161,51 @@ fn fire_out<W: Write>(play: &mut Play, fuel: u64, lines: &mut Outgoing, out: &mu
     ensures { RunsOut play.old play.new (W.contents out.old) lines.old (W.contents out.new) lines.new
         (λ old new. Ran old new (who.Worker 1) 1 fuel result) }
 {
-    let due = play.let_in(fuel);
-    let (mut last, mut room) = (0, 0);
-    for fired in 0..due {
-        match play.step_after(Who::Worker(1), last, &mut room) {
+    let had = play.left();
+    let due = fuel.min(had);
+    let (mut last, mut room, mut to_come) = (0, 0, due);
+    while to_come > 0 {
+        let count = to_come.min(lines.make_room(out));
+        match fire_lines(play, count, last, &mut room, lines, out) {
+            Some(comp) => {
+                last = comp;
+                to_come -= count;
+            }
+            None => return RunEnd::Rest(had - 1 - play.left()),
+        }
+    }
+    if due < fuel {
+        RunEnd::Refused(due, NetError::JournalFull)
+    } else {
+        RunEnd::Spent(fuel)
+    }
+}
+
+// Fires so many times, where a page has room for the lines: the component that moved last, or the one before the first. `None` where
+// none can move before, which is told. Nothing but the loop asks how many there were: so it counts down, in one step.
+#[inline(always)]
+fn fire_lines<W: Write>(
+    play: &mut Play,
+    count: u64,
+    from: usize,
+    room: &mut Value,
+    lines: &mut Outgoing,
+    out: &mut W,
+) -> Option<usize>
+    requires count { count ≤ play.old.left }
+    requires from { from ≤ length play.old.wiring.sites }
+    requires room { length lines.old.page + 96 * count ≤ 8192 }
+    ensures some { IfSome result (λ last. RunsOut play.old play.new (W.contents out.old) lines.old (W.contents out.new) lines.new
+        (λ old new. Plays old new (who.Worker 1) (suc from) count (suc last))) }
+    ensures none { IfNone result (RunsOut play.old play.new (W.contents out.old) lines.old (W.contents out.new) lines.new
+        (λ old new. Ran old new (who.Worker 1) (suc from) count (ended.Rest (play.old.left - 1 - play.new.left)))) }
+    ensures left { OnSome result (play.new.left + count ≡ play.old.left) }
+    ensures fewer { IfNone result (play.new.left < play.old.left) }
+    ensures within { IfSome result (λ last. last ≤ length play.new.wiring.sites) }
+{
+    let mut last = from;
+    for _fired in 0..count {
+        match play.step_after(Who::Worker(1), last, room) {
             Entry::Fired {
                 who,
                 comp,
@@ -172,18 +214,14 @@ fn fire_out<W: Write>(play: &mut Play, fuel: u64, lines: &mut Outgoing, out: &mu
                 mv,
                 value,
             } => {
-                lines.fired(out, who, comp, mv, chan, value);
+                lines.fired(who, comp, mv, chan, value);
                 last = comp as usize;
             }
             _ => {
                 lines.rested(out, Who::Worker(1));
-                return RunEnd::Rest(fired);
+                return None;
             }
         }
     }
-    if due < fuel {
-        RunEnd::Refused(due, NetError::JournalFull)
-    } else {
-        RunEnd::Spent(fuel)
-    }
+    Some(last)
 }

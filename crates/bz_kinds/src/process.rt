@@ -330,7 +330,7 @@ fn turn_rare(proc: &mut Process, port: u32, rides: Option<Value>) -> (Move, Opti
 
 /// Whether there is a value, and which.
 #[inline]
-pub fn parts(value: Option<Value>) -> (bool, Value)
+pub(crate) fn parts(value: Option<Value>) -> (bool, Value)
     ensures { held result.0 result.1 ≡ value }
 {
     match value {

@@ -1,5 +1,5 @@
 pub mod Hints
-pub mod ChanRows
+pub mod LinkRows
 pub mod Sites
 pub mod Stands
 pub mod Sides

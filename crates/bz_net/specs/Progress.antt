@@ -63,7 +63,7 @@ RefusesAt old verb port value e = refusal_at old.wiring verb port value ≡ Some
 abbrev pub FiresAt : Progress → Progress → Who → ℕ → Option ℕ → Entry → Type 0
 FiresAt old new who c at entry = (p : ℕ) × MovesAt old.wiring.sites old.state c at p × IsFiring who c p entry × IsSoleStep (with_journal old []) (with_journal new []) who c p entry
 
--- the component that moved is one of so many
+-- the number of the component that moved is at most so many
 abbrev pub IsOneOf : ℕ → Entry → Type 0
 IsOneOf count (Fired who c p k mv value) = c ≤ count
 IsOneOf count (Host who verb port value reply) = ⊤

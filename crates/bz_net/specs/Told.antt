@@ -11,7 +11,7 @@ use Rattle.bz_model.specs.Runs.{CanStep, IsLowest}
 use Rattle.bz_model.specs.Nets.{Site, State, Wiring, IsPort, StepsAt, site_at, chan_at, passive_at}
 use Rattle.bz_kinds.specs.Ready.{CanGo}
 use Rattle.bz_net.specs.Keeping.{phase_in, comp_at, is_open, state_of}
-use Rattle.bz_net.specs.Sides.{Sided}
+use Rattle.bz_net.specs.Sides.{Sided, answers}
 use Rattle.bz_flat.specs.declared.flat.Ends.{Ends}
 use Rattle.bz_flat.specs.Wires.{IsEnd, at_side, port_of_side, ends_in}
 
@@ -118,12 +118,16 @@ pub record Unchanged (comps : List Component) (heres heres' : List (List ℕ)) (
   pub row : new ≡ old
   pub turning : IfSome end (λ c. IsTurning (comp_at comps c))
 
--- the other end of a channel was told of a move
+-- what stands at the other end of a channel was told of a move
+abbrev pub ToldFar : List Component → List (List ℕ) → List (List ℕ) → List Bool → List Bool → Option ℕ → ℕ → Move → Type 0
+ToldFar comps heres heres' old new far p Ask = Came comps heres heres' old new far p
+ToldFar comps heres heres' old new far p Take = Unchanged comps heres heres' old new far
+ToldFar comps heres heres' old new far p Reply = Came comps heres heres' old new far p
+ToldFar comps heres heres' old new far p Got = Unchanged comps heres heres' old new far
+
+-- by its ends: the one that doesn't make the move is told of it
 abbrev pub ToldOther : List Component → List (List ℕ) → List (List ℕ) → List Bool → List Bool → Ends → Move → Type 0
-ToldOther comps heres heres' old new pair Ask = Came comps heres heres' old new pair.passive pair.passive_port
-ToldOther comps heres heres' old new pair Take = Unchanged comps heres heres' old new pair.active
-ToldOther comps heres heres' old new pair Reply = Came comps heres heres' old new pair.active pair.active_port
-ToldOther comps heres heres' old new pair Got = Unchanged comps heres heres' old new pair.passive
+ToldOther comps heres heres' old new pair mv = ToldFar comps heres heres' old new (at_side pair (not (answers mv))) (port_of_side pair (not (answers mv))) mv
 
 -- each component has as many channels as its site
 abbrev pub HasChans : List Site → List Component → Type 0

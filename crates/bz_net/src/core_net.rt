@@ -20,10 +20,10 @@ ghost use Rattle.bz_net.specs.Sides.{answers};
 ghost use Rattle.bz_net.specs.Told.{MayMove, MovesAt};
 ghost use Rattle.bz_net.specs.Unbroken.{IsUnbroken};
 
-use crate::chan_row::ChanRow;
 use crate::foretelling::{Foretold, carries_told, foretell};
 use crate::here::{command, has_step, has_step_by, lowest_port, mark_all};
 use crate::kept_phases::Phases;
+use crate::link_row::LinkRow;
 use crate::moves::{answers, due_at, foresee, mixes, note_clash, port_in, refusal_of, reply_to};
 use crate::node::{dup_all, restart_all, start_all};
 use crate::node_moves::move_comp;
@@ -43,7 +43,7 @@ pub struct Core {
     names: Names,
     sites: Arena<FlatComp>,
     ends: Vec<Ends>,
-    chans: ChanRow,
+    links: LinkRow,
     nodes: NodeRow,
     phases: Phases,
     ready: ReadyRow,
@@ -60,7 +60,7 @@ impl Drop for Core {
             names: _,
             sites: _,
             ends: _,
-            chans: _,
+            links: _,
             nodes: _,
             phases: _,
             ready: _,
@@ -90,7 +90,7 @@ impl Model for Core {
     } };
 
     ghost use Rattle.std.specs.Prelude.{◌≡◌, false};
-    ghost use Rattle.bz_net.specs.ChanRow.{InRow};
+    ghost use Rattle.bz_net.specs.LinkRow.{InRow};
     ghost use Rattle.bz_net.specs.Noted.{NoneMixes};
     ghost use Rattle.bz_net.specs.Core.{CoreSound};
     ghost use Rattle.bz_net.specs.Keeping.{StartsUnless};
@@ -99,7 +99,7 @@ impl Model for Core {
         (record { chans = n.names.chans; sites = map site_of n.sites; ports = n.names.ports })
         n.phases (comps_of n.nodes) (heres_of n.nodes)
         n.ends.items n.ready
-        × InRow (map site_of n.sites) n.chans.starts.items n.chans.row.items
+        × InRow (map site_of n.sites) n.ends.items n.links.starts.items n.links.row.items
         × (n.mixes ≡ false → NoneMixes (map site_of n.sites))
         × StartsUnless n.names.chans (map site_of n.sites) (comps_of n.nodes) n.moved.items };
 }
@@ -123,8 +123,8 @@ impl Core {
             Ok(ready) => ready,
             Err(_) => return Err(NetError::Memory),
         };
-        let chans = match ChanRow::of(alloc, &pieces.comps) {
-            Ok(chans) => chans,
+        let links = match LinkRow::of(alloc, &pieces.comps, &pieces.ends) {
+            Ok(links) => links,
             Err(_) => return Err(NetError::Memory),
         };
         let mixes = mixes(&pieces.comps);
@@ -136,7 +136,7 @@ impl Core {
             names: Names::new(pieces.ports, pieces.chans),
             sites: pieces.comps,
             ends: pieces.ends,
-            chans,
+            links,
             nodes,
             phases,
             ready,
@@ -155,7 +155,7 @@ impl Core {
             names,
             sites,
             ends,
-            chans,
+            links,
             nodes,
             phases,
             ready: _,
@@ -176,7 +176,7 @@ impl Core {
             names,
             sites,
             ends,
-            chans,
+            links,
             nodes,
             phases,
             ready,
@@ -192,7 +192,7 @@ impl Core {
         let names = self.names.dup(alloc)?;
         let sites = dup_comps(alloc, &self.sites)?;
         let ends = Vec::from_slice(alloc, &self.ends)?;
-        let chans = self.chans.dup(alloc)?;
+        let links = self.links.dup(alloc)?;
         let nodes = dup_all(alloc, &self.nodes)?;
         let phases = self.phases.dup(alloc)?;
         let ready = mark_all(alloc, &self.sites, &self.phases, &self.nodes)?;
@@ -201,7 +201,7 @@ impl Core {
             names,
             sites,
             ends,
-            chans,
+            links,
             nodes,
             phases,
             ready,
@@ -232,7 +232,7 @@ impl Core {
             names,
             sites,
             ends,
-            chans: _,
+            links: _,
             nodes: _,
             phases: _,
             ready: _,
@@ -477,7 +477,7 @@ impl Core {
         move_comp(
             &self.sites,
             &self.ends,
-            &self.chans,
+            &self.links,
             &mut self.nodes,
             &mut self.phases,
             &mut self.ready,
@@ -561,7 +561,14 @@ impl Core {
         ensures foretold { IfSome result (IsForetold self.now.wiring.sites self.now.state) }
     {
         let comp = self.next_ready(from)?;
-        let told = foretell(&self.sites, &self.chans, &self.phases, &self.nodes, comp);
+        let told = foretell(
+            &self.sites,
+            &self.ends,
+            &self.links,
+            &self.phases,
+            &self.nodes,
+            comp,
+        );
         Some(told)
     }
 

@@ -3,21 +3,21 @@
 ghost use Rattle.std.specs.Prelude.{◌≡◌, map, IsTrue};
 ghost use Rattle.bz_flat.specs.Flats.{site_of};
 ghost use Rattle.bz_model.specs.Runs.{CanStep, IsLowest};
-ghost use Rattle.bz_net.specs.ChanRow.{InRow};
 ghost use Rattle.bz_net.specs.Due.{GivesAsSteps, HasStep};
 ghost use Rattle.bz_net.specs.Foretelling.{IsForetold};
 ghost use Rattle.bz_net.specs.Keeping.{Placed, state_of};
+ghost use Rattle.bz_net.specs.LinkRow.{InRow};
 ghost use Rattle.bz_net.specs.Nodes.{comps_of, heres_of};
 ghost use Rattle.bz_net.specs.Told.{Sighted};
 
-use crate::chan_row::ChanRow;
 use crate::here::{carries, lowest_port};
 use crate::kept_phases::Phases;
+use crate::link_row::LinkRow;
 use crate::moves::sends;
 use crate::node_moves::look_at;
 use crate::node_row::NodeRow;
 use bz_arena::Arena;
-use bz_flat::FlatComp;
+use bz_flat::{Ends, FlatComp};
 use bz_model::{Move, Value};
 
 /// A step of a component at a port: its channel and its move.
@@ -33,12 +33,13 @@ pub struct Foretold {
 #[inline(always)]
 pub(crate) fn foretell(
     sites: &Arena<FlatComp>,
-    chans: &ChanRow,
+    ends: &[Ends],
+    links: &LinkRow,
     phases: &Phases,
     nodes: &NodeRow,
     comp: u32,
 ) -> Foretold
-    requires chans { InRow (map site_of sites.now) chans.now.starts.items chans.now.row.items }
+    requires links { InRow (map site_of sites.now) ends.now links.now.starts.items links.now.row.items }
     requires placed { Placed (map site_of sites.now) phases.now (comps_of nodes.now) }
     requires sighted { Sighted (map site_of sites.now) phases.now (comps_of nodes.now) (heres_of nodes.now) }
     requires can { CanStep (map site_of sites.now) (state_of phases.now (comps_of nodes.now)) comp }
@@ -50,7 +51,7 @@ pub(crate) fn foretell(
     let Some(port) = lowest_port(sites, phases, nodes, comp) else {
         unreachable!()
     };
-    let chan = chans.chan(comp, port);
+    let chan = links.link(comp, port).chan;
     let mv = phases.next(chan as usize - 1);
     Foretold {
         comp,

@@ -12,13 +12,11 @@ ghost use Rattle.bz_kinds.specs.Ready.{CanGo};
 ghost use Rattle.bz_model.specs.Runs.{CanStep, IsLowest};
 ghost use Rattle.bz_net.specs.Keeping.{comp_at, flag_at, state_of, Exact, Placed, Refreshed, RefreshedEnds, MarksAll, CommandedAt, phase_in};
 ghost use Rattle.bz_model.specs.Hosts.{host_after};
-ghost use Rattle.bz_net.specs.ChanRow.{InRow};
 ghost use Rattle.bz_net.specs.Due.{GivesAsSteps, HasStep};
 ghost use Rattle.bz_net.specs.Nodes.{comps_of, heres_of};
 ghost use Rattle.bz_net.specs.Sides.{answers};
 ghost use Rattle.bz_net.specs.Told.{is_here, flag_of, Goes, NoneGoes, GoesAt, GoesFirst, MayMove, MovesAt, IsTurning, Sighted, AreEnds, AllAreEnds, HasBit, Came, Left, PutEnd, Retold, ToldOther, Turned, StaysSighted, HostSighted};
 
-use crate::chan_row::ChanRow;
 use crate::kept_phases::Phases;
 use crate::moves::{foresee, next_of, reply_to, sends};
 use crate::node::{Node, node_id};

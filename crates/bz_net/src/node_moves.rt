@@ -10,16 +10,16 @@ ghost use Rattle.bz_flat.specs.Flats.{site_of};
 ghost use Rattle.bz_flat.specs.Wires.{StandsIn, ends_in};
 ghost use Rattle.bz_kinds.specs.Riding.{held, riding};
 ghost use Rattle.bz_kinds.specs.Sure.{HasMove};
-ghost use Rattle.bz_net.specs.ChanRow.{InRow};
 ghost use Rattle.bz_net.specs.Due.{next_of};
 ghost use Rattle.bz_net.specs.Keeping.{comp_at, state_of, phase_in, Exact, Placed, RefreshedEnds};
+ghost use Rattle.bz_net.specs.LinkRow.{InRow, IsLink};
 ghost use Rattle.bz_net.specs.Nodes.{comps_of, heres_of};
 ghost use Rattle.bz_net.specs.Sides.{sends};
-ghost use Rattle.bz_net.specs.Told.{flag_of, Goes, NoneGoes, GoesAt, MayMove, MovesAt, IsTurning, Sighted, AllAreEnds, HasBit, Came, Left, ToldOther, Turned, StaysSighted};
+ghost use Rattle.bz_net.specs.Told.{flag_of, Goes, NoneGoes, GoesAt, MayMove, MovesAt, IsTurning, Sighted, AllAreEnds, HasBit, Came, Left, ToldFar, Turned, StaysSighted};
 
-use crate::chan_row::ChanRow;
 use crate::here::{can_go, lowest_of};
 use crate::kept_phases::Phases;
+use crate::link_row::{Link, LinkRow};
 use crate::node::{Node, node_id};
 use crate::node_row::NodeRow;
 use crate::ready_row::ReadyRow;
@@ -53,11 +53,10 @@ trait NodeMove {
         ensures turning { IsTurning node.new.comp };
 
     /// Tells the other end of its channel: a request or a reply comes there.
-    fn tell(nodes: &mut NodeRow, ready: &mut ReadyRow, pair: &Ends)
-        requires active { HasBit (heres_of nodes.old) pair.now.active pair.now.active_port }
-        requires passive { HasBit (heres_of nodes.old) pair.now.passive pair.now.passive_port }
+    fn tell(nodes: &mut NodeRow, ready: &mut ReadyRow, link: &Link)
+        requires bit { HasBit (heres_of nodes.old) link.now.far link.now.far_port }
         requires row { length ready.old ≡ suc (length nodes.old) }
-        ensures told { ToldOther (comps_of nodes.old) (heres_of nodes.old) (heres_of nodes.new) ready.old ready.new pair.now MOVE }
+        ensures told { ToldFar (comps_of nodes.old) (heres_of nodes.old) (heres_of nodes.new) ready.old ready.new link.now.far link.now.far_port MOVE }
         ensures comps { comps_of nodes.new ≡ comps_of nodes.old };
 }
 
@@ -88,8 +87,8 @@ impl NodeMove for Asking {
     }
 
     #[inline(always)]
-    fn tell(nodes: &mut NodeRow, ready: &mut ReadyRow, pair: &Ends) {
-        come(nodes, ready, pair.passive, pair.passive_port);
+    fn tell(nodes: &mut NodeRow, ready: &mut ReadyRow, link: &Link) {
+        come(nodes, ready, link.far, link.far_port);
     }
 }
 
@@ -108,8 +107,8 @@ impl NodeMove for Taking {
     }
 
     #[inline(always)]
-    fn tell(nodes: &mut NodeRow, _ready: &mut ReadyRow, pair: &Ends) {
-        look_at(nodes, pair.active);
+    fn tell(nodes: &mut NodeRow, _ready: &mut ReadyRow, link: &Link) {
+        look_at(nodes, link.far);
     }
 }
 
@@ -128,8 +127,8 @@ impl NodeMove for Replying {
     }
 
     #[inline(always)]
-    fn tell(nodes: &mut NodeRow, ready: &mut ReadyRow, pair: &Ends) {
-        come(nodes, ready, pair.active, pair.active_port);
+    fn tell(nodes: &mut NodeRow, ready: &mut ReadyRow, link: &Link) {
+        come(nodes, ready, link.far, link.far_port);
     }
 }
 
@@ -148,8 +147,8 @@ impl NodeMove for Getting {
     }
 
     #[inline(always)]
-    fn tell(nodes: &mut NodeRow, _ready: &mut ReadyRow, pair: &Ends) {
-        look_at(nodes, pair.passive);
+    fn tell(nodes: &mut NodeRow, _ready: &mut ReadyRow, link: &Link) {
+        look_at(nodes, link.far);
     }
 }
 
@@ -160,8 +159,8 @@ impl NodeMove for Getting {
 #[inline(always)]
 pub(crate) fn move_comp(
     sites: &Arena<FlatComp>,
-    ends: &Vec<Ends>,
-    chans: &ChanRow,
+    ends: &[Ends],
+    links: &LinkRow,
     nodes: &mut NodeRow,
     phases: &mut Phases,
     ready: &mut ReadyRow,
@@ -169,48 +168,49 @@ pub(crate) fn move_comp(
     at: Option<u32>,
     value: &mut Value,
 ) -> (u32, Move, bool, u32)
-    requires chans { InRow (map site_of sites.now) chans.now.starts.items chans.now.row.items }
+    requires links { InRow (map site_of sites.now) ends.now links.now.starts.items links.now.row.items }
     requires placed { Placed (map site_of sites.now) phases.old (comps_of nodes.old) }
     requires sighted { Sighted (map site_of sites.now) phases.old (comps_of nodes.old) (heres_of nodes.old) }
     requires stays { (p : ℕ) → StaysSighted (map site_of sites.now) phases.old (comps_of nodes.old) (heres_of nodes.old) comp p }
     requires may { MayMove (map site_of sites.now) (state_of phases.old (comps_of nodes.old)) comp at }
     requires row { length ready.old ≡ suc (length sites.now) }
     requires exact { (c : ℕ) → Exact (map site_of sites.now) (state_of phases.old (comps_of nodes.old)) ready.old c }
-    requires ends_len { length ends.now.items ≡ length phases.old }
-    requires stands { StandsIn (map site_of sites.now) ends.now.items }
-    requires are_ends { AllAreEnds (map site_of sites.now) ends.now.items }
+    requires ends_len { length ends.now ≡ length phases.old }
+    requires stands { StandsIn (map site_of sites.now) ends.now }
+    requires are_ends { AllAreEnds (map site_of sites.now) ends.now }
     ensures port { MovesAt (map site_of sites.now) (state_of phases.old (comps_of nodes.old)) comp at result.3 }
     ensures told { Turned (map site_of sites.now)
         phases.old (comps_of nodes.old) (heres_of nodes.old) phases.new (comps_of nodes.new) (heres_of nodes.new) comp result.3 result.0 result.1 (held result.2 value.new) }
     ensures refreshed { RefreshedEnds (map site_of sites.now) (state_of phases.new (comps_of nodes.new))
-        ready.old ready.new (ends_in ends.now.items result.0) }
+        ready.old ready.new (ends_in ends.now result.0) }
 {
     look_at(nodes, Some(comp));
     let port = port_of(nodes.get(node_id(comp)), at);
-    let chan = chans.chan(comp, port);
+    let link = links.link(comp, port);
+    let chan = link.chan;
     let (next, rides) = phases.next_riding(chan as usize - 1, value);
     let (mv, carries) = match next {
         Move::Ask => {
             let carries = move_as::<Asking>(
-                sites, ends, nodes, phases, ready, comp, port, chan, rides, value,
+                sites, ends, nodes, phases, ready, comp, port, link, rides, value,
             );
             (Move::Ask, carries)
         }
         Move::Take => {
             let carries = move_as::<Taking>(
-                sites, ends, nodes, phases, ready, comp, port, chan, rides, value,
+                sites, ends, nodes, phases, ready, comp, port, link, rides, value,
             );
             (Move::Take, carries)
         }
         Move::Reply => {
             let carries = move_as::<Replying>(
-                sites, ends, nodes, phases, ready, comp, port, chan, rides, value,
+                sites, ends, nodes, phases, ready, comp, port, link, rides, value,
             );
             (Move::Reply, carries)
         }
         Move::Got => {
             let carries = move_as::<Getting>(
-                sites, ends, nodes, phases, ready, comp, port, chan, rides, value,
+                sites, ends, nodes, phases, ready, comp, port, link, rides, value,
             );
             (Move::Got, carries)
         }
@@ -218,18 +218,18 @@ pub(crate) fn move_comp(
     (chan, mv, carries, port)
 }
 
-// The move of a component at a port of this channel, where it is the one that comes next there, and `value` rides if `rides`:
-// whether it carries a value, which is in `value` then.
+// The move of a component at a port that leads there, where it is the one that comes next on the channel, and `value` rides if
+// `rides`: whether it carries a value, which is in `value` then.
 #[inline(always)]
 fn move_as<M: NodeMove>(
     sites: &Arena<FlatComp>,
-    ends: &Vec<Ends>,
+    ends: &[Ends],
     nodes: &mut NodeRow,
     phases: &mut Phases,
     ready: &mut ReadyRow,
     comp: u32,
     port: u32,
-    chan: u32,
+    link: &Link,
     rides: bool,
     value: &mut Value,
 ) -> bool
@@ -238,24 +238,24 @@ fn move_as<M: NodeMove>(
     requires stays { StaysSighted (map site_of sites.now) phases.old (comps_of nodes.old) (heres_of nodes.old) comp port }
     requires turning { IsTurning (comp_at (comps_of nodes.old) comp) }
     requires steps { StepsAt (map site_of sites.now) (state_of phases.old (comps_of nodes.old)) comp port }
-    requires on { chan ≡ chan_at (map site_of sites.now) comp port }
-    requires next { next_of (phase_in phases.old chan) ≡ Some M.MOVE }
-    requires rides { held rides value.old ≡ riding (phase_in phases.old chan) }
+    requires link { IsLink (map site_of sites.now) ends.now comp port link.now }
+    requires next { next_of (phase_in phases.old link.now.chan) ≡ Some M.MOVE }
+    requires rides { held rides value.old ≡ riding (phase_in phases.old link.now.chan) }
     requires row { length ready.old ≡ suc (length sites.now) }
     requires exact { (c : ℕ) → Exact (map site_of sites.now) (state_of phases.old (comps_of nodes.old)) ready.old c }
-    requires ends_len { length ends.now.items ≡ length phases.old }
-    requires are_ends { AllAreEnds (map site_of sites.now) ends.now.items }
+    requires ends_len { length ends.now ≡ length phases.old }
+    requires are_ends { AllAreEnds (map site_of sites.now) ends.now }
     ensures told { Turned (map site_of sites.now)
-        phases.old (comps_of nodes.old) (heres_of nodes.old) phases.new (comps_of nodes.new) (heres_of nodes.new) comp port chan M.MOVE (held result value.new) }
+        phases.old (comps_of nodes.old) (heres_of nodes.old) phases.new (comps_of nodes.new) (heres_of nodes.new) comp port link.now.chan M.MOVE (held result value.new) }
     ensures refreshed { RefreshedEnds (map site_of sites.now) (state_of phases.new (comps_of nodes.new))
-        ready.old ready.new (ends_in ends.now.items chan) }
+        ready.old ready.new (ends_in ends.now link.now.chan) }
 {
-    let place = chan as usize - 1;
+    let place = link.chan as usize - 1;
     let node = nodes.get_mut(node_id(comp));
     let (carries, goes) = M::make(node, port, rides, value);
     phases.make(place, M::MOVE, carries, *value);
     keep_marked(ready, comp, goes);
-    M::tell(nodes, ready, ends_at(ends, chan));
+    M::tell(nodes, ready, link);
     carries
 }
 
@@ -271,16 +271,6 @@ fn put_into(value: &mut Value, carried: Option<Value>) -> bool
         }
         None => false,
     }
-}
-
-// The ends of a channel. It gets the vector: of a slice the place of its first element is kept in memory during a move.
-#[inline(always)]
-fn ends_at(ends: &Vec<Ends>, chan: u32) -> &Ends
-    requires from { 0 < chan }
-    requires to { chan ≤ length ends.now.items }
-    ensures { result.now ≡ ends_in ends.now.items chan }
-{
-    &ends[chan as usize - 1]
 }
 
 // The port at which the component of a node is to move: the one that is given, or the lowest at which it can.

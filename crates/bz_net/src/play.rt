@@ -274,12 +274,12 @@ impl Play {
         self.fire(who, comp, None, room)
     }
 
-    /// How many of so many entries are still let in.
+    /// How many entries are still let in.
     #[inline(always)]
-    pub fn let_in(&self, entries: u64) -> u64
-        ensures { result ≡ min entries self.now.left }
+    pub fn left(&self) -> u64
+        ensures { result ≡ self.now.left }
     {
-        entries.min(u64::from(self.left))
+        u64::from(self.left)
     }
 
     /// Fires the move of a component at the port that is given, or else at the lowest where it can move.

@@ -65,7 +65,7 @@ impl Joined {
     pub fn has_room(&self) -> bool
         ensures { IsTrue result ↔ (max_entries ≤ self.now.left) }
     {
-        self.net.let_in(MAX_ENTRIES as u64) == MAX_ENTRIES as u64
+        self.net.left() >= MAX_ENTRIES as u64
     }
 
     /// What is said of the next piece, which a reader gives, as the pieces before lead to it: the verdict on a trace with their

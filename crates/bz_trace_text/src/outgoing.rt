@@ -1,6 +1,6 @@
 //! The lines of a run, composed as they come.
 
-ghost use Rattle.std.specs.Prelude.{◌≡◌, ◌+◌, ◌≤◌, ◌++◌, ℕ, List, [], Option, length};
+ghost use Rattle.std.specs.Prelude.{◌≡◌, ◌+◌, ◌*◌, ◌<◌, ◌≤◌, ◌++◌, ℕ, List, [], Option, length};
 ghost use Rattle.bz_model.specs.Traces.{fired_text, rested_text};
 ghost use Rattle.bz_trace_text.specs.Writing.{GoneBut, IsGone};
 
@@ -13,7 +13,10 @@ use bz_model::{Move, Value, Who};
 use std::alloc::Global;
 use std::io::Write;
 
-/// Lines of a trace on a page that goes out when it is full, and whether the writer has failed: then nothing more goes out.
+/// Where there is room for fewer lines the page goes out: down to its last byte it would be filled in ever shorter rounds.
+const FEW_LINES: u64 = 8;
+
+/// Lines of a trace on a page that goes out when it is nearly full, and whether the writer has failed: then nothing more goes out.
 #[derive(Drop)]
 pub struct Outgoing {
     page: Page,
@@ -48,21 +51,28 @@ impl Outgoing {
         self.failed = failed;
     }
 
-    /// Composes the line of a firing.
+    /// Makes room for lines of firings, where there is little. For how many there is room then.
     #[inline(always)]
-    pub fn fired<W: Write>(
-        &mut self,
-        out: &mut W,
-        who: Who,
-        comp: u32,
-        mv: Move,
-        chan: u32,
-        value: Option<Value>,
-    )
-        ensures { (start : Option (List ℕ)) (text : List ℕ) → IsGone start (W.contents out.old) self.old text →
-            IsGone start (W.contents out.new) self.new (text ++ fired_text who comp mv chan value) }
+    pub fn make_room<W: Write>(&mut self, out: &mut W) -> u64
+        ensures gone { (start : Option (List ℕ)) (text : List ℕ) →
+            IsGone start (W.contents out.old) self.old text → IsGone start (W.contents out.new) self.new text }
+        ensures some { 0 < result }
+        ensures room { length self.new.page + 96 * result ≤ 8192 }
     {
-        self.make_room(out);
+        if self.page.lines_left() < FEW_LINES {
+            self.put(out);
+        }
+        self.page.lines_left()
+    }
+
+    /// Composes the line of a firing, where there is room for it.
+    #[inline(always)]
+    pub fn fired(&mut self, who: Who, comp: u32, mv: Move, chan: u32, value: Option<Value>)
+        requires room { length self.old.page + 96 ≤ 8192 }
+        ensures text { self.new.page ≡ self.old.page ++ fired_text who comp mv chan value }
+        ensures failed { self.new.failed ≡ self.old.failed }
+        ensures short { length self.new.page ≤ length self.old.page + 96 }
+    {
         match self.kept.find(comp, mv, chan) {
             Some(line) => {
                 let values = &mut self.values;
@@ -73,12 +83,13 @@ impl Outgoing {
         }
     }
 
-    // The same of a line that isn't kept, where there is room for it.
+    // The same of a line that isn't kept.
     #[inline(always)]
     fn fired_anew(&mut self, who: Who, comp: u32, mv: Move, chan: u32, value: Option<Value>)
-        requires { length self.old.page + 96 ≤ 8192 }
+        requires room { length self.old.page + 96 ≤ 8192 }
         ensures text { self.new.page ≡ self.old.page ++ fired_text who comp mv chan value }
         ensures failed { self.new.failed ≡ self.old.failed }
+        ensures short { length self.new.page ≤ length self.old.page + 96 }
     {
         self.kept.keep(comp, mv, chan);
         let spelled = self.spelled.as_slice();
@@ -102,18 +113,6 @@ impl Outgoing {
         self.put(out);
         // (where it failed, nothing waits)
         self.failed
-    }
-
-    // Makes room for a line, where there is too little.
-    #[inline(always)]
-    fn make_room<W: Write>(&mut self, out: &mut W)
-        ensures gone { (start : Option (List ℕ)) (text : List ℕ) →
-            IsGone start (W.contents out.old) self.old text → IsGone start (W.contents out.new) self.new text }
-        ensures room { length self.new.page + 96 ≤ 8192 }
-    {
-        if !self.page.has_room() {
-            self.put(out);
-        }
     }
 
     // Lets the page go out.

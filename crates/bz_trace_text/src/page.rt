@@ -1,6 +1,6 @@
 //! Lines composed on a page, which goes out whole.
 
-ghost use Rattle.std.specs.Prelude.{◌≡◌, ℕ, ◌+◌, ◌<◌, ◌≤◌, List, [], ◌∷◌, ◌++◌, ◌↔◌, length, take, drop, codes, decimal, IsTrue, Some};
+ghost use Rattle.std.specs.Prelude.{◌≡◌, ℕ, ◌+◌, ◌-◌, ◌/◌, ◌<◌, ◌≤◌, List, [], ◌∷◌, ◌++◌, ◌↔◌, length, take, drop, codes, decimal, IsTrue, Some};
 ghost use Rattle.bz_model.specs.Traces.{fired_text, who_text, value_text};
 ghost use Rattle.bz_text.specs.Writing.{Writes};
 ghost use Rattle.bz_trace_text.specs.Keeping.{kept_text, told_line};
@@ -58,6 +58,14 @@ impl Page {
         ensures { IsTrue result ↔ length self.now + 96 ≤ 8192 }
     {
         self.at <= ROOM - 96
+    }
+
+    /// How many lines of 96 bytes there is room for.
+    #[inline(always)]
+    pub(crate) fn lines_left(&self) -> u64
+        ensures { result ≡ (8192 - length self.now) / 96 }
+    {
+        ((ROOM - self.at) / 96) as u64
     }
 
     #[inline(always)]
@@ -138,7 +146,8 @@ impl Page {
     )
         requires room { length self.old + 96 ≤ 8192 }
         requires told { AreSpelled spelled.now }
-        ensures { self.new ≡ self.old ++ fired_text who comp mv chan value }
+        ensures text { self.new ≡ self.old ++ fired_text who comp mv chan value }
+        ensures short { length self.new ≤ length self.old + 96 }
     {
         let after_chan = set_move(&mut self.bytes, self.at, spelled, who, comp, mv, chan);
         self.at = set_end(&mut self.bytes, after_chan, spelled, value);
@@ -155,8 +164,9 @@ impl Page {
         value: Option<Value>,
     )
         requires { length self.old + 96 ≤ 8192 }
-        ensures { (comp chan : ℕ) (mv : Move) → kept_text line ≡ told_line comp mv chan →
+        ensures text { (comp chan : ℕ) (mv : Move) → kept_text line ≡ told_line comp mv chan →
             self.new ≡ self.old ++ fired_text who comp mv chan value }
+        ensures short { length self.new ≤ length self.old + 96 }
     {
         self.kept(who, line);
         if let Some(value) = value {
@@ -179,8 +189,9 @@ impl Page {
     fn end_with(&mut self, spelled: &Spelled, values: &mut KeptValues, value: Value)
         requires some { 0 < length self.old }
         requires room { length self.old + 40 ≤ 8192 }
-        ensures { (text : List ℕ) → self.old ≡ text ++ codes "\n" →
+        ensures text { (text : List ℕ) → self.old ≡ text ++ codes "\n" →
             self.new ≡ text ++ (codes " " ++ (decimal value ++ codes "\n")) }
+        ensures short { length self.new ≤ length self.old + 40 }
     {
         let at = self.at - 1;
         let numerals = spelled.as_slice();

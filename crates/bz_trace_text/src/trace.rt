@@ -193,7 +193,8 @@ pub(crate) fn add_fired(
 )
     requires room { length page.old + 96 ≤ 8192 }
     requires told { AreSpelled spelled.now }
-    ensures { page.new ≡ page.old ++ fired_text who comp mv chan value }
+    ensures text { page.new ≡ page.old ++ fired_text who comp mv chan value }
+    ensures short { length page.new ≤ length page.old + 96 }
 {
     page.fired(spelled, who, comp, mv, chan, value);
 }

@@ -110,7 +110,7 @@ pub fn run_into(play: &mut Play, from: u32, fuel: u64, buffer: &mut Vec<Entry>) 
 /// What a net that keeps no journal does next behind a component, or behind 0. `None` where there is no such component, or no more
 /// entry is let in.
 pub fn step_after(play: &mut Play, last: u32) -> Option<Entry> {
-    if play.let_in(1) == 0 || last > play.core().comp_count() {
+    if play.left() == 0 || last > play.core().comp_count() {
         return None;
     }
     Some(play.step_after(WORKER, last as usize, &mut 0))

@@ -1,13 +1,19 @@
-use Rattle.std.proofs.Common.{◌≡◌, ◌≤◌, ◌+◌, suc, length}
+use Rattle.std.proofs.Common.{◌≡◌, ◌≤◌, ◌+◌, ◌-◌, suc, length}
 use Rattle.bz_model.specs.declared.event.Who.TheVariants as who
 use Rattle.bz_net.specs.Running.{Plays}
 use Rattle.bz_cli_core.specs.Sending.{RunsOut}
 use Rattle.bz_cli_core.proofs.playing.fire_out.Given as goal
 
--- so many firings so far, each with its entry
-abbrev pub invariant-loop-fired : goal.invariant-loop-fired
-invariant-loop-fired g l = record {
-  runs : RunsOut l.fn.play l.play (g.W.Write.contents l.fn.out) l.fn.lines (g.W.Write.contents l.out) l.lines (λ old new. Plays old new (who.Worker 1) 1 l.fired (suc l.last));
-  left : l.play.left + l.fired ≡ l.fn.play.left;
+-- all firings up to those to come
+abbrev pub invariant-loop-to_come : goal.invariant-loop-to_come
+invariant-loop-to_come g l = record {
+  runs : RunsOut l.fn.play l.play (g.W.Write.contents l.fn.out) l.fn.lines (g.W.Write.contents l.out) l.lines (λ old new. Plays old new (who.Worker 1) 1 (l.due - l.to_come) (suc l.last));
+  left : l.play.left + (l.due - l.to_come) ≡ l.had;
+  had : l.had ≡ l.fn.play.left;
+  let_in : l.due ≤ l.had;
+  fewer : l.to_come ≤ l.due;
   within : l.last ≤ length l.play.wiring.sites;
 }
+
+abbrev pub decreases-loop-to_come : goal.decreases-loop-to_come
+decreases-loop-to_come g l = l.to_come

@@ -31,15 +31,15 @@ port_of-port-requires-clause-goes c =
     let x_is = comp_read nodes c.args.comp i x at is in let h_is = bits_read nodes c.args.comp i x at is in
     goes_read sites phases (comps_of nodes) (heres_of nodes) c.requires.sighted c.args.comp above below x.comp x.here x_is h_is c.args.at c.requires.may
 
-pub chan-chan-requires : goal.chan-chan-requires
-chan-chan-requires c =
+pub link-link-requires : goal.link-link-requires
+link-link-requires c =
     let sites = map site_of c.args.sites.now in let nodes = c.args.nodes.now in let phases = c.args.phases.now in
     let stands = may_stands sites (state_of phases (comps_of nodes)) c.args.comp c.args.at c.requires.may in let above = stands.0 in let below = stands.1 in
     let x = c.get.result.now in let i = c.node_id.result in let at = c.node_id.ensures in let is = c.get.ensures in
     let x_is = comp_read nodes c.args.comp i x at is in let h_is = bits_read nodes c.args.comp i x at is in
     let p = c.port_of-port.result in
     let found = port_read sites phases (comps_of nodes) (heres_of nodes) c.requires.sighted c.args.comp above below x.comp x.here x_is h_is c.args.at p c.requires.may c.port_of-port.ensures in let steps = found.0 in
-    (sites, steps.is_port, c.requires.chans c.args.comp p steps.is_port)
+    (sites, c.args.ends.now, steps.is_port, c.requires.links c.args.comp p steps.is_port)
 
 pub overflow_sub-chan : goal.overflow_sub-chan
 overflow_sub-chan c =
@@ -49,8 +49,8 @@ overflow_sub-chan c =
     let x_is = comp_read nodes c.args.comp i x at is in let h_is = bits_read nodes c.args.comp i x at is in
     let p = c.port_of-port.result in
     let found = port_read sites phases (comps_of nodes) (heres_of nodes) c.requires.sighted c.args.comp above below x.comp x.here x_is h_is c.args.at p c.requires.may c.port_of-port.ensures in let steps = found.0 in
-    let k = c.chan-chan.result in
-    let chan_is : k ≡ chan_at sites c.args.comp p = c.chan-chan.ensures sites (c.requires.chans c.args.comp p steps.is_port) in
+    let k = c.link-link.result.now.chan in
+    let chan_is : k ≡ chan_at sites c.args.comp p = (c.link-link.ensures sites c.args.ends.now (c.requires.links c.args.comp p steps.is_port)).on in
     let from = c.requires.placed.chan_from c.args.comp p steps.is_port in let to = c.requires.placed.chan_to c.args.comp p steps.is_port in
     omega (arith, chan_is, from, to)
 
@@ -62,8 +62,8 @@ next_riding-next-requires c =
     let x_is = comp_read nodes c.args.comp i x at is in let h_is = bits_read nodes c.args.comp i x at is in
     let p = c.port_of-port.result in
     let found = port_read sites phases (comps_of nodes) (heres_of nodes) c.requires.sighted c.args.comp above below x.comp x.here x_is h_is c.args.at p c.requires.may c.port_of-port.ensures in let steps = found.0 in
-    let k = c.chan-chan.result in
-    let chan_is : k ≡ chan_at sites c.args.comp p = c.chan-chan.ensures sites (c.requires.chans c.args.comp p steps.is_port) in
+    let k = c.link-link.result.now.chan in
+    let chan_is : k ≡ chan_at sites c.args.comp p = (c.link-link.ensures sites c.args.ends.now (c.requires.links c.args.comp p steps.is_port)).on in
     let from = c.requires.placed.chan_from c.args.comp p steps.is_port in let to = c.requires.placed.chan_to c.args.comp p steps.is_port in
     omega (arith, chan_is, from, to)
 
@@ -81,15 +81,15 @@ move_as-carries-requires-clause-steps c =
     let found = port_read sites phases (comps_of nodes) (heres_of nodes) c.requires.sighted c.args.comp above below x.comp x.here x_is h_is c.args.at p c.requires.may c.port_of-port.ensures in let steps = found.0 in
     steps
 
-pub move_as-carries-requires-clause-on : goal.move_as-carries-requires-clause-on
-move_as-carries-requires-clause-on c =
+pub move_as-carries-requires-clause-link : goal.move_as-carries-requires-clause-link
+move_as-carries-requires-clause-link c =
     let sites = map site_of c.args.sites.now in let nodes = c.args.nodes.now in let phases = c.args.phases.now in
     let stands = may_stands sites (state_of phases (comps_of nodes)) c.args.comp c.args.at c.requires.may in let above = stands.0 in let below = stands.1 in
     let x = c.get.result.now in let i = c.node_id.result in let at = c.node_id.ensures in let is = c.get.ensures in
     let x_is = comp_read nodes c.args.comp i x at is in let h_is = bits_read nodes c.args.comp i x at is in
     let p = c.port_of-port.result in
     let found = port_read sites phases (comps_of nodes) (heres_of nodes) c.requires.sighted c.args.comp above below x.comp x.here x_is h_is c.args.at p c.requires.may c.port_of-port.ensures in let steps = found.0 in
-    c.chan-chan.ensures sites (c.requires.chans c.args.comp p steps.is_port)
+    c.link-link.ensures sites c.args.ends.now (c.requires.links c.args.comp p steps.is_port)
 
 pub move_as-carries-requires-in-Take-clause-stays : goal.move_as-carries-requires-in-Take-clause-stays
 move_as-carries-requires-in-Take-clause-stays c =
@@ -105,15 +105,15 @@ move_as-carries-requires-in-Take-clause-steps c =
     let found = port_read sites phases (comps_of nodes) (heres_of nodes) c.requires.sighted c.args.comp above below x.comp x.here x_is h_is c.args.at p c.requires.may c.port_of-port.ensures in let steps = found.0 in
     steps
 
-pub move_as-carries-requires-in-Take-clause-on : goal.move_as-carries-requires-in-Take-clause-on
-move_as-carries-requires-in-Take-clause-on c =
+pub move_as-carries-requires-in-Take-clause-link : goal.move_as-carries-requires-in-Take-clause-link
+move_as-carries-requires-in-Take-clause-link c =
     let sites = map site_of c.args.sites.now in let nodes = c.args.nodes.now in let phases = c.args.phases.now in
     let stands = may_stands sites (state_of phases (comps_of nodes)) c.args.comp c.args.at c.requires.may in let above = stands.0 in let below = stands.1 in
     let x = c.get.result.now in let i = c.node_id.result in let at = c.node_id.ensures in let is = c.get.ensures in
     let x_is = comp_read nodes c.args.comp i x at is in let h_is = bits_read nodes c.args.comp i x at is in
     let p = c.port_of-port.result in
     let found = port_read sites phases (comps_of nodes) (heres_of nodes) c.requires.sighted c.args.comp above below x.comp x.here x_is h_is c.args.at p c.requires.may c.port_of-port.ensures in let steps = found.0 in
-    c.chan-chan.ensures sites (c.requires.chans c.args.comp p steps.is_port)
+    c.link-link.ensures sites c.args.ends.now (c.requires.links c.args.comp p steps.is_port)
 
 pub move_as-carries-requires-in-Reply-clause-stays : goal.move_as-carries-requires-in-Reply-clause-stays
 move_as-carries-requires-in-Reply-clause-stays c =
@@ -129,15 +129,15 @@ move_as-carries-requires-in-Reply-clause-steps c =
     let found = port_read sites phases (comps_of nodes) (heres_of nodes) c.requires.sighted c.args.comp above below x.comp x.here x_is h_is c.args.at p c.requires.may c.port_of-port.ensures in let steps = found.0 in
     steps
 
-pub move_as-carries-requires-in-Reply-clause-on : goal.move_as-carries-requires-in-Reply-clause-on
-move_as-carries-requires-in-Reply-clause-on c =
+pub move_as-carries-requires-in-Reply-clause-link : goal.move_as-carries-requires-in-Reply-clause-link
+move_as-carries-requires-in-Reply-clause-link c =
     let sites = map site_of c.args.sites.now in let nodes = c.args.nodes.now in let phases = c.args.phases.now in
     let stands = may_stands sites (state_of phases (comps_of nodes)) c.args.comp c.args.at c.requires.may in let above = stands.0 in let below = stands.1 in
     let x = c.get.result.now in let i = c.node_id.result in let at = c.node_id.ensures in let is = c.get.ensures in
     let x_is = comp_read nodes c.args.comp i x at is in let h_is = bits_read nodes c.args.comp i x at is in
     let p = c.port_of-port.result in
     let found = port_read sites phases (comps_of nodes) (heres_of nodes) c.requires.sighted c.args.comp above below x.comp x.here x_is h_is c.args.at p c.requires.may c.port_of-port.ensures in let steps = found.0 in
-    c.chan-chan.ensures sites (c.requires.chans c.args.comp p steps.is_port)
+    c.link-link.ensures sites c.args.ends.now (c.requires.links c.args.comp p steps.is_port)
 
 pub move_as-carries-requires-in-Got-clause-stays : goal.move_as-carries-requires-in-Got-clause-stays
 move_as-carries-requires-in-Got-clause-stays c =
@@ -153,15 +153,15 @@ move_as-carries-requires-in-Got-clause-steps c =
     let found = port_read sites phases (comps_of nodes) (heres_of nodes) c.requires.sighted c.args.comp above below x.comp x.here x_is h_is c.args.at p c.requires.may c.port_of-port.ensures in let steps = found.0 in
     steps
 
-pub move_as-carries-requires-in-Got-clause-on : goal.move_as-carries-requires-in-Got-clause-on
-move_as-carries-requires-in-Got-clause-on c =
+pub move_as-carries-requires-in-Got-clause-link : goal.move_as-carries-requires-in-Got-clause-link
+move_as-carries-requires-in-Got-clause-link c =
     let sites = map site_of c.args.sites.now in let nodes = c.args.nodes.now in let phases = c.args.phases.now in
     let stands = may_stands sites (state_of phases (comps_of nodes)) c.args.comp c.args.at c.requires.may in let above = stands.0 in let below = stands.1 in
     let x = c.get.result.now in let i = c.node_id.result in let at = c.node_id.ensures in let is = c.get.ensures in
     let x_is = comp_read nodes c.args.comp i x at is in let h_is = bits_read nodes c.args.comp i x at is in
     let p = c.port_of-port.result in
     let found = port_read sites phases (comps_of nodes) (heres_of nodes) c.requires.sighted c.args.comp above below x.comp x.here x_is h_is c.args.at p c.requires.may c.port_of-port.ensures in let steps = found.0 in
-    c.chan-chan.ensures sites (c.requires.chans c.args.comp p steps.is_port)
+    c.link-link.ensures sites c.args.ends.now (c.requires.links c.args.comp p steps.is_port)
 
 pub returns-in-Ask-clause-port : goal.returns-in-Ask-clause-port
 returns-in-Ask-clause-port c =

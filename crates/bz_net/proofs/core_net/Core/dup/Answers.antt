@@ -1,12 +1,11 @@
-use Rattle.std.proofs.Common.{ℕ, List, length, map, sym, ap, subst, ◌∙◌}
+use Rattle.std.proofs.Common.{length, map, sym, ap, subst, ◌∙◌}
 use Rattle.std.proofs.lemmas.List.{length-map}
 use Rattle.bz_model.specs.Names.{Outside}
-use Rattle.bz_model.specs.Nets.{Site, Wiring}
+use Rattle.bz_model.specs.Nets.{Wiring}
 use Rattle.bz_flat.specs.Flats.{site_of}
 use Rattle.bz_net.specs.Keeping.{MarksAll, state_of}
 use Rattle.bz_net.proofs.Cores.{core_same, core_sighted}
 use Rattle.bz_net.proofs.Opening.{marks_ready}
-use Rattle.bz_net.specs.ChanRow.{InRow}
 use Rattle.bz_net.specs.Noted.{NoneMixes}
 use Rattle.bz_net.specs.Nodes.{comps_of, heres_of}
 use Rattle.bz_net.proofs.core_net.Core.dup.Goals as goal
@@ -31,9 +30,7 @@ invariant_of-result c =
           (c.in_ok-ends.ensures.items ∙ c.deref.ensures.value)
           c.self.invariant.0
           (marks_ready w (state_of n.phases (comps_of n.nodes)) c.in_ok-ready.ready (length n.sites) (sym (length-map n.sites site_of)) all),
-      subst (λ (l : List Site). InRow l c.in_ok-chans.chans.starts.items c.in_ok-chans.chans.row.items) (sym sites)
-          (subst (λ (row : List ℕ). InRow (map site_of n.sites) c.in_ok-chans.chans.starts.items row) (sym c.in_ok-chans.ensures.row)
-          (subst (λ (starts : List ℕ). InRow (map site_of n.sites) starts n.chans.row.items) (sym c.in_ok-chans.ensures.starts) c.self.invariant.1)),
+      rw (sites, c.in_ok-ends.ensures.items ∙ c.deref.ensures.value, c.in_ok-links.ensures.row, c.in_ok-links.ensures.starts) c.self.invariant.1,
       λ never. subst NoneMixes (sym sites) (c.self.invariant.2 never),
       rw (ap (λ (o : Outside). o.chans) names, sites, ap comps_of c.in_ok-nodes.ensures, c.in_ok-moved.ensures.items ∙ c.deref-2.ensures.value) c.self.invariant.3,
     )

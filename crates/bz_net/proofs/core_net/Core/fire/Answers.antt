@@ -30,7 +30,7 @@ invariant_of-self c =
     let told : Turned w.sites n.phases (comps_of n.nodes) (heres_of n.nodes) d.phases (comps_of d.nodes) (heres_of d.nodes) c.args.comp r.3 r.0 r.1 (held r.2 c.move_comp.new.value) =
     c.move_comp.ensures.told in
     let refreshed : RefreshedEnds w.sites (state_of d.phases (comps_of d.nodes)) n.ready d.ready (ends_in n.ends.items r.0) =
-    c.move_comp.ensures.refreshed in (
+    rw c.deref.ensures.value at c.move_comp.ensures.refreshed in (
       core_moved w n.phases (comps_of n.nodes) (heres_of n.nodes) n.ends.items n.ready c.self.invariant.0 d.phases (comps_of d.nodes) (heres_of d.nodes) d.ready c.args.comp r.3 r.0 r.1 (held r.2 c.move_comp.new.value) told refreshed,
       c.self.invariant.1,
       c.self.invariant.2,
@@ -44,7 +44,7 @@ returns-clause-step c =
     let told : Turned w.sites n.phases (comps_of n.nodes) (heres_of n.nodes) d.phases (comps_of d.nodes) (heres_of d.nodes) c.args.comp r.3 r.0 r.1 (held r.2 c.move_comp.new.value) =
     c.move_comp.ensures.told in
     let refreshed : RefreshedEnds w.sites (state_of d.phases (comps_of d.nodes)) n.ready d.ready (ends_in n.ends.items r.0) =
-    c.move_comp.ensures.refreshed in
+    rw c.deref.ensures.value at c.move_comp.ensures.refreshed in
     let step : Step w.sites (state_of n.phases (comps_of n.nodes)) c.args.comp r.3 r.0 r.1 (held r.2 c.move_comp.new.value) (state_of d.phases (comps_of d.nodes)) =
     core_step w n.phases (comps_of n.nodes) (heres_of n.nodes) n.ends.items n.ready c.self.invariant.0 d.phases (comps_of d.nodes) (heres_of d.nodes) d.ready c.args.comp r.3 r.0 r.1 (held r.2 c.move_comp.new.value) told refreshed in
     (subst (λ (v : Standing). Step v.wiring.sites v.state c.args.comp r.3 r.0 r.1 (held r.2 c.move_comp.new.value) (state_of d.phases (comps_of d.nodes))) c.self.view_is step)
@@ -56,7 +56,7 @@ returns-clause-sole c j mw other next step =
     let told : Turned w.sites n.phases (comps_of n.nodes) (heres_of n.nodes) d.phases (comps_of d.nodes) (heres_of d.nodes) c.args.comp r.3 r.0 r.1 (held r.2 c.move_comp.new.value) =
     c.move_comp.ensures.told in
     let refreshed : RefreshedEnds w.sites (state_of d.phases (comps_of d.nodes)) n.ready d.ready (ends_in n.ends.items r.0) =
-    c.move_comp.ensures.refreshed in
+    rw c.deref.ensures.value at c.move_comp.ensures.refreshed in
     let back : Step w.sites (state_of n.phases (comps_of n.nodes)) c.args.comp r.3 j mw other next =
     subst (λ (v : Standing). Step v.wiring.sites v.state c.args.comp r.3 j mw other next) (sym c.self.view_is) step in
     let same = core_sole w n.phases (comps_of n.nodes) (heres_of n.nodes) n.ends.items n.ready c.self.invariant.0 d.phases (comps_of d.nodes) (heres_of d.nodes) d.ready c.args.comp r.3 r.0 r.1 (held r.2 c.move_comp.new.value) told refreshed j mw other next back in
@@ -88,7 +88,10 @@ pub move_comp-requires-clause-are_ends : goal.move_comp-requires-clause-are_ends
 move_comp-requires-clause-are_ends c =
     let n = c.self.inside in
     let w : Wiring = record { chans = n.names.chans; sites = map site_of n.sites; ports = n.names.ports } in
-    all_are_ends w n.ends.items c.self.invariant.0.ends_of
+    rw c.deref.ensures.value (all_are_ends w n.ends.items c.self.invariant.0.ends_of)
+
+pub move_comp-requires-clause-links : goal.move_comp-requires-clause-links
+move_comp-requires-clause-links c = rw c.deref.ensures.value c.self.invariant.1
 
 pub move_comp-requires-clause-exact : goal.move_comp-requires-clause-exact
 move_comp-requires-clause-exact c = c.self.invariant.0.ready.exact
@@ -100,7 +103,7 @@ returns-clause-met c =
     let told : Turned w.sites n.phases (comps_of n.nodes) (heres_of n.nodes) d.phases (comps_of d.nodes) (heres_of d.nodes) c.args.comp r.3 r.0 r.1 (held r.2 c.move_comp.new.value) =
     c.move_comp.ensures.told in
     let refreshed : RefreshedEnds w.sites (state_of d.phases (comps_of d.nodes)) n.ready d.ready (ends_in n.ends.items r.0) =
-    c.move_comp.ensures.refreshed in
+    rw c.deref.ensures.value at c.move_comp.ensures.refreshed in
     subst (λ (v : Standing). AskedBefore v.wiring.sites v.state.phases d.phases r.1) c.self.view_is
     (core_met w n.phases (comps_of n.nodes) (heres_of n.nodes) n.ends.items n.ready c.self.invariant.0 d.phases (comps_of d.nodes) (heres_of d.nodes) d.ready c.args.comp r.3 r.0 r.1 (held r.2 c.move_comp.new.value) told refreshed)
 
@@ -117,5 +120,5 @@ returns-clause-unbroken c =
     let told : Turned w.sites n.phases (comps_of n.nodes) (heres_of n.nodes) d.phases (comps_of d.nodes) (heres_of d.nodes) c.args.comp r.3 r.0 r.1 (held r.2 c.move_comp.new.value) =
     c.move_comp.ensures.told in
     let refreshed : RefreshedEnds w.sites (state_of d.phases (comps_of d.nodes)) n.ready d.ready (ends_in n.ends.items r.0) =
-    c.move_comp.ensures.refreshed in
+    rw c.deref.ensures.value at c.move_comp.ensures.refreshed in
     (core_moved w n.phases (comps_of n.nodes) (heres_of n.nodes) n.ends.items n.ready c.self.invariant.0 d.phases (comps_of d.nodes) (heres_of d.nodes) d.ready c.args.comp r.3 r.0 r.1 (held r.2 c.move_comp.new.value) told refreshed).tied.kept

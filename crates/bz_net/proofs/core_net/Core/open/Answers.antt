@@ -43,7 +43,7 @@ invariant_of-result c =
     rw c.new-2.ensures (
       core_first w phases comps heres c.into_pieces-pieces.ensures.wired idle started blanks p.ends.items c.in-Ok-mark_all.ready c.into_pieces-pieces.ensures.ends_of
           (marks_ready w (state_of phases comps) c.in-Ok-mark_all.ready (length p.comps) count marks),
-      c.in-Ok-of.ensures,
+      rw c.deref.ensures.value at c.in-Ok-of.ensures,
       c.mixes-mixes.ensures,
       unless_first w.chans w.sites comps c.in-Ok-vec.moved.items started (sym c.in-Ok-vec.moved.ok.0 ∙ c.in-Ok-vec.ensures.len ∙ c.len-2.ensures ∙ count),
     )
