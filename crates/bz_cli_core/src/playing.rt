@@ -163,13 +163,14 @@ fn fire_out<W: Write>(play: &mut Play, fuel: u64, lines: &mut Outgoing, out: &mu
 {
     let had = play.left();
     let due = fuel.min(had);
-    let (mut last, mut room, mut to_come) = (0, 0, due);
-    while to_come > 0 {
-        let count = to_come.min(lines.make_room(out));
-        match fire_lines(play, count, last, &mut room, lines, out) {
+    let end = had - due;
+    let (mut last, mut room, mut now) = (0, 0, had);
+    while now > end {
+        let stop = end.max(now.saturating_sub(lines.make_room(out)));
+        match fire_lines(play, stop, last, &mut room, lines, out) {
             Some(comp) => {
                 last = comp;
-                to_come -= count;
+                now = stop;
             }
             None => return RunEnd::Rest(had - 1 - play.left()),
         }
@@ -181,30 +182,30 @@ fn fire_out<W: Write>(play: &mut Play, fuel: u64, lines: &mut Outgoing, out: &mu
     }
 }
 
-// Fires so many times, where a page has room for the lines: the component that moved last, or the one before the first. `None` where
-// none can move before, which is told. Nothing but the loop asks how many there were: so it counts down, in one step.
+// Fires until only so many entries are still let in, where a page has room for the lines: the component that moved last, or the
+// one before the first. `None` where none can move before, which is told.
 #[inline(always)]
 fn fire_lines<W: Write>(
     play: &mut Play,
-    count: u64,
+    stop: u64,
     from: usize,
     room: &mut Value,
     lines: &mut Outgoing,
     out: &mut W,
 ) -> Option<usize>
-    requires count { count ≤ play.old.left }
+    requires due { stop ≤ play.old.left }
     requires from { from ≤ length play.old.wiring.sites }
-    requires room { length lines.old.page + 96 * count ≤ 8192 }
+    requires room { length lines.old.page + 96 * (play.old.left - stop) ≤ 8192 }
     ensures some { IfSome result (λ last. RunsOut play.old play.new (W.contents out.old) lines.old (W.contents out.new) lines.new
-        (λ old new. Plays old new (who.Worker 1) (suc from) count (suc last))) }
+        (λ old new. Plays old new (who.Worker 1) (suc from) (play.old.left - stop) (suc last))) }
     ensures none { IfNone result (RunsOut play.old play.new (W.contents out.old) lines.old (W.contents out.new) lines.new
-        (λ old new. Ran old new (who.Worker 1) (suc from) count (ended.Rest (play.old.left - 1 - play.new.left)))) }
-    ensures left { OnSome result (play.new.left + count ≡ play.old.left) }
+        (λ old new. Ran old new (who.Worker 1) (suc from) (play.old.left - stop) (ended.Rest (play.old.left - 1 - play.new.left)))) }
+    ensures stops { OnSome result (play.new.left ≡ stop) }
     ensures fewer { IfNone result (play.new.left < play.old.left) }
     ensures within { IfSome result (λ last. last ≤ length play.new.wiring.sites) }
 {
     let mut last = from;
-    for _fired in 0..count {
+    while play.left() > stop {
         match play.step_after(Who::Worker(1), last, room) {
             Entry::Fired {
                 who,

@@ -1,4 +1,4 @@
-use Rattle.std.proofs.Common.{◌≡◌, ◌≤◌, ◌+◌, ◌-◌, [], suc, length, refl, ap, subst, arith}
+use Rattle.std.proofs.Common.{◌≡◌, ◌≤◌, ◌+◌, ◌-◌, ◌<◌, [], suc, length, ap, subst, arith}
 use Rattle.bz_model.specs.declared.event.Entry.{Entry}
 use Rattle.bz_model.specs.declared.event.Who.TheVariants as who
 use Rattle.bz_model.specs.Nets.{Wiring}
@@ -9,52 +9,51 @@ use Rattle.bz_net.specs.Replies.{IsPicked}
 use Rattle.bz_cli_core.proofs.Running.{entered_left, fired_more, no_line, rested, rests_then}
 use Rattle.bz_cli_core.proofs.playing.fire_lines.Goals as goal
 
-pub loop-fired-init : goal.loop-fired-init
-loop-fired-init g c = record {
-  runs = no_line c.args.play.now (g.W.Write.contents c.args.out.now) c.args.lines.now (suc c.args.from) 0 refl;
-  left = omega arith;
+pub loop-play-init : goal.loop-play-init
+loop-play-init g c = record {
+  runs = no_line c.args.play.now (g.W.Write.contents c.args.out.now) c.args.lines.now (suc c.args.from) (c.args.play.now.left - c.args.play.now.left) (omega arith);
+  fewer = omega arith;
+  stop = c.requires.due;
   within = c.requires.from;
-  room = omega (arith, c.requires.room);
+  room = c.requires.room;
 }
 
-pub step_after-requires-clause-place : goal.step_after-requires-clause-place
-step_after-requires-clause-place g c =
-    let l = c.loop-fired in omega (arith, l.invariant.left, c.loop-fired-test.true, c.requires.count)
-
-pub loop-fired-preserved : goal.loop-fired-preserved
-loop-fired-preserved g c =
-    let l = c.loop-fired in let a = c.in-Fired in let o = c.fired in
+pub loop-play-smaller : goal.loop-play-smaller
+loop-play-smaller g c =
+    let l = c.loop-play in
     let one : c.step_after.new.self.left + 1 ≡ l.play.left = entered_left l.play c.step_after.result c.step_after.new.self c.step_after.ensures.enters in
+    let more : c.args.stop < l.play.left = omega (arith, c.loop-play-test.true, c.left.ensures) in
+    omega (arith, one, more)
+
+pub loop-play-preserved : goal.loop-play-preserved
+loop-play-preserved g c =
+    let l = c.loop-play in let a = c.in-Fired in let o = c.fired in
+    let one : c.step_after.new.self.left + 1 ≡ l.play.left = entered_left l.play c.step_after.result c.step_after.new.self c.step_after.ensures.enters in
+    let more : c.args.stop < l.play.left = omega (arith, c.loop-play-test.true, c.left.ensures) in
     let is_one : a.comp ≤ length l.play.wiring.sites = subst (IsOneOf (length l.play.wiring.sites)) a.is c.step_after.ensures.within in
     record {
-      runs = fired_more c.args.play.now l.play c.step_after.new.self (g.W.Write.contents c.args.out.now) (g.W.Write.contents l.out) (g.W.Write.contents l.out) c.args.lines.now l.lines o.new.self (suc c.args.from) l._fired (suc l.last) l.invariant.runs a.who a.comp a.port a.chan a.mv a.value (l._fired + 1) refl
+      runs = fired_more c.args.play.now l.play c.step_after.new.self (g.W.Write.contents c.args.out.now) (g.W.Write.contents l.out) (g.W.Write.contents l.out) c.args.lines.now l.lines o.new.self (suc c.args.from) (c.args.play.now.left - l.play.left) (suc l.last) l.invariant.runs a.who a.comp a.port a.chan a.mv a.value (c.args.play.now.left - c.step_after.new.self.left) (omega (arith, one, l.invariant.fewer))
           (subst (λ (e : Entry). IsPicked (with_journal l.play []) (who.Worker 1) (suc l.last) e) a.is c.step_after.ensures.picked)
           (subst (λ (e : Entry). Enters l.play e c.step_after.new.self) a.is c.step_after.ensures.enters)
           (λ start text gone. rw (o.ensures.text, o.ensures.failed) (gone_more start (g.W.Write.contents l.out) l.lines.failed l.lines.page text (fired_text a.who a.comp a.mv a.chan a.value) gone));
-      left = omega (arith, one, l.invariant.left);
+      fewer = omega (arith, one, l.invariant.fewer);
+      stop = omega (arith, one, more);
       within = omega (arith, is_one, ap (λ (w : Wiring). length w.sites) (c.step_after.ensures.enters.adds []).wiring);
-      room = omega (arith, c.loop-fired-test.true, l.invariant.room, o.ensures.short);
+      room = omega (arith, one, more, l.invariant.room, o.ensures.short);
     }
-
-pub fired-requires : goal.fired-requires
-fired-requires g c = let l = c.loop-fired in omega (arith, c.loop-fired-test.true, l.invariant.room)
 
 pub returns-in_default-clause-none : goal.returns-in_default-clause-none
 returns-in_default-clause-none g c =
-    let l = c.loop-fired in let o = c.rested in
+    let l = c.loop-play in let o = c.rested in
     let one : c.step_after.new.self.left + 1 ≡ l.play.left = entered_left l.play c.step_after.result c.step_after.new.self c.step_after.ensures.enters in
+    let more : c.args.stop < l.play.left = omega (arith, c.loop-play-test.true, c.left.ensures) in
     let is = rested l.play (who.Worker 1) (suc l.last) c.step_after.result c.step_after.ensures.picked c.in_default.not-Fired in
-    rests_then c.args.play.now l.play c.step_after.new.self (g.W.Write.contents c.args.out.now) (g.W.Write.contents l.out) (g.W.Write.contents o.new.out) c.args.lines.now l.lines o.new.self (suc c.args.from) l._fired (suc l.last) l.invariant.runs c.args.count (c.args.play.now.left - 1 - c.step_after.new.self.left) (omega (arith, one, l.invariant.left)) (omega (arith, c.loop-fired-test.true))
+    rests_then c.args.play.now l.play c.step_after.new.self (g.W.Write.contents c.args.out.now) (g.W.Write.contents l.out) (g.W.Write.contents o.new.out) c.args.lines.now l.lines o.new.self (suc c.args.from) (c.args.play.now.left - l.play.left) (suc l.last) l.invariant.runs (c.args.play.now.left - c.args.stop) (c.args.play.now.left - 1 - c.step_after.new.self.left) (omega (arith, one, l.invariant.fewer)) (omega (arith, more, l.invariant.fewer))
     (subst (λ (e : Entry). Enters l.play e c.step_after.new.self) is c.step_after.ensures.enters)
     o.ensures
 
 pub returns-in_default-clause-fewer : goal.returns-in_default-clause-fewer
 returns-in_default-clause-fewer g c =
-    let l = c.loop-fired in
+    let l = c.loop-play in
     let one : c.step_after.new.self.left + 1 ≡ l.play.left = entered_left l.play c.step_after.result c.step_after.new.self c.step_after.ensures.enters in
-    omega (arith, one, l.invariant.left)
-
-pub returns-clause-some : goal.returns-clause-some
-returns-clause-some g c =
-    let l = c.loop-fired in let all : l._fired ≡ c.args.count = omega (arith, c.loop-fired-test.false) in
-    rw (← all) l.invariant.runs
+    omega (arith, one, l.invariant.fewer)
