@@ -15,7 +15,7 @@ use Rattle.bz_bits.specs.Row.{bit_of}
 use Rattle.bz_bits.specs.PortWords.{no_ports, number_in, number_at, numbers, AreNumbers, FilledIn, HasOdd, IsEven, IsLowest, NoneOdd, between, goes}
 
 pub table : (d o p h : ℕ) → d < 2 → o < 2 → p < 2 → h < 2
-    → (min d (max h (1 - (p + o) % 2)) == 1) ≡ goes (d == 1) (o == 1) (p == 1) (h == 1)
+    → (min d (max h ((p + o) % 2)) == 1) ≡ goes (d == 1) (o == 1) (not (p == 1)) (h == 1)
 table zero zero zero zero a b c e = refl
 table zero zero zero (suc zero) a b c e = refl
 table zero zero (suc zero) zero a b c e = refl

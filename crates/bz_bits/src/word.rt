@@ -1,5 +1,5 @@
 //! The numbers of 64 ports, from 0 to 3, in two words.
-ghost use Rattle.std.specs.Prelude.{◌≡◌, ◌==◌, ◌&&◌, ◌+◌, ◌-◌, ◌*◌, ◌/◌, ◌%◌, ◌<◌, ◌≤◌, ℕ, nat_le, if◌then◌else◌};
+ghost use Rattle.std.specs.Prelude.{◌≡◌, ◌==◌, ◌&&◌, ◌+◌, ◌-◌, ◌*◌, ◌/◌, ◌%◌, ◌<◌, ◌≤◌, ℕ, nat_le, not, if◌then◌else◌};
 ghost use Rattle.std.specs.Int.{bit_at, from_bool};
 ghost use Rattle.bz_bits.specs.PortWords.{number_in, between, goes};
 
@@ -81,19 +81,19 @@ impl PortWord {
         }
     }
 
-    /// The ports at which a move is due that waits for nothing, or for what is here. `passive` and `here` have a bit for
-    /// each port.
-    pub fn ready(self, passive: u64, here: u64) -> u64
-        ensures { (i : ℕ) → i < 64 → (bit_at result i == 1) ≡ goes (bit_at self.due i == 1) (bit_at self.opened i == 1) (bit_at passive i == 1) (bit_at here i == 1) }
+    /// The ports at which a move is due that waits for nothing, or for what is here. `active` has a bit for each port that isn't
+    /// passive, `here` one for each.
+    pub fn ready(self, active: u64, here: u64) -> u64
+        ensures { (i : ℕ) → i < 64 → (bit_at result i == 1) ≡ goes (bit_at self.due i == 1) (bit_at self.opened i == 1) (not (bit_at active i == 1)) (bit_at here i == 1) }
     {
-        ready_ports(self.due, self.opened, passive, here)
+        ready_ports(self.due, self.opened, active, here)
     }
 }
 
-fn ready_ports(due: u64, opened: u64, passive: u64, here: u64) -> u64
-    ensures { (i : ℕ) → i < 64 → (bit_at result i == 1) ≡ goes (bit_at due i == 1) (bit_at opened i == 1) (bit_at passive i == 1) (bit_at here i == 1) }
+fn ready_ports(due: u64, opened: u64, active: u64, here: u64) -> u64
+    ensures { (i : ℕ) → i < 64 → (bit_at result i == 1) ≡ goes (bit_at due i == 1) (bit_at opened i == 1) (not (bit_at active i == 1)) (bit_at here i == 1) }
 {
-    due & (here | !(passive ^ opened))
+    due & (here | (active ^ opened))
 }
 
 fn has_bit(word: u64, place: usize) -> bool

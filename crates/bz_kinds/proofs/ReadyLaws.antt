@@ -2,12 +2,13 @@
 use Rattle.std.proofs.Common.{◌≡◌, ◌⊎◌, ℕ, zero, suc, ◌+◌, ◌-◌, ◌^◌, ◌*◌, ◌<◌, ◌≤◌, ◌==◌, inl, inr, Bool, true, false, List, Option, Some, None, IsTrue, ◌↔◌, length, get_or, map, refl, sym, ap, subst, ◌∙◌, arith}
 use Rattle.std.specs.Prelude.{not, nat_lt, nat_le, ◌&&◌, if◌then◌else◌}
 use Rattle.std.specs.Option.{option_map}
-use Rattle.std.specs.Int.{bit_at}
+use Rattle.std.specs.Int.{bit_at, bit_not, w64}
 use Rattle.std.proofs.lemmas.List.{get_or_past}
-use Rattle.std.proofs.lemmas.Nat.Bits.{bit_at-lt, bit_at-zero, bit_at_ones}
+use Rattle.std.proofs.lemmas.Nat.Bits.{bit_at_not, bit_at-lt, bit_at-zero, bit_at_ones}
 use Rattle.std.proofs.lemmas.Bool.{cases_lt, le-leb, lt-leb, lt-ltb, le-ltb, false≢true}
 use Rattle.bz_bits.specs.declared.word.PortWord.{PortWord}
 use Rattle.bz_bits.specs.PortWords.{number_in, between, goes}
+use Rattle.bz_bits.proofs.States.{other}
 use Rattle.bz_kinds.specs.Ports.{state_of, is_due, IsWordOf, NoneDueIn, SomeDueIn}
 use Rattle.bz_model.specs.declared.channel.Move.{Move}
 use Rattle.bz_model.specs.declared.channel.Chan.{Chan}
@@ -32,7 +33,7 @@ use Rattle.bz_model.specs.declared.kind.Kind.{Kind}
 use Rattle.bz_model.specs.Rows.{MeetsRow, PortRow, row_of, ports_of}
 use Rattle.std.proofs.lemmas.List.{length-map}
 use Rattle.bz_kinds.specs.Sense.{enclosing, behind, sense, move_by}
-use Rattle.bz_kinds.specs.Ready.{is_told, is_free, CanGo, IsSensed, AreReady, NoneDue}
+use Rattle.bz_kinds.specs.Ready.{is_told, is_free, CanGo, IsActive, IsSensed, AreReady, NoneDue}
 use Rattle.bz_kinds.specs.Indexed as indexing
 use Rattle.bz_kinds.specs.Once as single
 use Rattle.bz_kinds.specs.Meeting as gathering
@@ -40,6 +41,10 @@ use Rattle.bz_kinds.proofs.SenseLaws.{due-move}
 use Rattle.bz_kinds.proofs.PlanLaws.{next-some, next-only, head-on-due, alternates}
 use Rattle.std.proofs.Math.ListN.{get_or-map}
 use Rattle.bz_kinds.specs.Row.{due_of}
+
+twice : (b : Bool) → not (not b) ≡ b
+twice true = refl
+twice false = refl
 
 -- a port that a plan does not have is closed
 lead_only : (w : List PortState) (p : ℕ) → get_or w 0 Closed ≡ Closed → enclosing p ≡ None → get_or w p Closed ≡ Closed
@@ -161,12 +166,12 @@ module _ (plan : Plan) (n left : ℕ) (w : List PortState) (s : Store) (chans : 
       let on = goes_on p h (next_at p) refl in
       (λ t. on.0 (subst IsTrue is t), λ can. subst IsTrue (sym is) (on.1 can))
 
-  pub ready_at : (at passive here word : ℕ) (ports : PortWord) → IsSensed plan n at passive
+  pub ready_at : (at active here word : ℕ) (ports : PortWord) → IsActive plan n at active
       → IsWordOf w at ports
-      → ((i : ℕ) → i < 64 → (bit_at word i == 1) ≡ goes (bit_at ports.due i == 1) (bit_at ports.opened i == 1) (bit_at passive i == 1) (bit_at here i == 1))
+      → ((i : ℕ) → i < 64 → (bit_at word i == 1) ≡ goes (bit_at ports.due i == 1) (bit_at ports.opened i == 1) (not (bit_at active i == 1)) (bit_at here i == 1))
       → AreReady c.proc at here word
-  ready_at at passive here word ports sensed states bits =
-      ready_by at here word ports states (λ i lt. bits i lt ∙ ap (λ (b : Bool). goes (bit_at ports.due i == 1) (bit_at ports.opened i == 1) b (bit_at here i == 1)) (sensed i lt))
+  ready_at at active here word ports is_active states bits =
+      ready_by at here word ports states (λ i lt. bits i lt ∙ ap (λ (b : Bool). goes (bit_at ports.due i == 1) (bit_at ports.opened i == 1) b (bit_at here i == 1)) (ap not (is_active i lt) ∙ twice (is_told (sense plan n (64 * at + i)))))
 
   -- where no move is due, none can be made
   pub none_due : (at here : ℕ) (ports : PortWord) → ports.due ≡ 0 → IsWordOf w at ports → AreReady c.proc at here 0
@@ -228,12 +233,17 @@ sense_signal n to (suc (suc (suc i))) lt =
     let p = suc (suc (suc i)) in let e : (suc (suc i) == 1) ≡ false = grind (arith) in
     ap (λ (b : Bool). b && not (between 2 3 p)) (between_in 1 to p (omega arith) lt) ∙ ap not (between_high 2 3 p (omega arith)) ∙ ap not (sym e)
 
+-- the other way round
+pub turned_over : (plan : Plan) (n at word : ℕ) → word < 2 ^ 64 → IsSensed plan n at word → IsActive plan n at (bit_not w64 word)
+turned_over plan n at word fits sensed i lt =
+    ap (λ (x : ℕ). x == 1) (bit_at_not w64 word i fits lt) ∙ other (bit_at word i) (bit_at-lt word i) ∙ ap not (sensed i lt)
+
 -- of the plan that it is
 pub sensed_as : (plan plan' : Plan) (n at word : ℕ) → plan ≡ plan' → IsSensed plan' n at word → IsSensed plan n at word
 sensed_as plan plan' n at word e sensed = subst (λ (q : Plan). IsSensed q n at word) (sym e) sensed
 
-pub as_is : (plan : Plan) (n at at' word word' : ℕ) → at ≡ at' → word ≡ word' → IsSensed plan n at word → IsSensed plan n at' word'
-as_is plan n at at' word word' e f sensed = subst (λ (k : ℕ). IsSensed plan n at' k) f (subst (λ (k : ℕ). IsSensed plan n k word) e sensed)
+pub as_is : (plan : Plan) (n at at' word word' : ℕ) → at ≡ at' → word ≡ word' → IsActive plan n at word → IsActive plan n at' word'
+as_is plan n at at' word word' e f active = subst (λ (k : ℕ). IsActive plan n at' k) f (subst (λ (k : ℕ). IsActive plan n k word) e active)
 
 -- a plan has its ports and no others
 script_none : (script : Script) (left : ℕ) → get_or (stages.states script left) 0 Closed ≡ Closed

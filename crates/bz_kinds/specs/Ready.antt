@@ -1,5 +1,5 @@
 -- The ports of one word at which a component can move, as a bit for each.
-use Rattle.std.specs.Prelude.{◌≡◌, ◌==◌, ◌+◌, ◌*◌, ◌<◌, ◌↔◌, ℕ, Bool, true, false, Option, Some, None, IsTrue}
+use Rattle.std.specs.Prelude.{◌≡◌, ◌==◌, ◌+◌, ◌*◌, ◌<◌, ◌↔◌, ℕ, Bool, true, false, not, Option, Some, None, IsTrue}
 use Rattle.std.specs.Int.{bit_at}
 use Rattle.bz_model.specs.declared.channel.Move.{Move}
 use Rattle.bz_model.specs.declared.channel.Move.TheVariants.{Ask, Take, Reply, Got}
@@ -15,6 +15,10 @@ is_told (Some passive) = passive
 -- a bit for each of 64 ports of a plan: whether the port is passive
 abbrev pub IsSensed : Plan → ℕ → ℕ → ℕ → Type 0
 IsSensed plan n at word = (i : ℕ) → i < 64 → (bit_at word i == 1) ≡ is_told (sense plan n (64 * at + i))
+
+-- the same the other way round: whether it isn't passive
+abbrev pub IsActive : Plan → ℕ → ℕ → ℕ → Type 0
+IsActive plan n at word = (i : ℕ) → i < 64 → (bit_at word i == 1) ≡ not (is_told (sense plan n (64 * at + i)))
 
 -- whether a move can be made, by whether what it may wait for is here: a take waits for a request, a got for a reply
 abbrev pub is_free : Move → Bool → Bool

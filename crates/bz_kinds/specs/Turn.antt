@@ -42,7 +42,7 @@ abbrev pub HasGone : Process → ℕ → Process → Type 0
 HasGone c p c' = Goes (plan_of c.plan) c.size c.left c.ports p c'.left c'.ports (slots_of c'.slots)
 
 abbrev pub KeepsPlan : Process → Process → Type 0
-KeepsPlan c c' = (c'.plan ≡ c.plan) × (c'.size ≡ c.size) × (c'.passive ≡ c.passive)
+KeepsPlan c c' = (c'.plan ≡ c.plan) × (c'.size ≡ c.size) × (c'.active ≡ c.active)
 
 -- what a move left due
 abbrev pub GoesOn : Process → Type 0

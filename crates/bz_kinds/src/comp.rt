@@ -27,7 +27,7 @@ use crate::ports::{PortState, Ports};
 use crate::process::Process;
 use crate::row::{DueMove, Script};
 use crate::same::is_same_plan;
-use crate::sense::{is_active_behind, move_at, sense_word, sense_word_here};
+use crate::sense::{active_word, is_active_behind, move_at, passive_word};
 use crate::shape::{CALLS, FETCHES, PUSHES, shape_of};
 use crate::{
     bar, cells, choice, decision, enclosed, indexed, meeting, process, script, select, signalled,
@@ -59,11 +59,11 @@ impl Model for Comp {
     ghost use Rattle.bz_kinds.specs.Kept.{plan_of};
     ghost use Rattle.bz_kinds.specs.KeptLists.{chans_of, slots_of};
     ghost use Rattle.bz_kinds.specs.Row.{is_open};
-    ghost use Rattle.bz_kinds.specs.Ready.{IsSensed};
+    ghost use Rattle.bz_kinds.specs.Ready.{IsActive};
 
     ghost view = { λ c. record { proc = record { todo = todo_of (plan_of c.proc.plan) c.proc.size c.proc.left c.proc.ports; store = slots_of c.proc.slots }; chans = chans_of c.chans; open_ports = map is_open c.proc.ports } };
 
-    ghost invariant = { λ c. IsAt (plan_of c.proc.plan) c.proc.size c.proc.left c.proc.ports (slots_of c.proc.slots) × ((c.proc.size < 2 ^ 30) × IsSensed (plan_of c.proc.plan) c.proc.size 0 c.proc.passive × (places (plan_of c.proc.plan) c.proc.size ≡ suc (length (chans_of c.chans)))) × ((bits : ℕ) × Sends (chans_of c.chans) bits (todo_of (plan_of c.proc.plan) c.proc.size c.proc.left c.proc.ports)) };
+    ghost invariant = { λ c. IsAt (plan_of c.proc.plan) c.proc.size c.proc.left c.proc.ports (slots_of c.proc.slots) × ((c.proc.size < 2 ^ 30) × IsActive (plan_of c.proc.plan) c.proc.size 0 c.proc.active × (places (plan_of c.proc.plan) c.proc.size ≡ suc (length (chans_of c.chans)))) × ((bits : ℕ) × Sends (chans_of c.chans) bits (todo_of (plan_of c.proc.plan) c.proc.size c.proc.left c.proc.ports)) };
 }
 
 /// A component of this kind at its start, with arrays of these lengths, on these channels in the order of its ports.
@@ -77,13 +77,13 @@ pub fn start(alloc: Global, kind: &Kind, sizes: [u32; 2], chans: &[Chan]) -> Res
     let ports = first_ports(alloc, &shape.plan, shape.legs)?;
     let slots = KeptSlots::new(alloc, shape.slots)?;
     let chans = KeptChans::of(alloc, chans)?;
-    let passive = sense_word(&shape.plan, shape.legs, 0);
+    let active = active_word(&shape.plan, shape.legs, 0);
     let proc = Process {
         ports,
         plan: shape.plan,
         size: shape.legs,
         left: 0,
-        passive,
+        active,
         slots,
     };
     Ok(Comp { proc, chans })
@@ -251,14 +251,14 @@ pub fn ready_word(comp: &Comp, at: u32, here: u64) -> u64
     ensures turns { (p : ℕ) (h : Head) → IsHeadOn comp.now.proc p h → opens h.move ≡ not (open_at comp.now p) }
 {
     let word = comp.proc.ports.word(at);
-    let passive = if at == 0 {
-        comp.proc.passive
+    let active = if at == 0 {
+        comp.proc.active
     } else if word.due == 0 {
         return 0;
     } else {
-        sense_word(&comp.proc.plan, comp.proc.size, at)
+        active_word(&comp.proc.plan, comp.proc.size, at)
     };
-    word.ready(passive, here)
+    word.ready(active, here)
 }
 
 /// The same of a word behind the first.
@@ -277,9 +277,9 @@ pub fn far_word(comp: &Comp, at: u32, here: u64) -> u64
     let passive = if is_active_behind(&comp.proc.plan) {
         0
     } else {
-        sense_word_here(&comp.proc.plan, comp.proc.size, at)
+        passive_word(&comp.proc.plan, comp.proc.size, at)
     };
-    word.ready(passive, here)
+    word.ready(!passive, here)
 }
 
 /// Whether a component has a move due at a port: it can be made there once what it may wait for is on its channel.
@@ -344,7 +344,7 @@ pub fn dup(alloc: Global, comp: &Comp) -> Result<Comp, KindError>
         plan,
         size: comp.proc.size,
         left: comp.proc.left,
-        passive: comp.proc.passive,
+        active: comp.proc.active,
         slots,
     };
     Ok(Comp { proc, chans })

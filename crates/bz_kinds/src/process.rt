@@ -17,14 +17,14 @@ use crate::{
 use bz_model::{Move, Value};
 
 /// A component's process: its plan and the plan's size, and where it is in it, by its ports, a counter and the values it keeps.
-/// `passive` has a bit for each of the first 64 ports of the plan.
+/// `active` has a bit for each of the first 64 ports of the plan that isn't passive.
 #[derive(Drop)]
 pub struct Process {
     pub ports: Ports,
     pub plan: KeptPlan,
     pub size: u32,
     pub left: u32,
-    pub passive: u64,
+    pub active: u64,
     pub slots: KeptSlots,
 }
 

@@ -1,18 +1,20 @@
-use Rattle.std.proofs.Common.{subst, sym}
-use Rattle.bz_kinds.specs.Ready.{IsSensed}
+use Rattle.std.proofs.Common.{ℕ, subst, sym, arith}
+use Rattle.std.specs.Int.{bit_not, w64}
+use Rattle.bz_kinds.specs.Ready.{IsActive}
 use Rattle.bz_kinds.specs.Kept.{plan_of}
-use Rattle.bz_kinds.proofs.ReadyLaws.{ready_at, none_due, at_ports, opens_closed}
+use Rattle.bz_kinds.proofs.ReadyLaws.{ready_at, none_due, at_ports, opens_closed, turned_over}
 use Rattle.bz_kinds.proofs.comp.far_word.Goals as goal
 use Rattle.bz_kinds.proofs.comp.far_word.Goals.{then-is_active_behind, else-is_active_behind}
 
 pub returns-clause-ready : goal.returns-clause-ready
 returns-clause-ready c =
-    let known : IsSensed (plan_of c.comp.inside.proc.plan) c.comp.inside.proc.size c.args.at c.if-is_active_behind.passive =
+    let plan = plan_of c.comp.inside.proc.plan in let size = c.comp.inside.proc.size in let at = c.args.at in
+    let known : IsActive plan size at (bit_not w64 c.if-is_active_behind.passive) =
     elim c.if-is_active_behind.branch [
-      | then-is_active_behind w ↦ subst (IsSensed (plan_of c.comp.inside.proc.plan) c.comp.inside.proc.size c.args.at) (sym w.passive-is) (c.is_active_behind.ensures w.if-is_active_behind.true c.comp.inside.proc.size c.args.at c.requires.far)
-      | else-is_active_behind w ↦ subst (IsSensed (plan_of c.comp.inside.proc.plan) c.comp.inside.proc.size c.args.at) (sym w.passive-is) w.sense_word_here-passive.ensures
+      | then-is_active_behind w ↦ subst (λ (k : ℕ). IsActive plan size at (bit_not w64 k)) (sym w.passive-is) (turned_over plan size at 0 (omega arith) (c.is_active_behind.ensures w.if-is_active_behind.true size at c.requires.far))
+      | else-is_active_behind w ↦ subst (λ (k : ℕ). IsActive plan size at (bit_not w64 k)) (sym w.passive-is) (turned_over plan size at w.passive_word-passive.result w.passive_word-passive.type_inv w.passive_word-passive.ensures)
     ] in
-    ready_at _ _ _ _ _ _ _ c.comp.view_is c.comp.invariant.0 c.args.at c.if-is_active_behind.passive c.args.here c.ready.result c.word-word.result known c.word-word.ensures c.ready.ensures
+    ready_at _ _ _ _ _ _ _ c.comp.view_is c.comp.invariant.0 at (bit_not w64 c.if-is_active_behind.passive) c.args.here c.ready.result c.word-word.result known c.word-word.ensures c.ready.ensures
 
 pub returns-then-word-eq0-clause-ready : goal.returns-then-word-eq0-clause-ready
 returns-then-word-eq0-clause-ready c = none_due _ _ _ _ _ _ _ c.comp.view_is c.comp.invariant.0 c.args.at c.args.here c.word-word.result c.if-word-eq0.true c.word-word.ensures
