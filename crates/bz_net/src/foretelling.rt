@@ -51,7 +51,7 @@ pub(crate) fn foretell(
     let Some(port) = lowest_port(sites, phases, nodes, comp) else {
         unreachable!()
     };
-    let chan = links.link(comp, port).chan;
+    let chan = links.link(comp, port as usize).chan;
     let mv = phases.next(chan as usize - 1);
     Foretold {
         comp,

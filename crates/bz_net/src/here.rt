@@ -39,9 +39,9 @@ pub(crate) fn is_here(phase: Phase, passive: bool) -> bool
     }
 }
 
-/// The lowest port at which a component can move by what it is told.
+/// The lowest port at which a component can move by what it is told, as wide as a place in a row.
 #[inline(always)]
-pub(crate) fn lowest_of(node: &Node) -> Option<u32>
+pub(crate) fn lowest_of(node: &Node) -> Option<usize>
     requires room { length node.now.comp.chans < 64 * length node.now.here }
     requires few { length node.now.here ≤ 2 ^ 26 }
     ensures lowest { MatchOption result (NoneGoes node.now.comp node.now.here) (GoesFirst node.now.comp node.now.here) }
@@ -49,7 +49,7 @@ pub(crate) fn lowest_of(node: &Node) -> Option<u32>
 {
     let word = ready_word(&node.comp, 0, node.here.word(0));
     if word != 0 {
-        return Some(word.trailing_zeros());
+        return Some(word.trailing_zeros() as usize);
     }
     if node.here.word_count() == 1 {
         return None;
@@ -60,7 +60,7 @@ pub(crate) fn lowest_of(node: &Node) -> Option<u32>
 // The same of the ports from 64 on, where there is none before.
 #[cold]
 #[inline(never)]
-fn lowest_far(node: &Node) -> Option<u32>
+fn lowest_far(node: &Node) -> Option<usize>
     requires room { length node.now.comp.chans < 64 * length node.now.here }
     requires few { length node.now.here ≤ 2 ^ 26 }
     requires near { (p : ℕ) → p < 64 → CanGo node.now.comp.proc p (flag_of node.now.here p) → ⊥ }
@@ -72,14 +72,14 @@ fn lowest_far(node: &Node) -> Option<u32>
     }
     let word = far_word(&node.comp, at as u32, node.here.word(at));
     if word != 0 {
-        return Some(64 * at as u32 + word.trailing_zeros());
+        return Some(64 * at + word.trailing_zeros() as usize);
     }
     lowest_from(node, at + 1)
 }
 
 // The same of the words from one on, where there is none before.
 #[inline(never)]
-fn lowest_from(node: &Node, from: usize) -> Option<u32>
+fn lowest_from(node: &Node, from: usize) -> Option<usize>
     requires room { length node.now.comp.chans < 64 * length node.now.here }
     requires few { length node.now.here ≤ 2 ^ 26 }
     requires far { 0 < from }
@@ -91,7 +91,7 @@ fn lowest_from(node: &Node, from: usize) -> Option<u32>
     while at < end {
         let word = far_word(&node.comp, at as u32, node.here.word(at));
         if word != 0 {
-            return Some(64 * at as u32 + word.trailing_zeros());
+            return Some(64 * at + word.trailing_zeros() as usize);
         }
         at = next_word(node, at + 1);
     }
@@ -288,7 +288,10 @@ pub(crate) fn lowest_port(
         (IsLowest (map site_of sites.now) (state_of phases.now (comps_of nodes.now)) comp) }
 {
     let node = nodes.get(node_id(comp));
-    lowest_of(node)
+    match lowest_of(node) {
+        Some(port) => Some(port as u32),
+        None => None,
+    }
 }
 
 /// Tells the ports at both ends of a channel of its phase.

@@ -71,13 +71,13 @@ impl LinkRow {
 
     /// What a port of a component leads to.
     #[inline(always)]
-    pub(crate) fn link(&self, comp: u32, port: u32) -> &Link
+    pub(crate) fn link(&self, comp: u32, port: usize) -> &Link
         requires { (sites : List Site) × (ends : List Ends) × IsPort sites comp port × StandsInRow sites ends self.now.starts.items self.now.row.items comp port }
         ensures { (sites : List Site) (ends : List Ends) → StandsInRow sites ends self.now.starts.items self.now.row.items comp port
             → IsLink sites ends comp port result.now }
     {
         let start = self.starts[comp as usize - 1] as usize;
-        &self.row[start + port as usize]
+        &self.row[start + port]
     }
 }
 

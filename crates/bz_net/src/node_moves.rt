@@ -37,7 +37,7 @@ trait NodeMove {
 
     /// Makes it at a port, where `value` rides on the channel if `rides`: whether it carries one, which is in `value` then, and
     /// whether the component can move then.
-    fn make(node: &mut Node, port: u32, rides: bool, value: &mut Value) -> (bool, bool)
+    fn make(node: &mut Node, port: usize, rides: bool, value: &mut Value) -> (bool, bool)
         requires next { HasMove node.old.comp.proc port MOVE }
         requires told { flag_of node.old.here port ≡ not (sends MOVE) }
         requires bit { port < 64 * length node.old.here }
@@ -78,11 +78,11 @@ impl NodeMove for Asking {
     const MOVE: Move = Move::Ask;
 
     #[inline(always)]
-    fn make(node: &mut Node, port: u32, _rides: bool, value: &mut Value) -> (bool, bool) {
-        let (carried, waits) = bz_kinds::ask(&mut node.comp, port);
+    fn make(node: &mut Node, port: usize, _rides: bool, value: &mut Value) -> (bool, bool) {
+        let (carried, waits) = bz_kinds::ask(&mut node.comp, port as u32);
         let carries = put_into(value, carried);
         look_at_moved(node);
-        let goes = !waits && can_go(node, port);
+        let goes = !waits && can_go(node, port as u32);
         (carries, goes)
     }
 
@@ -98,11 +98,11 @@ impl NodeMove for Taking {
     const MOVE: Move = Move::Take;
 
     #[inline(always)]
-    fn make(node: &mut Node, port: u32, rides: bool, value: &mut Value) -> (bool, bool) {
-        node.here.put(port as usize, false);
-        let sure = bz_kinds::take(&mut node.comp, port, rides, *value);
+    fn make(node: &mut Node, port: usize, rides: bool, value: &mut Value) -> (bool, bool) {
+        node.here.put(port, false);
+        let sure = bz_kinds::take(&mut node.comp, port as u32, rides, *value);
         look_at_moved(node);
-        let goes = sure || can_go(node, port);
+        let goes = sure || can_go(node, port as u32);
         (rides, goes)
     }
 
@@ -118,11 +118,11 @@ impl NodeMove for Replying {
     const MOVE: Move = Move::Reply;
 
     #[inline(always)]
-    fn make(node: &mut Node, port: u32, _rides: bool, value: &mut Value) -> (bool, bool) {
-        let (carried, waits) = bz_kinds::reply(&mut node.comp, port);
+    fn make(node: &mut Node, port: usize, _rides: bool, value: &mut Value) -> (bool, bool) {
+        let (carried, waits) = bz_kinds::reply(&mut node.comp, port as u32);
         let carries = put_into(value, carried);
         look_at_moved(node);
-        let goes = !waits && can_go(node, port);
+        let goes = !waits && can_go(node, port as u32);
         (carries, goes)
     }
 
@@ -138,11 +138,11 @@ impl NodeMove for Getting {
     const MOVE: Move = Move::Got;
 
     #[inline(always)]
-    fn make(node: &mut Node, port: u32, rides: bool, value: &mut Value) -> (bool, bool) {
-        node.here.put(port as usize, false);
-        let sure = bz_kinds::got(&mut node.comp, port, rides, *value);
+    fn make(node: &mut Node, port: usize, rides: bool, value: &mut Value) -> (bool, bool) {
+        node.here.put(port, false);
+        let sure = bz_kinds::got(&mut node.comp, port as u32, rides, *value);
         look_at_moved(node);
-        let goes = sure || can_go(node, port);
+        let goes = sure || can_go(node, port as u32);
         (rides, goes)
     }
 
@@ -186,6 +186,7 @@ pub(crate) fn move_comp(
 {
     look_at(nodes, Some(comp));
     let port = port_of(nodes.get(node_id(comp)), at);
+    let number = port as u32;
     let link = links.link(comp, port);
     let chan = link.chan;
     let (next, rides) = phases.next_riding(chan as usize - 1, value);
@@ -215,7 +216,7 @@ pub(crate) fn move_comp(
             (Move::Got, carries)
         }
     };
-    (chan, mv, carries, port)
+    (chan, mv, carries, number)
 }
 
 // The move of a component at a port that leads there, where it is the one that comes next on the channel, and `value` rides if
@@ -228,7 +229,7 @@ fn move_as<M: NodeMove>(
     phases: &mut Phases,
     ready: &mut ReadyRow,
     comp: u32,
-    port: u32,
+    port: usize,
     link: &Link,
     rides: bool,
     value: &mut Value,
@@ -273,16 +274,18 @@ fn put_into(value: &mut Value, carried: Option<Value>) -> bool
     }
 }
 
-// The port at which the component of a node is to move: the one that is given, or the lowest at which it can.
+// The port at which the component of a node is to move: the one that is given, or the lowest at which it can. It is as wide as a
+// place in a row, so that a move has it in one width alone.
 #[inline(always)]
-fn port_of(node: &Node, at: Option<u32>) -> u32
+fn port_of(node: &Node, at: Option<u32>) -> usize
     requires room { length node.now.comp.chans < 64 * length node.now.here }
     requires few { length node.now.here ≤ 2 ^ 26 }
     requires goes { IfNone at (IsTurning node.now.comp → NoneGoes node.now.comp node.now.here → ⊥) }
-    ensures { GoesAt node.now.comp node.now.here at result }
+    ensures goes { GoesAt node.now.comp node.now.here at result }
+    ensures fits { result < 2 ^ 32 }
 {
     match at {
-        Some(port) => port,
+        Some(port) => port as usize,
         None => lowest_of(node).unwrap(),
     }
 }

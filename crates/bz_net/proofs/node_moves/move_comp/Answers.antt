@@ -38,7 +38,7 @@ link-link-requires c =
     let x = c.get.result.now in let i = c.node_id.result in let at = c.node_id.ensures in let is = c.get.ensures in
     let x_is = comp_read nodes c.args.comp i x at is in let h_is = bits_read nodes c.args.comp i x at is in
     let p = c.port_of-port.result in
-    let found = port_read sites phases (comps_of nodes) (heres_of nodes) c.requires.sighted c.args.comp above below x.comp x.here x_is h_is c.args.at p c.requires.may c.port_of-port.ensures in let steps = found.0 in
+    let found = port_read sites phases (comps_of nodes) (heres_of nodes) c.requires.sighted c.args.comp above below x.comp x.here x_is h_is c.args.at p c.requires.may c.port_of-port.ensures.goes in let steps = found.0 in
     (sites, c.args.ends.now, steps.is_port, c.requires.links c.args.comp p steps.is_port)
 
 pub overflow_sub-chan : goal.overflow_sub-chan
@@ -48,7 +48,7 @@ overflow_sub-chan c =
     let x = c.get.result.now in let i = c.node_id.result in let at = c.node_id.ensures in let is = c.get.ensures in
     let x_is = comp_read nodes c.args.comp i x at is in let h_is = bits_read nodes c.args.comp i x at is in
     let p = c.port_of-port.result in
-    let found = port_read sites phases (comps_of nodes) (heres_of nodes) c.requires.sighted c.args.comp above below x.comp x.here x_is h_is c.args.at p c.requires.may c.port_of-port.ensures in let steps = found.0 in
+    let found = port_read sites phases (comps_of nodes) (heres_of nodes) c.requires.sighted c.args.comp above below x.comp x.here x_is h_is c.args.at p c.requires.may c.port_of-port.ensures.goes in let steps = found.0 in
     let k = c.link-link.result.now.chan in
     let chan_is : k ≡ chan_at sites c.args.comp p = (c.link-link.ensures sites c.args.ends.now (c.requires.links c.args.comp p steps.is_port)).on in
     let from = c.requires.placed.chan_from c.args.comp p steps.is_port in let to = c.requires.placed.chan_to c.args.comp p steps.is_port in
@@ -61,7 +61,7 @@ next_riding-next-requires c =
     let x = c.get.result.now in let i = c.node_id.result in let at = c.node_id.ensures in let is = c.get.ensures in
     let x_is = comp_read nodes c.args.comp i x at is in let h_is = bits_read nodes c.args.comp i x at is in
     let p = c.port_of-port.result in
-    let found = port_read sites phases (comps_of nodes) (heres_of nodes) c.requires.sighted c.args.comp above below x.comp x.here x_is h_is c.args.at p c.requires.may c.port_of-port.ensures in let steps = found.0 in
+    let found = port_read sites phases (comps_of nodes) (heres_of nodes) c.requires.sighted c.args.comp above below x.comp x.here x_is h_is c.args.at p c.requires.may c.port_of-port.ensures.goes in let steps = found.0 in
     let k = c.link-link.result.now.chan in
     let chan_is : k ≡ chan_at sites c.args.comp p = (c.link-link.ensures sites c.args.ends.now (c.requires.links c.args.comp p steps.is_port)).on in
     let from = c.requires.placed.chan_from c.args.comp p steps.is_port in let to = c.requires.placed.chan_to c.args.comp p steps.is_port in
@@ -78,7 +78,7 @@ move_as-carries-requires-clause-steps c =
     let x = c.get.result.now in let i = c.node_id.result in let at = c.node_id.ensures in let is = c.get.ensures in
     let x_is = comp_read nodes c.args.comp i x at is in let h_is = bits_read nodes c.args.comp i x at is in
     let p = c.port_of-port.result in
-    let found = port_read sites phases (comps_of nodes) (heres_of nodes) c.requires.sighted c.args.comp above below x.comp x.here x_is h_is c.args.at p c.requires.may c.port_of-port.ensures in let steps = found.0 in
+    let found = port_read sites phases (comps_of nodes) (heres_of nodes) c.requires.sighted c.args.comp above below x.comp x.here x_is h_is c.args.at p c.requires.may c.port_of-port.ensures.goes in let steps = found.0 in
     steps
 
 pub move_as-carries-requires-clause-link : goal.move_as-carries-requires-clause-link
@@ -88,7 +88,7 @@ move_as-carries-requires-clause-link c =
     let x = c.get.result.now in let i = c.node_id.result in let at = c.node_id.ensures in let is = c.get.ensures in
     let x_is = comp_read nodes c.args.comp i x at is in let h_is = bits_read nodes c.args.comp i x at is in
     let p = c.port_of-port.result in
-    let found = port_read sites phases (comps_of nodes) (heres_of nodes) c.requires.sighted c.args.comp above below x.comp x.here x_is h_is c.args.at p c.requires.may c.port_of-port.ensures in let steps = found.0 in
+    let found = port_read sites phases (comps_of nodes) (heres_of nodes) c.requires.sighted c.args.comp above below x.comp x.here x_is h_is c.args.at p c.requires.may c.port_of-port.ensures.goes in let steps = found.0 in
     c.link-link.ensures sites c.args.ends.now (c.requires.links c.args.comp p steps.is_port)
 
 pub move_as-carries-requires-in-Take-clause-stays : goal.move_as-carries-requires-in-Take-clause-stays
@@ -102,7 +102,7 @@ move_as-carries-requires-in-Take-clause-steps c =
     let x = c.get.result.now in let i = c.node_id.result in let at = c.node_id.ensures in let is = c.get.ensures in
     let x_is = comp_read nodes c.args.comp i x at is in let h_is = bits_read nodes c.args.comp i x at is in
     let p = c.port_of-port.result in
-    let found = port_read sites phases (comps_of nodes) (heres_of nodes) c.requires.sighted c.args.comp above below x.comp x.here x_is h_is c.args.at p c.requires.may c.port_of-port.ensures in let steps = found.0 in
+    let found = port_read sites phases (comps_of nodes) (heres_of nodes) c.requires.sighted c.args.comp above below x.comp x.here x_is h_is c.args.at p c.requires.may c.port_of-port.ensures.goes in let steps = found.0 in
     steps
 
 pub move_as-carries-requires-in-Take-clause-link : goal.move_as-carries-requires-in-Take-clause-link
@@ -112,7 +112,7 @@ move_as-carries-requires-in-Take-clause-link c =
     let x = c.get.result.now in let i = c.node_id.result in let at = c.node_id.ensures in let is = c.get.ensures in
     let x_is = comp_read nodes c.args.comp i x at is in let h_is = bits_read nodes c.args.comp i x at is in
     let p = c.port_of-port.result in
-    let found = port_read sites phases (comps_of nodes) (heres_of nodes) c.requires.sighted c.args.comp above below x.comp x.here x_is h_is c.args.at p c.requires.may c.port_of-port.ensures in let steps = found.0 in
+    let found = port_read sites phases (comps_of nodes) (heres_of nodes) c.requires.sighted c.args.comp above below x.comp x.here x_is h_is c.args.at p c.requires.may c.port_of-port.ensures.goes in let steps = found.0 in
     c.link-link.ensures sites c.args.ends.now (c.requires.links c.args.comp p steps.is_port)
 
 pub move_as-carries-requires-in-Reply-clause-stays : goal.move_as-carries-requires-in-Reply-clause-stays
@@ -126,7 +126,7 @@ move_as-carries-requires-in-Reply-clause-steps c =
     let x = c.get.result.now in let i = c.node_id.result in let at = c.node_id.ensures in let is = c.get.ensures in
     let x_is = comp_read nodes c.args.comp i x at is in let h_is = bits_read nodes c.args.comp i x at is in
     let p = c.port_of-port.result in
-    let found = port_read sites phases (comps_of nodes) (heres_of nodes) c.requires.sighted c.args.comp above below x.comp x.here x_is h_is c.args.at p c.requires.may c.port_of-port.ensures in let steps = found.0 in
+    let found = port_read sites phases (comps_of nodes) (heres_of nodes) c.requires.sighted c.args.comp above below x.comp x.here x_is h_is c.args.at p c.requires.may c.port_of-port.ensures.goes in let steps = found.0 in
     steps
 
 pub move_as-carries-requires-in-Reply-clause-link : goal.move_as-carries-requires-in-Reply-clause-link
@@ -136,7 +136,7 @@ move_as-carries-requires-in-Reply-clause-link c =
     let x = c.get.result.now in let i = c.node_id.result in let at = c.node_id.ensures in let is = c.get.ensures in
     let x_is = comp_read nodes c.args.comp i x at is in let h_is = bits_read nodes c.args.comp i x at is in
     let p = c.port_of-port.result in
-    let found = port_read sites phases (comps_of nodes) (heres_of nodes) c.requires.sighted c.args.comp above below x.comp x.here x_is h_is c.args.at p c.requires.may c.port_of-port.ensures in let steps = found.0 in
+    let found = port_read sites phases (comps_of nodes) (heres_of nodes) c.requires.sighted c.args.comp above below x.comp x.here x_is h_is c.args.at p c.requires.may c.port_of-port.ensures.goes in let steps = found.0 in
     c.link-link.ensures sites c.args.ends.now (c.requires.links c.args.comp p steps.is_port)
 
 pub move_as-carries-requires-in-Got-clause-stays : goal.move_as-carries-requires-in-Got-clause-stays
@@ -150,7 +150,7 @@ move_as-carries-requires-in-Got-clause-steps c =
     let x = c.get.result.now in let i = c.node_id.result in let at = c.node_id.ensures in let is = c.get.ensures in
     let x_is = comp_read nodes c.args.comp i x at is in let h_is = bits_read nodes c.args.comp i x at is in
     let p = c.port_of-port.result in
-    let found = port_read sites phases (comps_of nodes) (heres_of nodes) c.requires.sighted c.args.comp above below x.comp x.here x_is h_is c.args.at p c.requires.may c.port_of-port.ensures in let steps = found.0 in
+    let found = port_read sites phases (comps_of nodes) (heres_of nodes) c.requires.sighted c.args.comp above below x.comp x.here x_is h_is c.args.at p c.requires.may c.port_of-port.ensures.goes in let steps = found.0 in
     steps
 
 pub move_as-carries-requires-in-Got-clause-link : goal.move_as-carries-requires-in-Got-clause-link
@@ -160,7 +160,7 @@ move_as-carries-requires-in-Got-clause-link c =
     let x = c.get.result.now in let i = c.node_id.result in let at = c.node_id.ensures in let is = c.get.ensures in
     let x_is = comp_read nodes c.args.comp i x at is in let h_is = bits_read nodes c.args.comp i x at is in
     let p = c.port_of-port.result in
-    let found = port_read sites phases (comps_of nodes) (heres_of nodes) c.requires.sighted c.args.comp above below x.comp x.here x_is h_is c.args.at p c.requires.may c.port_of-port.ensures in let steps = found.0 in
+    let found = port_read sites phases (comps_of nodes) (heres_of nodes) c.requires.sighted c.args.comp above below x.comp x.here x_is h_is c.args.at p c.requires.may c.port_of-port.ensures.goes in let steps = found.0 in
     c.link-link.ensures sites c.args.ends.now (c.requires.links c.args.comp p steps.is_port)
 
 pub returns-in-Ask-clause-port : goal.returns-in-Ask-clause-port
@@ -169,7 +169,7 @@ returns-in-Ask-clause-port c =
     let stands = may_stands sites (state_of phases (comps_of nodes)) c.args.comp c.args.at c.requires.may in let above = stands.0 in let below = stands.1 in
     let x = c.get.result.now in let i = c.node_id.result in let at = c.node_id.ensures in let is = c.get.ensures in
     let x_is = comp_read nodes c.args.comp i x at is in let h_is = bits_read nodes c.args.comp i x at is in
-    (port_read sites phases (comps_of nodes) (heres_of nodes) c.requires.sighted c.args.comp above below x.comp x.here x_is h_is c.args.at c.port_of-port.result c.requires.may c.port_of-port.ensures).1
+    (port_read sites phases (comps_of nodes) (heres_of nodes) c.requires.sighted c.args.comp above below x.comp x.here x_is h_is c.args.at c.port_of-port.result c.requires.may c.port_of-port.ensures.goes).1
 
 pub returns-in-Take-clause-port : goal.returns-in-Take-clause-port
 returns-in-Take-clause-port c =
@@ -177,7 +177,7 @@ returns-in-Take-clause-port c =
     let stands = may_stands sites (state_of phases (comps_of nodes)) c.args.comp c.args.at c.requires.may in let above = stands.0 in let below = stands.1 in
     let x = c.get.result.now in let i = c.node_id.result in let at = c.node_id.ensures in let is = c.get.ensures in
     let x_is = comp_read nodes c.args.comp i x at is in let h_is = bits_read nodes c.args.comp i x at is in
-    (port_read sites phases (comps_of nodes) (heres_of nodes) c.requires.sighted c.args.comp above below x.comp x.here x_is h_is c.args.at c.port_of-port.result c.requires.may c.port_of-port.ensures).1
+    (port_read sites phases (comps_of nodes) (heres_of nodes) c.requires.sighted c.args.comp above below x.comp x.here x_is h_is c.args.at c.port_of-port.result c.requires.may c.port_of-port.ensures.goes).1
 
 pub returns-in-Reply-clause-port : goal.returns-in-Reply-clause-port
 returns-in-Reply-clause-port c =
@@ -185,7 +185,7 @@ returns-in-Reply-clause-port c =
     let stands = may_stands sites (state_of phases (comps_of nodes)) c.args.comp c.args.at c.requires.may in let above = stands.0 in let below = stands.1 in
     let x = c.get.result.now in let i = c.node_id.result in let at = c.node_id.ensures in let is = c.get.ensures in
     let x_is = comp_read nodes c.args.comp i x at is in let h_is = bits_read nodes c.args.comp i x at is in
-    (port_read sites phases (comps_of nodes) (heres_of nodes) c.requires.sighted c.args.comp above below x.comp x.here x_is h_is c.args.at c.port_of-port.result c.requires.may c.port_of-port.ensures).1
+    (port_read sites phases (comps_of nodes) (heres_of nodes) c.requires.sighted c.args.comp above below x.comp x.here x_is h_is c.args.at c.port_of-port.result c.requires.may c.port_of-port.ensures.goes).1
 
 pub returns-in-Got-clause-port : goal.returns-in-Got-clause-port
 returns-in-Got-clause-port c =
@@ -193,4 +193,4 @@ returns-in-Got-clause-port c =
     let stands = may_stands sites (state_of phases (comps_of nodes)) c.args.comp c.args.at c.requires.may in let above = stands.0 in let below = stands.1 in
     let x = c.get.result.now in let i = c.node_id.result in let at = c.node_id.ensures in let is = c.get.ensures in
     let x_is = comp_read nodes c.args.comp i x at is in let h_is = bits_read nodes c.args.comp i x at is in
-    (port_read sites phases (comps_of nodes) (heres_of nodes) c.requires.sighted c.args.comp above below x.comp x.here x_is h_is c.args.at c.port_of-port.result c.requires.may c.port_of-port.ensures).1
+    (port_read sites phases (comps_of nodes) (heres_of nodes) c.requires.sighted c.args.comp above below x.comp x.here x_is h_is c.args.at c.port_of-port.result c.requires.may c.port_of-port.ensures.goes).1
