@@ -76,7 +76,8 @@ fn halting(strict: bool, refusal: Option<Reply>) -> Option<Reply>
     if strict { refusal } else { None }
 }
 
-// Plays one word: the reply to it that is a refusal, if one is.
+// Plays one word: the reply to it that is a refusal, if one is. It is a call: so the loop of a run has its registers to itself.
+#[inline(never)]
 fn word_out<W: Write>(
     play: &mut Play,
     cmd: &Cmd,
