@@ -1,16 +1,17 @@
 #!/usr/bin/env python3
 """Measures programs with the command line of breezesim side by side.
 
-    measure.py [--counts | --times] PROGRAM [OTHER]      MOVES=1000000 and ROUNDS=3 may be set in the environment
+    measure.py [--counts | --times] PROGRAM [OTHER]      MOVES=1000000, ROUNDS=3 and TURNS=20 may be set in the environment
 
 Each row is one workload, and where there are two programs, how many times as much the first takes. First come the instructions
 that callgrind counts (a part of valgrind): those of a move and of a line that is checked, from the 20,000th to the 220,000th, in
 millions those of opening and listing a netlist, and those of a call of a command; last with the part named, with none named, and
-so as at a terminal. They are the same each time. What a program refuses, as one that knows fewer commands, has no figure. Then come times: the best of each program in seconds, its memory at its
-greatest in MB, and its page faults. A row of moves leaves out the time of the same command without any. No figure of memory is
-below that of Python itself, some 15 MB, out of which the programs are started. The largest netlists
-are opened a second time with what the launcher tells the C library of memory, as ./breezesim opens them. --counts shows the
-instructions alone, --times the times alone. The netlists are made by netlists.py,
+so as at a terminal. They are the same each time. What a program refuses, as one that knows fewer commands, has no figure. Then
+come nanoseconds of a processor that a move takes, with the system's: the best of TURNS short runs of each program, in turn. Then
+times by the clock: the best of each program in seconds, its memory at its greatest in MB, and its page faults. A row of moves
+leaves out the time of the same command without any. No figure of memory is below that of Python itself, some 15 MB, out of which
+the programs are started. The largest netlists are opened a second time with what the launcher tells the C library of memory, as
+./breezesim opens them. --counts shows the instructions alone, --times the times alone. The netlists are made by netlists.py,
 hostnets.py (one large component) and kindnets.py (one family of kinds), in a folder that goes away.
 """
 import os
@@ -28,6 +29,7 @@ import kindnets
 HERE = os.path.dirname(os.path.abspath(__file__))
 MOVES = int(os.environ.get("MOVES", "1000000"))
 ROUNDS = int(os.environ.get("ROUNDS", "3"))
+TURNS = int(os.environ.get("TURNS", "20"))
 FIRST, COUNTED = 20_000, 200_000
 MOVING = [("pipeline", 10), ("pipeline", 1000), ("loops", 64), ("loops", 4096), ("array", 16), ("array", 4096)]
 # Nets of bench/hostnets.py, one large component each.
@@ -78,6 +80,16 @@ class Netlists:
         return path
 
 
+def nets_of_moves(netlists):
+    """Each net whose moves are measured, with its name."""
+    for shape, size in MOVING:
+        yield f"{shape} {size}", netlists.path(shape, size)
+    for shape, size in MEMBERS:
+        yield f"{shape} of {size}", netlists.made("hostnets.py", shape, str(size))
+    for kind in kindnets.NETS:
+        yield kind, netlists.made("kindnets.py", kind)
+
+
 # Instructions.
 
 
@@ -119,15 +131,8 @@ def show_each(label, programs, count_of):
 
 
 def counts(programs, netlists):
-    for shape, size in MOVING:
-        netlist = netlists.path(shape, size)
-        show_each(f"{shape} {size}: a move", programs, lambda p, n: counted(p, moving(n), netlist))
-    for shape, size in MEMBERS:
-        netlist = netlists.made("hostnets.py", shape, str(size))
-        show_each(f"{shape} of {size}: a move", programs, lambda p, n: counted(p, moving(n), netlist))
-    for kind in kindnets.NETS:
-        netlist = netlists.made("kindnets.py", kind)
-        show_each(f"{kind}: a move", programs, lambda p, n: counted(p, moving(n), netlist))
+    for name, netlist in nets_of_moves(netlists):
+        show_each(f"{name}: a move", programs, lambda p, n: counted(p, moving(n), netlist))
     for shape, size in [("pipeline", 1000), ("loops", 64)]:
         show_each(f"{shape} {size}: a line checked", programs, lambda p, n: counted(
             p, ["check", "--part", "bench"], netlists.with_trace(programs[0], shape, size, n)))
@@ -150,6 +155,34 @@ def counts_by_way(programs, netlists):
         show_counts(f"large 10000: opened, {name}", [counted(p, run(["run:0"], way), large) for p in programs], millions)
         words = run(["offer:go", f"run:{COUNTED}"], way)
         show_counts(f"loops 64: {COUNTED} moves, {name}", [counted(p, words, loops) for p in programs], millions)
+
+
+# A processor's time.
+
+
+def processor_time(program, arguments, netlist):
+    """The seconds that a call takes of a processor, with the system's; None where the program refuses."""
+    with open(netlist, "rb") as text:
+        child = subprocess.Popen([program, *arguments], stdin=text, stdout=subprocess.DEVNULL, stderr=subprocess.DEVNULL)
+        _, status, used = os.wait4(child.pid, 0)
+    child.returncode = os.waitstatus_to_exitcode(status)
+    return used.ru_utime + used.ru_stime if child.returncode == 0 else None
+
+
+def best_in_turn(programs, netlist):
+    """The nanoseconds of a processor that a move takes: the best of short runs of each program in turn."""
+    full, empty = [[] for _ in programs], [[] for _ in programs]
+    for _ in range(TURNS):
+        for place, program in enumerate(programs):
+            full[place].append(processor_time(program, moving(MOVES), netlist))
+            empty[place].append(processor_time(program, run(["run:0"]), netlist))
+    refused = [None in moved or None in opened for moved, opened in zip(full, empty)]
+    return [None if no else (min(f) - min(e)) * 1e9 / MOVES for no, f, e in zip(refused, full, empty)]
+
+
+def processor_times(programs, netlists):
+    for name, netlist in nets_of_moves(netlists):
+        show_counts(f"{name}: a move, ns of a processor", best_in_turn(programs, netlist), each)
 
 
 # Times and memory.
@@ -243,6 +276,7 @@ def main():
         if only != "--times" and shutil.which("valgrind") is not None:
             counts(words, netlists)
         if only != "--counts":
+            processor_times(words, netlists)
             times(words, netlists)
 
 
