@@ -1,6 +1,5 @@
 -- Who need not be woken after an entry, since it gives them nothing to be told.
-use Rattle.std.specs.Prelude.{◌≡◌, ◌⊎◌, ◌==◌, ◌||◌, ℕ, ◌≤◌, Bool, true, false, not, List, length}
-use Rattle.std.specs.List.{All}
+use Rattle.std.specs.Prelude.{◌≡◌, ◌⊎◌, ◌==◌, ◌||◌, ℕ, ◌≤◌, Bool, true, false, not, Some, List, length, replicate, slice_get}
 use Rattle.bz_model.specs.declared.event.Entry.{Entry}
 use Rattle.bz_model.specs.declared.event.Entry.TheVariants.{Fired, Host, Rested}
 use Rattle.bz_model.specs.Nets.{State}
@@ -26,15 +25,19 @@ is_left s k Running = true
 is_left s k (Waiting verb port) = not (port == k) || not (would_answer s verb port)
 is_left s k Ended = true
 
--- no session does so; they wait at external ports alone, and port k is channel k
-abbrev pub LeavesAt : Simulation → List Standing → ℕ → Type 0
-LeavesAt net standings k = k ≤ length net.wiring.ports → All (λ standing. is_left net.state k standing ≡ true) standings
+-- the sessions at whose places there is no mark are left
+abbrev pub LeavesOthers : (Standing → Bool) → List Standing → List Bool → Type 0
+LeavesOthers left standings marks = (place : ℕ) (standing : Standing) → slice_get marks place ≡ Some false → slice_get standings place ≡ Some standing → left standing ≡ true
 
--- this entry gives no session an answer
-abbrev pub LeavesSessions : Simulation → List Standing → Entry → Type 0
-LeavesSessions net standings (Fired who c p k mv value) = LeavesAt net standings k
-LeavesSessions net standings (Host who verb port value reply) = LeavesAt net standings port
-LeavesSessions net standings (Rested who) = Unit {0}
+-- those that are not woken are left at channel k; they wait at external ports alone, and port k is channel k
+abbrev pub LeavesAt : Simulation → List Standing → ℕ → List Bool → Type 0
+LeavesAt net standings k woken = k ≤ length net.wiring.ports → LeavesOthers (is_left net.state k) standings woken
+
+-- this entry gives none of those an answer
+abbrev pub LeavesSessions : Simulation → List Standing → Entry → List Bool → Type 0
+LeavesSessions net standings (Fired who c p k mv value) woken = LeavesAt net standings k woken
+LeavesSessions net standings (Host who verb port value reply) woken = LeavesAt net standings port woken
+LeavesSessions net standings (Rested who) woken = Unit {0}
 
 -- it gives no worker anything to fire: what can move after a firing, its own worker goes on with
 abbrev pub LeavesWorkers : Simulation → Entry → Type 0
@@ -43,12 +46,12 @@ LeavesWorkers net (Host who verb port value reply) = Rest net.wiring.sites net.s
 LeavesWorkers net (Rested who) = Unit {0}
 
 abbrev pub WakesAll : Audience → Type 0
-WakesAll a = (a.sessions ≡ true) × (a.workers ≡ true)
+WakesAll a = (a.sessions ≡ replicate 16 true) × (a.workers ≡ true)
 
 -- Who is not woken after this entry is given nothing by it: that it is over is told to all, an answer to sessions, work to workers.
 abbrev pub Suffices : Simulation → ℕ → Bool → List Standing → Entry → Audience → Type 0
 Suffices net fuel stopped standings entry a =
-    (IsOver net fuel stopped standings → WakesAll a) × (a.sessions ≡ false → LeavesSessions net standings entry) × (a.workers ≡ false → LeavesWorkers net entry)
+    (IsOver net fuel stopped standings → WakesAll a) × LeavesSessions net standings entry a.sessions × (a.workers ≡ false → LeavesWorkers net entry)
 
 -- of an answer its entry
 abbrev pub IfAnswered : Polled → (Entry → Type 0) → Type 0

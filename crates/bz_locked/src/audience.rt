@@ -1,8 +1,7 @@
 //! Whom of those that wait a call concerns.
 
-ghost use Rattle.std.specs.Prelude.{◌≡◌, ◌↔◌, true, false, IfOk, IsTrue, MatchBool, MatchResult, OnErr};
-ghost use Rattle.std.specs.List.{All};
-ghost use Rattle.bz_locked.specs.Audiences.{is_left, IfAnswered, IsOver, LeavesAt, LeavesSessions, LeavesWorkers, Suffices, WakesAll};
+ghost use Rattle.std.specs.Prelude.{◌≡◌, false, IfOk, MatchBool, MatchResult, OnErr};
+ghost use Rattle.bz_locked.specs.Audiences.{is_left, IfAnswered, IsOver, LeavesAt, LeavesOthers, LeavesSessions, LeavesWorkers, Suffices, WakesAll};
 
 use crate::ledger::NetLedger;
 use crate::locked::{FireError, Fired, Locked, Polled, Work};
@@ -11,21 +10,24 @@ use bz_net::{Net, RestReply};
 use bz_past::Standing;
 use std::sync::ledger::Ledger;
 
-/// Who is woken: the sessions that wait, and the workers.
+/// The most sessions of a shared net.
+pub const MAX_SESSIONS: usize = 16;
+
+/// Who is woken of those that wait: the sessions at some places, and the workers.
 #[derive(Clone, Copy)]
 pub struct Audience {
-    pub sessions: bool,
+    pub sessions: [bool; MAX_SESSIONS],
     pub workers: bool,
 }
 
 impl Audience {
     pub const ALL: Audience = Audience {
-        sessions: true,
+        sessions: [true; MAX_SESSIONS],
         workers: true,
     };
 
     pub const NOBODY: Audience = Audience {
-        sessions: false,
+        sessions: [false; MAX_SESSIONS],
         workers: false,
     };
 
@@ -50,29 +52,36 @@ fn is_left(net: &Net, standing: Standing, chan: u32) -> bool
     }
 }
 
-fn are_left(net: &Net, sessions: &[Standing], chan: u32) -> bool
-    ensures { IsTrue result ↔ All (λ standing. is_left net.now.state chan standing ≡ true) sessions.now }
+/// At which places a session would get an answer at this channel.
+fn answered_among(net: &Net, sessions: &[Standing], chan: u32) -> [bool; MAX_SESSIONS]
+    ensures { LeavesOthers (is_left net.now.state chan) sessions.now result }
 {
-    sessions
-        .iter()
-        .all(|standing| is_left(net, *standing, chan))
+    let mut answered = [false; MAX_SESSIONS];
+    for place in 0..sessions.len().min(MAX_SESSIONS) {
+        answered[place] = !is_left(net, sessions[place], chan);
+    }
+    answered
 }
 
-/// Whether a session may get an answer at this channel: it is an external one, and one that waits there would.
-fn may_answer(net: &Net, sessions: &[Standing], chan: u32) -> bool
-    ensures { result ≡ false → LeavesAt net.now sessions.now chan }
+/// The same, where sessions wait at external channels alone.
+fn answered_at(net: &Net, sessions: &[Standing], chan: u32) -> [bool; MAX_SESSIONS]
+    ensures { LeavesAt net.now sessions.now chan result }
 {
-    chan as usize <= net.names().ports().len() && !are_left(net, sessions, chan)
+    if chan as usize <= net.names().ports().len() {
+        answered_among(net, sessions, chan)
+    } else {
+        [false; MAX_SESSIONS]
+    }
 }
 
-/// Whether an entry may give a session its answer.
-fn gives_answer(net: &Net, sessions: &[Standing], entry: &Entry) -> bool
-    ensures { result ≡ false → LeavesSessions net.now sessions.now entry.now }
+/// The places of the sessions to which an entry may give their answer.
+fn answered_by(net: &Net, sessions: &[Standing], entry: &Entry) -> [bool; MAX_SESSIONS]
+    ensures { LeavesSessions net.now sessions.now entry.now result }
 {
     match entry {
-        Entry::Fired { chan, .. } => may_answer(net, sessions, *chan),
-        Entry::Host { port, .. } => may_answer(net, sessions, *port),
-        Entry::Rested { .. } => false,
+        Entry::Fired { chan, .. } => answered_at(net, sessions, *chan),
+        Entry::Host { port, .. } => answered_at(net, sessions, *port),
+        Entry::Rested { .. } => [false; MAX_SESSIONS],
     }
 }
 
@@ -106,7 +115,7 @@ impl<L: NetLedger> Locked<L> {
     {
         let over = self.is_over();
         Audience {
-            sessions: over,
+            sessions: [over; MAX_SESSIONS],
             workers: over,
         }
     }
@@ -119,7 +128,7 @@ impl<L: NetLedger> Locked<L> {
             return Audience::ALL;
         }
         Audience {
-            sessions: gives_answer(&self.net, &self.sessions, entry),
+            sessions: answered_by(&self.net, &self.sessions, entry),
             workers: gives_work(&self.net, entry),
         }
     }

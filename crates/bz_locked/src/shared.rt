@@ -17,17 +17,20 @@ ghost use Rattle.bz_net.specs.Simulation.{Simulation};
 ghost use Rattle.bz_net.specs.Replies.{RefusesCommand};
 ghost use Rattle.bz_locked.specs.Working.{During, is_wait, HasTurnedOrNot, HasWaited, HasWaitedOrNot, MatchWait, MatchRest, IsLast, HasFired, Notes, WasAdded, WasFirst, WasRefused, WorkerWasTold, RefusesFiring, RefusesRest};
 
-use crate::audience::Audience;
+use crate::audience::{Audience, MAX_SESSIONS};
 use crate::closing::CloseError;
+use crate::door::Door;
 use crate::kept::Kept;
 use crate::ledger::NetLedger;
 use crate::locked::{FireError, Fired, Locked, Polled, WaitReply, Work};
 use crate::parts::{Session, Worker};
+use crate::serving::place_of;
 use bz_front::{Front, FrontSeat};
 use bz_model::{Entry, HostCmd, NetError, Reply, Who};
 use bz_net::{Net, RestReply};
 use bz_past::{Keeper, Owner, Past, Standing, Stopper};
 use std::alloc::{AllocError, Global};
+use std::array;
 use std::marker::Model;
 use std::sync::ledger::{Blank, Book, Ledger, Share};
 use std::sync::{Condvar, Mutex, Wait};
@@ -43,12 +46,13 @@ fn is_wait(told: Result<Polled, NetError>) -> bool
     }
 }
 
-/// A net that host sessions and workers share. Its one lock is held for one event at a time; a call that waits waits for a
-/// condition variable alone, which lets the lock go: sessions for `answers`, workers for `work`.
+/// A net that host sessions and workers share. Its one lock is held for one event at a time, and workers come to it through a
+/// door, one by one, to fire or to look what is ready. A call that waits waits for a condition variable alone, which lets the
+/// lock go: each session for its own of `answers`, workers for `work`.
 ///
 /// Nobody sleeps who would be told something. What one who waits is told hangs on the net, the fuel, whether all was stopped, and
 /// how the sessions stand; and each call that changes these wakes those to whom it gives something (`Audience`):
-/// - a host's entry or a firing wakes sessions where one that waits at its channel would be answered, and all where it is over;
+/// - a host's entry or a firing wakes each session that waits at its channel and would be answered, and all where it is over;
 /// - a host's entry wakes workers where a component can move. A firing leaves these to its own worker, which looks again before it
 ///   sleeps; and no other fell asleep while a component could move;
 /// - rest adds to the journal alone; a full journal and want of memory stop all, and a stop wakes all;
@@ -57,8 +61,9 @@ fn is_wait(told: Result<Polled, NetError>) -> bool
 #[derive(Drop)]
 pub struct SharedNet<L: NetLedger> {
     pub(crate) locked: Mutex<Kept<L>>,
-    pub(crate) answers: Condvar,
+    pub(crate) answers: [Condvar; MAX_SESSIONS],
     pub(crate) work: Condvar,
+    pub(crate) door: Door,
     pub(crate) front: Front,
     pub(crate) past: Past,
     pub(crate) sessions: usize,
@@ -276,8 +281,9 @@ impl<L: NetLedger> SharedNet<L> {
         };
         let shared = SharedNet {
             locked: Mutex::new(Kept { locked, keeper }),
-            answers: Condvar::new(),
+            answers: array::from_fn(|_| Condvar::new()),
             work: Condvar::new(),
+            door: Door::new(),
             front: made.front,
             past,
             sessions: sessions as usize,
@@ -290,8 +296,11 @@ impl<L: NetLedger> SharedNet<L> {
 
     /// Wakes those of an audience who wait.
     fn wake(&self, audience: Audience) {
-        if audience.sessions {
-            self.answers.notify_all();
+        let places = self.answers.iter().zip(audience.sessions);
+        for (answers, is_woken) in places.take(self.sessions) {
+            if is_woken {
+                answers.notify_all();
+            }
         }
         if audience.workers {
             self.work.notify_all();
@@ -404,7 +413,7 @@ impl<L: NetLedger> SharedNet<L> {
                 self.wake(audience);
                 return told;
             }
-            kept = self.answers.wait(rt, kept);
+            kept = self.answers[place_of(who) % MAX_SESSIONS].wait(rt, kept);
         }
         unreachable!()
     }
@@ -426,6 +435,7 @@ impl<L: NetLedger> SharedNet<L> {
         ensures ok { OnOk result (worker.new.fired ≡ worker.old.fired + 1) }
         ensures err { OnErr result ((worker.new.fired ≡ worker.old.fired) × IsSilent worker.old.seat worker.new.seat) }
     {
+        let inside = self.door.enter(rt);
         let mut kept = self.locked.lock(rt);
         let answered = kept.fire(
             &self.past,
@@ -436,6 +446,7 @@ impl<L: NetLedger> SharedNet<L> {
         );
         let audience = kept.locked.audience_of_firing(answered);
         drop(kept);
+        drop(inside);
         self.wake(audience);
         let (fired, len) = answered?;
         worker.fired += 1;
@@ -459,10 +470,12 @@ impl<L: NetLedger> SharedNet<L> {
         ensures made { MatchResult result (λ r. MatchRest r (HasMade worker.old.who (Rested worker.old.who ∷ []) worker.old.seat worker.new.seat) (HasMadeNone worker.old.who worker.old.seat worker.new.seat)) (λ _. HasMadeNone worker.old.who worker.old.seat worker.new.seat) }
         ensures err { OnErr result (IsSilent worker.old.seat worker.new.seat) }
     {
+        let inside = self.door.enter(rt);
         let answered = self
             .locked
             .lock(rt)
             .first_ready(&self.past, &mut worker.owner, worker.who, from);
+        drop(inside);
         self.wake(Audience::of_rest(answered));
         let (reply, len) = answered?;
         match reply {
