@@ -1,7 +1,7 @@
 -- What lies under the lock after a call comes of what lay there before, so that it is seen.
 use Rattle.std.specs.Prelude.{IfOk, IfErr, IsErrAnd}
 use Rattle.bz_model.specs.declared.event.NetError.{NetError}
-use Rattle.std.proofs.Common.{Result, Ok, Err, false, true≢false, ⊎_elim, ◌≤◌, Option, None, length, arith, length-append, ◌≡◌, ℕ, Bool, true, List, [], ◌∷◌, refl, sym, ap, ◌∙◌, subst}
+use Rattle.std.proofs.Common.{Result, Ok, Err, false, true≢false, ⊎_elim, Option, None, length, arith, length-append, ◌≡◌, ℕ, Bool, true, List, [], ◌∷◌, refl, sym, ap, ◌∙◌, subst}
 use Rattle.bz_model.specs.declared.event.Entry.{Entry}
 use Rattle.bz_net.specs.Simulation.{Simulation, Adds}
 use Rattle.bz_past.specs.Moments.{moment, Leads}

@@ -1,5 +1,5 @@
 -- How sessions stand as they turn.
-use Rattle.std.proofs.Common.{true, false, Bool, cond, ◌≡◌, ℕ, zero, suc, ◌+◌, ◌-◌, ◌≤◌, Option, Some, None, Result, Ok, Err, List, [], ◌∷◌, ◌++◌, map, length, replicate, slice_set, refl, sym, ap, ◌∙◌, subst, arith, append_assoc, true≢false}
+use Rattle.std.proofs.Common.{true, false, Bool, cond, ◌≡◌, ℕ, zero, suc, ◌+◌, ◌-◌, ◌≤◌, Option, Some, None, Result, Ok, Err, List, [], ◌∷◌, ◌++◌, map, replicate, slice_set, refl, sym, ap, ◌∙◌, subst, arith, append_assoc, true≢false}
 use Rattle.std.specs.List.{filter}
 use Rattle.std.specs.Prelude.{MatchResult}
 use Rattle.std.proofs.lemmas.Bool.{eq-eqb, ne_eqb}
@@ -10,7 +10,7 @@ use Rattle.bz_model.specs.declared.event.Who.TheVariants as who
 use Rattle.bz_model.specs.declared.event.HostCmd.{HostCmd}
 use Rattle.bz_model.specs.declared.event.NetError.{NetError}
 use Rattle.bz_model.specs.Nets.{Wiring}
-use Rattle.bz_past.specs.Moments.{AreWithin, Leads}
+use Rattle.bz_past.specs.Moments.{AreWithin}
 use Rattle.bz_past.specs.Owners.{same_who, is_host, AreTurnsOf, AreTurnsOfOthers, IsNamed, LeadsWithout}
 use Rattle.bz_past.specs.Standings.{HasTurned, last_or, listed, standing_of, standings_behind, standings_of, turned, turned_by}
 use Rattle.bz_past.specs.declared.standing.Standing.{Standing}

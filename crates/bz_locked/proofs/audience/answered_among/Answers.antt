@@ -17,8 +17,7 @@ loop-place-preserved c =
     let n = c.loop-place.place in
     let inv = c.loop-place.invariant in
     let at = slice_get-get_or standings n Running (omega (arith, c.loop-place-test.true, c.min-place-end.ensures)) in
-    let room : n < length marks = omega (arith, c.loop-place-test.true, c.min-place-end.ensures, inv.0) in
-    (
+    let room : n < length marks = omega (arith, c.loop-place-test.true, c.min-place-end.ensures, inv.0) in (
       length-set marks n _ ∙ inv.0,
       subst (λ (b : Bool). LeavesFirst left standings (set marks n (not b)) (n + 1)) (sym c.is_left.ensures) (one_more left standings marks n (get_or standings n Running) room at inv.1),
     )

@@ -1,4 +1,4 @@
-use Rattle.std.proofs.Common.{sym, subst, None, length, ap}
+use Rattle.std.proofs.Common.{subst, None, length, ap}
 use Rattle.bz_model.specs.declared.event.Who.{Who}
 use Rattle.bz_locked.specs.Working.{RefusesFiring}
 use Rattle.bz_past.specs.Owners.{LeadsWithout}

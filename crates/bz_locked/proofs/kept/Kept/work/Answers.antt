@@ -1,4 +1,4 @@
-use Rattle.std.proofs.Common.{◌∙◌, inl, refl, sym, subst, None, length, ap}
+use Rattle.std.proofs.Common.{◌∙◌, inl, refl, subst, None, length, ap}
 use Rattle.bz_model.specs.declared.event.Who.{Who}
 use Rattle.bz_past.specs.Owners.{LeadsWithout}
 use Rattle.bz_past.specs.declared.view.Moment.{Moment}

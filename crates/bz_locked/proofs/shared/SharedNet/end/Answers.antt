@@ -1,4 +1,4 @@
-use Rattle.std.proofs.Common.{◌≡◌, ◌∷◌, [], ap, ◌∙◌, sym, subst}
+use Rattle.std.proofs.Common.{◌∷◌, [], ap, ◌∙◌, sym, subst}
 use Rattle.bz_past.specs.Standings.{HasTurned}
 use Rattle.bz_past.specs.declared.standing.Standing.TheVariants.{Ended}
 use Rattle.bz_locked.specs.Parts.{SessionView, SharedView, Tables}
