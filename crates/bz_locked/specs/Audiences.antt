@@ -25,11 +25,11 @@ is_left s k Running = true
 is_left s k (Waiting verb port) = not (port == k) || not (would_answer s verb port)
 is_left s k Ended = true
 
--- the sessions at whose places there is no mark are left
+-- the sessions whose mark is false are left; one whose place is past the marks has none
 abbrev pub LeavesOthers : (Standing → Bool) → List Standing → List Bool → Type 0
 LeavesOthers left standings marks = (place : ℕ) (standing : Standing) → slice_get marks place ≡ Some false → slice_get standings place ≡ Some standing → left standing ≡ true
 
--- those that are not woken are left at channel k; they wait at external ports alone, and port k is channel k
+-- those whose mark says that they are not woken are left at channel k; they wait at external ports alone, and port k is channel k
 abbrev pub LeavesAt : Simulation → List Standing → ℕ → List Bool → Type 0
 LeavesAt net standings k woken = k ≤ length net.wiring.ports → LeavesOthers (is_left net.state k) standings woken
 
@@ -49,6 +49,7 @@ abbrev pub WakesAll : Audience → Type 0
 WakesAll a = (a.sessions ≡ replicate 16 true) × (a.workers ≡ true)
 
 -- Who is not woken after this entry is given nothing by it: that it is over is told to all, an answer to sessions, work to workers.
+-- Of sessions that is said of the first 16, and a shared net has no more.
 abbrev pub Suffices : Simulation → ℕ → Bool → List Standing → Entry → Audience → Type 0
 Suffices net fuel stopped standings entry a =
     (IsOver net fuel stopped standings → WakesAll a) × LeavesSessions net standings entry a.sessions × (a.workers ≡ false → LeavesWorkers net entry)

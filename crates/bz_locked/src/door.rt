@@ -17,8 +17,8 @@ const FIRST_NAP: u64 = 400;
 /// A door in front of the net's lock, through which one worker goes at a time.
 ///
 /// At the lock itself each worker that queues is put to sleep and woken again for the fraction of a microsecond that a firing
-/// takes. One that finds the door taken naps meanwhile, and leaves some hundred firings to the worker inside. Sessions go to the
-/// lock without it: so a worker queues there behind sessions alone, and no session waits for a nap to end.
+/// takes. One that finds the door taken naps meanwhile, and leaves some hundred firings to the worker inside. Sessions, and workers
+/// that look whether there is work, go to the lock without it.
 #[derive(Drop)]
 pub(crate) struct Door {
     taken: Mutex<()>,
