@@ -1,5 +1,7 @@
--- Where it is not over for those who wait.
-use Rattle.std.proofs.Common.{inl, inr, ℕ, Bool, List, true≢false, sym, ◌∙◌, arith}
+-- Where it is not over for those who wait, and where there is work.
+use Rattle.std.proofs.Common.{inl, inr, ℕ, Bool, Option, Some, None, List, true≢false, sym, ◌∙◌, arith}
+use Rattle.std.specs.Prelude.{is_some, MatchBool, MatchOption}
+use Rattle.bz_model.specs.Runs.{CanStep, IsNext, Rest}
 use Rattle.bz_net.specs.Simulation.{Simulation}
 use Rattle.bz_past.specs.declared.standing.Standing.{Standing}
 use Rattle.bz_locked.specs.declared.locked.Work.TheVariants.{Ready}
@@ -23,3 +25,8 @@ not_while_waiting net fuel stopped standings waits over = elim over [
     | inr spent ↦ waits.busy spent.3
   ]
 ]
+
+pub has_work : (net : Simulation) (found : Option ℕ) → MatchOption found (Rest net.wiring.sites net.state) (IsNext (CanStep net.wiring.sites net.state) 1)
+    → MatchBool (is_some found) (Rest net.wiring.sites net.state → ⊥) (Rest net.wiring.sites net.state)
+has_work net None rests = rests
+has_work net (Some c) next = λ rest. rest c next.is_in

@@ -1,5 +1,5 @@
--- Who need not be woken after an entry, since it gives them nothing to be told.
-use Rattle.std.specs.Prelude.{◌≡◌, ◌⊎◌, ◌==◌, ◌||◌, ℕ, ◌≤◌, Bool, true, false, not, Some, List, length, replicate, slice_get}
+-- Who is woken after an entry: those alone whom it gives something to be told.
+use Rattle.std.specs.Prelude.{◌≡◌, ◌⊎◌, ◌==◌, ◌||◌, ℕ, ◌<◌, ◌≤◌, Bool, true, false, not, Some, List, length, replicate, slice_get, MatchBool}
 use Rattle.bz_model.specs.declared.event.Entry.{Entry}
 use Rattle.bz_model.specs.declared.event.Entry.TheVariants.{Fired, Host, Rested}
 use Rattle.bz_model.specs.Nets.{State}
@@ -25,39 +25,50 @@ is_left s k Running = true
 is_left s k (Waiting verb port) = not (port == k) || not (would_answer s verb port)
 is_left s k Ended = true
 
--- the sessions whose mark is false are left; one whose place is past the marks has none
-abbrev pub LeavesOthers : (Standing → Bool) → List Standing → List Bool → Type 0
-LeavesOthers left standings marks = (place : ℕ) (standing : Standing) → slice_get marks place ≡ Some false → slice_get standings place ≡ Some standing → left standing ≡ true
+-- marked are the sessions that are not left, and no other
+abbrev pub MarksOthers : (Standing → Bool) → List Standing → List Bool → Type 0
+MarksOthers left standings marks = (place : ℕ) (standing : Standing) → slice_get standings place ≡ Some standing → slice_get marks place ≡ Some (not (left standing))
 
--- those whose mark says that they are not woken are left at channel k; they wait at external ports alone, and port k is channel k
-abbrev pub LeavesAt : Simulation → List Standing → ℕ → List Bool → Type 0
-LeavesAt net standings k woken = k ≤ length net.wiring.ports → LeavesOthers (is_left net.state k) standings woken
+abbrev pub MarksNobody : List Bool → Type 0
+MarksNobody marks = marks ≡ replicate 16 false
 
--- this entry gives none of those an answer
-abbrev pub LeavesSessions : Simulation → List Standing → Entry → List Bool → Type 0
-LeavesSessions net standings (Fired who c p k mv value) woken = LeavesAt net standings k woken
-LeavesSessions net standings (Host who verb port value reply) woken = LeavesAt net standings port woken
-LeavesSessions net standings (Rested who) woken = Unit {0}
+-- marked are those that get an answer at channel k: they wait at external ports alone, and port k is channel k
+abbrev pub MarksAt : Simulation → List Standing → ℕ → List Bool → Type 0
+MarksAt net standings k marks =
+    (k ≤ length net.wiring.ports → MarksOthers (is_left net.state k) standings marks) × (length net.wiring.ports < k → MarksNobody marks)
 
--- it gives no worker anything to fire: what can move after a firing, its own worker goes on with
-abbrev pub LeavesWorkers : Simulation → Entry → Type 0
-LeavesWorkers net (Fired who c p k mv value) = Unit {0}
-LeavesWorkers net (Host who verb port value reply) = Rest net.wiring.sites net.state
-LeavesWorkers net (Rested who) = Unit {0}
+-- marked are those to whom this entry gives their answer
+abbrev pub MarksAnswered : Simulation → List Standing → Entry → List Bool → Type 0
+MarksAnswered net standings (Fired who c p k mv value) marks = MarksAt net standings k marks
+MarksAnswered net standings (Host who verb port value reply) marks = MarksAt net standings port marks
+MarksAnswered net standings (Rested who) marks = MarksNobody marks
+
+-- whether it gives workers something to fire: what can move after a firing, its own worker goes on with
+abbrev pub GivesWork : Simulation → Entry → Bool → Type 0
+GivesWork net (Fired who c p k mv value) gives = gives ≡ false
+GivesWork net (Host who verb port value reply) gives = MatchBool gives (Rest net.wiring.sites net.state → ⊥) (Rest net.wiring.sites net.state)
+GivesWork net (Rested who) gives = gives ≡ false
 
 abbrev pub WakesAll : Audience → Type 0
 WakesAll a = (a.sessions ≡ replicate 16 true) × (a.workers ≡ true)
 
--- Who is not woken after this entry is given nothing by it: that it is over is told to all, an answer to sessions, work to workers.
--- Of sessions that is said of the first 16, and a shared net has no more.
-abbrev pub Suffices : Simulation → ℕ → Bool → List Standing → Entry → Audience → Type 0
-Suffices net fuel stopped standings entry a =
-    (IsOver net fuel stopped standings → WakesAll a) × LeavesSessions net standings entry a.sessions × (a.workers ≡ false → LeavesWorkers net entry)
+abbrev pub WakesNobody : Audience → Type 0
+WakesNobody a = MarksNobody a.sessions × (a.workers ≡ false)
 
--- of an answer its entry
-abbrev pub IfAnswered : Polled → (Entry → Type 0) → Type 0
-IfAnswered (told.Answered entry reply len) P = P entry
-IfAnswered told.Resting P = Unit {0}
-IfAnswered told.Spent P = Unit {0}
-IfAnswered told.Stopped P = Unit {0}
-IfAnswered told.Wait P = Unit {0}
+-- all who wait, where they are told that it is over; else nobody
+abbrev pub WakesAtEnd : Simulation → ℕ → Bool → List Standing → Audience → Type 0
+WakesAtEnd net fuel stopped standings a = (IsOver net fuel stopped standings → WakesAll a) × ((IsOver net fuel stopped standings → ⊥) → WakesNobody a)
+
+-- Those whom this entry concerns, and no other: all where it is over, else the sessions that it answers, and workers for whom there is work.
+abbrev pub Concerns : Simulation → ℕ → Bool → List Standing → Entry → Audience → Type 0
+Concerns net fuel stopped standings entry a =
+    (IsOver net fuel stopped standings → WakesAll a)
+    × ((IsOver net fuel stopped standings → ⊥) → MarksAnswered net standings entry a.sessions × GivesWork net entry a.workers)
+
+-- those whom an answer's entry concerns; what is told in place of an answer concerns nobody else
+abbrev pub ConcernsAnswered : Simulation → ℕ → Bool → List Standing → Polled → Audience → Type 0
+ConcernsAnswered net fuel stopped standings (told.Answered entry reply len) a = Concerns net fuel stopped standings entry a
+ConcernsAnswered net fuel stopped standings told.Resting a = WakesNobody a
+ConcernsAnswered net fuel stopped standings told.Spent a = WakesNobody a
+ConcernsAnswered net fuel stopped standings told.Stopped a = WakesNobody a
+ConcernsAnswered net fuel stopped standings told.Wait a = WakesNobody a

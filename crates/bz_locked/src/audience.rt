@@ -1,7 +1,7 @@
 //! Whom of those that wait a call concerns.
 
-ghost use Rattle.std.specs.Prelude.{◌≡◌, false, IfOk, MatchBool, MatchResult, OnErr};
-ghost use Rattle.bz_locked.specs.Audiences.{is_left, IfAnswered, IsOver, LeavesAt, LeavesOthers, LeavesSessions, LeavesWorkers, Suffices, WakesAll};
+ghost use Rattle.std.specs.Prelude.{◌≡◌, ◌≤◌, length, MatchBool, MatchResult};
+ghost use Rattle.bz_locked.specs.Audiences.{is_left, Concerns, ConcernsAnswered, GivesWork, IsOver, MarksAnswered, MarksAt, MarksOthers, WakesAll, WakesAtEnd, WakesNobody};
 
 use crate::ledger::NetLedger;
 use crate::locked::{FireError, Fired, Locked, Polled, Work};
@@ -33,7 +33,7 @@ impl Audience {
 
     /// Whom it concerns that a worker asked for the next component: where rest has no place in the journal, all was stopped.
     pub fn of_rest(answered: Result<(RestReply, u64), NetError>) -> Audience
-        ensures { OnErr answered (WakesAll result) }
+        ensures { MatchResult answered (λ _. WakesNobody result) (λ _. WakesAll result) }
     {
         match answered {
             Ok(_) => Audience::NOBODY,
@@ -54,10 +54,11 @@ fn is_left(net: &Net, standing: Standing, chan: u32) -> bool
 
 /// At which places a session would get an answer at this channel.
 fn answered_among(net: &Net, sessions: &[Standing], chan: u32) -> [bool; MAX_SESSIONS]
-    ensures { LeavesOthers (is_left net.now.state chan) sessions.now result }
+    requires few { length sessions.now ≤ 16 }
+    ensures { MarksOthers (is_left net.now.state chan) sessions.now result }
 {
     let mut answered = [false; MAX_SESSIONS];
-    for place in 0..sessions.len().min(MAX_SESSIONS) {
+    for place in 0..sessions.len() {
         answered[place] = !is_left(net, sessions[place], chan);
     }
     answered
@@ -65,7 +66,8 @@ fn answered_among(net: &Net, sessions: &[Standing], chan: u32) -> [bool; MAX_SES
 
 /// The same, where sessions wait at external channels alone.
 fn answered_at(net: &Net, sessions: &[Standing], chan: u32) -> [bool; MAX_SESSIONS]
-    ensures { LeavesAt net.now sessions.now chan result }
+    requires few { length sessions.now ≤ 16 }
+    ensures { MarksAt net.now sessions.now chan result }
 {
     if chan as usize <= net.names().ports().len() {
         answered_among(net, sessions, chan)
@@ -76,7 +78,8 @@ fn answered_at(net: &Net, sessions: &[Standing], chan: u32) -> [bool; MAX_SESSIO
 
 /// The places of the sessions to which an entry may give their answer.
 fn answered_by(net: &Net, sessions: &[Standing], entry: &Entry) -> [bool; MAX_SESSIONS]
-    ensures { LeavesSessions net.now sessions.now entry.now result }
+    requires few { length sessions.now ≤ 16 }
+    ensures { MarksAnswered net.now sessions.now entry.now result }
 {
     match entry {
         Entry::Fired { chan, .. } => answered_at(net, sessions, *chan),
@@ -87,7 +90,7 @@ fn answered_by(net: &Net, sessions: &[Standing], entry: &Entry) -> [bool; MAX_SE
 
 /// Whether an entry gives workers something to fire. What can move after a firing, its own worker goes on with.
 fn gives_work(net: &Net, entry: &Entry) -> bool
-    ensures { result ≡ false → LeavesWorkers net.now entry.now }
+    ensures { GivesWork net.now entry.now result }
 {
     match entry {
         Entry::Host { .. } => net.next_ready(1).is_some(),
@@ -111,7 +114,7 @@ impl<L: NetLedger> Locked<L> {
 
     /// All where it is over for those who wait, else nobody.
     pub fn audience_at_end(&self) -> Audience
-        ensures { IsOver self.now.net self.now.fuel self.now.stopped self.now.sessions.items → WakesAll result }
+        ensures { WakesAtEnd self.now.net self.now.fuel self.now.stopped self.now.sessions.items result }
     {
         let over = self.is_over();
         Audience {
@@ -122,7 +125,7 @@ impl<L: NetLedger> Locked<L> {
 
     /// Whom an entry concerns that was just made.
     pub fn audience_of(&self, entry: &Entry) -> Audience
-        ensures { Suffices self.now.net self.now.fuel self.now.stopped self.now.sessions.items entry.now result }
+        ensures { Concerns self.now.net self.now.fuel self.now.stopped self.now.sessions.items entry.now result }
     {
         if self.is_over() {
             return Audience::ALL;
@@ -136,8 +139,8 @@ impl<L: NetLedger> Locked<L> {
     /// Whom a firing concerns, or what refused it: a firing that finds no place in the journal stops all.
     pub fn audience_of_firing(&self, fired: Result<(Fired, u64), FireError>) -> Audience
         ensures { MatchResult fired
-            (λ f. Suffices self.now.net self.now.fuel self.now.stopped self.now.sessions.items f.0.entry result)
-            (λ _. IsOver self.now.net self.now.fuel self.now.stopped self.now.sessions.items → WakesAll result) }
+            (λ f. Concerns self.now.net self.now.fuel self.now.stopped self.now.sessions.items f.0.entry result)
+            (λ _. WakesAtEnd self.now.net self.now.fuel self.now.stopped self.now.sessions.items result) }
     {
         match fired {
             Ok((fired, _)) => self.audience_of(&fired.entry),
@@ -147,7 +150,9 @@ impl<L: NetLedger> Locked<L> {
 
     /// Whom a command concerns. A refused one gives nobody anything.
     pub fn audience_of_command(&self, answered: Result<(Entry, Reply, u64), NetError>) -> Audience
-        ensures { IfOk answered (λ r. Suffices self.now.net self.now.fuel self.now.stopped self.now.sessions.items r.0 result) }
+        ensures { MatchResult answered
+            (λ r. Concerns self.now.net self.now.fuel self.now.stopped self.now.sessions.items r.0 result)
+            (λ _. WakesNobody result) }
     {
         match answered {
             Ok((entry, _, _)) => self.audience_of(&entry),
@@ -157,7 +162,9 @@ impl<L: NetLedger> Locked<L> {
 
     /// Whom a command concerns that was waited for. One that is told another thing than its answer gives nobody anything.
     pub fn audience_of_answer(&self, told: Result<Polled, NetError>) -> Audience
-        ensures { IfOk told (λ p. IfAnswered p (λ entry. Suffices self.now.net self.now.fuel self.now.stopped self.now.sessions.items entry result)) }
+        ensures { MatchResult told
+            (λ p. ConcernsAnswered self.now.net self.now.fuel self.now.stopped self.now.sessions.items p result)
+            (λ _. WakesNobody result) }
     {
         match told {
             Ok(Polled::Answered(entry, _, _)) => self.audience_of(&entry),
