@@ -1,4 +1,4 @@
--- Who is woken after an entry: those alone whom it gives something to be told.
+-- Who is woken after an entry, and who is not.
 use Rattle.std.specs.Prelude.{◌≡◌, ◌⊎◌, ◌==◌, ◌||◌, ℕ, ◌<◌, ◌≤◌, Bool, true, false, not, Some, List, length, replicate, slice_get, MatchBool}
 use Rattle.bz_model.specs.declared.event.Entry.{Entry}
 use Rattle.bz_model.specs.declared.event.Entry.TheVariants.{Fired, Host, Rested}
@@ -37,13 +37,13 @@ abbrev pub MarksAt : Simulation → List Standing → ℕ → List Bool → Type
 MarksAt net standings k marks =
     (k ≤ length net.wiring.ports → MarksOthers (is_left net.state k) standings marks) × (length net.wiring.ports < k → MarksNobody marks)
 
--- marked are those to whom this entry gives their answer
+-- marked are those that get an answer at the channel of this entry; that the net rests has none
 abbrev pub MarksAnswered : Simulation → List Standing → Entry → List Bool → Type 0
 MarksAnswered net standings (Fired who c p k mv value) marks = MarksAt net standings k marks
 MarksAnswered net standings (Host who verb port value reply) marks = MarksAt net standings port marks
 MarksAnswered net standings (Rested who) marks = MarksNobody marks
 
--- whether it gives workers something to fire: what can move after a firing, its own worker goes on with
+-- workers are woken after a command where a component can move; what can move after a firing, its own worker goes on with
 abbrev pub GivesWork : Simulation → Entry → Bool → Type 0
 GivesWork net (Fired who c p k mv value) gives = gives ≡ false
 GivesWork net (Host who verb port value reply) gives = MatchBool gives (Rest net.wiring.sites net.state → ⊥) (Rest net.wiring.sites net.state)
@@ -59,7 +59,8 @@ WakesNobody a = MarksNobody a.sessions × (a.workers ≡ false)
 abbrev pub WakesAtEnd : Simulation → ℕ → Bool → List Standing → Audience → Type 0
 WakesAtEnd net fuel stopped standings a = (IsOver net fuel stopped standings → WakesAll a) × ((IsOver net fuel stopped standings → ⊥) → WakesNobody a)
 
--- Those whom this entry concerns, and no other: all where it is over, else the sessions that it answers, and workers for whom there is work.
+-- Those whom this entry concerns, and no other: all where it is over, else the sessions that get an answer at its channel, and
+-- the workers where it is a command and a component can move.
 abbrev pub Concerns : Simulation → ℕ → Bool → List Standing → Entry → Audience → Type 0
 Concerns net fuel stopped standings entry a =
     (IsOver net fuel stopped standings → WakesAll a)

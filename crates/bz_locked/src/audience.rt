@@ -88,7 +88,7 @@ fn answered_by(net: &Net, sessions: &[Standing], entry: &Entry) -> [bool; MAX_SE
     }
 }
 
-/// Whether an entry gives workers something to fire. What can move after a firing, its own worker goes on with.
+/// Whether an entry wakes workers: a command does where a component can move. After a firing its own worker goes on with that.
 fn gives_work(net: &Net, entry: &Entry) -> bool
     ensures { GivesWork net.now entry.now result }
 {
