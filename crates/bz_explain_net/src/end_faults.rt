@@ -11,7 +11,7 @@ use bz_flat::{ElabError, FlatComp};
 use bz_kind_rows::{PortAt, is_passive, kind_word, port_at};
 use bz_model::{Chan, ChanKind, numbered};
 use bz_source::PathAt;
-use bz_view::Piece::{Bytes, Label, Name, Number, Path, Port, Text};
+use bz_view::Piece::{Bytes, Name, Number, Path, Port, Text};
 
 /// A channel of a net that is at fault, and the components at it: the first of each sense, and the second of either.
 #[derive(Clone, Copy)]
@@ -172,7 +172,7 @@ impl Wire<'_> {
             let spot = self.netlist.spot_of(part, Head::Components, position);
             notes.put("%)", &[spot]);
             let label = self.netlist.label(part, Head::Components, position);
-            notes.put("%", &[Label(label)]);
+            notes.put_label(label);
         }
     }
 

@@ -110,9 +110,9 @@ impl<'t> NetlistText<'t> {
             let Label { name, source } = self.label(number, head, position);
             put_source(notes, self.text, byte, "");
             notes.put("% %", &mark[..2]);
-            notes.put("%", &[Piece::Label(Label { name, source: None })]);
+            notes.put_label(Label { name, source: None });
             notes.put(" of part %", &mark[2..]);
-            notes.put("%", &[Piece::Label(Label { name: None, source })]);
+            notes.put_label(Label { name: None, source });
             notes.say("", &[]);
         }
     }

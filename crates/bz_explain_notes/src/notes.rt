@@ -2,8 +2,9 @@
 
 use crate::detail::Detail;
 use crate::nearest::nearest_name;
+use bz_source::Label;
 use bz_text::{Put, Text};
-use bz_view::{Piece, Spot};
+use bz_view::{Piece, Spot, put_label};
 use std::alloc::{AllocError, Global};
 use std::mem;
 
@@ -147,6 +148,11 @@ impl Notes {
     pub fn say(&mut self, form: &str, args: &[Piece<'_>]) {
         self.put(form, args);
         self.end();
+    }
+
+    /// Goes on with what something is called and where it comes from.
+    pub fn put_label(&mut self, label: Label<'_>) {
+        put_label(&mut self.line, label);
     }
 
     /// Goes on with a place in the file, or else in what `of` says.

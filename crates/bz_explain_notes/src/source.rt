@@ -4,7 +4,7 @@
 
 use crate::notes::{Notes, Place};
 use crate::spot::{before_in_line, spot_of};
-use bz_view::Piece::{Blanks, Bytes, Number, Text};
+use bz_view::Piece::{Bytes, Number, Text};
 
 /// The most bytes of a line that are shown.
 const MOST_SHOWN: usize = 100;
@@ -14,6 +14,9 @@ const SHOWN_BEFORE: usize = 40;
 
 /// What stands where something is left out.
 const CUT: &str = "..";
+
+/// Enough blanks to come below a line that is shown.
+static BLANKS: [u8; 128] = [b' '; 128];
 
 /// The piece of a line that is shown.
 #[derive(Clone, Copy)]
@@ -43,8 +46,13 @@ pub fn put_source_from(notes: &mut Notes, text: &[u8], at: usize, first: usize, 
     notes.put("\n%", &[Number(spot.line)]);
     let digits = notes.width();
     let shown = Bytes(window.shown);
-    let (margin, caret) = (Blanks(digits), Blanks(window.caret));
+    let (margin, caret) = (Bytes(blanks(digits)), Bytes(blanks(window.caret)));
     notes.put(" | %%%\n% | %^ ", &[before, shown, behind, margin, caret]);
+}
+
+// This many blanks, 128 at most.
+fn blanks(count: usize) -> &'static [u8] {
+    BLANKS.get(..count).unwrap_or(&BLANKS)
 }
 
 // The piece of the line of a byte that is shown.

@@ -31,15 +31,15 @@ impl<'t> Scene<'t> {
 
     /// Goes on with a component's kind and number, and its label.
     pub(crate) fn put_comp(&self, notes: &mut Notes, comp: u32) {
-        let label = Piece::Label(self.seen.label(Thing::Comp(comp)));
-        notes.put("% %%", &[self.kind(comp), Number(comp as usize), label]);
+        notes.put("% %", &[self.kind(comp), Number(comp as usize)]);
+        notes.put_label(self.seen.label(Thing::Comp(comp)));
     }
 
     /// Goes on with a channel's number, and what it is called.
     pub(crate) fn put_chan(&self, notes: &mut Notes, chan: u32) {
         let name = self.seen.survey.chan_name(chan);
-        let label = Piece::Label(Label { name, source: None });
-        notes.put("channel %%", &[Number(chan as usize), label]);
+        notes.put("channel %", &[Number(chan as usize)]);
+        notes.put_label(Label { name, source: None });
     }
 
     /// Goes on with a component, and where it is in the netlist: ` at buffer 2 line 8`, with ` in 4/1` after it where it is in an

@@ -12,7 +12,7 @@ use crate::table::Form;
 use bz_explain_notes::nearest_name;
 use bz_source::{Label, Survey};
 use bz_text::Text;
-use bz_view::{Piece, Seen, Thing, chan_at, port_count};
+use bz_view::{Piece, Seen, Thing, chan_at, port_count, put_source};
 
 /// What the first word behind a command stands for. That it stands for nothing is told, and that it stands for several.
 pub(crate) fn asked(seen: Seen<'_>, call: Call<'_>, answer: &mut Answer) -> Vec<Thing> {
@@ -233,7 +233,7 @@ fn is_called(word: &str, label: Label<'_>, text: &mut Text) -> bool {
         name.say("%", &[Piece::Called(called)]);
     }
     if let Some(at) = label.source {
-        place.say("%", &[Piece::Source(at)]);
+        put_source(&mut place, at);
     }
     match (name.whole(), place.whole()) {
         (Ok(name), Ok(place)) => begins_with(name, word) || begins_with(place, word),

@@ -1,10 +1,9 @@
 //! A move in words: who does what, and with whom.
 
 use bz_model::{Entry, Move, Names};
-use bz_source::Label;
 use bz_text::Text;
 use bz_trace_text::put_entries;
-use bz_view::{Piece, Seen, Thing};
+use bz_view::{Piece, Seen, copy_of, put_instance};
 
 /// The column of the words behind a line.
 const COLUMN: usize = 32;
@@ -40,44 +39,50 @@ fn put_words(seen: Seen<'_>, entry: Entry, text: &mut Text) {
     else {
         return;
     };
-    let is_active = matches!(mv, Move::Ask | Move::Got);
-    let other = match seen.end(chan, is_active) {
-        Some(other) => short_name(seen, other),
-        None => Piece::Host(seen.port_name(chan)),
-    };
-    let value_piece = Piece::Wide(value.unwrap_or(0));
     text.fill(COLUMN);
-    text.say("% ", &[short_name(seen, comp)]);
+    put_short(seen, comp, text);
     match value {
-        None => text.say(form_of(mv), &[other]),
-        Some(_) if mv == Move::Ask => text.say("asks % with %", &[other, value_piece]),
-        Some(_) => text.say(form_with(mv), &[value_piece, other]),
+        Some(value) if mv != Move::Ask => text.say(form_with(mv), &[Piece::Wide(value)]),
+        _ => text.put(words_of(mv)),
+    }
+    match seen.end(chan, matches!(mv, Move::Ask | Move::Got)) {
+        Some(other) => put_short(seen, other, text),
+        None => text.say("%", &[Piece::Host(seen.port_name(chan))]),
+    }
+    match value {
+        Some(value) if mv == Move::Ask => text.say(" with %", &[Piece::Wide(value)]),
+        _ => {}
     }
 }
 
-fn form_of(mv: Move) -> &'static str {
+// What stands before the other component.
+fn words_of(mv: Move) -> &'static str {
     match mv {
-        Move::Ask => "asks %",
-        Move::Take => "takes the request of %",
-        Move::Reply => "replies to %",
-        Move::Got => "gets the reply of %",
+        Move::Ask => " asks ",
+        Move::Take => " takes the request of ",
+        Move::Reply => " replies to ",
+        Move::Got => " gets the reply of ",
     }
 }
 
+// The same with a value, that of a request aside.
 fn form_with(mv: Move) -> &'static str {
     match mv {
-        Move::Reply => "replies % to %",
-        Move::Got => "gets % from %",
-        Move::Ask | Move::Take => "takes % from %",
+        Move::Reply => " replies % to ",
+        Move::Got => " gets % from ",
+        Move::Ask | Move::Take => " takes % from ",
     }
 }
 
-// A component, as it is called, without its place in the source.
-fn short_name<'v>(seen: Seen<'v>, comp: u32) -> Piece<'v> {
-    let name = seen.label(Thing::Comp(comp)).name;
-    let copy = match seen.survey.comp(comp) {
-        Some(at) if !at.path.is_empty() => Some(at),
-        _ => None,
-    };
-    Piece::Comp(seen.kind(comp), comp, copy, Label { name, source: None })
+// Adds a component, as it is called, without its place in the source.
+fn put_short(seen: Seen<'_>, comp: u32, text: &mut Text) {
+    let pieces = [Piece::Bytes(seen.kind(comp)), Piece::Wide(comp.into())];
+    text.say("% %", &pieces);
+    if let Some(name) = seen.survey.comp_name(comp) {
+        text.say(" %", &[Piece::Called(name)]);
+    }
+    if let Some(at) = copy_of(seen.survey, comp) {
+        text.put(" ");
+        put_instance(text, at);
+    }
 }

@@ -147,7 +147,8 @@ fn put_whole(seen: Shown<'_>, chain: &Chain<'_>, text: &mut Text) {
 fn put_step(seen: Shown<'_>, graph: &Graph, comp: u32, next: u32, text: &mut Text) {
     let waits = graph.waits_of(comp);
     if seen.net.is_ready(comp) {
-        text.say("% can move\n", &[seen.comp(comp)]);
+        seen.put_comp(comp, text);
+        text.put(" can move\n");
         return;
     }
     let Some(first) = port_to(seen, comp, next) else {

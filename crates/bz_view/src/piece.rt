@@ -3,7 +3,7 @@
 use crate::naming::{put_host_word, put_instance, put_name, put_port, put_source, put_typed};
 use bz_kind_rows::PortAt;
 use bz_model::{Chan, Phase, Reply, Value, Verb};
-use bz_source::{Label, LineAt, Records, SourceAt, put_path};
+use bz_source::{Label, LineAt, Records, Survey, put_path};
 use bz_text::{Piece as Part, Put, Text};
 use std::io::Write;
 
@@ -16,9 +16,6 @@ const UNNAMED: Label<'static> = Label {
     source: None,
 };
 
-/// Enough blanks to come below a line that is shown.
-static BLANKS: [u8; 128] = [b' '; 128];
-
 /// A place in a text, line and column counted from 1. A column is a byte.
 #[derive(Clone, Copy, Debug, PartialEq, Eq)]
 pub struct Spot {
@@ -26,7 +23,8 @@ pub struct Spot {
     pub column: usize,
 }
 
-/// What stands for a `%` of a form that people read.
+/// What stands for a `%` of a form that people read. It holds nothing that holds much: each place of this type costs whoever
+/// proves a function all that can be in it.
 #[derive(Clone, Copy)]
 pub enum Piece<'a> {
     Text(&'a str),
@@ -45,8 +43,6 @@ pub enum Piece<'a> {
     Value(Option<Value>),
     /// A number of things, by the noun for one: `1 line`, `2 lines`, `2 entries`.
     Count(usize, &'a str),
-    /// This many blanks, 128 at most.
-    Blanks(usize),
     /// A component's port: its name, and its place where it is one of an array.
     Port(PortAt),
     /// What a channel carries, with its width where it has one.
@@ -59,21 +55,11 @@ pub enum Piece<'a> {
     Path(&'a [usize]),
     /// A place, where there is one: `line 3, column 14`.
     At(Option<Spot>),
-    /// A place in a source.
-    Source(SourceAt<'a>),
-    /// What something is called in the source and where it comes from, its name in name form: ` x (two_place.balsa:7:5)`.
-    Label(Label<'a>),
-    /// The instance in which a component is, and the part that it is one of.
-    Instance(LineAt<'a>),
     /// A component: its kind and its number, the copy in which it is, if it is in one, and what the source has of it, as that is
     /// typed.
-    Comp(&'static [u8], u32, Option<LineAt<'a>>, Label<'a>),
+    Comp(&'a Survey, &'static [u8], u32),
     /// A channel: its number, and its name in the source, as that is typed.
-    Chan(u32, Option<&'a [u8]>),
-    /// A component of this kind, which is looked up.
-    CompIn(&'a Records<'a>, &'static [u8], u32),
-    /// A channel, the name of which is looked up.
-    ChanIn(&'a Records<'a>, u32),
+    Chan(&'a Survey, u32),
     /// The host, at the external port of this name.
     Host(&'a [u8]),
     /// A word of the host at a port, and whether a value belongs to it.
@@ -93,20 +79,14 @@ impl Put for Piece<'_> {
             Piece::Wide(number) => text.put_pieces(&[Part::Number(number)]),
             Piece::Value(value) => text.put_pieces(&[Part::Value(value)]),
             Piece::Count(count, thing) => put_count(text, count, thing),
-            Piece::Blanks(count) => text.put_bytes(BLANKS.get(..count).unwrap_or(&BLANKS)),
             Piece::Port(at) => put_port(text, at),
             Piece::Carried(_) | Piece::Phase(_) | Piece::Reply(_) => self.put_state(text),
             Piece::Path(path) => {
                 let _ = put_path(text, path);
             }
             Piece::At(spot) => put_spot(text, spot),
-            Piece::Source(at) => put_source(text, at),
-            Piece::Label(label) => put_label(text, label),
-            Piece::Instance(at) => put_instance(text, at),
-            Piece::Comp(kind, number, copy, label) => put_comp(text, kind, number, copy, label),
-            Piece::Chan(number, name) => put_chan(text, number, name),
-            Piece::CompIn(records, kind, number) => put_comp_in(text, records, kind, number),
-            Piece::ChanIn(records, number) => put_chan_in(text, records, number),
+            Piece::Comp(survey, kind, number) => put_comp(text, survey, kind, number),
+            Piece::Chan(survey, number) => put_chan(text, number, survey.chan_name(number)),
             Piece::Host(name) => {
                 text.put("the host at ");
                 put_typed(text, name);
@@ -178,7 +158,8 @@ fn put_spot(text: &mut Text, spot: Option<Spot>) {
     }
 }
 
-fn put_label(text: &mut Text, label: Label<'_>) {
+/// Adds what something is called in the source and where it comes from, its name in name form: ` x (two_place.balsa:7:5)`.
+pub fn put_label(text: &mut Text, label: Label<'_>) {
     if let Some(name) = label.name {
         text.put(" ");
         put_short(text, name);
@@ -196,7 +177,29 @@ fn put_label(text: &mut Text, label: Label<'_>) {
     }
 }
 
-fn put_comp(text: &mut Text, kind: &[u8], number: u32, copy: Option<LineAt<'_>>, label: Label<'_>) {
+/// The copy in which a component is, if it is in one.
+pub fn copy_of(survey: &Survey, number: u32) -> Option<LineAt<'_>> {
+    match survey.comp(number) {
+        Some(at) if !at.path.is_empty() => Some(at),
+        _ => None,
+    }
+}
+
+fn put_comp(text: &mut Text, survey: &Survey, kind: &[u8], number: u32) {
+    let label = Label {
+        name: survey.comp_name(number),
+        source: survey.comp_source(number),
+    };
+    put_called(text, kind, number, copy_of(survey, number), label);
+}
+
+fn put_called(
+    text: &mut Text,
+    kind: &[u8],
+    number: u32,
+    copy: Option<LineAt<'_>>,
+    label: Label<'_>,
+) {
     text.put_pieces(&[Part::Bytes(kind), Part::Value(Some(number.into()))]);
     put_typed_name(text, label.name);
     if let Some(at) = copy {
@@ -210,15 +213,17 @@ fn put_comp(text: &mut Text, kind: &[u8], number: u32, copy: Option<LineAt<'_>>,
     }
 }
 
-fn put_comp_in(text: &mut Text, records: &Records<'_>, kind: &[u8], number: u32) {
+/// Adds a component of this kind, as it is called, which is looked up.
+pub(crate) fn put_comp_in(text: &mut Text, records: &Records<'_>, kind: &[u8], number: u32) {
     match records.comp(text.alloc(), number) {
-        Ok(Some(found)) => put_comp(text, kind, number, found.copy(), found.label()),
-        Ok(None) => put_comp(text, kind, number, None, UNNAMED),
+        Ok(Some(found)) => put_called(text, kind, number, found.copy(), found.label()),
+        Ok(None) => put_called(text, kind, number, None, UNNAMED),
         Err(_) => text.lose(),
     }
 }
 
-fn put_chan_in(text: &mut Text, records: &Records<'_>, number: u32) {
+/// Adds a channel, as it is called, the name of which is looked up.
+pub(crate) fn put_chan_in(text: &mut Text, records: &Records<'_>, number: u32) {
     match records.chan_name(text.alloc(), number) {
         Ok(Some(name)) => put_chan(text, number, Some(name.as_slice())),
         Ok(None) => put_chan(text, number, None),

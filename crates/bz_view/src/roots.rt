@@ -100,7 +100,8 @@ fn others_behind(alloc: Global, seen: Shown<'_>, graph: &Graph) -> Result<Vec<u3
 fn put_others(seen: Shown<'_>, comps: &[u32], text: &mut Text) {
     for comp in comps {
         if seen.net.is_ready(*comp) {
-            text.say("% can move\n", &[seen.comp(*comp)]);
+            seen.put_comp(*comp, text);
+            text.put(" can move\n");
         } else {
             put_idle(seen, *comp, text);
         }

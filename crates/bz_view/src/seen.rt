@@ -59,7 +59,10 @@ impl<'v> Seen<'v> {
 
     /// Who is at an end of a channel: a component, or the host at the port.
     pub fn holder(self, chan: u32, passive: bool) -> Piece<'v> {
-        self.shown().holder(chan, passive)
+        match self.end(chan, passive) {
+            Some(number) => self.comp(number),
+            None => Piece::Host(self.port_name(chan)),
+        }
     }
 
     /// The word of a component's kind, empty where there is none of this number.
@@ -69,16 +72,7 @@ impl<'v> Seen<'v> {
 
     /// A component, as it is called, with the copy in which it is.
     pub fn comp(self, number: u32) -> Piece<'v> {
-        let at = match self.survey.comp(number) {
-            Some(at) if !at.path.is_empty() => Some(at),
-            _ => None,
-        };
-        Piece::Comp(
-            self.kind(number),
-            number,
-            at,
-            self.label(Thing::Comp(number)),
-        )
+        Piece::Comp(self.survey, self.kind(number), number)
     }
 
     /// How many ports a component has, 0 where there is none of this number.
@@ -88,7 +82,7 @@ impl<'v> Seen<'v> {
 
     /// A channel, as it is called.
     pub fn named_chan(self, chan: u32) -> Piece<'v> {
-        Piece::Chan(chan, self.survey.chan_name(chan))
+        Piece::Chan(self.survey, chan)
     }
 
     /// What the source has of a component or a channel.

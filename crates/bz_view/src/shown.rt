@@ -1,11 +1,12 @@
 //! A net in a state, with names of its components and channels where they are written.
 
-use crate::piece::Piece;
-use crate::seen::{Seen, chan_of, port_count, port_name};
+use crate::piece::{Piece, put_chan_in, put_comp_in};
+use crate::seen::{chan_of, port_count, port_name};
 use bz_kind_rows::kind_word;
 use bz_model::{Chan, Phase, Verb};
 use bz_net::Core;
 use bz_source::{Records, Survey};
+use bz_text::Text;
 
 /// A net in a state, and where the names in its lines are from.
 #[derive(Clone, Copy)]
@@ -62,11 +63,11 @@ impl<'v> Shown<'v> {
         if passive { at_passive } else { active }
     }
 
-    /// Who is at an end of a channel: a component, or the host at the port.
-    pub fn holder(self, chan: u32, passive: bool) -> Piece<'v> {
+    /// Adds who is at an end of a channel: a component, or the host at the port.
+    pub(crate) fn put_holder(self, chan: u32, passive: bool, text: &mut Text) {
         match self.end(chan, passive) {
-            Some(number) => self.comp(number),
-            None => Piece::Host(port_name(self.net, chan)),
+            Some(number) => self.put_comp(number, text),
+            None => text.say("%", &[Piece::Host(port_name(self.net, chan))]),
         }
     }
 
@@ -78,20 +79,20 @@ impl<'v> Shown<'v> {
         }
     }
 
-    /// A component, as it is called, with the copy in which it is.
-    pub fn comp(self, number: u32) -> Piece<'v> {
-        let net = self.net;
+    /// Adds a component, as it is called, with the copy in which it is.
+    pub(crate) fn put_comp(self, number: u32, text: &mut Text) {
+        let kind = self.kind(number);
         match self.names {
-            Names::Survey(survey) => Seen { net, survey }.comp(number),
-            Names::Records(records) => Piece::CompIn(records, self.kind(number), number),
+            Names::Survey(survey) => text.say("%", &[Piece::Comp(survey, kind, number)]),
+            Names::Records(records) => put_comp_in(text, records, kind, number),
         }
     }
 
-    /// A channel, as it is called.
-    pub fn named_chan(self, chan: u32) -> Piece<'v> {
+    /// Adds a channel, as it is called.
+    pub(crate) fn put_chan(self, chan: u32, text: &mut Text) {
         match self.names {
-            Names::Survey(survey) => Piece::Chan(chan, survey.chan_name(chan)),
-            Names::Records(records) => Piece::ChanIn(records, chan),
+            Names::Survey(survey) => text.say("%", &[Piece::Chan(survey, chan)]),
+            Names::Records(records) => put_chan_in(text, records, chan),
         }
     }
 

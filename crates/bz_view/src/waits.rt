@@ -72,19 +72,20 @@ pub(crate) fn put_cycles(seen: Shown<'_>, graph: &Graph, most: usize, text: &mut
 pub(crate) fn put_cycle(seen: Shown<'_>, cycle: &[u32], most: usize, text: &mut Text) {
     text.put("cycle: ");
     for member in cycle.iter().take(most) {
-        text.say("% -> ", &[seen.comp(*member)]);
+        seen.put_comp(*member, text);
+        text.put(" -> ");
     }
     let more = cycle.len().saturating_sub(most);
     if more > 0 {
         text.say(".. % more -> ", &[Piece::Number(more)]);
     }
     let first = cycle.first().copied().unwrap_or(0);
-    text.say("%\n", &[seen.comp(first)]);
+    seen.put_comp(first, text);
+    text.put("\n");
 }
 
 /// Adds the phase of a channel, and who holds it.
 pub fn put_held(seen: Seen<'_>, chan: u32, text: &mut Text) {
-    let seen = seen.shown();
     let phase = seen.phase(chan);
     text.say("channel %", &[seen.named_chan(chan)]);
     text.fill(13);
@@ -113,31 +114,49 @@ pub(crate) fn put_wait(seen: Shown<'_>, wait: Wait, text: &mut Text) {
 
 /// Adds what a component waits for, behind a word that says how it stands.
 pub(crate) fn put_standing(seen: Shown<'_>, standing: &str, wait: Wait, text: &mut Text) {
-    let (comp, other) = (seen.comp(wait.comp), seen.comp(wait.other));
-    let chan = seen.named_chan(wait.chan);
     if wait.whom == Whom::Nobody {
-        text.say("% has halted and will never reply on %\n", &[comp, chan]);
+        put_halt(seen, wait, text);
         return;
     }
     match wait.place {
         Place::Other => text.put("  or"),
-        _ => text.say("% %", &[Piece::Text(standing), comp]),
+        _ => {
+            text.put(standing);
+            text.put(" ");
+            seen.put_comp(wait.comp, text);
+        }
     }
     text.fill(COLUMN);
-    let deed = match wait.mv {
-        Move::Take => "take",
-        Move::Ask => "ask on",
-        _ => "reply on",
-    };
-    let whom = [other, Piece::Text(deed), chan];
+    text.put("for ");
     match wait.whom {
         Whom::Host => {
             let word = seen.host_word(verb_of(seen, wait), wait.chan);
-            text.say("for the host: %\n", &[word]);
+            text.say("the host: %\n", &[word]);
         }
-        Whom::Idle => text.say("for % to % %, which is idle\n", &whom),
-        _ => text.say("for % to % %\n", &whom),
+        _ => put_deed(seen, wait, text),
     }
+}
+
+fn put_halt(seen: Shown<'_>, wait: Wait, text: &mut Text) {
+    seen.put_comp(wait.comp, text);
+    text.put(" has halted and will never reply on ");
+    seen.put_chan(wait.chan, text);
+    text.put("\n");
+}
+
+// Adds what another component is to do.
+fn put_deed(seen: Shown<'_>, wait: Wait, text: &mut Text) {
+    seen.put_comp(wait.other, text);
+    text.put(match wait.mv {
+        Move::Take => " to take ",
+        Move::Ask => " to ask on ",
+        _ => " to reply on ",
+    });
+    seen.put_chan(wait.chan, text);
+    text.put(match wait.whom {
+        Whom::Idle => ", which is idle\n",
+        _ => "\n",
+    });
 }
 
 // The word of the host that comes next where it is waited for: a reply that it has not got comes before another request.

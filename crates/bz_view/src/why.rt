@@ -77,11 +77,7 @@ fn put_few(lines: &Text, text: &mut Text) {
     put_cut(lines, Cut::front(MOST_AT_REST), MORE, text);
 }
 
-/// How many channels are not idle.
-pub fn count_busy(seen: Seen<'_>) -> usize {
-    busy_in(seen.shown())
-}
-
+// How many channels are not idle.
 fn busy_in(seen: Shown<'_>) -> usize {
     (1..=seen.net.chan_count())
         .filter(|chan| seen.phase(*chan) != Phase::Idle)
