@@ -8,3 +8,4 @@ pub mod Readers
 pub mod Bounds
 pub mod Places
 pub mod Verdicts
+pub mod NameSets

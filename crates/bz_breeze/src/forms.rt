@@ -15,7 +15,8 @@ ghost use Rattle.bz_breeze.specs.Forms.{named_port, listed_port, port, ports, wi
 use crate::error::{Code, Refusal};
 use bz_breeze_records::{Component, Entries, Name, Slot};
 use bz_gap::gap;
-use bz_model::{Chan, ChanKind, MAX_WIDTH, NameSet, Param, Port};
+use crate::name_set::NameSet;
+use bz_model::{Chan, ChanKind, MAX_WIDTH, Param, Port};
 use bz_sexpr::{Form, Forms, Leaf, Shape, Text};
 use std::alloc::{AllocError, Global};
 

@@ -1,17 +1,19 @@
 //! The parts of a netlist, found by name.
 
-ghost use Rattle.std.specs.Prelude.{◌≡◌, ◌↔◌, map, All, false, IsTrue};
+ghost use Rattle.std.specs.Prelude.{◌≡◌, ◌↔◌, map, All, false, IsTrue, IfOk};
 ghost use Rattle.std.specs.Option.{option_copied};
 ghost use Rattle.bz_breeze_records.specs.Parts.{number_named, part_named, has_dollar, HasPortChannels, IsFit};
 
 use crate::part::Part;
-use bz_model::NameSet;
+use bz_model::NameRow;
+use std::alloc::{AllocError, Global};
 use std::marker::Model;
 
 /// The parts of a netlist, in the order of the text. No two have one name.
 pub struct Parts {
     list: Vec<Part>,
-    names: NameSet,
+    // Their names, by which they are found.
+    names: NameRow,
     /// Whether no name begins with a dollar sign, as those of kinds do.
     is_plain: bool,
 }
@@ -57,20 +59,30 @@ fn are_plain(list: &[Part]) -> bool
     list.iter().all(|part| !has_dollar(part.name.as_slice()))
 }
 
+fn names_of(alloc: Global, list: &[Part]) -> Result<Vec<Vec<u8>>, AllocError>
+    ensures { IfOk result (λ v. map (λ name. name.items) v.items ≡ map (λ p. p.name.items) list.now) }
+{
+    let mut names = Vec::with_capacity(alloc, list.len())?;
+    for part in list {
+        names.push(Vec::from_slice(alloc, &part.name)?)?;
+    }
+    Ok(names)
+}
+
 impl Parts {
-    /// The parts of a list, with their names.
-    pub fn new(list: Vec<Part>, names: NameSet) -> Parts
-        requires names { names ≡ map (λ p. p.name.items) list.items }
+    /// The parts of a list.
+    pub fn new(alloc: Global, list: Vec<Part>) -> Result<Parts, AllocError>
         requires fits { All HasPortChannels list.items }
         requires fit { All IsFit list.items }
-        ensures { result ≡ list.items }
+        ensures { IfOk result (λ parts. parts ≡ list.items) }
     {
+        let names = NameRow::new(alloc, names_of(alloc, list.as_slice())?)?;
         let is_plain = are_plain(list.as_slice());
-        Parts {
+        Ok(Parts {
             list,
             names,
             is_plain,
-        }
+        })
     }
 
     /// The parts, in the order of the text.

@@ -185,18 +185,25 @@ module _ (names : List (List ℕ)) (name : List ℕ) where
         where
           within : at < length sorted
           within = rw same_length at lt
+
           entry : List ℕ × ℕ
           entry = slice_index_or sorted at ([], place)
+
           place_is : place ≡ entry.1
           place_is = here ∙ row_at at ([], place) within
+
           got : slice_get names place ≡ Some entry.0
           got = ap (slice_get names) place_is ∙ are_entries at ([], place) within
+
           name_is : entry.0 ≡ name
           name_is = (bytes_eq-Decides entry.0 name).0 (sym (ap (λ o. is_name o name) got) ∙ passes)
+
           named : slice_get names place ≡ Some name
           named = got ∙ ap Some name_is
+
           is_entry : entry ≡ (name, place)
           is_entry = ap₂ (λ n p. (n, p)) name_is (sym place_is)
+
           clash : (j : ℕ) → j < place → Later j → ⊥
           clash j before it =
               let same = get_or_default sorted at (name, j) ([], place) within ∙ is_entry in
@@ -209,6 +216,7 @@ module _ (names : List (List ℕ)) (name : List ℕ) where
         where
           within : at < length sorted
           within = rw same_length at lt
+
           clash : (j : ℕ) → Later j → ⊥
           clash j it =
               let e = slice_index_or sorted at (name, j) in
@@ -255,5 +263,5 @@ row_made view names es ordered with_places moved up row are = record {
   sorted = map view ordered;
   all = subst (λ ps. IsPermutation ps (map view ordered)) with_places (IsPermutation-map view es ordered moved);
   rises = rises_as_seen view ordered up;
-  are = are ∙ sym (map-map (λ (e : List ℕ × ℕ). e.1) view ordered)
+  are = are ∙ sym (map-map (λ (e : List ℕ × ℕ). e.1) view ordered);
 }

@@ -5,7 +5,7 @@ ghost use Rattle.std.specs.Option.{option_copied, option_map};
 ghost use Rattle.bz_model.specs.Names.{external, port_number, port_name, port_sense, channel, numbered};
 
 use crate::channel::Chan;
-use crate::name_set::NameSet;
+use crate::name_row::NameRow;
 use bz_arena::{Arena, Id};
 use std::alloc::{AllocError, Global};
 use std::marker::Model;
@@ -21,8 +21,8 @@ pub struct Port {
 pub struct Names {
     ports: Vec<Port>,
     chans: Arena<Chan>,
-    // The names of the ports in order, by which they are found.
-    index: Option<NameSet>,
+    // The names of the ports, by which they are found.
+    index: Option<NameRow>,
 }
 
 // By hand, so that who lets one go has one call to show and not all its parts.
@@ -116,18 +116,21 @@ impl Names {
     }
 }
 
-// The names of ports in order, `None` where two are alike or there is no memory for them: then ports are looked for one by one.
-fn index_of(alloc: Global, ports: &[Port]) -> Option<NameSet>
+// The names of ports in a row, `None` where there is no memory for it: then ports are looked for one by one.
+fn index_of(alloc: Global, ports: &[Port]) -> Option<NameRow>
     ensures { IfSome result (λ names. names ≡ map (λ p. p.name.items) ports.now) }
 {
-    let mut names = NameSet::new(alloc);
+    NameRow::new(alloc, names_of(alloc, ports).ok()?).ok()
+}
+
+fn names_of(alloc: Global, ports: &[Port]) -> Result<Vec<Vec<u8>>, AllocError>
+    ensures { IfOk result (λ v. map (λ name. name.items) v.items ≡ map (λ p. p.name.items) ports.now) }
+{
+    let mut names = Vec::with_capacity(alloc, ports.len())?;
     for port in ports {
-        match names.insert(alloc, port.name.as_slice()) {
-            Ok(true) => {}
-            _ => return None,
-        }
+        names.push(Vec::from_slice(alloc, &port.name)?)?;
     }
-    Some(names)
+    Ok(names)
 }
 
 /// The same ports.
@@ -160,7 +163,7 @@ pub fn dup_chans(alloc: Global, chans: &Arena<Chan>) -> Result<Arena<Chan>, Allo
 }
 
 // The number of a name among names, counted from 1.
-fn number_among(names: &NameSet, name: &[u8]) -> Option<u32>
+fn number_among(names: &NameRow, name: &[u8]) -> Option<u32>
     requires { length names.now < 2 ^ 32 }
     ensures { result ≡ option_map suc (position (bytes_eq name.now) names.now) }
 {

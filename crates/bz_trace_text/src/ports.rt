@@ -9,7 +9,7 @@ ghost use Rattle.bz_trace_text.specs.Reading.{HasNoSpace, Reads, form_of, strip,
 use crate::numeral::Numeral;
 use crate::reading::strip;
 use crate::spelled::Spelled;
-use bz_model::{NameSet, Names, Port};
+use bz_model::{NameRow, Names, Port};
 use bz_text::{NameForm, hex_digit, is_plain};
 use std::alloc::Global;
 use std::marker::Model;
@@ -18,8 +18,8 @@ use std::marker::Model;
 #[derive(Drop)]
 pub struct LineNames<'a> {
     names: &'a Names,
-    // The forms of the ports' names in order, by which they are found.
-    forms: Option<NameSet>,
+    // The forms of the ports' names, by which they are found.
+    forms: Option<NameRow>,
     spelled: Spelled,
 }
 
@@ -69,22 +69,16 @@ impl<'a> LineNames<'a> {
     }
 }
 
-// The forms of the names of ports in order, `None` where two are alike or there is no memory for them: then ports are looked
-// for one by one.
-fn forms_of(alloc: Global, ports: &[Port]) -> Option<NameSet>
+// The forms of the names of ports in a row, `None` where there is no memory for it: then ports are looked for one by one.
+fn forms_of(alloc: Global, ports: &[Port]) -> Option<NameRow>
     ensures { IfSome result (λ forms. forms ≡ map form_of (map external ports.now)) }
 {
-    let mut forms = NameSet::new(alloc);
+    let mut forms = Vec::with_capacity(alloc, ports.len()).ok()?;
     for port in ports {
-        let Ok(form) = format!(in alloc; "{}", NameForm(&port.name)) else {
-            return None;
-        };
-        match forms.insert(alloc, form.as_bytes()) {
-            Ok(true) => {}
-            _ => return None,
-        }
+        let form = format!(in alloc; "{}", NameForm(&port.name)).ok()?;
+        forms.push(form.into_bytes()).ok()?;
     }
-    Some(forms)
+    NameRow::new(alloc, forms).ok()
 }
 
 /// What follows a byte of a name, in its form.
@@ -137,7 +131,7 @@ pub(crate) fn port_at<'a>(names: &LineNames, text: &'a [u8]) -> Option<(u32, &'a
 }
 
 // The same by the forms of all ports.
-fn port_by_form<'a>(forms: &NameSet, ports: &[Port], text: &'a [u8]) -> Option<(u32, &'a [u8])>
+fn port_by_form<'a>(forms: &NameRow, ports: &[Port], text: &'a [u8]) -> Option<(u32, &'a [u8])>
     requires few { length ports.now < 2 ^ 32 }
     requires forms { forms.now ≡ map form_of (map external ports.now) }
     ensures { Reads (λ r. (r.0, r.1.now)) result (port_from 1 (map external ports.now) text.now) }

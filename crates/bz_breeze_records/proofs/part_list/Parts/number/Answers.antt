@@ -1,5 +1,5 @@
 use Rattle.std.proofs.Common.{◌∙◌, ap, sym, bytes_eq, position}
-use Rattle.bz_model.proofs.NameSets.{position-map}
+use Rattle.bz_model.proofs.Positions.{position-map}
 use Rattle.bz_breeze_records.proofs.Finding.{none_plain}
 use Rattle.bz_breeze_records.proofs.part_list.Parts.number.Goals as goal
 

@@ -1,7 +1,7 @@
 use Rattle.std.proofs.Common.{◌∙◌, ap, sym, not, bytes_eq}
 use Rattle.std.specs.List.{list_any}
-use Rattle.bz_model.proofs.NameSets.{list_any-map}
-use Rattle.bz_model.proofs.name_set.NameSet.insert.Goals as goal
+use Rattle.bz_breeze.proofs.NameSets.{list_any-map}
+use Rattle.bz_breeze.proofs.name_set.NameSet.insert.Goals as goal
 
 pub returns-clause-new : goal.returns-clause-new
 returns-clause-new c =

@@ -1,6 +1,6 @@
-//! Names in the order in which they came.
+//! Names that are seen for the first time, or were seen before.
 
-ghost use Rattle.std.specs.Prelude.{◌≡◌, ◌<◌, [], ◌∷◌, ◌++◌, length, not, position, bytes_eq, if◌then◌else◌, IfOk, IfSome, OnErr};
+ghost use Rattle.std.specs.Prelude.{◌≡◌, [], ◌∷◌, ◌++◌, not, bytes_eq, if◌then◌else◌, IfOk, OnErr};
 ghost use Rattle.std.specs.List.{list_any};
 
 use indexmap::IndexSet;
@@ -44,13 +44,5 @@ impl NameSet {
         let name = Vec::from_slice(alloc, name)?;
         let new = self.names.insert(name)?;
         Ok(new)
-    }
-
-    /// The place of a name among the names, counted from 0.
-    pub fn place(&self, name: &[u8]) -> Option<usize>
-        ensures place { result ≡ position (bytes_eq name.now) self.now }
-        ensures within { IfSome result (λ n. n < length self.now) }
-    {
-        self.names.get_index_of(name)
     }
 }
