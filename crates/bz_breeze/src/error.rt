@@ -72,7 +72,7 @@ impl<T: Drop> From<AllocFailed<T>> for BreezeError {
 }
 
 /// The faults of a netlist.
-#[derive(Clone, Copy, Debug, PartialEq, Eq)]
+#[derive(Clone, Copy, PartialEq, Eq)]
 pub(crate) enum Code {
     BadForm,
     DoublePart,
@@ -97,7 +97,7 @@ impl Code {
 }
 
 /// Why a form names nothing: a fault at a byte of the text, or a want of memory.
-#[derive(Clone, Copy, Debug, PartialEq, Eq)]
+#[derive(Clone, Copy, PartialEq, Eq)]
 pub(crate) enum Refusal {
     At(Code, usize),
     NoMemory,

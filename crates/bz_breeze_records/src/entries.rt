@@ -7,7 +7,7 @@ use crate::part::Slot;
 use std::marker::Model;
 
 /// Entries in a row, which take no memory of their own where there is one.
-#[derive(Debug, Drop)]
+#[derive(Drop)]
 pub struct Entries {
     held: HeldSlots,
 }

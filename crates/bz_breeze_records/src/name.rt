@@ -10,7 +10,7 @@ use std::marker::Model;
 const ROOM: usize = 24;
 
 /// A name, which takes no memory of its own where it has at most 24 bytes.
-#[derive(Debug, Drop)]
+#[derive(Drop)]
 pub struct Name {
     held: Held,
 }

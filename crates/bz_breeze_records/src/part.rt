@@ -5,7 +5,7 @@ use crate::name::Name;
 use bz_model::{Chan, Param, Port};
 
 /// A part: its external ports are its first channels, in order.
-#[derive(Debug, PartialEq, Eq, Drop)]
+#[derive(PartialEq, Eq, Drop)]
 pub struct Part {
     pub name: Vec<u8>,
     pub ports: Vec<Port>,
@@ -14,7 +14,7 @@ pub struct Part {
 }
 
 /// A component of a part, by the name of its kind or of a part, with its parameters and its channels.
-#[derive(Debug, PartialEq, Eq, Drop)]
+#[derive(PartialEq, Eq, Drop)]
 pub struct Component {
     pub name: Name,
     pub params: Vec<Param>,

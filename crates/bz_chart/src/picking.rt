@@ -8,7 +8,7 @@ use bz_words::read_name;
 use std::alloc::{AllocError, Global};
 
 /// What is picked of a net.
-#[derive(Clone, Copy, Debug, PartialEq, Eq)]
+#[derive(Clone, Copy, PartialEq, Eq)]
 pub struct Picked<'a> {
     /// Components by their numbers, channels by `k` and their numbers, and ports by their names in name form, with commas between.
     pub words: Option<&'a str>,
@@ -17,7 +17,7 @@ pub struct Picked<'a> {
 }
 
 /// Why nothing is picked.
-#[derive(Clone, Copy, Debug)]
+#[derive(Clone, Copy)]
 pub(crate) enum Unpicked {
     /// The word of this number names nothing of the net.
     NoWord(usize),

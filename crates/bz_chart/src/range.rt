@@ -16,7 +16,7 @@ pub(crate) const MOST_ROWS: usize = 2000;
 
 /// The lines that are asked for, counted from 1: from the second one on where no first one is named, since the first line of a
 /// trace names its version and has no row; to the end where no last one is.
-#[derive(Clone, Copy, Debug, PartialEq, Eq)]
+#[derive(Clone, Copy, PartialEq, Eq)]
 pub struct LineRange {
     pub from: Option<usize>,
     pub to: Option<usize>,
@@ -25,7 +25,7 @@ pub struct LineRange {
 }
 
 /// Why the lines that are asked for are not drawn.
-#[derive(Clone, Copy, Debug, PartialEq, Eq)]
+#[derive(Clone, Copy, PartialEq, Eq)]
 pub enum PieceFault {
     /// The first line is behind the last.
     Above {

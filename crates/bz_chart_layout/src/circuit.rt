@@ -16,7 +16,7 @@ use bz_model::{Chan, ChanKind, Names, node_of, numbered};
 use std::marker::Model;
 
 /// What stands on a line of its own: an external port, or a component, by its number.
-#[derive(Clone, Copy, Debug, PartialEq, Eq)]
+#[derive(Clone, Copy, PartialEq, Eq)]
 pub enum Lifeline {
     Port(u32),
     Comp(u32),

@@ -9,7 +9,7 @@ use bz_trace_text::{LineNames, clash_at, line_at};
 
 /// One of the four moves of a handshake, on a channel, by the lifeline that makes it. Without another one at the channel's
 /// other end, `other` is the same.
-#[derive(Clone, Copy, Debug, PartialEq, Eq)]
+#[derive(Clone, Copy, PartialEq, Eq)]
 pub struct Step {
     pub mv: Move,
     pub chan: u32,
@@ -19,7 +19,7 @@ pub struct Step {
 }
 
 /// How a host is told no.
-#[derive(Clone, Copy, Debug, PartialEq, Eq)]
+#[derive(Clone, Copy, PartialEq, Eq)]
 pub enum Denial {
     NotYet,
     Busy,
@@ -27,7 +27,7 @@ pub enum Denial {
 }
 
 /// What a line tells.
-#[derive(Clone, Copy, Debug, PartialEq, Eq)]
+#[derive(Clone, Copy, PartialEq, Eq)]
 pub enum Event {
     Moved(Step),
     /// A host has looked at a port.
@@ -40,7 +40,7 @@ pub enum Event {
 }
 
 /// A line of the trace.
-#[derive(Clone, Copy, Debug)]
+#[derive(Clone, Copy)]
 pub struct Line<'a> {
     /// Its number, from 1.
     pub number: usize,

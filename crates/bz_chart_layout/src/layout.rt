@@ -4,7 +4,7 @@ ghost use Rattle.std.specs.Prelude.{◌≡◌, ◌<◌, ◌^◌};
 ghost use Rattle.bz_chart_layout.specs.Layout.{HasRoom, bands, bottom, column, gutter, height, legend_columns, numbers, right, row, sign_column, sign_row, width};
 
 /// What the places of a chart go by.
-#[derive(Clone, Copy, Debug, PartialEq, Eq)]
+#[derive(Clone, Copy, PartialEq, Eq)]
 pub struct Layout {
     /// How many lines of the trace are shown.
     pub rows: u32,

@@ -8,7 +8,7 @@ use std::io;
 use std::rt::Env;
 
 /// Why the words of the command line can't be had.
-#[derive(Clone, Copy, Debug, PartialEq, Eq)]
+#[derive(Clone, Copy, PartialEq, Eq)]
 pub enum ArgsFault {
     /// One of them is not UTF-8.
     NotText,

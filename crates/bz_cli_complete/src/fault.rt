@@ -7,7 +7,7 @@ use bz_cli_input::Fault;
 use std::fmt;
 
 /// Why no trace is made of a short one.
-#[derive(Debug, Drop)]
+#[derive(Drop)]
 pub enum CompleteFault {
     /// The netlist is refused, a reader or the writer failed, or memory was refused.
     Command(Fault),

@@ -20,14 +20,14 @@ use bz_trace_text::Outgoing;
 use std::io::Write;
 
 /// Where a play stopped: at an event of this word, counted from 1, that the net refused.
-#[derive(Clone, Copy, Debug, PartialEq, Eq)]
+#[derive(Clone, Copy, PartialEq, Eq)]
 pub struct Stop {
     pub word: usize,
     pub error: NetError,
 }
 
 /// Where a strict play halted: at this word, counted from 1, a host command whose reply is a refusal.
-#[derive(Clone, Copy, Debug, PartialEq, Eq)]
+#[derive(Clone, Copy, PartialEq, Eq)]
 pub struct Halt {
     pub word: usize,
     pub reply: Reply,

@@ -18,7 +18,7 @@ use std::fmt;
 const MOST_NAMES: usize = 10;
 
 /// Why a command failed. A want of memory is `Memory`, whichever layer met it.
-#[derive(Debug, Drop)]
+#[derive(Drop)]
 pub enum Fault {
     /// A word that is none, counted from 1.
     Word(usize),

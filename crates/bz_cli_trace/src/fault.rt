@@ -7,7 +7,7 @@ use bz_cli_input::Fault;
 use std::fmt;
 
 /// Why a command makes nothing of a trace. `C` is what the command itself adds.
-#[derive(Debug, Drop)]
+#[derive(Drop)]
 pub enum TraceFault<C> {
     /// The netlist is refused, a reader or the writer failed, or memory was refused.
     Command(Fault),

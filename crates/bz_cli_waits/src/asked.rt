@@ -6,7 +6,7 @@ ghost use Rattle.bz_cli_waits.specs.Asking.{IsLine, IsNone};
 use std::fmt;
 
 /// What is asked for of a run.
-#[derive(Clone, Copy, Debug, PartialEq, Eq)]
+#[derive(Clone, Copy, PartialEq, Eq)]
 pub struct WaitsAsked {
     /// The line behind which it is asked for, counted from 1: the last of the trace where none is named.
     pub line: Option<usize>,
@@ -15,7 +15,7 @@ pub struct WaitsAsked {
 }
 
 /// Why nothing is told of a run.
-#[derive(Clone, Copy, Debug, PartialEq, Eq)]
+#[derive(Clone, Copy, PartialEq, Eq)]
 pub enum WaitsFault {
     /// The line isn't there.
     NoLine { line: usize, lines: usize },

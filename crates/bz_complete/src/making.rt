@@ -19,7 +19,7 @@ pub(crate) const WORKER: Who = Who::Worker(1);
 const HOST: Who = Who::Host(1);
 
 /// Who makes a move of a short trace.
-#[derive(Clone, Copy, Debug, PartialEq, Eq)]
+#[derive(Clone, Copy, PartialEq, Eq)]
 pub enum Maker {
     /// The component at the channel's end, at this port of it.
     Comp { comp: u32, port: u32 },

@@ -13,7 +13,7 @@ use std::alloc::{AllocError, AllocFailed, Global};
 use std::str;
 
 /// Why a text is no short trace.
-#[derive(Clone, Copy, Debug, PartialEq, Eq)]
+#[derive(Clone, Copy, PartialEq, Eq)]
 pub enum ShortFault {
     /// The line of this number, from 1, is none of a short trace.
     Bad(usize),

@@ -17,7 +17,7 @@ pub struct Report<'r> {
 }
 
 /// How many there are, and how many of them were exercised.
-#[derive(Clone, Copy, Debug, PartialEq, Eq)]
+#[derive(Clone, Copy, PartialEq, Eq)]
 pub(crate) struct Share {
     pub all: usize,
     pub exercised: usize,

@@ -4,7 +4,7 @@ use bz_flat::FlatComp;
 use bz_model::Kind;
 
 /// Ports of a component that follow one another, by number.
-#[derive(Clone, Copy, Debug, PartialEq, Eq)]
+#[derive(Clone, Copy, PartialEq, Eq)]
 pub(crate) struct Ports {
     pub first: u32,
     pub last: u32,

@@ -15,7 +15,7 @@ use bz_source::Places;
 use std::alloc::{AllocError, Global};
 
 /// What an edge ends at.
-#[derive(Clone, Copy, Debug, PartialEq, Eq)]
+#[derive(Clone, Copy, PartialEq, Eq)]
 pub enum Tip {
     /// An external port.
     Port(u32),
@@ -26,7 +26,7 @@ pub enum Tip {
 }
 
 /// A channel that is drawn, from its active to its passive end.
-#[derive(Clone, Copy, Debug, PartialEq, Eq)]
+#[derive(Clone, Copy, PartialEq, Eq)]
 pub struct Edge {
     pub chan: u32,
     pub from: Tip,

@@ -6,7 +6,7 @@ use std::fmt;
 pub(crate) const MOST_DRAWN: usize = 5000;
 
 /// Why nothing is drawn of a net.
-#[derive(Clone, Copy, Debug, PartialEq, Eq)]
+#[derive(Clone, Copy, PartialEq, Eq)]
 pub enum NoDrawing {
     /// The net has no component of this number, but so many.
     NoComponent { comp: u32, comps: usize },
@@ -29,7 +29,7 @@ impl fmt::Display for NoDrawing {
 }
 
 /// Why nothing is drawn of a net behind a line of a trace.
-#[derive(Clone, Copy, Debug, PartialEq, Eq)]
+#[derive(Clone, Copy, PartialEq, Eq)]
 pub enum NoMoment {
     /// The trace has no such line, but so many.
     NoLine { line: usize, lines: usize },

@@ -10,7 +10,7 @@ use bz_net::Core;
 use bz_source::Survey;
 
 /// Which part of a net is drawn.
-#[derive(Clone, Copy, Debug, PartialEq, Eq)]
+#[derive(Clone, Copy, PartialEq, Eq)]
 pub enum View {
     /// All of it, with instances within so many others as boxes. Where no depth is named, it is the greatest at which at most
     /// 300 components and boxes are drawn, or else 0.

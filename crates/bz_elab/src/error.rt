@@ -12,14 +12,14 @@ use std::alloc::{AllocError, AllocFailed};
 
 /// Where a component stands: the place of its part in the list of parts, counted from 0, and its position in that part,
 /// counted from 1.
-#[derive(Clone, Copy, Debug, PartialEq, Eq)]
+#[derive(Clone, Copy, PartialEq, Eq)]
 pub struct CompAt {
     pub part: usize,
     pub position: usize,
 }
 
 /// What is wrong with one component of a part.
-#[derive(Clone, Copy, Debug, PartialEq, Eq)]
+#[derive(Clone, Copy, PartialEq, Eq)]
 pub enum Fault {
     UnknownComponent,
     BadParameter,

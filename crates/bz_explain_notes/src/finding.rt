@@ -13,7 +13,7 @@ use std::alloc::Global;
 use std::io::Write;
 
 /// What a finding says of the netlist.
-#[derive(Clone, Copy, Debug, PartialEq, Eq)]
+#[derive(Clone, Copy, PartialEq, Eq)]
 pub enum Severity {
     /// It is refused.
     Fault,

@@ -50,7 +50,7 @@ pub enum NoFile {
 }
 
 /// How a session ended.
-#[derive(Clone, Copy, Debug, PartialEq, Eq)]
+#[derive(Clone, Copy, PartialEq, Eq)]
 pub enum Ending {
     /// Each line was followed, and each reply was as expected.
     Well,
@@ -82,7 +82,7 @@ impl Ending {
 }
 
 /// How answers are written.
-#[derive(Clone, Copy, Debug, PartialEq, Eq)]
+#[derive(Clone, Copy, PartialEq, Eq)]
 pub enum Manner {
     /// Behind prompts, at a terminal.
     Prompted,
@@ -92,7 +92,7 @@ pub enum Manner {
 }
 
 /// What else there is for which a session doesn't begin behind a trace: nothing.
-#[derive(Clone, Copy, Debug, PartialEq, Eq)]
+#[derive(Clone, Copy, PartialEq, Eq)]
 pub struct NoOther;
 
 impl fmt::Display for NoOther {

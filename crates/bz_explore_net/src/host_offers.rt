@@ -10,7 +10,7 @@ use bz_net::Net;
 use std::alloc::{AllocError, Global};
 
 /// A word that the host may give at an external port.
-#[derive(Clone, Copy, Debug, PartialEq, Eq)]
+#[derive(Clone, Copy, PartialEq, Eq)]
 pub struct HostOffer {
     pub verb: Verb,
     pub port: u32,

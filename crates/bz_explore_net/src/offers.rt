@@ -10,7 +10,7 @@ use bz_net::Net;
 use std::alloc::{AllocError, Global};
 
 /// A move that a component can make at a port, on this channel and with this value.
-#[derive(Clone, Copy, Debug, PartialEq, Eq)]
+#[derive(Clone, Copy, PartialEq, Eq)]
 pub struct Offer {
     pub comp: u32,
     pub port: u32,

@@ -13,7 +13,7 @@ use std::marker::Model;
 const STREAM: u64 = 54;
 
 /// What is picked by: the seed, and how far the picking is.
-#[derive(Clone, Copy, Debug, PartialEq, Eq)]
+#[derive(Clone, Copy, PartialEq, Eq)]
 pub struct Picker {
     seed: u64,
     state: u64,

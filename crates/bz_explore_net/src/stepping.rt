@@ -31,7 +31,7 @@ const WORKER: Who = Who::Worker(1);
 const HOST: Who = Who::Host(1);
 
 /// A command that added entries, and how all was before it.
-#[derive(Debug, Drop)]
+#[derive(Drop)]
 pub struct Mark {
     pub command: Vec<u8>,
     /// How many entries the journal had.
@@ -41,7 +41,7 @@ pub struct Mark {
 }
 
 /// Why nothing is taken back.
-#[derive(Clone, Copy, Debug, PartialEq, Eq)]
+#[derive(Clone, Copy, PartialEq, Eq)]
 pub enum UndoError {
     /// There are fewer commands.
     TooFew,

@@ -10,13 +10,13 @@ use std::ops::DerefSlice;
 pub const CHANS_IN_PLACE: usize = 6;
 
 /// Numbers of channels in a row, which take no memory of their own where there are at most six.
-#[derive(Debug, Drop)]
+#[derive(Drop)]
 pub struct ChanList {
     held: HeldChans,
 }
 
 /// Where the numbers are.
-#[derive(Debug, Drop)]
+#[derive(Drop)]
 pub(crate) enum HeldChans {
     Few {
         chans: [u32; CHANS_IN_PLACE],

@@ -15,7 +15,7 @@ use std::marker::Model;
 
 /// A component of the net: its kind, the lengths of its arrays in the row's order (0 where there is none), and its
 /// channels in the order of its ports.
-#[derive(Debug, Drop)]
+#[derive(Drop)]
 pub struct FlatComp {
     pub kind: Kind,
     pub sizes: [u32; 2],
@@ -24,7 +24,7 @@ pub struct FlatComp {
 
 /// The components at the two ends of a channel, counted from 1, `None` where no component stands, and their ports there,
 /// counted from 1, 0 where there is none.
-#[derive(Clone, Copy, Debug, PartialEq, Eq)]
+#[derive(Clone, Copy, PartialEq, Eq)]
 pub struct Ends {
     pub active: Option<u32>,
     pub passive: Option<u32>,

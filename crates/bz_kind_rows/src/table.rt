@@ -10,7 +10,7 @@ ghost use Rattle.bz_kind_rows.specs.Table.{seen, seen_at, port_in, numbered_port
 use bz_model::{Chan, ChanKind, Kind, MAX_MEMBERS, MAX_WIDTH, width};
 
 /// A port of a kind: its name, what its channel carries, whether it is the passive end, and whether it is an array of ports.
-#[derive(Clone, Copy, Debug, PartialEq, Eq)]
+#[derive(Clone, Copy, PartialEq, Eq)]
 pub struct PortRow {
     pub name: &'static str,
     pub kind: ChanKind,

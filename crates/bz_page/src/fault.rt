@@ -3,7 +3,7 @@
 use std::fmt;
 
 /// The net has more components than a page holds.
-#[derive(Clone, Copy, Debug, PartialEq, Eq)]
+#[derive(Clone, Copy, PartialEq, Eq)]
 pub struct TooLarge {
     pub comps: usize,
 }

@@ -3,7 +3,7 @@
 use bz_model::{Verb, Who};
 
 /// A session runs, or waits for an answer to a command at a port, or has ended.
-#[derive(Clone, Copy, Debug, PartialEq, Eq)]
+#[derive(Clone, Copy, PartialEq, Eq)]
 pub enum Standing {
     Running,
     Waiting(Verb, u32),

@@ -8,7 +8,7 @@ use crate::bytes::between;
 
 /// A datum of a text: the bytes `from..to` that spell it, how many of the nodes behind it stand for data in it, and how
 /// many data are in it.
-#[derive(Clone, Copy, Debug, PartialEq, Eq)]
+#[derive(Clone, Copy, PartialEq, Eq)]
 pub(crate) struct Node {
     pub(crate) from: u32,
     pub(crate) to: u32,

@@ -36,7 +36,7 @@ impl Drop for Since {
 }
 
 /// Why the line is not known.
-#[derive(Clone, Copy, Debug, PartialEq, Eq)]
+#[derive(Clone, Copy, PartialEq, Eq)]
 pub enum NoSince {
     /// It is no trace, or none of a run, or has more entries than the net lets in.
     NotRun,

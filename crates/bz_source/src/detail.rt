@@ -15,7 +15,7 @@ use bz_text::{Piece, WriteFault, put_pieces};
 use std::io::Write;
 
 /// What the parameters of a component say, beside the name of a variable.
-#[derive(Clone, Copy, Debug)]
+#[derive(Clone, Copy)]
 pub enum Detail<'a> {
     /// An operation, or a specification.
     Word(&'a [u8]),

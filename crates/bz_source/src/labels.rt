@@ -25,7 +25,7 @@ const COMPONENT_FIELDS: usize = 4;
 const MOST_LINE: u128 = 4_294_967_295;
 
 /// Of the records of a part, in order: what its channels are called, and where its channels and components come from.
-#[derive(Debug, Drop)]
+#[derive(Drop)]
 pub struct Labels {
     pub names: Vec<Option<Vec<u8>>>,
     pub channels: Vec<Option<SourceMark>>,
@@ -33,7 +33,7 @@ pub struct Labels {
 }
 
 /// A place in a compiler's source, as it is kept: records of one file that follow one another share its name.
-#[derive(Debug, Drop)]
+#[derive(Drop)]
 pub struct SourceMark {
     pub file: Rc<Vec<u8>>,
     pub line: u32,
@@ -41,7 +41,7 @@ pub struct SourceMark {
 }
 
 /// A place in a compiler's source.
-#[derive(Clone, Copy, Debug)]
+#[derive(Clone, Copy)]
 pub struct SourceAt<'a> {
     pub file: &'a [u8],
     pub line: u32,
@@ -49,7 +49,7 @@ pub struct SourceAt<'a> {
 }
 
 /// What a channel or a component of a net is called, and where it comes from.
-#[derive(Clone, Copy, Debug)]
+#[derive(Clone, Copy)]
 pub struct Label<'a> {
     pub name: Option<&'a [u8]>,
     pub source: Option<SourceAt<'a>>,

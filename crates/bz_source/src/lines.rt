@@ -14,7 +14,7 @@ use std::alloc::{AllocError, Global};
 
 /// The lines, counted from 1, at which the records of a part begin: its own, those of its channels and of its components, in
 /// order. And what these records say of names and of a source.
-#[derive(Debug, Drop)]
+#[derive(Drop)]
 pub struct PartLines {
     pub part: usize,
     pub channels: Vec<usize>,

@@ -7,7 +7,7 @@ ghost use Rattle.bz_source.specs.Views.{path_at_of};
 use std::alloc::{AllocError, Global};
 
 /// Where a component, a channel or an instance of a net stands.
-#[derive(Debug, PartialEq, Eq, Drop)]
+#[derive(PartialEq, Eq, Drop)]
 pub struct PathAt {
     /// The number of the part whose text it is in, counted from 0 in the order of the text.
     pub part: usize,
@@ -18,7 +18,7 @@ pub struct PathAt {
 }
 
 /// What the walk meets.
-#[derive(Debug, Drop)]
+#[derive(Drop)]
 pub(crate) enum Find {
     Channel(PathAt),
     Component(PathAt),

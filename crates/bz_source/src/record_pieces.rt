@@ -5,14 +5,14 @@ use bz_sexpr::{Form, Forms};
 use std::alloc::{AllocError, Global};
 
 /// The bytes `from..to` of a text, which spell a record. A text that is taken has fewer than 2^32.
-#[derive(Clone, Copy, Debug)]
+#[derive(Clone, Copy)]
 pub(crate) struct RecordPiece {
     pub from: u32,
     pub to: u32,
 }
 
 /// The pieces of the records of a part: of its channels and of its components, in order.
-#[derive(Debug, Drop)]
+#[derive(Drop)]
 pub struct PartPieces {
     pub(crate) channels: Vec<RecordPiece>,
     pub(crate) components: Vec<RecordPiece>,

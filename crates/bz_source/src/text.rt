@@ -17,7 +17,7 @@ use bz_text::{Piece, WriteFault, put_pieces};
 use std::io::Write;
 
 /// Where a record stands, as a text tells it.
-#[derive(Clone, Copy, Debug)]
+#[derive(Clone, Copy)]
 pub struct LineAt<'a> {
     /// The name of its part.
     pub part: &'a [u8],

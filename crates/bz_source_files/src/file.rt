@@ -8,7 +8,7 @@ ghost use Rattle.bz_source_files.specs.Lines.{lines_of};
 use crate::lines::cut_line;
 
 /// A file of a compiler's source, by the name under which it was read.
-#[derive(Debug, Drop)]
+#[derive(Drop)]
 pub struct SourceFile {
     pub name: Vec<u8>,
     pub text: Vec<u8>,

@@ -11,7 +11,7 @@ use std::io::Write;
 
 /// A name, shown in its name form: printable ASCII but `%` and `:` as it is, every other byte as `%` and two upper-case
 /// hexadecimal digits, and the empty name as `%`.
-#[derive(Clone, Copy, Debug)]
+#[derive(Clone, Copy)]
 pub struct NameForm<'a>(pub &'a [u8]);
 
 impl fmt::Display for NameForm<'_> {

@@ -20,7 +20,7 @@ use bz_trace_text::{
 use std::alloc::Global;
 
 /// What is said of a text.
-#[derive(Clone, Copy, Debug, PartialEq, Eq)]
+#[derive(Clone, Copy, PartialEq, Eq)]
 pub enum Verdict {
     /// It is the trace of a run.
     Run,

@@ -34,7 +34,7 @@ const PIECE: usize = 65_536;
 const FIRST_LINE: usize = 8;
 
 /// Why a trace could not be read.
-#[derive(Clone, Copy, Debug, PartialEq, Eq)]
+#[derive(Clone, Copy, PartialEq, Eq)]
 pub enum ReadFault {
     Read,
     /// A line is too long to be held, or the lines behind the last entry are.

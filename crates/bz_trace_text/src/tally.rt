@@ -7,7 +7,7 @@ ghost use Rattle.bz_trace_text.specs.Counting.{AreFewer, Tells};
 use bz_model::Entry;
 
 /// How many firings, host commands and rests.
-#[derive(Clone, Copy, Debug, PartialEq, Eq)]
+#[derive(Clone, Copy, PartialEq, Eq)]
 pub struct Counts {
     pub fired: usize,
     pub host: usize,

@@ -17,7 +17,7 @@ use thiserror::Error;
 pub const MAX_ENTRIES: usize = 16_777_216;
 
 /// A version of the text: the second has a line for each clash, behind the entries.
-#[derive(Clone, Copy, Debug, PartialEq, Eq)]
+#[derive(Clone, Copy, PartialEq, Eq)]
 pub enum Version {
     One,
     Two,

@@ -17,7 +17,7 @@ const UNNAMED: Label<'static> = Label {
 };
 
 /// A place in a text, line and column counted from 1. A column is a byte.
-#[derive(Clone, Copy, Debug, PartialEq, Eq)]
+#[derive(Clone, Copy, PartialEq, Eq)]
 pub struct Spot {
     pub line: usize,
     pub column: usize,

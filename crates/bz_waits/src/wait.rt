@@ -11,7 +11,7 @@ use bz_model::{Move, Phase};
 use bz_net::Core;
 
 /// What a component that can't move waits for at one of its ports, or that it has halted. Components and channels count from 1.
-#[derive(Clone, Copy, Debug, PartialEq, Eq)]
+#[derive(Clone, Copy, PartialEq, Eq)]
 pub struct Wait {
     pub comp: u32,
     /// The channel on which something has to come, or on which a component that has halted owes a reply.
@@ -25,7 +25,7 @@ pub struct Wait {
 }
 
 /// For whom a component waits.
-#[derive(Clone, Copy, Debug, PartialEq, Eq)]
+#[derive(Clone, Copy, PartialEq, Eq)]
 pub enum Whom {
     /// For nobody: it has halted.
     Nobody,
@@ -37,7 +37,7 @@ pub enum Whom {
 }
 
 /// How what a component waits for goes with what else it waits for.
-#[derive(Clone, Copy, Debug, PartialEq, Eq)]
+#[derive(Clone, Copy, PartialEq, Eq)]
 pub enum Place {
     /// It has to come in any case.
     Each,
