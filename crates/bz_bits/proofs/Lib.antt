@@ -1,6 +1,5 @@
 pub mod Rows
 pub mod States
-pub mod Scan
 pub mod Search
 pub mod Words
 pub mod Ones

@@ -194,16 +194,6 @@ module _ (w k : ℕ) (lt : k < 64) (fits : w < 2 ^ 64) where
       ap (λ (x : ℕ). bit_at x i) (past_is ∙ sym (add-zero (w / 2 ^ suc k * 2 ^ suc k))) ∙ bit_at_cat_high (w / 2 ^ suc k) (suc k) 0 i (pow_pos (suc k)) (omega (arith, lt))
       ∙ sym (bit_at_cat_high (w / 2 ^ suc k) (suc k) (w % 2 ^ suc k) i (mod_below w (2 ^ suc k) (pow_pos (suc k))) (omega (arith, lt))) ∙ ap (λ (x : ℕ). bit_at x i) (shr_split w (suc k))
 
--- a word of a row
-pub word_bits : (words : List ℕ) (n at i : ℕ) → IsRow words n → i < 64 → (bit_at (get_or words at 0) i == 1) ≡ get_or (bits words n) (64 * at + i) false
-word_bits words n at i row lt =
-    let k = 64 * at + i in let a : k / 64 ≡ at = omega arith in let b : k % 64 ≡ i = omega arith in
-    let here : bit_of words k ≡ bit_at (get_or words at 0) i = ap (λ (m : ℕ). bit_at (get_or words m 0) (k % 64)) a ∙ ap (bit_at (get_or words at 0)) b in
-    elim (cases_lt k n) [
-      | inl below ↦ ap (λ (x : ℕ). x == 1) (sym here) ∙ sym (get_or-bits words n k false below)
-      | inr past ↦ ap (λ (x : ℕ). x == 1) (sym here ∙ row.clear k past) ∙ sym (get_or_past (bits words n) k false (omega (arith, length-bits words n)))
-    ]
-
 -- a word that isn't 0 has a 1
 pub has_one : (words : List ℕ) (n at w : ℕ) → IsRow words n → w ≡ get_or words at 0 → HasOne (bits words n) at (not (nat_eq w 0))
 has_one words n at zero row is =

@@ -3,7 +3,7 @@ use Rattle.std.proofs.Common.{◌≡◌, ℕ, zero, suc, ◌+◌, ◌-◌, ◌*�
 use Rattle.std.specs.Int.{bit_at, from_bool}
 use Rattle.std.specs.Prelude.{bit_and}
 use Rattle.std.proofs.lemmas.Nat.Bits.{bit_at_and, bit_at-lt}
-use Rattle.bz_bits.specs.Ports.{state_of, states, agrees}
+use Rattle.bz_bits.specs.Ports.{state_of, states}
 
 pub length-states : (ls hs : List Bool) → length ls ≡ length hs → length (states ls hs) ≡ length ls
 length-states [] hs e = refl
@@ -35,25 +35,6 @@ of_halves (suc zero) lt = refl
 of_halves (suc (suc zero)) lt = refl
 of_halves (suc (suc (suc zero))) lt = refl
 of_halves (suc (suc (suc (suc s)))) lt = absurd (omega arith)
-
-pub matches : (s : ℕ) → s < 4 → (l h : Bool) → (agrees (s % 2 == 1) l && agrees (s / 2 == 1) h) ≡ (state_of l h == s)
-matches zero lt true true = refl
-matches zero lt true false = refl
-matches zero lt false true = refl
-matches zero lt false false = refl
-matches (suc zero) lt true true = refl
-matches (suc zero) lt true false = refl
-matches (suc zero) lt false true = refl
-matches (suc zero) lt false false = refl
-matches (suc (suc zero)) lt true true = refl
-matches (suc (suc zero)) lt true false = refl
-matches (suc (suc zero)) lt false true = refl
-matches (suc (suc zero)) lt false false = refl
-matches (suc (suc (suc zero))) lt true true = refl
-matches (suc (suc (suc zero))) lt true false = refl
-matches (suc (suc (suc zero))) lt false true = refl
-matches (suc (suc (suc zero))) lt false false = refl
-matches (suc (suc (suc (suc s)))) lt l h = absurd (omega arith)
 
 least : (x y : ℕ) → x < 2 → y < 2 → (min x y == 1) ≡ ((x == 1) && (y == 1))
 least zero zero xl yl = refl

@@ -1,9 +1,7 @@
 //! The states of a component's ports, two bits each.
-ghost use Rattle.std.specs.Prelude.{◌≡◌, ◌≢◌, ◌+◌, ◌*◌, ◌/◌, ◌==◌, ◌<◌, ◌≤◌, ℕ, Bool, length, replicate, slice_index, slice_index_or, slice_set, IfOk, false};
-ghost use Rattle.std.specs.Int.{bit_at};
-ghost use Rattle.bz_bits.specs.Ports.{agrees, IsNextIn};
+ghost use Rattle.std.specs.Prelude.{◌≡◌, ◌+◌, ◌*◌, ◌/◌, ◌==◌, ◌<◌, ℕ, length, replicate, slice_index, slice_set, IfOk};
 
-use crate::row::{BitRow, above};
+use crate::row::BitRow;
 use std::alloc::{AllocError, Allocator, Global};
 use std::marker::Model;
 
@@ -57,55 +55,4 @@ impl<A: Allocator + Copy> PortStates<A> {
         self.low.set(port, state % 2 == 1);
         self.high.set(port, state / 2 == 1);
     }
-
-    /// The first port at or above `from` that is in that state.
-    pub fn next_in(&self, state: u8, from: usize) -> Option<usize>
-        requires { state < 4 }
-        ensures { IsNextIn self.now state from result }
-    {
-        for at in from / 64..self.low.word_count() {
-            let found = self.matching_from(state, at, from);
-            if found != 0 {
-                let port = at * 64 + found.trailing_zeros() as usize;
-                if port < self.len() {
-                    return Some(port);
-                }
-                return None;
-            }
-        }
-        None
-    }
-
-    // The same from a place on, which lies in this word or before it.
-    fn matching_from(&self, state: u8, at: usize, from: usize) -> u64
-        requires small { state < 4 }
-        requires held { 64 * at < length self.now }
-        requires reached { from / 64 ≤ at }
-        ensures before { (i : ℕ) → 64 * at + i < from → bit_at result i ≡ 0 }
-        ensures rest { (i : ℕ) → i < 64 → from ≤ 64 * at + i → (bit_at result i == 1) ≡ (slice_index self.now (64 * at + i) == state) }
-    {
-        let word = self.matching(state, at);
-        if at == from / 64 {
-            return above(word, from % 64);
-        }
-        word
-    }
-
-    // The ports of one word that are in that state. Those past the end count as in state 0.
-    fn matching(&self, state: u8, at: usize) -> u64
-        requires small { state < 4 }
-        requires held { 64 * at < length self.now }
-        ensures { (i : ℕ) → i < 64 → (bit_at result i == 1) ≡ (slice_index self.now (64 * at + i) == state) }
-    {
-        let low = self.low.word(at);
-        let high = self.high.word(at);
-        equal_to(low, state % 2 == 1) & equal_to(high, state / 2 == 1)
-    }
-}
-
-// The places of `word` whose bit is the wanted one.
-fn equal_to(word: u64, wanted: bool) -> u64
-    ensures { (i : ℕ) → i < 64 → (bit_at result i == 1) ≡ agrees wanted (bit_at word i == 1) }
-{
-    if wanted { word } else { !word }
 }

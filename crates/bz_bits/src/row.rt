@@ -1,5 +1,5 @@
 //! A row of bits, in words of 64.
-ghost use Rattle.std.specs.Prelude.{◌≡◌, ◌+◌, ◌*◌, ◌/◌, ◌==◌, ◌^◌, ◌<◌, ◌≤◌, ℕ, true, false, length, replicate, slice_index_or, slice_set, IfOk, Some};
+ghost use Rattle.std.specs.Prelude.{◌≡◌, ◌+◌, ◌*◌, ◌/◌, ◌==◌, ◌<◌, ◌≤◌, ℕ, true, false, length, replicate, slice_index_or, slice_set, IfOk, Some};
 ghost use Rattle.std.specs.Int.{bit_at};
 ghost use Rattle.bz_bits.specs.Row.{bits, IsNext, IsNextAfter, IsNextInWord, HasOne};
 
@@ -154,23 +154,6 @@ impl<A: Allocator> BitRow<A> {
         ensures { HasOne self.now (place / 64) result }
     {
         self.words[place / 64] != 0
-    }
-
-    /// How many words there are.
-    pub(crate) fn word_count(&self) -> usize
-        ensures room { length self.now ≤ 64 * result }
-        ensures tight { 64 * result < length self.now + 64 }
-        ensures fits { length self.now < 2 ^ 64 }
-    {
-        self.words.len()
-    }
-
-    /// The 64 bits of one word, of which those past the end are 0.
-    pub(crate) fn word(&self, at: usize) -> u64
-        requires { 64 * at < length self.now }
-        ensures { (i : ℕ) → i < 64 → (bit_at result i == 1) ≡ slice_index_or self.now (64 * at + i) false }
-    {
-        self.words[at]
     }
 }
 

@@ -8,6 +8,5 @@ mod searching;
 mod set;
 
 pub use laws::what_is_stuck_stays;
-pub use looking::are_stuck;
 pub use rings::Link;
 pub use set::Stuck;

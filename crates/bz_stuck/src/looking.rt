@@ -1,4 +1,4 @@
-//! A look at a set of components: whether none of them can ever move again.
+//! A look at a set of components: the first that the others do not keep from moving.
 
 ghost use Rattle.std.specs.Prelude.{◌≡◌, ◌↔◌, ◌<◌, ◌≤◌, true, IsTrue, MatchBool, MatchOption, length};
 ghost use Rattle.bz_model.specs.Nets.{IsPort, chan_at};
@@ -8,17 +8,6 @@ ghost use Rattle.bz_stuck.specs.Stuck.{AreStuck, StuckAt, is_member};
 
 use bz_net::Core;
 use bz_waits::{chan_at, port_count};
-
-/// Whether the members of a set, the places of `true` in a row, can never move again.
-pub fn are_stuck(core: &Core, members: &[bool]) -> bool
-    ensures { MatchBool result (AreStuck core.now.wiring core.now.state (is_member members.now))
-        (AreStuck core.now.wiring core.now.state (is_member members.now) → ⊥) }
-{
-    match first_loose(core, members) {
-        Some(_) => false,
-        None => true,
-    }
-}
 
 /// The first member that is not kept from moving by the others.
 pub(crate) fn first_loose(core: &Core, members: &[bool]) -> Option<u32>

@@ -63,14 +63,6 @@ impl<'v> Shown<'v> {
         if passive { at_passive } else { active }
     }
 
-    /// Adds who is at an end of a channel: a component, or the host at the port.
-    pub(crate) fn put_holder(self, chan: u32, passive: bool, text: &mut Text) {
-        match self.end(chan, passive) {
-            Some(number) => self.put_comp(number, text),
-            None => text.say("%", &[Piece::Host(port_name(self.net, chan))]),
-        }
-    }
-
     /// The word of a component's kind, empty where there is none of this number.
     pub fn kind(self, comp: u32) -> &'static [u8] {
         match self.net.comp(comp) {

@@ -67,10 +67,6 @@ impl Bench for PortStates {
         if name == "len" {
             return show(alloc, &self.len());
         }
-        if name == "next" {
-            let state = (words.number() % 4) as u8;
-            return show(alloc, &self.next_in(state, words.number()));
-        }
         let port = words.number();
         if port >= self.len() {
             return Err("no such port".into());
@@ -213,13 +209,10 @@ set 70 1
 set 199 3
 get 5 | 3
 get 70 | 1
-next 3 0 | Some(5)
-next 3 6 | Some(199)
-next 1 0 | Some(70)
-next 2 0 | None
+get 199 | 3
 set 5 2
-next 2 0 | Some(5)
-next 0 199 | None
+get 5 | 2
+get 6 | 0
 ";
 
 /// The next word of 64 ports with an odd number is told twice: by the numbers, and by a look at each port.
