@@ -13,9 +13,9 @@ ghost use Rattle.bz_breeze.specs.Faults.{HasFault};
 ghost use Rattle.bz_breeze.specs.Forms.{named_port, listed_port, port, ports, wide_channel, listed_channel, channel, channels, param, number, numbers, slot, slots, named_fields, fields_of, component_of, listed_component, component, components};
 
 use crate::error::{Code, Refusal};
+use crate::name_set::NameSet;
 use bz_breeze_records::{Component, Entries, Name, Slot};
 use bz_gap::gap;
-use crate::name_set::NameSet;
 use bz_model::{Chan, ChanKind, MAX_WIDTH, Param, Port};
 use bz_sexpr::{Form, Forms, Leaf, Shape, Text};
 use std::alloc::{AllocError, Global};

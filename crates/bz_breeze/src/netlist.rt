@@ -15,8 +15,8 @@ ghost use Rattle.bz_breeze_records.specs.Parts.{HasPortChannels};
 
 use crate::error::{BreezeError, ByteAt, Code, Refusal};
 use crate::forms::{channels, components, headed, inside, ports};
-use bz_breeze_records::{Component, Part, Parts};
 use crate::name_set::NameSet;
+use bz_breeze_records::{Component, Part, Parts};
 use bz_model::{Chan, Port};
 use bz_sexpr::{Datum, Form, Forms, Leaf, Shape, Span};
 use std::alloc::Global;

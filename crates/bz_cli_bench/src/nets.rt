@@ -6,7 +6,6 @@ use crate::files::BenchFiles;
 use crate::opened::Opened;
 use crate::reading::{Refusal, bytes_of, unread};
 use bz_cli_input::Fault;
-use bz_model::NameSet;
 use bz_text::Text;
 use std::alloc::{AllocError, Global};
 use std::io::Write;
@@ -23,8 +22,9 @@ pub(crate) enum Found {
 /// The nets that were asked for, and those that there are not.
 #[derive(Drop)]
 pub(crate) struct Nets {
-    // Netlists and parts, as they were named, in the order in which they came.
-    names: NameSet,
+    // Netlists and parts, as they were named, in the order in which they came, and their places in the order of the names.
+    names: Vec<Vec<u8>>,
+    row: Vec<usize>,
     found: Vec<Found>,
     // What each is called, and what was exercised of it.
     labels: Vec<Vec<u8>>,
@@ -34,7 +34,8 @@ pub(crate) struct Nets {
 impl Nets {
     pub(crate) fn new(alloc: Global) -> Nets {
         Nets {
-            names: NameSet::new(alloc),
+            names: Vec::new(alloc),
+            row: Vec::new(alloc),
             found: Vec::new(alloc),
             labels: Vec::new(alloc),
             counted: Vec::new(alloc),
@@ -88,10 +89,16 @@ impl Nets {
         files: &mut F,
     ) -> Result<usize, Refusal> {
         let name = name_of(trial.alloc, netlist, part)?;
-        if let Some(place) = self.names.place(name.as_slice()) {
-            return Ok(place);
+        let at = self
+            .row
+            .partition_point(|place| is_before(&self.names, *place, &name));
+        if let Some(place) = self.row.get(at).copied() {
+            if is_name(&self.names, place, &name) {
+                return Ok(place);
+            }
         }
-        self.names.insert(trial.alloc, name.as_slice())?;
+        self.row.insert(at, self.names.len())?;
+        self.names.push(name)?;
         self.labels.push(label_of(trial.alloc, netlist, part)?)?;
         self.counted.push(Counted::none())?;
         self.add(found_in(trial, netlist, part, files))
@@ -102,6 +109,22 @@ impl Nets {
         let place = self.found.len();
         self.found.push(found?)?;
         Ok(place)
+    }
+}
+
+// Whether the name at a place comes before another one.
+fn is_before(names: &[Vec<u8>], place: usize, name: &[u8]) -> bool {
+    match names.get(place) {
+        Some(here) => here.as_slice() < name,
+        None => false,
+    }
+}
+
+// Whether the name at a place is this one.
+fn is_name(names: &[Vec<u8>], place: usize, name: &[u8]) -> bool {
+    match names.get(place) {
+        Some(here) => here.as_slice() == name,
+        None => false,
     }
 }
 
