@@ -1,12 +1,17 @@
 //! A netlist while it is looked through: each part is opened, by itself or within another one.
 
+use crate::data::Head;
+use crate::findings::Gathered;
+use crate::marks::{Marks, set};
+use crate::mended::Mended;
+use crate::net_faults::marks_of;
+use crate::site::NetlistText;
 use crate::unreached::mark_reached;
 use crate::warnings::warn;
+use crate::wired::Wired;
 use bz_breeze_records::Part;
 use bz_cli_input::used_by_others;
 use bz_elab::ElabError;
-use bz_explain::{Gathered, Marks, Mended, marks_of, set};
-use bz_explain_net::{Head, NetlistText, Wired};
 use bz_explain_notes::Findings;
 use std::alloc::{AllocError, Global};
 

@@ -1,4 +1,5 @@
-//! All that is wrong with a netlist, whichever parts are looked at.
+//! The command `lint`: all that is wrong with a netlist, whichever parts are looked at, and warnings of what is likely to be a
+//! mistake. Findings go to standard output, since they are what is asked for, and notes always follow them.
 //!
 //! Each part on top is opened, and each part that no part on top reaches. Several of them may share a part of a million
 //! components, so there is a limit to what is opened. If parts are left over, their number is shown and nothing is warned of:
@@ -6,12 +7,14 @@
 
 ghost use Rattle.bz_cli_input.specs.Reading.{ReadsWithin};
 
+use crate::asked::{Asked, Words};
+use crate::explaining::explain;
+use crate::findings::{line_of, no_findings};
 use crate::opening::Linted;
+use crate::site::NetlistText;
 use bz_breeze::parts_of;
 use bz_cli_input::{Fault, in_part, read_input};
 use bz_elab::ElabError;
-use bz_explain::{Asked, Words, explain, line_of, no_findings};
-use bz_explain_net::NetlistText;
 use bz_explain_notes::{
     Finding, Findings, Place, Severity, tell_findings, tell_json, tell_refusal,
 };

@@ -6,9 +6,9 @@
 //! What is reached may ask at all of its active ports, so only what is certain is reported: a component none of whose copies
 //! is reached in any net that is opened.
 
+use crate::marks::{Marks, set};
+use crate::wired::Wired;
 use bz_arena::Id;
-use bz_explain::{Marks, set};
-use bz_explain_net::Wired;
 use bz_kind_rows::is_passive;
 use bz_model::Port;
 use std::alloc::{AllocError, Global};

@@ -1,7 +1,8 @@
 //! Texts without any part, which are what is left where the program that was to write a netlist failed.
 
-use bz_explain::Gathered;
-use bz_explain_net::{headed, letters_of, put_place};
+use crate::data::{headed, letters_of};
+use crate::findings::Gathered;
+use crate::site::put_place;
 use bz_explain_notes::{Detail, NEAREST, Notes, Severity};
 use bz_sexpr::Form;
 use bz_text::{Piece as Part, Text};

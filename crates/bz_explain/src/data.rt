@@ -56,7 +56,7 @@ impl Head {
 }
 
 /// What follows the head of a part, where a datum at top level is one.
-pub fn part_items(form: Form<'_>) -> Option<Forms<'_>> {
+pub(crate) fn part_items(form: Form<'_>) -> Option<Forms<'_>> {
     match headed(form)? {
         (head, items) if head == b"breeze-part".as_slice() => Some(items),
         _ => None,
@@ -64,7 +64,7 @@ pub fn part_items(form: Form<'_>) -> Option<Forms<'_>> {
 }
 
 /// The members of the first form of this head in a part.
-pub fn members_of(part: Forms<'_>, head: Head) -> Option<Forms<'_>> {
+pub(crate) fn members_of(part: Forms<'_>, head: Head) -> Option<Forms<'_>> {
     let (_, form) = find(part, Which::Headed(head))?;
     let (_, members) = headed(form)?;
     Some(members)
@@ -85,7 +85,7 @@ pub(crate) fn part_form(netlist: Forms<'_>, number: usize) -> Option<Form<'_>> {
 }
 
 /// The first of several data that is looked for, and its number, from 1.
-pub fn find<'t>(data: Forms<'t>, which: Which<'_>) -> Option<(usize, Form<'t>)> {
+pub(crate) fn find<'t>(data: Forms<'t>, which: Which<'_>) -> Option<(usize, Form<'t>)> {
     for (number, form) in Members::of(data) {
         let is_sought = match which {
             Which::Number(sought) => number == sought,
@@ -102,7 +102,7 @@ pub fn find<'t>(data: Forms<'t>, which: Which<'_>) -> Option<(usize, Form<'t>)> 
 }
 
 /// Whether a datum is skipped among parameters: a symbol or a list.
-pub fn is_skipped(form: Form<'_>) -> bool {
+pub(crate) fn is_skipped(form: Form<'_>) -> bool {
     matches!(form.shape(), Shape::Items(_) | Shape::Leaf(Leaf::Symbol(_)))
 }
 
@@ -114,13 +114,13 @@ fn is_text(form: Form<'_>, text: &[u8]) -> bool {
 }
 
 /// The letters of a text that spell a datum.
-pub fn letters_of<'t>(text: &'t [u8], form: Form<'_>) -> &'t [u8] {
+pub(crate) fn letters_of<'t>(text: &'t [u8], form: Form<'_>) -> &'t [u8] {
     let span = form.span();
     text.get(span.from..span.to).unwrap_or(b"")
 }
 
 /// A datum by its number, from 1.
-pub fn nth(data: Forms<'_>, number: usize) -> Option<Form<'_>> {
+pub(crate) fn nth(data: Forms<'_>, number: usize) -> Option<Form<'_>> {
     let (_, form) = find(data, Which::Number(number))?;
     Some(form)
 }
@@ -155,7 +155,7 @@ impl<'t> Iterator for Members<'t> {
 }
 
 /// The data of a list.
-pub fn inside(form: Form<'_>) -> Option<Forms<'_>> {
+pub(crate) fn inside(form: Form<'_>) -> Option<Forms<'_>> {
     match form.shape() {
         Shape::Items(items) => Some(items),
         Shape::Leaf(_) => None,
@@ -163,7 +163,7 @@ pub fn inside(form: Form<'_>) -> Option<Forms<'_>> {
 }
 
 /// The symbol at the head of a list, and what follows it.
-pub fn headed(form: Form<'_>) -> Option<(&[u8], Forms<'_>)> {
+pub(crate) fn headed(form: Form<'_>) -> Option<(&[u8], Forms<'_>)> {
     let (first, rest) = inside(form)?.split_first()?;
     match first.shape() {
         Shape::Leaf(Leaf::Symbol(head)) => Some((head, rest)),

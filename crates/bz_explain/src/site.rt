@@ -38,7 +38,7 @@ pub struct Site<'t> {
 
 /// Tells where a byte of the text stands: its line and column, then the line itself, and below it a caret with what stands
 /// there, by a form.
-pub fn put_place(notes: &mut Notes, text: &[u8], at: usize, mark: &str, args: &[Piece<'_>]) {
+pub(crate) fn put_place(notes: &mut Notes, text: &[u8], at: usize, mark: &str, args: &[Piece<'_>]) {
     put_source(notes, text, at, "");
     notes.say(mark, args);
 }

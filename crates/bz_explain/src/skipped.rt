@@ -3,11 +3,9 @@
 //! A generator that writes a truth value or a number in its own language's form writes a symbol. The kind then has one
 //! parameter fewer than was meant, and no fault where it does without.
 
-use bz_explain::Gathered;
-use bz_explain_net::{
-    Head, Members, NetlistText, inside, is_skipped, letters_of, members_of, nth, part_items,
-    put_place,
-};
+use crate::data::{Head, Members, inside, is_skipped, letters_of, members_of, nth, part_items};
+use crate::findings::Gathered;
+use crate::site::{NetlistText, put_place};
 use bz_explain_notes::{Detail, Notes, Severity};
 use bz_model::Value;
 use bz_sexpr::{Form, Forms};

@@ -9,7 +9,7 @@ use bz_explain_notes::Notes;
 use bz_view::Piece::{Count, Name};
 
 /// The notes of one reason why a part has no net.
-pub fn explain_refusal(
+pub(crate) fn explain_refusal(
     notes: &mut Notes,
     netlist: NetlistText<'_>,
     asked: &[u8],

@@ -5,11 +5,14 @@
 //! channel that no entry names is unused also where it is a port; where an instance has it at a port that nothing is at, the
 //! port is reported in its place.
 
+use crate::data::Head;
+use crate::findings::Gathered;
+use crate::marks::Marks;
+use crate::net_faults::marks_of;
 use crate::partless::warn_of_no_part;
+use crate::site::NetlistText;
 use crate::skipped::warn_of_skipped;
 use bz_breeze_records::Component;
-use bz_explain::{Gathered, Marks, marks_of};
-use bz_explain_net::{Head, NetlistText};
 use bz_explain_notes::{Detail, Notes, Severity};
 use bz_kind_rows::{KindName, kind_named};
 use bz_model::{Param, Value};

@@ -130,7 +130,7 @@ pub(crate) fn put_widths(notes: &mut Notes, kind: &Kind) {
 }
 
 /// The parameters that the kind of this name takes.
-pub fn params_rule(name: &[u8]) -> &'static str {
+pub(crate) fn params_rule(name: &[u8]) -> &'static str {
     match kind_named(name) {
         Some(KindName::Variable) => {
             "no second text, or an empty one: each read is of the whole value"
