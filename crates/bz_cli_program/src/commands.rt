@@ -33,7 +33,7 @@ use bz_cli_source::{list_paths_cmd, parts_cmd};
 use bz_cli_trace::{CheckWay, Checked, Texts, TraceFault, check_texts, check_trace_cmd};
 use bz_cli_waits::{WaitsAsked, waits_cmd, waits_trace_cmd};
 use bz_draw::{NoDrawing, View, draw_cmd, draw_trace_cmd};
-use bz_explain_lint::{Lint, lint_cmd};
+use bz_explain::{Lint, lint_cmd};
 use bz_explore::{Files, Manner, explore_cmd};
 use bz_model::Reply;
 use bz_page::{page_cmd, page_trace_cmd};
