@@ -43,7 +43,7 @@ and for each component that takes part, by number. Time goes down, a line of the
 <text x=\"8\" y=\"17\" font-size=\"12\" font-weight=\"bold\">";
 
 /// The chart of a piece of a trace, as SVG in UTF-8: of all its lines, or of those that show something of what is picked.
-pub fn draw(
+pub(crate) fn draw(
     alloc: Global,
     circuit: &Circuit,
     survey: &Survey,

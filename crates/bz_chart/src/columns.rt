@@ -154,7 +154,7 @@ fn has(picks: Option<&Picks>, lifeline: Lifeline, chan: u32) -> bool {
 }
 
 /// How many lines of a piece of a trace show something of what is picked.
-pub fn count_rows(
+pub(crate) fn count_rows(
     alloc: Global,
     circuit: &Circuit,
     trace: &[u8],
