@@ -12,7 +12,7 @@ use Rattle.bz_cli_args.specs.declared.asked.ListOptions.{ListOptions}
 use Rattle.bz_cli_args.specs.declared.asked.PoolOptions.{PoolOptions}
 use Rattle.bz_cli_args.specs.declared.asked.RunOptions.{RunOptions}
 use Rattle.bz_cli_args.specs.declared.asked.WaitsOptions.{WaitsOptions}
-use Rattle.bz_cli_complete.specs.Completions.{CompletesApart}
+use Rattle.bz_complete.specs.Completions.{CompletesApart}
 use Rattle.bz_cli_core.specs.Running.{Runs}
 use Rattle.bz_cli_input.specs.Listed.{Lists}
 use Rattle.bz_cli_input.specs.declared.fault.Fault.{Fault}
