@@ -1,7 +1,7 @@
 use Rattle.std.proofs.Common.{sym, ◌∙◌}
 use Rattle.std.proofs.lemmas.Bool.{eqb-false, eqb-true}
-use Rattle.bz_source_files.proofs.Cut.{cut_behind, cut_last}
-use Rattle.bz_source_files.proofs.lines.cut_line.Goals as goal
+use Rattle.bz_source.proofs.Cut.{cut_behind, cut_last}
+use Rattle.bz_source.proofs.cutting.cut_line.Goals as goal
 
 pub returns-then-is_empty-clause-lines : goal.returns-then-is_empty-clause-lines
 returns-then-is_empty-clause-lines c =

@@ -2,7 +2,7 @@
 
 ghost use Rattle.std.specs.Prelude.{◌≡◌, ◌<◌, ◌==◌, ◌∷◌, ◌++◌, ◌⊎◌, [], List, ℕ, length, not};
 ghost use Rattle.std.specs.List.{AllPass};
-ghost use Rattle.bz_source_files.specs.Lines.{lines_of};
+ghost use Rattle.bz_source.specs.FileLines.{lines_of};
 
 /// The first line of a text, and what follows its line feed.
 pub fn cut_line(text: &[u8]) -> (&[u8], &[u8])

@@ -4,7 +4,8 @@
 //! does where it leaves no doubt, and the whole name goes before it. The page's script goes by the same rule.
 
 use crate::file::SourceFile;
-use bz_source::{SourceAt, Survey};
+use crate::labels::SourceAt;
+use crate::survey::Survey;
 use bz_text::{Piece, put_pieces};
 use std::alloc::{AllocError, Global};
 use std::io::Write;

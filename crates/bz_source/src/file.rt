@@ -3,9 +3,9 @@
 ghost use Rattle.std.specs.Prelude.{◌≡◌};
 ghost use Rattle.std.specs.Option.{option_copied};
 ghost use Rattle.bz_model.specs.Names.{numbered};
-ghost use Rattle.bz_source_files.specs.Lines.{lines_of};
+ghost use Rattle.bz_source.specs.FileLines.{lines_of};
 
-use crate::lines::cut_line;
+use crate::cutting::cut_line;
 
 /// A file of a compiler's source, by the name under which it was read.
 #[derive(Debug, Drop)]

@@ -1,7 +1,7 @@
 use Rattle.std.proofs.Common.{◌≡◌}
 use Rattle.bz_model.specs.Names.{numbered}
-use Rattle.bz_source_files.specs.Lines.{lines_of}
-use Rattle.bz_source_files.proofs.file.line_in.Given as goal
+use Rattle.bz_source.specs.FileLines.{lines_of}
+use Rattle.bz_source.proofs.file.line_in.Given as goal
 
 abbrev pub invariant-loop-left : goal.invariant-loop-left
 invariant-loop-left l = numbered (lines_of l.text) l.number ≡ numbered (lines_of l.rest) l.left

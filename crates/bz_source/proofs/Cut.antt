@@ -4,7 +4,7 @@ use Rattle.std.specs.List.{AllPass, list_all}
 use Rattle.std.proofs.lemmas.List.{append-nil}
 use Rattle.std.proofs.lemmas.List.Sums.{list_all-from_AllPass}
 use Rattle.bz_model.specs.Names.{numbered}
-use Rattle.bz_source_files.specs.Lines.{begun_with, lines_of}
+use Rattle.bz_source.specs.FileLines.{begun_with, lines_of}
 
 -- no byte ends a line
 abbrev pub in_line : ℕ → Bool
