@@ -38,7 +38,7 @@ use bz_explore::{Files, Manner, explore_cmd};
 use bz_model::Reply;
 use bz_page::{page_cmd, page_trace_cmd};
 use bz_session::End;
-use bz_source_files::SourceFile;
+use bz_source::SourceFile;
 use bz_text::put;
 use bz_trace::Unwatched;
 use std::alloc::Global;
