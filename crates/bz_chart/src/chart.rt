@@ -12,10 +12,11 @@ ghost use Rattle.bz_cli_input.specs.Stopping.{AppendsSome};
 ghost use Rattle.bz_chart.specs.Charting.{Charts, ChartsApart, ChartsTrace, Draws, DrawsPiece, IsUndrawn};
 ghost use Rattle.bz_chart.specs.Pieces.{line_count};
 
+use crate::columns::count_rows;
+use crate::drawing::draw;
 use crate::picking::{Picked, Unpicked, picks_of};
 use crate::range::{LineRange, MOST_ROWS, PieceFault, piece_of};
 use bz_chart_layout::{Circuit, Piece};
-use bz_chart_svg::{count_rows, draw};
 use bz_cli_input::Fault;
 use bz_cli_trace::{Checked, Texts, TraceFault, run_of};
 use bz_source::Survey;

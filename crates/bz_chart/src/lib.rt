@@ -1,9 +1,23 @@
-//! The command `chart`: the trace of a run, drawn.
+//! The command `chart`: the trace of a run, drawn as lifelines and what goes on between them.
 #![tactic(auto)]
 
+mod arrows;
+mod bars;
 mod chart;
+mod columns;
+mod drawing;
+mod flow;
+mod heads;
+mod labels;
+mod lanes;
+mod legend;
+mod meetings;
 mod picking;
 mod range;
+mod rows;
+mod scene;
+mod svg;
+mod words;
 
 pub use chart::{chart_cmd, chart_trace_cmd};
 pub use picking::Picked;

@@ -1,9 +1,9 @@
 -- What is known of the cases of a call of `test`, and what its status says of them.
 use Rattle.std.specs.Prelude.{◌≡◌, ◌≤◌, ℕ, ⊤, Bool, true, false, Option, Some, Result, Ok, Err, List, length, slice_get}
 use Rattle.bz_bench.specs.declared.stream.Stream.{Stream}
-use Rattle.bz_bench_play.specs.Verdicts.{Judges}
-use Rattle.bz_bench_play.specs.declared.verdict.Verdict.{Verdict}
-use Rattle.bz_bench_play.specs.declared.verdict.Verdict.TheVariants.{Passed, Differs, Extra, Stuck, Spent}
+use Rattle.bz_cli_bench.specs.Verdicts.{Judges}
+use Rattle.bz_cli_bench.specs.declared.verdict.Verdict.{Verdict}
+use Rattle.bz_cli_bench.specs.declared.verdict.Verdict.TheVariants.{Passed, Differs, Extra, Stuck, Spent}
 use Rattle.bz_cli_bench.specs.declared.ended.Ended.{Ended}
 use Rattle.bz_cli_bench.specs.declared.ended.Ended.TheVariants.{Judged, Unlike, BadBench, NoNet}
 use Rattle.bz_cli_input.specs.Opening.{Denotes}

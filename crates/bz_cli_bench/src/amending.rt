@@ -1,8 +1,9 @@
 //! The text of a bench with what came in place of what was due. All else of it stays as it is.
 
-use crate::playing::Setting;
+use crate::learning::Came;
+use crate::plan::is_from_net;
+use crate::setting::Setting;
 use bz_bench::{Bench, Due, Item, Line, PortLine, Spelt, Spot, fits, words_of};
-use bz_bench_play::{Came, is_from_net};
 use bz_flat::Flat;
 use bz_model::{Value, numbered};
 use bz_text::Text;

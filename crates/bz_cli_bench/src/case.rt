@@ -5,8 +5,8 @@ ghost use Rattle.bz_cli_bench.specs.Cases.{IsFailed, IsPassed, IsPlayed};
 
 use crate::blessing::Blessing;
 use crate::ended::{Ended, REFUSED, Unlike};
+use crate::verdict::Verdict;
 use bz_bench::{Cause, Spot};
-use bz_bench_play::Verdict;
 use std::alloc::Global;
 use std::marker::Model;
 

@@ -3,8 +3,8 @@
 ghost use Rattle.std.specs.Prelude.{◌≡◌, true};
 ghost use Rattle.bz_cli_bench.specs.Cases.{is_failed};
 
+use crate::verdict::Verdict;
 use bz_bench::{Cause, Spot};
-use bz_bench_play::Verdict;
 use bz_model::Value;
 
 /// The status of a call whose cases all passed.

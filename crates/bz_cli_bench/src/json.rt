@@ -4,7 +4,7 @@ use crate::blessing::Blessing;
 use crate::case::{Case, Short, Told};
 use crate::ended::{Ended, Unlike};
 use crate::lines::{path_of, put_came, put_due};
-use bz_bench_play::Verdict;
+use crate::verdict::Verdict;
 use bz_text::{Piece, Text, put_json};
 use bz_view::put_typed;
 

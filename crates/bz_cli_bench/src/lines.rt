@@ -3,8 +3,8 @@
 use crate::blessing::Blessing;
 use crate::case::{Case, Short, Told};
 use crate::ended::{Ended, Unlike};
+use crate::verdict::Verdict;
 use bz_bench::Item;
-use bz_bench_play::Verdict;
 use bz_model::Value;
 use bz_text::Text;
 use bz_view::Piece;

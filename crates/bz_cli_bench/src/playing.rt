@@ -1,131 +1,514 @@
-//! A play of a bench, and the case that it makes.
+//! A bench that is played on a net.
+//!
+//! Without a seed the net runs to rest, and then the first port at which a word of its stream would be done gets it. With one,
+//! each step is one of the components that can move or one of the words that would be done, each as likely as another. A play
+//! ends with the first value that is not as due. Nothing is claimed of what is picked, nor that a play comes to an end in time:
+//! the verdict goes by the journal and the state alone.
 
-ghost use Rattle.std.specs.Prelude.{◌≡◌, length, IfOk};
-ghost use Rattle.bz_cli_bench.specs.Cases.{IsPlayed};
+ghost use Rattle.std.specs.Prelude.{◌≡◌, ◌<◌, ◌≤◌, IfOk, length};
+ghost use Rattle.bz_cli_bench.specs.Verdicts.{Judges};
+ghost use Rattle.bz_model.specs.Nets.{opening};
+ghost use Rattle.bz_model.specs.Runs.{Run};
 
-use crate::asked::{At, Trial};
-use crate::case::Case;
-use crate::counted::Counted;
-use crate::files::BenchFiles;
-use crate::opened::Opened;
-use crate::told::told_of;
-use crate::traces::keep_trace;
-use crate::unlike::first_unlike;
-use bz_bench::Tally;
-use bz_bench_play::{Came, Plan, Played, Verdict, learn, play};
-use bz_cli_input::Fault;
+use crate::judging::{judge, next_word};
+use crate::learning::{Came, add_value, no_values};
+use crate::plan::Plan;
+use crate::verdict::Verdict;
+use bz_bench::{Item, Stream, Tally, fits, no_tallies, note};
+use bz_explore_net::{Picker, Stepping};
+use bz_flat::Flat;
+use bz_model::{ChanKind, Entry, HostCmd, NetError, Reply, Value, Verb, Who, numbered};
+use bz_net::{Net, RunEnd};
+use std::alloc::Global;
 
 /// The most entries that the journal of a play may have.
 const MAX_JOURNAL: u32 = 16_777_216;
 
-/// A bench on a net.
-#[derive(Clone, Copy)]
-pub(crate) struct Setting<'s> {
-    pub trial: Trial<'s>,
-    pub at: At<'s>,
-    pub opened: &'s Opened,
-    pub plan: &'s Plan,
-}
+/// What is mixed with a seed, so that what is picked between moves and words is not as what is picked among moves.
+const MIXED: u64 = 0x9e37_79b9_7f4a_7c15;
 
-/// What passed at each port where a bench passed first, and the seed.
-#[derive(Drop)]
-pub(crate) struct Had {
-    pub seed: Option<u64>,
+/// A bench that was played: the net, what passed at each port, and the verdict.
+pub struct Played {
+    pub stepping: Stepping,
     pub tallies: Vec<Tally>,
+    pub verdict: Verdict,
 }
 
-/// The case of a bench that is played by a seed. `had` is of the first one that passed, if there is one by then.
-pub(crate) fn case_of<F: BenchFiles>(
-    setting: Setting<'_>,
+// By hand, so that who lets one go has one call to show and not all its parts.
+impl Drop for Played {
+    fn drop(self) {
+        let Played {
+            stepping: _,
+            tallies: _,
+            verdict: _,
+        } = self;
+    }
+}
+
+impl Played {
+    /// What passed at each port.
+    pub fn into_tallies(self) -> Vec<Tally> {
+        let Played {
+            stepping: _,
+            tallies,
+            verdict: _,
+        } = self;
+        tallies
+    }
+}
+
+// A play that is under way.
+struct Session<'p> {
+    stepping: Stepping,
+    plan: &'p Plan,
+    tallies: Vec<Tally>,
+    // The group of lines that has begun last.
+    group: usize,
+    fuel: u64,
+    // Where any value may come: those that came at each port.
+    learnt: Option<Vec<Vec<Came>>>,
+}
+
+impl Drop for Session<'_> {
+    fn drop(self) {
+        let Session {
+            stepping: _,
+            plan: _,
+            tallies: _,
+            group: _,
+            fuel: _,
+            learnt: _,
+        } = self;
+    }
+}
+
+/// Plays a bench on a net, with at most so many firings, and at most so many entries of the journal.
+pub(crate) fn play(
+    alloc: Global,
+    flat: Flat,
+    plan: &Plan,
     seed: Option<u64>,
-    had: &mut Option<Had>,
-    counted: &mut Counted,
-    files: &mut F,
-) -> Result<Case, Fault>
-    requires { length setting.plan.now.streams.items ≡ length setting.opened.now.ports }
+    fuel: u64,
+    journal: u32,
+) -> Result<Played, NetError>
+    requires streams { length plan.now.streams.items ≡ length flat.wiring.ports }
+    requires least { 0 < journal }
+    requires most { journal ≤ 16777216 }
+    ensures wiring { IfOk result (λ p. p.stepping.net.wiring ≡ flat.wiring) }
+    ensures run { IfOk result (λ p. Run flat.wiring (opening flat.wiring) p.stepping.net.journal p.stepping.net.state) }
+    ensures judged { IfOk result (λ p.
+        Judges flat.wiring p.stepping.net.state p.stepping.net.journal plan.now.streams.items p.verdict) }
 {
-    match played(setting, seed) {
-        Ok(played) => case_in(setting, seed, played, had, counted, files),
-        Err(fault) => Err(fault),
-    }
+    let mut session = Session::open(alloc, flat, plan, fuel, journal)?;
+    session.play_all(alloc, seed)?;
+    session.judged(alloc)
 }
 
-/// What comes at each port of a net where any values may come in place of those that are due, if the play comes to its end.
-pub(crate) fn learnt(setting: Setting<'_>) -> Result<Option<Vec<Vec<Came>>>, Fault> {
-    let Trial { alloc, asked, .. } = setting.trial;
-    let journal = asked.journal.max(1).min(MAX_JOURNAL);
-    let Ok(flat) = setting.opened.flat().dup(alloc) else {
-        return Err(Fault::Memory);
-    };
-    match learn(
-        alloc,
-        flat,
-        setting.plan,
-        asked.seeds.at(0),
-        asked.fuel,
-        journal,
-    ) {
-        Ok(learnt) => Ok(learnt),
-        Err(_) => Err(Fault::Memory),
-    }
-}
-
-/// Plays the bench.
-pub(crate) fn played(setting: Setting<'_>, seed: Option<u64>) -> Result<Played, Fault>
-    requires { length setting.plan.now.streams.items ≡ length setting.opened.now.ports }
-    ensures { IfOk result (λ p. IsPlayed p.verdict) }
-{
-    let Trial { alloc, asked, .. } = setting.trial;
-    let journal = asked.journal.max(1).min(MAX_JOURNAL);
-    let Ok(flat) = setting.opened.flat().dup(alloc) else {
-        return Err(Fault::Memory);
-    };
-    match play(alloc, flat, setting.plan, seed, asked.fuel, journal) {
-        Ok(played) => Ok(played),
-        Err(_) => Err(Fault::Memory),
-    }
-}
-
-// The case of a play. Where it failed its trace is kept, if that is asked for.
-fn case_in<F: BenchFiles>(
-    setting: Setting<'_>,
+/// Plays a bench on a net with any values in place of those that are due, and as many as come. Those that came at each port, if all
+/// that is given has passed then and nothing moves.
+pub(crate) fn learn(
+    alloc: Global,
+    flat: Flat,
+    plan: &Plan,
     seed: Option<u64>,
-    played: Played,
-    had: &mut Option<Had>,
-    counted: &mut Counted,
-    files: &mut F,
-) -> Result<Case, Fault>
-    requires { IsPlayed played.verdict }
+    fuel: u64,
+    journal: u32,
+) -> Result<Option<Vec<Vec<Came>>>, NetError>
+    requires least { 0 < journal }
+    requires most { journal ≤ 16777216 }
 {
-    if setting.trial.asked.cover.is_some() {
-        counted.add(setting.trial.alloc, played.stepping.net())?;
-    }
-    let mut case = told_case(setting, seed, &played, had.as_ref())?;
-    if !case.is_passed() {
-        case.note_unkept(keep_trace(setting, seed, &played, files)?);
-    } else if had.is_none() {
-        let tallies = played.into_tallies();
-        *had = Some(Had { seed, tallies });
-    }
-    Ok(case)
+    let mut session = Session::open(alloc, flat, plan, fuel, journal)?;
+    session.learnt = Some(no_values(alloc, plan.streams.len())?);
+    session.play_all(alloc, seed)?;
+    Ok(session.into_learnt())
 }
 
-// The case of a play, with what is told of it.
-fn told_case(
-    setting: Setting<'_>,
-    seed: Option<u64>,
-    played: &Played,
-    had: Option<&Had>,
-) -> Result<Case, Fault>
-    requires { IsPlayed played.now.verdict }
-{
-    let place = setting.at.place;
-    if let (Verdict::Passed, Some(had)) = (played.verdict, had) {
-        if let Some(unlike) = first_unlike(setting.opened.flat(), had, &played.tallies) {
-            let told = told_of(setting, played, Some(unlike))?;
-            return Ok(Case::unlike(place, seed, unlike, told));
+impl<'p> Session<'p> {
+    fn open(
+        alloc: Global,
+        flat: Flat,
+        plan: &'p Plan,
+        fuel: u64,
+        journal: u32,
+    ) -> Result<Session<'p>, NetError>
+        requires least { 0 < journal }
+        requires most { journal ≤ 16777216 }
+        ensures wiring { IfOk result (λ s. s.stepping.net.wiring ≡ flat.wiring) }
+        ensures plan { IfOk result (λ s. s.plan.now ≡ plan.now) }
+    {
+        let Ok(tallies) = no_tallies(alloc, plan.streams.len()) else {
+            return Err(NetError::Memory);
+        };
+        let stepping = Stepping::open(alloc, flat, journal)?;
+        Ok(Session {
+            stepping,
+            plan,
+            tallies,
+            group: 0,
+            fuel,
+            learnt: None,
+        })
+    }
+
+    fn judged(self, alloc: Global) -> Result<Played, NetError>
+        requires { length self.plan.now.streams.items ≡ length self.stepping.net.wiring.ports }
+        ensures net { IfOk result (λ p. p.stepping.net ≡ self.entry.stepping.net) }
+        ensures run { IfOk result (λ p. Run self.entry.stepping.net.wiring (opening self.entry.stepping.net.wiring)
+            p.stepping.net.journal p.stepping.net.state) }
+        ensures judged { IfOk result (λ p. Judges self.entry.stepping.net.wiring
+            p.stepping.net.state p.stepping.net.journal self.entry.plan.now.streams.items p.verdict) }
+    {
+        let Session {
+            stepping,
+            plan,
+            tallies,
+            group,
+            fuel: _,
+            learnt: _,
+        } = self;
+        let net = stepping.net();
+        let _ = net.journal();
+        match judge(alloc, net, plan.streams.as_slice(), group) {
+            Ok(verdict) => Ok(Played {
+                stepping,
+                tallies,
+                verdict,
+            }),
+            Err(_) => Err(NetError::Memory),
         }
     }
-    let told = told_of(setting, played, None)?;
-    Ok(Case::judged(place, seed, played.verdict, told))
+
+    // What came at each port, if the play is at its end.
+    fn into_learnt(self) -> Option<Vec<Vec<Came>>> {
+        let is_last = self.group.saturating_add(1) >= self.plan.groups;
+        let has_ended = is_last && self.is_over(self.group);
+        let Session {
+            stepping: _,
+            plan: _,
+            tallies: _,
+            group: _,
+            fuel: _,
+            learnt,
+        } = self;
+        if has_ended { learnt } else { None }
+    }
+
+    // Whether all of a group of lines is done, and nothing moves any more before the next one begins.
+    fn is_over(&self, group: usize) -> bool {
+        self.is_done(group)
+            && self.stepping.net().next_ready(1).is_none()
+            && self.nth_word(0).is_none()
+    }
+
+    // Plays to the end: in order, or by chance from a seed.
+    fn play_all(&mut self, alloc: Global, seed: Option<u64>) -> Result<(), NetError>
+        ensures wiring { IfOk result (λ _. self.new.stepping.net.wiring ≡ self.old.stepping.net.wiring) }
+        ensures plan { self.new.plan.now ≡ self.old.plan.now }
+    {
+        match seed {
+            None => self.play_in_order(alloc),
+            Some(seed) => self.play_by_chance(alloc, seed),
+        }
+    }
+
+    // Plays to the end: at rest the first word that would be done is given.
+    fn play_in_order(&mut self, alloc: Global) -> Result<(), NetError>
+        ensures wiring { IfOk result (λ _. self.new.stepping.net.wiring ≡ self.old.stepping.net.wiring) }
+        ensures plan { self.new.plan.now ≡ self.old.plan.now }
+    {
+        for _ in 0..=MAX_JOURNAL {
+            if !self.runs_to_rest(alloc)? || !self.gives(alloc, 0)? {
+                break;
+            }
+        }
+        Ok(())
+    }
+
+    // Runs on to rest: whether it came there.
+    fn runs_to_rest(&mut self, alloc: Global) -> Result<bool, NetError>
+        ensures wiring { IfOk result (λ _. self.new.stepping.net.wiring ≡ self.old.stepping.net.wiring) }
+        ensures plan { self.new.plan.now ≡ self.old.plan.now }
+    {
+        let Ok(end) = self.stepping.run(alloc, &[], self.fuel) else {
+            return Err(NetError::Memory);
+        };
+        self.has_rested(end)
+    }
+
+    // Whether firings ended at rest.
+    fn has_rested(&mut self, end: RunEnd) -> Result<bool, NetError>
+        ensures wiring { self.new.stepping.net.wiring ≡ self.old.stepping.net.wiring }
+        ensures plan { self.new.plan.now ≡ self.old.plan.now }
+    {
+        match end {
+            RunEnd::Rest(fired) => {
+                self.fuel = self.fuel.saturating_sub(fired);
+                Ok(true)
+            }
+            RunEnd::Spent(fired) => {
+                self.fuel = self.fuel.saturating_sub(fired);
+                Ok(false)
+            }
+            RunEnd::Refused(_, NetError::Memory) => Err(NetError::Memory),
+            RunEnd::Refused(_, _) => {
+                self.fuel = 0;
+                Ok(false)
+            }
+        }
+    }
+
+    // Plays to the end: each step is a move or a word that is picked.
+    fn play_by_chance(&mut self, alloc: Global, seed: u64) -> Result<(), NetError>
+        ensures wiring { IfOk result (λ _. self.new.stepping.net.wiring ≡ self.old.stepping.net.wiring) }
+        ensures plan { self.new.plan.now ≡ self.old.plan.now }
+    {
+        self.stepping.seed(seed);
+        let mut chooser = Picker::new(seed ^ MIXED);
+        for _ in 0..=MAX_JOURNAL {
+            if !self.steps(alloc, &mut chooser)? {
+                break;
+            }
+        }
+        Ok(())
+    }
+
+    // One move or one word that is picked: whether the play goes on.
+    fn steps(&mut self, alloc: Global, chooser: &mut Picker) -> Result<bool, NetError>
+        ensures wiring { IfOk result (λ _. self.new.stepping.net.wiring ≡ self.old.stepping.net.wiring) }
+        ensures plan { self.new.plan.now ≡ self.old.plan.now }
+    {
+        self.begin_groups();
+        let moves = count_ready(self.stepping.net());
+        let choices = moves.saturating_add(self.count_words());
+        if choices == 0 {
+            self.runs_to_rest(alloc)?;
+            return Ok(false);
+        }
+        let picked = chooser.pick(choices);
+        if picked < moves {
+            self.moves(alloc)
+        } else {
+            self.gives(alloc, picked - moves)
+        }
+    }
+
+    // One move that is picked: whether there is fuel for more.
+    fn moves(&mut self, alloc: Global) -> Result<bool, NetError>
+        ensures wiring { IfOk result (λ _. self.new.stepping.net.wiring ≡ self.old.stepping.net.wiring) }
+        ensures plan { self.new.plan.now ≡ self.old.plan.now }
+    {
+        let Ok(end) = self.stepping.random(alloc, &[], self.fuel.min(1)) else {
+            return Err(NetError::Memory);
+        };
+        self.has_rested(end)?;
+        Ok(self.fuel > 0)
+    }
+
+    // How many words would be done.
+    fn count_words(&self) -> u32 {
+        let mut count = 0u32;
+        for place in 0..self.tallies.len() {
+            if self.word_at(port_of(place)).is_some() {
+                count = count.saturating_add(1);
+            }
+        }
+        count
+    }
+
+    // The word of a port that would be done.
+    fn word_at(&self, port: u32) -> Option<Verb> {
+        let stream = numbered(&self.plan.streams, port)?;
+        let tally = numbered(&self.tallies, port)?;
+        if self.hears(port) {
+            self.word_heard(port, stream)
+        } else {
+            next_word(self.stepping.net(), port, stream, tally, self.group)
+        }
+    }
+
+    // Whether any value that the net asks with may come at a port.
+    fn hears(&self, port: u32) -> bool {
+        if self.learnt.is_none() {
+            return false;
+        }
+        let names = self.stepping.net().names();
+        let is_push = names
+            .chan(port)
+            .is_some_and(|chan| chan.kind == ChanKind::Push);
+        is_push && names.passive(port) == Some(false)
+    }
+
+    // The word of such a port that would be done: it may begin in the groups in which the port has a line, and after them.
+    fn word_heard(&self, port: u32, stream: &Stream) -> Option<Verb> {
+        let net = self.stepping.net();
+        if stream.is_open(self.group) && net.would_answer(Verb::Accept, port) {
+            return Some(Verb::Accept);
+        }
+        if net.would_answer(Verb::Answer, port) {
+            return Some(Verb::Answer);
+        }
+        None
+    }
+
+    // Begins the next group of lines where all of one is done. Where any value may come, nothing moves any more then.
+    fn begin_groups(&mut self)
+        ensures wiring { self.new.stepping.net.wiring ≡ self.old.stepping.net.wiring }
+        ensures plan { self.new.plan.now ≡ self.old.plan.now }
+    {
+        for group in self.group..self.plan.groups.saturating_sub(1) {
+            let is_done = match self.learnt {
+                None => self.is_done(group),
+                Some(_) => self.is_over(group),
+            };
+            if !is_done {
+                break;
+            }
+            self.group = group.saturating_add(1);
+        }
+    }
+
+    // Whether all of a group of lines is done.
+    fn is_done(&self, group: usize) -> bool {
+        let streams = self.plan.streams.iter();
+        for (place, (stream, tally)) in streams.zip(self.tallies.iter()).enumerate() {
+            let upto = stream.upto(group);
+            let is_short = tally.begun.len() < upto
+                || tally.ended.len() < upto.min(stream.to_end());
+            if is_short && !self.hears(port_of(place)) {
+                return false;
+            }
+        }
+        true
+    }
+
+    // Gives the word that would be done after so many others, by the order of ports: whether there is one and what came is due.
+    fn gives(&mut self, alloc: Global, before: u32) -> Result<bool, NetError>
+        ensures wiring { IfOk result (λ _. self.new.stepping.net.wiring ≡ self.old.stepping.net.wiring) }
+        ensures plan { self.new.plan.now ≡ self.old.plan.now }
+    {
+        self.begin_groups();
+        match self.nth_word(before) {
+            Some((port, verb)) => self.gives_at(alloc, port, verb),
+            None => Ok(false),
+        }
+    }
+
+    // The word that would be done after so many others, by the order of ports.
+    fn nth_word(&self, before: u32) -> Option<(u32, Verb)> {
+        let mut left = before;
+        for place in 0..self.tallies.len() {
+            let port = port_of(place);
+            if let Some(verb) = self.word_at(port) {
+                if left == 0 {
+                    return Some((port, verb));
+                }
+                left -= 1;
+            }
+        }
+        None
+    }
+
+    // Gives a word at a port: whether it was done, and what came is due.
+    fn gives_at(&mut self, alloc: Global, port: u32, verb: Verb) -> Result<bool, NetError>
+        ensures wiring { IfOk result (λ _. self.new.stepping.net.wiring ≡ self.old.stepping.net.wiring) }
+        ensures plan { self.new.plan.now ≡ self.old.plan.now }
+    {
+        let item = self.item_of(port, verb);
+        let name = self.stepping.net().names().name(port).unwrap_or(&[]);
+        let Ok(name) = Vec::from_slice(alloc, name) else {
+            return Err(NetError::Memory);
+        };
+        let value = self.value_of(port, verb, item);
+        let cmd = HostCmd {
+            verb,
+            port: name,
+            value,
+        };
+        match self.stepping.command(alloc, &[], &cmd) {
+            Ok(reply) => self.has_come(port, verb, item, value, reply),
+            Err(NetError::Memory) => Err(NetError::Memory),
+            Err(_) => Ok(false),
+        }
+    }
+
+    // Notes a word that was given: whether what came is due.
+    fn has_come(
+        &mut self,
+        port: u32,
+        verb: Verb,
+        item: Option<Item>,
+        value: Option<Value>,
+        reply: Reply,
+    ) -> Result<bool, NetError>
+        ensures wiring { self.new.stepping.net.wiring ≡ self.old.stepping.net.wiring }
+        ensures plan { self.new.plan.now ≡ self.old.plan.now }
+    {
+        let entry = Entry::Host {
+            who: Who::Host(1),
+            verb,
+            port,
+            value,
+            reply,
+        };
+        if note(&mut self.tallies, entry).is_err() {
+            return Err(NetError::Memory);
+        }
+        match reply {
+            Reply::Value(came) => self.takes(port, item, came),
+            _ => Ok(true),
+        }
+    }
+
+    // Takes a value that came: whether it is due, or any may come.
+    fn takes(&mut self, port: u32, item: Option<Item>, value: Value) -> Result<bool, NetError>
+        ensures wiring { self.new.stepping.net.wiring ≡ self.old.stepping.net.wiring }
+        ensures plan { self.new.plan.now ≡ self.old.plan.now }
+    {
+        let group = self.group;
+        match &mut self.learnt {
+            None => Ok(fits(item, Some(value))),
+            Some(learnt) => match add_value(learnt, port, Came { group, value }) {
+                Ok(()) => Ok(true),
+                Err(_) => Err(NetError::Memory),
+            },
+        }
+    }
+
+    // The item that a word at a port is about.
+    fn item_of(&self, port: u32, verb: Verb) -> Option<Item> {
+        let stream = numbered(&self.plan.streams, port)?;
+        let tally = numbered(&self.tallies, port)?;
+        match verb {
+            Verb::Offer | Verb::Accept => stream.item_at(tally.begun.len()),
+            _ => stream.item_at(tally.ended.len()),
+        }
+    }
+
+    // The value that a word at a port brings.
+    fn value_of(&self, port: u32, verb: Verb, item: Option<Item>) -> Option<Value> {
+        let chan = self.stepping.net().names().chan(port)?;
+        match item {
+            Some(Item::Value(value)) if verb.wants_value(chan.kind) => Some(value),
+            _ => None,
+        }
+    }
+}
+
+// The number of the port at a place.
+fn port_of(place: usize) -> u32 {
+    u32::try_from(place).unwrap_or(u32::MAX).saturating_add(1)
+}
+
+// How many components can move.
+fn count_ready(net: &Net) -> u32 {
+    let Some(mut comp) = net.next_ready(1) else {
+        return 0;
+    };
+    for before in 0..u32::MAX {
+        match net.next_ready(comp.saturating_add(1)) {
+            Some(next) if next > comp => comp = next,
+            _ => return before.saturating_add(1),
+        }
+    }
+    u32::MAX
 }

@@ -9,10 +9,10 @@ use crate::counted::Counted;
 use crate::files::BenchFiles;
 use crate::nets::{Found, Nets};
 use crate::opened::Opened;
-use crate::playing::{Had, Setting, case_of};
+use crate::plan::{Plan, plan_of};
 use crate::reading::{Refusal, bench_of, no_netlist, path_beside};
+use crate::setting::{Had, Setting, case_of};
 use bz_bench::Bench;
-use bz_bench_play::{Plan, plan_of};
 use bz_cli_input::Fault;
 
 /// Adds the cases of a bench: one for each seed, or the one that says why it is not played. Where that is asked for, what comes is

@@ -3,9 +3,10 @@
 use crate::case::{Short, Told};
 use crate::ended::Unlike;
 use crate::journal::line_of;
-use crate::playing::Setting;
+use crate::playing::Played;
+use crate::setting::Setting;
 use crate::unlike::is_pull;
-use bz_bench_play::{Played, Verdict};
+use crate::verdict::Verdict;
 use bz_model::numbered;
 use bz_text::Text;
 use bz_trace_text::counts;

@@ -1,7 +1,7 @@
 //! Two plays of one bench that passed with other values.
 
 use crate::ended::Unlike;
-use crate::playing::Had;
+use crate::setting::Had;
 use bz_bench::Tally;
 use bz_flat::Flat;
 use bz_model::{ChanKind, Value, numbered};

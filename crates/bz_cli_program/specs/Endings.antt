@@ -3,9 +3,9 @@ use Rattle.std.specs.Prelude.{◌≡◌, ℕ, ◌<◌, ◌≤◌, ◌&&◌, ◌|
 use Rattle.std.specs.Io.KnownBytes.{Keeps}
 use Rattle.bz_cli.specs.declared.pooling.Pooled.{Pooled}
 use Rattle.bz_cli_input.specs.declared.fault.Fault.{Fault}
-use Rattle.bz_cli_complete.specs.declared.fault.CompleteFault.{CompleteFault}
-use Rattle.bz_cli_complete.specs.declared.fault.CompleteFault.TheVariants as complete
-use Rattle.bz_cli_complete.specs.Completions as completing
+use Rattle.bz_complete.specs.declared.fault.CompleteFault.{CompleteFault}
+use Rattle.bz_complete.specs.declared.fault.CompleteFault.TheVariants as complete
+use Rattle.bz_complete.specs.Completions as completing
 use Rattle.bz_cli_core.specs.declared.playing.Halt.{Halt}
 use Rattle.bz_cli_core.specs.declared.run.Played.{Played}
 use Rattle.bz_cli_trace.specs.declared.fault.TraceFault.{TraceFault}

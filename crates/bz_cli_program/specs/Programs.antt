@@ -12,7 +12,7 @@ use Rattle.bz_cli_args.specs.declared.asked.ListOptions.{ListOptions}
 use Rattle.bz_cli_args.specs.declared.asked.PoolOptions.{PoolOptions}
 use Rattle.bz_cli_args.specs.declared.asked.RunOptions.{RunOptions}
 use Rattle.bz_cli_args.specs.declared.asked.WaitsOptions.{WaitsOptions}
-use Rattle.bz_cli_complete.specs.Completions.{CompletesApart}
+use Rattle.bz_complete.specs.Completions.{CompletesApart}
 use Rattle.bz_cli_core.specs.Running.{Runs}
 use Rattle.bz_cli_input.specs.Listed.{Lists}
 use Rattle.bz_cli_input.specs.declared.fault.Fault.{Fault}
@@ -25,7 +25,7 @@ use Rattle.bz_cli_waits.specs.Telling.{Waits, WaitsApart}
 use Rattle.bz_draw.specs.Behind.{DrawsApart}
 use Rattle.bz_draw.specs.Drawing.{Draws}
 use Rattle.bz_draw.specs.declared.fault.NoDrawing.{NoDrawing}
-use Rattle.bz_source_files.specs.declared.file.SourceFile.{SourceFile}
+use Rattle.bz_source.specs.declared.file.SourceFile.{SourceFile}
 use Rattle.bz_page.specs.Pages.{Blank}
 use Rattle.bz_page.specs.Paging.{Pages, PagesApart}
 use Rattle.bz_cli_program.specs.Endings.{AreWorkers, Does, IsDone, IsJournal, IsRefused, lines_asked, of_check, of_completed, of_drawing, of_made, of_pooled, of_run, of_told, waits_asked}

@@ -25,20 +25,20 @@ use bz_cli_args::{
     BAD_COMMAND_LINE, ChartOptions, CheckOptions, DrawOptions, ExploreOptions, FormatOptions,
     LintOptions, ListOptions, MAX_JOURNAL, MAX_WORKERS, PoolOptions, RunOptions, WaitsOptions,
 };
-use bz_cli_complete::{CompleteFault, complete_cmd};
 use bz_cli_core::{Halt, Played, run_cmd};
 use bz_cli_input::{Fault, list_cmd};
 use bz_cli_kinds::kinds_cmd;
 use bz_cli_source::{list_paths_cmd, parts_cmd};
 use bz_cli_trace::{CheckWay, Checked, Texts, TraceFault, check_texts, check_trace_cmd};
 use bz_cli_waits::{WaitsAsked, waits_cmd, waits_trace_cmd};
+use bz_complete::{CompleteFault, complete_cmd};
 use bz_draw::{NoDrawing, View, draw_cmd, draw_trace_cmd};
-use bz_explain_lint::{Lint, lint_cmd};
+use bz_explain::{Lint, lint_cmd};
 use bz_explore::{Files, Manner, explore_cmd};
 use bz_model::Reply;
 use bz_page::{page_cmd, page_trace_cmd};
 use bz_session::End;
-use bz_source_files::SourceFile;
+use bz_source::SourceFile;
 use bz_text::put;
 use bz_trace::Unwatched;
 use std::alloc::Global;

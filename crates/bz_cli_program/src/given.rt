@@ -6,7 +6,7 @@ use crate::files::{bytes_of_file, open_file, text_of};
 use crate::refusal::Refusal;
 use bz_cli_args::{Command, PartName, Request, Source, split_names, split_words};
 use bz_cli_trace::split_trace;
-use bz_source_files::SourceFile;
+use bz_source::SourceFile;
 use std::alloc::{AllocError, Global};
 use std::io::Input;
 use std::rt::Files;

@@ -3,7 +3,7 @@
 use crate::files::{Cause, is_file};
 use bz_cli_args::{BAD_COMMAND_LINE, Error, stray_word};
 use bz_cli_input::Fault;
-use bz_explain_lint::refuse_lint;
+use bz_explain::refuse_lint;
 use bz_explain_notes::tell;
 use bz_text::Text;
 use std::alloc::Global;

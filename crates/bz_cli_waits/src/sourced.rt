@@ -4,8 +4,7 @@ ghost use Rattle.std.specs.Prelude.{◌≡◌, IfOk};
 
 use crate::told::Told;
 use bz_cli_source::survey_of;
-use bz_source::SourceAt;
-use bz_source_files::{Named, SourceFile, tell_unnamed};
+use bz_source::{Named, SourceAt, SourceFile, tell_unnamed};
 use bz_text::Text;
 use bz_view::Piece;
 use bz_words::read_name;

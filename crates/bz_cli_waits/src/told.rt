@@ -8,9 +8,9 @@ use crate::played::Played;
 use bz_net::{Core, Play};
 use bz_since::{Behind, put_first, put_opening};
 use bz_source::Records;
-use bz_stuck::Stuck;
 use bz_text::Text;
 use bz_view::{Shown, put_chain_of, put_waits_of};
+use bz_waits::Stuck;
 use std::alloc::{AllocError, Global};
 use std::mem::forget;
 

@@ -17,7 +17,7 @@ use crate::sourced::with_source;
 use crate::told::{Told, Wanted, told_of};
 use bz_cli_input::Fault;
 use bz_cli_trace::{Texts, TraceFault};
-use bz_source_files::SourceFile;
+use bz_source::SourceFile;
 use bz_text::{WriteFault, put};
 use std::alloc::{AllocError, Global};
 use std::io::{Read, Write};

@@ -15,3 +15,4 @@ pub mod Serving
 pub mod Signals
 pub mod Spelling
 pub mod Unshown
+pub mod Completed

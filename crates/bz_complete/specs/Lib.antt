@@ -3,3 +3,4 @@ pub mod ShortTexts
 pub mod Completing
 pub mod Choosing
 pub mod Stopping
+pub mod Completions

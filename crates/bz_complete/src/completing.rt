@@ -44,7 +44,11 @@ impl Completed {
 
 /// Makes the moves on the net at its opening, each behind the takes and gots that its component must have made by then. An
 /// error is a want of memory, or that there would be more entries than a trace may have.
-pub fn complete(alloc: Global, flat: Flat, moves: &[ShortMove]) -> Result<Completed, NetError>
+pub(crate) fn complete(
+    alloc: Global,
+    flat: Flat,
+    moves: &[ShortMove],
+) -> Result<Completed, NetError>
     ensures completed { IfOk result (IsCompleted flat.wiring moves.now) }
     ensures dead { IfOk result (λ c. IfSome c.stop (IsDeadEndAt c.net.wiring c.net.state moves.now)) }
     ensures refuted { IfOk result (λ c. IfSome c.stop (IsRefuted flat.wiring moves.now)) }

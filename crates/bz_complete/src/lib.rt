@@ -1,18 +1,19 @@
-//! Short traces, which have the requests and replies of channels alone, made whole: each take and got is put in where its
-//! component must have made it.
+//! The command `complete`: a short trace, which has the requests and replies of channels alone, made whole, so that `check` reads
+//! it: each take and got is put in where its component must have made it.
 #![tactic(auto)]
 
+mod command;
 mod completing;
+mod fault;
 mod guide;
 mod making;
 mod names;
+mod naming;
 mod pending;
 mod reading;
 mod refusing;
 mod short;
+mod why;
 
-pub use completing::{Completed, complete};
-pub use making::{Maker, maker_of};
-pub use names::ChanName;
-pub use reading::{ShortFault, read_short};
-pub use short::{Sent, ShortMove};
+pub use command::complete_cmd;
+pub use fault::CompleteFault;

@@ -30,7 +30,7 @@ pub enum Maker {
 }
 
 /// Who makes a move: what stands at the active end asks, and what stands at the passive one replies.
-pub fn maker_of(net: &Net, due: ShortMove) -> Maker
+pub(crate) fn maker_of(net: &Net, due: ShortMove) -> Maker
     ensures { IsMaker net.now.wiring due result }
 {
     // (the wiring tells that no port is on a channel that the net doesn't have)

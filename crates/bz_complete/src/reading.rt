@@ -33,7 +33,7 @@ impl<T: Drop> From<AllocFailed<T>> for ShortFault {
 }
 
 /// The moves that a text spells, by numbers of channels and by these names.
-pub fn read_short(
+pub(crate) fn read_short(
     alloc: Global,
     text: &[u8],
     names: &[ChanName],

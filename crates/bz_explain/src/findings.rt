@@ -5,10 +5,12 @@
 //! fault of a component shows once the first is mended.
 
 use crate::mended::Mended;
+use crate::refusals::explain_refusal;
+use crate::site::NetlistText;
+use crate::wired::Wired;
 use bz_breeze_records::Part;
 use bz_cli_input::{Fault, in_part};
 use bz_elab::{CompAt, ElabError, first_fault};
-use bz_explain_net::{NetlistText, Wired, explain_refusal};
 use bz_explain_notes::{Detail, Finding, Findings, Notes, Severity};
 use bz_model::Chan;
 use bz_text::Text;
@@ -16,7 +18,7 @@ use std::alloc::{AllocError, Global};
 use std::io::Write;
 
 /// The most findings that are told where no other number is asked for.
-pub const MOST_TOLD: usize = 20;
+pub(crate) const MOST_TOLD: usize = 20;
 
 /// The most components at fault without which ends are looked at.
 const MOST_MENDED: usize = 20;
@@ -174,7 +176,7 @@ impl<'t> Gathered<'t> {
 }
 
 /// Nothing that was found.
-pub fn no_findings(alloc: Global) -> Findings {
+pub(crate) fn no_findings(alloc: Global) -> Findings {
     Findings {
         list: Vec::new(alloc),
         more: 0,
@@ -183,7 +185,7 @@ pub fn no_findings(alloc: Global) -> Findings {
 }
 
 /// What a fault writes of itself.
-pub fn line_of(alloc: Global, fault: &Fault) -> Text {
+pub(crate) fn line_of(alloc: Global, fault: &Fault) -> Text {
     let mut line = Text::new(alloc);
     let _ = write!(line, "{fault}");
     line

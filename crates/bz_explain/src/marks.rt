@@ -1,7 +1,7 @@
 //! Marks of the records of a text.
 
+use crate::data::Head;
 use bz_breeze_records::{Component, Parts, Slot};
-use bz_explain_net::Head;
 use std::alloc::{AllocError, Global};
 
 /// Of each part a mark for each of its records of one sort.
@@ -70,7 +70,7 @@ impl Marks {
 }
 
 /// Sets a mark. Whether there is one.
-pub fn set(marks: &mut [bool], place: usize) -> bool {
+pub(crate) fn set(marks: &mut [bool], place: usize) -> bool {
     match marks.get_mut(place) {
         Some(mark) => {
             *mark = true;

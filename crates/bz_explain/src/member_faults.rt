@@ -1,8 +1,8 @@
 //! Members of a part's forms that are at fault.
 
+use crate::data::{Head, Members, headed, inside, nth};
 use crate::part_faults::Wrong;
 use crate::reading::{find_named, name_in, put_datum, say_found};
-use bz_explain_net::{Head, Members, headed, inside, nth};
 use bz_explain_notes::Notes;
 use bz_model::MAX_WIDTH;
 use bz_sexpr::{Form, Forms, Leaf, Shape};

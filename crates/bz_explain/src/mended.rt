@@ -4,12 +4,14 @@
 //! What a component at fault may have held is not known, so no channel that it names is said to be loose. An instance at
 //! fault may bring any channels, so then no ends are looked at.
 
+use crate::data::Head;
 use crate::marks::Marks;
+use crate::site::NetlistText;
+use crate::wired::Wired;
 use bz_breeze::parts_of;
 use bz_breeze_records::Parts;
 use bz_cli_input::Fault;
 use bz_elab::{CompAt, ElabError, flattened};
-use bz_explain_net::{Head, NetlistText, Wired};
 use bz_sexpr::{Span, read_forest};
 use bz_source::Places;
 use std::alloc::{AllocError, Global};

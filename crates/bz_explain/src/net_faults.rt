@@ -2,8 +2,10 @@
 
 use crate::findings::{Gathered, MOST_TOLD};
 use crate::mended::Mended;
+use crate::refusals::explain_refusal;
+use crate::site::NetlistText;
+use crate::wired::Wired;
 use bz_elab::{ElabError, reached};
-use bz_explain_net::{NetlistText, Wired, explain_refusal};
 use bz_explain_notes::{Findings, Notes};
 use std::alloc::AllocError;
 
@@ -67,7 +69,7 @@ fn is_of_ends(error: ElabError) -> bool {
 }
 
 /// A mark for each part that this one reaches, and for this one. There is none where no part has the name.
-pub fn marks_of(netlist: NetlistText<'_>, part: &[u8]) -> Result<Vec<bool>, AllocError> {
+pub(crate) fn marks_of(netlist: NetlistText<'_>, part: &[u8]) -> Result<Vec<bool>, AllocError> {
     let parts = netlist.parts;
     match parts.number(part) {
         Some(number) if number < parts.list().len() => reached(netlist.alloc, parts, number),

@@ -1,9 +1,10 @@
 //! Parts that are at fault: what stands at the byte that the fault tells.
 
+use crate::data::{Head, Which, find, headed, members_of, nth, part_items};
 use crate::member_faults::explain_member;
 use crate::reading::{find_named, name_in, say_found};
+use crate::site::put_place;
 use bz_breeze::ByteAt;
-use bz_explain_net::{Head, Which, find, headed, members_of, nth, part_items, put_place};
 use bz_explain_notes::{Detail, Notes, spot_of};
 use bz_sexpr::{Form, Forms};
 use bz_view::Piece::{self, At, Count, Name, Number};

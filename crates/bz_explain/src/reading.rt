@@ -1,6 +1,6 @@
 //! Data by what they spell: names, and how a note speaks of a datum.
 
-use bz_explain_net::{Members, headed, nth};
+use crate::data::{Members, headed, nth};
 use bz_explain_notes::Notes;
 use bz_sexpr::{Form, Forms, Leaf, Shape};
 use bz_view::Piece::{self, Count, Name, Wide};

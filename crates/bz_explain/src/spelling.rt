@@ -1,7 +1,8 @@
 //! Texts that spell no data: what is open or closed where, and where lists in front of a stray parenthesis were closed.
 
+use crate::data::{Members, inside};
+use crate::site::put_place;
 use crate::told::MEMORY;
-use bz_explain_net::{Members, inside, put_place};
 use bz_explain_notes::{Notes, before_in_line, spot_of};
 use bz_sexpr::{Form, Forms, SexprError, read_forest};
 use bz_view::Piece::At;

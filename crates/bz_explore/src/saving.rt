@@ -16,10 +16,10 @@ use bz_net::Net;
 use bz_page::{put_page, put_stuck_row};
 use bz_since::{NoSince, Since, stuck_since};
 use bz_source::Survey;
-use bz_stuck::Stuck;
 use bz_text::{Text, WriteFault, put};
 use bz_trace_text::MAX_ENTRIES;
 use bz_view::{Piece, Seen, graph_of, put_ends, put_ring_rows};
+use bz_waits::Stuck;
 use std::alloc::Global;
 use std::io::Write;
 

@@ -11,7 +11,7 @@ use Rattle.bz_source.specs.Found.{Locates}
 use Rattle.bz_source.specs.Net.{FindsNamed}
 use Rattle.bz_source.specs.declared.source.Source.{Source}
 use Rattle.bz_source.specs.declared.survey.Survey.{Survey}
-use Rattle.bz_source_files.specs.declared.file.SourceFile.{SourceFile}
+use Rattle.bz_source.specs.declared.file.SourceFile.{SourceFile}
 use Rattle.bz_trace.specs.declared.checking.Verdict.TheVariants as verdict
 use Rattle.bz_trace.specs.Verdicts.{Judges}
 use Rattle.bz_cli_input.specs.declared.fault.Fault.{Fault}

@@ -4,8 +4,8 @@ use Rattle.std.specs.List.{flat_map}
 use Rattle.std.specs.Prelude.{IfSome}
 use Rattle.std.proofs.lemmas.List.{append-nil}
 use Rattle.bz_text.specs.Growing.{Grows}
-use Rattle.bz_source_files.specs.Lines.{lines_of}
-use Rattle.bz_source_files.specs.declared.file.SourceFile.{SourceFile}
+use Rattle.bz_source.specs.FileLines.{lines_of}
+use Rattle.bz_source.specs.declared.file.SourceFile.{SourceFile}
 use Rattle.bz_page.specs.Sources.{file_rows, files_rows, text_row}
 use Rattle.bz_page.proofs.Grown.{grows_nothing, grows_then}
 

@@ -9,7 +9,7 @@ use Rattle.bz_flat.specs.declared.flat.Pieces.{Pieces}
 use Rattle.bz_source.specs.Found.{Locates}
 use Rattle.bz_source.specs.Net.{FindsNamed}
 use Rattle.bz_source.specs.declared.survey.Survey.{Survey}
-use Rattle.bz_source_files.specs.declared.file.SourceFile.{SourceFile}
+use Rattle.bz_source.specs.declared.file.SourceFile.{SourceFile}
 use Rattle.bz_trace.specs.declared.checking.Verdict.TheVariants as verdict
 use Rattle.bz_trace.specs.Verdicts.{Judges}
 use Rattle.bz_cli_input.specs.declared.fault.Fault.{Fault}

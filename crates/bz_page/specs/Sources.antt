@@ -2,8 +2,8 @@
 use Rattle.std.specs.Prelude.{ℕ, List, ◌++◌, codes}
 use Rattle.std.specs.List.{flat_map}
 use Rattle.bz_model.specs.Traces.{name_form}
-use Rattle.bz_source_files.specs.Lines.{lines_of}
-use Rattle.bz_source_files.specs.declared.file.SourceFile.{SourceFile}
+use Rattle.bz_source.specs.FileLines.{lines_of}
+use Rattle.bz_source.specs.declared.file.SourceFile.{SourceFile}
 
 abbrev pub text_row : List ℕ → List ℕ
 text_row line = codes "text " ++ (line ++ codes "\n")

@@ -20,8 +20,7 @@ use bz_cli_input::Fault;
 use bz_cli_trace::{Checked, Texts, TraceFault, run_of};
 use bz_flat::Pieces;
 use bz_net::Play;
-use bz_source::Survey;
-use bz_source_files::{SourceFile, tell_unnamed};
+use bz_source::{SourceFile, Survey, tell_unnamed};
 use std::alloc::{AllocError, Global};
 use std::io::{Read, Write};
 

@@ -5,9 +5,9 @@ use bz_model::Value;
 use bz_net::Core;
 use bz_since::{NoSince, Since, stuck_since_in};
 use bz_source::Survey;
-use bz_stuck::Stuck;
 use bz_text::{Piece, Text};
 use bz_view::{Seen, graph_of, put_ends, put_ring_rows};
+use bz_waits::Stuck;
 use std::alloc::{AllocError, Global};
 
 /// How a run ended, where the line is still wanting that says since when.

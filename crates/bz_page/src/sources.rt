@@ -3,10 +3,10 @@
 ghost use Rattle.std.specs.Prelude.{◌++◌, IfSome, ◌≡◌};
 ghost use Rattle.std.specs.List.{flat_map};
 ghost use Rattle.bz_text.specs.Growing.{Grows};
-ghost use Rattle.bz_source_files.specs.Lines.{lines_of};
+ghost use Rattle.bz_source.specs.FileLines.{lines_of};
 ghost use Rattle.bz_page.specs.Sources.{file_rows, files_rows, name_row, text_row};
 
-use bz_source_files::{SourceFile, cut_line};
+use bz_source::{SourceFile, cut_line};
 use bz_text::{Piece, Text};
 use std::alloc::Global;
 

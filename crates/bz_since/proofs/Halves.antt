@@ -10,8 +10,8 @@ use Rattle.bz_model.specs.Nets.{Wiring, State, opening}
 use Rattle.bz_model.specs.Runs.{Run}
 use Rattle.bz_flat.specs.Wires.{WellWired}
 use Rattle.bz_net.specs.Simulation.{Simulation}
-use Rattle.bz_stuck.specs.Stuck.{AreComps, AreNumbers, AreStuck, HasCount, IsGreatest, is_member}
-use Rattle.bz_stuck.proofs.Staying.{stuck_stays}
+use Rattle.bz_waits.specs.Stuck.{AreComps, AreNumbers, AreStuck, HasCount, IsGreatest, is_member}
+use Rattle.bz_waits.proofs.Staying.{stuck_stays}
 use Rattle.bz_trace.proofs.Along.{cons_same, no_nil}
 use Rattle.bz_since.specs.declared.since.Since.{Since}
 use Rattle.bz_since.specs.declared.halving.Bounds.{Bounds}

@@ -3,7 +3,7 @@ use Rattle.std.specs.Prelude.{◌≡◌, ℕ, ◌+◌, ◌<◌, ◌≤◌, Bool,
 use Rattle.bz_model.specs.declared.event.Entry.{Entry}
 use Rattle.bz_model.specs.Nets.{Wiring, State, opening}
 use Rattle.bz_model.specs.Runs.{Run}
-use Rattle.bz_stuck.specs.Stuck.{AreStuck}
+use Rattle.bz_waits.specs.Stuck.{AreStuck}
 use Rattle.bz_since.specs.declared.since.Since.{Since}
 
 -- a component is of a stuck set

@@ -8,7 +8,7 @@ use crate::following::play;
 use crate::since::NoSince;
 use bz_model::Entry;
 use bz_net::{Core, Net};
-use bz_stuck::Stuck;
+use bz_waits::Stuck;
 use std::alloc::{AllocError, Global};
 
 /// Two places of a list of entries. Behind the entries before the first one nothing is stuck. Behind those before the second one

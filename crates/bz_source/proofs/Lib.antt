@@ -3,3 +3,4 @@ pub mod LineCounts
 pub mod Net
 pub mod Fronts
 pub mod Missing
+pub mod Cut

@@ -6,3 +6,4 @@ pub mod Lines
 pub mod Net
 pub mod Texts
 pub mod Views
+pub mod FileLines

@@ -8,9 +8,8 @@ use crate::shown::Shown;
 use crate::stuck::{MOST_LINKS, put_ring};
 use crate::waiting::Waiting;
 use crate::waits::{MOST_MEMBERS, put_cycle, put_each, put_standing};
-use bz_stuck::{Link, Stuck};
 use bz_text::Text;
-use bz_waits::{Graph, Place, Table, Wait};
+use bz_waits::{Graph, Link, Place, Stuck, Table, Wait};
 use std::alloc::{AllocError, Global};
 
 /// Adds on what a component hangs: the shortest way along which components wait, each with whatever else it waits for. Of one

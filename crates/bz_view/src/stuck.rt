@@ -6,9 +6,8 @@ use crate::piece::Piece;
 use crate::seen::Seen;
 use crate::shown::Shown;
 use crate::waits::put_wait;
-use bz_stuck::{Link, Stuck};
 use bz_text::Text;
-use bz_waits::{Place, Wait, Whom, first_move};
+use bz_waits::{Link, Place, Stuck, Wait, Whom, first_move};
 
 /// The most links of a ring that are shown.
 pub(crate) const MOST_LINKS: usize = 40;

@@ -2,8 +2,7 @@
 
 use bz_model::Phase;
 use bz_net::Core;
-use bz_stuck::Stuck;
-use bz_waits::{Graph, Table};
+use bz_waits::{Graph, Stuck, Table};
 use std::alloc::{AllocError, Global};
 
 /// Who waits for whom in a net, and what can never move again.

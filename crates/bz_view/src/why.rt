@@ -9,8 +9,8 @@ use crate::stuck::{MOST_LINKS, put_set};
 use crate::waiting::Waiting;
 use crate::waits::{MOST_MEMBERS, put_counts, put_cycles, put_each, put_held};
 use bz_model::Phase;
-use bz_stuck::Stuck;
 use bz_text::Text;
+use bz_waits::Stuck;
 
 /// The most lines of each kind that are told at rest.
 const MOST_AT_REST: usize = 10;

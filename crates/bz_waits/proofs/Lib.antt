@@ -3,3 +3,8 @@ pub mod Ends
 pub mod Gathered
 pub mod Numbered
 pub mod Passed
+pub mod Staying
+pub mod Holding
+pub mod Freeing
+pub mod Numbering
+pub mod Linking

@@ -23,7 +23,7 @@ pub(crate) fn site(core: &Core, comp: u32) -> &FlatComp
 }
 
 /// How many ports a component has.
-pub fn port_count(core: &Core, comp: u32) -> u32
+pub(crate) fn port_count(core: &Core, comp: u32) -> u32
     requires from { 0 < comp }
     requires to { comp ≤ length core.now.wiring.sites }
     ensures { result ≡ length (site_at core.now.wiring.sites comp).chans }
@@ -34,7 +34,7 @@ pub fn port_count(core: &Core, comp: u32) -> u32
 }
 
 /// The channels at the ports of a component, in the order of the ports.
-pub fn chans(core: &Core, comp: u32) -> &[u32]
+pub(crate) fn chans(core: &Core, comp: u32) -> &[u32]
     requires from { 0 < comp }
     requires to { comp ≤ length core.now.wiring.sites }
     ensures { result.now ≡ (site_at core.now.wiring.sites comp).chans }
@@ -43,7 +43,7 @@ pub fn chans(core: &Core, comp: u32) -> &[u32]
 }
 
 /// The channel at a port.
-pub fn chan_at(core: &Core, comp: u32, port: u32) -> u32
+pub(crate) fn chan_at(core: &Core, comp: u32, port: u32) -> u32
     requires { IsPort core.now.wiring.sites comp port }
     ensures { result ≡ chan_at core.now.wiring.sites comp port }
 {
@@ -60,7 +60,7 @@ pub(crate) fn is_passive_at(core: &Core, comp: u32, port: u32) -> bool
 }
 
 /// The component at the other end of the channel at a port, 0 where none stands there.
-pub fn other_end(core: &Core, comp: u32, port: u32) -> u32
+pub(crate) fn other_end(core: &Core, comp: u32, port: u32) -> u32
     requires { IsPort core.now.wiring.sites comp port }
     ensures { IsAtEnd core.now.wiring.sites (chan_at core.now.wiring.sites comp port)
         (not (passive_at core.now.wiring.sites comp port)) result }

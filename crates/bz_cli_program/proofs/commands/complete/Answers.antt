@@ -1,5 +1,5 @@
 use Rattle.std.specs.Option.{option_copied}
-use Rattle.bz_cli_complete.specs.Completions.{CompletesApart}
+use Rattle.bz_complete.specs.Completions.{CompletesApart}
 use Rattle.bz_cli_program.specs.Endings.{of_completed}
 use Rattle.bz_cli_program.proofs.Ended.{does_apart}
 use Rattle.bz_cli_program.proofs.commands.complete.Goals as goal

@@ -1,6 +1,0 @@
-use Rattle.bz_bench_play.specs.Verdicts.{IsStill}
-use Rattle.bz_bench_play.proofs.Ports.{OfFirst}
-use Rattle.bz_bench_play.proofs.judging.are_still.Given as goal
-
-abbrev pub invariant-loop-place : goal.invariant-loop-place
-invariant-loop-place l = OfFirst l.streams (IsStill l.net.wiring l.net.state l.net.journal l.group) l.place

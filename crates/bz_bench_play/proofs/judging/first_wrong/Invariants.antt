@@ -1,5 +1,0 @@
-use Rattle.bz_bench_play.proofs.Ports.{AreFirst}
-use Rattle.bz_bench_play.proofs.judging.first_wrong.Given as goal
-
-abbrev pub invariant-loop-place : goal.invariant-loop-place
-invariant-loop-place l = AreFirst l.stream l.passed l.place

@@ -1,0 +1,173 @@
+//! The command `complete`: a short trace made one that `check` reads.
+//!
+//! The trace is made whole before any of it goes out, so nothing is written where there is none.
+
+ghost use Rattle.std.specs.Prelude.{IfSome, OnErr, OnOk};
+ghost use Rattle.std.specs.Option.{option_copied};
+ghost use Rattle.bz_cli_input.specs.Reading.{ReadsWithin};
+ghost use Rattle.bz_complete.specs.Completions.{CompletesApart, CompletesTexts, Finds, FindsIn, Makes, SendsTrace, SendsTraceSome};
+ghost use Rattle.bz_complete.specs.Completing.{IsCompleted};
+ghost use Rattle.bz_complete.specs.Stopping.{IsDeadEndAt, IsRefuted};
+ghost use Rattle.bz_model.specs.Nets.{Wiring};
+
+use crate::completing::{Completed, complete};
+use crate::fault::CompleteFault;
+use crate::names::ChanName;
+use crate::naming::{has_names, sole_names};
+use crate::reading::{ShortFault, read_short};
+use crate::short::ShortMove;
+use crate::why::why_not;
+use bz_cli_core::write_out;
+use bz_cli_input::Fault;
+use bz_cli_source::net_of;
+use bz_cli_trace::Texts;
+use bz_flat::Flat;
+use bz_model::NetError;
+use bz_net::Net;
+use bz_source::Source;
+use bz_text::WriteFault;
+use std::alloc::{AllocError, Global};
+use std::io::{Read, Write};
+
+/// Makes the short trace that a reader gives whole on the net of a part of the netlist that another one gives, and writes the
+/// trace. Nothing is written where that can't be done.
+pub fn complete_cmd<R: Read, T: Read, W: Write>(
+    alloc: Global,
+    part: Option<&[u8]>,
+    input: &mut R,
+    short: &mut T,
+    output: &mut W,
+) -> Result<(), CompleteFault>
+    ensures completes { IfSome (R.remaining input.old) (λ netlist. IfSome (T.remaining short.old)
+        (λ text. CompletesApart netlist text (option_copied part.entry) (W.contents output.old) (W.contents output.new) result)) }
+
+    // Whatever comes of it, it reads at most one byte past the limit.
+    ensures bounded { ReadsWithin (R.remaining input.old) (R.remaining input.new) }
+    ensures bounded_short { ReadsWithin (T.remaining short.old) (T.remaining short.new) }
+{
+    match Texts::read_apart(alloc, input, short) {
+        Ok(texts) => complete_texts(alloc, part, &texts, output),
+        Err(fault) => Err(CompleteFault::Command(Fault::from(fault))),
+    }
+}
+
+// Writes the trace that comes of a short one.
+fn complete_texts<W: Write>(
+    alloc: Global,
+    part: Option<&[u8]>,
+    texts: &Texts,
+    output: &mut W,
+) -> Result<(), CompleteFault>
+    ensures { CompletesTexts texts.now.netlist texts.now.trace (option_copied part.entry) (W.contents output.old) (W.contents output.new) result }
+{
+    let (netlist, short) = texts.both();
+    let net = match find(alloc, part, netlist, short) {
+        Ok(net) => net,
+        Err(fault) => return Err(fault),
+    };
+    match put_net(&net, output) {
+        Ok(()) => Ok(()),
+        Err(WriteFault) => Err(CompleteFault::Command(Fault::Write)),
+    }
+}
+
+// Writes the trace of a net.
+fn put_net<W: Write>(net: &Net, output: &mut W) -> Result<(), WriteFault>
+    ensures ok { OnOk result (SendsTrace net.now (W.contents output.old) (W.contents output.new)) }
+    ensures err { OnErr result (SendsTraceSome net.now (W.contents output.old) (W.contents output.new)) }
+{
+    match write_out(net.names(), net.journal(), net.clashes(), output) {
+        Ok(()) => Ok(()),
+        Err(WriteFault) => Err(WriteFault),
+    }
+}
+
+// The net on which a short trace was made whole.
+fn find(
+    alloc: Global,
+    part: Option<&[u8]>,
+    netlist: &[u8],
+    short: &[u8],
+) -> Result<Net, CompleteFault>
+    ensures { Finds netlist.now short.now (option_copied part.entry) result }
+{
+    let (flat, source, name) = match net_of(alloc, part, netlist) {
+        Ok(read) => read,
+        Err(fault) => return Err(CompleteFault::Command(fault)),
+    };
+    let names = names_for(alloc, short, source, name.as_slice(), &flat);
+    match names {
+        Ok(names) => find_in(alloc, flat, names.as_slice(), short),
+        Err(_) => Err(CompleteFault::Command(Fault::Memory)),
+    }
+}
+
+// The names of channels, where a short trace has some.
+fn names_for(
+    alloc: Global,
+    short: &[u8],
+    source: Source,
+    part: &[u8],
+    flat: &Flat,
+) -> Result<Vec<ChanName>, AllocError> {
+    if !has_names(short) {
+        return Ok(Vec::new(alloc));
+    }
+    // a part that has a net has places, so nothing but memory can be wanting
+    match source.survey(alloc, part) {
+        Ok(survey) => sole_names(alloc, &survey, flat),
+        Err(_) => Err(AllocError),
+    }
+}
+
+// The same on this net, of which channels have these names.
+fn find_in(
+    alloc: Global,
+    flat: Flat,
+    names: &[ChanName],
+    short: &[u8],
+) -> Result<Net, CompleteFault>
+    ensures { FindsIn flat.wiring names.now short.now result }
+{
+    match read_short(alloc, short, names) {
+        Ok(moves) => make(alloc, flat, moves.as_slice()),
+        Err(ShortFault::Bad(line)) => Err(CompleteFault::NotShort(line)),
+        Err(ShortFault::Memory) => Err(CompleteFault::Command(Fault::Memory)),
+    }
+}
+
+// Makes these moves on a net.
+fn make(alloc: Global, flat: Flat, moves: &[ShortMove]) -> Result<Net, CompleteFault>
+    ensures { Makes flat.wiring moves.now result }
+{
+    match complete(alloc, flat, moves) {
+        Ok(completed) => made(alloc, completed, moves),
+        Err(NetError::JournalFull) => Err(CompleteFault::TooLong),
+        Err(_) => Err(CompleteFault::Command(Fault::Memory)),
+    }
+}
+
+// The net, if all moves were made on it.
+fn made(alloc: Global, completed: Completed, moves: &[ShortMove]) -> Result<Net, CompleteFault>
+    ensures { (w : Wiring) → IsCompleted w moves.now completed
+        → IfSome completed.stop (IsDeadEndAt completed.net.wiring completed.net.state moves.now)
+        → IfSome completed.stop (IsRefuted w moves.now) → Makes w moves.now result }
+{
+    match completed.stop {
+        None => Ok(completed.into_net()),
+        Some(line) => {
+            // (what the journal has is that of a run)
+            let _ = completed.net.journal();
+            let why = why_at(alloc, &completed.net, moves, line);
+            Err(CompleteFault::Stopped { line, why })
+        }
+    }
+}
+
+// Why the move of a line can't be made.
+fn why_at(alloc: Global, net: &Net, moves: &[ShortMove], line: usize) -> String {
+    match moves.get(line.wrapping_sub(1)) {
+        Some(due) => why_not(alloc, net, *due),
+        None => String::new(alloc),
+    }
+}

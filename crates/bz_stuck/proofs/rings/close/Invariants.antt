@@ -1,5 +1,0 @@
-use Rattle.bz_stuck.proofs.Linking.{LinksUpTo}
-use Rattle.bz_stuck.proofs.rings.close.Given as goal
-
-abbrev pub invariant-loop-place : goal.invariant-loop-place
-invariant-loop-place l = LinksUpTo l.core.wiring l.core.state l.members l.comps l.place l.links.items

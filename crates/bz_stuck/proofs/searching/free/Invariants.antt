@@ -1,5 +1,0 @@
-use Rattle.bz_stuck.specs.Freeing.{Frees}
-use Rattle.bz_stuck.proofs.searching.free.Given as goal
-
-abbrev pub invariant-loop-turn : goal.invariant-loop-turn
-invariant-loop-turn l = Frees l.core.wiring l.core.state l.members.items l.freed.items

@@ -1,5 +1,0 @@
-use Rattle.bz_stuck.specs.Freeing.{Frees}
-use Rattle.bz_stuck.proofs.searching.free_outer.Given as goal
-
-abbrev pub invariant-loop-place : goal.invariant-loop-place
-invariant-loop-place l = Frees l.core.wiring l.core.state l.members.items l.freed.items

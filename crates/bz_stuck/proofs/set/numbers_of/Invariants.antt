@@ -1,5 +1,0 @@
-use Rattle.bz_stuck.proofs.Numbering.{NumbersUpTo}
-use Rattle.bz_stuck.proofs.set.numbers_of.Given as goal
-
-abbrev pub invariant-loop-place : goal.invariant-loop-place
-invariant-loop-place l = NumbersUpTo l.members l.place l.numbers.items

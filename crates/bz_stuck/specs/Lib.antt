@@ -1,4 +1,0 @@
-pub mod Stuck
-pub mod Holding
-pub mod Freeing
-pub mod Rings
