@@ -342,11 +342,7 @@ pub fn list<R: Read, W: Write>(
 }
 
 /// Lists the parts of a netlist.
-pub fn parts<R: Read, W: Write>(
-    alloc: Global,
-    input: &mut R,
-    output: &mut W,
-) -> Result<u8, Fault>
+pub fn parts<R: Read, W: Write>(alloc: Global, input: &mut R, output: &mut W) -> Result<u8, Fault>
     ensures parts { IfSome (R.remaining input.old)
         (λ text. IsDone (ListsParts text (W.contents output.old) (W.contents output.new)) result) }
 
@@ -357,11 +353,7 @@ pub fn parts<R: Read, W: Write>(
 }
 
 /// Tells the kinds of component.
-pub fn kinds<W: Write>(
-    alloc: Global,
-    options: FormatOptions,
-    output: &mut W,
-) -> Result<u8, Fault> {
+pub fn kinds<W: Write>(alloc: Global, options: FormatOptions, output: &mut W) -> Result<u8, Fault> {
     done(kinds_cmd(alloc, options.json, output))
 }
 

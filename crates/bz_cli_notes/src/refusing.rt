@@ -1,8 +1,6 @@
 //! How the program ends before its command begins.
 
-use bz_cli_args::{
-    BAD_COMMAND_LINE, Cause, Error, Refusal, Told, is_file, stray_word, tell_error,
-};
+use bz_cli_args::{BAD_COMMAND_LINE, Cause, Error, Refusal, Told, is_file, stray_word, tell_error};
 use bz_cli_input::Fault;
 use bz_explain_lint::refuse_lint;
 use bz_explain_notes::tell;

@@ -39,12 +39,13 @@ impl<
     R: Threads + Wait + Sync + Files + Input + Print + AllocGlobal,
     F: NewFiles + BenchFiles,
     E: Write,
-> System<'_, R, F, E>
-{
+> System<'_, R, F, E> {
     /// Does what is asked for, on the netlist of the file that is named, or of standard input; or on each of several. The status with
     /// which the program ends.
     pub fn play(&mut self, request: &mut Request<'_>) -> u8 {
-        if request.command.is_by_hand() && matches!(request.command.trace_file(), Some(Source::Stdin)) {
+        if request.command.is_by_hand()
+            && matches!(request.command.trace_file(), Some(Source::Stdin))
+        {
             let why = "standard input cannot have both the lines and the trace";
             return self.refuse(Refusal::Line(why));
         }
@@ -126,7 +127,16 @@ impl<
         };
         let kept = kept_for_notes(&*input, given.explains);
         let alloc = self.rt.alloc();
-        end(self.rt, alloc, given, kept, status, checked, played, self.errors)
+        end(
+            self.rt,
+            alloc,
+            given,
+            kept,
+            status,
+            checked,
+            played,
+            self.errors,
+        )
     }
 
     // Does what a command says, with a trace of its own where there is one.
@@ -155,13 +165,29 @@ impl<
             self.errors,
         );
         let (status, mut checked, ended, coverage) = outcome.into_parts();
-        let status = tell_object(alloc, given, input.kept(), status, &mut checked, &mut output);
+        let status = tell_object(
+            alloc,
+            given,
+            input.kept(),
+            status,
+            &mut checked,
+            &mut output,
+        );
         let texts = KeptTexts {
             input: input.kept(),
             output: output.copy(),
         };
         let (files, errors) = (&mut *self.files, &mut *self.errors);
-        let status = cover(alloc, given, texts, status, &mut checked, coverage, files, errors);
+        let status = cover(
+            alloc,
+            given,
+            texts,
+            status,
+            &mut checked,
+            coverage,
+            files,
+            errors,
+        );
         Outcome {
             status,
             checked,
@@ -169,7 +195,9 @@ impl<
             coverage: None,
         }
     }
+}
 
+impl<R: Files + Input + Print + AllocGlobal, F: NewFiles, E: Write> System<'_, R, F, E> {
     // Checks several traces.
     fn play_several<N: Read + Drop>(
         &mut self,
@@ -182,13 +210,13 @@ impl<
         let Ok(names) = texts.traces(alloc, request) else {
             return self.refuse(Refusal::Memory);
         };
-        let status = self.check_several(given, names.as_slice(), input);
+        let status = self.check_traces(given, names.as_slice(), input);
         let kept = kept_for_notes(&*input, given.explains);
         end(self.rt, alloc, given, kept, status, None, None, self.errors)
     }
 
     // The same, with what they exercised in a file of its own where that is asked for.
-    fn check_several<N: Read + Drop>(
+    fn check_traces<N: Read + Drop>(
         &mut self,
         given: &Given<'_, '_>,
         names: &[&str],

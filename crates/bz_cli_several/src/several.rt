@@ -388,7 +388,10 @@ pub(crate) fn put_unread<C: Display + Drop, W: Write, E: Write>(
     if json {
         return Ok(());
     }
-    put_out(output, &[Piece::Bytes(name.as_bytes()), Piece::Bytes(b": not read\n")])
+    put_out(
+        output,
+        &[Piece::Bytes(name.as_bytes()), Piece::Bytes(b": not read\n")],
+    )
 }
 
 fn put_tally<W: Write>(tally: Tally, output: &mut W) -> Result<(), Fault> {
