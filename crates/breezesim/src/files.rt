@@ -3,8 +3,8 @@
 //! A file is made anew, so that no other program's file can come between the look and the writing. With `!` it is opened
 //! first, compared with the netlist by device and number, and only then emptied.
 
+use bz_cli_args::{Cause, bytes_of_file};
 use bz_cli_bench::{BenchFiles, Unread};
-use bz_cli_program::{Cause, bytes_of_file};
 use bz_explore::{Files, NoFile};
 use std::alloc::Global;
 use std::fs;

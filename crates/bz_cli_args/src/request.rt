@@ -7,6 +7,7 @@
 
 use crate::asked::{Command, Source, command_in, source_named};
 use crate::commands::command_line;
+use crate::statuses::BAD_COMMAND_LINE;
 use clap::ArgMatches;
 pub use clap::Error;
 use clap::error::ErrorKind;
@@ -168,6 +169,3 @@ pub fn shared_stdin(request: &Request<'_>) -> Option<&'static str> {
 fn count_stdin(files: &[&str]) -> usize {
     files.iter().filter(|file| **file == "-").count()
 }
-
-/// The status of a bad command line.
-pub const BAD_COMMAND_LINE: u8 = 2;

@@ -1,3 +1,0 @@
-pub mod Endings
-pub mod Programs
-pub mod Counting

@@ -3,17 +3,15 @@
 ghost use Rattle.std.specs.Prelude.{◌≡◌, is_some};
 ghost use Rattle.std.specs.Option.{option_copied, option_map};
 ghost use Rattle.bz_cli_input.specs.Reading.{ReadsWithin};
-ghost use Rattle.bz_cli_program.specs.Programs.{ProgramDoes};
+ghost use Rattle.bz_cli_commands.specs.Programs.{ProgramDoes};
 ghost use Rattle.bz_words.specs.Words.{texts};
 
-use crate::benching::test;
-use crate::commands::{
-    chart, check, complete, draw, explore, kinds, lint, list, page, parts, pool, run, waits,
-};
-use crate::given::Given;
-use crate::outcome::Outcome;
-use bz_cli_args::Command;
+use crate::exploring::explore;
+use bz_cli_args::{Command, Given};
 use bz_cli_bench::BenchFiles;
+use bz_cli_commands::{
+    Outcome, chart, check, complete, draw, kinds, lint, list, page, parts, pool, run, test, waits,
+};
 use bz_cli_input::Fault;
 use bz_explore::Files;
 use std::alloc::Global;

@@ -1,0 +1,3 @@
+pub mod Endings
+pub mod Programs
+pub mod Counting

@@ -1,0 +1,62 @@
+//! The command `test`, as the command line asks for it.
+
+ghost use Rattle.std.specs.Prelude.{length};
+ghost use Rattle.bz_cli_bench.specs.Cases.{Tests};
+ghost use Rattle.bz_cli_input.specs.Reading.{ReadsWithin};
+ghost use Rattle.bz_words.specs.Words.{texts};
+
+use bz_cli_args::{Given, SeedsAsked, TestForm, TestOptions};
+use bz_cli_bench::{Asked, BenchFiles, Form, Seeds, test_cmd};
+use bz_cli_input::Fault;
+use std::alloc::Global;
+use std::io::{Read, Write};
+
+/// Plays benches, whose files are the words, and tells what each case came to. That a trace could not be kept goes to `errors`.
+pub fn test<R: Read, F: BenchFiles, W: Write, E: Write>(
+    alloc: Global,
+    given: &Given<'_, '_>,
+    options: TestOptions<'_>,
+    input: &mut R,
+    files: &mut F,
+    output: &mut W,
+    errors: &mut E,
+) -> Result<u8, Fault>
+    ensures tests { Tests (length (texts given.now.words.now)) result }
+
+    // Whatever comes of it, it reads at most one byte past the limit.
+    ensures bounded { ReadsWithin (R.remaining input.old) (R.remaining input.new) }
+{
+    let asked = Asked {
+        benches: given.words,
+        netlist: if options.has_netlist {
+            Some(given.file.unwrap_or("-"))
+        } else {
+            None
+        },
+        part: given.part,
+        seeds: seeds_of(options.seeds),
+        fuel: options.fuel,
+        journal: options.journal,
+        traces: options.traces,
+        cover: options.cover,
+        form: form_of(options.form),
+        blesses: options.bless,
+    };
+    test_cmd(alloc, asked, input, files, output, errors)
+}
+
+fn seeds_of(seeds: SeedsAsked) -> Seeds {
+    match seeds {
+        SeedsAsked::None => Seeds::Without,
+        SeedsAsked::One(seed) => Seeds::One(seed),
+        SeedsAsked::Upto(last) => Seeds::Upto(last),
+    }
+}
+
+fn form_of(form: TestForm) -> Form {
+    match form {
+        TestForm::Text => Form::Text,
+        TestForm::Json => Form::Json,
+        TestForm::Junit => Form::Junit,
+    }
+}

@@ -1,0 +1,282 @@
+//! From a request to a status: the files that it names, and the command on one netlist after another.
+
+use crate::keeping::{cover, keep};
+use crate::performing::program;
+use bz_cli_args::{
+    Command, DONE, Given, Refusal, Request, Source, Texts, mistake_in, open_file, shared_stdin,
+};
+use bz_cli_bench::BenchFiles;
+use bz_cli_commands::Outcome;
+use bz_cli_input::Fault;
+use bz_cli_notes::{end, put_checked, refuse, tell_unread};
+use bz_cli_several::{Copying, KeptTexts, check_several};
+use bz_cli_trace::Checked;
+use bz_explain_notes::Keeping;
+use bz_explore::Files as NewFiles;
+use std::alloc::Global;
+use std::io;
+use std::io::{BufWriter, Input, Read, Write};
+use std::rt::Files;
+use std::sync::Wait;
+use std::thread::Threads;
+
+/// How many bytes of output are gathered before they go out.
+const BUFFER_SIZE: usize = 65_536;
+
+/// What the program is called on.
+#[derive(Drop)]
+pub struct System<'s, R, F, E> {
+    /// Its streams, the files that it reads, and its threads.
+    pub rt: &'s R,
+    /// The files that it makes, and those that benches name.
+    pub files: &'s mut F,
+    pub errors: &'s mut E,
+    /// Whether lines are typed at a prompt.
+    pub prompts: bool,
+}
+
+impl<
+    R: Threads + Wait + Sync + Files + Input + Print + AllocGlobal,
+    F: NewFiles + BenchFiles,
+    E: Write,
+> System<'_, R, F, E> {
+    /// Does what is asked for, on the netlist of the file that is named, or of standard input; or on each of several. The status with
+    /// which the program ends.
+    pub fn play(&mut self, request: &mut Request<'_>) -> u8 {
+        if request.command.is_by_hand()
+            && matches!(request.command.trace_file(), Some(Source::Stdin))
+        {
+            let why = "standard input cannot have both the lines and the trace";
+            return self.refuse(Refusal::Line(why));
+        }
+        if let Some(why) = mistake_in(request) {
+            return self.refuse(Refusal::Line(why));
+        }
+        if let Some(other) = shared_stdin(request) {
+            return self.refuse(Refusal::Shared(other));
+        }
+        if request.files.is_empty() {
+            self.play_source(request)
+        } else {
+            self.play_each(request)
+        }
+    }
+
+    // The same on each of several netlists. The greatest status of them.
+    fn play_each(&mut self, request: &mut Request<'_>) -> u8 {
+        let mut worst = 0;
+        for place in 0..request.files.len() {
+            if let Some(file) = request.files.get(place).copied() {
+                request.netlist = Source::named(file);
+                worst = worst.max(self.play_source(request));
+            }
+        }
+        worst
+    }
+
+    fn play_source(&mut self, request: &Request<'_>) -> u8 {
+        match request.netlist {
+            Source::Stdin => self.play_on(request, self.rt.reader()),
+            Source::File(path) => match open_file(self.rt, path) {
+                Ok(file) => self.play_on(request, file),
+                Err(cause) => {
+                    if request.command.answers_objects() {
+                        tell_unread(self.rt.alloc(), path, cause, &mut io::writer(self.rt));
+                    }
+                    self.refuse(Refusal::File(path, cause))
+                }
+            },
+        }
+    }
+
+    // Does what is asked for on a netlist.
+    fn play_on<N: Read + Drop>(&mut self, request: &Request<'_>, input: N) -> u8 {
+        let alloc = self.rt.alloc();
+        let keeps = request.explains
+            || request.command.cover_file().is_some()
+            || request.command.answers_findings();
+        let input = &mut Keeping::new(alloc, input, keeps);
+        let texts = match Texts::of(self.rt, alloc, request) {
+            Ok(texts) => texts,
+            Err(why) => return self.refuse(why),
+        };
+        let Ok(words) = texts.words(alloc, request) else {
+            return self.refuse(Refusal::Memory);
+        };
+        let given = texts.given(request, words.as_slice(), self.prompts);
+        if given.command.is_of_several() {
+            return self.play_several(request, &texts, &given, input);
+        }
+        self.play_one(&given, input)
+    }
+
+    // The same of a command with one trace at most: that of the file that is named, or of standard input, or none of its own.
+    fn play_one<N: Read + Drop>(&mut self, given: &Given<'_, '_>, input: &mut Keeping<N>) -> u8 {
+        let outcome = match given.command.trace_file() {
+            None => self.perform(given, input, None::<R::File>),
+            Some(Source::Stdin) => self.perform(given, input, Some(self.rt.reader())),
+            Some(Source::File(path)) => match open_file(self.rt, path) {
+                Ok(file) => self.perform(given, input, Some(file)),
+                Err(cause) => return self.refuse(Refusal::File(path, cause)),
+            },
+        };
+        let (status, checked, ended, _) = outcome.into_parts();
+        let played = match &ended {
+            Some(ended) => Some(ended.net()),
+            None => None,
+        };
+        let kept = kept_for_notes(&*input, given.explains);
+        let alloc = self.rt.alloc();
+        end(
+            self.rt,
+            alloc,
+            given,
+            kept,
+            status,
+            checked,
+            played,
+            self.errors,
+        )
+    }
+
+    // Does what a command says, with a trace of its own where there is one.
+    fn perform<N: Read + Drop, T: Read + Drop>(
+        &mut self,
+        given: &Given<'_, '_>,
+        input: &mut Keeping<N>,
+        trace: Option<T>,
+    ) -> Outcome {
+        let alloc = self.rt.alloc();
+        let Ok(output) = BufWriter::with_capacity(alloc, BUFFER_SIZE, io::writer(self.rt)) else {
+            return Outcome::from(Fault::Memory);
+        };
+        let covers = given.command.cover_file().is_some();
+        let mut output = Copying::new(alloc, output, covers);
+        let mut trace = trace;
+        let outcome = program(
+            self.rt,
+            alloc,
+            given,
+            input,
+            trace.as_mut(),
+            &mut self.rt.reader(),
+            self.files,
+            &mut output,
+            self.errors,
+        );
+        let (status, mut checked, ended, coverage) = outcome.into_parts();
+        let status = tell_object(
+            alloc,
+            given,
+            input.kept(),
+            status,
+            &mut checked,
+            &mut output,
+        );
+        let texts = KeptTexts {
+            input: input.kept(),
+            output: output.copy(),
+        };
+        let (files, errors) = (&mut *self.files, &mut *self.errors);
+        let status = cover(
+            alloc,
+            given,
+            texts,
+            status,
+            &mut checked,
+            coverage,
+            files,
+            errors,
+        );
+        Outcome {
+            status,
+            checked,
+            ended,
+            coverage: None,
+        }
+    }
+}
+
+impl<R: Files + Input + Print + AllocGlobal, F: NewFiles, E: Write> System<'_, R, F, E> {
+    // Checks several traces.
+    fn play_several<N: Read + Drop>(
+        &mut self,
+        request: &Request<'_>,
+        texts: &Texts,
+        given: &Given<'_, '_>,
+        input: &mut Keeping<N>,
+    ) -> u8 {
+        let alloc = self.rt.alloc();
+        let Ok(names) = texts.traces(alloc, request) else {
+            return self.refuse(Refusal::Memory);
+        };
+        let status = self.check_traces(given, names.as_slice(), input);
+        let kept = kept_for_notes(&*input, given.explains);
+        end(self.rt, alloc, given, kept, status, None, None, self.errors)
+    }
+
+    // The same, with what they exercised in a file of its own where that is asked for.
+    fn check_traces<N: Read + Drop>(
+        &mut self,
+        given: &Given<'_, '_>,
+        names: &[&str],
+        input: &mut Keeping<N>,
+    ) -> Result<u8, Fault> {
+        let Command::Check(options) = given.command else {
+            return Ok(DONE);
+        };
+        let (rt, alloc) = (self.rt, self.rt.alloc());
+        let Ok(mut output) = BufWriter::with_capacity(alloc, BUFFER_SIZE, io::writer(rt)) else {
+            return Err(Fault::Memory);
+        };
+        let mut covered = None;
+        let status = check_several(
+            rt,
+            alloc,
+            given,
+            options,
+            names,
+            input,
+            &mut covered,
+            &mut output,
+            self.errors,
+        );
+        match (status, covered, options.cover) {
+            (Ok(status), Some(covered), Some(path)) => {
+                keep(covered, path, status, self.files, self.errors)
+            }
+            (status, _, _) => status,
+        }
+    }
+
+    // Ends before a command begins.
+    fn refuse(&mut self, why: Refusal<'_>) -> u8 {
+        refuse(self.rt.alloc(), why, self.errors)
+    }
+}
+
+// Writes what was found of a trace as an object, where that is asked for. `kept` is the input, where it was kept.
+fn tell_object<W: Write>(
+    alloc: Global,
+    given: &Given<'_, '_>,
+    kept: Option<&[u8]>,
+    status: Result<u8, Fault>,
+    checked: &mut Option<Checked>,
+    output: &mut W,
+) -> Result<u8, Fault> {
+    if !given.command.answers_findings() {
+        return status;
+    }
+    match (status, checked.take()) {
+        (Ok(status), Some(checked)) => match put_checked(alloc, given, kept, checked, output) {
+            Ok(()) => Ok(status),
+            Err(fault) => Err(fault),
+        },
+        (status, _) => status,
+    }
+}
+
+// What was kept of an input for notes, and not for another use.
+fn kept_for_notes<N: Read + Drop>(input: &Keeping<N>, explains: bool) -> Option<&[u8]> {
+    if explains { input.kept() } else { None }
+}
