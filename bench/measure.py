@@ -1,7 +1,9 @@
 #!/usr/bin/env python3
 """Measures programs with the command line of breezesim side by side.
 
-    measure.py [--counts | --times] PROGRAM [OTHER]      MOVES=1000000, ROUNDS=3 and TURNS=20 may be set in the environment
+    measure.py [--counts | --times] [PROGRAM [OTHER]]    MOVES=1000000, ROUNDS=3 and TURNS=20 may be set in the environment
+
+With no PROGRAM it is the one that ./breezesim runs, which is what is shipped; the first line says which that is.
 
 Each row is one workload, and where there are two programs, how many times as much the first takes. First come the instructions
 that callgrind counts (a part of valgrind): those of a move and of a line that is checked, from the 20,000th to the 220,000th, in
@@ -264,11 +266,21 @@ def times(programs, netlists):
             show(f"{shape}: opened, {name}", [measured(p, run(["run:0"], way), text) for p in programs])
 
 
+def shipped():
+    """The program that ./breezesim runs, which is built where it must be."""
+    launcher = os.path.join(HERE, os.pardir, "breezesim")
+    program = subprocess.run([launcher, "--where"], stdout=subprocess.PIPE, text=True, check=True).stdout.strip()
+    version = subprocess.run([launcher, "--version"], stdout=subprocess.PIPE, text=True, check=True).stdout
+    print(program, "of", " ".join(version.split()), flush=True)
+    return program
+
+
 def main():
     words = sys.argv[1:]
     only = words.pop(0) if words and words[0] in ("--counts", "--times") else None
-    if not 1 <= len(words) <= 2:
+    if len(words) > 2 or any(it.startswith("-") for it in words):
         sys.exit(__doc__)
+    words = words or [shipped()]
     with tempfile.TemporaryDirectory() as folder:
         netlists = Netlists(folder)
         if only == "--counts" and shutil.which("valgrind") is None:
