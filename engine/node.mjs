@@ -51,23 +51,32 @@ export const filesIn = folder => ({
 // The engine of a script, engine.js.
 export const engineOf = script => new Function(`${script}; return engine;`)();
 
-// The engine and the module that a live page carries.
+// The engine and the module that a live page carries, and what it says of them: of which sources they are, and whether proved.
 function carriedBy(page) {
   const block = id => page.split(`<script type="text/plain" id="${id}">`)[1].split('</script>')[0];
-  const script = block('worker').replace(/%([0-9A-F]{2})/g, (_, digits) => String.fromCharCode(parseInt(digits, 16)));
-  return {engine: engineOf(script), module: zlib.gunzipSync(Buffer.from(block('engine'), 'base64'))};
+  const textOf = id => block(id).replace(/%([0-9A-F]{2})/g, (_, digits) => String.fromCharCode(parseInt(digits, 16)));
+  const module = zlib.gunzipSync(Buffer.from(block('engine'), 'base64'));
+  return {engine: engineOf(textOf('worker')), module, made: JSON.parse(textOf('made'))};
 }
 
-function main(here) {
+// What `--version` tells beside the program's own words.
+function versionOf({kind, sources}, page) {
+  const how = kind === 'proved' ? 'its sources were proved where that was made' : 'it has checks in place of proofs';
+  return `sources ${sources}\nrun by Node, from ${page}: ${how}\n`;
+}
+
+function main(here, words) {
   const page = here.replace(/\.mjs$/, '.html');
   if (!fs.existsSync(page)) {
     process.stderr.write(`breezesim: the program is in ${path.basename(page)}, which must stand beside ${path.basename(here)}\n`);
     process.exitCode = 3;
     return;
   }
-  const {engine, module} = carriedBy(fs.readFileSync(page, 'latin1')), streams = [0, 1, 2].map(fd => new Descriptor(fd));
-  process.exitCode = engine.play(new WebAssembly.Module(module), process.argv.slice(2), filesIn('.'), streams);
+  const {engine, module, made} = carriedBy(fs.readFileSync(page, 'latin1'));
+  process.exitCode = engine.play(new WebAssembly.Module(module), words, filesIn('.'), [0, 1, 2].map(fd => new Descriptor(fd)));
+  const isAsked = words.length === 1 && ['--version', '-V'].includes(words[0]);
+  if (isAsked && process.exitCode === 0) process.stdout.write(versionOf(made, path.basename(page)));
 }
 
 const here = fileURLToPath(import.meta.url);
-if (process.argv[1] && fs.realpathSync(process.argv[1]) === fs.realpathSync(here)) main(here);
+if (process.argv[1] && fs.realpathSync(process.argv[1]) === fs.realpathSync(here)) main(here, process.argv.slice(2));

@@ -51,7 +51,7 @@ def fails(top, module, words):
 
 def faults_of(play, way, browser, program, top, module):
     """What a play finds wrong with the live page of this folder. Whatever goes wrong with it is a fault."""
-    subprocess.run([f"{top}/engine/make-page", module, "checked", f"{top}/live.html"], check=True)
+    subprocess.run([f"{top}/engine/make-page", module, "checked", f"{top}/live.html", "0" * 16], check=True)
     browser = browser()
     try:
         return live_plays.play(play, browser, program, f"{top}/live.html", way)
