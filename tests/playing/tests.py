@@ -58,8 +58,8 @@ def counts():
 
 
 def run_all(groups, tests, faults=(), in_turn=8):
-    """Runs the tests, so many in turn beside others, and tells of each that fails, then of each group how many it has. `faults` are
-    groups that can't be tested, each with why. The last line is `N passed, M failed`; answers whether all passed."""
+    """Runs the tests, so many in turn beside others, and tells of each that fails, then of each group how many it has. `faults`
+    are groups that can't be tested, each with why. The last line is `N passed, M failed`; answers whether all passed."""
     global _tests
     _tests = tests
     failed, left_out = Counter(), Counter()
