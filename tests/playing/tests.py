@@ -57,14 +57,14 @@ def counts():
     return {group: int(count) for group, count in words}
 
 
-def run_all(groups, tests, faults=()):
-    """Runs the tests and tells of each that fails, then of each group how many it has. `faults` are groups that can't be tested,
-    each with why. The last line is `N passed, M failed`; answers whether all passed."""
+def run_all(groups, tests, faults=(), in_turn=8):
+    """Runs the tests, so many in turn beside others, and tells of each that fails, then of each group how many it has. `faults`
+    are groups that can't be tested, each with why. The last line is `N passed, M failed`; answers whether all passed."""
     global _tests
     _tests = tests
     failed, left_out = Counter(), Counter()
     with multiprocessing.get_context("fork").Pool(jobs()) as pool:
-        for place, differs in pool.imap(_play, range(len(tests)), 8):
+        for place, differs in pool.imap(_play, range(len(tests)), in_turn):
             if isinstance(differs, LeftOut):
                 left_out[tests[place].group, str(differs)] += 1
             elif differs is not None:
