@@ -1,2 +1,2 @@
-pub mod Ended
+pub mod Performed
 pub mod Missing

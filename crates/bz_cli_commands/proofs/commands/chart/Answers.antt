@@ -1,7 +1,7 @@
 use Rattle.std.specs.Option.{option_copied}
 use Rattle.bz_chart.specs.Charting.{Charts, ChartsApart}
 use Rattle.bz_cli_commands.specs.Endings.{lines_asked, of_made}
-use Rattle.bz_cli_commands.proofs.Ended.{does, does_apart}
+use Rattle.bz_cli_commands.proofs.Performed.{does, does_apart}
 use Rattle.bz_cli_commands.proofs.commands.chart.Goals as goal
 
 pub returns-in-Some-clause-charts : goal.returns-in-Some-clause-charts

@@ -2,7 +2,7 @@ use Rattle.std.proofs.Common.{◌∙◌}
 use Rattle.std.specs.Option.{option_copied}
 use Rattle.bz_cli_trace.specs.Checking.{ChecksApart}
 use Rattle.bz_cli_commands.specs.Endings.{of_check}
-use Rattle.bz_cli_commands.proofs.Ended.{does_apart}
+use Rattle.bz_cli_commands.proofs.Performed.{does_apart}
 use Rattle.bz_cli_commands.proofs.commands.check_apart.Goals as goal
 
 pub returns-then-not-covers-clause-checks : goal.returns-then-not-covers-clause-checks

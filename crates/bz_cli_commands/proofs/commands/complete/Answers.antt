@@ -1,7 +1,7 @@
 use Rattle.std.specs.Option.{option_copied}
 use Rattle.bz_complete.specs.Completions.{CompletesApart}
 use Rattle.bz_cli_commands.specs.Endings.{of_completed}
-use Rattle.bz_cli_commands.proofs.Ended.{does_apart}
+use Rattle.bz_cli_commands.proofs.Performed.{does_apart}
 use Rattle.bz_cli_commands.proofs.commands.complete.Goals as goal
 
 pub returns-in-Some-clause-completes : goal.returns-in-Some-clause-completes

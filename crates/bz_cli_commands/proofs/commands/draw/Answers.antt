@@ -3,7 +3,7 @@ use Rattle.bz_draw.specs.Behind.{DrawsApart}
 use Rattle.bz_draw.specs.Drawing.{Draws}
 use Rattle.bz_draw.specs.declared.fault.NoDrawing.{NoDrawing}
 use Rattle.bz_cli_commands.specs.Endings.{of_drawing, of_made}
-use Rattle.bz_cli_commands.proofs.Ended.{does, does_apart}
+use Rattle.bz_cli_commands.proofs.Performed.{does, does_apart}
 use Rattle.bz_cli_commands.proofs.commands.draw.Goals as goal
 
 pub returns-in-Some-clause-draws : goal.returns-in-Some-clause-draws

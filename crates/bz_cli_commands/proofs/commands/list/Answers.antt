@@ -1,7 +1,7 @@
 use Rattle.std.specs.Option.{option_copied}
 use Rattle.bz_cli_input.specs.Listed.{Lists}
 use Rattle.bz_cli_source.specs.Listed as placed
-use Rattle.bz_cli_commands.proofs.Ended.{is_done}
+use Rattle.bz_cli_commands.proofs.Performed.{is_done}
 use Rattle.bz_cli_commands.proofs.commands.list.Goals as goal
 
 pub returns-then-options-clause-places : goal.returns-then-options-clause-places

@@ -2,7 +2,7 @@ use Rattle.std.specs.Option.{option_copied}
 use Rattle.bz_page.specs.Pages.{Blank}
 use Rattle.bz_page.specs.Paging.{Pages, PagesApart}
 use Rattle.bz_cli_commands.specs.Endings.{of_made}
-use Rattle.bz_cli_commands.proofs.Ended.{does, does_apart, with_some, with_some_apart}
+use Rattle.bz_cli_commands.proofs.Performed.{does, does_apart, with_some, with_some_apart}
 use Rattle.bz_cli_commands.proofs.commands.page.Goals as goal
 
 pub returns-in-Some-clause-pages : goal.returns-in-Some-clause-pages

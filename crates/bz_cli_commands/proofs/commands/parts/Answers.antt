@@ -1,5 +1,5 @@
 use Rattle.bz_cli_source.specs.PartLists.{ListsParts}
-use Rattle.bz_cli_commands.proofs.Ended.{is_done}
+use Rattle.bz_cli_commands.proofs.Performed.{is_done}
 use Rattle.bz_cli_commands.proofs.commands.parts.Goals as goal
 
 pub returns-clause-parts : goal.returns-clause-parts

@@ -2,7 +2,7 @@ use Rattle.std.specs.Option.{option_copied}
 use Rattle.bz_words.specs.Words.{texts}
 use Rattle.bz_cli.specs.Pooling.{Pools}
 use Rattle.bz_cli_commands.specs.Endings.{of_pooled}
-use Rattle.bz_cli_commands.proofs.Ended.{does}
+use Rattle.bz_cli_commands.proofs.Performed.{does}
 use Rattle.bz_cli_commands.proofs.commands.pool.Goals as goal
 
 pub returns-clause-pools : goal.returns-clause-pools

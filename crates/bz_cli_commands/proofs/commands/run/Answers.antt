@@ -2,7 +2,7 @@ use Rattle.std.specs.Option.{option_copied}
 use Rattle.bz_words.specs.Words.{texts}
 use Rattle.bz_cli_core.specs.Running.{Runs}
 use Rattle.bz_cli_commands.specs.Endings.{of_run}
-use Rattle.bz_cli_commands.proofs.Ended.{does}
+use Rattle.bz_cli_commands.proofs.Performed.{does}
 use Rattle.bz_cli_commands.proofs.commands.run.Goals as goal
 
 pub returns-clause-runs : goal.returns-clause-runs

@@ -1,7 +1,7 @@
 use Rattle.std.specs.Option.{option_copied}
 use Rattle.bz_cli_waits.specs.Telling.{Waits, WaitsApart}
 use Rattle.bz_cli_commands.specs.Endings.{of_told, waits_asked}
-use Rattle.bz_cli_commands.proofs.Ended.{does, does_apart}
+use Rattle.bz_cli_commands.proofs.Performed.{does, does_apart}
 use Rattle.bz_cli_commands.proofs.commands.waits.Goals as goal
 
 pub returns-in-Some-clause-waits : goal.returns-in-Some-clause-waits
