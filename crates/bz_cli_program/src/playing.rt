@@ -112,11 +112,14 @@ impl<
 
     // The same of a command with one trace at most: that of the file that is named, or of standard input, or none of its own.
     fn play_one<N: Read + Drop>(&mut self, given: &Given<'_, '_>, input: &mut Keeping<N>) -> u8 {
+        let rt = self.rt;
         let outcome = match given.command.trace_file() {
-            None => self.perform(given, input, None::<R::File>),
-            Some(Source::Stdin) => self.perform(given, input, Some(self.rt.reader())),
-            Some(Source::File(path)) => match open_file(self.rt, path) {
-                Ok(file) => self.perform(given, input, Some(file)),
+            None => perform(rt, given, input, None::<R::File>, self.files, self.errors),
+            Some(Source::Stdin) => {
+                perform(rt, given, input, Some(rt.reader()), self.files, self.errors)
+            }
+            Some(Source::File(path)) => match open_file(rt, path) {
+                Ok(file) => perform(rt, given, input, Some(file), self.files, self.errors),
                 Err(cause) => return self.refuse(Refusal::File(path, cause)),
             },
         };
@@ -137,63 +140,6 @@ impl<
             played,
             self.errors,
         )
-    }
-
-    // Does what a command says, with a trace of its own where there is one.
-    fn perform<N: Read + Drop, T: Read + Drop>(
-        &mut self,
-        given: &Given<'_, '_>,
-        input: &mut Keeping<N>,
-        trace: Option<T>,
-    ) -> Outcome {
-        let alloc = self.rt.alloc();
-        let Ok(output) = BufWriter::with_capacity(alloc, BUFFER_SIZE, io::writer(self.rt)) else {
-            return Outcome::from(Fault::Memory);
-        };
-        let covers = given.command.cover_file().is_some();
-        let mut output = Copying::new(alloc, output, covers);
-        let mut trace = trace;
-        let outcome = program(
-            self.rt,
-            alloc,
-            given,
-            input,
-            trace.as_mut(),
-            &mut self.rt.reader(),
-            self.files,
-            &mut output,
-            self.errors,
-        );
-        let (status, mut checked, ended, coverage) = outcome.into_parts();
-        let status = tell_object(
-            alloc,
-            given,
-            input.kept(),
-            status,
-            &mut checked,
-            &mut output,
-        );
-        let texts = KeptTexts {
-            input: input.kept(),
-            output: output.copy(),
-        };
-        let (files, errors) = (&mut *self.files, &mut *self.errors);
-        let status = cover(
-            alloc,
-            given,
-            texts,
-            status,
-            &mut checked,
-            coverage,
-            files,
-            errors,
-        );
-        Outcome {
-            status,
-            checked,
-            ended,
-            coverage: None,
-        }
     }
 }
 
@@ -252,6 +198,70 @@ impl<R: Files + Input + Print + AllocGlobal, F: NewFiles, E: Write> System<'_, R
     // Ends before a command begins.
     fn refuse(&mut self, why: Refusal<'_>) -> u8 {
         refuse(self.rt.alloc(), why, self.errors)
+    }
+}
+
+// Does what a command says, with a trace of its own where there is one.
+fn perform<
+    R: Threads + Wait + Sync + Files + Input + Print + AllocGlobal,
+    N: Read + Drop,
+    T: Read + Drop,
+    F: NewFiles + BenchFiles,
+    E: Write,
+>(
+    rt: &R,
+    given: &Given<'_, '_>,
+    input: &mut Keeping<N>,
+    trace: Option<T>,
+    files: &mut F,
+    errors: &mut E,
+) -> Outcome {
+    let alloc = rt.alloc();
+    let Ok(output) = BufWriter::with_capacity(alloc, BUFFER_SIZE, io::writer(rt)) else {
+        return Outcome::from(Fault::Memory);
+    };
+    let covers = given.command.cover_file().is_some();
+    let mut output = Copying::new(alloc, output, covers);
+    let mut trace = trace;
+    let outcome = program(
+        rt,
+        alloc,
+        given,
+        input,
+        trace.as_mut(),
+        &mut rt.reader(),
+        files,
+        &mut output,
+        errors,
+    );
+    let (status, mut checked, ended, coverage) = outcome.into_parts();
+    let status = tell_object(
+        alloc,
+        given,
+        input.kept(),
+        status,
+        &mut checked,
+        &mut output,
+    );
+    let texts = KeptTexts {
+        input: input.kept(),
+        output: output.copy(),
+    };
+    let status = cover(
+        alloc,
+        given,
+        texts,
+        status,
+        &mut checked,
+        coverage,
+        files,
+        errors,
+    );
+    Outcome {
+        status,
+        checked,
+        ended,
+        coverage: None,
     }
 }
 
