@@ -12,19 +12,20 @@ use std::os::fd::AsFd;
 use std::process::ExitCode;
 
 fn main(rt: HostRuntime) -> ExitCode {
-    let (alloc, errors) = (rt.alloc(), &mut rt.stderr());
+    let alloc = rt.alloc();
+    let mut errors = rt.stderr();
     let words = match words_of(&rt) {
         Ok(words) => words,
-        Err(fault) => return ExitCode::from(refuse(alloc, Refusal::from(fault), errors)),
+        Err(fault) => return ExitCode::from(refuse(alloc, Refusal::from(fault), &mut errors)),
     };
     let mut request = match request_of(alloc, words.as_slice()) {
         Ok(Some(request)) => request,
         Ok(None) => return ExitCode::from(BAD_COMMAND_LINE),
-        Err(error) => return ExitCode::from(tell_no_request(&rt, alloc, &error, errors)),
+        Err(error) => return ExitCode::from(tell_no_request(&rt, alloc, &error, &mut errors)),
     };
     // (where standard input is closed, a file that is opened would take its place)
     if request.command.is_by_hand() && rt.stdin().as_fd().try_clone_to_owned().is_err() {
-        return ExitCode::from(refuse(alloc, Refusal::Read, errors));
+        return ExitCode::from(refuse(alloc, Refusal::Read, &mut errors));
     }
     let mut files = SystemFiles {
         rt: &rt,
@@ -33,7 +34,7 @@ fn main(rt: HostRuntime) -> ExitCode {
     let mut system = System {
         rt: &rt,
         files: &mut files,
-        errors,
+        errors: &mut errors,
         prompts: rt.stdin().is_terminal() && rt.stdout().is_terminal(),
     };
     ExitCode::from(system.play(&mut request))

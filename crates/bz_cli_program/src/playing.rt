@@ -25,12 +25,12 @@ const BUFFER_SIZE: usize = 65_536;
 
 /// What the program is called on.
 #[derive(Drop)]
-pub struct System<'s, R, F, E> {
+pub struct System<'r, 'f, 'e, R, F, E> {
     /// Its streams, the files that it reads, and its threads.
-    pub rt: &'s R,
+    pub rt: &'r R,
     /// The files that it makes, and those that benches name.
-    pub files: &'s mut F,
-    pub errors: &'s mut E,
+    pub files: &'f mut F,
+    pub errors: &'e mut E,
     /// Whether lines are typed at a prompt.
     pub prompts: bool,
 }
@@ -39,7 +39,7 @@ impl<
     R: Threads + Wait + Sync + Files + Input + Print + AllocGlobal,
     F: NewFiles + BenchFiles,
     E: Write,
-> System<'_, R, F, E> {
+> System<'_, '_, '_, R, F, E> {
     /// Does what is asked for, on the netlist of the file that is named, or of standard input; or on each of several. The status with
     /// which the program ends.
     pub fn play(&mut self, request: &mut Request<'_>) -> u8 {
@@ -143,7 +143,7 @@ impl<
     }
 }
 
-impl<R: Files + Input + Print + AllocGlobal, F: NewFiles, E: Write> System<'_, R, F, E> {
+impl<R: Files + Input + Print + AllocGlobal, F: NewFiles, E: Write> System<'_, '_, '_, R, F, E> {
     // Checks several traces.
     fn play_several<N: Read + Drop>(
         &mut self,
