@@ -6,7 +6,7 @@ mod files;
 use crate::files::SystemFiles;
 use bz_cli_args::{BAD_COMMAND_LINE, Refusal, request_of, words_of};
 use bz_cli_notes::{refuse, tell_no_request};
-use bz_cli_program::System;
+use bz_cli_program::play;
 use std::io::IsTerminal;
 use std::os::fd::AsFd;
 use std::process::ExitCode;
@@ -31,11 +31,6 @@ fn main(rt: HostRuntime) -> ExitCode {
         rt: &rt,
         netlist: request.netlist.file(),
     };
-    let mut system = System {
-        rt: &rt,
-        files: &mut files,
-        errors: &mut errors,
-        prompts: rt.stdin().is_terminal() && rt.stdout().is_terminal(),
-    };
-    ExitCode::from(system.play(&mut request))
+    let prompts = rt.stdin().is_terminal() && rt.stdout().is_terminal();
+    ExitCode::from(play(&rt, &mut files, &mut errors, prompts, &mut request))
 }

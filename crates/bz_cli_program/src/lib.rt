@@ -7,4 +7,4 @@ mod performing;
 mod playing;
 
 pub use performing::program;
-pub use playing::System;
+pub use playing::play;

@@ -23,181 +23,166 @@ use std::thread::Threads;
 /// How many bytes of output are gathered before they go out.
 const BUFFER_SIZE: usize = 65_536;
 
-/// What the program is called on.
-#[derive(Drop)]
-pub struct System<'r, 'f, 'e, R, F, E> {
-    /// Its streams, the files that it reads, and its threads.
-    pub rt: &'r R,
-    /// The files that it makes, and those that benches name.
-    pub files: &'f mut F,
-    pub errors: &'e mut E,
-    /// Whether lines are typed at a prompt.
-    pub prompts: bool,
-}
-
-impl<
+/// Does what is asked for, on the netlist of the file that is named, or of standard input; or on each of several. The status with
+/// which the program ends.
+pub fn play<
     R: Threads + Wait + Sync + Files + Input + Print + AllocGlobal,
     F: NewFiles + BenchFiles,
     E: Write,
-> System<'_, '_, '_, R, F, E> {
-    /// Does what is asked for, on the netlist of the file that is named, or of standard input; or on each of several. The status with
-    /// which the program ends.
-    pub fn play(&mut self, request: &mut Request<'_>) -> u8 {
-        if request.command.is_by_hand()
-            && matches!(request.command.trace_file(), Some(Source::Stdin))
-        {
-            let why = "standard input cannot have both the lines and the trace";
-            return self.refuse(Refusal::Line(why));
-        }
-        if let Some(why) = mistake_in(request) {
-            return self.refuse(Refusal::Line(why));
-        }
-        if let Some(other) = shared_stdin(request) {
-            return self.refuse(Refusal::Shared(other));
-        }
-        if request.files.is_empty() {
-            self.play_source(request)
-        } else {
-            self.play_each(request)
-        }
+>(rt: &R, files: &mut F, errors: &mut E, prompts: bool, request: &mut Request<'_>) -> u8 {
+    if request.command.is_by_hand() && matches!(request.command.trace_file(), Some(Source::Stdin)) {
+        let why = "standard input cannot have both the lines and the trace";
+        return refuse(rt.alloc(), Refusal::Line(why), errors);
     }
-
-    // The same on each of several netlists. The greatest status of them.
-    fn play_each(&mut self, request: &mut Request<'_>) -> u8 {
-        let mut worst = 0;
-        for place in 0..request.files.len() {
-            if let Some(file) = request.files.get(place).copied() {
-                request.netlist = Source::named(file);
-                worst = worst.max(self.play_source(request));
-            }
-        }
-        worst
+    if let Some(why) = mistake_in(request) {
+        return refuse(rt.alloc(), Refusal::Line(why), errors);
     }
-
-    fn play_source(&mut self, request: &Request<'_>) -> u8 {
-        match request.netlist {
-            Source::Stdin => self.play_on(request, self.rt.reader()),
-            Source::File(path) => match open_file(self.rt, path) {
-                Ok(file) => self.play_on(request, file),
-                Err(cause) => {
-                    if request.command.answers_objects() {
-                        tell_unread(self.rt.alloc(), path, cause, &mut io::writer(self.rt));
-                    }
-                    self.refuse(Refusal::File(path, cause))
-                }
-            },
-        }
+    if let Some(other) = shared_stdin(request) {
+        return refuse(rt.alloc(), Refusal::Shared(other), errors);
     }
-
-    // Does what is asked for on a netlist.
-    fn play_on<N: Read + Drop>(&mut self, request: &Request<'_>, input: N) -> u8 {
-        let alloc = self.rt.alloc();
-        let keeps = request.explains
-            || request.command.cover_file().is_some()
-            || request.command.answers_findings();
-        let input = &mut Keeping::new(alloc, input, keeps);
-        let texts = match Texts::of(self.rt, alloc, request) {
-            Ok(texts) => texts,
-            Err(why) => return self.refuse(why),
-        };
-        let Ok(words) = texts.words(alloc, request) else {
-            return self.refuse(Refusal::Memory);
-        };
-        let given = texts.given(request, words.as_slice(), self.prompts);
-        if given.command.is_of_several() {
-            return self.play_several(request, &texts, &given, input);
-        }
-        self.play_one(&given, input)
-    }
-
-    // The same of a command with one trace at most: that of the file that is named, or of standard input, or none of its own.
-    fn play_one<N: Read + Drop>(&mut self, given: &Given<'_, '_>, input: &mut Keeping<N>) -> u8 {
-        let rt = self.rt;
-        let outcome = match given.command.trace_file() {
-            None => perform(rt, given, input, None::<R::File>, self.files, self.errors),
-            Some(Source::Stdin) => {
-                perform(rt, given, input, Some(rt.reader()), self.files, self.errors)
-            }
-            Some(Source::File(path)) => match open_file(rt, path) {
-                Ok(file) => perform(rt, given, input, Some(file), self.files, self.errors),
-                Err(cause) => return self.refuse(Refusal::File(path, cause)),
-            },
-        };
-        let (status, checked, ended, _) = outcome.into_parts();
-        let played = match &ended {
-            Some(ended) => Some(ended.net()),
-            None => None,
-        };
-        let kept = kept_for_notes(&*input, given.explains);
-        let alloc = self.rt.alloc();
-        end(
-            self.rt,
-            alloc,
-            given,
-            kept,
-            status,
-            checked,
-            played,
-            self.errors,
-        )
+    if request.files.is_empty() {
+        play_source(rt, files, errors, prompts, request)
+    } else {
+        play_each(rt, files, errors, prompts, request)
     }
 }
 
-impl<R: Files + Input + Print + AllocGlobal, F: NewFiles, E: Write> System<'_, '_, '_, R, F, E> {
-    // Checks several traces.
-    fn play_several<N: Read + Drop>(
-        &mut self,
-        request: &Request<'_>,
-        texts: &Texts,
-        given: &Given<'_, '_>,
-        input: &mut Keeping<N>,
-    ) -> u8 {
-        let alloc = self.rt.alloc();
-        let Ok(names) = texts.traces(alloc, request) else {
-            return self.refuse(Refusal::Memory);
-        };
-        let status = self.check_traces(given, names.as_slice(), input);
-        let kept = kept_for_notes(&*input, given.explains);
-        end(self.rt, alloc, given, kept, status, None, None, self.errors)
-    }
-
-    // The same, with what they exercised in a file of its own where that is asked for.
-    fn check_traces<N: Read + Drop>(
-        &mut self,
-        given: &Given<'_, '_>,
-        names: &[&str],
-        input: &mut Keeping<N>,
-    ) -> Result<u8, Fault> {
-        let Command::Check(options) = given.command else {
-            return Ok(DONE);
-        };
-        let (rt, alloc) = (self.rt, self.rt.alloc());
-        let Ok(mut output) = BufWriter::with_capacity(alloc, BUFFER_SIZE, io::writer(rt)) else {
-            return Err(Fault::Memory);
-        };
-        let mut covered = None;
-        let status = check_several(
-            rt,
-            alloc,
-            given,
-            options,
-            names,
-            input,
-            &mut covered,
-            &mut output,
-            self.errors,
-        );
-        match (status, covered, options.cover) {
-            (Ok(status), Some(covered), Some(path)) => {
-                keep(covered, path, status, self.files, self.errors)
-            }
-            (status, _, _) => status,
+// The same on each of several netlists. The greatest status of them.
+fn play_each<
+    R: Threads + Wait + Sync + Files + Input + Print + AllocGlobal,
+    F: NewFiles + BenchFiles,
+    E: Write,
+>(rt: &R, files: &mut F, errors: &mut E, prompts: bool, request: &mut Request<'_>) -> u8 {
+    let mut worst = 0;
+    for place in 0..request.files.len() {
+        if let Some(file) = request.files.get(place).copied() {
+            request.netlist = Source::named(file);
+            worst = worst.max(play_source(rt, files, errors, prompts, request));
         }
     }
+    worst
+}
 
-    // Ends before a command begins.
-    fn refuse(&mut self, why: Refusal<'_>) -> u8 {
-        refuse(self.rt.alloc(), why, self.errors)
+fn play_source<
+    R: Threads + Wait + Sync + Files + Input + Print + AllocGlobal,
+    F: NewFiles + BenchFiles,
+    E: Write,
+>(rt: &R, files: &mut F, errors: &mut E, prompts: bool, request: &Request<'_>) -> u8 {
+    match request.netlist {
+        Source::Stdin => play_on(rt, files, errors, prompts, request, rt.reader()),
+        Source::File(path) => match open_file(rt, path) {
+            Ok(file) => play_on(rt, files, errors, prompts, request, file),
+            Err(cause) => {
+                if request.command.answers_objects() {
+                    tell_unread(rt.alloc(), path, cause, &mut io::writer(rt));
+                }
+                refuse(rt.alloc(), Refusal::File(path, cause), errors)
+            }
+        },
+    }
+}
+
+// Does what is asked for on a netlist.
+fn play_on<
+    N: Read + Drop,
+    R: Threads + Wait + Sync + Files + Input + Print + AllocGlobal,
+    F: NewFiles + BenchFiles,
+    E: Write,
+>(rt: &R, files: &mut F, errors: &mut E, prompts: bool, request: &Request<'_>, input: N) -> u8 {
+    let alloc = rt.alloc();
+    let keeps = request.explains
+        || request.command.cover_file().is_some()
+        || request.command.answers_findings();
+    let input = &mut Keeping::new(alloc, input, keeps);
+    let texts = match Texts::of(rt, alloc, request) {
+        Ok(texts) => texts,
+        Err(why) => return refuse(rt.alloc(), why, errors),
+    };
+    let Ok(words) = texts.words(alloc, request) else {
+        return refuse(rt.alloc(), Refusal::Memory, errors);
+    };
+    let given = texts.given(request, words.as_slice(), prompts);
+    if given.command.is_of_several() {
+        return play_several(rt, files, errors, request, &texts, &given, input);
+    }
+    play_one(rt, files, errors, &given, input)
+}
+
+// The same of a command with one trace at most: that of the file that is named, or of standard input, or none of its own.
+fn play_one<
+    N: Read + Drop,
+    R: Threads + Wait + Sync + Files + Input + Print + AllocGlobal,
+    F: NewFiles + BenchFiles,
+    E: Write,
+>(rt: &R, files: &mut F, errors: &mut E, given: &Given<'_, '_>, input: &mut Keeping<N>) -> u8 {
+    let outcome = match given.command.trace_file() {
+        None => perform(rt, given, input, None::<R::File>, files, errors),
+        Some(Source::Stdin) => { perform(rt, given, input, Some(rt.reader()), files, errors) }
+        Some(Source::File(path)) => match open_file(rt, path) {
+            Ok(file) => perform(rt, given, input, Some(file), files, errors),
+            Err(cause) => return refuse(rt.alloc(), Refusal::File(path, cause), errors),
+        },
+    };
+    let (status, checked, ended, _) = outcome.into_parts();
+    let played = match &ended {
+        Some(ended) => Some(ended.net()),
+        None => None,
+    };
+    let kept = kept_for_notes(&*input, given.explains);
+    let alloc = rt.alloc();
+    end(rt, alloc, given, kept, status, checked, played, errors)
+}
+
+// Checks several traces.
+fn play_several<N: Read + Drop, R: Files + Input + Print + AllocGlobal, F: NewFiles, E: Write>(
+    rt: &R,
+    files: &mut F,
+    errors: &mut E,
+    request: &Request<'_>,
+    texts: &Texts,
+    given: &Given<'_, '_>,
+    input: &mut Keeping<N>,
+) -> u8 {
+    let alloc = rt.alloc();
+    let Ok(names) = texts.traces(alloc, request) else {
+        return refuse(rt.alloc(), Refusal::Memory, errors);
+    };
+    let status = check_traces(rt, files, errors, given, names.as_slice(), input);
+    let kept = kept_for_notes(&*input, given.explains);
+    end(rt, alloc, given, kept, status, None, None, errors)
+}
+
+// The same, with what they exercised in a file of its own where that is asked for.
+fn check_traces<N: Read + Drop, R: Files + Input + Print + AllocGlobal, F: NewFiles, E: Write>(
+    rt: &R,
+    files: &mut F,
+    errors: &mut E,
+    given: &Given<'_, '_>,
+    names: &[&str],
+    input: &mut Keeping<N>,
+) -> Result<u8, Fault> {
+    let Command::Check(options) = given.command else {
+        return Ok(DONE);
+    };
+    let alloc = rt.alloc();
+    let Ok(mut output) = BufWriter::with_capacity(alloc, BUFFER_SIZE, io::writer(rt)) else {
+        return Err(Fault::Memory);
+    };
+    let mut covered = None;
+    let status = check_several(
+        rt,
+        alloc,
+        given,
+        options,
+        names,
+        input,
+        &mut covered,
+        &mut output,
+        errors,
+    );
+    match (status, covered, options.cover) {
+        (Ok(status), Some(covered), Some(path)) => { keep(covered, path, status, files, errors) }
+        (status, _, _) => status,
     }
 }
 
