@@ -39,21 +39,34 @@ export class Descriptor {
   write(from) { return calling(() => fs.writeSync(this.fd, from, 0, from.length)); }
   stat() { return calling(() => identityOf(fs.fstatSync(this.fd, {bigint: true}))); }
   truncate(length) { calling(() => fs.ftruncateSync(this.fd, length)); }
+  sync() { calling(() => fs.fsyncSync(this.fd)); }
+  chmod(mode) { calling(() => fs.fchmodSync(this.fd, mode)); }
   close() { if (this.fd > 2) calling(() => fs.closeSync(this.fd)); }
 }
 
 // The files of the system, as they are called in a folder.
-export const filesIn = folder => ({
-  open: (name, flags) => new Descriptor(calling(() => fs.openSync(path.resolve(folder, name), flagsOf(flags), 0o666))),
-  stat: name => calling(() => identityOf(fs.statSync(path.resolve(folder, name), {bigint: true}))),
-});
+export const filesIn = folder => {
+  const at = name => path.resolve(folder, name);
+  return {
+    open: (name, flags) => new Descriptor(calling(() => fs.openSync(at(name), flagsOf(flags), 0o666))),
+    stat: (name, isLink) => calling(() => identityOf((isLink ? fs.lstatSync : fs.statSync)(at(name), {bigint: true}))),
+    link: (from, to) => calling(() => fs.linkSync(at(from), at(to))),
+    rename: (from, to) => calling(() => fs.renameSync(at(from), at(to))),
+    unlink: name => calling(() => fs.unlinkSync(at(name))),
+    real: name => calling(() => fs.realpathSync(at(name))),
+  };
+};
 
 // The engine of a script, engine.js.
 export const engineOf = script => new Function(`${script}; return engine;`)();
 
 // The engine and the module that a live page carries, and what it says of them: of which sources they are, and whether proved.
 function carriedBy(page) {
-  const block = id => page.split(`<script type="text/plain" id="${id}">`)[1].split('</script>')[0];
+  const block = id => {
+    const [, rest] = page.split(`<script type="text/plain" id="${id}">`);
+    if (rest === undefined) throw new Error('it carries no program');
+    return rest.split('</script>')[0];
+  };
   const textOf = id => block(id).replace(/%([0-9A-F]{2})/g, (_, digits) => String.fromCharCode(parseInt(digits, 16)));
   const module = zlib.gunzipSync(Buffer.from(block('engine'), 'base64'));
   return {engine: engineOf(textOf('worker')), module, made: JSON.parse(textOf('made'))};
@@ -65,13 +78,23 @@ function versionOf({kind, sources}, page) {
   return `sources ${sources}\nrun by Node, from ${page}: ${how}\n`;
 }
 
+// Says why nothing was done: no status of the program's own is meant.
+function fail(why) {
+  process.stderr.write(`breezesim: ${why}\n`);
+  process.exitCode = 3;
+}
+
 function main(here, words) {
-  const page = here.replace(/\.mjs$/, '.html');
-  if (!fs.existsSync(page)) {
-    process.stderr.write(`breezesim: the program is in ${path.basename(page)}, which must stand beside ${path.basename(here)}\n`);
-    process.exitCode = 3;
-    return;
+  const page = here.replace(/\.mjs$/, '.html'), name = path.basename(page);
+  if (!fs.existsSync(page)) return fail(`the program is in ${name}, which must stand beside ${path.basename(here)}`);
+  try {
+    run(page, words);
+  } catch (fault) {
+    fail(`the program in ${name} can't be run: ${fault.message}`);
   }
+}
+
+function run(page, words) {
   const {engine, module, made} = carriedBy(fs.readFileSync(page, 'latin1'));
   process.exitCode = engine.play(new WebAssembly.Module(module), words, filesIn('.'), [0, 1, 2].map(fd => new Descriptor(fd)));
   const isAsked = words.length === 1 && ['--version', '-V'].includes(words[0]);

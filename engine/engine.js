@@ -4,7 +4,7 @@
 
 const engine = (() => {
   // Errors and flags of the system, by their numbers in Linux.
-  const ENOENT = 2, EIO = 5, EBADF = 9, EEXIST = 17, EINVAL = 22;
+  const ENOENT = 2, EIO = 5, EBADF = 9, EEXIST = 17, EINVAL = 22, ENAMETOOLONG = 36;
   const CREATE = 0o100, NEW = 0o200, EMPTY = 0o1000, APPEND = 0o2000;
   const REGULAR = 0o100644, PIPE = [0o010600, 0, 0];
 
@@ -42,6 +42,16 @@ const engine = (() => {
       return new MemoryFile(this, name, Boolean(flags & APPEND));
     }
     stat(name) { return this.files.has(name) ? [REGULAR, this.number(name), 1] : fail(ENOENT); }
+    link(from, to) {
+      if (this.files.has(to)) fail(EEXIST);
+      this.files.set(to, this.files.get(from) || fail(ENOENT));
+    }
+    unlink(name) { if (!this.files.delete(name)) fail(ENOENT); }
+    rename(from, to) {
+      this.files.set(to, this.files.get(from) || fail(ENOENT));
+      this.files.delete(from);
+    }
+    real(name) { return this.files.has(name) ? name : fail(ENOENT); }
     take(name) {
       const data = this.files.get(name) || new Uint8Array(0);
       this.files.delete(name);
@@ -81,6 +91,8 @@ const engine = (() => {
       this.data = data;
     }
     stat() { return this.disk.stat(this.name); }
+    sync() {}
+    chmod() {}
     close() {}
   }
 
@@ -127,6 +139,12 @@ const engine = (() => {
     constructor(words, disk, streams) {
       Object.assign(this, {words: ['breezesim', ...words].map(bytesOf), disk, files: new Map(streams.entries())});
     }
+    // Makes an instance of the module on this host. Answers what it exports.
+    start(module, imports = this.imports()) {
+      const {exports} = new WebAssembly.Instance(module, {host: imports});
+      this.memory = exports.memory;
+      return exports;
+    }
     at(pointer, size) { return new Uint8Array(this.memory.buffer, Number(pointer), Number(size)); }
     name(pointer, length) { return textOf(this.at(pointer, length).slice()); }
     file(fd, method) {
@@ -145,12 +163,21 @@ const engine = (() => {
       this.files.delete(fd);
       return 0;
     }
-    truncate(fd, length) {
-      this.file(fd, 'truncate').truncate(Number(length));
+    change(fd, method, ...given) {
+      this.file(fd, method)[method](...given);
       return 0;
     }
-    stat(fd, path, length, to) {
-      const found = length ? this.disk.stat(this.name(path, length)) : this.file(fd).stat();
+    // What is done to names of files, each of which comes as its place and its length.
+    rename(method, ...names) {
+      this.disk[method](...names.flatMap((it, at) => (at % 2 ? [] : [this.name(it, names[at + 1])])));
+      return 0;
+    }
+    real(path, length, to, size) {
+      const name = bytesOf(this.disk.real(this.name(path, length)));
+      return name.length > size ? fail(ENAMETOOLONG) : move(name, 0, this.at(to, size));
+    }
+    stat(fd, path, length, isLink, to) {
+      const found = length ? this.disk.stat(this.name(path, length), Boolean(isLink)) : this.file(fd).stat();
       new BigUint64Array(this.memory.buffer, Number(to), 3).set(found.map(BigInt));
       return 0;
     }
@@ -166,8 +193,13 @@ const engine = (() => {
         open: (path, length, flags) => this.put(this.disk.open(this.name(path, length), flags)),
         close: fd => this.close(fd),
         dup: fd => this.put(this.file(fd)),
-        truncate: (fd, length) => this.truncate(fd, length),
-        stat: (fd, path, length, to) => this.stat(fd, path, length, to),
+        truncate: (fd, length) => this.change(fd, 'truncate', Number(length)),
+        sync: fd => this.change(fd, 'sync'),
+        chmod: (fd, mode) => this.change(fd, 'chmod', mode),
+        link: (...names) => this.rename('link', ...names),
+        rename: (...names) => this.rename('rename', ...names),
+        unlink: (...names) => this.rename('unlink', ...names),
+        stat: (fd, path, length, isLink, to) => this.stat(fd, path, length, isLink, to),
         tty: fd => Number(Boolean(this.file(fd).isTerminal)),
       };
       // (these answer 64 bits)
@@ -176,6 +208,7 @@ const engine = (() => {
         write: (fd, from, size) => this.file(fd, 'write').write(this.at(from, size)),
         seek: (fd, by, whence) => this.file(fd, 'seek').seek(Number(by), whence),
         word: (number, to, size) => this.word(number, to, size),
+        real: (path, length, to, size) => this.real(path, length, to, size),
       };
       const all = {exit: status => { throw new Exit(status); }};
       for (const [name, act] of Object.entries(short)) all[name] = (...given) => trying(act, given);
@@ -203,16 +236,16 @@ const engine = (() => {
     throw fault;
   };
 
-  // Calls the program with these streams, from its start to its end. Answers its status.
-  function play(module, words, disk, streams) {
-    const host = new Host(words, disk, streams), {exports} = new WebAssembly.Instance(module, {host: host.imports()});
-    host.memory = exports.memory;
+  // Calls the program on a host, from its start to its end. Answers its status.
+  function playOn(host, module) {
+    const {main} = host.start(module);
     try {
-      return exports.main(0, 0n);
+      return main(0, 0n);
     } catch (fault) {
       return statusOf(fault);
     }
   }
+  const play = (module, words, disk, streams) => playOn(new Host(words, disk, streams), module);
 
   // Calls the program on files in memory. Answers its status, its output and its errors.
   function call(module, words, {disk = new Memory(), input = ''} = {}) {
@@ -222,7 +255,8 @@ const engine = (() => {
   }
 
   // ---- a session: a call that reads its lines one by one, and answers each, as `explore` does. `opened` is a promise of what
-  // it writes before the first line; `ask` takes lines, each with whether it changes what later ones are answered.
+  // it writes before the first line; `ask` takes lines, each with whether it changes what later ones are answered; `close` ends
+  // it. `memory` is how many bytes it has.
 
   // Where the browser can hold a call that waits (JSPI), it is one call.
   const FAILED = 256;
@@ -234,8 +268,7 @@ const engine = (() => {
       const lines = new Spring(() => this.next()), host = new Host(words, disk, [lines, this.output, this.errors]);
       const imports = host.imports();
       imports.read = new WebAssembly.Suspending(imports.read);
-      const {exports} = new WebAssembly.Instance(module, {host: imports});
-      host.memory = exports.memory;
+      const exports = host.start(module, imports);
       this.memory = () => exports.memory.buffer.byteLength;
       this.opened = new Promise((resolve, reject) => { this.answer = {resolve, reject}; });
       WebAssembly.promising(exports.main)(0, 0n).catch(statusOf).then(status => this.end(status), fault => this.fail(fault));
@@ -258,12 +291,18 @@ const engine = (() => {
       this.tell();
       return line;
     }
-    say(line) {
-      if (this.status !== null) return Promise.resolve({output: '', errors: '', status: this.status});
+    // Gives it a line, or null, which is the end of its input. Answers what it writes then.
+    give(piece) {
       const answer = new Promise((resolve, reject) => { this.answer = {resolve, reject}; });
-      this.take(bytesOf(`${line}\n`));
+      this.take(piece);
       return answer;
     }
+    say(line) {
+      if (this.status !== null) return Promise.resolve({output: '', errors: '', status: this.status});
+      return this.give(bytesOf(`${line}\n`));
+    }
+    // (a call that is held keeps its memory until it has ended)
+    async close() { if (this.status === null) await this.give(null).catch(() => null); }
     async ask(lines) {
       const answers = [];
       for (const {line} of lines) answers.push(await this.say(line));
@@ -274,8 +313,8 @@ const engine = (() => {
   // Else each asking is a call of its own, which plays before it the lines that moved something.
   class Replayed {
     constructor(module, words, disk) {
-      Object.assign(this, {module, words, disk, kept: [], status: null});
-      this.memory = () => 0;
+      Object.assign(this, {module, words, disk, kept: [], status: null, size: 0});
+      this.memory = () => this.size;
       this.opened = Promise.resolve().then(() => this.run([])[0]);
     }
     run(lines) {
@@ -285,7 +324,8 @@ const engine = (() => {
         mark();
         return answers.length > all.length ? null : bytesOf(`${all[answers.length - 1]}\n`);
       };
-      const status = play(this.module, this.words, this.disk, [new Spring(next), output, errors]);
+      const host = new Host(this.words, this.disk, [new Spring(next), output, errors]), status = playOn(host, this.module);
+      this.size = host.memory.buffer.byteLength;
       if (answers.length <= all.length) {
         mark();
         this.status = answers[answers.length - 1].status = status;
@@ -298,6 +338,7 @@ const engine = (() => {
       for (const {line, isKept} of lines) if (isKept) this.kept.push(line);
       return answers;
     }
+    async close() { this.status = this.status ?? 0; }
   }
 
   const session = (module, words, disk, isReplayed = !canWait) => new (isReplayed ? Replayed : Held)(module, words, disk);

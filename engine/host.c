@@ -8,7 +8,7 @@ typedef long i64;
 #define HOST(name) __attribute__((import_module("host"), import_name(#name)))
 
 enum { ESRCH = 3, EAGAIN = 11, ERANGE = 34, ENOSYS = 38, ABORTED = 134 };
-enum { PAGE = 65536 };
+enum { PAGE = 65536, MOST_PATH = 4096, NOT_FOLLOWED = 0x100 };
 static const u64 MOST = 1ul << 40;  // (so that no sum of sizes wraps)
 
 // ---- memory: blocks by size, four classes to a power of two. A block has its class in the 16 bytes before it. ---------------
@@ -120,8 +120,15 @@ HOST(close) int host_close(int fd);
 HOST(dup) int host_dup(int fd);
 HOST(seek) i64 host_seek(int fd, i64 by, int whence);
 HOST(truncate) int host_truncate(int fd, i64 length);
-// Of the file at a path, or else of the one that is open: its mode, its number and its device.
-HOST(stat) int host_stat(int fd, const char *path, u64 length, u64 *found);
+HOST(sync) int host_sync(int fd);
+HOST(chmod) int host_chmod(int fd, u32 mode);
+// Of the file at a path, or of the link there where `is_link`, or of the one that is open: its mode, its number and its device.
+HOST(stat) int host_stat(int fd, const char *path, u64 length, int is_link, u64 *found);
+// Another name of a file, a name in place of another one, a name less, and the name behind all links: its length.
+HOST(link) int host_link(const char *from, u64 size, const char *to, u64 length);
+HOST(rename) int host_rename(const char *from, u64 size, const char *to, u64 length);
+HOST(unlink) int host_unlink(const char *path, u64 length);
+HOST(real) i64 host_real(const char *path, u64 length, void *to, u64 size);
 HOST(tty) int host_tty(int fd);
 // A word of the command line: its length, or -1 where there is none, and -2 where it is longer than `size`.
 HOST(word) i64 host_word(u64 number, void *to, u64 size);
@@ -152,21 +159,18 @@ i64 lseek(int fd, i64 by, int whence) { return done(host_seek(fd, by, whence)); 
 int ftruncate(int fd, i64 length) { return (int)done(host_truncate(fd, length)); }
 int isatty(int fd) { return host_tty(fd); }
 
-// What puts a file in the place of another (`test --bless`), of which the host has nothing. `realpath` is asked first, and as it
-// fails no file is made.
-static int unable(void) {
-    error = ENOSYS;
-    return -1;
-}
-int fsync(int fd) { return unable(); }
-int fdatasync(int fd) { return unable(); }
-int flock(int fd, int operation) { return unable(); }
-int fchmod(int fd, u32 mode) { return unable(); }
-int rename(const char *from, const char *to) { return unable(); }
-int unlink(const char *path) { return unable(); }
+int fsync(int fd) { return (int)done(host_sync(fd)); }
+int fdatasync(int fd) { return fsync(fd); }
+int flock(int fd, int operation) { return (int)done(-ENOSYS); }
+int fchmod(int fd, u32 mode) { return (int)done(host_chmod(fd, mode)); }
+int link(const char *from, const char *to) { return (int)done(host_link(from, length_of(from), to, length_of(to))); }
+int rename(const char *from, const char *to) { return (int)done(host_rename(from, length_of(from), to, length_of(to))); }
+int unlink(const char *path) { return (int)done(host_unlink(path, length_of(path))); }
 char *realpath(const char *path, char *to) {
-    unable();
-    return 0;
+    i64 length = done(host_real(path, length_of(path), to, MOST_PATH - 1));
+    if (length < 0) return 0;
+    to[length] = 0;
+    return to;
 }
 
 // (std asks for one command alone: a second descriptor of the same file)
@@ -182,7 +186,7 @@ struct statx {
 };
 int statx(int fd, const char *path, int flags, u32 mask, struct statx *found) {
     u64 it[3];
-    if (done(host_stat(fd, path, length_of(path), it)) < 0) return -1;
+    if (done(host_stat(fd, path, length_of(path), (flags & NOT_FOLLOWED) != 0, it)) < 0) return -1;
     *found = (struct statx){.mask = 0x103, .blksize = 4096, .nlink = 1, .mode = (u16)it[0], .number = it[1], .device = it[2]};
     return 0;
 }

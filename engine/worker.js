@@ -13,8 +13,9 @@ const acts = {
     const disk = new engine.Memory(files), ran = engine.call(worker.module, words, {disk});
     return {...ran, files: taken(disk, wanted)};
   },
-  // Opens a session.
-  open({words, files, isReplayed}) {
+  // Opens a session, once the one before it has ended.
+  async open({words, files, isReplayed}) {
+    if (worker.session) await worker.session.close();
     worker.disk = new engine.Memory(files);
     worker.session = engine.session(worker.module, words, worker.disk, isReplayed);
     return worker.session.opened;

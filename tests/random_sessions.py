@@ -29,7 +29,7 @@ def line_of(pick, ports, comps):
     return pick.choice([
         "moves", "moves", f"fire {comp}", f"fire {comp} {pick.randint(0, 4)}", f"random{pick.choice([' 1', ' 5', ' 100'])}",
         f"seed {number(pick) % 2**64}", f"expect {pick.choice(REPLIES)}", f"expect {pick.choice(REPLIES)}", "waits", "waits", "waits all", f"waits {comp}", f"waits {comp}",
-        "state", f"state {comp}", f"state {comp}", f"undo{few}", f"undo{few}", f"trace t{pick.randint(1, 3)}", f"trace! t{pick.randint(1, 3)}",
-        f"session s{pick.randint(1, 3)}", f"session! s{pick.randint(1, 3)}", "session! /dev/stdout", "help", pick.choice(SLIPS),
-        f"page p{pick.randint(1, 3)}", f"page! p{pick.randint(1, 3)}",
+        "state", f"state {comp}", f"state {comp}", f"undo{few}", f"undo{few}", f"trace t{pick.randint(1, 3)}.trace", f"trace! t{pick.randint(1, 3)}.trace",
+        f"session s{pick.randint(1, 3)}.session", f"session! s{pick.randint(1, 3)}.session", "session! other.trace", "help", pick.choice(SLIPS),
+        f"page p{pick.randint(1, 3)}.html", f"page! p{pick.randint(1, 3)}.html",
     ])

@@ -163,7 +163,7 @@ def add_several(cases):
         ("from a file", [*check, "--traces-from", "names"], b"", Ran(1, three, b"")),
         ("from standard input", [*check, "--traces-from", "-"], FILES["names"], Ran(1, three, b"")),
         ("whose names end in NUL", [*check, "--traces-from", "nul"], b"",
-         Ran(0, good + b"odd\nname: " + RUN + count % (2, 2, 0, 0), b"")),
+         Ran(0, good + b"odd?name: " + RUN + count % (2, 2, 0, 0), b"")),
         ("of no names", [*check, "--traces-from", "-"], b"", Ran(0, count % (0, 0, 0, 0), b"")),
         ("one of standard input", [*check, "front.trace", "-"], CELL_TRACE,
          Ran(0, begun + b"-: " + RUN + count % (2, 2, 0, 0), b"")),

@@ -179,13 +179,13 @@ def kept(cases, name):
 
 def served_session_differs(cases):
     """The words of hosts are written with their replies, and runs between them: without a host the same moves are made."""
-    lines = HOSTS + "run\noffer:w:9\nrun to w 1\nsession! served\ntrace! served.first\n"
+    lines = HOSTS + "run\noffer:w:9\nrun to w 1\nsession! served.session\ntrace! served.trace\n"
     ran = cases.run(CELL, lines.encode())
-    again = cases.run(CELL, kept(cases, "served") + b"trace! served.again\n")
-    front = kept(cases, "served").splitlines()[:6]
+    again = cases.run(CELL, kept(cases, "served.session") + b"trace! served.again.trace\n")
+    front = kept(cases, "served.session").splitlines()[1:7]
     begins = [b"run", b"offer:w:5", b"expect done", b"run", b"collect:w", b"expect done"]
-    found = (ran.status, again.status, b"differs" in again.output, front, kept(cases, "served.first"))
-    return differ((0, 0, False, begins, kept(cases, "served.again")), found)
+    found = (ran.status, again.status, b"differs" in again.output, front, kept(cases, "served.trace"))
+    return differ((0, 0, False, begins, kept(cases, "served.again.trace")), found)
 
 
 def redo_differs(cases):
@@ -193,15 +193,15 @@ def redo_differs(cases):
     lines = ["offer:a", "random 5", "seed 7", "random 4", "run 3", "random 2"]
     undone = ["undo 2", "state", "undo", "moves", "undo 2", "undo", "redo", "state", "redo", "redo", "redo"]
     goes_on = ["random 9", "run 4", "trace! {}"]
-    first = cases.run(SPIN, "\n".join([*lines, *goes_on, ""]).format("made.first").encode())
-    again = cases.run(SPIN, "\n".join([*lines, *undone[:5], *undone[6:], *goes_on, ""]).format("made.again").encode())
+    first = cases.run(SPIN, "\n".join([*lines, *goes_on, ""]).format("made.first.trace").encode())
+    again = cases.run(SPIN, "\n".join([*lines, *undone[:5], *undone[6:], *goes_on, ""]).format("made.again.trace").encode())
     begun = ["explore", "-p", "cell", "--netlist", "cell.breeze", "--trace", "pooled.trace"]
     pooled = b"trace 2\nh3 offer w 1 done\nw2 fire 1 take 1 1\nw5 fire 1 reply 1\nw2 rest\n"
     with open(f"{cases.room}/pooled.trace", "wb") as file:
         file.write(pooled)
-    ran = cases.run(begun, b"undo\nstate\nredo\ntrace! pooled.again\n")
-    found = (first.status, again.status, kept(cases, "made.again"), ran.status, kept(cases, "pooled.again"))
-    return differ((0, 2, kept(cases, "made.first"), 0, pooled), found)
+    ran = cases.run(begun, b"undo\nstate\nredo\ntrace! pooled.again.trace\n")
+    found = (first.status, again.status, kept(cases, "made.again.trace"), ran.status, kept(cases, "pooled.again.trace"))
+    return differ((0, 2, kept(cases, "made.first.trace"), 0, pooled), found)
 
 
 def forgotten_differs(cases):
@@ -224,12 +224,12 @@ def objects_differ(cases):
 def rounds_differ(cases):
     """It stops, and its moves are those that are made again. A number of firings, or something that moves, stops a run as ever."""
     # (a Loop round a Continue makes four moves in turn, and the moments behind 1, 2, 4, 8 .. moves are kept)
-    lines = ["offer:a", "run", "trace! round", "run 4", "trace! round.again", "run to 2", "run to k1", "undo 3", "run 9"]
+    lines = ["offer:a", "run", "trace! round.trace", "run 4", "trace! round.again.trace", "run to 2", "run to k1", "undo 3", "run 9"]
     ran = cases.run(SPIN, "\n".join([*lines, ""]).encode())
     told = [line for line in ran.output.decode().splitlines() if not line.startswith(("h1", "w1", "wrote", "undone"))]
     wanted = ["8 fired, not at rest", ROUND % (10, 6), "4 fired, not at rest", "3 fired, stopped at Continue 2",
               "8 fired, not at rest", ROUND % (25, 21), "9 fired, not at rest"]  # fmt: skip
-    round_, again = kept(cases, "round").splitlines(), kept(cases, "round.again").splitlines()
+    round_, again = kept(cases, "round.trace").splitlines(), kept(cases, "round.again.trace").splitlines()
     objects = cases.run([*SPIN, "--format", "json"], b"offer:a\nrun\n").output.splitlines()
     last = {name: it for name, it in json.loads(objects[1]).items() if name != "entries"}
     object_ = {"line": 2, "fired": 8, "at_rest": False, "goes_round": {"from": 6, "to": 10}}
@@ -322,8 +322,8 @@ def numbers_differ(cases):
         "> error: `moves` has no line 7",
         "> error: `9` is too much: a move has its value",
         "> w1 fire 1 reply 1               Variable 1 v replies to the host at w",
-        "> wrote typed: 4 lines",
+        "> wrote typed: 5 lines",
         "> ",
     ]
     told = found.decode().splitlines()[1:]
-    return differ((2, wanted, b"offer:w:5\nexpect done\nfire 1 1\nfire 1 1\n"), (ran.status, told, kept(cases, "typed")))
+    return differ((2, wanted, b"# a session of explore\noffer:w:5\nexpect done\nfire 1 1\nfire 1 1\n"), (ran.status, told, kept(cases, "typed")))

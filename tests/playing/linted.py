@@ -181,7 +181,7 @@ def add_linted(cases):
         ("of a circle", ["-n", "round.breeze"], b"", [b"round.breeze:1:1: E2 Recursive one"]),
         ("of 65 instances", ["-n", "deep.breeze"], b"", [b"deep.breeze:1:1: E3 TooDeep"]),
         ("of a shape", [], b'(breeze-part "p" (channels (sunc)))', [b"-:1:28: B1 BadForm p 27"]),
-        ("of two copies", ["-n", ODD], b"", [b"%s:2:29: E12 LooseEnd %d" % (ODD.encode(), k) for k in (1, 2)]),
+        ("of two copies", ["-n", ODD], b"", [b"%s:2:29: E12 LooseEnd %d" % (ODD.replace("\t", "?").encode(), k) for k in (1, 2)]),
         ("of 21 components", [], MANY, [b"-:%d:1: E4 UnknownComponent p %d" % (k + 1, k) for k in range(1, 21)] + [NOTE + b"and 1 more"]),
     ]:
         cases.add(f"lint {name}", partial(lines_differ, cases, words, given, wanted))

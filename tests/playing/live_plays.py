@@ -107,6 +107,7 @@ class Stage:
         """What the native `explore` writes of an example after these lines: its trace or its session."""
         words = ["explore", "--part", name, "--netlist", f"{EXAMPLES}/{name}.breeze"]
         with tempfile.TemporaryDirectory() as room:
+            words += ["--files", room]
             self.program.run(words, "".join(f"{it}\n" for it in [*lines, f"{what} {room}/written"]).encode())
             with open(f"{room}/written", encoding="utf-8") as file:
                 return file.read()
@@ -405,6 +406,115 @@ def refusals(stage):
     stage.found("a file that a command names", "breezesim.added.saved.name", "mine.trace")
 
 
+def files_of_no_use(stage):
+    """A file that is no netlist, trace, session or source is refused with what it was taken for, and one that is too large by its
+    size; all stays. A trace is told from a session by its first line."""
+    stage.start("buffer")
+    stage.sign("offer:activate")
+    stage.button("run")
+    played = stage.explored("buffer", ["offer:activate", "run"])
+    no_command = " was taken for a session, and line {} begins with `{}`, which is no command. Nothing is changed."
+    files = {
+        "empty": (b"", " was taken for a session, and it is empty. Nothing is changed."),
+        "notes.txt": (b"# today\n\nthings to do\n", no_command.format(3, "things")),
+        "more.txt": (b"run\nundo\nrunning shoes\n", no_command.format(3, "running")),
+        "a.png": (b"\x89PNG\r\n\x1a\n\0\0\0\rIHDR", no_command.format(1, "?PNG")),
+        "it.answers": (b"h1 offer activate done\n", no_command.format(1, "h1")),
+        "large": (None, " has 67108865 bytes, and at most 67108864 are read. Nothing is changed."),
+    }
+    with tempfile.TemporaryDirectory() as room:
+        for name, (data, told) in files.items():
+            with open(f"{room}/{name}", "wb") as file:
+                file.write(data or b"")
+                file.truncate(67108865 if data is None else len(data))
+            for field in ("more-files", "file"):
+                if field == "file":
+                    stage.button("leave")
+                stage.choose(f"{room}/{name}", field)
+                shown_in = "answer" if field == "more-files" or data is not None else "refusal"
+                stage.found(f"what is told of {name}", f"document.getElementById('{shown_in}').textContent", name + told)
+                stage.found(f"what stays with {name}", f"[{TRACE}, breezesim.live.steps.length]", [played, 2])
+                stage.page.do("void document.getElementById('return').click()")
+        for name, text in [("next.trace", "trace 3\n"), ("dos.trace", "trace 2\r\n")]:
+            with open(f"{room}/{name}", "w", encoding="utf-8", newline="") as file:
+                file.write(text)
+            stage.choose(f"{room}/{name}")
+            stage.found(f"what is told of {name}", f"{ANSWER}.startsWith('{name}: not a trace: line 1')", True)
+            stage.trace(f"what stays with {name}", played)
+    stage.button("undo")
+    stage.trace("undone", stage.explored("buffer", ["offer:activate"]))
+
+
+def what_was_replaced(stage):
+    """What was played is had back by `undo` at the opening of the netlist or the session that came in its place, or after a restart;
+    `redo` goes back there. What is refused takes no place."""
+    stage.choose(f"{EXAMPLES}/two_place.breeze", "file")
+    stage.found("the part", "document.getElementById('part').textContent", "two_place")
+    with tempfile.TemporaryDirectory() as room:
+        with open(f"{room}/two_place.balsa", "w", encoding="utf-8") as file:
+            file.write(TWO_PLACE)
+        stage.choose(f"{room}/two_place.balsa")
+        for line in ("offer:activate", "run", "undo", "random 3"):
+            stage.command(line)
+        played = stage.page.do(TRACE)
+        stage.choose(f"{EXAMPLES}/explain/several.breeze")
+        stage.button("return")
+        stage.trace("a netlist that is refused", played)
+        stage.choose(f"{EXAMPLES}/cross.breeze")
+        for line in ("offer:go", "run"):
+            stage.command(line)
+        other, steps = stage.page.do(TRACE), "breezesim.live.steps.map(it => it.line)"
+        stage.button("undo", "undo", "undo")
+        stage.trace("had back", played)
+        stage.found("its steps", steps, ["offer:activate", "random 3"])
+        stage.found("its source", "breezesim.net.sources.size", 1)
+        stage.button("undo", "redo", "redo", "redo", "redo")
+        stage.trace("made again", other)
+        stage.found("nothing more", "document.getElementById('redo').disabled", True)
+        stage.button("anew")
+        stage.command("undo")
+        stage.trace("a restart taken back", other)
+        stage.command("redo")
+        stage.trace("begun anew again", "trace 2\n")
+        with open(f"{room}/it.session", "w", encoding="utf-8") as file:
+            file.write("# a comment\nrun 1\noffer:go\n")
+        stage.button("undo")
+        stage.choose(f"{room}/it.session")
+        stage.trace("a session", stage.explored("cross", ["run 1", "offer:go"]))
+        stage.button("undo", "undo", "undo")
+        stage.trace("had back from under the session", other)
+        stage.command("watch:go")
+        stage.found("nothing to redo", "document.getElementById('redo').disabled", True)
+
+
+# Opens so many times by clicks on these elements in turn, until an error is told; `window.opened` counts.
+OPEN_MANY = """void (async (elements, most) => {
+  window.opened = {count: 0, isDone: false};
+  for (; window.opened.count < most; window.opened.count++) {
+    elements[window.opened.count % elements.length].click();
+    do await new Promise(it => setTimeout(it)); while (breezesim.live.isBusy);
+    if (document.getElementById('answer').classList.contains('bad') || !breezesim.live.isOpen) break;
+  }
+  window.opened.isDone = true;
+})"""
+MANY, MANY_SECONDS = 1000, 600
+
+
+def many_openings(stage):
+    """A page bears 1,000 restarts and 1,000 openings, and the engine has as much memory then as at first."""
+    stage.start("buffer")
+    stage.command("offer:activate")
+    memory = stage.page.do("breezesim.live.times.memory")
+    for elements in ("[document.getElementById('anew')]", "[...document.querySelectorAll('.example')].slice(0, 3)"):
+        stage.page.do(f"{OPEN_MANY}({elements}, {MANY})")
+        stage.page.until("window.opened.isDone", True, MANY_SECONDS)
+        stage.found(f"openings by {elements}", f"[window.opened.count, {ANSWER}]", [MANY, ""])
+    stage.start("buffer")
+    stage.command("offer:activate")
+    stage.trace("it plays", "trace 2\nh1 offer activate done\n")
+    stage.found("the engine's memory", "[breezesim.live.times.memory, breezesim.live.times.memory > 0]", [memory, True])
+
+
 def parts(stage):
     """Of several parts one is chosen."""
     stage.start("pipeline")
@@ -504,11 +614,11 @@ def narrow(stage):
 
 # The plays, and whether each is played in all ways of calling.
 PLAYS = {both_outcomes: True, values: True, deadlock: True, stuck: True, clashes: True, saved_pages: True, sessions: True}
-PLAYS.update({hosts_that_stand_by: True})
+PLAYS.update({hosts_that_stand_by: True, files_of_no_use: True, what_was_replaced: True})
 PLAYS.update({traces: True, long_runs: True, refusals: False, parts: False, pasted: False, hostile_names: False})
-PLAYS.update({stopped: False, narrow: False, sources: False, keys_that_are_taken: False})
-# Those that look at the picture.
-DRAWN = {narrow}
+PLAYS.update({stopped: False, narrow: False, sources: False, keys_that_are_taken: False, many_openings: False})
+# Those that need a browser: one looks at the picture, the other at what memory there is.
+DRAWN = {narrow, many_openings}
 
 
 def play(act, browser, program, path, way):

@@ -241,8 +241,8 @@ const acts = {
     dispatch(document.activeElement, 'input');
   },
   choose({selector, file: chosen}) {
-    const field = document.querySelector(selector), data = fs.readFileSync(chosen);
-    field.files = [{name: path.basename(chosen), arrayBuffer: async () => new Uint8Array(data).buffer}];
+    const field = document.querySelector(selector), read = async () => new Uint8Array(fs.readFileSync(chosen)).buffer;
+    field.files = [{name: path.basename(chosen), size: fs.statSync(chosen).size, arrayBuffer: read}];
     dispatch(field, 'change');
   },
   errors: () => errors,

@@ -40,7 +40,7 @@ SOURCES = {
     "more/two_place.balsa": "x" * 101 + "\n",
 }
 # The cell's trace, as `session` of `explore` writes it, and what its lines are answered.
-FULL = b"offer:w:1\nexpect done\nfire 1 1\nfire 1 1\nrun 1\n"
+FULL = b"# a session of explore\noffer:w:1\nexpect done\nfire 1 1\nfire 1 1\nrun 1\n"
 
 
 def cross_trace():
@@ -195,18 +195,18 @@ def since_differs(cases):
 
 
 def strict_differs(cases):
-    """Only where something is stuck, and that is asked for, the status is 3. What is told is the same."""
+    """Only where something is stuck, and that is asked for, the status is 4. What is told is the same."""
     words = ["waits", *CROSS, "--trace", f"{EXAMPLES}/cross.trace"]
     plain, strict = cases.run(words), cases.run([*words, "--strict"])
     before = [cases.run([*words, "--strict", "--line", str(line)]).status for line in (1, 10, 11, 12)]
-    return differ((0, 3, plain.output, [0, 0, 3, 3]), (plain.status, strict.status, strict.output, before))
+    return differ((0, 4, plain.output, [0, 0, 4, 4]), (plain.status, strict.status, strict.output, before))
 
 
 def opening_differs(cases):
     """What is stuck from the opening on is so since line 1."""
     told = b"stuck since line 1 of 1: the opening\nstuck: 2 of 2 components can never move again, whatever the host does\n"
     ran = cases.run(["waits", "-p", "round", "--strict"], ROUND + b"trace 2\n")
-    return differ((3, told, b"0 wait, 0 can move, 2 idle, 2 stuck"), (ran.status, ran.output[: len(told)], ran.output.splitlines()[-1]))
+    return differ((4, told, b"0 wait, 0 can move, 2 idle, 2 stuck"), (ran.status, ran.output[: len(told)], ran.output.splitlines()[-1]))
 
 
 def begun_differs(cases, begun):

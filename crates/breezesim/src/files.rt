@@ -1,149 +1,151 @@
-//! Files in which traces and sessions are kept.
+//! The files that are written.
 //!
-//! A file is made anew, so that no other program's file can come between the look and the writing. With `!` it is opened
-//! first, compared with the netlist by device and number, and only then emptied.
+//! One is written beside its target and gets that name once it is whole: by a link, which replaces nothing, or in place of the
+//! one that was there. Where something fails the target is as it was. What is no file of a folder, as a device or a pipe, is
+//! written as it is.
 
+use crate::new_file::NewFile;
 use bz_cli_args::{Cause, bytes_of_file};
-use bz_cli_bench::{BenchFiles, Unread};
+use bz_cli_bench::{BenchFiles, FileFault, THERE};
 use bz_explore::{Files, NoFile};
 use std::alloc::Global;
 use std::fs;
-use std::fs::{File, Metadata, OpenOptions};
-use std::io::{BufWriter, ErrorKind, Write};
-use std::os::unix::fs::MetadataExt;
+use std::fs::{File, Metadata, OpenOptions, Permissions};
+use std::io::{Read, Write};
+use std::os::unix::fs::{FileTypeExt, MetadataExt};
 
-/// Why there is no file.
-const UNWRITTEN: &str = "it can't be written";
+/// How many bytes of a file are looked at before it is replaced.
+const BEGINNING: usize = 32;
 
-/// How many bytes are gathered before they go out.
-const BUFFER_SIZE: usize = 65_536;
-
-/// The files of the system, but for the netlist.
+/// The files of the system. The netlist is never written.
 #[derive(Clone, Copy)]
 pub(crate) struct SystemFiles<'r, 'n> {
     pub rt: &'r HostRuntime,
     pub netlist: Option<&'n str>,
+    /// Which of them lines may name.
+    pub nameable: Nameable<'n>,
+}
+
+/// Which files lines may name.
+#[derive(Clone, Copy)]
+pub(crate) enum Nameable<'n> {
+    /// Any: they are typed.
+    Any,
+    /// Traces, sessions and pages of the current folder or below.
+    Own,
+    /// Those below this folder.
+    Below(&'n str),
+    None,
 }
 
 impl Files for SystemFiles<'_, '_> {
-    type File = BufWriter<File>;
-
-    fn create(&mut self, path: &str, over: bool) -> Result<BufWriter<File>, NoFile> {
-        let file = if over {
-            self.emptied(path)
-        } else {
-            self.made(path)
-        };
-        match file {
-            Ok(file) => buffered(self.rt, file),
-            Err(cause) => Err(cause),
+    fn put(&mut self, path: &str, bytes: &[u8], over: Option<&[u8]>) -> Result<(), NoFile> {
+        if !self.may_be_named(path) {
+            return Err(NoFile::Barred);
+        }
+        match (fs::metadata(self.rt, path), over) {
+            (Ok(data), Some(beginning)) if data.is_file() => self.replaced(path, bytes, beginning),
+            (Ok(data), Some(_)) => self.filled(path, bytes, &data),
+            _ => self.made(path, bytes),
         }
     }
 }
 
 impl BenchFiles for SystemFiles<'_, '_> {
-    fn read(&mut self, alloc: Global, path: &str) -> Result<Vec<u8>, Unread> {
+    fn read(&mut self, alloc: Global, path: &str) -> Result<Vec<u8>, FileFault> {
         match bytes_of_file(self.rt, alloc, path) {
             Ok(bytes) => Ok(bytes),
-            Err(Cause::Memory) => Err(Unread::Memory),
-            Err(cause) => Err(Unread::Cause(cause.words())),
+            Err(Cause::Memory) => Err(FileFault::Memory),
+            Err(cause) => Err(FileFault::Cause(cause.words())),
         }
     }
 
-    fn make(&mut self, path: &str, bytes: &[u8]) -> Result<(), &'static str> {
-        match self.made(path) {
-            Ok(mut file) => match file.write_all(bytes) {
-                Ok(()) => Ok(()),
-                Err(_) => Err(UNWRITTEN),
-            },
-            Err(NoFile::Exists) => Err("it exists, and nothing is written over it"),
-            Err(NoFile::Netlist | NoFile::Unwritable) => Err(UNWRITTEN),
-        }
+    fn is_there(&mut self, path: &str) -> bool {
+        fs::symlink_metadata(self.rt, path).is_ok()
     }
 
-    // A link to a file stays one: what it leads to is replaced.
-    fn replace(&mut self, path: &str, bytes: &[u8]) -> Result<(), &'static str> {
-        match fs::canonicalize(self.rt, path) {
-            Ok(path) => self.put_in_place(path.as_str(), bytes),
-            Err(_) => Err(UNWRITTEN),
-        }
+    fn make(&mut self, path: &str, bytes: &[u8]) -> Result<(), FileFault> {
+        told(self.made(path, bytes))
+    }
+
+    fn replace(&mut self, path: &str, bytes: &[u8]) -> Result<(), FileFault> {
+        told(self.replaced(path, bytes, b""))
+    }
+}
+
+// The same in words.
+fn told(written: Result<(), NoFile>) -> Result<(), FileFault> {
+    match written {
+        Ok(()) => Ok(()),
+        Err(NoFile::Memory) => Err(FileFault::Memory),
+        Err(NoFile::Exists) => Err(FileFault::Cause(THERE)),
+        Err(_) => Err(FileFault::Cause("it can't be written")),
     }
 }
 
 impl SystemFiles<'_, '_> {
-    // Writes a new file beside one, and gives it that one's name and rights. Only a file that may be written is replaced.
-    fn put_in_place(&self, path: &str, bytes: &[u8]) -> Result<(), &'static str> {
-        let Ok(beside) = format!(in self.rt.alloc(); "{path}.blessed") else {
-            return Err("out of memory");
-        };
-        let Ok(metadata) = self.writable(path) else {
-            return Err(UNWRITTEN);
-        };
-        match self.made(beside.as_str()) {
-            Ok(file) => self.filled(file, &metadata, bytes, beside.as_str(), path),
-            Err(NoFile::Exists) => Err("a file of its name and .blessed is there"),
-            Err(NoFile::Netlist | NoFile::Unwritable) => Err(UNWRITTEN),
+    // Makes a file where nothing has its name.
+    fn made(&self, path: &str, bytes: &[u8]) -> Result<(), NoFile> {
+        if fs::symlink_metadata(self.rt, path).is_ok() {
+            return Err(NoFile::Exists);
         }
+        let mut file = NewFile::beside(self.rt, path)?;
+        file.fill(bytes)?;
+        file.finish(path)
     }
 
-    // What is known of a file that may be written.
-    fn writable(&self, path: &str) -> Result<Metadata, NoFile> {
-        match OpenOptions::new().write(true).open(self.rt, path) {
-            Ok(file) => match file.metadata() {
-                Ok(metadata) if metadata.is_file() => Ok(metadata),
-                _ => Err(NoFile::Unwritable),
-            },
+    // Puts a file in place of one that begins so. A link to a file stays one: what it leads to is replaced.
+    fn replaced(&self, path: &str, bytes: &[u8], beginning: &[u8]) -> Result<(), NoFile> {
+        let permissions = self.replaceable(path, beginning)?;
+        if !self.is_link(path) {
+            return self.put_over(path, bytes, permissions);
+        }
+        match fs::canonicalize(self.rt, path) {
+            Ok(path) => self.put_over(path.as_str(), bytes, permissions),
             Err(_) => Err(NoFile::Unwritable),
         }
     }
 
-    // Writes a file, and puts it in place of another one; or removes it.
-    fn filled(
-        &self,
-        mut file: File,
-        metadata: &Metadata,
-        bytes: &[u8],
-        path: &str,
-        to: &str,
-    ) -> Result<(), &'static str> {
-        let is_whole = file.write_all(bytes).is_ok()
-            && file.set_permissions(metadata.permissions()).is_ok()
-            && file.sync_all().is_ok();
-        if is_whole && fs::rename(self.rt, path, to).is_ok() {
-            return Ok(());
-        }
-        let _ = fs::remove_file(self.rt, path);
-        Err(UNWRITTEN)
+    fn put_over(&self, path: &str, bytes: &[u8], permissions: Permissions) -> Result<(), NoFile> {
+        let mut file = NewFile::beside(self.rt, path)?;
+        file.permit(permissions)?;
+        file.fill(bytes)?;
+        file.finish_over(path)
     }
 
-    // A new file.
-    fn made(&self, path: &str) -> Result<File, NoFile> {
-        match File::create_new(self.rt, path) {
-            Ok(file) => Ok(file),
-            Err(error) if error.kind() == ErrorKind::AlreadyExists => Err(NoFile::Exists),
-            Err(_) => Err(NoFile::Unwritable),
-        }
-    }
-
-    // A file without what it had. The netlist keeps what it has.
-    fn emptied(&self, path: &str) -> Result<File, NoFile> {
+    // The rights of a file that may be replaced: it may be written, and begins so, or has nothing.
+    fn replaceable(&self, path: &str, beginning: &[u8]) -> Result<Permissions, NoFile> {
         let opened = OpenOptions::new()
+            .read(true)
             .write(true)
-            .create(true)
             .open(self.rt, path);
-        match opened {
-            Ok(file) => self.emptied_file(file),
-            Err(_) => Err(NoFile::Unwritable),
+        let Ok(mut file) = opened else {
+            return Err(NoFile::Unwritable);
+        };
+        match file.metadata() {
+            Ok(data) if self.is_netlist(&data) => Err(NoFile::Netlist),
+            Ok(data) if data.is_file() => {
+                if begins_so(&mut file, beginning) {
+                    Ok(data.permissions())
+                } else {
+                    Err(NoFile::Other)
+                }
+            }
+            _ => Err(NoFile::Unwritable),
         }
     }
 
-    fn emptied_file(&self, file: File) -> Result<File, NoFile> {
-        match file.metadata() {
-            Ok(metadata) if self.is_netlist(&metadata) => Err(NoFile::Netlist),
-            Ok(metadata) if metadata.is_file() && file.set_len(0).is_err() => {
-                Err(NoFile::Unwritable)
-            }
-            Ok(_) => Ok(file),
+    // Writes to what is no file of a folder. A pipe that has a name there is left alone: to open one is to wait for who reads it.
+    fn filled(&self, path: &str, bytes: &[u8], data: &Metadata) -> Result<(), NoFile> {
+        if data.file_type().is_fifo() && fs::canonicalize(self.rt, path).is_ok() {
+            return Err(NoFile::Unwritable);
+        }
+        let written = match OpenOptions::new().write(true).open(self.rt, path) {
+            Ok(mut file) => file.write_all(bytes),
+            Err(error) => Err(error),
+        };
+        match written {
+            Ok(()) => Ok(()),
             Err(_) => Err(NoFile::Unwritable),
         }
     }
@@ -158,11 +160,69 @@ impl SystemFiles<'_, '_> {
             Err(_) => false,
         }
     }
+
+    // Whether a line may name a file.
+    fn may_be_named(&self, path: &str) -> bool {
+        match self.nameable {
+            Nameable::Any => true,
+            Nameable::Own => is_kept_name(path) && self.is_plain(path),
+            Nameable::Below(folder) => self.is_below(folder, path),
+            Nameable::None => false,
+        }
+    }
+
+    // Whether a path goes down from the current folder, and through no link.
+    fn is_plain(&self, path: &str) -> bool {
+        let mut upto = 0usize;
+        for name in path.split('/') {
+            upto = upto.saturating_add(name.len());
+            let here = path.get(..upto).unwrap_or(path);
+            if name.is_empty() || name == ".." || self.is_link(here) {
+                return false;
+            }
+            upto = upto.saturating_add(1);
+        }
+        true
+    }
+
+    fn is_link(&self, path: &str) -> bool {
+        match fs::symlink_metadata(self.rt, path) {
+            Ok(data) => data.is_symlink(),
+            Err(_) => false,
+        }
+    }
+
+    // Whether a file is, or would be, below a folder, wherever links lead.
+    fn is_below(&self, folder: &str, path: &str) -> bool {
+        let place = match fs::canonicalize(self.rt, path) {
+            Ok(place) => Ok(place),
+            Err(_) => fs::canonicalize(self.rt, folder_of(path)),
+        };
+        match (fs::canonicalize(self.rt, folder), place) {
+            (Ok(folder), Ok(place)) => place.as_path().starts_with(folder.as_str()),
+            _ => false,
+        }
+    }
 }
 
-fn buffered(rt: &HostRuntime, file: File) -> Result<BufWriter<File>, NoFile> {
-    match BufWriter::with_capacity(rt.alloc(), BUFFER_SIZE, file) {
-        Ok(file) => Ok(file),
-        Err(_) => Err(NoFile::Unwritable),
+// Whether a file begins so, or has nothing.
+fn begins_so(file: &mut File, beginning: &[u8]) -> bool {
+    let mut had = [0u8; BEGINNING];
+    match file.read(&mut had) {
+        Ok(count) => { count == 0 || had.get(..count).unwrap_or(&[]).starts_with(beginning) }
+        Err(_) => false,
+    }
+}
+
+// Whether it is the name of a trace, a session or a page.
+fn is_kept_name(path: &str) -> bool {
+    path.ends_with(".trace") || path.ends_with(".session") || path.ends_with(".html")
+}
+
+/// The folder of a path, with a slash at its end.
+pub(crate) fn folder_of(path: &str) -> &str {
+    match path.rsplit_once('/') {
+        Some((_, name)) => path.strip_suffix(name).unwrap_or(path),
+        None => "./",
     }
 }

@@ -1,2 +1,4 @@
 pub mod Spelling
 pub mod Telling
+pub mod Each
+pub mod Ordered

@@ -1,5 +1,5 @@
 -- What one entry more tells of ports.
-use Rattle.std.proofs.Common.{◌≡◌, ◌≢◌, ◌⊎◌, ℕ, zero, suc, ◌+◌, ◌-◌, ◌<◌, ◌≤◌, Bool, true, false, nat_eq, Option, Some, None, List, [], ◌∷◌, ◌++◌, length, get_or, set, refl, sym, ap, subst, ◌∙◌, arith, inl, inr}
+use Rattle.std.proofs.Common.{◌≡◌, ◌≢◌, ◌⊎◌, ℕ, zero, suc, ◌<◌, Bool, true, false, nat_eq, Option, Some, List, [], ◌∷◌, ◌++◌, length, get_or, set, refl, sym, ap, subst, ◌∙◌, arith, inl, inr}
 use Rattle.std.specs.Prelude.{if◌then◌else◌, slice_get}
 use Rattle.std.specs.List.{All, flat_map}
 use Rattle.std.proofs.lemmas.List.Elements.{All-get_or, All-push}
@@ -8,11 +8,10 @@ use Rattle.std.proofs.lemmas.Bool.Decides.{eqb_tells}
 use Rattle.std.proofs.lemmas.List.{append-nil, flat_map_more, get_or-set_same, get_or-set_other, length-set}
 use Rattle.std.proofs.lemmas.Option.{get_or_from_slice_get, slice_get-get_or, slice_get_within}
 use Rattle.bz_model.specs.declared.event.Entry.{Entry}
-use Rattle.bz_model.specs.declared.event.Entry.TheVariants.{Fired, Host, Rested}
+use Rattle.bz_model.specs.declared.event.Entry.TheVariants.{Host}
 use Rattle.bz_model.specs.declared.event.Reply.{Reply}
 use Rattle.bz_model.specs.declared.event.Verb.{Verb}
 use Rattle.bz_model.specs.declared.event.Who.{Who}
-use Rattle.bz_model.specs.Names.{numbered}
 use Rattle.bz_bench.specs.Streams.{begins, begun, carried, ended, ends, shown}
 use Rattle.bz_bench.specs.Tallies.{IsTally, Tells}
 use Rattle.bz_bench.specs.declared.tally.Tally.{Tally}

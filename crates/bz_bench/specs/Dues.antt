@@ -1,9 +1,8 @@
 -- What is to pass at a port.
-use Rattle.std.specs.Prelude.{◌≡◌, ℕ, ◌+◌, ◌-◌, ◌<◌, ◌≤◌, Bool, true, false, nat_eq, nat_lt, not, if◌then◌else◌, Option, Some, None, List, [], ◌∷◌, length, slice_get}
+use Rattle.std.specs.Prelude.{◌≡◌, ℕ, ◌-◌, ◌<◌, ◌≤◌, Bool, true, false, nat_eq, nat_lt, not, if◌then◌else◌, Option, Some, None, List, length, slice_get}
 use Rattle.std.specs.Option.{is_some}
 use Rattle.bz_bench.specs.declared.stream.Item.{Item}
 use Rattle.bz_bench.specs.declared.stream.Item.TheVariants.{Handshake, Value, Any}
-use Rattle.bz_bench.specs.declared.stream.Step.{Step}
 use Rattle.bz_bench.specs.declared.stream.Stream.{Stream}
 
 -- the item at a place: past the last one that which comes as often as it is asked for, if there is one
@@ -36,19 +35,33 @@ pub record DiffersAt (stream : Stream) (passed : List (Option ℕ)) (place : ℕ
 abbrev pub to_end : Stream → ℕ
 to_end stream = if stream.is_left_open then length stream.items.items - 1 else length stream.items.items
 
--- how many items stand in a group and those above it
-abbrev pub upto_in : List Step → ℕ → ℕ → ℕ
-upto_in [] group before = before
-upto_in (step ∷ steps) group before = if nat_lt group step.group then before else upto_in steps group step.upto
+-- whether a group is this one or above it
+abbrev pub is_within : Option ℕ → ℕ → Bool
+is_within (Some own) group = not (nat_lt group own)
+is_within None group = false
 
-abbrev pub upto : Stream → ℕ → ℕ
-upto stream group = upto_in stream.steps.items group 0
+-- whether the item at a place stands in a group or above it: one that repeats past the last one does not
+abbrev pub is_due : Stream → ℕ → ℕ → Bool
+is_due stream group place = is_within (slice_get stream.groups.items place) group
 
--- whether a handshake may begin after so many, where this group has begun
+-- whether all that stands in a group and those above it has passed, where so many handshakes were begun and ended: neither the next
+-- one to begin stands there nor the next one that has to end
+abbrev pub is_done : Stream → ℕ → ℕ → ℕ → Bool
+is_done stream group begun ended =
+    if is_due stream group begun then false else (if nat_lt ended (to_end stream) then not (is_due stream group ended) else true)
+
+-- the group in which the item at a place stands: what repeats past the last one stands in that of the last line
+abbrev pub group_at : Option ℕ → Option ℕ → ℕ
+group_at (Some own) last = own
+group_at None (Some last) = last
+group_at None None = 0
+
+abbrev pub group_of : Stream → ℕ → ℕ
+group_of stream place = group_at (slice_get stream.groups.items place) stream.last
+
+-- whether a handshake may begin after so many, where this group has begun: there is an item, and its group has begun
 abbrev pub may_begin : Stream → ℕ → ℕ → Bool
-may_begin stream group begun =
-    if nat_lt begun (upto stream group) then is_some (item_at stream begun)
-    else (if nat_eq (upto stream group) (length stream.items.items) then is_some (item_at stream begun) else false)
+may_begin stream group begun = if nat_lt group (group_of stream begun) then false else is_some (item_at stream begun)
 
 -- whether one may end after so many: one that is left open need not
 abbrev pub may_end : Stream → ℕ → Bool

@@ -1,4 +1,5 @@
 pub mod Streams
 pub mod Tallies
 pub mod Dues
+pub mod Groups
 pub mod Items

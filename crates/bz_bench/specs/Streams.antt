@@ -9,7 +9,7 @@ use Rattle.bz_model.specs.declared.event.Entry.TheVariants.{Fired, Host, Rested}
 use Rattle.bz_model.specs.declared.event.Reply.{Reply}
 use Rattle.bz_model.specs.declared.event.Reply.TheVariants.{Done, Value, NotYet, Busy, NotTaken, Watched}
 use Rattle.bz_model.specs.declared.event.Verb.{Verb}
-use Rattle.bz_model.specs.declared.event.Verb.TheVariants.{Offer, Collect, Accept, Answer, Watch}
+use Rattle.bz_model.specs.declared.event.Verb.TheVariants.{Offer, Collect, Accept, Answer}
 use Rattle.bz_model.specs.Names.{channel}
 use Rattle.bz_model.specs.Nets.{Wiring}
 

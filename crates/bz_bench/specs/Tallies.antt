@@ -1,5 +1,5 @@
 -- What was told of ports.
-use Rattle.std.specs.Prelude.{◌≡◌, ℕ, Option, Some, List}
+use Rattle.std.specs.Prelude.{◌≡◌, ℕ, Some, List}
 use Rattle.bz_model.specs.declared.event.Entry.{Entry}
 use Rattle.bz_model.specs.Names.{numbered}
 use Rattle.bz_bench.specs.Streams.{begun, ended}

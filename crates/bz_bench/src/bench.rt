@@ -49,6 +49,8 @@ pub struct Bench {
     pub netlist: Option<String>,
     pub part: Option<Vec<u8>>,
     pub lines: Vec<Line>,
+    /// Whether the net may go round for ever once all has passed.
+    pub spins: bool,
 }
 
 /// The bench that a text spells. Files of items are read as they are met.
@@ -57,6 +59,7 @@ pub fn read_bench<T: Texts>(alloc: Global, text: &str, texts: &mut T) -> Result<
         netlist: None,
         part: None,
         lines: Vec::new(alloc),
+        spins: false,
     };
     let mut left = MOST_ITEMS;
     for (place, line) in text.split('\n').enumerate() {
@@ -84,6 +87,7 @@ fn add_setting(
         (":netlist", [path]) => bench.netlist = Some(String::from_str(alloc, path.word)?),
         (":part", [name]) => bench.part = Some(name_in(alloc, *name)?),
         (":then", []) => bench.lines.push(Line::Then)?,
+        (":spins", []) => bench.spins = true,
         _ => return Err(BenchFault::At(head.at, Cause::BadLine)),
     }
     Ok(())

@@ -63,7 +63,7 @@ impl Cause {
             Cause::BadItem => "a value, `?`, `.`, each also with *N or *, or `>` or @FILE",
             Cause::AfterLast => "no item behind `>` or one with * at a port",
             Cause::NoFile => "a file of items",
-            Cause::BadLine => ":netlist FILE, :part NAME, :then, or a port",
+            Cause::BadLine => ":netlist FILE, :part NAME, :then, :spins, or a port",
             Cause::PortTwice => "a port once, or once more behind :then",
             Cause::BadName => "a port in name form",
             Cause::NoPort => "a port of the net",

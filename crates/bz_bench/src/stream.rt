@@ -1,8 +1,9 @@
 //! What is to pass at a port.
 
-ghost use Rattle.std.specs.Prelude.{◌≡◌};
-ghost use Rattle.bz_bench.specs.Dues.{fits, item_at, may_begin, may_end, to_end, upto};
+ghost use Rattle.std.specs.Prelude.{◌≡◌, length};
+ghost use Rattle.bz_bench.specs.Dues.{fits, group_of, is_done, is_due, item_at, may_begin, may_end, to_end};
 
+use crate::tally::Tally;
 use bz_model::Value;
 
 /// What is to pass with one handshake.
@@ -15,13 +16,6 @@ pub enum Item {
     Any,
 }
 
-/// How many of a port's items stand in a group of lines and those above it. Groups count from 0.
-#[derive(Clone, Copy)]
-pub struct Step {
-    pub group: usize,
-    pub upto: usize,
-}
-
 /// What is to pass at a port, in this order.
 #[derive(Drop)]
 pub struct Stream {
@@ -30,8 +24,10 @@ pub struct Stream {
     pub forever: Option<Item>,
     /// Whether the last handshake need not end.
     pub is_left_open: bool,
-    /// A step for each group that has items of the port, in order.
-    pub steps: Vec<Step>,
+    /// The group of lines in which each item stands. Groups count from 0, and none is below the one before.
+    pub groups: Vec<usize>,
+    /// The group in which the port's last line stands, if it has one.
+    pub last: Option<usize>,
 }
 
 impl Stream {
@@ -56,25 +52,50 @@ impl Stream {
         }
     }
 
-    /// How many items stand in a group and those above it.
-    pub fn upto(&self, group: usize) -> usize
-        ensures { result ≡ upto self.now group }
+    /// Whether the item at a place stands in a group or above it. One that repeats past the last one does not.
+    pub fn is_due(&self, group: usize, place: usize) -> bool
+        ensures { result ≡ is_due self.now group place }
     {
-        let mut upto = 0;
-        for step in &self.steps {
-            if group < step.group {
-                return upto;
-            }
-            upto = step.upto;
+        match self.groups.get(place) {
+            Some(own) => *own <= group,
+            None => false,
         }
-        upto
+    }
+
+    /// Whether all that stands in a group and those above it has passed.
+    pub fn is_done(&self, group: usize, tally: &Tally) -> bool
+        ensures { result ≡ is_done self.now group (length tally.now.begun.items) (length tally.now.ended.items) }
+    {
+        if self.is_due(group, tally.begun.len()) {
+            return false;
+        }
+        let ended = tally.ended.len();
+        ended >= self.to_end() || !self.is_due(group, ended)
+    }
+
+    /// How many items stand in a group and those above it.
+    pub fn due_by(&self, group: usize) -> usize {
+        self.groups.partition_point(|own| *own <= group)
     }
 
     /// Whether the port has a line in a group, or all its lines stand above that.
     pub fn is_open(&self, group: usize) -> bool {
-        match self.steps.last() {
-            None => true,
-            Some(last) => last.group < group || self.steps.iter().any(|step| step.group == group),
+        match self.last {
+            Some(last) if group < last => {
+                let before = self.due_by(group).wrapping_sub(1);
+                self.groups.get(before).copied() == Some(group)
+            }
+            _ => true,
+        }
+    }
+
+    /// The group of lines in which the item at a place stands. What repeats past the last one stands in that of the last line.
+    pub fn group_of(&self, place: usize) -> usize
+        ensures { result ≡ group_of self.now place }
+    {
+        match self.groups.get(place) {
+            Some(group) => *group,
+            None => self.last.unwrap_or(0),
         }
     }
 
@@ -82,9 +103,10 @@ impl Stream {
     pub fn may_begin(&self, group: usize, begun: usize) -> bool
         ensures { result ≡ may_begin self.now group begun }
     {
-        let upto = self.upto(group);
-        let is_open = begun < upto || upto == self.items.len();
-        is_open && self.item_at(begun).is_some()
+        if group < self.group_of(begun) {
+            return false;
+        }
+        self.item_at(begun).is_some()
     }
 
     /// Whether a handshake may end after so many.

@@ -12,7 +12,7 @@ use Rattle.bz_model.specs.Entries.{HasWho, IsHost, IsWho}
 use Rattle.bz_model.specs.Limits.{max_entries}
 use Rattle.bz_past.specs.Owners.{AreNamed, IsNamed, MayMake, is_host, who_of}
 use Rattle.bz_locked.specs.Terms.{Terms}
-use Rattle.bz_session.specs.declared.playing.End.{End}
+use Rattle.bz_pool.specs.declared.playing.End.{End}
 use Rattle.bz_trace.specs.Verdicts.{IsRunText}
 use Rattle.bz_trace.proofs.Accepted.{accepted}
 use Rattle.bz_cli.specs.Pooling.{WritesPlay}

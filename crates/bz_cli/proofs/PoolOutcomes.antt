@@ -28,7 +28,7 @@ use Rattle.bz_words.specs.HostWords.{hosts_of, SpellsHosts}
 use Rattle.bz_words.specs.declared.words.SessionError.{SessionError}
 use Rattle.bz_words.specs.declared.words.SessionError.TheVariants as session
 use Rattle.bz_words.specs.Words.{Spell}
-use Rattle.bz_session.specs.declared.playing.End.{End}
+use Rattle.bz_pool.specs.declared.playing.End.{End}
 use Rattle.bz_cli.specs.declared.pooling.Pooled.{Pooled}
 use Rattle.bz_cli_input.specs.declared.fault.Fault.{Fault}
 use Rattle.bz_cli_input.specs.declared.fault.Fault.TheVariants.{Write}

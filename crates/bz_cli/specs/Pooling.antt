@@ -22,8 +22,8 @@ use Rattle.bz_locked.specs.Journal.{fired_count}
 use Rattle.bz_pool.specs.Pooled.{ArePlayed}
 use Rattle.bz_words.specs.HostWords.{hosts_of, IsFirstUnfit}
 use Rattle.bz_words.specs.Words.{Spell}
-use Rattle.bz_session.specs.declared.playing.End.{End}
-use Rattle.bz_session.specs.declared.playing.End.TheVariants as end
+use Rattle.bz_pool.specs.declared.playing.End.{End}
+use Rattle.bz_pool.specs.declared.playing.End.TheVariants as end
 use Rattle.bz_words.specs.declared.words.SessionError.TheVariants as session
 use Rattle.bz_cli.specs.declared.pooling.Pooled.{Pooled}
 use Rattle.bz_cli_input.specs.Limits.{input_limit}

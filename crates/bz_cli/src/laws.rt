@@ -8,7 +8,7 @@ ghost use Rattle.bz_cli.specs.Pooling.{WritesPlay};
 ghost use Rattle.bz_locked.specs.Terms.{Terms};
 ghost use Rattle.bz_model.specs.declared.event.HostCmd.{HostCmd};
 ghost use Rattle.bz_model.specs.Limits.{max_entries};
-ghost use Rattle.bz_session.specs.declared.playing.End.{End};
+ghost use Rattle.bz_pool.specs.declared.playing.End.{End};
 ghost use Rattle.bz_trace.specs.Verdicts.{IsRunText};
 
 /// The trace of a pool is the text of a run: so `check` says `Run` of it, memory aside.

@@ -12,7 +12,7 @@ pub enum Command<'a> {
     Explore(ExploreOptions<'a>),
     Check(CheckOptions<'a>),
     /// Of which the trace is the short one.
-    Complete(TraceOptions<'a>),
+    Complete(CompleteOptions<'a>),
     Waits(WaitsOptions<'a>),
     List(ListOptions),
     Lint(LintOptions),
@@ -64,8 +64,19 @@ pub struct CheckOptions<'a> {
 pub struct ExploreOptions<'a> {
     /// The trace behind which it begins, if it doesn't begin at the opening.
     pub trace: Option<Source<'a>>,
+    /// The folder below which lines may write files, or `none`, if that is said.
+    pub files: Option<&'a str>,
     /// Whether answers are objects of JSON.
     pub json: bool,
+}
+
+/// The options of `complete`.
+#[derive(Clone, Copy)]
+pub struct CompleteOptions<'a> {
+    /// Where the short trace comes from.
+    pub short: Source<'a>,
+    /// Whether the trace has to end at rest.
+    pub to_rest: bool,
 }
 
 /// The options of another command that reads a trace.
@@ -231,7 +242,7 @@ impl<'a> Command<'a> {
         match self {
             Command::Explore(options) => options.trace,
             Command::Check(options) => options.trace,
-            Command::Complete(options) => options.trace,
+            Command::Complete(options) => Some(options.short),
             Command::Waits(options) => options.trace,
             Command::Draw(options) => options.trace,
             Command::Chart(options) => options.trace,
@@ -267,6 +278,14 @@ impl<'a> Command<'a> {
         }
     }
 
+    /// The folder below which the lines of a session may write files, or `none`, if that is said.
+    pub fn session_files(self) -> Option<&'a str> {
+        match self {
+            Command::Explore(options) => options.files,
+            _ => None,
+        }
+    }
+
     /// Whether the command reads a trace, after the netlist where it has none of its own.
     pub fn reads_trace(self) -> bool {
         matches!(
@@ -297,7 +316,7 @@ pub(crate) fn command_in<'a>(name: &str, matches: &ArgMatches<'a>) -> Option<Com
         "run" => Command::Run(run_options(matches)),
         "explore" => Command::Explore(explore_options(matches)),
         "check" => Command::Check(check_options(matches)),
-        "complete" => Command::Complete(short_options(matches)),
+        "complete" => Command::Complete(complete_options(matches)),
         "waits" => Command::Waits(waits_options(matches)),
         "list" => Command::List(ListOptions {
             paths: matches.get_flag("paths"),
@@ -339,6 +358,7 @@ fn check_options<'a>(matches: &ArgMatches<'a>) -> CheckOptions<'a> {
 fn explore_options<'a>(matches: &ArgMatches<'a>) -> ExploreOptions<'a> {
     ExploreOptions {
         trace: source_named(matches, "trace"),
+        files: matches.get_str("session-files"),
         json: format_options(matches).json,
     }
 }
@@ -349,9 +369,10 @@ fn trace_options<'a>(matches: &ArgMatches<'a>) -> TraceOptions<'a> {
     }
 }
 
-fn short_options<'a>(matches: &ArgMatches<'a>) -> TraceOptions<'a> {
-    TraceOptions {
-        trace: Some(source_named(matches, "short").unwrap_or(Source::Stdin)),
+fn complete_options<'a>(matches: &ArgMatches<'a>) -> CompleteOptions<'a> {
+    CompleteOptions {
+        short: source_named(matches, "short").unwrap_or(Source::Stdin),
+        to_rest: matches.get_flag("to-rest"),
     }
 }
 

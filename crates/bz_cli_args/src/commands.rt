@@ -8,9 +8,10 @@ use crate::options::{
     AROUND, BEGUN_TRACE, BENCH_COVER, BENCH_FORM, BENCH_FUEL, BENCH_JOURNAL, BENCH_NETLIST,
     BENCH_PART, BENCH_TRACES, BENCHES, BLESS, COMPONENT, COVER, DEPTH, DRAWN_LINE, DRAWN_TRACE,
     EXPLAIN, FILES, FIRST, FORMAT, FROM, FUEL, HOPS, JOINED, JOURNAL, LINE, MEANT_PART, MOST,
-    NETLIST, ONLY, Opt, PAGE_SOURCES, PART, PART_FORM, PATHS, PORTS, REQUIRED_NETLIST, SEED, SEEDS,
-    SESSIONS, SHORT, STRICT, STRICT_POOL, STRICT_WAITS, TO, TO_REST, TRACE, TRACES, TRACES_FROM,
-    WAITS_SOURCES, WORD_FILE, WORDS, WORKERS, arg_of,
+    NETLIST, ONLY, Opt, PAGE_SOURCES, PART, PART_FORM, PATHS, PORTS, REACHES_REST,
+    REQUIRED_NETLIST, SEED, SEEDS, SESSION_FILES, SESSIONS, SHORT, STRICT, STRICT_POOL,
+    STRICT_WAITS, TO, TO_REST, TRACE, TRACES, TRACES_FROM, WAITS_SOURCES, WORD_FILE, WORDS,
+    WORKERS, arg_of,
 };
 use clap::{Arg, Command};
 use std::alloc::{AllocError, Global};
@@ -39,7 +40,14 @@ const SUBS: [Sub; 14] = [
         name: "explore",
         about: "Play a part's net by hand: each line of standard input has its answer",
         after: EXPLORE,
-        options: &[PART, PART_FORM, REQUIRED_NETLIST, BEGUN_TRACE, FORMAT],
+        options: &[
+            PART,
+            PART_FORM,
+            REQUIRED_NETLIST,
+            BEGUN_TRACE,
+            SESSION_FILES,
+            FORMAT,
+        ],
     },
     Sub {
         name: "check",
@@ -63,7 +71,7 @@ const SUBS: [Sub; 14] = [
         name: "complete",
         about: "Make a short trace, of requests and replies alone, the trace of a run of a part's net",
         after: COMPLETE,
-        options: &[PART, PART_FORM, NETLIST, SHORT],
+        options: &[PART, PART_FORM, NETLIST, REACHES_REST, SHORT],
     },
     Sub {
         name: "waits",

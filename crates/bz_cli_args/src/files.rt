@@ -1,9 +1,10 @@
 //! Files that the command line names.
 
 use bz_cli_input::{INPUT_LIMIT, InputFault, read_input};
+use bz_text::{Piece, put_pieces};
 use std::alloc::Global;
 use std::fs::OpenFile;
-use std::io::{Error, ErrorKind, Read};
+use std::io::{Error, ErrorKind, Read, Write};
 use std::rt::Files;
 use std::{fmt, fs, io};
 
@@ -88,6 +89,16 @@ pub fn is_file<R: Files>(files: &R, path: &str) -> bool {
         Ok(data) => data.is_file(),
         Err(_) => false,
     }
+}
+
+/// Tells that a file can't be read, and why.
+pub fn tell_unreadable<C: fmt::Display + Drop, E: Write>(path: &str, why: C, errors: &mut E) {
+    let pieces = [
+        Piece::Bytes(b"error: cannot read "),
+        Piece::File(path.as_bytes()),
+    ];
+    let _ = put_pieces(errors, &pieces);
+    let _ = writeln!(errors, ": {why}");
 }
 
 // A reader that keeps the error with which it failed.

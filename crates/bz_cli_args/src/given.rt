@@ -3,7 +3,7 @@
 //! Words that a file has are read before the netlist, and so is the name of the part: what is wrong with them is known first.
 
 use crate::asked::{Command, Source};
-use crate::files::{bytes_of_file, open_file, text_of};
+use crate::files::{Cause, bytes_of_file, open_file, text_of};
 use crate::refusal::Refusal;
 use crate::request::{PartName, Request};
 use crate::words::{split_names, split_words};
@@ -136,7 +136,16 @@ fn words_in<'a, F: Files + Input>(
     };
     match text {
         Ok(text) => Ok(text),
-        Err(cause) => Err(Refusal::File(source.file().unwrap_or("-"), cause)),
+        Err(cause) => Err(unread(source, cause)),
+    }
+}
+
+// Why a text can't be had.
+fn unread<'a>(source: Source<'a>, cause: Cause) -> Refusal<'a> {
+    match (source, cause) {
+        (Source::Stdin, Cause::System(_)) => Refusal::Read,
+        (Source::Stdin, cause) => Refusal::File("-", cause),
+        (Source::File(path), cause) => Refusal::File(path, cause),
     }
 }
 

@@ -30,8 +30,8 @@ Statuses:
   0  all words were played
   1  the netlist is refused (S, B and E faults)
   2  the command line or a word is bad (H1), a file cannot be opened or made, or a file of words cannot be read
-  3  an event was refused (N faults), or with --strict a host command was not done,
-     input or output failed (F1, F2), or memory ran out (F3)
+  3  an event was refused (N faults), input or output failed (F1, F2), or memory ran out (F3)
+  4  with --strict: a host command was not done
 
 Example:
   breezesim run --part buffer --netlist examples/buffer.breeze offer:activate run:100";
@@ -39,7 +39,8 @@ Example:
 /// What stands behind the options of `explore`.
 pub(crate) const EXPLORE: &str = "\
 Standard input has a command on each line. The line `help` lists them. On a terminal each has a prompt. With --format json each
-line is answered by an object of JSON on a line, at once.
+line is answered by an object of JSON on a line, at once. Lines that come from a terminal may write any file. Others write files
+of the current folder or below that end in .trace, .session or .html, or those that --files allows.
 
 Statuses:
   0  each line was followed, and each reply was as expected
@@ -79,11 +80,11 @@ Examples:
 /// What stands behind the options of `complete`.
 pub(crate) const COMPLETE: &str = "\
 The netlist comes from FILE, the short trace from SHORT or from standard input. A short trace has a line for each request and
-reply, as the channels show them: `ask K`, `ask K V`, `reply K` or `reply K V`. K is a channel's number, or its name where just
-one channel has that. Each take and got is put in where its component or the host must have made it. The trace goes to standard
-output, and `check` reads it. Where there is none, standard error tells why:
+reply, as the channels show them: `ask K`, `ask K V`, `reply K` or `reply K V`. K is a channel's number, the name of a port, or
+another name where just one channel has that. Each take and got is put in where its component or the host must have made it. The
+trace goes to standard output, and `check` reads it. Where there is none, standard error tells why:
   error: not completed: line L      the move of line L can't be made behind those before it; what was found and what is due
-                                    there stand below
+                                    there stand below; with --to-rest also the line behind the last one, where something can move
   error: not a short trace: line L  line L is the first malformed line
 
 Statuses:
@@ -108,7 +109,8 @@ Statuses:
   1  the trace is not that of a run, or the netlist is refused (S, B and E faults)
   2  the command line is bad, a file cannot be opened, the source is too large, or the line or the component asked for is not
      there
-  3  with --strict something can never move again, input or output failed (F1, F2), or memory ran out (F3)
+  3  input or output failed (F1, F2), or memory ran out (F3)
+  4  with --strict: something can never move again
 
 Example:
   breezesim waits --part cross --netlist examples/cross.breeze --trace examples/cross.trace";
@@ -229,8 +231,9 @@ Statuses:
   0  all came to an end; without --strict also where a session still waited: a note on standard error tells it
   1  the netlist is refused (S, B and E faults)
   2  the command line or a word is bad (H1), a file cannot be opened, or a file of words cannot be read
-  3  an event was refused (N faults), or with --strict a session still waited, records disagree (C1), a thread could
-     not be started (P3), input or output failed (F1, F2), or memory ran out (F3)
+  3  an event was refused (N faults), records disagree (C1), a thread could not be started (P3), input or output failed
+     (F1, F2), or memory ran out (F3)
+  4  with --strict: a session still waited
 
 Example:
   breezesim pool --part two --netlist examples/two.breeze --words examples/two.words";
@@ -248,14 +251,16 @@ elsewhere they are given:
   :netlist FILE         the netlist, from the bench's folder on
   :part P               its part
   :then                 what stands above is done before what follows begins
+  :spins                the net may go round for ever once all has passed
 A # begins a comment. Without a seed the net runs to rest before each word.
 With --bless a bench that does not pass is written anew: with what came, in place of what was due, and all else as it is.
 
 Statuses:
   0  all passed
-  1  values were others than due, some did not come, or more came
-  2  a bench is none (T faults), a netlist is refused, a file cannot be read or written, or the command line is bad
-  3  nothing worse, and a play did not come to an end; input or output failed (F1, F2), or memory ran out (F3)
+  1  values were others than due, some did not come, more came, or the net goes round for ever
+  2  a bench is none (L faults), a netlist is refused, a file cannot be read or written, or the command line is bad
+  3  input or output failed (F1, F2), or memory ran out (F3)
+  4  nothing worse, and a play did not come to an end
 
 Example:
   breezesim test --netlist examples/gcd.breeze examples/gcd.bench";

@@ -142,6 +142,14 @@ pub(crate) const BEGUN_TRACE: Opt = Opt {
     ..TRACE
 };
 
+pub(crate) const SESSION_FILES: Opt = Opt {
+    id: "session-files",
+    name: Name::Long("files"),
+    value: &["DIR"],
+    help: "Let lines write the files below DIR, and no others; none lets them write none",
+    ..TEXT
+};
+
 pub(crate) const SHORT: Opt = Opt {
     id: "short",
     name: Name::Place,
@@ -196,6 +204,11 @@ pub(crate) const TO_REST: Opt = Opt {
     name: Name::Long("to-rest"),
     help: "End with status 1 also where the run does not end at rest",
     ..FLAG
+};
+
+pub(crate) const REACHES_REST: Opt = Opt {
+    help: "Put in the last takes and gots too, and end with status 1 where something can still move",
+    ..TO_REST
 };
 
 pub(crate) const WORD_FILE: Opt = Opt {
@@ -289,17 +302,17 @@ pub(crate) const JOURNAL: Opt = Opt {
 pub(crate) const STRICT: Opt = Opt {
     id: "strict",
     name: Name::Long("strict"),
-    help: "Stop at the first host command that is answered busy, not-yet or not-taken, with status 3",
+    help: "Stop at the first host command that is answered busy, not-yet or not-taken, with status 4",
     ..FLAG
 };
 
 pub(crate) const STRICT_WAITS: Opt = Opt {
-    help: "End with status 3 where something can never move again",
+    help: "End with status 4 where something can never move again",
     ..STRICT
 };
 
 pub(crate) const STRICT_POOL: Opt = Opt {
-    help: "End with status 3 where a session has not come to the end of its words",
+    help: "End with status 4 where a session has not come to the end of its words",
     ..STRICT
 };
 

@@ -12,7 +12,7 @@ pub enum Refusal<'a> {
     Shared(&'static str),
     /// A file of this name that the command line names can't be read.
     File(&'a str, Cause),
-    /// Standard input is closed.
+    /// Standard input can't be read.
     Read,
     /// The help could not be written.
     Write,

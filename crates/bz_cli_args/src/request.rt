@@ -8,10 +8,12 @@
 use crate::asked::{Command, Source, command_in, source_named};
 use crate::commands::command_line;
 use crate::statuses::BAD_COMMAND_LINE;
+use bz_text::{Piece, Text, put_pieces};
 use clap::ArgMatches;
 pub use clap::Error;
 use clap::error::ErrorKind;
 use std::alloc::{AllocError, Global};
+use std::io::Write;
 
 /// The most files of the source that are shown.
 const MOST_SOURCES: usize = 100;
@@ -97,19 +99,38 @@ pub enum Told {
     Memory,
 }
 
-/// Prints an error of `request_of`: a mistake on standard error, the help and the version on standard output.
-pub fn tell_error<R: Print + Eprint>(rt: &R, error: &Error) -> Told {
+/// Tells an error of `request_of`: a mistake to `errors`, the help and the version on standard output.
+pub fn tell_error<R: Print + Eprint, E: Write>(
+    rt: &R,
+    alloc: Global,
+    error: &Error,
+    errors: &mut E,
+) -> Told {
     if let ErrorKind::OutOfMemory = error.kind() {
         return Told::Memory;
     }
-    let printed = error.print(rt).is_ok();
     if error.use_stderr() {
-        Told::Status(BAD_COMMAND_LINE)
-    } else if printed {
+        tell_mistake(alloc, error, errors)
+    } else if error.print(rt).is_ok() {
         Told::Status(0)
     } else {
         Told::Unwritten
     }
+}
+
+// Tells a mistake. A word that it names may be the name of a file, so a control character is a question mark.
+fn tell_mistake<E: Write>(alloc: Global, error: &Error, errors: &mut E) -> Told {
+    let mut text = Text::new(alloc);
+    let _ = write!(text, "{error}");
+    let Ok(message) = text.whole() else {
+        return Told::Memory;
+    };
+    let mut before: &[u8] = b"";
+    for line in message.split(|byte| *byte == b'\n') {
+        let _ = put_pieces(errors, &[Piece::Bytes(before), Piece::File(line)]);
+        before = b"\n";
+    }
+    Told::Status(BAD_COMMAND_LINE)
 }
 
 /// The word that has no place on the command line, where that is the mistake.
@@ -136,6 +157,9 @@ pub fn mistake_in(request: &Request<'_>) -> Option<&'static str> {
         }
         Command::Check(options) if options.joined && !options.several => {
             Some("--joined takes traces that are named, as words or in the file of --traces-from")
+        }
+        Command::Test(options) if options.traces == Some("") => {
+            Some("--trace takes the name of a folder")
         }
         _ => None,
     }

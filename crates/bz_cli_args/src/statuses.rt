@@ -9,5 +9,5 @@ pub const NO_RUN: u8 = 1;
 /// The status of a bad command line.
 pub const BAD_COMMAND_LINE: u8 = 2;
 
-/// The status of a strict run that met a host command that was not done.
-pub const REFUSED: u8 = 3;
+/// The status of what `--strict` asks about: a host command was not done, a session still waited, or something is stuck.
+pub const ASKED: u8 = 4;

@@ -3,7 +3,7 @@ use Rattle.std.specs.Prelude.{◌≡◌, ◌≤◌, ℕ, ⊤, Bool, true, false,
 use Rattle.bz_bench.specs.declared.stream.Stream.{Stream}
 use Rattle.bz_cli_bench.specs.Verdicts.{Judges}
 use Rattle.bz_cli_bench.specs.declared.verdict.Verdict.{Verdict}
-use Rattle.bz_cli_bench.specs.declared.verdict.Verdict.TheVariants.{Passed, Differs, Extra, Stuck, Spent}
+use Rattle.bz_cli_bench.specs.declared.verdict.Verdict.TheVariants.{Passed, Differs, Extra, Stuck, Spins, Spent}
 use Rattle.bz_cli_bench.specs.declared.ended.Ended.{Ended}
 use Rattle.bz_cli_bench.specs.declared.ended.Ended.TheVariants.{Judged, Unlike, BadBench, NoNet}
 use Rattle.bz_cli_input.specs.Opening.{Denotes}
@@ -16,16 +16,18 @@ use Rattle.bz_model.specs.Runs.{Run}
 abbrev pub IsNet : Wiring → Type 0
 IsNet w = (text : List ℕ) × (part : Option (List ℕ)) × Denotes text part w
 
--- A play that has this verdict: a net, what was to pass at each of its ports, and the entries of a run from its opening.
+-- A play that has this verdict: a net, what was to pass at each of its ports, whether it might go round for ever after that, and the
+-- entries of a run from its opening.
 pub record IsPlayed (verdict : Verdict) : Type 0 where
   pub net : Wiring
   pub netlist : IsNet net
   pub streams : List Stream
   pub each : length streams ≡ length net.ports
+  pub spins : Bool
   pub entries : List Entry
   pub state : State
   pub run : Run net (opening net) entries state
-  pub judged : Judges net state entries streams verdict
+  pub judged : Judges net state entries streams spins verdict
 
 -- where a verdict is told there was such a play
 abbrev pub IsCase : Ended → Type 0
@@ -40,6 +42,7 @@ is_against Passed = false
 is_against (Differs port place due came) = true
 is_against (Extra port came) = true
 is_against (Stuck group) = true
+is_against (Spins from group) = true
 is_against Spent = false
 
 abbrev pub is_failed : Ended → Bool

@@ -70,6 +70,8 @@ pub(crate) struct Trial<'a> {
     pub asked: Asked<'a>,
     /// The text of the netlist that takes the place of those that benches name, where there is one.
     pub text: Option<&'a [u8]>,
+    /// The names of the benches, in their order.
+    pub names: &'a [&'a str],
 }
 
 /// A bench of the call, and its place among them.

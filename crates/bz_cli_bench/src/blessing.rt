@@ -7,7 +7,7 @@ ghost use Rattle.std.specs.Prelude.{◌≡◌, length};
 
 use crate::amending::amended;
 use crate::asked::{At, Trial};
-use crate::files::{BenchFiles, Unread};
+use crate::files::{BenchFiles, FileFault};
 use crate::learning::Came;
 use crate::nets::{Found, Nets};
 use crate::opened::Opened;
@@ -28,6 +28,9 @@ const UNENDED: &str = "it is left as it is: not all that it gives passes, or the
 /// Why a bench is left as it is that has what came by the first seed.
 const UNLIKE: &str = "it is left as it is: by another order other values come";
 
+/// Why a bench is left as it is that was none when it was read first.
+const UNREAD: &str = "it is left as it is: it could not be read whole";
+
 /// What came of a bench's blessing.
 #[derive(Clone, Copy)]
 pub enum Blessing {
@@ -37,7 +40,7 @@ pub enum Blessing {
     Written,
     /// The bench is left as it is, for this reason.
     Kept(&'static str),
-    /// The file can't be written, for this reason.
+    /// The file can't be read or written, for this reason.
     Unwritten(&'static str),
 }
 
@@ -56,8 +59,7 @@ pub(crate) fn bless<F: BenchFiles>(
             Ok(text) => bless_text(trial, at, text, nets, files),
             Err(_) => Ok(Blessing::None),
         },
-        Err(Unread::Memory) => Err(Fault::Memory),
-        Err(Unread::Cause(_)) => Ok(Blessing::None),
+        Err(why) => unwritten(why),
     }
 }
 
@@ -116,11 +118,19 @@ fn bless_on<F: BenchFiles>(
     }
 }
 
-// A bench that is not played is not blessed.
+// A bench whose file can't be read or written is not blessed.
+fn unwritten(why: FileFault) -> Result<Blessing, Fault> {
+    match why {
+        FileFault::Memory => Err(Fault::Memory),
+        FileFault::Cause(why) => Ok(Blessing::Unwritten(why)),
+    }
+}
+
+// A bench that is not played is not blessed. (Where it is played when it is read again, that is told.)
 fn unplayed(why: Refusal) -> Result<Blessing, Fault> {
     match why {
         Refusal::Memory => Err(Fault::Memory),
-        Refusal::Bench(_, _) | Refusal::NoNet(_) => Ok(Blessing::None),
+        Refusal::Bench(_, _) | Refusal::NoNet(_) => Ok(Blessing::Unwritten(UNREAD)),
     }
 }
 
@@ -158,7 +168,7 @@ fn bless_with<F: BenchFiles>(
     }
     match files.replace(setting.at.path, bytes) {
         Ok(()) => Ok(Blessing::Written),
-        Err(why) => Ok(Blessing::Unwritten(why)),
+        Err(why) => unwritten(why),
     }
 }
 

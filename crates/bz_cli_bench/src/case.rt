@@ -25,11 +25,13 @@ pub struct Short {
 pub struct Told {
     /// The name of the port that it ended at.
     pub port: Vec<u8>,
-    /// The line of the trace with which another value came than was due.
+    /// The line of the trace with which another value came than was due, or else the last one.
     pub line: usize,
+    /// The line of the trace after which all was as it is after the last one, or else after which no word was done.
+    pub from: usize,
     /// What is short, where nothing more comes.
     pub short: Vec<Short>,
-    /// Who waits for whom then, line by line; or why there is no net.
+    /// Who waits for whom then, or what has gone round, line by line; or why there is no net.
     pub why: Vec<u8>,
     pub fired: usize,
     pub words: usize,
@@ -45,6 +47,7 @@ impl Told {
         Told {
             port: Vec::new(alloc),
             line: 0,
+            from: 0,
             short: Vec::new(alloc),
             why: Vec::new(alloc),
             fired: 0,
@@ -54,9 +57,9 @@ impl Told {
         }
     }
 
-    // Whether a file is missing that was to be written.
+    // Whether the bench is missing that was to be written. (That its trace was not kept says nothing of the case.)
     fn is_unwritten(&self) -> bool {
-        self.unkept.is_some() || matches!(self.blessing, Blessing::Unwritten(_))
+        matches!(self.blessing, Blessing::Unwritten(_))
     }
 }
 

@@ -1,13 +1,14 @@
 //! What the plays of benches have exercised of their nets.
 
 use crate::asked::Trial;
-use crate::files::BenchFiles;
+use crate::files::{BenchFiles, FileFault};
 use crate::nets::{Found, Nets};
 use crate::opened::Opened;
+use crate::traces::tell_line;
 use bz_cli_input::Fault;
 use bz_cover::{Coverage, Report, count_entries, put_lcov, put_report, put_summary};
 use bz_net::{Net, Play};
-use bz_text::Text;
+use bz_text::{Piece as Part, Text};
 use bz_view::{Piece, Seen};
 use std::alloc::{AllocError, Global};
 use std::io::Write;
@@ -79,20 +80,11 @@ pub(crate) fn tell_counted<F: BenchFiles, E: Write>(
             let _ = bz_text::put(errors, summary.whole()?);
             Ok(true)
         }
-        Err(why) => {
-            tell_unmade(trial.alloc, path, why, errors);
+        Err(FileFault::Memory) => Err(Fault::Memory),
+        Err(FileFault::Cause(why)) => {
+            tell_line(trial.alloc, "--cover", path, why, errors);
             Ok(false)
         }
-    }
-}
-
-// Tells why there is no file.
-fn tell_unmade<E: Write>(alloc: Global, path: &str, why: &str, errors: &mut E) {
-    let mut text = Text::new(alloc);
-    let pieces = [Piece::Text(path), Piece::Text(why)];
-    text.say("error: --cover %: %\n", &pieces);
-    if let Ok(line) = text.whole() {
-        let _ = bz_text::put(errors, line);
     }
 }
 
@@ -145,7 +137,7 @@ fn put_net(
         traces: counted.plays,
         name: Some(name),
     };
-    summary.say("%: ", &[Piece::Bytes(name)]);
+    summary.put_pieces(&[Part::File(name), Part::Bytes(b": ")]);
     put_summary(summary, report);
     let put = if is_lcov {
         put_lcov(trial.alloc, text, report)

@@ -17,7 +17,7 @@ pub(crate) const FAILED: u8 = 1;
 pub(crate) const REFUSED: u8 = 2;
 
 /// The status of a case that came to no end.
-pub(crate) const SPENT: u8 = 3;
+pub(crate) const SPENT: u8 = 4;
 
 /// With an item of a port other values came under two seeds.
 #[derive(Clone, Copy)]

@@ -1,4 +1,4 @@
-//! Where in a journal something passed.
+//! Where in a journal something passed or was done.
 
 use bz_model::{Entry, Reply, Verb};
 
@@ -16,6 +16,14 @@ pub(crate) fn line_of(entries: &[Entry], port: u32, is_pull: bool, place: usize)
         }
     }
     0
+}
+
+/// Up to which entry these have words of the host.
+pub(crate) fn last_word(entries: &[Entry]) -> usize {
+    let last = entries
+        .iter()
+        .rposition(|entry| matches!(entry, Entry::Host { .. }));
+    last.map_or(0, |place| place.saturating_add(1))
 }
 
 // Whether something passed at a port with an entry.

@@ -5,8 +5,9 @@ use crate::case::{Case, Short, Told};
 use crate::ended::{Ended, Unlike};
 use crate::lines::{path_of, put_came, put_due};
 use crate::verdict::Verdict;
-use bz_text::{Piece, Text, put_json};
-use bz_view::put_typed;
+use bz_text::{Piece, Text};
+use bz_view::Piece::Typed;
+use bz_view::say_json;
 
 /// Adds the object of each case.
 pub(crate) fn put_objects(text: &mut Text, benches: &[&str], cases: &[Case]) {
@@ -18,7 +19,7 @@ pub(crate) fn put_objects(text: &mut Text, benches: &[&str], cases: &[Case]) {
 fn put_object(text: &mut Text, path: &str, case: &Case) {
     let told = case.told();
     text.put("{\"version\":1,\"bench\":");
-    put_string(text, path.as_bytes());
+    text.put_json(path.as_bytes());
     match case.seed() {
         Some(seed) => put_number(text, ",\"seed\":", seed),
         None => text.put(",\"seed\":null"),
@@ -42,6 +43,7 @@ pub(crate) fn word_of(ended: Ended) -> &'static str {
         Ended::Judged(Verdict::Differs { .. }) | Ended::Unlike(_) => "differs",
         Ended::Judged(Verdict::Extra { .. }) => "extra",
         Ended::Judged(Verdict::Stuck { .. }) => "stuck",
+        Ended::Judged(Verdict::Spins { .. }) => "spins",
         Ended::Judged(Verdict::Spent) => "spent",
         Ended::BadBench(_, _) | Ended::NoNet => "refused",
     }
@@ -55,20 +57,20 @@ fn put_members(text: &mut Text, ended: Ended, told: &Told) {
             put_number(text, ",\"line\":", at.line as u64);
             put_number(text, ",\"column\":", at.column as u64);
             text.put(",\"why\":");
-            put_string(text, cause.code().as_bytes());
+            text.put_json(cause.code().as_bytes());
             text.put(",\"expected\":");
-            put_string(text, cause.expected().as_bytes());
+            text.put_json(cause.expected().as_bytes());
         }
         Ended::NoNet => {
             text.put(",\"why\":");
-            put_string(text, told.why.as_slice());
+            text.put_json(told.why.as_slice());
         }
     }
 }
 
 fn put_verdict(text: &mut Text, verdict: Verdict, told: &Told) {
     match verdict {
-        Verdict::Passed | Verdict::Spent => {}
+        Verdict::Passed => {}
         Verdict::Differs {
             place,
             due,
@@ -89,7 +91,20 @@ fn put_verdict(text: &mut Text, verdict: Verdict, told: &Told) {
             put_came(text, Some(came));
             text.put("\"");
         }
-        Verdict::Stuck { .. } => put_stuck(text, told),
+        Verdict::Stuck { .. } => {
+            put_shorts(text, told);
+            put_lines(text, ",\"waits\":[", told);
+        }
+        Verdict::Spins { .. } => {
+            put_number(text, ",\"from\":", told.from as u64);
+            put_number(text, ",\"to\":", told.line as u64);
+            put_shorts(text, told);
+            put_lines(text, ",\"rounds\":[", told);
+        }
+        Verdict::Spent => {
+            put_number(text, ",\"since\":", told.from as u64);
+            put_lines(text, ",\"rounds\":[", told);
+        }
     }
 }
 
@@ -113,34 +128,31 @@ fn put_unlike(text: &mut Text, unlike: Unlike, told: &Told) {
     put_number(text, ",\"line\":", told.line as u64);
 }
 
-fn put_stuck(text: &mut Text, told: &Told) {
-    text.put(",\"short\":[");
-    put_shorts(text, told);
-    text.put("],\"waits\":[");
-    put_waits(text, told);
-    text.put("]");
-}
-
+// Adds what is short.
 fn put_shorts(text: &mut Text, told: &Told) {
+    text.put(",\"short\":[");
     let mut before = "{\"port\":";
     for short in &told.short {
         put_short(text, before, short);
         before = ",{\"port\":";
     }
+    text.put("]");
 }
 
-// Adds each line of what waits as a string.
-fn put_waits(text: &mut Text, told: &Told) {
+// Adds each line of who waits for whom, or of what has gone round, as a string.
+fn put_lines(text: &mut Text, before: &str, told: &Told) {
+    text.put(before);
     let mut is_first = true;
     for line in told.why.as_slice().split(|byte| *byte == b'\n') {
         if !line.is_empty() {
             if !is_first {
                 text.put(",");
             }
-            put_string(text, line);
+            text.put_json(line);
             is_first = false;
         }
     }
+    text.put("]");
 }
 
 fn put_short(text: &mut Text, before: &str, short: &Short) {
@@ -153,18 +165,8 @@ fn put_short(text: &mut Text, before: &str, short: &Short) {
 
 // Adds a port as it is typed.
 fn put_port(text: &mut Text, before: &str, port: &[u8]) {
-    let mut name = Text::new(text.alloc());
-    put_typed(&mut name, port);
     text.put(before);
-    match name.whole() {
-        Ok(name) => put_string(text, name),
-        Err(_) => text.lose(),
-    }
-}
-
-fn put_string(text: &mut Text, bytes: &[u8]) {
-    // (a text is refused for memory alone, which it keeps)
-    let _ = put_json(text, bytes);
+    say_json(text, "%", &[Typed(port)]);
 }
 
 fn put_number(text: &mut Text, before: &str, number: u64) {

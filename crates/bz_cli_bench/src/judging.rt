@@ -1,45 +1,100 @@
 //! The verdict on what was made, by the journal and the state of a net alone.
 
-ghost use Rattle.std.specs.Prelude.{◌≡◌, ℕ, ◌<◌, None, Some, IfOk, IfSome, IfNone, IsTrue, length};
-ghost use Rattle.bz_bench.specs.Dues.{DiffersAt, IsAsDue, IsWhole, item_at};
-ghost use Rattle.bz_bench.specs.Streams.{ended, passed, passed_on};
+ghost use Rattle.std.specs.Prelude.{◌≡◌, ℕ, ◌<◌, ◌≤◌, Bool, None, Some, true, false, IfOk, IfSome, IfNone, IsTrue, drop, length};
+ghost use Rattle.bz_bench.specs.Dues.{DiffersAt, IsAsDue, item_at, may_begin};
+ghost use Rattle.bz_bench.specs.Groups.{OfEach};
+ghost use Rattle.bz_bench.specs.Streams.{begins, passed_on};
 ghost use Rattle.bz_bench.specs.Tallies.{IsTally, Tells};
 ghost use Rattle.bz_bench.specs.declared.stream.Stream.{Stream};
-ghost use Rattle.bz_cli_bench.specs.Verdicts.{IsShort, IsStill, Judges, OfEach, OfSome, beginning, ending};
-ghost use Rattle.bz_model.specs.Names.{numbered};
+ghost use Rattle.bz_cli_bench.specs.Verdicts.{IsAsBenched, IsAtEnd, IsServed, IsShort, IsStill, Judges, NoneIsWrong};
+ghost use Rattle.bz_cli_bench.specs.Verdicts.{OfSome, WasAfter, beginning, ending};
+ghost use Rattle.bz_model.specs.Names.{numbered, port_sense};
 ghost use Rattle.bz_model.specs.Nets.{phase_at};
 
+use crate::plan::{Plan, gives};
 use crate::verdict::Verdict;
-use bz_bench::{Stream, Tally, fits, tallies_of};
+use bz_bench::{Item, Stream, Tally, fits, tallies_of};
+use bz_explore_net::replay;
+use bz_flat::Flat;
 use bz_model::{Chan, ChanKind, Phase, Value, Verb, numbered};
 use bz_net::Net;
 use std::alloc::{AllocError, Global};
 
-/// The verdict on a net on which the streams of its ports were played up to a group of lines.
-pub fn judge(
+/// The most entries that a journal may have.
+const MAX_JOURNAL: u32 = 16_777_216;
+
+/// The verdict on a net on which a plan was played up to a group of lines. Where it may be in the state in which it was after so
+/// many entries, `again` has how many.
+pub(crate) fn judge(
     alloc: Global,
+    flat: &Flat,
     net: &Net,
-    streams: &[Stream],
+    plan: &Plan,
     group: usize,
+    again: Option<usize>,
 ) -> Result<Verdict, AllocError>
-    requires { length streams.now ≡ length net.now.wiring.ports }
-    ensures { IfOk result (Judges net.now.wiring net.now.state net.now.journal streams.now) }
+    requires wiring { flat.now.wiring ≡ net.now.wiring }
+    requires streams { length plan.now.streams.items ≡ length net.now.wiring.ports }
+    ensures { IfOk result (Judges net.now.wiring net.now.state net.now.journal plan.now.streams.items plan.now.spins) }
 {
+    let streams = plan.streams.as_slice();
     let tallies = tallies_of(alloc, streams.len(), net.journal())?;
-    Ok(judge_by(net, streams, &tallies, group))
+    let from = first_like(alloc, flat, net, again)?;
+    let since = tallies_of(alloc, streams.len(), &net.journal()[from..])?;
+    Ok(judge_by(net, streams, plan.spins, &tallies, group, from, &since))
 }
 
-fn judge_by(net: &Net, streams: &[Stream], tallies: &[Tally], group: usize) -> Verdict
+// After how many entries the net was in the state in which it is now: as many as are named, if that is so, or else all.
+#[tactic(auto, using(crate::proofs::Repeated::front_again, crate::proofs::Repeated::was_before, crate::proofs::Repeated::was_now))]
+fn first_like(
+    alloc: Global,
+    flat: &Flat,
+    net: &Net,
+    again: Option<usize>,
+) -> Result<usize, AllocError>
+    requires { flat.now.wiring ≡ net.now.wiring }
+    ensures was { IfOk result (WasAfter net.now.wiring net.now.state net.now.journal) }
+    ensures within { IfOk result (λ from. from ≤ length net.now.journal) }
+{
+    let journal = net.journal();
+    let from = again.unwrap_or(journal.len()).min(MAX_JOURNAL as usize);
+    if from >= journal.len() {
+        return Ok(journal.len());
+    }
+    let Ok(before) = replay(alloc, flat, &journal[..from], MAX_JOURNAL) else {
+        return Err(AllocError);
+    };
+    match before.core().differing(net.core(), 0) {
+        None => Ok(from),
+        Some(_) => Ok(journal.len()),
+    }
+}
+
+fn judge_by(
+    net: &Net,
+    streams: &[Stream],
+    spins: bool,
+    tallies: &[Tally],
+    group: usize,
+    from: usize,
+    since: &[Tally],
+) -> Verdict
     requires told { Tells net.now.journal tallies.now }
+    requires since { Tells (drop from net.now.journal) since.now }
+    requires was { WasAfter net.now.wiring net.now.state net.now.journal from }
     requires streams { length streams.now ≡ length net.now.wiring.ports }
-    requires tallies { length tallies.now ≡ length net.now.wiring.ports }
-    ensures { Judges net.now.wiring net.now.state net.now.journal streams.now result }
+    ensures { Judges net.now.wiring net.now.state net.now.journal streams.now spins result }
 {
     if let Some(verdict) = first_fault(net, streams, tallies) {
         return verdict;
     }
-    if are_whole(net, streams, tallies) {
-        return Verdict::Passed;
+    if are_as_benched(net, streams, tallies) {
+        if is_at_end(net, streams, spins, tallies, from, since) {
+            return Verdict::Passed;
+        }
+    }
+    if from < net.journal().len() {
+        return Verdict::Spins { from, group };
     }
     if let Some(_) = net.next_ready(1) {
         return Verdict::Spent;
@@ -53,10 +108,40 @@ fn judge_by(net: &Net, streams: &[Stream], tallies: &[Tally], group: usize) -> V
     Verdict::Stuck { group }
 }
 
+// Whether nothing else comes: after so many entries this state was there before, if these are not all.
+fn is_at_end(
+    net: &Net,
+    streams: &[Stream],
+    spins: bool,
+    tallies: &[Tally],
+    from: usize,
+    since: &[Tally],
+) -> bool
+    requires told { Tells net.now.journal tallies.now }
+    requires since { Tells (drop from net.now.journal) since.now }
+    requires was { WasAfter net.now.wiring net.now.state net.now.journal from }
+    requires streams { length streams.now ≡ length net.now.wiring.ports }
+    ensures { IsTrue result → IsAtEnd net.now.wiring net.now.state net.now.journal streams.now spins }
+{
+    if is_none_wrong(net, streams) {
+        return true;
+    }
+    if spins {
+        if from < net.journal().len() {
+            return true;
+        }
+    }
+    match net.next_ready(1) {
+        Some(_comp) => false,
+        None => are_served(net, streams, tallies, from, since),
+    }
+}
+
 // The first port at which another value came than was due, or else at which one came and none was.
 fn first_fault(net: &Net, streams: &[Stream], tallies: &[Tally]) -> Option<Verdict>
     requires { Tells net.now.journal tallies.now }
-    ensures { IfSome result (Judges net.now.wiring net.now.state net.now.journal streams.now) }
+    ensures { IfSome result (λ verdict. (spins : Bool)
+        → Judges net.now.wiring net.now.state net.now.journal streams.now spins verdict) }
 {
     let ports = net.names().ports().len();
     for place in 0..ports {
@@ -75,7 +160,8 @@ fn first_fault(net: &Net, streams: &[Stream], tallies: &[Tally]) -> Option<Verdi
 // The first item of a port with which another value came than was due.
 fn difference_at(net: &Net, streams: &[Stream], tallies: &[Tally], port: u32) -> Option<Verdict>
     requires { Tells net.now.journal tallies.now }
-    ensures { IfSome result (Judges net.now.wiring net.now.state net.now.journal streams.now) }
+    ensures { IfSome result (λ verdict. (spins : Bool)
+        → Judges net.now.wiring net.now.state net.now.journal streams.now spins verdict) }
 {
     let stream = numbered(streams, port)?;
     let tally = numbered(tallies, port)?;
@@ -92,7 +178,8 @@ fn difference_at(net: &Net, streams: &[Stream], tallies: &[Tally], port: u32) ->
 // The value that came at a port at which no more is due.
 fn extra_at(net: &Net, streams: &[Stream], tallies: &[Tally], port: u32) -> Option<Verdict>
     requires { Tells net.now.journal tallies.now }
-    ensures { IfSome result (Judges net.now.wiring net.now.state net.now.journal streams.now) }
+    ensures { IfSome result (λ verdict. (spins : Bool)
+        → Judges net.now.wiring net.now.state net.now.journal streams.now spins verdict) }
 {
     let stream = numbered(streams, port)?;
     let tally = numbered(tallies, port)?;
@@ -115,7 +202,9 @@ fn is_over(stream: &Stream, begun: usize) -> bool
 
 // The value that the net asks with at a port.
 fn asked_at(net: &Net, port: u32) -> Option<Value>
-    ensures { IfSome result (λ came. phase_at net.now.state port ≡ Phase.Asked (Some came)) }
+    ensures some { IfSome result (λ came. phase_at net.now.state port ≡ Phase.Asked (Some came)) }
+    ensures none { IfNone result (port_sense net.now.wiring.ports port ≡ Some false
+        → (came : ℕ) → phase_at net.now.state port ≡ Phase.Asked (Some came) → ⊥) }
 {
     if net.names().passive(port) != Some(false) {
         return None;
@@ -154,26 +243,25 @@ fn first_wrong(stream: &Stream, passed: &[Option<Value>]) -> Option<(usize, Opti
 }
 
 // Whether all that is due has passed at each port, and nothing else.
-#[tactic(auto, using(crate::proofs::Ports::first_none, crate::proofs::Ports::first_more, crate::proofs::Ports::first_all))]
-fn are_whole(net: &Net, streams: &[Stream], tallies: &[Tally]) -> bool
+#[tactic(auto, using(bz_bench::proofs::Each::first_none, bz_bench::proofs::Each::first_more, bz_bench::proofs::Each::first_all))]
+fn are_as_benched(net: &Net, streams: &[Stream], tallies: &[Tally]) -> bool
     requires told { Tells net.now.journal tallies.now }
     requires streams { length streams.now ≡ length net.now.wiring.ports }
-    ensures { IsTrue result → OfEach streams.now (λ port stream.
-        IsWhole stream (passed net.now.wiring port net.now.journal) (ended port net.now.journal)) }
+    ensures { IsTrue result → OfEach streams.now (IsAsBenched net.now.wiring net.now.state net.now.journal) }
 {
     let ports = net.names().ports().len();
     for place in 0..ports {
-        if !is_whole_at(net, streams, tallies, place as u32 + 1) {
+        if !is_as_benched_at(net, streams, tallies, place as u32 + 1) {
             return false;
         }
     }
     true
 }
 
-fn is_whole_at(net: &Net, streams: &[Stream], tallies: &[Tally], port: u32) -> bool
+fn is_as_benched_at(net: &Net, streams: &[Stream], tallies: &[Tally], port: u32) -> bool
     requires { Tells net.now.journal tallies.now }
     ensures { IsTrue result → (stream : Stream) → numbered streams.now port ≡ Some stream
-        → IsWhole stream (passed net.now.wiring port net.now.journal) (ended port net.now.journal) }
+        → IsAsBenched net.now.wiring net.now.state net.now.journal port stream }
 {
     let (Some(stream), Some(tally)) = (numbered(streams, port), numbered(tallies, port)) else {
         return false;
@@ -182,7 +270,105 @@ fn is_whole_at(net: &Net, streams: &[Stream], tallies: &[Tally], port: u32) -> b
     if let Some(_) = first_wrong(stream, passed) {
         return false;
     }
+    if !waits_none(net, stream, tally.begun.len(), port) {
+        return false;
+    }
     stream.items.len() <= passed.len() && stream.to_end() <= tally.ended.len()
+}
+
+// Whether no value waits at a port where none is due after so many handshakes.
+fn waits_none(net: &Net, stream: &Stream, begun: usize, port: u32) -> bool
+    ensures { IsTrue result → item_at stream.now begun ≡ None → port_sense net.now.wiring.ports port ≡ Some false
+        → (came : ℕ) → phase_at net.now.state port ≡ Phase.Asked (Some came) → ⊥ }
+{
+    match stream.item_at(begun) {
+        Some(_due) => true,
+        None => asked_at(net, port).is_none(),
+    }
+}
+
+// Whether no value that comes is wrong: there is a port at which the net gives values, and at each of those any may come without end.
+fn is_none_wrong(net: &Net, streams: &[Stream]) -> bool
+    requires { length streams.now ≡ length net.now.wiring.ports }
+    ensures { IsTrue result → NoneIsWrong net.now.wiring streams.now }
+{
+    let names = net.names();
+    let ports = names.ports().len();
+    let mut is_some = false;
+    for place in 0..ports {
+        let port = place as u32 + 1;
+        if gives(names.chan(port), names.passive(port)) {
+            if !takes_any(streams, port) {
+                return false;
+            }
+            is_some = true;
+        }
+    }
+    is_some
+}
+
+// Whether any value may come at a port, without end.
+fn takes_any(streams: &[Stream], port: u32) -> bool
+    ensures each { IsTrue result → (stream : Stream) → numbered streams.now port ≡ Some stream → stream.forever ≡ Some Item.Any }
+    ensures some { IsTrue result → OfSome streams.now (λ port stream. stream.forever ≡ Some Item.Any) }
+{
+    let Some(stream) = numbered(streams, port) else {
+        return false;
+    };
+    match stream.forever {
+        Some(item) => match item {
+            Item::Any => true,
+            Item::Handshake | Item::Value(_) => false,
+        },
+        None => false,
+    }
+}
+
+// Whether no port has a word, or each that has one had one after so many entries.
+#[tactic(auto, using(bz_bench::proofs::Each::first_none, bz_bench::proofs::Each::first_more, bz_bench::proofs::Each::first_all))]
+fn are_served(
+    net: &Net,
+    streams: &[Stream],
+    tallies: &[Tally],
+    from: usize,
+    since: &[Tally],
+) -> bool
+    requires told { Tells net.now.journal tallies.now }
+    requires since { Tells (drop from net.now.journal) since.now }
+    requires streams { length streams.now ≡ length net.now.wiring.ports }
+    ensures { IsTrue result → OfEach streams.now (IsServed net.now.wiring net.now.state net.now.journal from) }
+{
+    let ports = net.names().ports().len();
+    for place in 0..ports {
+        if !is_served_at(net, streams, tallies, since, place as u32 + 1) {
+            return false;
+        }
+    }
+    true
+}
+
+fn is_served_at(
+    net: &Net,
+    streams: &[Stream],
+    tallies: &[Tally],
+    since: &[Tally],
+    port: u32,
+) -> bool
+    requires { Tells net.now.journal tallies.now }
+    ensures { IsTrue result → (from : ℕ) → Tells (drop from net.now.journal) since.now
+        → (stream : Stream) → numbered streams.now port ≡ Some stream
+        → IsServed net.now.wiring net.now.state net.now.journal from port stream }
+{
+    if let Some(tally) = numbered(since, port) {
+        if tally.begun.len() > 0 {
+            return true;
+        }
+    }
+    let (Some(stream), Some(tally)) = (numbered(streams, port), numbered(tallies, port)) else {
+        return false;
+    };
+    let own = stream.group_of(tally.begun.len());
+    next_word(net, port, stream, tally, own).is_none()
 }
 
 // Whether something of a group of lines or one above it has not passed.
@@ -206,18 +392,11 @@ fn is_short_at(net: &Net, streams: &[Stream], tallies: &[Tally], port: u32, grou
     let (Some(stream), Some(tally)) = (numbered(streams, port), numbered(tallies, port)) else {
         return false;
     };
-    let upto = stream.upto(group);
-    if tally.begun.len() < upto {
-        return true;
-    }
-    if tally.ended.len() < upto.min(stream.to_end()) {
-        return true;
-    }
-    false
+    !stream.is_done(group, tally)
 }
 
 // Whether no word of a group of lines or one above it would be done.
-#[tactic(auto, using(crate::proofs::Ports::first_none, crate::proofs::Ports::first_more, crate::proofs::Ports::first_all))]
+#[tactic(auto, using(bz_bench::proofs::Each::first_none, bz_bench::proofs::Each::first_more, bz_bench::proofs::Each::first_all))]
 fn are_still(net: &Net, streams: &[Stream], tallies: &[Tally], group: usize) -> bool
     requires told { Tells net.now.journal tallies.now }
     requires streams { length streams.now ≡ length net.now.wiring.ports }
@@ -251,8 +430,10 @@ pub(crate) fn next_word(
     tally: &Tally,
     group: usize,
 ) -> Option<Verb>
-    ensures { IsTally port net.now.journal tally.now → IfNone result
+    ensures none { IsTally port net.now.journal tally.now → IfNone result
         (IsStill net.now.wiring net.now.state net.now.journal group port stream.now) }
+    ensures begins { IfSome result (λ verb. begins verb ≡ true
+        → may_begin stream.now group (length tally.now.begun.items) ≡ true) }
 {
     let passive = net.names().passive(port)?;
     let (beginning, ending) = (beginning(passive), ending(passive));

@@ -5,6 +5,7 @@ use crate::ended::Ended;
 use crate::json::word_of;
 use crate::lines::{path_of, put_why};
 use crate::traces::name_of;
+use crate::xml::put_xml;
 use bz_text::Text;
 use bz_view::Piece;
 
@@ -57,9 +58,9 @@ fn is_refused(ended: Ended) -> bool {
 
 fn put_case(text: &mut Text, path: &str, case: &Case) {
     text.put("  <testcase classname=\"");
-    put_escaped(text, path.as_bytes());
+    put_xml(text, path.as_bytes());
     text.put("\" name=\"");
-    put_escaped(text, name_of(path).as_bytes());
+    put_xml(text, name_of(path).as_bytes());
     if let Some(seed) = case.seed() {
         text.say(" seed %", &[Piece::Wide(seed.into())]);
     }
@@ -90,24 +91,7 @@ fn put_message(text: &mut Text, case: &Case) {
     let mut why = Text::new(text.alloc());
     put_why(&mut why, case);
     match why.whole() {
-        Ok(why) => put_escaped(text, why),
+        Ok(why) => put_xml(text, why),
         Err(_) => text.lose(),
-    }
-}
-
-// Adds a text within the quotes of an attribute. A byte that XML can't have is a question mark.
-fn put_escaped(text: &mut Text, bytes: &[u8]) {
-    for byte in bytes {
-        match *byte {
-            b'&' => text.put("&amp;"),
-            b'<' => text.put("&lt;"),
-            b'>' => text.put("&gt;"),
-            b'"' => text.put("&quot;"),
-            b'\t' => text.put("&#9;"),
-            b'\n' => text.put("&#10;"),
-            b'\r' => text.put("&#13;"),
-            0..=31 => text.put("?"),
-            byte => text.put_bytes(&[byte]),
-        }
     }
 }

@@ -15,7 +15,7 @@ pub(crate) fn put_lines(text: &mut Text, benches: &[&str], cases: &[Case]) {
     for case in cases {
         let path = path_of(benches, case);
         if let Blessing::Written = case.told().blessing {
-            text.say("%: blessed\n", &[Piece::Text(path)]);
+            text.say("%: blessed\n", &[Piece::File(path)]);
         }
         if case.is_passed() {
             passed = passed.saturating_add(1);
@@ -38,7 +38,7 @@ pub(crate) fn path_of<'b>(benches: &'b [&str], case: &Case) -> &'b str {
 
 // Adds the line of a case.
 fn put_line(text: &mut Text, path: &str, case: &Case) {
-    text.put(path);
+    text.say("%", &[Piece::File(path)]);
     if let Ended::BadBench(at, _) = case.ended() {
         let spot = [Piece::Number(at.line), Piece::Number(at.column)];
         text.say(":%:%", &spot);
@@ -85,8 +85,24 @@ fn put_verdict(text: &mut Text, verdict: Verdict, told: &Told) {
             let port = Piece::Typed(told.port.as_slice());
             text.say("extra at %: came %", &[port, Piece::Wide(came)]);
         }
-        Verdict::Stuck { .. } => put_stuck(text, told),
-        Verdict::Spent => text.put("spent: the fuel or the journal was at its end"),
+        Verdict::Stuck { .. } => {
+            put_short_of(text, "stuck", told);
+            put_rest(text, told);
+        }
+        Verdict::Spins { .. } => {
+            put_short_of(text, "spins", told);
+            let lines = [Piece::Number(told.line), Piece::Number(told.from)];
+            text.say("; after line % all is as after line %", &lines);
+            put_rest(text, told);
+        }
+        Verdict::Spent => {
+            let line = [Piece::Number(told.from)];
+            text.say(
+                "spent: the fuel or the journal was at its end; no word was done since line %",
+                &line,
+            );
+            put_rest(text, told);
+        }
     }
 }
 
@@ -113,15 +129,19 @@ fn put_unlike(text: &mut Text, unlike: Unlike, told: &Told) {
     put_trace_line(text, told);
 }
 
-// Adds what is short, and who waits for whom.
-fn put_stuck(text: &mut Text, told: &Told) {
-    text.put("stuck");
+// Adds a word, and what is short.
+fn put_short_of(text: &mut Text, word: &str, told: &Told) {
+    text.put(word);
     let mut before = ": ";
     for short in &told.short {
         text.put(before);
         put_short(text, short);
         before = ", ";
     }
+}
+
+// Adds who waits for whom, or what has gone round.
+fn put_rest(text: &mut Text, told: &Told) {
     for line in told.why.as_slice().split(|byte| *byte == b'\n') {
         if !line.is_empty() {
             text.put("; ");

@@ -6,7 +6,8 @@ use crate::files::BenchFiles;
 use crate::opened::Opened;
 use crate::reading::{Refusal, bytes_of, unread};
 use bz_cli_input::Fault;
-use bz_text::Text;
+use bz_text::{Piece as Part, Text};
+use bz_view::Piece;
 use std::alloc::{AllocError, Global};
 use std::io::Write;
 use std::mem;
@@ -128,14 +129,14 @@ fn is_name(names: &[Vec<u8>], place: usize, name: &[u8]) -> bool {
     }
 }
 
-// What the net of a part of a netlist is called.
+// What the net of a part of a netlist is called: its file, and the part in name form.
 fn label_of(alloc: Global, netlist: &str, part: Option<&[u8]>) -> Result<Vec<u8>, AllocError> {
-    let mut label = Vec::from_slice(alloc, netlist.as_bytes())?;
+    let mut label = Text::new(alloc);
+    label.put(netlist);
     if let Some(part) = part {
-        label.push(b' ')?;
-        label.extend_from_slice(part)?;
+        label.put_pieces(&[Part::Bytes(b" "), Part::Name(part)]);
     }
-    Ok(label)
+    bytes_of(alloc, &label)
 }
 
 // A netlist and a part as one name.
@@ -183,6 +184,7 @@ fn opened(
 
 fn refused(alloc: Global, netlist: &str, fault: &Fault) -> Result<Found, AllocError> {
     let mut why = Text::new(alloc);
-    let _ = write!(why, "{netlist}: {fault}");
+    why.say("%: ", &[Piece::File(netlist)]);
+    let _ = write!(why, "{fault}");
     Ok(Found::Refused(bytes_of(alloc, &why)?))
 }

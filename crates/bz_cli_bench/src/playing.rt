@@ -2,8 +2,8 @@
 //!
 //! Without a seed the net runs to rest, and then the first port at which a word of its stream would be done gets it. With one,
 //! each step is one of the components that can move or one of the words that would be done, each as likely as another. A play
-//! ends with the first value that is not as due. Nothing is claimed of what is picked, nor that a play comes to an end in time:
-//! the verdict goes by the journal and the state alone.
+//! ends with the first value that is not as due, or where it goes round. Nothing is claimed of what is picked, nor that a play
+//! comes to an end in time: the verdict goes by the journal and the state alone.
 
 ghost use Rattle.std.specs.Prelude.{◌≡◌, ◌<◌, ◌≤◌, IfOk, length};
 ghost use Rattle.bz_cli_bench.specs.Verdicts.{Judges};
@@ -14,15 +14,19 @@ use crate::judging::{judge, next_word};
 use crate::learning::{Came, add_value, no_values};
 use crate::plan::Plan;
 use crate::verdict::Verdict;
+use crate::watching::Watch;
 use bz_bench::{Item, Stream, Tally, fits, no_tallies, note};
-use bz_explore_net::{Picker, Stepping};
+use bz_explore_net::{CountedRow, Picker, Stepping, chan_of};
 use bz_flat::Flat;
 use bz_model::{ChanKind, Entry, HostCmd, NetError, Reply, Value, Verb, Who, numbered};
-use bz_net::{Net, RunEnd};
+use bz_net::RunEnd;
 use std::alloc::Global;
 
 /// The most entries that the journal of a play may have.
 const MAX_JOURNAL: u32 = 16_777_216;
+
+/// So many firings are made without a look whether they go round.
+const UNWATCHED: u64 = 1024;
 
 /// What is mixed with a seed, so that what is picked between moves and words is not as what is picked among moves.
 const MIXED: u64 = 0x9e37_79b9_7f4a_7c15;
@@ -64,9 +68,15 @@ struct Session<'p> {
     tallies: Vec<Tally>,
     // The group of lines that has begun last.
     group: usize,
+    // The ports with a word that would be done, and those at which the group is not done, by their numbers.
+    words: CountedRow,
+    short: CountedRow,
+    // How many entries of the journal these are of.
+    seen: usize,
     fuel: u64,
     // Where any value may come: those that came at each port.
     learnt: Option<Vec<Vec<Came>>>,
+    watch: Watch,
 }
 
 impl Drop for Session<'_> {
@@ -76,8 +86,12 @@ impl Drop for Session<'_> {
             plan: _,
             tallies: _,
             group: _,
+            words: _,
+            short: _,
+            seen: _,
             fuel: _,
             learnt: _,
+            watch: _,
         } = self;
     }
 }
@@ -97,7 +111,7 @@ pub(crate) fn play(
     ensures wiring { IfOk result (λ p. p.stepping.net.wiring ≡ flat.wiring) }
     ensures run { IfOk result (λ p. Run flat.wiring (opening flat.wiring) p.stepping.net.journal p.stepping.net.state) }
     ensures judged { IfOk result (λ p.
-        Judges flat.wiring p.stepping.net.state p.stepping.net.journal plan.now.streams.items p.verdict) }
+        Judges flat.wiring p.stepping.net.state p.stepping.net.journal plan.now.streams.items plan.now.spins p.verdict) }
 {
     let mut session = Session::open(alloc, flat, plan, fuel, journal)?;
     session.play_all(alloc, seed)?;
@@ -136,7 +150,15 @@ impl<'p> Session<'p> {
         ensures wiring { IfOk result (λ s. s.stepping.net.wiring ≡ flat.wiring) }
         ensures plan { IfOk result (λ s. s.plan.now ≡ plan.now) }
     {
-        let Ok(tallies) = no_tallies(alloc, plan.streams.len()) else {
+        let ports = plan.streams.len();
+        let (Ok(tallies), Ok(watch)) = (no_tallies(alloc, ports), Watch::new(alloc, ports)) else {
+            return Err(NetError::Memory);
+        };
+        let numbers = ports.saturating_add(1);
+        let (Ok(words), Ok(short)) = (
+            CountedRow::new(alloc, numbers),
+            CountedRow::new(alloc, numbers),
+        ) else {
             return Err(NetError::Memory);
         };
         let stepping = Stepping::open(alloc, flat, journal)?;
@@ -145,8 +167,12 @@ impl<'p> Session<'p> {
             plan,
             tallies,
             group: 0,
+            words,
+            short,
+            seen: 0,
             fuel,
             learnt: None,
+            watch,
         })
     }
 
@@ -156,19 +182,23 @@ impl<'p> Session<'p> {
         ensures run { IfOk result (λ p. Run self.entry.stepping.net.wiring (opening self.entry.stepping.net.wiring)
             p.stepping.net.journal p.stepping.net.state) }
         ensures judged { IfOk result (λ p. Judges self.entry.stepping.net.wiring
-            p.stepping.net.state p.stepping.net.journal self.entry.plan.now.streams.items p.verdict) }
+            p.stepping.net.state p.stepping.net.journal self.entry.plan.now.streams.items self.entry.plan.now.spins p.verdict) }
     {
         let Session {
             stepping,
             plan,
             tallies,
             group,
+            words: _,
+            short: _,
+            seen: _,
             fuel: _,
             learnt: _,
+            watch,
         } = self;
         let net = stepping.net();
         let _ = net.journal();
-        match judge(alloc, net, plan.streams.as_slice(), group) {
+        match judge(alloc, stepping.flat(), net, plan, group, watch.again) {
             Ok(verdict) => Ok(Played {
                 stepping,
                 tallies,
@@ -179,25 +209,32 @@ impl<'p> Session<'p> {
     }
 
     // What came at each port, if the play is at its end.
-    fn into_learnt(self) -> Option<Vec<Vec<Came>>> {
-        let is_last = self.group.saturating_add(1) >= self.plan.groups;
-        let has_ended = is_last && self.is_over(self.group);
+    fn into_learnt(mut self) -> Option<Vec<Vec<Came>>> {
+        self.look();
+        let has_ended = self.is_last() && self.is_over();
         let Session {
             stepping: _,
             plan: _,
             tallies: _,
             group: _,
+            words: _,
+            short: _,
+            seen: _,
             fuel: _,
             learnt,
+            watch: _,
         } = self;
         if has_ended { learnt } else { None }
     }
 
-    // Whether all of a group of lines is done, and nothing moves any more before the next one begins.
-    fn is_over(&self, group: usize) -> bool {
-        self.is_done(group)
-            && self.stepping.net().next_ready(1).is_none()
-            && self.nth_word(0).is_none()
+    // Whether the last group of lines has begun.
+    fn is_last(&self) -> bool {
+        self.group.saturating_add(1) >= self.plan.groups.len()
+    }
+
+    // Whether all of the group is done, and nothing moves any more before the next one begins.
+    fn is_over(&self) -> bool {
+        self.is_done() && self.stepping.net().next_ready(1).is_none() && self.words.count() == 0
     }
 
     // Plays to the end: in order, or by chance from a seed.
@@ -205,6 +242,9 @@ impl<'p> Session<'p> {
         ensures wiring { IfOk result (λ _. self.new.stepping.net.wiring ≡ self.old.stepping.net.wiring) }
         ensures plan { self.new.plan.now ≡ self.old.plan.now }
     {
+        for place in 0..self.tallies.len() {
+            self.look_at(port_of(place));
+        }
         match seed {
             None => self.play_in_order(alloc),
             Some(seed) => self.play_by_chance(alloc, seed),
@@ -224,15 +264,51 @@ impl<'p> Session<'p> {
         Ok(())
     }
 
-    // Runs on to rest: whether it came there.
+    // Runs on to rest: whether it came there, and the play doesn't go round.
     fn runs_to_rest(&mut self, alloc: Global) -> Result<bool, NetError>
         ensures wiring { IfOk result (λ _. self.new.stepping.net.wiring ≡ self.old.stepping.net.wiring) }
         ensures plan { self.new.plan.now ≡ self.old.plan.now }
     {
-        let Ok(end) = self.stepping.run(alloc, &[], self.fuel) else {
-            return Err(NetError::Memory);
+        let mut stride = UNWATCHED;
+        for _ in 0..=MAX_JOURNAL {
+            let end = self.stepping.run_on(stride.min(self.fuel));
+            if self.has_rested(end)? {
+                return Ok(!self.watch.repeats || !self.goes_round(alloc));
+            }
+            if self.fuel == 0 || self.goes_round(alloc) {
+                break;
+            }
+            stride = self.watch.rounds.stride();
+        }
+        Ok(false)
+    }
+
+    // Whether all goes on as it did before. By a seed that is so only where all that is counted has passed, and each port that has a
+    // word now had one since.
+    fn goes_round(&mut self, alloc: Global) -> bool
+        ensures wiring { self.new.stepping.net.wiring ≡ self.old.stepping.net.wiring }
+        ensures plan { self.new.plan.now ≡ self.old.plan.now }
+    {
+        let Some(from) = self.watch.rounds.look(alloc, &self.stepping) else {
+            return false;
         };
-        self.has_rested(end)
+        self.look();
+        if self.watch.is_seeded && !self.is_served(from) {
+            return false;
+        }
+        self.watch.again = Some(from);
+        true
+    }
+
+    // Whether all that is counted has passed, and each port that has a word now had one after so many entries.
+    fn is_served(&self, from: usize) -> bool {
+        let mut words = 0..self.words.count();
+        self.is_last()
+            && self.is_done()
+            && words.all(|before| match self.words.nth(before) {
+                Some(port) => self.watch.last(port) > from,
+                None => true,
+            })
     }
 
     // Whether firings ended at rest.
@@ -263,6 +339,7 @@ impl<'p> Session<'p> {
         ensures plan { self.new.plan.now ≡ self.old.plan.now }
     {
         self.stepping.seed(seed);
+        self.watch.is_seeded = true;
         let mut chooser = Picker::new(seed ^ MIXED);
         for _ in 0..=MAX_JOURNAL {
             if !self.steps(alloc, &mut chooser)? {
@@ -278,8 +355,13 @@ impl<'p> Session<'p> {
         ensures plan { self.new.plan.now ≡ self.old.plan.now }
     {
         self.begin_groups();
-        let moves = count_ready(self.stepping.net());
-        let choices = moves.saturating_add(self.count_words());
+        let Ok(moves) = self.stepping.count_movers(alloc) else {
+            return Err(NetError::Memory);
+        };
+        if moves == 0 && self.watch.repeats && self.goes_round(alloc) {
+            return Ok(false);
+        }
+        let choices = moves.saturating_add(self.words.count());
         if choices == 0 {
             self.runs_to_rest(alloc)?;
             return Ok(false);
@@ -302,17 +384,6 @@ impl<'p> Session<'p> {
         };
         self.has_rested(end)?;
         Ok(self.fuel > 0)
-    }
-
-    // How many words would be done.
-    fn count_words(&self) -> u32 {
-        let mut count = 0u32;
-        for place in 0..self.tallies.len() {
-            if self.word_at(port_of(place)).is_some() {
-                count = count.saturating_add(1);
-            }
-        }
-        count
     }
 
     // The word of a port that would be done.
@@ -355,30 +426,75 @@ impl<'p> Session<'p> {
         ensures wiring { self.new.stepping.net.wiring ≡ self.old.stepping.net.wiring }
         ensures plan { self.new.plan.now ≡ self.old.plan.now }
     {
-        for group in self.group..self.plan.groups.saturating_sub(1) {
+        self.look();
+        for group in self.group..self.plan.groups.len().saturating_sub(1) {
             let is_done = match self.learnt {
-                None => self.is_done(group),
-                Some(_) => self.is_over(group),
+                None => self.is_done(),
+                Some(_) => self.is_over(),
             };
             if !is_done {
                 break;
             }
             self.group = group.saturating_add(1);
+            self.look_at_group(group);
+            self.look_at_group(self.group);
         }
     }
 
-    // Whether all of a group of lines is done.
-    fn is_done(&self, group: usize) -> bool {
-        let streams = self.plan.streams.iter();
-        for (place, (stream, tally)) in streams.zip(self.tallies.iter()).enumerate() {
-            let upto = stream.upto(group);
-            let is_short = tally.begun.len() < upto
-                || tally.ended.len() < upto.min(stream.to_end());
-            if is_short && !self.hears(port_of(place)) {
-                return false;
+    // Looks again at the ports at which something has moved.
+    fn look(&mut self)
+        ensures wiring { self.new.stepping.net.wiring ≡ self.old.stepping.net.wiring }
+        ensures plan { self.new.plan.now ≡ self.old.plan.now }
+    {
+        for place in self.seen..self.stepping.net().journal().len() {
+            if let Some(port) = self.port_in(place) {
+                self.look_at(port);
             }
         }
-        true
+        self.seen = self.stepping.net().journal().len();
+    }
+
+    // The channel at which the entry at a place moves something.
+    fn port_in(&self, place: usize) -> Option<u32> {
+        match self.stepping.net().journal().get(place) {
+            Some(entry) => chan_of(*entry),
+            None => None,
+        }
+    }
+
+    // Looks again at the ports with a line in a group.
+    fn look_at_group(&mut self, group: usize)
+        ensures wiring { self.new.stepping.net.wiring ≡ self.old.stepping.net.wiring }
+        ensures plan { self.new.plan.now ≡ self.old.plan.now }
+    {
+        let plan = self.plan;
+        if let Some(ports) = plan.groups.get(group) {
+            for port in ports {
+                self.look_at(*port);
+            }
+        }
+    }
+
+    // Looks whether a port has a word that would be done, and whether the group is done there.
+    fn look_at(&mut self, port: u32)
+        ensures wiring { self.new.stepping.net.wiring ≡ self.old.stepping.net.wiring }
+        ensures plan { self.new.plan.now ≡ self.old.plan.now }
+    {
+        let Some(stream) = numbered(&self.plan.streams, port) else {
+            return;
+        };
+        let Some(tally) = numbered(&self.tallies, port) else {
+            return;
+        };
+        let is_short = !stream.is_done(self.group, tally) && !self.hears(port);
+        self.short.set(port as usize, is_short);
+        let has_word = self.word_at(port).is_some();
+        self.words.set(port as usize, has_word);
+    }
+
+    // Whether all of the group is done.
+    fn is_done(&self) -> bool {
+        self.short.count() == 0
     }
 
     // Gives the word that would be done after so many others, by the order of ports: whether there is one and what came is due.
@@ -395,17 +511,8 @@ impl<'p> Session<'p> {
 
     // The word that would be done after so many others, by the order of ports.
     fn nth_word(&self, before: u32) -> Option<(u32, Verb)> {
-        let mut left = before;
-        for place in 0..self.tallies.len() {
-            let port = port_of(place);
-            if let Some(verb) = self.word_at(port) {
-                if left == 0 {
-                    return Some((port, verb));
-                }
-                left -= 1;
-            }
-        }
-        None
+        let port = self.words.nth(before)?;
+        Some((port, self.word_at(port)?))
     }
 
     // Gives a word at a port: whether it was done, and what came is due.
@@ -424,7 +531,7 @@ impl<'p> Session<'p> {
             port: name,
             value,
         };
-        match self.stepping.command(alloc, &[], &cmd) {
+        match self.stepping.command_on(&cmd) {
             Ok(reply) => self.has_come(port, verb, item, value, reply),
             Err(NetError::Memory) => Err(NetError::Memory),
             Err(_) => Ok(false),
@@ -453,9 +560,23 @@ impl<'p> Session<'p> {
         if note(&mut self.tallies, entry).is_err() {
             return Err(NetError::Memory);
         }
+        let entries = self.stepping.net().journal().len();
+        let is_counted = self.is_counted(port);
+        self.watch.note(port, is_counted, entries);
         match reply {
             Reply::Value(came) => self.takes(port, item, came),
             _ => Ok(true),
+        }
+    }
+
+    // Whether what began last at a port is counted, and none of what passes as often as it is asked for.
+    fn is_counted(&self, port: u32) -> bool {
+        match (
+            numbered(&self.plan.streams, port),
+            numbered(&self.tallies, port),
+        ) {
+            (Some(stream), Some(tally)) => tally.begun.len() <= stream.items.len(),
+            _ => false,
         }
     }
 
@@ -494,21 +615,7 @@ impl<'p> Session<'p> {
     }
 }
 
-// The number of the port at a place.
-fn port_of(place: usize) -> u32 {
+/// The number of the port at a place.
+pub(crate) fn port_of(place: usize) -> u32 {
     u32::try_from(place).unwrap_or(u32::MAX).saturating_add(1)
-}
-
-// How many components can move.
-fn count_ready(net: &Net) -> u32 {
-    let Some(mut comp) = net.next_ready(1) else {
-        return 0;
-    };
-    for before in 0..u32::MAX {
-        match net.next_ready(comp.saturating_add(1)) {
-            Some(next) if next > comp => comp = next,
-            _ => return before.saturating_add(1),
-        }
-    }
-    u32::MAX
 }

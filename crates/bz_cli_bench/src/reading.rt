@@ -1,6 +1,6 @@
 //! Benches as their files have them, and why one is not played.
 
-use crate::files::{BenchFiles, Unread};
+use crate::files::{BenchFiles, FileFault};
 use bz_bench::{Bench, BenchFault, Cause, Spot, Texts, read_bench};
 use bz_text::Text;
 use bz_view::Piece;
@@ -96,15 +96,15 @@ pub(crate) fn no_netlist() -> Refusal {
 }
 
 /// That a file can't be read.
-pub(crate) fn unread(alloc: Global, path: &str, why: Unread) -> Refusal {
+pub(crate) fn unread(alloc: Global, path: &str, why: FileFault) -> Refusal {
     match why {
-        Unread::Cause(cause) => {
+        FileFault::Cause(cause) => {
             let mut text = Text::new(alloc);
-            let pieces = [Piece::Text(path), Piece::Text(cause)];
+            let pieces = [Piece::File(path), Piece::Text(cause)];
             text.say("cannot read %: %", &pieces);
             said(alloc, &text)
         }
-        Unread::Memory => Refusal::Memory,
+        FileFault::Memory => Refusal::Memory,
     }
 }
 

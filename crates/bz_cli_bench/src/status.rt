@@ -48,7 +48,7 @@ fn gravity(status: u8) -> u8
 {
     match status {
         0 => 0,
-        3 => 1,
+        4 => 1,
         1 => 2,
         _ => 3,
     }

@@ -13,7 +13,7 @@ use crate::nets::Nets;
 use crate::rounds::add_cases;
 use crate::status::status_behind;
 use crate::telling::tell;
-use crate::traces::tell_unkept;
+use crate::traces::{names_of, tell_unkept};
 use bz_cli_input::{Fault, InputFault, read_input};
 use std::alloc::Global;
 use std::io::{Read, Write};
@@ -39,6 +39,7 @@ pub fn test_cmd<R: Read, F: BenchFiles, W: Write, E: Write>(
                 alloc,
                 asked,
                 text: None,
+                names: &[],
             },
             files,
             output,
@@ -49,6 +50,7 @@ pub fn test_cmd<R: Read, F: BenchFiles, W: Write, E: Write>(
                 alloc,
                 asked,
                 text: Some(text.as_slice()),
+                names: &[],
             },
             files,
             output,
@@ -78,6 +80,29 @@ fn netlist_of<R: Read>(
 
 // Plays all benches, and tells what each case came to.
 fn test<F: BenchFiles, W: Write, E: Write>(
+    trial: Trial<'_>,
+    files: &mut F,
+    output: &mut W,
+    errors: &mut E,
+) -> Result<u8, Fault>
+    ensures { Tests (length trial.entry.asked.benches.now) result }
+{
+    match names_of(trial.alloc, trial.asked.benches) {
+        Ok(names) => test_named(
+            Trial {
+                names: &names,
+                ..trial
+            },
+            files,
+            output,
+            errors,
+        ),
+        Err(_) => Err(Fault::Memory),
+    }
+}
+
+// The same, once the names of the benches are known.
+fn test_named<F: BenchFiles, W: Write, E: Write>(
     trial: Trial<'_>,
     files: &mut F,
     output: &mut W,
@@ -124,7 +149,7 @@ fn told<F: BenchFiles, W: Write, E: Write>(
     requires { length trial.asked.benches.now ≤ length cases.now }
     ensures { Tests (length trial.entry.asked.benches.now) result }
 {
-    tell_unkept(trial.alloc, trial.asked, cases, errors);
+    tell_unkept(trial, cases, errors);
     match tell(trial, cases, output) {
         Ok(()) => match tell_counted(trial, nets, files, errors) {
             Ok(is_written) => Ok(status_behind(cases, is_written)),

@@ -2,8 +2,9 @@
 
 use crate::case::{Short, Told};
 use crate::ended::Unlike;
-use crate::journal::line_of;
+use crate::journal::{last_word, line_of};
 use crate::playing::Played;
+use crate::rounding::put_rounds;
 use crate::setting::Setting;
 use crate::unlike::is_pull;
 use crate::verdict::Verdict;
@@ -20,7 +21,9 @@ pub(crate) fn told_of(
     unlike: Option<Unlike>,
 ) -> Result<Told, AllocError> {
     let mut told = Told::none(setting.trial.alloc);
-    let totals = counts(played.stepping.net().journal());
+    let journal = played.stepping.net().journal();
+    let totals = counts(journal);
+    told.line = journal.len().saturating_add(1);
     told.blessing = setting.at.blessing;
     told.fired = totals.fired;
     told.words = totals.host;
@@ -33,8 +36,21 @@ pub(crate) fn told_of(
             tell_place(setting, played, port, place, &mut told)?;
         }
         Verdict::Extra { port, .. } => tell_port(setting, port, &mut told)?,
-        Verdict::Stuck { group } => tell_stuck(setting, played, group, &mut told)?,
-        Verdict::Passed | Verdict::Spent => {}
+        Verdict::Stuck { group } => {
+            tell_short(setting, played, group, &mut told)?;
+            tell_waits(setting, played, &mut told)?;
+        }
+        Verdict::Spins { from, group } => {
+            told.from = from.saturating_add(1);
+            tell_short(setting, played, group, &mut told)?;
+            tell_rounds(setting, played, from, &mut told)?;
+        }
+        Verdict::Spent => {
+            let from = last_word(played.stepping.net().journal());
+            told.from = from.saturating_add(1);
+            tell_rounds(setting, played, from, &mut told)?;
+        }
+        Verdict::Passed => {}
     }
     Ok(told)
 }
@@ -66,8 +82,8 @@ fn name_of(setting: Setting<'_>, port: u32) -> Result<Vec<u8>, AllocError> {
     Vec::from_slice(setting.trial.alloc, name)
 }
 
-// Tells what is short of a group of lines and those above it, and who waits for whom.
-fn tell_stuck(
+// Tells what is short of a group of lines and those above it.
+fn tell_short(
     setting: Setting<'_>,
     played: &Played,
     group: usize,
@@ -79,10 +95,30 @@ fn tell_stuck(
             told.short.push(short)?;
         }
     }
+    Ok(())
+}
+
+// Tells who waits for whom.
+fn tell_waits(setting: Setting<'_>, played: &Played, told: &mut Told) -> Result<(), AllocError> {
     let mut text = Text::new(setting.trial.alloc);
     let net = played.stepping.net();
     put_rest(Seen::of(net.core(), setting.opened.survey()), &mut text);
     told.why = squeezed(setting.trial.alloc, text.whole()?)?;
+    Ok(())
+}
+
+// Tells what has gone round after so many entries.
+fn tell_rounds(
+    setting: Setting<'_>,
+    played: &Played,
+    from: usize,
+    told: &mut Told,
+) -> Result<(), AllocError> {
+    let net = played.stepping.net();
+    let seen = Seen::of(net.core(), setting.opened.survey());
+    let mut text = Text::new(setting.trial.alloc);
+    put_rounds(seen, net.journal(), from, &mut text)?;
+    told.why = Vec::from_slice(setting.trial.alloc, text.whole()?)?;
     Ok(())
 }
 
@@ -111,15 +147,13 @@ fn short_at(
     let (Some(stream), Some(tally)) = (stream, numbered(&played.tallies, port)) else {
         return Ok(None);
     };
-    let due = stream.upto(group);
-    let (begun, ended) = (tally.begun.len(), tally.ended.len());
-    if begun >= due && ended >= due.min(stream.to_end()) {
+    if stream.is_done(group, tally) {
         return Ok(None);
     }
     Ok(Some(Short {
         port: name_of(setting, port)?,
-        begun,
-        ended,
-        due,
+        begun: tally.begun.len(),
+        ended: tally.ended.len(),
+        due: stream.due_by(group),
     }))
 }

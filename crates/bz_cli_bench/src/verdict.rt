@@ -6,7 +6,7 @@ use bz_model::Value;
 /// How a bench ends. Ports count from 1, places in a stream from 0.
 #[derive(Clone, Copy)]
 pub enum Verdict {
-    /// All that is due has passed, and nothing else.
+    /// All that is due has passed, and nothing else comes.
     Passed,
     /// With an item of a port another value came than was due.
     Differs {
@@ -22,6 +22,12 @@ pub enum Verdict {
     },
     /// No component can move, a stream of this group of lines or one above it is short, and no word of these would be done.
     Stuck {
+        group: usize,
+    },
+    /// The net is in the state in which it was after so many entries, so that all goes on for ever as it did since; and this group of
+    /// lines has begun last.
+    Spins {
+        from: usize,
         group: usize,
     },
     /// None of these, since the fuel or the journal was spent.

@@ -30,10 +30,10 @@ of_done (Err fault) = Err fault
 abbrev pub IsDone : (Result ⊤ Fault → Type 0) → Result ℕ Fault → Type 0
 IsDone Says result = Does of_done Says result
 
--- 0 where all words of a run were played, and 3 where it halted
+-- 0 where all words of a run were played, and 4 where it halted
 abbrev pub of_halt : Option Halt → ℕ
 of_halt None = 0
-of_halt (Some halt) = 3
+of_halt (Some halt) = 4
 
 abbrev pub of_run : Result Played Fault → Result ℕ Fault
 of_run (Ok played) = Ok (of_halt played.halt)
@@ -66,14 +66,14 @@ of_completed (Ok u) = Ok 0
 of_completed (Err (complete.Command fault)) = Err fault
 of_completed (Err fault) = Ok (completing.status_of fault)
 
--- 0 where it is told of a trace who waits, or 3 where something can never move again and that is asked for
+-- 0 where it is told of a trace who waits, or 4 where something can never move again and that is asked for
 abbrev pub of_told : {C : Type 0} → Bool → Result Bool (TraceFault C) → Result ℕ Fault
-of_told strict (Ok is) = Ok (if (is && strict) then 3 else 0)
+of_told strict (Ok is) = Ok (if (is && strict) then 4 else 0)
 of_told strict (Err fault) = of_unmade fault
 
--- 0 where a pool was closed, or 3 where a session has not played all its words and that is asked for
+-- 0 where a pool was closed, or 4 where a session has not played all its words and that is asked for
 abbrev pub pooled_status : Bool → Bool → ℕ
-pooled_status strict is_done = if is_done then 0 else (if strict then 3 else 0)
+pooled_status strict is_done = if is_done then 0 else (if strict then 4 else 0)
 
 abbrev pub of_pooled : Bool → Result Pooled Fault → Result ℕ Fault
 of_pooled strict (Ok pooled) = Ok (pooled_status strict pooled.is_done)

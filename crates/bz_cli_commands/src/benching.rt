@@ -6,9 +6,9 @@ ghost use Rattle.bz_cli_input.specs.Reading.{ReadsWithin};
 ghost use Rattle.bz_words.specs.Words.{texts};
 
 use bz_cli_args::{Given, SeedsAsked, TestForm, TestOptions};
-use bz_cli_bench::{Asked, BenchFiles, Form, Seeds, test_cmd};
+use bz_cli_bench::{Asked, BenchFiles, Form, Seeds, is_trace_there, test_cmd};
 use bz_cli_input::Fault;
-use std::alloc::Global;
+use std::alloc::{AllocError, Global};
 use std::io::{Read, Write};
 
 /// Plays benches, whose files are the words, and tells what each case came to. That a trace could not be kept goes to `errors`.
@@ -43,6 +43,23 @@ pub fn test<R: Read, F: BenchFiles, W: Write, E: Write>(
         blesses: options.bless,
     };
     test_cmd(alloc, asked, input, files, output, errors)
+}
+
+/// Tells the first file that is there already of those in which traces of benches may have to be kept; whether there is one.
+pub fn has_traces<F: BenchFiles, E: Write>(
+    alloc: Global,
+    given: &Given<'_, '_>,
+    options: TestOptions<'_>,
+    files: &mut F,
+    errors: &mut E,
+) -> Result<bool, AllocError> {
+    match options.traces {
+        Some(folder) => {
+            let seeds = seeds_of(options.seeds);
+            is_trace_there(alloc, folder, given.words, seeds, files, errors)
+        }
+        None => Ok(false),
+    }
 }
 
 fn seeds_of(seeds: SeedsAsked) -> Seeds {

@@ -21,9 +21,9 @@ use crate::outcome::{Ended, Outcome};
 use bz_chart::{LineRange, Picked, chart_cmd, chart_trace_cmd};
 use bz_cli::{Pooled, pool_cmd};
 use bz_cli_args::{
-    BAD_COMMAND_LINE, ChartOptions, CheckOptions, DONE, DrawOptions, FormatOptions, Given,
-    LintOptions, ListOptions, MAX_JOURNAL, MAX_WORKERS, NO_RUN, PoolOptions, REFUSED, RunOptions,
-    WaitsOptions,
+    ASKED, BAD_COMMAND_LINE, ChartOptions, CheckOptions, CompleteOptions, DONE, DrawOptions,
+    FormatOptions, Given, LintOptions, ListOptions, MAX_JOURNAL, MAX_WORKERS, NO_RUN, PoolOptions,
+    RunOptions, WaitsOptions,
 };
 use bz_cli_core::{Halt, Played, run_cmd};
 use bz_cli_input::{Fault, list_cmd};
@@ -31,12 +31,12 @@ use bz_cli_kinds::kinds_cmd;
 use bz_cli_source::{list_paths_cmd, parts_cmd};
 use bz_cli_trace::{CheckWay, Checked, Texts, TraceFault, check_texts, check_trace_cmd};
 use bz_cli_waits::{WaitsAsked, waits_cmd, waits_trace_cmd};
-use bz_complete::{CompleteFault, complete_cmd};
+use bz_complete::{CompleteAsked, CompleteFault, complete_cmd};
 use bz_draw::{NoDrawing, View, draw_cmd, draw_trace_cmd};
 use bz_explain::{Lint, lint_cmd};
 use bz_model::Reply;
 use bz_page::{page_cmd, page_trace_cmd};
-use bz_session::End;
+use bz_pool::End;
 use bz_source::SourceFile;
 use bz_text::put;
 use bz_trace::Unwatched;
@@ -49,12 +49,6 @@ use std::thread::Threads;
 /// What is printed where no trace is named, and none stands after the netlist of a file.
 const NO_TRACE: &str = "\
 error: there is no trace after the netlist: --trace FILE takes it from a file, --trace - from standard input\n";
-
-/// The status of a strict look at a trace behind which something can never move again.
-const STUCK: u8 = 3;
-
-/// The status of a strict pool in which a session has not played all its words.
-const UNPLAYED: u8 = 3;
 
 /// Plays the words on a net, and writes the trace. A strict run halts at the first host command that is not done, and reports it
 /// to `errors`. Where notes are asked for, the net goes with the status.
@@ -104,7 +98,7 @@ fn ended<E: Write>(explains: bool, played: Result<Played, Fault>, errors: &mut E
     match played.halt {
         Some(halt) => {
             tell_halt(halt, errors);
-            Outcome::of(Ok(REFUSED))
+            Outcome::of(Ok(ASKED))
         }
         None => Outcome::played(DONE, Ended::Run(played), explains),
     }
@@ -281,6 +275,8 @@ fn judged(checked: Result<Checked, Fault>) -> Outcome
 pub fn complete<R: Read, T: Read, W: Write, E: Write>(
     alloc: Global,
     part: Option<&[u8]>,
+    options: CompleteOptions<'_>,
+    explains: bool,
     input: &mut R,
     short: Option<&mut T>,
     output: &mut W,
@@ -292,9 +288,13 @@ pub fn complete<R: Read, T: Read, W: Write, E: Write>(
     // Whatever comes of it, it reads at most one byte past the limit.
     ensures bounded { ReadsWithin (R.remaining input.old) (R.remaining input.new) }
 {
+    let asked = CompleteAsked {
+        to_rest: options.to_rest,
+        explains,
+    };
     match short {
         Some(short) => {
-            let completed = complete_cmd(alloc, part, input, short, output);
+            let completed = complete_cmd(alloc, part, asked, input, short, output);
             completed_or_not(completed, errors)
         }
         None => Ok(BAD_COMMAND_LINE),
@@ -565,7 +565,7 @@ fn told_or_not<C: Display + Drop, E: Write>(
     ensures { result ≡ of_told strict told }
 {
     match told {
-        Ok(is_stuck) if is_stuck && strict => Ok(STUCK),
+        Ok(is_stuck) if is_stuck && strict => Ok(ASKED),
         Ok(_) => Ok(DONE),
         Err(why) => unmade(why, errors),
     }
@@ -672,7 +672,7 @@ fn status_of(strict: bool, is_done: bool) -> u8
     if is_done {
         DONE
     } else if strict {
-        UNPLAYED
+        ASKED
     } else {
         DONE
     }

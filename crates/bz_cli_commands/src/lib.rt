@@ -6,7 +6,7 @@ mod commands;
 mod counted;
 mod outcome;
 
-pub use benching::test;
+pub use benching::{has_traces, test};
 pub use commands::{
     chart, check, complete, draw, kinds, lint, list, page, parts, pool, run, unmade, waits,
 };

@@ -1,10 +1,12 @@
 //! How the program ends before its command begins.
 
-use bz_cli_args::{BAD_COMMAND_LINE, Cause, Error, Refusal, Told, is_file, stray_word, tell_error};
+use bz_cli_args::{
+    BAD_COMMAND_LINE, Cause, Error, Refusal, Told, is_file, stray_word, tell_error, tell_unreadable,
+};
 use bz_cli_input::Fault;
 use bz_explain::refuse_lint;
 use bz_explain_notes::tell;
-use bz_text::Text;
+use bz_text::{Piece, Text, put_pieces};
 use std::alloc::Global;
 use std::io::Write;
 use std::rt::Files;
@@ -28,7 +30,10 @@ fn refuse_line<E: Write>(why: Refusal<'_>, errors: &mut E) -> u8 {
             errors,
             "error: standard input cannot have both the netlist and the {other}"
         ),
-        Refusal::File(path, cause) => writeln!(errors, "error: cannot read {path}: {cause}"),
+        Refusal::File(path, cause) => {
+            tell_unreadable(path, cause, errors);
+            Ok(())
+        }
         _ => Ok(()),
     };
     BAD_COMMAND_LINE
@@ -50,7 +55,7 @@ pub fn tell_no_request<R: Print + Eprint + Files, E: Write>(
     error: &Error,
     errors: &mut E,
 ) -> u8 {
-    match tell_error(rt, error) {
+    match tell_error(rt, alloc, error, errors) {
         Told::Status(status) => {
             tip(rt, alloc, error, errors);
             status
@@ -65,10 +70,14 @@ fn tip<F: Files, E: Write>(files: &F, alloc: Global, error: &Error, errors: &mut
     if let Some(word) = stray_word(alloc, error) {
         let word = word.as_str();
         if is_file(files, word) {
-            let _ = writeln!(
-                errors,
-                "\ntip: {word} is a file; files are named by options, as --netlist {word}"
-            );
+            let pieces = [
+                Piece::Bytes(b"\ntip: "),
+                Piece::File(word.as_bytes()),
+                Piece::Bytes(b" is a file; files are named by options, as --netlist "),
+                Piece::File(word.as_bytes()),
+                Piece::Bytes(b"\n"),
+            ];
+            let _ = put_pieces(errors, &pieces);
         }
     }
 }

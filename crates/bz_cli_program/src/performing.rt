@@ -55,7 +55,10 @@ pub fn program<
             alloc, given, options, input, trace, lines, files, output, errors,
         )),
         Command::Check(options) => { check(alloc, given, options, input, trace, output, errors) }
-        Command::Complete(_) => of(complete(alloc, part, input, trace, output, errors)),
+        Command::Complete(options) => {
+            let explains = given.explains;
+            of(complete(alloc, part, options, explains, input, trace, output, errors))
+        }
         Command::Waits(options) => of(waits(
             alloc,
             part,

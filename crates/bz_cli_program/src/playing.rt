@@ -3,10 +3,11 @@
 use crate::keeping::{cover, keep};
 use crate::performing::program;
 use bz_cli_args::{
-    Command, DONE, Given, Refusal, Request, Source, Texts, mistake_in, open_file, shared_stdin,
+    BAD_COMMAND_LINE, Command, DONE, Given, Refusal, Request, Source, Texts, mistake_in, open_file,
+    shared_stdin,
 };
 use bz_cli_bench::BenchFiles;
-use bz_cli_commands::Outcome;
+use bz_cli_commands::{Outcome, has_traces};
 use bz_cli_input::Fault;
 use bz_cli_notes::{end, put_checked, refuse, tell_unread};
 use bz_cli_several::{Copying, KeptTexts, check_several};
@@ -105,6 +106,13 @@ fn play_on<
     if given.command.is_of_several() {
         return play_several(rt, files, errors, request, &texts, &given, input);
     }
+    if let Command::Test(options) = given.command {
+        match has_traces(alloc, &given, options, files, errors) {
+            Ok(false) => {}
+            Ok(true) => return BAD_COMMAND_LINE,
+            Err(_) => return refuse(alloc, Refusal::Memory, errors),
+        }
+    }
     play_one(rt, files, errors, &given, input)
 }
 
@@ -134,7 +142,7 @@ fn play_one<
 }
 
 // Checks several traces.
-fn play_several<N: Read + Drop, R: Files + Input + Print + AllocGlobal, F: NewFiles, E: Write>(
+fn play_several<N: Read + Drop, R: Files + Input + Print + AllocGlobal, F: BenchFiles, E: Write>(
     rt: &R,
     files: &mut F,
     errors: &mut E,
@@ -153,7 +161,7 @@ fn play_several<N: Read + Drop, R: Files + Input + Print + AllocGlobal, F: NewFi
 }
 
 // The same, with what they exercised in a file of its own where that is asked for.
-fn check_traces<N: Read + Drop, R: Files + Input + Print + AllocGlobal, F: NewFiles, E: Write>(
+fn check_traces<N: Read + Drop, R: Files + Input + Print + AllocGlobal, F: BenchFiles, E: Write>(
     rt: &R,
     files: &mut F,
     errors: &mut E,

@@ -6,7 +6,7 @@ use bz_cli_args::{BAD_COMMAND_LINE, DONE, NO_RUN, Source, open_file};
 use bz_cli_input::Fault;
 use bz_cli_trace::{CheckWay, CheckedPiece, Finding, check_piece, tell_found};
 use bz_explain_notes::{Keeping, Notes, tell_notes};
-use bz_text::Text;
+use bz_text::{Piece, Text};
 use bz_trace::{Counts, Joined, Verdict};
 use bz_view::Piece::Text as Word;
 use std::alloc::Global;
@@ -186,8 +186,7 @@ fn tell_named<W: Write>(
     output: &mut W,
 ) -> Result<(), Fault> {
     let mut front = Text::new(alloc);
-    front.put_bytes(name.as_bytes());
-    front.put_bytes(b": ");
+    front.put_pieces(&[Piece::File(name.as_bytes()), Piece::Bytes(b": ")]);
     match front.whole() {
         Ok(front) => tell_found(front, found, output),
         Err(_) => Err(Fault::Memory),

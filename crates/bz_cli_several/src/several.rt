@@ -2,7 +2,9 @@
 
 use crate::covering::{Covered, Exercise};
 use crate::joining::check_joined;
-use bz_cli_args::{BAD_COMMAND_LINE, CheckOptions, DONE, Given, NO_RUN, Source, open_file};
+use bz_cli_args::{
+    BAD_COMMAND_LINE, CheckOptions, DONE, Given, NO_RUN, Source, open_file, tell_unreadable,
+};
 use bz_cli_input::{Fault, read_input};
 use bz_cli_trace::{CheckWay, Finding, Opened, Traced, check_again, check_named};
 use bz_explain_notes::{Keeping, tell_notes};
@@ -240,8 +242,7 @@ fn check_from<T: Read + Drop, W: Write, E: Write>(
     errors: &mut E,
 ) -> Result<Fate, Fault> {
     let mut front = Text::new(alloc);
-    front.put_bytes(name.as_bytes());
-    front.put_bytes(b": ");
+    front.put_pieces(&[Piece::File(name.as_bytes()), Piece::Bytes(b": ")]);
     let Ok(front) = front.whole() else {
         return Err(Fault::Memory);
     };
@@ -384,13 +385,13 @@ pub(crate) fn put_unread<C: Display + Drop, W: Write, E: Write>(
     output: &mut W,
     errors: &mut E,
 ) -> Result<(), Fault> {
-    let _ = writeln!(errors, "error: cannot read {name}: {why}");
+    tell_unreadable(name, why, errors);
     if json {
         return Ok(());
     }
     put_out(
         output,
-        &[Piece::Bytes(name.as_bytes()), Piece::Bytes(b": not read\n")],
+        &[Piece::File(name.as_bytes()), Piece::Bytes(b": not read\n")],
     )
 }
 

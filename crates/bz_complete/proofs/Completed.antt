@@ -15,7 +15,7 @@ use Rattle.bz_complete.specs.ShortTexts.{Spells}
 use Rattle.bz_complete.specs.Stopping.{IsDeadEndAt}
 use Rattle.bz_cli_input.specs.Opening.{Denotes, RefusesNet}
 use Rattle.bz_complete.specs.declared.fault.CompleteFault.{CompleteFault}
-use Rattle.bz_complete.specs.declared.fault.CompleteFault.TheVariants.{Command, NotShort, Stopped, TooLong}
+use Rattle.bz_complete.specs.declared.fault.CompleteFault.TheVariants.{Command, NotShort, Stopped, Unrested, TooLong}
 use Rattle.bz_complete.specs.Completions.{Completes, Finds, FindsIn, IsWhole, Makes, RunsTo}
 
 -- the trace of a net on which moves were made
@@ -54,16 +54,18 @@ run_of w moves front line net run made refuted = (
 pub read_so : (w : Wiring) (names : List ChanName) (short : List ℕ) (moves : List ShortMove) (answer : Result Simulation CompleteFault) → Spells names short moves → Makes w moves answer → FindsIn w names short answer
 read_so w names short moves (Ok net) spelt made = (moves, spelt, made)
 read_so w names short moves (Err (Command fault)) spelt is = is
-read_so w names short moves (Err (NotShort line)) spelt none = tt
+read_so w names short moves (Err (NotShort line why)) spelt none = tt
 read_so w names short moves (Err (Stopped line why)) spelt front = (moves, spelt, front)
+read_so w names short moves (Err (Unrested line why)) spelt none = tt
 read_so w names short moves (Err TooLong) spelt none = tt
 
 -- on the net that the netlist denotes
 pub found : (netlist short : List ℕ) (part : Option (List ℕ)) (w : Wiring) (names : List ChanName) (answer : Result Simulation CompleteFault) → Denotes netlist part w → FindsIn w names short answer → Finds netlist short part answer
 found netlist short part w names (Ok net) denotes is = (w, is.0, record { net = denotes; names = names; spelt = is.1 }, is.2)
 found netlist short part w names (Err (Command fault)) denotes is = subst (RefusesNet netlist part) (sym is) tt
-found netlist short part w names (Err (NotShort line)) denotes is = (w, denotes)
+found netlist short part w names (Err (NotShort line why)) denotes is = (w, denotes)
 found netlist short part w names (Err (Stopped line why)) denotes is = (w, denotes, (names, is))
+found netlist short part w names (Err (Unrested line why)) denotes is = (w, denotes)
 found netlist short part w names (Err TooLong) denotes is = (w, denotes)
 
 pub completes : (netlist short : List ℕ) (part : Option (List ℕ)) (net : Simulation) (text : List ℕ) → Finds netlist short part (Ok net) → ((w : Wiring) (moves : List ShortMove) → IsMade w moves net → IsWhole w moves text) → Completes netlist short part text

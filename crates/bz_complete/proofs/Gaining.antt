@@ -122,3 +122,12 @@ then_gives old mid new due xs (Err e) same before gains = tt
 -- what shows nothing, and what comes then
 pub gains_then : (old mid new : Simulation) (ys : List ShortMove) → Gains old mid [] → Gains mid new ys → Gains old new ys
 gains_then old mid new ys before gains = gains_on old mid new [] ys before gains
+
+-- moves that were made, and what shows nothing after them
+pub made_still : (w : Wiring) (old new : Simulation) (moves : List ShortMove) → IsMade w moves old → Gains old new [] → IsMade w moves new
+made_still w old new moves made gains = record {
+  wiring = gains.wiring ∙ made.wiring;
+  limit = gains.limit ∙ made.limit;
+  by = gains.by made.by;
+  shows = gains.shows ∙ ap (λ s. s ++ []) made.shows ∙ append-nil moves;
+}

@@ -19,12 +19,13 @@ use Rattle.bz_cli_input.specs.Statuses as command
 use Rattle.bz_cli_input.specs.Stopping as stopping
 use Rattle.bz_cli_trace.specs.Taking.{AnswersTwo}
 use Rattle.bz_complete.specs.declared.fault.CompleteFault.{CompleteFault}
-use Rattle.bz_complete.specs.declared.fault.CompleteFault.TheVariants.{Command, NotShort, Stopped, TooLong}
+use Rattle.bz_complete.specs.declared.fault.CompleteFault.TheVariants.{Command, NotShort, Stopped, Unrested, TooLong}
 
 abbrev pub status_of : CompleteFault → ℕ
 status_of (Command fault) = command.status_of fault
-status_of (NotShort line) = 1
+status_of (NotShort line why) = 1
 status_of (Stopped line why) = 1
+status_of (Unrested line why) = 1
 status_of TooLong = 3
 
 -- The text is the trace of a run of the net, whose requests and replies are these moves.
@@ -37,11 +38,13 @@ abbrev pub RunsTo : Wiring → List ShortMove → ℕ → List ShortMove → Typ
 RunsTo w moves line front = (run : HasRun w front) × IsDeadEndAt w run.last moves line
 
 -- Why these moves are not made on the net: a run shows those before line number `line`, from 1, and goes on to show no more. Where
--- the move of that line is plain behind them, no run shows those up to it; of other moves that is not said.
+-- the move of that line is plain behind them, no run shows those up to it; of other moves that is not said. Of a net that is not at
+-- rest behind all of them nothing is said.
 abbrev pub RefusesMoves : Wiring → List ShortMove → CompleteFault → Type 0
 RefusesMoves w moves (Command fault) = fault ≡ Memory
-RefusesMoves w moves (NotShort line) = ⊥
+RefusesMoves w moves (NotShort line why) = ⊥
 RefusesMoves w moves (Stopped line why) = IsFront (RunsTo w moves line) moves line × IsRefuted w moves line
+RefusesMoves w moves (Unrested line why) = ⊤
 RefusesMoves w moves TooLong = ⊤
 
 abbrev pub Makes : Wiring → List ShortMove → Result Simulation CompleteFault → Type 0
@@ -50,9 +53,10 @@ Makes w moves (Err fault) = RefusesMoves w moves fault
 
 -- Why no trace is made on the net of a text by these names of channels. Of a line that is none of a short trace nothing is said.
 abbrev pub RefusesShort : Wiring → List ChanName → List ℕ → CompleteFault → Type 0
-RefusesShort w names short (NotShort line) = ⊤
+RefusesShort w names short (NotShort line why) = ⊤
 RefusesShort w names short (Stopped line why) = (moves : List ShortMove) × Spells names short moves × RefusesMoves w moves (Stopped line why)
 RefusesShort w names short (Command fault) = fault ≡ Memory
+RefusesShort w names short (Unrested line why) = ⊤
 RefusesShort w names short TooLong = ⊤
 
 abbrev pub FindsIn : Wiring → List ChanName → List ℕ → Result Simulation CompleteFault → Type 0
@@ -62,9 +66,10 @@ FindsIn w names short (Err fault) = RefusesShort w names short fault
 -- why there is no trace
 abbrev pub RefusesComplete : List ℕ → List ℕ → Option (List ℕ) → CompleteFault → Type 0
 RefusesComplete netlist short part (Command fault) = RefusesNet netlist part fault
-RefusesComplete netlist short part (NotShort line) = (w : Wiring) × Denotes netlist part w
+RefusesComplete netlist short part (NotShort line why) = (w : Wiring) × Denotes netlist part w
 RefusesComplete netlist short part (Stopped line why) =
     (w : Wiring) × Denotes netlist part w × ((names : List ChanName) × RefusesShort w names short (Stopped line why))
+RefusesComplete netlist short part (Unrested line why) = (w : Wiring) × Denotes netlist part w
 RefusesComplete netlist short part TooLong = (w : Wiring) × Denotes netlist part w
 
 -- The netlist denotes a net, and the short trace spells moves by numbers of its channels and by some names. Of the names it is

@@ -2,21 +2,25 @@
 //!
 //! The trace is made whole before any of it goes out, so nothing is written where there is none.
 
-ghost use Rattle.std.specs.Prelude.{IfSome, OnErr, OnOk};
+ghost use Rattle.std.specs.Prelude.{List, IfSome, OnErr, OnOk};
 ghost use Rattle.std.specs.Option.{option_copied};
 ghost use Rattle.bz_cli_input.specs.Reading.{ReadsWithin};
 ghost use Rattle.bz_complete.specs.Completions.{CompletesApart, CompletesTexts, Finds, FindsIn, Makes, SendsTrace, SendsTraceSome};
-ghost use Rattle.bz_complete.specs.Completing.{IsCompleted};
+ghost use Rattle.bz_complete.specs.Completing.{IsCompleted, IsMade};
+ghost use Rattle.bz_complete.specs.declared.short.ShortMove.{ShortMove};
 ghost use Rattle.bz_complete.specs.Stopping.{IsDeadEndAt, IsRefuted};
 ghost use Rattle.bz_model.specs.Nets.{Wiring};
 
+use crate::asked::CompleteAsked;
+use crate::bad_line::why_bad;
 use crate::completing::{Completed, complete};
 use crate::fault::CompleteFault;
 use crate::names::ChanName;
-use crate::naming::{has_names, sole_names};
+use crate::naming::{has_names, names_of};
 use crate::reading::{ShortFault, read_short};
+use crate::settling::settle;
 use crate::short::ShortMove;
-use crate::why::why_not;
+use crate::why::{why_not, why_unrested};
 use bz_cli_core::write_out;
 use bz_cli_input::Fault;
 use bz_cli_source::net_of;
@@ -30,10 +34,12 @@ use std::alloc::{AllocError, Global};
 use std::io::{Read, Write};
 
 /// Makes the short trace that a reader gives whole on the net of a part of the netlist that another one gives, and writes the
-/// trace. Nothing is written where that can't be done.
+/// trace. Nothing is written where that can't be done. Where rest is asked for, the trace has the last takes and gots too, behind
+/// which nothing can move.
 pub fn complete_cmd<R: Read, T: Read, W: Write>(
     alloc: Global,
     part: Option<&[u8]>,
+    asked: CompleteAsked,
     input: &mut R,
     short: &mut T,
     output: &mut W,
@@ -46,7 +52,7 @@ pub fn complete_cmd<R: Read, T: Read, W: Write>(
     ensures bounded_short { ReadsWithin (T.remaining short.old) (T.remaining short.new) }
 {
     match Texts::read_apart(alloc, input, short) {
-        Ok(texts) => complete_texts(alloc, part, &texts, output),
+        Ok(texts) => complete_texts(alloc, part, asked, &texts, output),
         Err(fault) => Err(CompleteFault::Command(Fault::from(fault))),
     }
 }
@@ -55,13 +61,14 @@ pub fn complete_cmd<R: Read, T: Read, W: Write>(
 fn complete_texts<W: Write>(
     alloc: Global,
     part: Option<&[u8]>,
+    asked: CompleteAsked,
     texts: &Texts,
     output: &mut W,
 ) -> Result<(), CompleteFault>
     ensures { CompletesTexts texts.now.netlist texts.now.trace (option_copied part.entry) (W.contents output.old) (W.contents output.new) result }
 {
     let (netlist, short) = texts.both();
-    let net = match find(alloc, part, netlist, short) {
+    let net = match find(alloc, part, asked, netlist, short) {
         Ok(net) => net,
         Err(fault) => return Err(fault),
     };
@@ -86,6 +93,7 @@ fn put_net<W: Write>(net: &Net, output: &mut W) -> Result<(), WriteFault>
 fn find(
     alloc: Global,
     part: Option<&[u8]>,
+    asked: CompleteAsked,
     netlist: &[u8],
     short: &[u8],
 ) -> Result<Net, CompleteFault>
@@ -97,7 +105,7 @@ fn find(
     };
     let names = names_for(alloc, short, source, name.as_slice(), &flat);
     match names {
-        Ok(names) => find_in(alloc, flat, names.as_slice(), short),
+        Ok(names) => find_in(alloc, flat, asked, names.as_slice(), short),
         Err(_) => Err(CompleteFault::Command(Fault::Memory)),
     }
 }
@@ -115,7 +123,7 @@ fn names_for(
     }
     // a part that has a net has places, so nothing but memory can be wanting
     match source.survey(alloc, part) {
-        Ok(survey) => sole_names(alloc, &survey, flat),
+        Ok(survey) => names_of(alloc, &survey, flat),
         Err(_) => Err(AllocError),
     }
 }
@@ -124,15 +132,70 @@ fn names_for(
 fn find_in(
     alloc: Global,
     flat: Flat,
+    asked: CompleteAsked,
     names: &[ChanName],
     short: &[u8],
 ) -> Result<Net, CompleteFault>
     ensures { FindsIn flat.wiring names.now short.now result }
 {
     match read_short(alloc, short, names) {
-        Ok(moves) => make(alloc, flat, moves.as_slice()),
-        Err(ShortFault::Bad(line)) => Err(CompleteFault::NotShort(line)),
+        Ok(moves) => make_all(alloc, flat, asked.to_rest, moves.as_slice()),
+        Err(ShortFault::Bad(line)) => {
+            let why = why_none(alloc, asked.explains, short, names, line);
+            Err(CompleteFault::NotShort { line, why })
+        }
         Err(ShortFault::Memory) => Err(CompleteFault::Command(Fault::Memory)),
+    }
+}
+
+// Notes on a line that is none of a short trace, where they are asked for.
+fn why_none(
+    alloc: Global,
+    explains: bool,
+    short: &[u8],
+    names: &[ChanName],
+    line: usize,
+) -> String {
+    if explains {
+        why_bad(alloc, short, names, line)
+    } else {
+        String::new(alloc)
+    }
+}
+
+// Makes these moves on a net, and brings it to rest where that is asked for.
+fn make_all(
+    alloc: Global,
+    flat: Flat,
+    to_rest: bool,
+    moves: &[ShortMove],
+) -> Result<Net, CompleteFault>
+    ensures { Makes flat.wiring moves.now result }
+{
+    let made = make(alloc, flat, moves);
+    if !to_rest {
+        return made;
+    }
+    match made {
+        Ok(net) => rested(alloc, net, moves.len()),
+        Err(fault) => Err(fault),
+    }
+}
+
+// The net on which so many moves were made, at rest.
+fn rested(alloc: Global, net: Net, count: usize) -> Result<Net, CompleteFault>
+    ensures { (w : Wiring) (moves : List ShortMove) → IsMade w moves net → Makes w moves result }
+{
+    let mut net = net;
+    match settle(&mut net) {
+        Ok(None) => Ok(net),
+        Ok(Some(comp)) => {
+            let line = count.saturating_add(1);
+            let why = why_unrested(alloc, &net, comp);
+            Err(CompleteFault::Unrested { line, why })
+        }
+        Err(NetError::JournalFull) => Err(CompleteFault::TooLong),
+        Err(_) => Err(CompleteFault::Command(Fault::Memory)),
     }
 }
 

@@ -2,6 +2,8 @@
 //! it: each take and got is put in where its component must have made it.
 #![tactic(auto)]
 
+mod asked;
+mod bad_line;
 mod command;
 mod completing;
 mod fault;
@@ -12,8 +14,10 @@ mod naming;
 mod pending;
 mod reading;
 mod refusing;
+mod settling;
 mod short;
 mod why;
 
+pub use asked::CompleteAsked;
 pub use command::complete_cmd;
 pub use fault::CompleteFault;

@@ -5,18 +5,23 @@ ghost use Rattle.bz_complete.specs.ShortTexts.{IsNamed};
 
 use bz_model::numbered;
 
-/// A name that one channel has, and no other.
+/// A name that a channel has.
 #[derive(PartialEq, Eq, PartialOrd, Ord, Drop)]
 pub struct ChanName {
     pub name: Vec<u8>,
     pub chan: u32,
+    /// Another channel that has it too, so that it stands for neither.
+    pub other: Option<u32>,
 }
 
-/// The channel of this name, in a table that is sorted by name.
+/// The channel of this name, if just one has it, in a table that is sorted by name.
 pub(crate) fn named(names: &[ChanName], name: &[u8]) -> Option<u32>
     ensures { IfSome result (IsNamed names.now name.now) }
 {
     let entry = numbered(names, number_of(names, name))?;
+    if entry.other.is_some() {
+        return None;
+    }
     if entry.name.as_slice() == name {
         Some(entry.chan)
     } else {

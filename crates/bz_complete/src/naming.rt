@@ -18,38 +18,45 @@ pub(crate) fn has_names(text: &[u8]) -> bool {
     false
 }
 
-/// The names that just one channel of a net has, in name form and in order: those of ports, and those that the source has.
-pub(crate) fn sole_names(
+/// The names of channels of a net, in name form and in order: those of ports, and those that the source has. One that the source
+/// has of several channels stands for none; that of a port stands for the port.
+pub(crate) fn names_of(
     alloc: Global,
     survey: &Survey,
     flat: &Flat,
 ) -> Result<Vec<ChanName>, AllocError> {
-    let all = names_in(alloc, survey, flat)?;
-    let mut sole = Vec::new(alloc);
-    let mut least = 0u32;
-    for (place, entry) in all.iter().enumerate() {
-        let name = entry.name.as_slice();
-        if !is_called(all.get(place.wrapping_sub(1)), name) {
-            least = entry.chan;
-        }
-        if !is_called(all.get(place.saturating_add(1)), name) && least == entry.chan {
-            add(alloc, name, entry.chan, &mut sole)?;
+    let ports = flat.ports().len();
+    let mut names: Vec<ChanName> = Vec::new(alloc);
+    for entry in &names_in(alloc, survey, flat)? {
+        let is_known = match names.last_mut() {
+            Some(last) => meets(last, entry, ports),
+            None => false,
+        };
+        if !is_known {
+            add(alloc, entry.name.as_slice(), entry.chan, &mut names)?;
         }
     }
-    Ok(sole)
+    Ok(names)
 }
 
-// Whether there is a channel of this name.
-fn is_called(other: Option<&ChanName>, name: &[u8]) -> bool {
-    match other {
-        Some(other) => other.name.as_slice() == name,
-        None => false,
+// Whether an entry has the name of the one before it, which then has the other channel too, if it is no port's.
+fn meets(last: &mut ChanName, entry: &ChanName, ports: usize) -> bool {
+    if last.name != entry.name {
+        return false;
     }
+    if last.chan as usize > ports && last.chan != entry.chan {
+        last.other = Some(entry.chan);
+    }
+    true
 }
 
 fn add(alloc: Global, name: &[u8], chan: u32, names: &mut Vec<ChanName>) -> Result<(), AllocError> {
     let name = Vec::from_slice(alloc, name)?;
-    names.push(ChanName { name, chan })?;
+    names.push(ChanName {
+        name,
+        chan,
+        other: None,
+    })?;
     Ok(())
 }
 
@@ -71,13 +78,16 @@ fn names_in(alloc: Global, survey: &Survey, flat: &Flat) -> Result<Vec<ChanName>
     Ok(names)
 }
 
-// Adds a name in name form.
+// Adds a name in name form. One of digits alone stands for no channel, since these are a number.
 fn add_form(
     alloc: Global,
     name: &[u8],
     chan: u32,
     names: &mut Vec<ChanName>,
 ) -> Result<(), AllocError> {
+    if !name.is_empty() && name.iter().all(|byte| byte.is_ascii_digit()) {
+        return Ok(());
+    }
     let mut form = Text::new(alloc);
     // (a text takes all that is put into it)
     let _ = put_name(&mut form, name);

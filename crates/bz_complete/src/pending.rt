@@ -1,8 +1,8 @@
 //! Which take or got a component makes next on its way to a move that is due.
 //!
 //! Nothing is claimed of the choice. Of a component's own port comes first, so a variable that is read takes no write for it.
-//! Where one of several requests is taken, the output that is asked at tells which, or else the component's next reply, or else
-//! the value. The two halves of a Bar go each by itself, but that inputs are got as the activation's next move tells.
+//! Where one of several requests is taken, the output that is asked at tells which, or else the component's next reply, where that
+//! request brings the value that is asked on, or else the value. The two halves of a Bar go each by itself, but that inputs are got as the activation's next move tells.
 
 use crate::guide::Guide;
 use crate::short::ShortMove;
@@ -42,8 +42,8 @@ impl Way {
             Kind::DecisionWait if self.port > size.saturating_add(1) => self.port.checked_sub(size),
             Kind::Call | Kind::CallMux | Kind::CallDemux if self.port > size => {
                 match guide.next_port(self.comp) {
-                    Some(port) => Some(port),
-                    None => self.with_value(net, size),
+                    Some(port) if self.brings(net, port) == Some(self.due.value) => Some(port),
+                    _ => self.with_value(net, size),
                 }
             }
             Kind::Variable | Kind::FalseVariable if self.brings(net, 1) == Some(self.due.value) => {

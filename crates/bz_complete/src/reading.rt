@@ -112,8 +112,8 @@ fn sent(word: &str) -> Option<Sent>
     }
 }
 
-// The channel that a word stands for: the one of a number, or else that of a name.
-fn chan(word: &str, names: &[ChanName]) -> Option<u32>
+/// The channel that a word stands for: the one of a number, or else that of a name.
+pub(crate) fn chan(word: &str, names: &[ChanName]) -> Option<u32>
     ensures { IfSome result (Stands names.now word.now) }
 {
     match number(word) {

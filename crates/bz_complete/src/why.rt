@@ -17,17 +17,30 @@ const MOST: usize = 8;
 pub(crate) fn why_not(alloc: Global, net: &Net, due: ShortMove) -> String {
     let mut text = Text::new(alloc);
     put_found(net, due, &mut text);
-    match text.whole() {
-        Ok(whole) => string_of(alloc, whole),
-        Err(_) => String::new(alloc),
-    }
+    string_of(alloc, &text)
 }
 
-fn string_of(alloc: Global, text: &[u8]) -> String {
-    match str::from_utf8(text) {
-        Ok(text) => String::from_str(alloc, text).unwrap_or_else(|_| String::new(alloc)),
-        Err(_) => String::new(alloc),
+/// Two lines, each behind a line end: that a component can move at the end, and what is due there. Nothing where memory is wanting.
+pub(crate) fn why_unrested(alloc: Global, net: &Net, comp: u32) -> String {
+    let mut text = Text::new(alloc);
+    if let Some(site) = net.core().comp(comp) {
+        let pieces = [
+            Piece::Bytes(kind_word(&site.kind)),
+            Piece::Wide(comp.into()),
+        ];
+        text.say("\nfound: the end, where % % can move\ndue: ", &pieces);
+        put_dues(net, site, comp, &mut text);
     }
+    string_of(alloc, &text)
+}
+
+/// What a text has, or nothing where a part of it is lost.
+pub(crate) fn string_of(alloc: Global, text: &Text) -> String {
+    let string = match text.whole() {
+        Ok(bytes) => String::from_utf8_lossy(alloc, bytes),
+        Err(fault) => Err(fault),
+    };
+    string.unwrap_or_else(|_| String::new(alloc))
 }
 
 fn put_found(net: &Net, due: ShortMove, text: &mut Text) {
@@ -74,6 +87,11 @@ fn put_comp(net: &Net, site: &FlatComp, comp: u32, port: u32, text: &mut Text) {
         port_of(site, port),
     ];
     text.say(", of % % at %\ndue: ", &pieces);
+    put_dues(net, site, comp, text);
+}
+
+// The moves that are due at a component.
+fn put_dues(net: &Net, site: &FlatComp, comp: u32, text: &mut Text) {
     let mut count = 0usize;
     for port in 1..=port_count(site) {
         if let Some(mv) = net.due(comp, port) {

@@ -2,8 +2,9 @@
 
 use crate::report::{Report, Share};
 use bz_kind_rows::{PortAt, kind_names, kind_word, port_at};
-use bz_source::SourceAt;
-use bz_text::{Piece, Text, put_json};
+use bz_text::{Piece, Text};
+use bz_view::Piece::{Typed, Wide};
+use bz_view::say_json;
 use std::alloc::{AllocError, Global};
 
 /// Adds one object: how much was exercised, which kinds there are, what was never used, and the counts, one component a line.
@@ -12,7 +13,7 @@ pub fn put_report(alloc: Global, text: &mut Text, report: Report<'_>) -> Result<
     text.put("{\"version\":1");
     if let Some(name) = report.name {
         text.put(",\"net\":");
-        put_string(text, name);
+        text.put_json(name);
     }
     put_number(text, ",\"traces\":", report.traces as u64);
     put_number(text, ",\"components\":", comps.all as u64);
@@ -153,27 +154,16 @@ fn put_comp(text: &mut Text, report: Report<'_>, comp: u32) {
     }
 }
 
-// Adds what a component is called and where it comes from, where that is known.
+// Adds what a component is called and where it comes from, where that is known: names are in name form.
 fn put_label(text: &mut Text, report: Report<'_>, comp: u32) {
     if let Some(name) = report.seen.survey.comp_name(comp) {
         text.put(",\"name\":");
-        put_string(text, name);
+        say_json(text, "%", &[Typed(name)]);
     }
     if let Some(at) = report.seen.survey.comp_source(comp) {
-        put_source(text, at);
-    }
-}
-
-// Adds a place in a source: the name of its file, the line and the column, with a colon between.
-fn put_source(text: &mut Text, at: SourceAt<'_>) {
-    let mut place = Text::new(text.alloc());
-    place.put_bytes(at.file);
-    put_number(&mut place, ":", at.line.into());
-    put_number(&mut place, ":", at.column.into());
-    text.put(",\"source\":");
-    match place.whole() {
-        Ok(bytes) => put_string(text, bytes),
-        Err(_) => text.lose(),
+        text.put(",\"source\":");
+        let place = [Typed(at.file), Wide(at.line.into()), Wide(at.column.into())];
+        say_json(text, "%:%:%", &place);
     }
 }
 
@@ -189,11 +179,6 @@ fn put_port(text: &mut Text, before: &str, report: Report<'_>, comp: u32, port: 
         }
     }
     text.put("\"");
-}
-
-fn put_string(text: &mut Text, bytes: &[u8]) {
-    // (a text is refused for memory alone, which it keeps)
-    let _ = put_json(text, bytes);
 }
 
 fn put_number(text: &mut Text, before: &str, number: u64) {

@@ -115,21 +115,17 @@ fn add_branches<'r>(
 
 // Adds the record of a source file.
 fn put_file(text: &mut Text, file: &[u8], lines: &[Line<'_>], branches: &[Branch<'_>]) {
-    text.put("TN:\nSF:");
-    put_path(text, file);
-    text.put("\n");
+    let name = [
+        Piece::Bytes(b"TN:\nSF:"),
+        Piece::File(file),
+        Piece::Bytes(b"\n"),
+    ];
+    text.put_pieces(&name);
     let taken = put_branches(text, branches);
     put_share(text, "BRF:", "BRH:", taken);
     let run = put_lines(text, lines);
     put_share(text, "LF:", "LH:", run);
     text.put("end_of_record\n");
-}
-
-// Adds a file's name. A byte that is no letter would end its line, so `?` stands for it.
-fn put_path(text: &mut Text, file: &[u8]) {
-    for byte in file {
-        text.put_bytes(&[if *byte < 32 { b'?' } else { *byte }]);
-    }
 }
 
 fn put_branches(text: &mut Text, branches: &[Branch<'_>]) -> Share {

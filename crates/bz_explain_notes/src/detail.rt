@@ -2,7 +2,7 @@
 
 use bz_model::Value;
 use bz_sexpr::Span;
-use bz_text::{Piece, Text, put_json};
+use bz_text::{Piece, Text};
 
 /// What a program can ask of a finding beside its place.
 #[derive(Clone, Copy)]
@@ -41,7 +41,7 @@ fn put_number(text: &mut Text, front: &[u8], number: usize) {
 
 fn put_string(text: &mut Text, front: &[u8], letters: &[u8]) {
     text.put_bytes(front);
-    let _ = put_json(text, letters);
+    text.put_json(letters);
 }
 
 // A name in name form.

@@ -83,7 +83,7 @@ fn tell_finding<'a, W: Write>(
     out: &mut W,
 ) -> Result<(), WriteFault> {
     let pieces = [
-        Piece::Bytes(file.as_bytes()),
+        Piece::File(file.as_bytes()),
         Piece::Bytes(b":"),
         Piece::Number(finding.place.spot.line as Value),
         Piece::Bytes(b":"),

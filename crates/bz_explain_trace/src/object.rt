@@ -6,10 +6,10 @@ use crate::items::{LineAt, line_of};
 use crate::suspect::Suspect;
 use bz_cli_trace::Finding;
 use bz_model::{Move, Phase, Value, Verb};
-use bz_text::{Text, put_json};
+use bz_text::Text;
 use bz_trace::{Counts, Verdict};
 use bz_view::Piece::{self, Bytes, Number, Wide};
-use bz_view::{Seen, put_rest};
+use bz_view::{Seen, put_rest, say_json};
 
 /// The most moves that an object has, and the most words of the host.
 const MOST_TOLD: usize = 1000;
@@ -19,7 +19,7 @@ const MOST_TOLD: usize = 1000;
 pub fn put_found(suspect: Suspect<'_>, found: Finding, seen: Seen<'_>, text: &mut Text) {
     text.put("{\"version\": 1, \"trace\": ");
     match suspect.file {
-        Some(file) => put_string(file.as_bytes(), text),
+        Some(file) => text.put_json(file.as_bytes()),
         None => text.put("null"),
     }
     match found.verdict {
@@ -61,7 +61,7 @@ fn put_line(suspect: Suspect<'_>, number: usize, text: &mut Text) {
     let rest = LineAt::of(suspect, number).rest;
     if !rest.is_empty() {
         text.put(", \"text\": ");
-        put_string(line_of(rest), text);
+        text.put_json(line_of(rest));
     }
 }
 
@@ -134,7 +134,7 @@ fn put_words(seen: Seen<'_>, text: &mut Text) {
         port = port.saturating_add(1);
         if let Some(verb) = verb_at(seen, port) {
             put_comma(told, text);
-            put_shown(seen.host_word(verb, port), text);
+            say_json(text, "%", &[seen.host_word(verb, port)]);
             told = told.saturating_add(1);
         }
     }
@@ -162,7 +162,7 @@ fn put_waits(seen: Seen<'_>, text: &mut Text) {
     for line in whole.split(|byte| *byte == b'\n') {
         if !line.is_empty() {
             put_comma(told, text);
-            put_string(line, text);
+            text.put_json(line);
             told = told.saturating_add(1);
         }
     }
@@ -182,17 +182,4 @@ fn put_comma(told: usize, text: &mut Text) {
 fn put_flag(front: &str, flag: bool, text: &mut Text) {
     text.put(front);
     text.put(if flag { "true" } else { "false" });
-}
-
-fn put_shown(piece: Piece<'_>, text: &mut Text) {
-    let mut shown = Text::new(text.alloc());
-    shown.say("%", &[piece]);
-    match shown.whole() {
-        Ok(letters) => put_string(letters, text),
-        Err(_) => text.lose(),
-    }
-}
-
-fn put_string(letters: &[u8], text: &mut Text) {
-    let _ = put_json(text, letters);
 }

@@ -31,22 +31,26 @@ use std::io::{BufRead, Read, Write};
 /// The most entries of the journal.
 const JOURNAL: u32 = 1_000_000;
 
-/// Where traces, pages and sessions are written.
+/// The files that lines may name.
 pub trait Files {
-    type File: Write + Drop;
-
-    /// An empty file of this name. One that is there is written over where that is asked for, but never the netlist.
-    fn create(&mut self, path: &str, over: bool) -> Result<Self::File, NoFile>;
+    /// Gives the file of this name these bytes: all of them, or none. One that is there is replaced where a beginning is handed
+    /// in and it begins so, or has nothing; but never the netlist.
+    fn put(&mut self, path: &str, bytes: &[u8], over: Option<&[u8]>) -> Result<(), NoFile>;
 }
 
-/// Why there is no file to write to.
+/// Why a file is not written.
 #[derive(Clone, Copy)]
 pub enum NoFile {
     /// There is one already.
     Exists,
     /// It is the netlist.
     Netlist,
+    /// It begins otherwise than what would be written.
+    Other,
+    /// No line may name it.
+    Barred,
     Unwritable,
+    Memory,
 }
 
 /// How a session ended.

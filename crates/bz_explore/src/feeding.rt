@@ -2,7 +2,7 @@
 
 use crate::answer::{Answer, add};
 use crate::commands::{Call, number};
-use crate::hosts::{StandBy, Supply};
+use crate::hosts::{StandBy, Supply, place_of};
 use crate::refusals::{put_too_large, put_unknown};
 use crate::table::Form;
 use bz_bench::{Item, Times, Word, word_of};
@@ -115,10 +115,9 @@ pub(crate) fn drain(net: &Net, hosts: &mut Vec<StandBy>, call: Call<'_>, answer:
 
 // Adds how a host stands that stands by at a port.
 fn put_at(hosts: &[StandBy], port: u32, entries: usize, answer: &mut Answer) {
-    for host in hosts {
-        if host.port == port {
-            host.put(entries, &mut answer.text);
-        }
+    match hosts.get(place_of(hosts, port)) {
+        Some(host) if host.port == port => host.put(entries, &mut answer.text),
+        _ => {}
     }
 }
 
@@ -130,7 +129,8 @@ fn stand_by(
     entries: usize,
     answer: &mut Answer,
 ) {
-    for host in hosts.iter_mut() {
+    let place = place_of(hosts, port.port);
+    if let Some(host) = hosts.get_mut(place) {
         if host.port == port.port {
             if host.add(supply, entries).is_err() {
                 answer.text.lose();
@@ -150,8 +150,13 @@ fn stand_by(
         supply,
         given: Vec::new(alloc),
     };
-    add(hosts, host, &mut answer.text);
-    hosts.sort_unstable_by_key(|host| host.port);
+    if place < hosts.len() {
+        if hosts.insert(place, host).is_err() {
+            answer.text.lose();
+        }
+    } else {
+        add(hosts, host, &mut answer.text);
+    }
 }
 
 // The values that words spell, all of which fit the port. What doesn't is told.

@@ -1,14 +1,16 @@
-//! Hosts that stand by at ports: where a run comes to rest, the first of them that can go on gives its next word.
+//! Hosts that stand by at ports: where a run comes to rest, the first of them that can go on gives its next word. A host is looked
+//! at again once something has moved at its port: so a word takes no longer the more hosts there are.
 //!
 //! A request is accepted only while a value is left for it, and a handshake that was begun is ended: so none stays open where the
 //! values are out. What a host gave is known by the places of its words in the journal. So what is undone it has again.
 
 use crate::answer::Answer;
+use bz_explore_net::{CountedRow, chan_of};
 use bz_model::{HostCmd, NetError, Value, Verb};
 use bz_net::Net;
 use bz_text::Text;
 use bz_view::Piece;
-use std::alloc::AllocError;
+use std::alloc::{AllocError, Global};
 
 /// What a host that stands by has to give.
 #[derive(Drop)]
@@ -142,6 +144,57 @@ impl StandBy {
         }
         text.put("\n");
     }
+}
+
+/// The ports at which something has moved since the hosts there were found waiting.
+#[derive(Drop)]
+pub(crate) struct MovedPorts {
+    ports: CountedRow,
+    // How many entries of the journal were looked at.
+    seen: usize,
+}
+
+impl MovedPorts {
+    /// All at which hosts stand by.
+    pub fn of(alloc: Global, net: &Net, hosts: &[StandBy]) -> Result<MovedPorts, AllocError> {
+        let mut ports = CountedRow::new(alloc, net.names().ports().len().saturating_add(1))?;
+        for host in hosts {
+            ports.set(host.port as usize, true);
+        }
+        let seen = net.journal().len();
+        Ok(MovedPorts { ports, seen })
+    }
+
+    /// The place of the first host that can go on, whose next word is made ready.
+    pub fn caller(&mut self, net: &Net, hosts: &mut [StandBy]) -> Option<usize> {
+        self.look(net);
+        for _ in 0..=self.ports.count() {
+            let port = self.ports.nth(0)?;
+            let place = place_of(hosts, port);
+            if let Some(host) = hosts.get_mut(place) {
+                if host.port == port && host.readies(net) {
+                    return Some(place);
+                }
+            }
+            self.ports.set(port as usize, false);
+        }
+        None
+    }
+
+    // Takes in what has moved since the last look.
+    fn look(&mut self, net: &Net) {
+        for entry in net.journal().get(self.seen..).unwrap_or(&[]) {
+            if let Some(chan) = chan_of(*entry) {
+                self.ports.set(chan as usize, true);
+            }
+        }
+        self.seen = net.journal().len();
+    }
+}
+
+/// Where the host of a port stands among those that stand by, in the order of their ports, or where it would.
+pub(crate) fn place_of(hosts: &[StandBy], port: u32) -> usize {
+    hosts.partition_point(|host| host.port < port)
 }
 
 /// Has hosts forget the words that are not among so many entries: something else has moved behind them.

@@ -3,8 +3,8 @@
 use crate::answer::Answer;
 use bz_explore_net::{HostOffer, Offer, Stepping, answered_words, offers_of};
 use bz_model::{ChanKind, Entry, Phase, Reply, Value, Who};
-use bz_text::{Text, put_json};
-use bz_view::{Piece, Seen, gathered};
+use bz_text::Text;
+use bz_view::{Piece, Seen, gathered, say_json};
 
 /// A move of a component.
 const MOVE: &str =
@@ -24,7 +24,7 @@ pub(crate) fn put_object(answer: &Answer, number: u64, object: &mut Text) {
         } else {
             ", \"text\": "
         });
-        put_string(text.strip_suffix(b"\n").unwrap_or(text), object);
+        object.put_json(text.strip_suffix(b"\n").unwrap_or(text));
     }
     if answer.is_fault {
         object.put(", \"status\": 2");
@@ -120,7 +120,7 @@ fn put_word(seen: Seen<'_>, word: HostOffer, members: &mut Text) {
         "\"word\": \"%\", \"port\": ",
         &[Piece::Text(word.verb.word())],
     );
-    put_piece(Piece::Typed(seen.port_name(word.port)), members);
+    say_json(members, "%", &[Piece::Typed(seen.port_name(word.port))]);
 }
 
 /// Adds what the host was told.
@@ -183,7 +183,7 @@ pub(crate) fn put_port_passed(
     members: &mut Text,
 ) {
     members.put("{\"port\": ");
-    put_piece(Piece::Typed(seen.port_name(port)), members);
+    say_json(members, "%", &[Piece::Typed(seen.port_name(port))]);
     if seen.chan(port).kind == ChanKind::Sync {
         members.say(", \"handshakes\": %}", &[Piece::Number(passed.len())]);
         return;
@@ -207,19 +207,4 @@ pub(crate) fn put_number(name: &str, number: u64, members: &mut Text) {
 pub(crate) fn put_flag(name: &str, flag: bool, members: &mut Text) {
     let flag = Piece::Text(if flag { "true" } else { "false" });
     members.say(", \"%\": %", &[Piece::Text(name), flag]);
-}
-
-// Adds a piece as a string.
-fn put_piece(piece: Piece<'_>, members: &mut Text) {
-    let mut shown = Text::new(members.alloc());
-    shown.say("%", &[piece]);
-    match shown.whole() {
-        Ok(shown) => put_string(shown, members),
-        Err(_) => members.lose(),
-    }
-}
-
-fn put_string(bytes: &[u8], text: &mut Text) {
-    // (a text keeps its fault)
-    let _ = put_json(text, bytes);
 }

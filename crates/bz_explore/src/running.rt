@@ -7,7 +7,7 @@
 use crate::answer::{Answer, add};
 use crate::commands::{Call, number};
 use crate::feeding::port_named;
-use crate::hosts::{StandBy, forget};
+use crate::hosts::{MovedPorts, StandBy, forget};
 use crate::session::Session;
 use crate::things::found;
 use bz_explore_net::{Rounds, Stepping};
@@ -49,51 +49,6 @@ enum Stage {
     Ended(RanTo),
 }
 
-// So many looks at a run are a move apart.
-const CLOSE: u64 = 64;
-
-/// Looks whether a run goes round. A look after each move would take long: so three moves of four are made without one, each
-/// time in front of a look at which a moment is kept, which are those number 128, 256, 512 .. That it goes round is found after at
-/// most nine times as many moves as it makes until it comes back.
-#[derive(Drop)]
-struct Watch {
-    rounds: Rounds,
-    looks: u64,
-    /// The number of the next look at which a moment is kept.
-    due: u64,
-}
-
-impl Watch {
-    fn new() -> Watch {
-        Watch {
-            rounds: Rounds::new(),
-            looks: 0,
-            due: 1,
-        }
-    }
-
-    // How many moves are made before the next look.
-    fn stride(&self) -> u64 {
-        if self.due > CLOSE && self.looks.saturating_add(1) == self.due {
-            self.due.saturating_add(self.due / 2)
-        } else {
-            1
-        }
-    }
-
-    // How far the run is: it goes on unless it goes round.
-    fn stage(&mut self, alloc: Global, stepping: &Stepping) -> Stage {
-        self.looks = self.looks.saturating_add(1);
-        if self.looks == self.due {
-            self.due = self.due.saturating_mul(2);
-        }
-        match self.rounds.look(alloc, stepping) {
-            None => Stage::Moves,
-            Some(entries) => Stage::Ended(RanTo::Again(entries)),
-        }
-    }
-}
-
 /// Where a run to a thing stops: that there is no such thing is told.
 pub(crate) fn things_asked(session: &mut Session<'_>, call: Call<'_>) -> Vec<Thing> {
     let seen = Seen::of(session.stepping.net().core(), session.survey);
@@ -132,24 +87,27 @@ pub(crate) fn run_up_to(
     answer: &mut Answer,
 ) -> (u64, RanTo) {
     let mut fired = 0;
-    let mut watch = Watch::new();
+    let mut rounds = Rounds::new();
     let before = stepping.net().journal().len();
     let alloc = answer.text.alloc();
-    let first = stepping.run(alloc, typed, goal.step(&watch));
+    let Ok(mut moved) = MovedPorts::of(alloc, stepping.net(), hosts) else {
+        return (0, RanTo::Refused(NetError::Memory));
+    };
+    let first = stepping.run(alloc, typed, goal.step(&rounds));
     if stepping.net().journal().len() > before {
         forget(hosts, before);
     }
     let mut stage = match first {
-        Ok(end) => goal.stage_after(alloc, stepping, end, &mut fired, &mut watch),
+        Ok(end) => goal.stage_after(alloc, stepping, end, &mut fired, &mut rounds),
         Err(AllocError) => Stage::Ended(RanTo::Refused(NetError::Memory)),
     };
     for _ in 0..u64::MAX {
         stage = match stage {
             Stage::Moves => {
-                let end = stepping.run_on(goal.step(&watch));
-                goal.stage_after(alloc, stepping, end, &mut fired, &mut watch)
+                let end = stepping.run_on(goal.step(&rounds));
+                goal.stage_after(alloc, stepping, end, &mut fired, &mut rounds)
             }
-            Stage::Rests => goal.stage_at_rest(alloc, stepping, hosts, &mut watch),
+            Stage::Rests => goal.stage_at_rest(alloc, stepping, hosts, &mut moved, &mut rounds),
             Stage::Ended(end) => return (fired, end),
         };
     }
@@ -158,11 +116,11 @@ pub(crate) fn run_up_to(
 
 impl Goal<'_> {
     // How many firings are made at once.
-    fn step(self, watch: &Watch) -> u64 {
+    fn step(self, rounds: &Rounds) -> u64 {
         if !self.things.is_empty() {
             self.most.min(1)
         } else if self.is_endless {
-            watch.stride()
+            rounds.stride()
         } else {
             self.most
         }
@@ -175,7 +133,7 @@ impl Goal<'_> {
         stepping: &Stepping,
         end: RunEnd,
         fired: &mut u64,
-        watch: &mut Watch,
+        rounds: &mut Rounds,
     ) -> Stage {
         match end {
             RunEnd::Rest(more) => {
@@ -190,7 +148,7 @@ impl Goal<'_> {
             RunEnd::Spent(more) => {
                 *fired = fired.saturating_add(more);
                 match self.reached(stepping) {
-                    None if self.is_endless => watch.stage(alloc, stepping),
+                    None if self.is_endless => stage_of(alloc, stepping, rounds),
                     None if *fired < self.most => Stage::Moves,
                     None => Stage::Ended(RanTo::End),
                     Some(thing) => Stage::Ended(RanTo::Thing(thing)),
@@ -205,15 +163,16 @@ impl Goal<'_> {
         alloc: Global,
         stepping: &mut Stepping,
         hosts: &mut [StandBy],
-        watch: &mut Watch,
+        moved: &mut MovedPorts,
+        rounds: &mut Rounds,
     ) -> Stage {
         if !self.is_endless {
             return Stage::Ended(RanTo::End);
         }
-        match gives(stepping, hosts, &mut watch.rounds) {
+        match gives(stepping, hosts, moved, rounds) {
             Ok(false) => Stage::Ended(RanTo::End),
             Ok(true) => match self.reached(stepping) {
-                None => watch.stage(alloc, stepping),
+                None => stage_of(alloc, stepping, rounds),
                 Some(thing) => Stage::Ended(RanTo::Thing(thing)),
             },
             Err(error) => Stage::Ended(RanTo::Refused(error)),
@@ -227,6 +186,14 @@ impl Goal<'_> {
             .iter()
             .copied()
             .find(|thing| moves_at(*last, *thing))
+    }
+}
+
+// How far a run is: it goes on unless it goes round.
+fn stage_of(alloc: Global, stepping: &Stepping, rounds: &mut Rounds) -> Stage {
+    match rounds.look(alloc, stepping) {
+        None => Stage::Moves,
+        Some(entries) => Stage::Ended(RanTo::Again(entries)),
     }
 }
 
@@ -244,18 +211,20 @@ fn moves_at(entry: Entry, thing: Thing) -> bool {
 fn gives(
     stepping: &mut Stepping,
     hosts: &mut [StandBy],
+    moved: &mut MovedPorts,
     rounds: &mut Rounds,
 ) -> Result<bool, NetError> {
     let place = stepping.net().journal().len();
-    for host in hosts {
-        if host.readies(stepping.net()) {
-            stepping.command_on(&host.word)?;
-            host.note(place)?;
-            if host.has_an_end() {
-                rounds.forget();
-            }
-            return Ok(true);
-        }
+    let Some(caller) = moved.caller(stepping.net(), hosts) else {
+        return Ok(false);
+    };
+    let Some(host) = hosts.get_mut(caller) else {
+        return Ok(false);
+    };
+    stepping.command_on(&host.word)?;
+    host.note(place)?;
+    if host.has_an_end() {
+        rounds.forget();
     }
-    Ok(false)
+    Ok(true)
 }

@@ -1,8 +1,8 @@
 //! What is written to files: the trace of a net so far, a page on which it plays, and the commands that stand.
 //!
 //! `session FILE` writes commands and not moves. The picking of `random` is followed along the commands that are kept, and a
-//! `seed` is written where it doesn't go on as it would. A page is made whole before there is a file, so that without memory
-//! the file that was there stays; it has 1,000 cycles and 1,000 waits at most, since a browser makes a line of each.
+//! `seed` is written where it doesn't go on as it would. All is made whole before there is a file, so that without memory
+//! the file that was there stays; a page has 1,000 cycles and 1,000 waits at most, since a browser makes a line of each.
 
 ghost use Rattle.std.specs.Prelude.{OnOk, OnErr};
 ghost use Rattle.bz_explore.specs.Saving.{SavesSome, SavesTrace};
@@ -16,7 +16,7 @@ use bz_net::Net;
 use bz_page::{put_page, put_stuck_row};
 use bz_since::{NoSince, Since, stuck_since};
 use bz_source::Survey;
-use bz_text::{Text, WriteFault, put};
+use bz_text::{Text, WriteFault};
 use bz_trace_text::MAX_ENTRIES;
 use bz_view::{Piece, Seen, graph_of, put_ends, put_ring_rows};
 use bz_waits::Stuck;
@@ -25,6 +25,18 @@ use std::io::Write;
 
 /// The most components of a net that a page holds.
 pub(crate) const MOST_COMPS: usize = 100_000;
+
+/// The first line of a session.
+const SESSION: &str = "# a session of explore\n";
+
+/// How the file begins that a command writes.
+pub(crate) fn beginning_of(command: &str) -> &'static [u8] {
+    match command {
+        "page" => b"<!doctype html>",
+        "session" => SESSION.as_bytes(),
+        _ => b"trace ",
+    }
+}
 
 /// Writes the trace of what a net's journal tells, down to the last byte.
 pub fn save<W: Write>(net: &Net, out: &mut W) -> Result<(), WriteFault>
@@ -99,15 +111,10 @@ fn put_page_of(
     }
 }
 
-/// Writes a text, down to the last byte.
-pub(crate) fn save_text<W: Write>(bytes: &[u8], out: &mut W) -> Result<(), WriteFault> {
-    put(out, bytes)?;
-    out.flush().map_err(|_| WriteFault)
-}
-
 /// Adds the commands that stand, as lines of a session. Behind each word of the host its reply is expected, and a seed stands
 /// where the picking was begun anew.
 pub(crate) fn put_script(stepping: &Stepping, text: &mut Text) {
+    text.put(SESSION);
     let journal = stepping.net().journal();
     let mut picker = Picker::new(0);
     for (place, mark) in stepping.marks().iter().enumerate() {

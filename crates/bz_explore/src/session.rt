@@ -12,7 +12,7 @@ use crate::redoing::Redo;
 use crate::refusals::{put_refusal, put_stuck};
 use crate::running::{Goal, RanTo, run_up_to, things_asked};
 use crate::saving::{
-    MOST_COMPS, put_redone, put_script, put_trace_page, put_undone, save, save_text,
+    MOST_COMPS, beginning_of, put_redone, put_script, put_trace_page, put_undone, save,
 };
 use crate::table::{Form, put_help};
 use crate::telling::{put_again, put_fired, put_played, put_said, put_stop};
@@ -443,8 +443,7 @@ impl<'s> Session<'s> {
         }
     }
 
-    // Writes a file: the trace so far, a page on which it plays, or the commands that stand. What is not the trace is made whole
-    // before there is a file.
+    // Writes a file: the trace so far, a page on which it plays, or the commands that stand.
     fn write<F: Files>(&mut self, files: &mut F, call: Call<'_>) {
         let (word, net) = (call.form.word(), self.stepping.net());
         let path = call.first.unwrap_or("");
@@ -452,17 +451,21 @@ impl<'s> Session<'s> {
         match word {
             "page" => put_trace_page(&*self.stepping, self.survey, self.part, &mut made),
             "session" => put_script(&*self.stepping, &mut made),
-            _ => {}
+            // (a text takes all that is written to it, and keeps that memory was refused)
+            _ => {
+                let _ = save(net, &mut made);
+            }
         }
         let Ok(bytes) = made.whole() else {
             self.answer.text.lose();
             return;
         };
-        let saved = match (files.create(path, call.over), word) {
-            (Ok(mut file), "trace") => save(net, &mut file).map_err(|_| NoFile::Unwritable),
-            (Ok(mut file), _) => save_text(bytes, &mut file).map_err(|_| NoFile::Unwritable),
-            (Err(cause), _) => Err(cause),
+        let over = if call.over {
+            Some(beginning_of(word))
+        } else {
+            None
         };
+        let saved = files.put(path, bytes, over);
         let lines = match word {
             "session" => count_lines(bytes),
             _ => 1usize
@@ -486,8 +489,14 @@ impl<'s> Session<'s> {
                 self.answer.text.say("wrote %: %%\n", &[path, plays, lines]);
                 return;
             }
+            Err(NoFile::Memory) => {
+                self.answer.text.lose();
+                return;
+            }
             Err(NoFile::Exists) => "% exists; `%! %` writes over it\n",
             Err(NoFile::Netlist) => "% is the netlist: nothing is written over it\n",
+            Err(NoFile::Other) => "% is no %: nothing is written over it\n",
+            Err(NoFile::Barred) => "%: a session writes no such file; --files DIR allows it\n",
             Err(NoFile::Unwritable) => "% can't be written\n",
         };
         self.answer.complain(form, &[path, Piece::Text(word), path]);

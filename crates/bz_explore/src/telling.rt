@@ -5,7 +5,7 @@ use crate::object::{put_entries, put_flag, put_number, put_reply};
 use bz_explore_net::Stepping;
 use bz_model::Reply;
 use bz_source::Survey;
-use bz_text::Text;
+use bz_text::{Piece as Part, Text};
 use bz_view::{Piece, Seen, Thing};
 
 const ROUND: &str =
@@ -93,8 +93,8 @@ pub(crate) fn put_again(seen: Seen<'_>, fired: u64, from: usize, to: usize, answ
     }
 }
 
-/// Adds what stands behind `say`.
+/// Adds what stands behind `say`, in which a control character is a question mark, as in the name of a file.
 pub(crate) fn put_said(typed: &[u8], text: &mut Text) {
-    text.put_bytes(typed.get(b"say ".len()..).unwrap_or(&[]));
-    text.put("\n");
+    let said = typed.get(b"say ".len()..).unwrap_or(&[]);
+    text.put_pieces(&[Part::File(said), Part::Bytes(b"\n")]);
 }

@@ -5,3 +5,5 @@ pub mod Going
 pub mod Answered
 pub mod Picked
 pub mod Again
+pub mod Counting
+pub mod Moving

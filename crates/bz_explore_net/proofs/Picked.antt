@@ -53,38 +53,22 @@ module _ (P : ℕ → Type 0) where
       (below_past n (n + m) a (omega arith) (λ k lo hi is. let lt = within k is in omega (arith, lo, lt)) x)
       (below_past m (n + m) b (omega arith) (λ k lo hi is. let lt = within' k is in omega (arith, lo, lt)) y)
 
-  -- a member, and the number of those up to it
-  pub past_place : (place c : ℕ) → IsPlace P place c → Below P (suc c) (suc place)
-  past_place place c (is, below) = inl (is, (place, refl, below))
+  -- none is among none
+  pub has_none : HasMembers P 0 → (c : ℕ) → P c → ⊥
+  has_none (bound, within, below) c is = below_some bound c (within c is) is below
 
-  pub first_place : (c : ℕ) → (P 0 → ⊥) → IsNext P 1 c → IsPlace P 0 c
-  first_place c none next = (next.is_in, below_past 0 c 0 (omega arith) before refl)
-    where
-      before : (k : ℕ) → 0 ≤ k → k < c → P k → ⊥
-      before zero lo hi is = none is
-      before (suc k) lo hi is = elim next.least [
-        | inl (from, least) ↦ least (suc k) (omega arith) hi is
-        | inr least ↦ let le = (least (suc k) is).0 in omega (arith, le, hi)
-      ]
+-- members of one set are counted as those of another that has the same
+module _ (P Q : ℕ → Type 0) (to : (k : ℕ) → P k → Q k) (back : (k : ℕ) → Q k → P k) where
+  below_along : (n count : ℕ) → Below P n count → Below Q n count
+  below_along zero count x = x
+  below_along (suc n) count (inl (is, (less, more, x))) = inl (to n is, (less, more, below_along n less x))
+  below_along (suc n) count (inr (none, x)) = inr ((λ q. none (back n q)), below_along n count x)
 
-  pub next_place : (place c next : ℕ) → IsPlace P place c → IsNext P (c + 1) next → c < next → IsPlace P (place + 1) next
-  next_place place c next at is lt =
-      (is.is_in, rw add-one (below_past (suc c) next (suc place) (omega (arith, lt)) between (past_place place c at)))
-    where
-      between : (k : ℕ) → suc c ≤ k → k < next → P k → ⊥
-      between k lo hi here = elim is.least [
-        | inl (from, least) ↦ least k (omega (arith, lo)) hi here
-        | inr least ↦ let back = (least next is.is_in).1 in omega (arith, back, lt)
-      ]
+  pub place_along : (place c : ℕ) → IsPlace P place c → IsPlace Q place c
+  place_along place c (is, below) = (to c is, below_along c place below)
 
-  pub last_place : (place c next : ℕ) → IsPlace P place c → IsNext P (c + 1) next → next ≤ c → HasMembers P (place + 1)
-  last_place place c next at is le = (suc c, within, rw add-one (past_place place c at))
-    where
-      within : (k : ℕ) → P k → k < suc c
-      within k here = elim is.least [
-        | inl (from, least) ↦ absurd (omega (arith, from, le))
-        | inr least ↦ let back = (least k here).1 in omega (arith, back)
-      ]
+  pub members_along : (count : ℕ) → HasMembers P count → HasMembers Q count
+  members_along count (bound, within, below) = (bound, (λ k q. within k (back k q)), below_along bound count below)
 
 -- one move more
 Picks-push : (sites : List Site) (who : Who) (s : State) (picker n : ℕ) (es : List Entry) (m : State) (picker' c p k : ℕ) (mv : Move) (value : Option ℕ) (next : State) → Picks sites who s picker n es m picker' → IsPick sites m picker' c p → Step sites m c p k mv value next → Picks sites who s picker (suc n) (es ++ Fired who c p k mv value ∷ []) next (after (after picker'))
@@ -139,7 +123,3 @@ wants_place net c p error.WrongSide steps r = absurd r
 wants_place net c p error.ValueMissing steps r = absurd r
 wants_place net c p error.ValueUnwanted steps r = absurd r
 wants_place net c p error.TooLarge steps r = absurd r
-
--- no component has the number 0
-pub no_first : (sites : List Site) (s : State) → CanStep sites s 0 → ⊥
-no_first sites s (p, steps) = let from = steps.is_port.comp_from in omega (arith, from)

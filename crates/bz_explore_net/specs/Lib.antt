@@ -3,5 +3,7 @@ pub mod HostOffers
 pub mod Waiting
 pub mod Replaying
 pub mod Picking
+pub mod Counted
+pub mod Movers
 pub mod Stepping
 pub mod Rounds

@@ -3,7 +3,9 @@
 
 mod busy;
 mod chance;
+mod counted;
 mod host_offers;
+mod movers;
 mod offers;
 mod picker;
 mod replaying;
@@ -11,7 +13,9 @@ mod rounds;
 mod stepping;
 
 pub use busy::busy_chans;
+pub use counted::CountedRow;
 pub use host_offers::{HostOffer, answered_words};
+pub use movers::chan_of;
 pub use offers::{Offer, offers_of};
 pub use picker::Picker;
 pub use replaying::replay;

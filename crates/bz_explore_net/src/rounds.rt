@@ -1,7 +1,9 @@
 //! Whether a run goes round: a moment of it is kept, and each later one is compared with that.
 //!
-//! After 1, 2, 4, 8 .. moves the present moment is kept in place of the last one. So that a run goes round is found after at
-//! most three times as many moves as it makes until it comes back for the first time.
+//! At looks 1, 2, 4, 8 .. the present moment is kept in place of the last one. A look after each move would take long: so three
+//! moves of four can be made without one, each time in front of a look at which a moment is kept, which are those number 128,
+//! 256, 512 .. That a run goes round is found after at most nine times as many moves as it makes until it comes back for the
+//! first time.
 
 ghost use Rattle.std.specs.Prelude.{◌≡◌, ◌*◌, ℕ, List, None, IfOk, IfNone, IfSome};
 ghost use Rattle.bz_model.specs.declared.event.Who.{Who};
@@ -13,6 +15,9 @@ ghost use Rattle.bz_explore_net.specs.Rounds.{ComesBack, IsAgain, IsKept, IsMome
 use crate::stepping::Stepping;
 use bz_net::Core;
 use std::alloc::{AllocError, Global};
+
+// So many looks at a run are a move apart.
+const CLOSE: u64 = 64;
 
 /// A moment of a net that is played by hand.
 #[derive(Drop)]
@@ -28,8 +33,8 @@ pub struct Moment {
 #[derive(Drop)]
 pub struct Rounds {
     kept: Option<Moment>,
-    // How many moments were looked at, and of how many the last one is kept.
-    moves: u64,
+    // How many moments were looked at, and the number of the next look at which one is kept.
+    looks: u64,
     due: u64,
     // The place of a component by which the kept moment was another one when it was compared last.
     other: usize,
@@ -64,7 +69,7 @@ impl Rounds {
     {
         Rounds {
             kept: None,
-            moves: 0,
+            looks: 0,
             due: 1,
             other: 0,
         }
@@ -75,6 +80,15 @@ impl Rounds {
         ensures { self.new.kept ≡ None }
     {
         self.kept = None;
+    }
+
+    /// How many moves are to be made before the next look.
+    pub fn stride(&self) -> u64 {
+        if self.due > CLOSE && self.looks.saturating_add(1) == self.due {
+            self.due.saturating_add(self.due / 2)
+        } else {
+            1
+        }
     }
 
     /// After a move: how many entries the journal had in the moment that is kept, where all goes on now as it did then. Else the
@@ -89,8 +103,8 @@ impl Rounds {
                 Some(other) => self.other = other,
             }
         }
-        self.moves = self.moves.saturating_add(1);
-        if self.moves >= self.due {
+        self.looks = self.looks.saturating_add(1);
+        if self.looks >= self.due {
             self.due = self.due.saturating_mul(2);
             self.kept = Moment::of(alloc, stepping).ok();
         }

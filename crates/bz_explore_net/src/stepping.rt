@@ -5,17 +5,22 @@
 //! carried out: without memory for it nothing changes. Where the journal is full before all moves are made, those that were
 //! made stay, with their mark.
 
-ghost use Rattle.std.specs.Prelude.{◌≡◌, ◌≢◌, ◌<◌, ◌≤◌, [], ◌∷◌, length, IfOk, IfErr, OnOk, OnErr};
+ghost use Rattle.std.specs.Prelude.{◌≡◌, ◌≢◌, ◌<◌, ◌≤◌, List, [], ◌∷◌, ◌++◌, None, length, IfOk, IfErr, IfSome, OnOk, OnErr};
 ghost use Rattle.bz_model.specs.declared.event.Who.TheVariants as who;
+ghost use Rattle.bz_model.specs.Nets.{State};
+ghost use Rattle.bz_model.specs.Runs.{CanStep, Follows};
+ghost use Rattle.bz_net.specs.Keeping.{MarksReady};
 ghost use Rattle.bz_net.specs.Running.{Ran};
 ghost use Rattle.bz_net.specs.Replies.{Replies, RefusesCommand};
 ghost use Rattle.bz_net.specs.Simulation.{Adds, IsOpened};
 ghost use Rattle.bz_explore_net.specs.Stepping.{IsBack, IsBegun, IsFiringOf, IsMark, IsMarked, Marked, RefusesFiringOf, added, goes_on};
-ghost use Rattle.bz_explore_net.specs.Picking.{RanByChance, begun};
+ghost use Rattle.bz_explore_net.specs.Picking.{HasMembers, RanByChance, begun};
 ghost use Rattle.bz_explore_net.specs.declared.stepping.Mark.{Mark};
 ghost use Rattle.bz_model.specs.declared.event.Entry.{Entry};
 
 use crate::chance::run_by_chance;
+use crate::counted::CountedRow;
+use crate::movers::{look_behind, movers_of};
 use crate::picker::Picker;
 use crate::replaying::replay;
 use bz_flat::Flat;
@@ -56,6 +61,8 @@ pub struct Stepping {
     picker: Picker,
     marks: Vec<Mark>,
     limit: u32,
+    // The components that can move, where moves were picked by chance and nothing but words of the host came since.
+    movers: Option<CountedRow>,
 }
 
 // Written by hand: callers then prove one drop instead of one for each field.
@@ -68,6 +75,7 @@ impl Drop for Stepping {
             picker: _,
             marks: _,
             limit: _,
+            movers: _,
         } = self;
     }
 }
@@ -76,6 +84,8 @@ impl Model for Stepping {
     ghost use Rattle.std.specs.Prelude.{◌≡◌, ◌<◌, ◌≤◌};
     ghost use Rattle.std.specs.Coded.{codes};
     ghost use Rattle.bz_model.specs.Codes.{term_code};
+    ghost use Rattle.std.specs.Prelude.{IfSome};
+    ghost use Rattle.bz_net.specs.Keeping.{MarksReady};
     ghost use Rattle.bz_explore_net.specs.Stepping.{Played};
 
     ghost Value = { Played };
@@ -84,7 +94,8 @@ impl Model for Stepping {
 
     ghost view = { λ c. record { net = c.net; next = c.next; picker = c.picker; marks = c.marks.items } };
 
-    ghost invariant = { λ c. (c.net.wiring ≡ c.flat.wiring) × (c.net.limit ≡ c.limit) × (0 < c.limit) × (c.limit ≤ 16777216) };
+    ghost invariant = { λ c. (c.net.wiring ≡ c.flat.wiring) × (c.net.limit ≡ c.limit) × (0 < c.limit) × (c.limit ≤ 16777216)
+        × IfSome c.movers (MarksReady c.net.wiring c.net.state) };
 }
 
 impl Stepping {
@@ -109,6 +120,7 @@ impl Stepping {
             picker: Picker::new(0),
             marks: Vec::new(alloc),
             limit,
+            movers: None,
         })
     }
 
@@ -144,6 +156,7 @@ impl Stepping {
             picker,
             marks,
             limit,
+            movers: None,
         })
     }
 
@@ -218,6 +231,7 @@ impl Stepping {
         let Ok(net) = replay(alloc, &self.flat, front, self.limit) else {
             return Err(UndoError::Memory);
         };
+        self.movers = None;
         self.net = net;
         self.next = next;
         self.picker = picker;
@@ -235,6 +249,7 @@ impl Stepping {
     {
         let mark = self.mark(alloc, command)?;
         self.marks.reserve(1)?;
+        self.movers = None;
         let end = self.net.run(WORKER, self.next, fuel);
         self.next = goes_on(self.next, &self.net.journal()[mark.entries..]);
         if self.net.journal().len() > mark.entries {
@@ -251,6 +266,7 @@ impl Stepping {
         ensures picker { self.new.picker ≡ self.old.picker }
     {
         let before = self.net.journal().len();
+        self.movers = None;
         let ran = self.net.run(WORKER, self.next, fuel);
         self.next = goes_on(self.next, &self.net.journal()[before..]);
         ran
@@ -265,11 +281,7 @@ impl Stepping {
         ensures cause { IfErr result (RefusesCommand self.old.net cmd.now.verb cmd.now.port.items cmd.now.value) }
         ensures err { OnErr result (self.new ≡ self.old) }
     {
-        match self.net.serve(HOST, Event::Host(cmd)) {
-            Ok(Answer::Host(reply)) => Ok(reply),
-            Ok(_) => unreachable!(),
-            Err(error) => Err(error),
-        }
+        word(&mut self.net, &mut self.movers, cmd)
     }
 
     /// Fires a component at a port, or at the lowest at which it can move.
@@ -290,6 +302,7 @@ impl Stepping {
         let (Ok(mark), Ok(())) = (self.mark(alloc, command), self.marks.reserve(1)) else {
             return Err(NetError::Memory);
         };
+        self.movers = None;
         match port {
             None => self.net.fire(WORKER, comp)?,
             Some(port) => self.net.fire_move(WORKER, comp, port)?,
@@ -316,11 +329,7 @@ impl Stepping {
         let (Ok(mark), Ok(())) = (self.mark(alloc, command), self.marks.reserve(1)) else {
             return Err(NetError::Memory);
         };
-        let reply = match self.net.serve(HOST, Event::Host(cmd)) {
-            Ok(Answer::Host(reply)) => reply,
-            Ok(_) => unreachable!(),
-            Err(error) => return Err(error),
-        };
+        let reply = word(&mut self.net, &mut self.movers, cmd)?;
         self.marks.push(mark).unwrap();
         Ok(reply)
     }
@@ -347,6 +356,7 @@ impl Stepping {
         ensures picker { self.new.picker ≡ self.old.picker }
         ensures err { OnErr result (self.new ≡ self.old) }
     {
+        self.movers = None;
         make(&mut self.net, entry)
     }
 
@@ -387,12 +397,63 @@ impl Stepping {
     {
         let mark = self.mark(alloc, command)?;
         self.marks.reserve(1)?;
-        let end = run_by_chance(&self.flat, &mut self.net, WORKER, &mut self.picker, count);
+        let mut movers = taken(&mut self.movers, alloc, &self.net)?;
+        let end = run_by_chance(
+            &self.flat,
+            &mut self.net,
+            WORKER,
+            &mut self.picker,
+            &mut movers,
+            count,
+        );
+        self.movers = Some(movers);
         if self.net.journal().len() > mark.entries {
             self.marks.push(mark).unwrap();
         }
         Ok(end)
     }
+
+    /// How many components can move.
+    pub fn count_movers(&mut self, alloc: Global) -> Result<u32, AllocError>
+        ensures count { IfOk result (HasMembers (CanStep self.old.net.wiring.sites self.old.net.state)) }
+        ensures same { self.new ≡ self.old }
+    {
+        let movers = taken(&mut self.movers, alloc, &self.net)?;
+        let count = movers.count();
+        self.movers = Some(movers);
+        Ok(count)
+    }
+}
+
+// The components that can move: those that were kept, or counted anew.
+fn taken(kept: &mut Option<CountedRow>, alloc: Global, net: &Net) -> Result<CountedRow, AllocError>
+    requires { IfSome kept.old (MarksReady net.now.wiring net.now.state) }
+    ensures movers { IfOk result (MarksReady net.now.wiring net.now.state) }
+    ensures none { kept.new ≡ None }
+{
+    match kept.take() {
+        Some(movers) => Ok(movers),
+        None => movers_of(alloc, net),
+    }
+}
+
+// Makes a command of the host, and keeps what can move, where it is kept.
+fn word(net: &mut Net, movers: &mut Option<CountedRow>, cmd: &HostCmd) -> Result<Reply, NetError>
+    requires { IfSome movers.old (MarksReady net.old.wiring net.old.state) }
+    ensures replies { IfOk result (Replies net.old net.new (who.Host 1) cmd.now.verb cmd.now.port.items cmd.now.value) }
+    ensures cause { IfErr result (RefusesCommand net.old cmd.now.verb cmd.now.port.items cmd.now.value) }
+    ensures err { OnErr result (net.new ≡ net.old) }
+    ensures movers { IfSome movers.new (MarksReady net.new.wiring net.new.state) }
+{
+    let reply = match net.serve(HOST, Event::Host(cmd)) {
+        Ok(Answer::Host(reply)) => reply,
+        Ok(_) => unreachable!(),
+        Err(error) => return Err(error),
+    };
+    if let (Some(movers), Some(entry)) = (movers, net.journal().last()) {
+        look_behind(net, *entry, movers);
+    }
+    Ok(reply)
 }
 
 // Makes the event of an entry, and answers the entry that it gave.

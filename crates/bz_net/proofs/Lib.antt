@@ -27,4 +27,4 @@ pub mod Cores
 pub mod Foreseeing
 pub mod Kept
 pub mod Events
-pub mod Pieces
+pub mod Entering

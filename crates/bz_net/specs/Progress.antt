@@ -11,13 +11,9 @@ use Rattle.bz_model.specs.Hosts.{refusal_at}
 use Rattle.bz_model.specs.Runs.{CanStep, IsNext, Run}
 use Rattle.bz_model.specs.Clashes.{ClashesIn}
 use Rattle.bz_flat.specs.Wires.{WellWired}
-use Rattle.bz_net.specs.declared.event.Piece.{Piece}
 use Rattle.bz_net.specs.declared.event.RestReply.{RestReply}
 use Rattle.bz_net.specs.declared.event.RestReply.TheVariants as asked
-use Rattle.bz_net.specs.declared.event.RunEnd.{RunEnd}
-use Rattle.bz_net.specs.declared.event.RunEnd.TheVariants.{Spent}
 use Rattle.bz_net.specs.Noted.{Notes, Watches}
-use Rattle.bz_net.specs.Running.{Plays, Ran}
 use Rattle.bz_net.specs.Replies.{IsFiring, IsSoleStep}
 use Rattle.bz_net.specs.Simulation.{Simulation, Adds}
 use Rattle.bz_net.specs.Told.{MovesAt}
@@ -68,18 +64,6 @@ abbrev pub IsOneOf : ℕ → Entry → Type 0
 IsOneOf count (Fired who c p k mv value) = c ≤ count
 IsOneOf count (Host who verb port value reply) = ⊤
 IsOneOf count (Rested who) = ⊤
-
--- a number of firings in a row; where all that were due are made, the next search begins at `next`
-abbrev pub RanTo : Simulation → Simulation → Who → ℕ → ℕ → ℕ → RunEnd → Type 0
-RanTo old new who from due next (Spent fired) = (fired ≡ due) × Plays old new who from fired next
-RanTo old new who from due next end = Ran old new who from due end
-
--- the buffer, which held some entries, has those of the firings behind them
-pub record RunsInto (old new : Progress) (held now : List Entry) (who : Who) (from due : ℕ) (piece : Piece) : Type 0 where
-  pub entries : List Entry
-  pub buffer : now ≡ held ++ entries
-  pub leads : LeadsOn old entries new
-  pub ran : (journal : List Entry) → RanTo (with_journal old journal) (with_journal new (journal ++ entries)) who from due piece.next piece.end
 
 -- what such a net keeps
 pub record PlaysWell (w : Wiring) (s : State) (notes : Notes) : Type 0 where

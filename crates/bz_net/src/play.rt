@@ -1,6 +1,6 @@
 //! A net that keeps no journal: the entries of its events go to whoever plays it.
 
-ghost use Rattle.std.specs.Prelude.{◌≡◌, ◌⊎◌, ◌-◌, ◌≤◌, ◌<◌, ℕ, min, suc, length, [], ◌∷◌, ◌++◌, None, false, true, vec_len, vec_capacity, IfOk, IfErr, IfSome, IfNone, IsTrue, OnErr, List};
+ghost use Rattle.std.specs.Prelude.{◌≡◌, ◌⊎◌, ◌≤◌, ◌<◌, ℕ, suc, length, [], ◌∷◌, ◌++◌, None, false, true, IfOk, IfErr, IfSome, IfNone, IsTrue, OnErr, List};
 ghost use Rattle.std.specs.List.Sorted.{IsStrictlyIncreasing};
 ghost use Rattle.bz_model.specs.declared.event.Entry.{Entry};
 ghost use Rattle.bz_model.specs.declared.event.Reply.{Reply};
@@ -11,12 +11,12 @@ ghost use Rattle.bz_model.specs.Runs.{Rest};
 ghost use Rattle.bz_flat.specs.Wires.{WellWired};
 ghost use Rattle.bz_net.specs.Due.{GivesAsSteps, HasStep, LeadsOnlyTo};
 ghost use Rattle.bz_net.specs.Foretelling.{IsForetold};
-ghost use Rattle.bz_net.specs.Progress.{Enters, EntersRest, FiresAt, IsOneOf, IsToldBy, LeadsOn, RefusesAt, RunsInto, with_journal};
+ghost use Rattle.bz_net.specs.Progress.{Enters, EntersRest, FiresAt, IsOneOf, IsToldBy, LeadsOn, RefusesAt, with_journal};
 ghost use Rattle.bz_net.specs.Replies.{IsPicked, RefusesCommand, RefusesEntry, Replies};
 ghost use Rattle.bz_net.specs.Told.{MayMove};
 
 use crate::core_net::Core;
-use crate::event::{Piece, RestReply, RunEnd};
+use crate::event::RestReply;
 use crate::foretelling::Foretold;
 use crate::moves::refusal_of;
 use crate::noted::Noted;
@@ -201,58 +201,9 @@ impl Play {
         })
     }
 
-    /// Fires one component after another, each the next from the number after the last, and puts the entries into a buffer:
-    /// `fuel` firings, or as many as the buffer has room for, or until none can move or no more entry is let in.
-    pub fn run_into(&mut self, who: Who, from: u32, fuel: u64, buffer: &mut Vec<Entry>) -> Piece
-        ensures runs { RunsInto self.old self.new buffer.old.items buffer.new.items who from
-            (min fuel (vec_capacity buffer.old - vec_len buffer.old)) result }
-        ensures room { vec_capacity buffer.old ≤ vec_capacity buffer.new }
-    {
-        let room = buffer.capacity() - buffer.len();
-        let due = fuel.min(room as u64);
-        let mut next = from;
-        for fired in 0..due {
-            let Some(entry) = self.step(who, next) else {
-                let end = RunEnd::Refused(fired, NetError::JournalFull);
-                return Piece { end, next };
-            };
-            buffer.push(entry).unwrap();
-            match entry {
-                Entry::Fired { comp, .. } => {
-                    // A read of the net brings its bound on component numbers, so the sum fits.
-                    let _ = &self.left;
-                    next = comp + 1;
-                }
-                _ => {
-                    let end = RunEnd::Rest(fired);
-                    return Piece { end, next };
-                }
-            }
-        }
-        let end = RunEnd::Spent(due);
-        Piece { end, next }
-    }
-
-    /// Fires the next component from this number on at its lowest port, or finds that none can move. `None` where no more
-    /// entry is let in. What `run_into` does many times.
-    #[inline(always)]
-    pub fn step(&mut self, who: Who, from: u32) -> Option<Entry>
-        ensures picked { IfSome result (IsPicked (with_journal self.old []) who from) }
-        ensures enters { IfSome result (λ entry. Enters self.old entry self.new) }
-        ensures full { IfNone result ((self.new ≡ self.old) × (self.old.left ≡ 0)) }
-        // So the next search can begin at the number after that of the component.
-        ensures within { IfSome result (IsOneOf (length self.old.wiring.sites)) }
-    {
-        if self.left == 0 {
-            return None;
-        }
-        let last = self.core.last_before(from);
-        Some(self.step_after(who, last, &mut 0))
-    }
-
-    /// The same from the number after this one, which is that of a component or 0, where one more entry is let in. It is as wide as
-    /// a place in a row, so that it need not be widened at each move. `room` is for the value that a move carries: who makes many
-    /// moves has one room for all.
+    /// Fires the next component behind this number, which is that of a component or 0, at its lowest port, or finds that none can
+    /// move; one more entry is let in. The number is as wide as a place in a row, so that it need not be widened at each move. `room`
+    /// is for the value that a move carries: who makes many moves has one room for all.
     #[inline(always)]
     pub fn step_after(&mut self, who: Who, last: usize, room: &mut Value) -> Entry
         requires place { 0 < self.old.left }

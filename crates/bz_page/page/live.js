@@ -1,12 +1,13 @@
 // ---- live: the engine, on a thread of its own where the browser gives one to a file ----------------------------------
 
-// What is open. `steps` are the commands that stand, each with how many lines the trace had before it; `undone` how many of them
-// each `undo` took back, the last `undo` last; `log` all lines that the session was told and that moved something, or
-// changed what later ones do or are answered. `moves` is what can come next, `circle` who waits in one, and `links` the channels
-// between those.
+// What is open. `replaced` is what was open before, and `putBack` what was open when `undo` brought that back, each with what
+// was played on it, the last one last. `steps` are the commands that stand, each with how many lines the trace had before it;
+// `undone` how many of them each `undo` took back, the last `undo` last; `log` all lines that the session was told and that moved
+// something, or changed what later ones do or are answered. `moves` is what can come next, `circle` who waits in one, and `links`
+// the channels between those.
 const live = {worker: null, waiting: new Map(), calls: 0, bytes: null, how: {}, name: '', netlist: null, part: '', isOpen: false,
   isBusy: false, isStopped: false, end: 1, steps: [], undone: [], log: [], moves: [], circle: new Set(), links: new Set(),
-  values: new Map(), sources: new Map(), times: {}};
+  values: new Map(), sources: new Map(), times: {}, replaced: [], putBack: []};
 
 // The module that the page carries.
 async function moduleBytes() {
@@ -65,7 +66,7 @@ async function stop() {
 
 // Plays in a new session what stands, where the last one has ended.
 async function playAgain() {
-  await openSession();
+  await openSession(live.netlist, live.part);
   if (live.log.length) await ask('say', {lines: saidLines(live.log)});
 }
 
@@ -99,8 +100,8 @@ const WRITTEN = {trace: TRACE, session: 'played.session', page: 'played.html'};
 const call = (words, netlist, files = {}) => ask('call', {words, files: {[NETLIST]: netlist, ...files}});
 const ofPart = part => ['--part-form', part, '-n', NETLIST];
 
-// Opens a session on what is open.
-const openSession = () => ask('open', {words: ['explore', ...ofPart(live.part)], files: {[NETLIST]: live.netlist},
+// Opens a session on a part of a netlist.
+const openSession = (netlist, part) => ask('open', {words: ['explore', ...ofPart(part)], files: {[NETLIST]: netlist},
   isReplayed: live.how.isReplayed});
 
 // Lines as the session takes them: those that move something, or change what later ones do or are answered, are played before

@@ -15,8 +15,8 @@ function say(text, isBad = /^error: /m.test(text)) {
 // When all else is shown: what can come next, or, at an earlier line, how to go on from there.
 function showNext() {
   if (!live.isOpen) return;
-  $('undo').disabled = live.steps.length === 0;
-  $('redo').disabled = live.undone.length === 0;
+  $('undo').disabled = !canUndo();
+  $('redo').disabled = !canRedo();
   $('next').classList.toggle('past', !isNow());
   $('moves').replaceChildren(...(isNow() ? rowsOfMoves() : rowsOfPast()));
   markNext();

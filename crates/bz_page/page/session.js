@@ -1,15 +1,14 @@
 // ---- live: a netlist, and what is played on its net -------------------------------------------------------------------
 
 // Opens a netlist, or says why it is refused: of several parts the one that is named, or the first that no other uses.
-async function openNetlist(name, netlist, part = null) {
+async function openNetlist(name, netlist, part = null, sources = new Map()) {
   const told = await call(['parts', '-n', NETLIST], netlist);
   if (told.status !== 0) return refuse(name, netlist, told);
   const parts = told.output.split('\n').filter(line => line.startsWith('part ')).map(line => line.split(' '));
   if (parts.length === 0) return refuse(name, netlist, {errors: 'it has no part'});
   const isTop = words => words[4] === 'top', named = parts.find(words => words[1] === part);
   const [, chosen] = named || parts.find(isTop) || parts[0];
-  live.sources = new Map();
-  if (!await openPart(name, netlist, chosen)) return false;
+  if (!await openPart(name, netlist, chosen, sources)) return false;
   const optionOf = words => new Option(words[1] + (isTop(words) ? '' : ' (used by others)'), words[1]);
   $('parts').replaceChildren(...parts.map(optionOf));
   $('parts').value = chosen;
@@ -17,13 +16,18 @@ async function openNetlist(name, netlist, part = null) {
   return true;
 }
 
-// Opens the net of a part at its opening. What the page shows of a net stands in a page that the program makes.
-async function openPart(name, netlist, part) {
+// Opens the net of a part at its opening. What the page shows of a net stands in a page that the program makes. Where it is
+// refused all stays as it was.
+async function openPart(name, netlist, part, sources = live.sources) {
   const made = await call(['page', ...ofPart(part), '--trace', TRACE, '--explain'], netlist, {[TRACE]: 'trace 2\n'});
   if (made.status !== 0) return refuse(name, netlist, made);
-  Object.assign(live, {name, netlist, part, isOpen: false, steps: [], undone: [], log: [], values: new Map()});
-  const told = await openSession();
-  if (told.status !== null) return refuse(name, netlist, told);
+  const told = await openSession(netlist, part);
+  if (told.status !== null) {
+    if (live.isOpen) await playAgain();
+    return refuse(name, netlist, told);
+  }
+  noteReplaced(netlist);
+  Object.assign(live, {name, netlist, part, sources, steps: [], undone: [], log: [], values: new Map()});
   load(blockIn(made.output, 'net'), blockIn(made.output, 'rows'), 'trace 2\n');
   net.sources = live.sources;
   live.isOpen = true;
@@ -35,6 +39,30 @@ async function openPart(name, netlist, part) {
   await sayLines([]);
   redraw();
   return true;
+}
+
+// What is open, with what was played on it. So much of what was open before can be had back.
+const standing = () => {
+  const {name, netlist, part, sources, log, undone} = live;
+  return {name, netlist, part, sources, log, undone};
+};
+const MOST_REPLACED = 8;
+
+// Notes what is open, as this netlist comes in its place, where something was played on it or it is another one.
+function noteReplaced(netlist) {
+  if (live.isOpen && (live.log.length || live.netlist !== netlist))
+    live.replaced = [...live.replaced, {...standing(), undone: []}].slice(-MOST_REPLACED);
+  live.putBack = [];
+}
+
+// Opens what is last in one of these lists, as it was, and puts what is open into the other.
+async function exchange(from, to) {
+  const it = live[from][live[from].length - 1], lists = {[from]: live[from].slice(0, -1), [to]: [...live[to], standing()]};
+  if (!await openNetlist(it.name, it.netlist, it.part, it.sources)) return;
+  await sayLines(it.log);
+  Object.assign(live, lists, {undone: it.undone});
+  say(`${it.name}: as it was, with ${counted(live.steps.length, 'command')}`);
+  show();
 }
 
 // Shows why a netlist is refused: all that `lint` finds, or else what the program said.
@@ -124,8 +152,9 @@ function noteStep(line, end) {
   if (end <= live.end) return;
   live.steps.push({line, before: live.end});
   live.end = end;
-  live.undone = [];
+  forgetUndone();
 }
+const forgetUndone = () => Object.assign(live, {undone: [], putBack: []});
 
 function noteUndo(count) {
   const gone = live.steps.splice(live.steps.length - count);
@@ -136,9 +165,9 @@ function noteUndo(count) {
 
 // `redone: run (12 lines)`
 function noteRedo(output) {
-  const undone = live.undone.slice(0, -1);
+  const undone = live.undone.slice(0, -1), {putBack} = live;
   for (const [, line, count] of output.matchAll(/^redone: (.*) \((\d+) lines?\)$/gm)) noteStep(line, live.end + Number(count));
-  live.undone = undone;
+  Object.assign(live, {undone, putBack});
 }
 
 // The clash lines of the trace, by the numbers that `state` writes.
@@ -220,18 +249,23 @@ const make = line => live.isOpen && busily(async () => {
   const wanted = /^\s*(trace|page|session)!?\s+(\S+)\s*$/.exec(line);
   if (/^\s*(quit|exit|q)\s*$/.test(line)) return say('error: this page has no end: close it, or open another netlist');
   if (/^\s*redo\s*$/.test(line)) return makeAgain(lastUndone());
+  if (/^\s*undo\s*$/.test(line) && live.steps.length === 0 && live.replaced.length > 0) return exchange('replaced', 'putBack');
   if (wanted) return saveWritten(wanted[1], wanted[2]);
   const [told] = await sayLines([line]);
   say(told);
   return show();
 });
-const undo = () => live.steps.length > 0 && make('undo');
-const redo = () => live.undone.length > 0 && busily(() => makeAgain(1));
+// (at the opening of a net `undo` brings back what was open before, and `redo` this net)
+const canUndo = () => live.steps.length + live.replaced.length > 0;
+const canRedo = () => live.undone.length + live.putBack.length > 0;
+const undo = () => canUndo() && make('undo');
+const redo = () => canRedo() && busily(() => makeAgain(Math.min(1, lastUndone())));
 const lastUndone = () => live.undone[live.undone.length - 1] || 0;
 
 // Makes the first so many commands of the last `undo` again; what else was undone stays so. (The session's `redo` makes all of
 // them, as they were. A `run` that is said again could give what a host has got since.)
 async function makeAgain(count) {
+  if (count === 0 && live.putBack.length > 0) return exchange('putBack', 'replaced');
   if (count === 0) return say('error: there is nothing to redo');
   const rest = lastUndone() - count, [told] = await sayLines(rest ? ['redo', `undo ${rest}`] : ['redo']);
   say(told.split('\n').slice(0, count).join('\n'));
@@ -249,7 +283,7 @@ const goOnFrom = line => busily(async () => {
   const isParted = before < line && !hasHosts;
   if (isParted) lines.push(`${cut.trim().startsWith('random') ? 'random' : 'run'} ${line - before}`);
   await sayLines(lines);
-  live.undone = [];
+  forgetUndone();
   const why = live.end < line ? ' A run with words of hosts in it is taken back as a whole.' : '';
   say(`This is line ${live.end} again.${why}`);
   show();
@@ -292,9 +326,23 @@ async function checkTrace(name, bytes) {
   return say([verdict, ...faults.slice(0, 3)].join('\n'), faults.length > 0);
 }
 
+// The commands of a session, each with the number of its line.
+const commandsIn = text => text.split('\n').map((line, i) => ({line: line.replace(/#.*/, '').trim(), number: i + 1}))
+  .filter(({line}) => line);
+
+// Why a text is no session: each of its first lines has to begin with a command of the program. Null where it is one.
+const MOST_LOOKED_AT = 20;
+async function whyNoSession(text) {
+  const first = commandsIn(text).slice(0, MOST_LOOKED_AT), words = first.map(({line}) => /^(?:[^\s:!]{1,60}|.)/.exec(line)[0]);
+  if (first.length === 0) return 'it is empty';
+  const {answers} = await sayPlainly(words.map(word => `help ${word}`));
+  const at = answers.findIndex(({output}) => /^error: /.test(output));
+  return at < 0 ? null : `line ${first[at].number} begins with \`${words[at].replace(/[^ -~]/g, '?')}\`, which is no command`;
+}
+
 async function playSession(name, text) {
-  const lines = text.split('\n').map(line => line.replace(/#.*/, '').trim());
-  const played = lines.filter(line => line && !/^(quit|exit|q|(trace|page|session)\b.*)$/.test(line));
+  const lines = commandsIn(text).map(it => it.line);
+  const played = lines.filter(line => !/^(quit|exit|q|(trace|page|session)\b.*)$/.test(line));
   const faults = await playAll(played);
   say([`${name}: ${counted(played.length, 'line')} played`, ...faults.slice(0, 3)].join('\n'), faults.length > 0);
 }
@@ -308,16 +356,22 @@ function takeSource(name, text) {
   if (view.panel === 'source') showSource(); else setPanel('source');
 }
 
-// What was dropped, chosen, pasted or carried: a netlist, or a trace, a session or a source of the netlist that is open.
+// What was dropped, chosen, pasted or carried: a netlist, or a trace, a session or a source of the netlist that is open. What is
+// none of these is refused, and all stays.
 const take = (name, bytes) => busily(async () => {
-  const text = lettersOf(bytes);
-  if (/^trace [12]\n/.test(text)) return live.isOpen ? checkTrace(name, bytes) : refuseAlone(name, 'a trace');
-  if (text.includes('(breeze-part') || !live.isOpen) return openNetlist(name, bytes);
+  const text = lettersOf(bytes), isTrace = /^trace \d+\r?\n/.test(text);
+  if (isTrace && !live.isOpen) return refuseFile(name, 'is a trace: open its netlist first');
+  if (!isTrace && text.includes('(breeze-part') || !live.isOpen) return openNetlist(name, bytes);
+  document.body.classList.add('living');
+  if (isTrace) return checkTrace(name, bytes);
   if (isSource(name)) return takeSource(name, text);
-  return playSession(name, text);
+  const why = await whyNoSession(text);
+  return why ? refuseFile(name, `was taken for a session, and ${why}. Nothing is changed.`) : playSession(name, text);
 });
 
-function refuseAlone(name, what) {
-  $('refusal').textContent = `${name} is ${what}: open its netlist first`;
+// Says why a file isn't taken, where the reader looks.
+function refuseFile(name, why) {
+  if (document.body.classList.contains('living')) return say(`${name} ${why}`, true);
+  $('refusal').textContent = `${name} ${why}`;
   $('refusal').hidden = false;
 }

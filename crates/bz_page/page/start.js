@@ -32,10 +32,15 @@ const SAVED = {
   netlist: () => save(live.name, live.netlist),
 };
 
+// The program reads so many bytes of a file at most.
+const MOST_BYTES = 67108864;
+
 // Takes files, one after another: netlists before what is played on them.
 async function takeFiles(files) {
-  const readOf = async file => ({name: file.name, bytes: new Uint8Array(await file.arrayBuffer())});
-  const read = await Promise.all([...files].map(readOf));
+  const readOf = async file => ({name: file.name, bytes: new Uint8Array(await file.arrayBuffer())}), given = [...files];
+  for (const {name, size} of given)
+    if (size > MOST_BYTES) refuseFile(name, `has ${size} bytes, and at most ${MOST_BYTES} are read. Nothing is changed.`);
+  const read = await Promise.all(given.filter(({size}) => size <= MOST_BYTES).map(readOf));
   const isNetlist = ({bytes}) => lettersOf(bytes).includes('(breeze-part');
   for (const {name, bytes} of [...read.filter(isNetlist), ...read.filter(it => !isNetlist(it))]) await take(name, bytes);
 }

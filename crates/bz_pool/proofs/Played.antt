@@ -11,16 +11,16 @@ use Rattle.bz_model.specs.declared.event.Who.TheVariants.{Host}
 use Rattle.bz_locked.specs.Closing.{RecordAgrees, StandsSo}
 use Rattle.bz_locked.specs.Journal.{part_of}
 use Rattle.bz_locked.specs.Parts.{SessionView, WorkerView}
-use Rattle.bz_session.specs.declared.playing.End.{End}
+use Rattle.bz_pool.specs.declared.playing.End.{End}
 use Rattle.bz_past.specs.Moments.{Leads}
 use Rattle.bz_past.specs.Owners.{AreNamed}
 use Rattle.bz_past.specs.Standings.{turned_by}
 use Rattle.bz_past.specs.Stopping.{HasCause, IsStoppedFor}
 use Rattle.bz_past.specs.declared.view.Moment.{Moment}
 use Rattle.bz_locked.proofs.Seeing.{once_on}
-use Rattle.bz_session.specs.declared.playing.End.TheVariants as end
+use Rattle.bz_pool.specs.declared.playing.End.TheVariants as end
 use Rattle.bz_words.specs.declared.words.SessionError.TheVariants as session
-use Rattle.bz_session.proofs.Turns.{played_on}
+use Rattle.bz_pool.proofs.Growing.{played_on}
 use Rattle.std.proofs.lemmas.List.Elements.{All-append, All-nil, All-cons, All-head, All-tail, All-same}
 use Rattle.bz_pool.specs.Crews.{AddsWork, EachPlayed, EachWorked, HavePlayed}
 use Rattle.bz_pool.specs.Pooled.{ArePlayed, IsPlayed, PlayInTurn, StopsFor, WorkEndIs, in_turn}

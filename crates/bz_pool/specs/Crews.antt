@@ -4,7 +4,7 @@ use Rattle.std.specs.declared.alloc.Global.{Global}
 use Rattle.std.specs.declared.vec.Vec.{Vec}
 use Rattle.bz_model.specs.declared.event.HostCmd.{HostCmd}
 use Rattle.bz_locked.specs.Parts.{SessionView, WorkerView}
-use Rattle.bz_session.specs.declared.playing.End.{End}
+use Rattle.bz_pool.specs.declared.playing.End.{End}
 use Rattle.bz_pool.specs.Pooled.{IsPlayed, WorkEndIs}
 use Rattle.bz_locked.specs.Terms.{Terms}
 

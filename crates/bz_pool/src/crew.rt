@@ -6,10 +6,10 @@ ghost use Rattle.std.specs.Vec.{vec_capacity};
 ghost use Rattle.bz_pool.specs.Crews.{AddsWork, EachPlayed};
 ghost use Rattle.bz_pool.specs.Pooled.{IsPlayed, WorkEndIs};
 
+use crate::playing::{End, play};
 use crate::work::{Gate, Job};
 use bz_locked::{NetLedger, Session, SharedNet, Worker};
 use bz_model::{HostCmd, Who};
-use bz_session::{End, play};
 use std::alloc::{AllocError, Global};
 use std::snapshot::Snapshot;
 use std::sync::Wait;

@@ -12,12 +12,12 @@ ghost use Rattle.bz_pool.specs.Crews.{HavePlayed};
 ghost use Rattle.bz_pool.specs.Pooled.{ArePlayed, IsPooled, RefusesPool, hosts, hands};
 
 use crate::crew::{PlayOf, WorkOf, join_sessions, join_workers, start_session, start_worker};
+use crate::playing::End;
 use crate::raids::{all_raids, decks};
 use crate::work::{Gate, Job};
 use bz_locked::{CloseError, Closed, Keeper, NetLedger, Past, Session, SharedNet, Stopper, Worker};
 use bz_model::HostCmd;
 use bz_net::Net;
-use bz_session::End;
 use std::alloc::{AllocError, Global};
 use std::marker::Brand;
 use std::sync::Wait;

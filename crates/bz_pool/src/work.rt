@@ -3,12 +3,13 @@
 ghost use Rattle.std.specs.Prelude.{◌≡◌, ◌≢◌, IfErr, IfOk, OnOk};
 ghost use Rattle.bz_pool.specs.Pooled.{EventWasRefused, FireWasRefused, RestWasRefused, WorkEndIs};
 
+use crate::playing::End;
 use crate::raids::Raid;
 use bz_locked::{FireError, NetLedger, SharedNet, Work, Worker};
 use bz_model::{NetError, Who};
 use bz_net::RestReply;
 use bz_pool_hints::HintOwner;
-use bz_session::{End, SessionError};
+use bz_words::SessionError;
 use std::sync::Wait;
 use std::sync::ledger::Ledger;
 

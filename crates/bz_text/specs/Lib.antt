@@ -1,5 +1,6 @@
 pub mod Writing
 pub mod Growing
-pub mod Pieces
 pub mod Json
+pub mod FileNames
+pub mod Pieces
 pub mod Saying

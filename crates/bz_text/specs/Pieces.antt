@@ -3,6 +3,8 @@ use Rattle.std.specs.Prelude.{ℕ, List, [], ◌∷◌, ◌++◌, codes, decimal
 use Rattle.std.specs.List.{flat_map}
 use Rattle.bz_model.specs.Traces.{value_text, name_form}
 use Rattle.bz_model.specs.Words.{carried_text, spaced}
+use Rattle.bz_text.specs.FileNames.{file_text}
+use Rattle.bz_text.specs.Json.{json_text}
 use Rattle.bz_text.specs.declared.pieces.Atom.{Atom}
 use Rattle.bz_text.specs.declared.pieces.Atom.TheVariants as atom
 use Rattle.bz_text.specs.declared.pieces.Piece.{Piece}
@@ -53,3 +55,5 @@ piece_text (piece.Steps path) = flat_map stepped path.now
 piece_text (piece.At part position line path) = place_text part.now position line path.now
 piece_text (piece.Called name) = codes " name " ++ name_form name.now
 piece_text (piece.From file line column) = codes " from " ++ source_text file.now line column
+piece_text (piece.File name) = file_text name.now
+piece_text (piece.Json text) = json_text text.now

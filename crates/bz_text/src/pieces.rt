@@ -7,6 +7,8 @@ ghost use Rattle.bz_model.specs.Words.{carried_text, spaced};
 ghost use Rattle.bz_text.specs.Pieces.{atom_text, in_text, path_text, piece_text, place_text, record_text, slashed, stepped};
 ghost use Rattle.bz_text.specs.Writing.{Writes};
 
+use crate::file_name::put_file_name;
+use crate::json::put_json;
 use crate::name_form::put_name;
 use crate::output::{WriteFault, put};
 use bz_model::{Chan, ChanKind, Value};
@@ -36,6 +38,10 @@ pub enum Piece<'a> {
     Called(&'a [u8]),
     /// What it comes from: a file, a line and a column.
     From(&'a [u8], u32, u32),
+    /// The name of a file: a control character is a question mark.
+    File(&'a [u8]),
+    /// A string of JSON, in its quotes.
+    Json(&'a [u8]),
 }
 
 // What pieces are made of.
@@ -90,6 +96,8 @@ fn put_piece<W: Write>(out: &mut W, piece: &Piece<'_>) -> Result<(), WriteFault>
                 Atom::Number(Value::from(*column)),
             ],
         ),
+        Piece::File(name) => put_file_name(out, name),
+        Piece::Json(text) => put_json(out, text),
     }
 }
 

@@ -2,7 +2,9 @@
 
 ghost use Rattle.std.specs.Prelude.{◌≡◌, ⊤, ℕ, Bool, false, List, None, Some, [], IfErr, IfOk, IsTrue};
 ghost use Rattle.std.specs.List.{AllPass, flat_map};
+ghost use Rattle.std.specs.Str.Lossy.{utf8_lossy};
 ghost use Rattle.bz_text.specs.Growing.{Grows, GrowsBy};
+ghost use Rattle.bz_text.specs.Json.{json_text};
 ghost use Rattle.bz_text.specs.Pieces.{piece_text};
 ghost use Rattle.bz_text.specs.Saying.{Says, blanks_to, count_text, width};
 
@@ -99,6 +101,16 @@ impl Text {
         ensures { Grows self.old self.new words.now }
     {
         self.put_bytes(words.as_bytes());
+    }
+
+    /// Adds a string of JSON, in its quotes. What is no UTF-8 is U+FFFD there.
+    pub fn put_json(&mut self, bytes: &[u8])
+        ensures { Grows self.old self.new (json_text (utf8_lossy bytes.now)) }
+    {
+        match String::from_utf8_lossy(self.alloc, bytes) {
+            Ok(text) => self.put_pieces(&[Piece::Json(text.as_bytes())]),
+            Err(_) => self.lose(),
+        }
     }
 
     /// Adds a form in which each `%` stands for the next of these.

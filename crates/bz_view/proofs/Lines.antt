@@ -10,7 +10,7 @@ use Rattle.bz_text.specs.Growing.{Grows, GrowsBy}
 use Rattle.bz_text.specs.Pieces.{piece_text}
 use Rattle.bz_text.specs.Saying.{blanks_to, width}
 use Rattle.bz_text.specs.declared.pieces.Piece.{Piece}
-use Rattle.bz_text.specs.declared.pieces.Piece.TheVariants.{Bytes, Number, Value, Name, Carried, Port, Spaced, Path, Steps, At, Called, From}
+use Rattle.bz_text.specs.declared.pieces.Piece.TheVariants.{Bytes, Number, Value, Name, Carried, Port, Spaced, Path, Steps, At, Called, From, File, Json}
 use Rattle.bz_text.proofs.NameLaws.{HasForm, by_number, has_form, hex_from, itself}
 use Rattle.bz_text.proofs.Said.{grows_nothing, grows_then}
 use Rattle.bz_view.specs.Lines.{AreBlanks, InLine, InTurn, IsLine, stays_in_line}
@@ -82,6 +82,8 @@ piece_clear (Steps path) e = absurd cc
 piece_clear (At part position line path) e = absurd cc
 piece_clear (Called name) e = absurd cc
 piece_clear (From file line column) e = absurd cc
+piece_clear (File name) e = absurd cc
+piece_clear (Json text) e = absurd cc
 
 pub pieces_clear : (ps : List Piece) → list_all stays_in_line ps ≡ true → InLine (flat_map piece_text ps)
 pieces_clear [] e = refl

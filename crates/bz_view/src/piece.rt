@@ -29,6 +29,8 @@ pub struct Spot {
 pub enum Piece<'a> {
     Text(&'a str),
     Bytes(&'a [u8]),
+    /// The name of a file: a control character is a question mark.
+    File(&'a str),
     /// What was given: of more than 100 bytes the first 100, and two dots; a `?` for each byte that is not printable.
     Shown(&'a [u8]),
     /// A name in name form, shortened like that.
@@ -71,6 +73,7 @@ impl Put for Piece<'_> {
         match *self {
             Piece::Text(words) => text.put(words),
             Piece::Bytes(bytes) => text.put_bytes(bytes),
+            Piece::File(name) => text.put_pieces(&[Part::File(name.as_bytes())]),
             Piece::Shown(bytes) => put_shown(text, bytes),
             Piece::Name(name) => put_short(text, name),
             Piece::Typed(name) => put_typed(text, name),
@@ -105,6 +108,16 @@ impl Piece<'_> {
             Piece::Reply(reply) => write!(text, "{reply}"),
             _ => Ok(()),
         };
+    }
+}
+
+/// Adds a form as a string of JSON.
+pub fn say_json(text: &mut Text, form: &str, pieces: &[Piece<'_>]) {
+    let mut said = Text::new(text.alloc());
+    said.say(form, pieces);
+    match said.whole() {
+        Ok(said) => text.put_json(said),
+        Err(_) => text.lose(),
     }
 }
 

@@ -1,6 +1,6 @@
-use Rattle.std.proofs.Common.{◌≡◌, ◌++◌, ◌-◌, ◌∙◌, inl, inr, sym, ap, if◌then◌else◌, [], arith}
+use Rattle.std.proofs.Common.{◌++◌, ◌-◌, ◌∙◌, inl, inr, sym, ap, if◌then◌else◌, [], arith}
 use Rattle.bz_bench.specs.Streams.{begins, ends}
-use Rattle.bz_bench.proofs.Telling.{told_more, told_outside, told_undone}
+use Rattle.bz_bench.proofs.Telling.{told_more, told_outside}
 use Rattle.bz_bench.proofs.tally.note_word.Goals as goal
 
 pub returns-then-place-eq0-clause-told : goal.returns-then-place-eq0-clause-told

@@ -2,7 +2,7 @@ use Rattle.std.proofs.Common.{refl, sym, arith, ap, length, ◌∙◌}
 use Rattle.bz_cli_bench.specs.Verdicts.{IsStill}
 use Rattle.std.proofs.lemmas.List.{length-map}
 use Rattle.bz_model.specs.Names.{external}
-use Rattle.bz_cli_bench.proofs.Ports.{first_all, first_more}
+use Rattle.bz_bench.proofs.Each.{first_all, first_more}
 use Rattle.bz_cli_bench.proofs.judging.are_still.Goals as goal
 
 pub loop-place-preserved : goal.loop-place-preserved

@@ -1,5 +1,5 @@
 use Rattle.bz_cli_bench.specs.Verdicts.{IsStill}
-use Rattle.bz_cli_bench.proofs.Ports.{OfFirst}
+use Rattle.bz_bench.proofs.Each.{OfFirst}
 use Rattle.bz_cli_bench.proofs.judging.are_still.Given as goal
 
 abbrev pub invariant-loop-place : goal.invariant-loop-place

@@ -1,10 +1,10 @@
-use Rattle.std.proofs.Common.{Option, List, ℕ, sym, subst, ◌∙◌, ap}
+use Rattle.std.proofs.Common.{sym, ◌∙◌, ap}
 use Rattle.bz_model.specs.Names.{channel}
 use Rattle.bz_cli_bench.proofs.Ports.{differs_is, passed_is}
 use Rattle.bz_cli_bench.proofs.judging.difference_at.Goals as goal
 
 pub returns : goal.returns
-returns c =
+returns c = λ spins.
     let n = c.args.net.now in
     let stream = c.in_ok-stream.stream.now in let tally = c.in_ok-tally.tally.now in
     let told = c.requires c.args.port tally (sym c.in_ok-tally.ensures) in

@@ -1,21 +1,17 @@
-use Rattle.std.proofs.Common.{◌≡◌, ◌<◌, length, min, sym, ap, ◌∙◌, inl, inr, arith}
+use Rattle.std.proofs.Common.{◌≡◌, ◌∙◌, Bool, true, false, not, IsTrue, length, refl, sym}
+use Rattle.bz_bench.specs.Dues.{is_done}
 use Rattle.bz_bench.specs.Streams.{begun, ended}
 use Rattle.bz_cli_bench.proofs.judging.is_short_at.Goals as goal
 
-pub returns-then-len-upto : goal.returns-then-len-upto
-returns-then-len-upto c = λ yes.
-    let n = c.args.net.now in
-    let tally = c.in-Some-Some.tally.now in
-    let told = c.requires c.args.port tally (sym c.in-Some-Some.ensures') in
-    let count = ap length told.begun_is in
-    let own = c.len.ensures in let less = c.if-len-upto.true in let upto = c.upto-upto.ensures in
-    (c.args.port, c.in-Some-Some.stream.now, sym c.in-Some-Some.ensures, inl (grind (arith, count, own, less, upto)))
+is_none : (b : Bool) → IsTrue (not b) → b ≡ false
+is_none true e = cc
+is_none false e = refl
 
-pub returns-then-len-min : goal.returns-then-len-min
-returns-then-len-min c = λ yes.
+pub returns : goal.returns
+returns c = λ yes.
     let n = c.args.net.now in
-    let tally = c.in-Some-Some.tally.now in
+    let stream = c.in-Some-Some.stream.now in let tally = c.in-Some-Some.tally.now in
     let told = c.requires c.args.port tally (sym c.in-Some-Some.ensures') in
-    let count = ap length told.ended_is in
-    let own = c.len-2.ensures in let less = c.if-len-min.true in let upto = c.upto-upto.ensures in let least = c.min.ensures in let to = c.to_end.ensures in
-    (c.args.port, c.in-Some-Some.stream.now, sym c.in-Some-Some.ensures, inr (grind (arith, count, own, less, upto, least, to)))
+    let same : is_done stream c.args.group (length tally.begun.items) (length tally.ended.items) ≡ is_done stream c.args.group (length (begun c.args.port n.journal)) (length (ended c.args.port n.journal))
+    = λ i. is_done stream c.args.group (length (told.begun_is i)) (length (told.ended_is i)) in
+    (c.args.port, stream, sym c.in-Some-Some.ensures, sym same ∙ sym c.is_done.ensures ∙ is_none c.is_done.result yes)

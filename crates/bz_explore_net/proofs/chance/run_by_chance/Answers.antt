@@ -14,4 +14,5 @@ loop-made-preserved c =
     record {
       plays = picks_more c.args.net.now l.net c.pick_move.new.net c.args.who a.field-0-0 l.made c.args.picker.now.state g h a.field-0-1 a.field-0-2 a.field-0-3 a.field-0-4 a.field-0-5 l.invariant.plays picked adds;
       seed = c.pick_move.ensures.seed ∙ l.invariant.seed;
+      movers = c.pick_move.ensures.movers;
     }

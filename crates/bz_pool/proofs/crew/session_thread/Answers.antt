@@ -4,7 +4,7 @@ use Rattle.bz_model.specs.declared.event.Who.{Who}
 use Rattle.bz_past.specs.Standings.{turned_by}
 use Rattle.bz_past.specs.declared.standing.Standing.TheVariants.{Ended}
 use Rattle.bz_past.specs.declared.standing.Turn.{Turn}
-use Rattle.bz_session.specs.Playing.{Played}
+use Rattle.bz_pool.specs.Playing.{Played}
 use Rattle.bz_pool.specs.Pooled.{HasStood}
 use Rattle.bz_pool.proofs.crew.session_thread.Goals as goal
 

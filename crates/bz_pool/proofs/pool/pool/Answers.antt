@@ -11,7 +11,7 @@ use Rattle.bz_past.specs.Stopping.{HasCause}
 use Rattle.bz_past.specs.declared.standing.Turn.{Turn}
 use Rattle.bz_past.specs.declared.view.Moment.{Moment}
 use Rattle.bz_locked.specs.declared.closing.Closed.{Closed}
-use Rattle.bz_session.specs.declared.playing.End.{End}
+use Rattle.bz_pool.specs.declared.playing.End.{End}
 use Rattle.bz_pool.specs.Crews.{HavePlayed}
 use Rattle.bz_pool.specs.Pooled.{ArePlayed, IsPooled, RefusesPool}
 use Rattle.bz_pool.proofs.Played.{all_played, ends_count, of_never, of_ok, unused}

@@ -4,7 +4,7 @@ use Rattle.bz_model.specs.Hosts.{refusal_at}
 use Rattle.bz_model.specs.Nets.{Wiring}
 use Rattle.bz_net.specs.Progress.{Progress, Enters}
 use Rattle.bz_net.proofs.Clashing.{but_commanded}
-use Rattle.bz_net.proofs.Pieces.{enters_commanded, plays_commanded, progress}
+use Rattle.bz_net.proofs.Entering.{enters_commanded, plays_commanded, progress}
 use Rattle.bz_net.proofs.play.Play.command_at.Goals as goal
 
 pub command-reply-requires-clause-to : goal.command-reply-requires-clause-to

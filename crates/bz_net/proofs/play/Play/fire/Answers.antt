@@ -5,7 +5,7 @@ use Rattle.bz_kinds.specs.Riding.{held}
 use Rattle.bz_net.specs.Progress.{Progress, Enters}
 use Rattle.bz_net.specs.Told.{MayMove, MovesAt}
 use Rattle.bz_net.proofs.Clashing.{but_fired}
-use Rattle.bz_net.proofs.Pieces.{enters_fired, plays_fired, progress}
+use Rattle.bz_net.proofs.Entering.{enters_fired, plays_fired, progress}
 use Rattle.bz_net.proofs.play.Play.fire.Goals as goal
 
 pub fire-chan-requires : goal.fire-chan-requires

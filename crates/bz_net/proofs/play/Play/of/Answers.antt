@@ -1,6 +1,6 @@
 use Rattle.std.proofs.Common.{◌∙◌}
 use Rattle.bz_net.proofs.Clashing.{watches_opening}
-use Rattle.bz_net.proofs.Pieces.{told_opening}
+use Rattle.bz_net.proofs.Entering.{told_opening}
 use Rattle.bz_net.proofs.play.Play.of.Goals as goal
 
 pub returns-in-Ok-clause-told : goal.returns-in-Ok-clause-told

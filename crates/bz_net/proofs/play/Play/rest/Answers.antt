@@ -2,7 +2,7 @@ use Rattle.std.proofs.Common.{◌≡◌, ◌+◌, ◌-◌, subst, arith}
 use Rattle.bz_model.specs.declared.event.Entry.TheVariants.{Rested}
 use Rattle.bz_model.specs.Runs.{Rest}
 use Rattle.bz_net.specs.Progress.{Progress, Enters}
-use Rattle.bz_net.proofs.Pieces.{enters_rested, progress}
+use Rattle.bz_net.proofs.Entering.{enters_rested, progress}
 use Rattle.bz_net.proofs.play.Play.rest.Goals as goal
 
 pub returns-then-self-eq0-clause-resting : goal.returns-then-self-eq0-clause-resting

@@ -5,7 +5,7 @@ use Rattle.bz_model.specs.declared.event.Entry.TheVariants.{Fired, Host, Rested}
 use Rattle.bz_model.specs.Runs.{CanStep, IsLowest, IsNext, Rest}
 use Rattle.bz_net.specs.Progress.{Progress, Enters, with_journal}
 use Rattle.bz_net.specs.Replies.{IsFiring, IsPicked}
-use Rattle.bz_net.proofs.Pieces.{enters_rested, progress}
+use Rattle.bz_net.proofs.Entering.{enters_rested, progress}
 use Rattle.bz_net.proofs.play.Play.step_after.Goals as goal
 use Rattle.bz_net.proofs.play.Play.step_after.Goals.{in-Some, in-None+in-Some-next_past}
 

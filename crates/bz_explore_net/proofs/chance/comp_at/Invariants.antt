@@ -1,6 +1,0 @@
-use Rattle.bz_model.specs.Runs.{CanStep}
-use Rattle.bz_explore_net.specs.Picking.{IsPlace}
-use Rattle.bz_explore_net.proofs.chance.comp_at.Given as goal
-
-abbrev pub invariant-loop-before : goal.invariant-loop-before
-invariant-loop-before l = IsPlace (CanStep l.net.wiring.sites l.net.state) l.before l.comp
