@@ -1,54 +1,15 @@
-"""Netlists made at random, of components of all kinds. Requests of a host reach each component.
+"""Netlists made at random, of components of all kinds, which a program tells. Requests of a host reach each component.
 
 Of tests/hostile, tests/same-answers, tests/spoilt, and of bench/spin, which makes small ones.
 """
-import re
+import json
 from dataclasses import dataclass
 
-BINARY = "Add Subtract ReverseSubtract Equals NotEquals LessThan GreaterThan LessOrEquals GreaterOrEquals And Or Xor".split()
-UNARY = ["Negate", "Invert"]
 
-# Each kind with its single ports and its arrays, in brackets: p and a are a passive and an active end; then s, u and l: sync,
-# push and pull. What follows a colon names a width of widths_of; where nothing does, the width is the netlist's own.
-KINDS = [
-    ("Loop", "ps as", ""),
-    ("Sequence", "ps [as]", ""),
-    ("SequenceOptimised", "ps [as]", ""),
-    ("Concur", "ps [as]", ""),
-    ("Fork", "ps [as]", ""),
-    ("WireFork", "ps [as]", ""),
-    ("ForkPush", "pu [au]", ""),
-    ("While", "ps al:1 as", ""),
-    ("Case", "pu [as]", "CASE"),
-    ("CaseFetch", "pl al:other [al]", "CASE"),
-    ("Fetch", "ps al au", ""),
-    ("Variable", "pu [pl]", '8 1 "x" ""'),
-    ("FalseVariable", "pu as [pl]", '8 1 "x" ""'),
-    ("Constant", "pl", "8 VALUE"),
-    ("UnaryFunc", "pl al:other", '8 8 "UNARY" "SIGN"'),
-    ("BinaryFunc", "pl al:other al", '8 8 8 "BINARY" "SIGN" "SIGN" "SIGN"'),
-    ("BinaryFuncConstR", "pl al:other", '8 8 WIDTH VALUE "BINARY" "SIGN" "SIGN" "SIGN"'),
-    ("Slice", "pl:high al:both", "8 8 LOW"),
-    ("Combine", "pl:both al:low al:high", "8 4 4"),
-    ("CombineEqual", "pl:all [al:each]", "8 4 2"),
-    ("Split", "pu:both au:low au:high", "8 4 4"),
-    ("Adapt", "pl al:other", '8 8 "SIGN" "SIGN"'),
-    ("Call", "[ps] as", ""),
-    ("CallMux", "[pu] au", ""),
-    ("CallDemux", "[pl] al", ""),
-    ("Passivator", "[ps]", ""),
-    ("PassivatorPush", "[pl] pu", ""),
-    ("Synch", "[ps] as", ""),
-    ("SynchPull", "[pl] al", ""),
-    ("DecisionWait", "ps [ps] [as]", ""),
-    ("Arbiter", "ps ps as as", ""),
-    ("Bar", "pl:1 ps [al:1] [as]", ""),
-    ("Halt", "ps", ""),
-    ("HaltPush", "pu", ""),
-    ("Continue", "ps", ""),
-    ("ContinuePush", "pu", ""),
-]
-FORMS = {"s": "sync", "u": "push", "l": "pull"}
+def kinds_of(program):
+    """What a program tells of each kind, by its word."""
+    told = json.loads(program.run(["kinds", "--format", "json"]).output)["kinds"]
+    return {kind["name"].removeprefix("$Brz"): kind for kind in told}
 
 
 @dataclass(frozen=True)
@@ -74,39 +35,55 @@ def number(pick):
     return pick.choice(bounds) if pick.random() < 0.7 else pick.randrange(2**20)
 
 
-def widths_of(width, other, size):
-    """The widths of ports by their names, where arrays have so many members: two and all of an array add up."""
-    low, each = max(width // 2, 1), max(width // size, 1)
-    high = max(width - low, 1)
-    return {"": width, "1": 1, "other": other, "low": low, "high": high, "both": low + high, "each": each, "all": each * size}
+def cut(width, members):
+    """A width cut into widths, one for each of these numbers of members, in order; and all of them together."""
+    widths, left = [], width
+    for at, count in enumerate(members):
+        widths.append(max(left // (count * (len(members) - at)), 1))
+        left -= widths[-1] * count
+    return widths, sum(width * count for width, count in zip(widths, members))
+
+
+def widths_of(pick, kind, members, widths):
+    """The widths of ports by their names, as the rules of their kind ask; without one any of these."""
+    found = {port["name"]: pick.choice(widths) for port in kind["ports"]}
+    for rule in kind["widths"]:
+        if rule["rule"] in ("equal", "one"):
+            found |= dict.fromkeys(rule["ports"], widths[0] if rule["rule"] == "equal" else 1)
+        if rule["rule"] == "sum":
+            each, found[rule["port"]] = cut(widths[0], [members[name] for name in rule["of"]])
+            found |= dict(zip(rule["of"], each))
+        if rule["rule"] == "within":
+            (_, found[rule["port"]]), found[rule["in"]] = cut(widths[0], [1, 1])
+    return found
 
 
 class Netlist:
-    """A part `p` of components of any kind, each end joined to one that meets it or to a port. `kind` is that of the first
-    component, where one is named."""
+    """A part `p` of components of any of these kinds, each end joined to one that meets it or to a port. `kind` is that of the
+    first component, where one is named."""
 
-    def __init__(self, pick, scale=ANY, kind=None):
+    def __init__(self, pick, kinds, scale=ANY, kind=None):
         # the channels as (form, width); of each the components at its passive and active ends; and the components
         self.pick, self.scale, self.channels, self.ends, self.components = pick, scale, [], [], []
         width = pick.choice(scale.widths)
-        rows = [it for it in KINDS if it[0] == kind] or [pick.choice(KINDS)]
-        rows += [pick.choice(KINDS) for _ in range(pick.choice(scale.components) - 1)]
-        for row in rows:
-            self.add(width, *row)
+        words = [kind or pick.choice(list(kinds))]
+        words += [pick.choice(list(kinds)) for _ in range(pick.choice(scale.components) - 1)]
+        for word in words:
+            self.add(width, kinds[word])
         self.reach_all()
         self.close()
 
-    def add(self, width, kind, ports, parameters):
+    def add(self, width, kind):
         size, at = self.pick.choice(self.scale.members), len(self.components)
-        other = width if self.pick.random() < 0.5 else self.pick.choice(self.scale.widths)
-        widths = widths_of(width, other, size)
+        members = {port["name"]: size if port["array"] else 1 for port in kind["ports"]}
+        widths = widths_of(self.pick, kind, members, [width, self.pick.choice(self.scale.widths)])
         entries = []
-        for port in ports.split():
-            (sense, form), name = port.strip("[]").split(":")[0], port.strip("[]").partition(":")[2]
-            wanted = (form, 0 if form == "s" else widths[name])
-            numbers = [self.channel(at, sense, wanted) for _ in range(size if port.startswith("[") else 1)]
-            entries.append(numbers if port.startswith("[") else numbers[0])
-        self.components.append((kind, ports.split(), self.parameters(parameters, size, widths["low"]), entries))
+        for port in kind["ports"]:
+            wanted = (port["carries"], 0 if port["carries"] == "sync" else widths[port["name"]])
+            numbers = [self.channel(at, port["sense"], wanted) for _ in range(members[port["name"]])]
+            entries.append(numbers if port["array"] else numbers[0])
+        senses = [port["sense"] for port in kind["ports"]]
+        self.components.append((kind["name"], senses, self.parameters(kind, size, widths), entries))
 
     def channel(self, at, sense, wanted):
         """The number of a channel for this end of component `at`: one that lacks it, or a new one."""
@@ -124,48 +101,64 @@ class Netlist:
         found, before = set(), None
         while found != before:
             before = found
-            found = {ends["p"] for ends in self.ends if "p" in ends and ("a" not in ends or ends["a"] in before)}
+            reached = [ends for ends in self.ends if "active" not in ends or ends["active"] in before]
+            found = {ends["passive"] for ends in reached if "passive" in ends}
         return found
 
     def reach_all(self):
         """Gives each component that no request reaches a port of its own, in place of what it is joined to."""
-        for at, (kind, ports, parameters, entries) in enumerate(self.components):
+        for at, (name, senses, parameters, entries) in enumerate(self.components):
             if at not in self.reached():
-                left = next(n for n, ends in enumerate(self.ends) if ends.get("p") == at)
-                del self.ends[left]["p"]
+                left = next(n for n, ends in enumerate(self.ends) if ends.get("passive") == at)
+                del self.ends[left]["passive"]
                 self.channels.append(self.channels[left])
-                self.ends.append({"p": at})
+                self.ends.append({"passive": at})
                 number = {left: len(self.channels) - 1}
                 # (its active end may be on that channel too)
-                entries = [renumbered(it, number) if "p" in port[:2] else it for port, it in zip(ports, entries)]
-                self.components[at] = (kind, ports, parameters, entries)
+                entries = [renumbered(it, number) if sense == "passive" else it for sense, it in zip(senses, entries)]
+                self.components[at] = (name, senses, parameters, entries)
 
     def close(self):
         """Closes ends that would be ports where these are too many, those of the first component last."""
-        loose = [n for n, ends in enumerate(self.ends) if "p" not in ends]
+        loose = [n for n, ends in enumerate(self.ends) if "passive" not in ends]
         self.pick.shuffle(loose)
-        loose.sort(key=lambda n: self.ends[n]["a"] != 0)
+        loose.sort(key=lambda n: self.ends[n]["active"] != 0)
         while loose and sum(len(ends) == 1 for ends in self.ends) > self.scale.most_ports:
             found = loose.pop()
-            kinds = {"s": ["Continue"] * 3 + ["Halt"], "u": ["ContinuePush"] * 3 + ["HaltPush"], "l": ["Constant"]}
-            self.ends[found]["p"] = len(self.components)
-            kind = self.pick.choice(kinds[self.channels[found][0]])
-            self.components.append((kind, ["p"], f"8 {self.pick.randrange(16)}", [found]))
+            words = {"sync": ["Continue"] * 3 + ["Halt"], "push": ["ContinuePush"] * 3 + ["HaltPush"], "pull": ["Constant"]}
+            self.ends[found]["passive"] = len(self.components)
+            name = "$Brz" + self.pick.choice(words[self.channels[found][0]])
+            self.components.append((name, ["passive"], f"8 {self.pick.randrange(16)}", [found]))
 
-    def parameters(self, form, size, low):
+    def parameters(self, kind, size, widths):
+        """Parameters at the places that the kind tells, and others before these."""
+        told = {it["place"]: self.parameter(kind, it, size, widths) for it in kind["parameters"]}
+
+        def up_to_last(form, other):
+            last = max((int(place[1:]) for place in told if place[0] == form and place != "x-last"), default=0)
+            return [told[place] if place in told else other() for place in (f"{form}{at}" for at in range(1, last + 1))]
+
+        numbers, flags, texts = up_to_last("n", lambda: 8), up_to_last("t", self.flag), up_to_last("x", lambda: "x")
+        if "x-last" in told:
+            texts += ["x", told["x-last"]]
+        return " ".join([*map(str, numbers), *(f'"{it}"' for it in texts + flags)])
+
+    def parameter(self, kind, it, size, widths):
         pick = self.pick
-        sets = ";".join(pick.choice([f"{n}", f"{n}..{n + 2}", f"{n},9", f"{n + 1}", "300,7"]) for n in range(size))
-        words = {
-            "CASE": f'8 {size} "{sets}"',
-            "VALUE": str(number(pick) % 2**128),
-            "WIDTH": str(pick.choice([1, 2, 3, 8, 64, 128])),
-            "UNARY": pick.choice(UNARY),
-            "BINARY": pick.choice(BINARY),
-            "LOW": str(pick.randint(0, low)),
-        }
-        for word, meaning in words.items():
-            form = form.replace(word, meaning)
-        return re.sub("SIGN", lambda _: pick.choice(["true", "false"]), form)
+        room = next((widths[rule["in"]] - widths[rule["port"]] for rule in kind["widths"] if rule["rule"] == "within"), 0)
+        sets = [pick.choice([f"{n}", f"{n}..{n + 2}", f"{n},9", f"{n + 1}", "300,7"]) for n in range(size)]
+        return {
+            "specification": lambda: ";".join(sets),
+            "operation": lambda: pick.choice(it["of"]),
+            "sign": self.flag,
+            "width": lambda: pick.choice([1, 2, 3, 8, 64, 128]),
+            "value": lambda: number(pick) % 2**128,
+            "low": lambda: pick.randint(0, room),
+            "empty": lambda: "",
+        }[it["is"]]()
+
+    def flag(self):
+        return self.pick.choice(["true", "false"])
 
     def text(self):
         """The part `p`, and sometimes a part `twice` with two instances of it."""
@@ -185,11 +178,11 @@ class Netlist:
         order = sorted(range(len(self.channels)), key=lambda n: len(self.ends[n]) == 2)
         place = {n: at + 1 for at, n in enumerate(order)}
         # (a port is declared by the end that it has inside)
-        senses = ["active" if "a" in self.ends[n] else "passive" for n in order if len(self.ends[n]) == 1]
+        senses = ["active" if "active" in self.ends[n] else "passive" for n in order if len(self.ends[n]) == 1]
         components = []
-        for kind, _, parameters, entries in self.components:
+        for name, _, parameters, entries in self.components:
             written = [f"({' '.join(map(str, it))})" if isinstance(it, list) else str(it) for it in renumbered(entries, place)]
-            components.append(f'(component "$Brz{kind}" ({parameters}) ({" ".join(written)}))')
+            components.append(f'(component "{name}" ({parameters}) ({" ".join(written)}))')
         return senses, [channel_text(*self.channels[n]) for n in order], components
 
 
@@ -199,7 +192,7 @@ def renumbered(it, number):
 
 
 def channel_text(form, width):
-    return f"({FORMS[form]} {width})" if width else f"({FORMS[form]})"
+    return f"({form} {width})" if width else f"({form})"
 
 
 def part_text(name, senses, channels, components):

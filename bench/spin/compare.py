@@ -14,7 +14,7 @@ from spin import TooLarge, edges_of
 # (spin has put tests/ on the path)
 from playing.graphs import Graph, walk_differs
 from playing.program import Program
-from random_netlists import KINDS, SMALL, Netlist
+from random_netlists import SMALL, Netlist, kinds_of
 
 MOST_STATES = 20000
 FEW_STATES = 3000
@@ -28,17 +28,17 @@ def compared(program, name, text, part, values, most):
     return walk_differs(program, graph), len(edges), sum(map(len, edges.values()))
 
 
-def random_net(number):
+def random_net(kinds, number):
     """A small net round a component of a kind, and the values of its host."""
     pick = random.Random(number)
-    netlist = Netlist(pick, SMALL, KINDS[number % len(KINDS)][0]).part()
+    netlist = Netlist(pick, kinds, SMALL, list(kinds)[number % len(kinds)]).part()
     return netlist, pick.choice([(0, 1), (0, 1), (0, 7), (1, 2), (3,)])
 
 
 def compare_random(program, numbers):
-    nets, large, states, edges, faults = 0, 0, 0, 0, 0
+    kinds, nets, large, states, edges, faults = kinds_of(program), 0, 0, 0, 0, 0
     for number in numbers:
-        netlist, values = random_net(number)
+        netlist, values = random_net(kinds, number)
         try:
             fault, more, steps = compared(program, str(number), netlist, "p", values, FEW_STATES)
         except TooLarge:

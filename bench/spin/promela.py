@@ -14,7 +14,6 @@ import terms
 from netlist import Net
 
 PHASES = "IDLE ASKED TAKEN REPLIED BROKEN".split()
-MIXERS = ("Call", "CallMux", "CallDemux")
 
 
 class Process:
@@ -184,7 +183,7 @@ def watcher(net):
     """A proctype that fails where two callers are at a mixer at once."""
     steps = []
     for number, (kind, _, entries) in enumerate(net.components[1:], 1):
-        callers = next((it for it in entries if isinstance(it, list)), []) if kind in MIXERS else []
+        callers = next((it for it in entries if isinstance(it, list)), []) if kind in terms.MIXERS else []
         for at, a in enumerate(callers):
             for b in callers[at + 1 :]:
                 both = f"ph[{a}] != IDLE && ph[{b}] != IDLE"

@@ -51,6 +51,8 @@ ROWS = {
     "Continue": "inp:sP",
     "ContinuePush": "inp:uP",
 }
+# The kinds that serve one of several callers at a time, and whose callers may not meet.
+MIXERS = ["Call", "CallMux", "CallDemux"]
 COMPARISONS = {
     "Equals": "==",
     "NotEquals": "!=",

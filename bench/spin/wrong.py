@@ -17,7 +17,7 @@ from spin import TooLarge
 
 # (spin has put tests/ on the path)
 from playing.program import Program
-from random_netlists import SMALL, Netlist
+from random_netlists import SMALL, Netlist, kinds_of
 
 FEW_STATES = 600
 
@@ -89,11 +89,11 @@ WRONG = [
 ]
 
 
-def nets_of(kind, count):
+def nets_of(kinds, kind, count):
     """So many random nets round a component of a kind, or those of the atlas, each with the values of the host."""
     for number in range(1, count + 1):
-        yield Netlist(random.Random(1000 + number), SMALL, kind).part(), (0, 7)
-    for name, netlist, values in [] if count else atlas.nets():
+        yield Netlist(random.Random(1000 + number), kinds, SMALL, kind).part(), (0, 7)
+    for name, netlist, values in [] if count else atlas.nets(kinds):
         if name.split(" ")[0] == kind:
             yield netlist, values
 
@@ -132,9 +132,10 @@ def main():
     words.add_argument("program")
     words.add_argument("--random", type=int, default=0)
     asked = words.parse_args()
-    missed = 0
+    program, missed = Program(asked.program), 0
+    kinds = kinds_of(program)
     for kind, change in WRONG:
-        seen, tried = first_seen(Program(asked.program), kind, change, nets_of(kind, asked.random))
+        seen, tried = first_seen(program, kind, change, nets_of(kinds, kind, asked.random))
         missed += not seen
         print(f"{kind} {change.__name__}: {f'seen in net {seen}' if seen else f'NOT SEEN in {tried} nets'}", flush=True)
     print(f"{len(WRONG)} wrong processes, {missed} not seen")

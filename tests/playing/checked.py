@@ -231,11 +231,14 @@ def add_objects(cases):
     """Objects of JSON, one for each trace."""
     take = {"component": 1, "kind": "Variable", "port": 1, "move": "take", "channel": 1, "value": "1"}
     waits = ["idle Variable 1 v         for the host: collect:w", "at rest with 1 handshake under way: 0 wait, 0 can move, 1 idle"]
-    state = {"at_rest": False, "expected": [take], "host_words": ["offer:r"], "waits": []}
+    offer = {"word": "offer", "port": "r", "needs_value": False}
+    collect = {"word": "collect", "port": "w", "needs_value": False}
+    old = {"expected": [take], "host_words": ["offer:r"]}
+    state = {"at_rest": False, "moves": [take], "words": [offer], **old, "waits": []}
     begun = {"verdict": "run", "fired": 0, "host": 1, "rests": 0, **state}
     good = {
-        "verdict": "run", "fired": 2, "host": 1, "rests": 1, "at_rest": True, "expected": [],
-        "host_words": ["collect:w", "offer:r"], "waits": waits,
+        "verdict": "run", "fired": 2, "host": 1, "rests": 1, "at_rest": True, "moves": [], "words": [collect, offer],
+        "expected": [], "host_words": ["collect:w", "offer:r"], "waits": waits,
     }  # fmt: skip
     wrong = {"verdict": "not-a-run", "line": 3, "text": "w1 fire 1 take 1 2", "early": False, **state}
     bad = {"verdict": "not-a-trace", "line": 2, "text": "h1 offer w 1 don"}
@@ -261,7 +264,7 @@ def object_differs(cases, words, given, wanted):
     """The status, and the objects, each on a line of its own."""
     ran = cases.run(words, given)
     found = [json.loads(line) for line in ran.output.decode().splitlines()]
-    told = [{"version": 1, "trace": trace, **rest} for trace, rest in wanted[1]]
+    told = [{"version": 2, "trace": trace, **rest} for trace, rest in wanted[1]]
     return differ((wanted[0], told, b""), (ran.status, found, ran.errors))
 
 

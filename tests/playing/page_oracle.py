@@ -3,8 +3,10 @@
 import re
 from dataclasses import dataclass, field
 
+from .processes import terms
+
 VARIABLES = ("Variable", "FalseVariable")
-CALLS = ("Call", "CallMux", "CallDemux")
+CALLS = tuple(terms.MIXERS)
 PHASE = re.compile(r"channel (\d+)(?: \S+)? +(asked|taken|replied)(?: (\d+))? ")
 END = re.compile(r"\d+ waits?, \d+ can move, \d+ idle")
 

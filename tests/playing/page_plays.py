@@ -347,7 +347,7 @@ def callers(browser, ground):
 def pages_of_sessions(browser, ground):
     """A page that `explore` writes of a net in which nothing moves any more: who waits for whom, and the cycle in red."""
     lines = f"offer:go\nrun\npage {ground.path('stuck')}\n".encode()
-    ground.program.run(["explore", "--part", "cross", "--netlist", pages.paths_of("cross")[0]], lines)
+    ground.program.run(["explore", "--part", "cross", "--netlist", pages.paths_of("cross")[0], "--files", ground.room], lines)
     run = Run(browser, ground, "stuck", "#line=12")
     rows = "[...document.querySelectorAll('#details .wait')].filter(it => !it.classList.contains('ring'))"
     told = f"{rows}.map(it => [it.className, it.dataset.select || '', it.textContent])"

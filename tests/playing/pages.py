@@ -4,6 +4,7 @@ import hashlib
 import os
 import re
 
+from .page_oracle import CALLS, VARIABLES
 from .tests import EXAMPLES, TOP
 
 CRATE = f"{TOP}/crates/bz_page"
@@ -17,6 +18,10 @@ ENGINE = f"{TOP}/engine"
 SEEN = f"{TOP}/tests/page-seen"
 NAMES = ["HEAD", "MID1", "MID2", "TAIL"]
 BLOCKS = ["list", "rows", "trace"]
+# The row of a kind: its ports, what is so of it, and its sign.
+ROW = re.compile(r"(row (\w+)(?: [pa]:\S+)+)((?: [a-z]+)*) s:.+")
+# Of which kinds the words of a row are that a page is looked at by.
+MARKS = {"variable": VARIABLES, "meet": CALLS}
 # The traces of `examples`, and the parts that they are of.
 EXAMPLE_PAGES = {
     **{name: name for name in "arbiter_tree buffer careless countdown cross pipeline steer tee two_place".split()},
@@ -113,8 +118,11 @@ def differs(program, name):
         played = file.read()
     if (texts[0], texts[2]) != (listed, played):
         return "its list or its trace is another"
-    rows = {line for line in texts[1].decode().splitlines() if line.startswith("row ")}
-    return None if rows == rows_wanted(listed) else f"its rows are {sorted(rows ^ rows_wanted(listed))} otherwise"
+    rows = [ROW.fullmatch(line) for line in texts[1].decode().splitlines() if line.startswith("row ")]
+    if None in rows or {row[1] for row in rows} != rows_wanted(listed):
+        return f"its rows are {rows} in place of {rows_wanted(listed)}"
+    odd = [row[0] for row in rows for word, kinds in MARKS.items() if (word in row[3].split()) != (row[2] in kinds)]
+    return f"other kinds are so: {odd}" if odd else None
 
 
 def rows_of(page):

@@ -44,13 +44,24 @@ pub enum Line {
 }
 
 /// A bench.
-#[derive(Drop)]
 pub struct Bench {
     pub netlist: Option<String>,
     pub part: Option<Vec<u8>>,
     pub lines: Vec<Line>,
     /// Whether the net may go round for ever once all has passed.
     pub spins: bool,
+}
+
+// By hand, so that who lets one go has one call to show and not all its parts.
+impl Drop for Bench {
+    fn drop(self) {
+        let Bench {
+            netlist: _,
+            part: _,
+            lines: _,
+            spins: _,
+        } = self;
+    }
 }
 
 /// The bench that a text spells. Files of items are read as they are met.
@@ -61,19 +72,44 @@ pub fn read_bench<T: Texts>(alloc: Global, text: &str, texts: &mut T) -> Result<
         lines: Vec::new(alloc),
         spins: false,
     };
+    match add_lines(alloc, text, texts, &mut bench) {
+        Ok(()) => Ok(bench),
+        Err(fault) => Err(fault),
+    }
+}
+
+// Adds what each line of a text says.
+fn add_lines<T: Texts>(
+    alloc: Global,
+    text: &str,
+    texts: &mut T,
+    bench: &mut Bench,
+) -> Result<(), BenchFault> {
     let mut left = MOST_ITEMS;
     for (place, line) in text.split('\n').enumerate() {
         let words = words_of(alloc, line, place.saturating_add(1))?;
-        if let Some((head, rest)) = words.as_slice().split_first() {
-            if head.word.starts_with(':') {
-                add_setting(alloc, *head, rest, &mut bench)?;
-            } else {
-                let port = port_line(alloc, *head, rest, &mut left, texts)?;
-                bench.lines.push(Line::Port(port))?;
-            }
-        }
+        add_line(alloc, words.as_slice(), &mut left, texts, bench)?;
     }
-    Ok(bench)
+    Ok(())
+}
+
+// Adds what the words of a line say.
+fn add_line<T: Texts>(
+    alloc: Global,
+    words: &[Spelt<'_>],
+    left: &mut usize,
+    texts: &mut T,
+    bench: &mut Bench,
+) -> Result<(), BenchFault> {
+    let Some((head, rest)) = words.split_first() else {
+        return Ok(());
+    };
+    if head.word.starts_with(':') {
+        return add_setting(alloc, *head, rest, bench);
+    }
+    let port = port_line(alloc, *head, rest, left, texts)?;
+    bench.lines.push(Line::Port(port))?;
+    Ok(())
 }
 
 // A line that begins with `:`.
@@ -115,22 +151,45 @@ fn port_line<T: Texts>(
         forever: None,
         open: None,
     };
-    for word in rest {
-        match word_of(word.word) {
-            Some(Word::File(path)) => {
-                let Some(text) = texts.text(path) else {
-                    return Err(BenchFault::At(word.at, Cause::NoFile));
-                };
-                line.add_file(alloc, word.at, text.as_str(), left)?;
-            }
-            Some(read) => line.add(read, word.at, left)?,
-            None => return Err(BenchFault::At(word.at, Cause::BadItem)),
-        }
+    match line.add_words(alloc, rest, left, texts) {
+        Ok(()) => Ok(line),
+        Err(fault) => Err(fault),
     }
-    Ok(line)
 }
 
 impl PortLine {
+    // Adds what each word stands for.
+    fn add_words<T: Texts>(
+        &mut self,
+        alloc: Global,
+        words: &[Spelt<'_>],
+        left: &mut usize,
+        texts: &mut T,
+    ) -> Result<(), BenchFault> {
+        for word in words {
+            self.add_word(alloc, *word, left, texts)?;
+        }
+        Ok(())
+    }
+
+    // Adds what a word stands for, or the file that it names.
+    fn add_word<T: Texts>(
+        &mut self,
+        alloc: Global,
+        word: Spelt<'_>,
+        left: &mut usize,
+        texts: &mut T,
+    ) -> Result<(), BenchFault> {
+        match word_of(word.word) {
+            Some(Word::File(path)) => match texts.text(path) {
+                Some(text) => self.add_file(alloc, word.at, text.as_str(), left),
+                None => Err(BenchFault::At(word.at, Cause::NoFile)),
+            },
+            Some(read) => self.add(read, word.at, left),
+            None => Err(BenchFault::At(word.at, Cause::BadItem)),
+        }
+    }
+
     // Adds the items of a file, all where the file is named.
     fn add_file(
         &mut self,
@@ -158,15 +217,17 @@ impl PortLine {
             return Err(BenchFault::At(at, Cause::AfterLast));
         }
         match word {
-            Word::Items(item, Times::Always) => self.forever = Some(Due { item, at }),
-            Word::Items(item, Times::Count(count)) => self.add_items(item, count, at, left)?,
-            Word::Open => {
-                self.add_items(Item::Handshake, 1, at, left)?;
-                self.open = Some(at);
+            Word::Items(item, Times::Always) => {
+                self.forever = Some(Due { item, at });
+                Ok(())
             }
-            Word::File(_) => {}
+            Word::Items(item, Times::Count(count)) => self.add_items(item, count, at, left),
+            Word::Open => {
+                self.open = Some(at);
+                self.add_items(Item::Handshake, 1, at, left)
+            }
+            Word::File(_) => Ok(()),
         }
-        Ok(())
     }
 
     fn add_items(

@@ -1,15 +1,12 @@
 //! Items as they are spelt.
 
-ghost use Rattle.std.specs.Prelude.{◌≡◌, ◌≢◌, ◌<◌, ◌^◌, ℕ, List, [], ◌∷◌, IfSome, IfNone};
-ghost use Rattle.std.specs.Option.{SomeIff};
-ghost use Rattle.std.specs.Str.Parse.{IsNumeral, digits_value};
+ghost use Rattle.std.specs.Prelude.{◌≡◌, ◌≢◌, ℕ, List, [], ◌∷◌, IfSome, IfNone};
 ghost use Rattle.bz_bench.specs.Items.{AreTimes, IsItem, Meaning, Means, at_sign, greater, meaning_of, star};
 ghost use Rattle.bz_bench.specs.declared.items.Times.{Times};
 ghost use Rattle.bz_bench.specs.declared.stream.Item.{Item};
-ghost use Rattle.bz_model.specs.Limits.{max_width};
 
 use crate::stream::Item;
-use bz_model::Value;
+use bz_model::{count_of, value_of};
 
 /// How often an item passes.
 #[derive(Clone, Copy)]
@@ -75,7 +72,7 @@ fn item_of(word: &str) -> Option<Item>
     match word {
         "." => Some(Item::Handshake),
         "?" => Some(Item::Any),
-        digits => match value(digits) {
+        digits => match value_of(digits) {
             Some(value) => Some(Item::Value(value)),
             None => None,
         },
@@ -90,30 +87,8 @@ fn times_of(digits: &str) -> Option<Times>
     if digits.is_empty() {
         return Some(Times::Always);
     }
-    match count(digits) {
+    match count_of(digits) {
         Some(count) => Some(Times::Count(count)),
         None => None,
     }
-}
-
-// The value that decimal digits spell.
-fn value(digits: &str) -> Option<Value>
-    ensures { SomeIff result (IsNumeral 10 digits.now × (digits_value 10 digits.now < 2 ^ max_width))
-        (digits_value 10 digits.now) }
-{
-    if digits.starts_with('+') {
-        return None;
-    }
-    digits.parse().ok()
-}
-
-// The number of times that decimal digits spell.
-fn count(digits: &str) -> Option<u32>
-    ensures { SomeIff result (IsNumeral 10 digits.now × (digits_value 10 digits.now < 2 ^ 32))
-        (digits_value 10 digits.now) }
-{
-    if digits.starts_with('+') {
-        return None;
-    }
-    digits.parse().ok()
 }

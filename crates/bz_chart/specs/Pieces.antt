@@ -1,11 +1,8 @@
 -- Which lines of a trace are drawn, or why none are.
-use Rattle.std.specs.Prelude.{◌≡◌, ℕ, false, true, ◌⊎◌, ◌+◌, ◌-◌, ◌<◌, ◌≤◌, ◌==◌, List, Some, None, IsSome, unwrap_or, max, count_by}
+use Rattle.std.specs.Prelude.{◌≡◌, ℕ, false, true, ◌⊎◌, ◌+◌, ◌-◌, ◌<◌, ◌≤◌, List, Some, None, IsSome, unwrap_or, max}
 use Rattle.bz_chart.specs.declared.range.LineRange.{LineRange}
 use Rattle.bz_chart.specs.declared.range.PieceFault.{PieceFault}
 use Rattle.bz_chart.specs.declared.range.PieceFault.TheVariants.{Above, NoLast, NoFirst, TooLong, NoPick, TooMany}
-
-abbrev pub line_count : List ℕ → ℕ
-line_count text = count_by (λ b. b == 10) text
 
 -- the first line that is asked for, never the one that names the version
 abbrev pub first_asked : LineRange → ℕ

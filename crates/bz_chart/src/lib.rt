@@ -3,7 +3,6 @@
 
 mod arrows;
 mod bars;
-mod chart;
 mod columns;
 mod drawing;
 mod flow;
@@ -11,6 +10,7 @@ mod heads;
 mod labels;
 mod lanes;
 mod legend;
+mod lines;
 mod meetings;
 mod picking;
 mod range;
@@ -19,6 +19,6 @@ mod scene;
 mod svg;
 mod words;
 
-pub use chart::{chart_cmd, chart_trace_cmd};
+pub use lines::chart;
 pub use picking::Picked;
 pub use range::{LineRange, PieceFault};

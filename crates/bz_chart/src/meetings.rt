@@ -1,7 +1,8 @@
 //! Where requests meet: at a Call, CallMux or CallDemux that has one of them when another comes.
 
 use bz_chart_layout::Circuit;
-use bz_model::{Kind, Move};
+use bz_kind_rows::row_of;
+use bz_model::{Callers, Move};
 
 /// How many handshakes a component is in with callers, and whether it was told that some met there.
 #[derive(Clone, Copy)]
@@ -37,7 +38,7 @@ impl Meeting {
 /// Whether requests can meet at a component.
 pub(crate) fn is_shared(circuit: &Circuit, comp: u32) -> bool {
     match circuit.comp(comp) {
-        Some(comp) => matches!(comp.kind, Kind::Call | Kind::CallMux | Kind::CallDemux),
+        Some(comp) => matches!(row_of(&comp.kind).callers, Callers::Meet),
         None => false,
     }
 }

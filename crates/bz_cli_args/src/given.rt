@@ -22,6 +22,7 @@ pub struct Given<'a, 't> {
     pub command: Command<'a>,
     /// The name of the part to open. Where none is given, that is the one part that no other part uses.
     pub part: Option<&'a [u8]>,
+    /// The words; of `test` the benches, and of `check` the names of several traces.
     pub words: &'a [&'t str],
     /// The files of the source that are shown.
     pub sources: &'a [SourceFile],
@@ -71,27 +72,19 @@ impl Texts {
         })
     }
 
-    /// The names of traces that the text has, or else those of the command line.
-    pub fn traces<'t>(
-        &'t self,
-        alloc: Global,
-        request: &'t Request<'_>,
-    ) -> Result<Vec<&'t str>, AllocError> {
-        match &self.traces {
-            Some(text) => split_names(alloc, text.as_str()),
-            None => Vec::from_slice(alloc, request.traces.as_slice()),
-        }
-    }
-
-    /// The words of the text, or else those of the command line.
+    /// The words of the text, or else those of the command line; the names of several traces likewise.
     pub fn words<'t>(
         &'t self,
         alloc: Global,
         request: &'t Request<'_>,
     ) -> Result<Vec<&'t str>, AllocError> {
-        match &self.words {
-            Some(text) => split_words(alloc, text.as_str()),
-            None => Vec::from_slice(alloc, request.words.as_slice()),
+        match (&self.words, &self.traces) {
+            (Some(text), _) => split_words(alloc, text.as_str()),
+            (None, Some(text)) => split_names(alloc, text.as_str()),
+            (None, None) if request.command.is_of_several() => {
+                Vec::from_slice(alloc, request.traces.as_slice())
+            }
+            (None, None) => Vec::from_slice(alloc, request.words.as_slice()),
         }
     }
 

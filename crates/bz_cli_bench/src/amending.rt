@@ -2,6 +2,7 @@
 
 use crate::learning::Came;
 use crate::plan::is_from_net;
+use crate::playing::port_of;
 use crate::setting::Setting;
 use bz_bench::{Bench, Due, Item, Line, PortLine, Spelt, Spot, fits, words_of};
 use bz_flat::Flat;
@@ -26,8 +27,10 @@ pub(crate) fn amended(
         ending: "\n",
         copy: Copying::of(alloc, text),
     };
-    amender.amend(alloc, text, bench)?;
-    Ok(amender.into_text())
+    match amender.amend(alloc, text, bench) {
+        Ok(()) => Ok(amender.into_text()),
+        Err(fault) => Err(fault),
+    }
 }
 
 // The values of each port.
@@ -175,7 +178,7 @@ impl<'t> Amender<'t> {
     // Adds a line for each port at which values came in the group that ends and that has no line there.
     fn end_group(&mut self) {
         for place in 0..self.values.len() {
-            let port = u32::try_from(place).unwrap_or(u32::MAX).saturating_add(1);
+            let port = port_of(place);
             let values = self.values_of(port);
             if !values.is_empty() {
                 self.add_line(port, values);
@@ -229,7 +232,10 @@ impl<'t> Amender<'t> {
         let mut end = Place::of(start, start, head).to;
         for word in rest {
             let place = Place::of(start, end, *word);
-            let is_last = line.forever.is_some_and(|due| is_at(due, word.at));
+            let is_last = match line.forever {
+                Some(due) => is_at(due, word.at),
+                None => false,
+            };
             let (here, below) = dues.split_at(count_at(dues, word.at).min(dues.len()));
             let count = if is_last { values.len() } else { here.len() };
             let (came, later) = values.split_at(count.min(values.len()));

@@ -88,8 +88,11 @@ fn bless_bench<F: BenchFiles>(
 ) -> Result<Blessing, Fault> {
     match place_of(trial, at, bench, nets, files) {
         Ok(place) => match nets.at(place) {
-            Some(Found::Net(opened)) => bless_on(trial, at, text, bench, opened, files),
-            Some(Found::Refused(_)) | None => Ok(Blessing::None),
+            Some(known) => match &known.found {
+                Found::Net(opened) => bless_on(trial, at, text, bench, opened, files),
+                Found::Refused(_) => Ok(Blessing::None),
+            },
+            None => Ok(Blessing::None),
         },
         Err(why) => unplayed(why),
     }
@@ -226,7 +229,7 @@ fn passes_by(setting: Setting<'_>, seed: Option<u64>, had: &mut Option<Had>) -> 
     requires { length setting.plan.now.streams.items ≡ length setting.opened.now.ports }
 {
     match played(setting, seed) {
-        Ok(played) => Ok(is_as_before(setting, seed, played, had)),
+        Ok(mut played) => Ok(is_as_before(setting, seed, &mut played, had)),
         Err(fault) => Err(fault),
     }
 }
@@ -235,7 +238,7 @@ fn passes_by(setting: Setting<'_>, seed: Option<u64>, had: &mut Option<Had>) -> 
 fn is_as_before(
     setting: Setting<'_>,
     seed: Option<u64>,
-    played: Played,
+    played: &mut Played,
     had: &mut Option<Had>,
 ) -> bool {
     if !matches!(played.verdict, Verdict::Passed) {
@@ -244,8 +247,7 @@ fn is_as_before(
     match had {
         Some(had) => first_unlike(setting.opened.flat(), had, &played.tallies).is_none(),
         None => {
-            let tallies = played.into_tallies();
-            *had = Some(Had { seed, tallies });
+            *had = Some(Had::of(setting, seed, played));
             true
         }
     }

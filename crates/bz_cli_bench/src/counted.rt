@@ -51,8 +51,8 @@ impl Counted {
     }
 }
 
-/// Writes what all plays exercised to the file that is named for it, net by net, and a few lines of each to `errors`. Whether it was
-/// written, where that is asked for and something was played.
+/// Writes what all plays exercised to the file that is named for it, net by net, and a few lines of each to `errors`. Whether it
+/// was written, where that is asked for and something was played.
 pub(crate) fn tell_counted<F: BenchFiles, E: Write>(
     trial: Trial<'_>,
     nets: &Nets,
@@ -62,15 +62,24 @@ pub(crate) fn tell_counted<F: BenchFiles, E: Write>(
     let Some(path) = trial.asked.cover else {
         return Ok(true);
     };
+    let is_lcov = path.ends_with(".info");
     let mut report = Text::new(trial.alloc);
     let mut summary = Text::new(trial.alloc);
-    put_nets(
-        trial,
-        nets,
-        path.ends_with(".info"),
-        &mut report,
-        &mut summary,
-    )?;
+    match put_nets(trial, nets, is_lcov, &mut report, &mut summary) {
+        Ok(()) => make(trial, path, &report, &summary, files, errors),
+        Err(fault) => Err(fault),
+    }
+}
+
+// Makes the file of a report, if that has something, and then tells the summary. Whether it was made.
+fn make<F: BenchFiles, E: Write>(
+    trial: Trial<'_>,
+    path: &str,
+    report: &Text,
+    summary: &Text,
+    files: &mut F,
+    errors: &mut E,
+) -> Result<bool, Fault> {
     let report = report.whole()?;
     if report.is_empty() {
         return Ok(true);
@@ -96,13 +105,14 @@ fn put_nets(
     report: &mut Text,
     summary: &mut Text,
 ) -> Result<(), Fault> {
-    for place in 0..nets.count() {
-        if let (Some(Found::Net(opened)), Some(counted)) = (nets.at(place), nets.counted(place)) {
+    for known in nets.all() {
+        if let Found::Net(opened) = &known.found {
+            let name = known.label.as_slice();
             put_net(
                 trial,
-                nets.name(place),
+                name,
                 opened,
-                counted,
+                &known.counted,
                 is_lcov,
                 report,
                 summary,

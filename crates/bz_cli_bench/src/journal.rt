@@ -23,7 +23,10 @@ pub(crate) fn last_word(entries: &[Entry]) -> usize {
     let last = entries
         .iter()
         .rposition(|entry| matches!(entry, Entry::Host { .. }));
-    last.map_or(0, |place| place.saturating_add(1))
+    match last {
+        Some(place) => place.saturating_add(1),
+        None => 0,
+    }
 }
 
 // Whether something passed at a port with an entry.

@@ -435,7 +435,9 @@ pub(crate) fn next_word(
     ensures begins { IfSome result (λ verb. begins verb ≡ true
         → may_begin stream.now group (length tally.now.begun.items) ≡ true) }
 {
-    let passive = net.names().passive(port)?;
+    let Some(passive) = net.names().passive(port) else {
+        return None;
+    };
     let (beginning, ending) = (beginning(passive), ending(passive));
     if stream.may_begin(group, tally.begun.len()) && net.would_answer(beginning, port) {
         return Some(beginning);

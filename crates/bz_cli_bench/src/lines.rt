@@ -75,11 +75,10 @@ fn put_verdict(text: &mut Text, verdict: Verdict, told: &Told) {
             ..
         } => {
             put_place(text, place, told);
-            text.put(": due ");
-            put_due(text, due);
-            text.put(", came ");
-            put_came(text, came);
-            put_trace_line(text, told);
+            text.say(
+                ": due %, came %, line % of the trace",
+                &[due_piece(due), came_piece(came), Piece::Number(told.line)],
+            );
         }
         Verdict::Extra { came, .. } => {
             let port = Piece::Typed(told.port.as_slice());
@@ -113,20 +112,18 @@ fn put_place(text: &mut Text, place: usize, told: &Told) {
     text.say("differs at %, item %", &[port, item]);
 }
 
-fn put_trace_line(text: &mut Text, told: &Told) {
-    text.say(", line % of the trace", &[Piece::Number(told.line)]);
-}
-
 fn put_unlike(text: &mut Text, unlike: Unlike, told: &Told) {
     put_place(text, unlike.place, told);
-    text.put(": came ");
-    put_came(text, unlike.came);
-    text.put(", and ");
-    put_came(text, unlike.had);
-    if let Some(seed) = unlike.before {
-        text.say(" by seed %", &[Piece::Wide(seed.into())]);
+    let values = [came_piece(unlike.came), came_piece(unlike.had)];
+    text.say(": came %, and %", &values);
+    let line = Piece::Number(told.line);
+    match unlike.before {
+        Some(seed) => text.say(
+            " by seed %, line % of the trace",
+            &[Piece::Wide(seed.into()), line],
+        ),
+        None => text.say(", line % of the trace", &[line]),
     }
-    put_trace_line(text, told);
 }
 
 // Adds a word, and what is short.
@@ -161,20 +158,20 @@ fn put_short(text: &mut Text, short: &Short) {
     }
 }
 
-/// Adds what was due.
-pub(crate) fn put_due(text: &mut Text, due: Option<Item>) {
+/// What was due.
+pub(crate) fn due_piece(due: Option<Item>) -> Piece<'static> {
     match due {
-        Some(Item::Value(value)) => text.say("%", &[Piece::Wide(value)]),
-        Some(Item::Handshake) => text.put("."),
-        Some(Item::Any) => text.put("?"),
-        None => text.put("nothing"),
+        Some(Item::Value(value)) => Piece::Wide(value),
+        Some(Item::Handshake) => Piece::Text("."),
+        Some(Item::Any) => Piece::Text("?"),
+        None => Piece::Text("nothing"),
     }
 }
 
-/// Adds what came.
-pub(crate) fn put_came(text: &mut Text, came: Option<Value>) {
+/// What came.
+pub(crate) fn came_piece(came: Option<Value>) -> Piece<'static> {
     match came {
-        Some(value) => text.say("%", &[Piece::Wide(value)]),
-        None => text.put("."),
+        Some(value) => Piece::Wide(value),
+        None => Piece::Text("."),
     }
 }

@@ -10,7 +10,6 @@ use bz_text::{Piece as Part, Text};
 use bz_view::Piece;
 use std::alloc::{AllocError, Global};
 use std::io::Write;
-use std::mem;
 
 /// What a netlist and the name of a part come to.
 #[derive(Drop)]
@@ -20,65 +19,53 @@ pub(crate) enum Found {
     Refused(Vec<u8>),
 }
 
+/// A net that was asked for, or that there is not.
+pub(crate) struct Known {
+    // The netlist and the part, as they were named.
+    name: Vec<u8>,
+    /// What it is called.
+    pub label: Vec<u8>,
+    pub found: Found,
+    /// What was exercised of it.
+    pub counted: Counted,
+}
+
+// By hand, so that who lets one go has one call to show and not all its parts.
+impl Drop for Known {
+    fn drop(self) {
+        let Known {
+            name: _,
+            label: _,
+            found: _,
+            counted: _,
+        } = self;
+    }
+}
+
 /// The nets that were asked for, and those that there are not.
 #[derive(Drop)]
 pub(crate) struct Nets {
-    // Netlists and parts, as they were named, in the order in which they came, and their places in the order of the names.
-    names: Vec<Vec<u8>>,
+    // In the order in which they came, and their places in the order of the names.
+    known: Vec<Known>,
     row: Vec<usize>,
-    found: Vec<Found>,
-    // What each is called, and what was exercised of it.
-    labels: Vec<Vec<u8>>,
-    counted: Vec<Counted>,
 }
 
 impl Nets {
     pub(crate) fn new(alloc: Global) -> Nets {
         Nets {
-            names: Vec::new(alloc),
+            known: Vec::new(alloc),
             row: Vec::new(alloc),
-            found: Vec::new(alloc),
-            labels: Vec::new(alloc),
-            counted: Vec::new(alloc),
         }
     }
 
-    /// How many there are.
-    pub(crate) fn count(&self) -> usize {
-        self.found.len()
+    /// All of them, in the order in which they came.
+    pub(crate) fn all(&self) -> &[Known] {
+        self.known.as_slice()
     }
 
-    /// What is at a place.
-    pub(crate) fn at(&self, place: usize) -> Option<&Found> {
-        self.found.get(place)
-    }
-
-    /// What the one at a place is called.
-    pub(crate) fn name(&self, place: usize) -> &[u8] {
-        match self.labels.get(place) {
-            Some(label) => label.as_slice(),
-            None => b"",
-        }
-    }
-
-    /// What was exercised of the one at a place.
-    pub(crate) fn counted(&self, place: usize) -> Option<&Counted> {
-        self.counted.get(place)
-    }
-
-    /// The same, to be put back once more was counted.
-    pub(crate) fn take_counted(&mut self, place: usize) -> Counted {
-        match self.counted.get_mut(place) {
-            Some(counted) => mem::replace(counted, Counted::none()),
-            None => Counted::none(),
-        }
-    }
-
-    /// Puts back what was exercised of the one at a place.
-    pub(crate) fn put_counted(&mut self, place: usize, counted: Counted) {
-        if let Some(here) = self.counted.get_mut(place) {
-            *here = counted;
-        }
+    /// The one at a place.
+    pub(crate) fn at(&mut self, place: usize) -> Option<&mut Known> {
+        self.known.get_mut(place)
     }
 
     /// The place of the net of a part of a netlist, which is opened where it was not yet.
@@ -92,40 +79,53 @@ impl Nets {
         let name = name_of(trial.alloc, netlist, part)?;
         let at = self
             .row
-            .partition_point(|place| is_before(&self.names, *place, &name));
-        if let Some(place) = self.row.get(at).copied() {
-            if is_name(&self.names, place, &name) {
-                return Ok(place);
+            .partition_point(|place| is_before(&self.known, *place, &name));
+        if let Some(place) = self.row.get(at) {
+            if is_name(&self.known, *place, &name) {
+                return Ok(*place);
             }
         }
-        self.row.insert(at, self.names.len())?;
-        self.names.push(name)?;
-        self.labels.push(label_of(trial.alloc, netlist, part)?)?;
-        self.counted.push(Counted::none())?;
-        self.add(found_in(trial, netlist, part, files))
-    }
-
-    // Adds what was found, if memory sufficed. Its place.
-    fn add(&mut self, found: Result<Found, AllocError>) -> Result<usize, Refusal> {
-        let place = self.found.len();
-        self.found.push(found?)?;
+        let place = self.known.len();
+        self.row.insert(at, place)?;
+        self.known
+            .push(known_of(trial, name, netlist, part, files)?)?;
         Ok(place)
     }
 }
 
 // Whether the name at a place comes before another one.
-fn is_before(names: &[Vec<u8>], place: usize, name: &[u8]) -> bool {
-    match names.get(place) {
-        Some(here) => here.as_slice() < name,
+fn is_before(known: &[Known], place: usize, name: &[u8]) -> bool {
+    match known.get(place) {
+        Some(here) => here.name.as_slice() < name,
         None => false,
     }
 }
 
 // Whether the name at a place is this one.
-fn is_name(names: &[Vec<u8>], place: usize, name: &[u8]) -> bool {
-    match names.get(place) {
-        Some(here) => here.as_slice() == name,
+fn is_name(known: &[Known], place: usize, name: &[u8]) -> bool {
+    match known.get(place) {
+        Some(here) => here.name.as_slice() == name,
         None => false,
+    }
+}
+
+// What is found of a netlist and a part of this name.
+fn known_of<F: BenchFiles>(
+    trial: Trial<'_>,
+    name: Vec<u8>,
+    netlist: &str,
+    part: Option<&[u8]>,
+    files: &mut F,
+) -> Result<Known, AllocError> {
+    let label = label_of(trial.alloc, netlist, part)?;
+    match found_in(trial, netlist, part, files) {
+        Ok(found) => Ok(Known {
+            name,
+            label,
+            found,
+            counted: Counted::none(),
+        }),
+        Err(fault) => Err(fault),
     }
 }
 

@@ -9,8 +9,8 @@ use bz_flat::Flat;
 use bz_model::{Chan, ChanKind, NameRow, Port, fits, numbered};
 use std::alloc::{AllocError, Global};
 
-/// What is to pass at each port of a net, by its number, which ports have a line in each group of lines, and whether the net may go round for
-/// ever once all has passed.
+/// What is to pass at each port of a net, by its number, which ports have a line in each group of lines, and whether the net may
+/// go round for ever once all has passed.
 #[derive(Drop)]
 pub struct Plan {
     pub streams: Vec<Stream>,
@@ -22,31 +22,15 @@ pub struct Plan {
 pub(crate) fn plan_of(alloc: Global, flat: &Flat, bench: &Bench) -> Result<Plan, BenchFault>
     ensures { IfOk result (λ plan. length plan.streams.items ≡ length flat.now.wiring.ports) }
 {
-    let mut streams = no_streams(alloc, flat)?;
-    let names = NameRow::new(alloc, names_of(alloc, flat.ports())?)?;
-    let (mut groups, mut group) = (Vec::new(alloc), Vec::new(alloc));
-    for line in &bench.lines {
-        match line {
-            Line::Then => {
-                groups.push(group)?;
-                group = Vec::new(alloc);
-            }
-            Line::Port(line) => {
-                let Some(place) = names.place(line.name.as_slice()) else {
-                    return Err(BenchFault::At(line.at, Cause::NoPort));
-                };
-                let port = port_of(place);
-                add_line(flat, port, line, groups.len(), streams.as_mut_slice())?;
-                group.push(port)?;
-            }
-        }
-    }
-    groups.push(group)?;
-    Ok(Plan {
-        streams,
-        groups,
+    let mut plan = Plan {
+        streams: no_streams(alloc, flat)?,
+        groups: Vec::new(alloc),
         spins: bench.spins,
-    })
+    };
+    match plan.add_lines(alloc, flat, bench.lines.as_slice()) {
+        Ok(()) => Ok(plan),
+        Err(fault) => Err(fault),
+    }
 }
 
 // For each port of a net a stream of nothing.
@@ -69,29 +53,77 @@ fn no_streams(alloc: Global, flat: &Flat) -> Result<Vec<Stream>, AllocError>
 }
 
 // The names of the ports.
-fn names_of(alloc: Global, ports: &[Port]) -> Result<Vec<Vec<u8>>, AllocError> {
+fn names_of(alloc: Global, ports: &[Port]) -> Result<NameRow, AllocError> {
     let mut names = Vec::new(alloc);
     for port in ports {
         names.push(Vec::from_slice(alloc, port.name.as_slice())?)?;
     }
-    Ok(names)
+    NameRow::new(alloc, names)
 }
 
-// Adds what a line has to the stream of its port.
-fn add_line(
-    flat: &Flat,
-    port: u32,
+impl Plan {
+    // Adds what the lines of a bench say.
+    fn add_lines(&mut self, alloc: Global, flat: &Flat, lines: &[Line]) -> Result<(), BenchFault>
+        ensures { length self.new.streams.items ≡ length self.old.streams.items }
+    {
+        self.groups.push(Vec::new(alloc))?;
+        match names_of(alloc, flat.ports()) {
+            Ok(names) => self.add_named(alloc, flat, &names, lines),
+            Err(_) => Err(BenchFault::Memory),
+        }
+    }
+
+    // The same, once the ports are known by their names.
+    fn add_named(
+        &mut self,
+        alloc: Global,
+        flat: &Flat,
+        names: &NameRow,
+        lines: &[Line],
+    ) -> Result<(), BenchFault>
+        ensures { length self.new.streams.items ≡ length self.old.streams.items }
+    {
+        for line in lines {
+            match line {
+                Line::Then => self.groups.push(Vec::new(alloc))?,
+                Line::Port(line) => self.add_line(flat, names, line)?,
+            }
+        }
+        Ok(())
+    }
+
+    // Adds what a line has to the stream of its port.
+    fn add_line(&mut self, flat: &Flat, names: &NameRow, line: &PortLine) -> Result<(), BenchFault>
+        ensures { length self.new.streams.items ≡ length self.old.streams.items }
+    {
+        let Some(place) = names.place(line.name.as_slice()) else {
+            return Err(BenchFault::At(line.at, Cause::NoPort));
+        };
+        let port = port_of(place);
+        let Some(side) = side_of(flat, port) else {
+            return Err(BenchFault::At(line.at, Cause::NoPort));
+        };
+        side.check(line)?;
+        let group = self.groups.len().saturating_sub(1);
+        add_to(self.streams.as_mut_slice(), place, line, group)?;
+        match self.groups.last_mut() {
+            Some(ports) => ports.push(port)?,
+            None => {}
+        }
+        Ok(())
+    }
+}
+
+// Adds what a line has to the stream at a place.
+fn add_to(
+    streams: &mut [Stream],
+    place: usize,
     line: &PortLine,
     group: usize,
-    streams: &mut [Stream],
 ) -> Result<(), BenchFault>
     ensures { length streams.new ≡ length streams.old }
 {
-    let Some(side) = side_of(flat, port) else {
-        return Err(BenchFault::At(line.at, Cause::NoPort));
-    };
-    side.check(line)?;
-    match streams.get_mut((port as usize).saturating_sub(1)) {
+    match streams.get_mut(place) {
         Some(stream) => extend(stream, line, group),
         None => Ok(()),
     }
@@ -99,7 +131,10 @@ fn add_line(
 
 /// Whether values of a port come from the net.
 pub(crate) fn is_from_net(flat: &Flat, port: u32) -> bool {
-    side_of(flat, port).is_some_and(|side| side.is_from_net())
+    match side_of(flat, port) {
+        Some(side) => side.is_from_net(),
+        None => false,
+    }
 }
 
 /// Whether the net gives values at a port of this kind and sense: at an active push and at a passive pull.
@@ -124,9 +159,13 @@ struct Side {
 }
 
 fn side_of(flat: &Flat, port: u32) -> Option<Side> {
-    let chan = flat.chan(port)?;
-    let passive = numbered(flat.ports(), port)?.passive;
-    Some(Side { chan, passive })
+    match (flat.chan(port), numbered(flat.ports(), port)) {
+        (Some(chan), Some(port)) => Some(Side {
+            chan,
+            passive: port.passive,
+        }),
+        _ => None,
+    }
 }
 
 impl Side {

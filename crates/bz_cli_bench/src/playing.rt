@@ -49,18 +49,6 @@ impl Drop for Played {
     }
 }
 
-impl Played {
-    /// What passed at each port.
-    pub fn into_tallies(self) -> Vec<Tally> {
-        let Played {
-            stepping: _,
-            tallies,
-            verdict: _,
-        } = self;
-        tallies
-    }
-}
-
 // A play that is under way.
 struct Session<'p> {
     stepping: Stepping,
@@ -118,8 +106,8 @@ pub(crate) fn play(
     session.judged(alloc)
 }
 
-/// Plays a bench on a net with any values in place of those that are due, and as many as come. Those that came at each port, if all
-/// that is given has passed then and nothing moves.
+/// Plays a bench on a net with any values in place of those that are due, and as many as come. Those that came at each port, if
+/// all that is given has passed then and nothing moves.
 pub(crate) fn learn(
     alloc: Global,
     flat: Flat,
@@ -134,7 +122,7 @@ pub(crate) fn learn(
     let mut session = Session::open(alloc, flat, plan, fuel, journal)?;
     session.learnt = Some(no_values(alloc, plan.streams.len())?);
     session.play_all(alloc, seed)?;
-    Ok(session.into_learnt())
+    Ok(session.take_learnt())
 }
 
 impl<'p> Session<'p> {
@@ -150,18 +138,21 @@ impl<'p> Session<'p> {
         ensures wiring { IfOk result (λ s. s.stepping.net.wiring ≡ flat.wiring) }
         ensures plan { IfOk result (λ s. s.plan.now ≡ plan.now) }
     {
-        let ports = plan.streams.len();
-        let (Ok(tallies), Ok(watch)) = (no_tallies(alloc, ports), Watch::new(alloc, ports)) else {
-            return Err(NetError::Memory);
-        };
-        let numbers = ports.saturating_add(1);
-        let (Ok(words), Ok(short)) = (
-            CountedRow::new(alloc, numbers),
-            CountedRow::new(alloc, numbers),
-        ) else {
-            return Err(NetError::Memory);
-        };
         let stepping = Stepping::open(alloc, flat, journal)?;
+        let ports = plan.streams.len();
+        let numbers = ports.saturating_add(1);
+        let Ok(words) = CountedRow::new(alloc, numbers) else {
+            return Err(NetError::Memory);
+        };
+        let Ok(short) = CountedRow::new(alloc, numbers) else {
+            return Err(NetError::Memory);
+        };
+        let Ok(tallies) = no_tallies(alloc, ports) else {
+            return Err(NetError::Memory);
+        };
+        let Ok(watch) = Watch::new(alloc, ports) else {
+            return Err(NetError::Memory);
+        };
         Ok(Session {
             stepping,
             plan,
@@ -208,23 +199,14 @@ impl<'p> Session<'p> {
         }
     }
 
-    // What came at each port, if the play is at its end.
-    fn into_learnt(mut self) -> Option<Vec<Vec<Came>>> {
+    // Takes what came at each port, if the play is at its end.
+    fn take_learnt(&mut self) -> Option<Vec<Vec<Came>>> {
         self.look();
-        let has_ended = self.is_last() && self.is_over();
-        let Session {
-            stepping: _,
-            plan: _,
-            tallies: _,
-            group: _,
-            words: _,
-            short: _,
-            seen: _,
-            fuel: _,
-            learnt,
-            watch: _,
-        } = self;
-        if has_ended { learnt } else { None }
+        if self.is_last() && self.is_over() {
+            self.learnt.take()
+        } else {
+            None
+        }
     }
 
     // Whether the last group of lines has begun.
@@ -283,8 +265,8 @@ impl<'p> Session<'p> {
         Ok(false)
     }
 
-    // Whether all goes on as it did before. By a seed that is so only where all that is counted has passed, and each port that has a
-    // word now had one since.
+    // Whether all goes on as it did before. By a seed that is so only where all that is counted has passed, and each port that
+    // has a word now had one since.
     fn goes_round(&mut self, alloc: Global) -> bool
         ensures wiring { self.new.stepping.net.wiring ≡ self.old.stepping.net.wiring }
         ensures plan { self.new.plan.now ≡ self.old.plan.now }
@@ -386,10 +368,22 @@ impl<'p> Session<'p> {
         Ok(self.fuel > 0)
     }
 
+    // What is to pass at a port, and what has passed there.
+    fn stream_at(&self, port: u32) -> Option<(&Stream, &Tally)> {
+        match (
+            numbered(&self.plan.streams, port),
+            numbered(&self.tallies, port),
+        ) {
+            (Some(stream), Some(tally)) => Some((stream, tally)),
+            _ => None,
+        }
+    }
+
     // The word of a port that would be done.
     fn word_at(&self, port: u32) -> Option<Verb> {
-        let stream = numbered(&self.plan.streams, port)?;
-        let tally = numbered(&self.tallies, port)?;
+        let Some((stream, tally)) = self.stream_at(port) else {
+            return None;
+        };
         if self.hears(port) {
             self.word_heard(port, stream)
         } else {
@@ -403,10 +397,12 @@ impl<'p> Session<'p> {
             return false;
         }
         let names = self.stepping.net().names();
-        let is_push = names
-            .chan(port)
-            .is_some_and(|chan| chan.kind == ChanKind::Push);
-        is_push && names.passive(port) == Some(false)
+        match names.chan(port) {
+            Some(chan) => {
+                matches!(chan.kind, ChanKind::Push) && matches!(names.passive(port), Some(false))
+            }
+            None => false,
+        }
     }
 
     // The word of such a port that would be done: it may begin in the groups in which the port has a line, and after them.
@@ -480,10 +476,7 @@ impl<'p> Session<'p> {
         ensures wiring { self.new.stepping.net.wiring ≡ self.old.stepping.net.wiring }
         ensures plan { self.new.plan.now ≡ self.old.plan.now }
     {
-        let Some(stream) = numbered(&self.plan.streams, port) else {
-            return;
-        };
-        let Some(tally) = numbered(&self.tallies, port) else {
+        let Some((stream, tally)) = self.stream_at(port) else {
             return;
         };
         let is_short = !stream.is_done(self.group, tally) && !self.hears(port);
@@ -511,8 +504,13 @@ impl<'p> Session<'p> {
 
     // The word that would be done after so many others, by the order of ports.
     fn nth_word(&self, before: u32) -> Option<(u32, Verb)> {
-        let port = self.words.nth(before)?;
-        Some((port, self.word_at(port)?))
+        let Some(port) = self.words.nth(before) else {
+            return None;
+        };
+        match self.word_at(port) {
+            Some(verb) => Some((port, verb)),
+            None => None,
+        }
     }
 
     // Gives a word at a port: whether it was done, and what came is due.
@@ -571,12 +569,9 @@ impl<'p> Session<'p> {
 
     // Whether what began last at a port is counted, and none of what passes as often as it is asked for.
     fn is_counted(&self, port: u32) -> bool {
-        match (
-            numbered(&self.plan.streams, port),
-            numbered(&self.tallies, port),
-        ) {
-            (Some(stream), Some(tally)) => tally.begun.len() <= stream.items.len(),
-            _ => false,
+        match self.stream_at(port) {
+            Some((stream, tally)) => tally.begun.len() <= stream.items.len(),
+            None => false,
         }
     }
 
@@ -597,8 +592,9 @@ impl<'p> Session<'p> {
 
     // The item that a word at a port is about.
     fn item_of(&self, port: u32, verb: Verb) -> Option<Item> {
-        let stream = numbered(&self.plan.streams, port)?;
-        let tally = numbered(&self.tallies, port)?;
+        let Some((stream, tally)) = self.stream_at(port) else {
+            return None;
+        };
         match verb {
             Verb::Offer | Verb::Accept => stream.item_at(tally.begun.len()),
             _ => stream.item_at(tally.ended.len()),
@@ -607,9 +603,8 @@ impl<'p> Session<'p> {
 
     // The value that a word at a port brings.
     fn value_of(&self, port: u32, verb: Verb, item: Option<Item>) -> Option<Value> {
-        let chan = self.stepping.net().names().chan(port)?;
-        match item {
-            Some(Item::Value(value)) if verb.wants_value(chan.kind) => Some(value),
+        match (self.stepping.net().names().chan(port), item) {
+            (Some(chan), Some(Item::Value(value))) if verb.wants_value(chan.kind) => Some(value),
             _ => None,
         }
     }

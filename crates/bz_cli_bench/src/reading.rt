@@ -50,9 +50,13 @@ struct Beside<'f, F: BenchFiles> {
 
 impl<F: BenchFiles> Texts for Beside<'_, F> {
     fn text(&mut self, path: &str) -> Option<String> {
-        let path = path_beside(self.alloc, self.bench, path).ok()?;
-        let bytes = self.files.read(self.alloc, path.as_str()).ok()?;
-        String::from_utf8(bytes).ok()
+        let Ok(path) = path_beside(self.alloc, self.bench, path) else {
+            return None;
+        };
+        match self.files.read(self.alloc, path.as_str()) {
+            Ok(bytes) => String::from_utf8(bytes).ok(),
+            Err(_) => None,
+        }
     }
 }
 

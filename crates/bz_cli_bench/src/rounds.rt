@@ -15,8 +15,8 @@ use crate::setting::{Had, Setting, case_of};
 use bz_bench::Bench;
 use bz_cli_input::Fault;
 
-/// Adds the cases of a bench: one for each seed, or the one that says why it is not played. Where that is asked for, what comes is
-/// written into it before.
+/// Adds the cases of a bench: one for each seed, or the one that says why it is not played. Where that is asked for, what comes
+/// is written into it before.
 pub(crate) fn add_cases<F: BenchFiles>(
     trial: Trial<'_>,
     at: At<'_>,
@@ -60,13 +60,13 @@ fn add_read<F: BenchFiles>(
     ensures { IfOk result (λ _. length cases.old.items < length cases.new.items) }
 {
     match place_of(trial, at, bench, nets, files) {
-        Ok(place) => {
-            let mut counted = nets.take_counted(place);
-            let found = nets.at(place);
-            let added = add_found(trial, at, bench, found, &mut counted, files, cases);
-            nets.put_counted(place, counted);
-            added
-        }
+        Ok(place) => match nets.at(place) {
+            Some(known) => {
+                let counted = &mut known.counted;
+                add_found(trial, at, bench, &known.found, counted, files, cases)
+            }
+            None => Err(Fault::Memory),
+        },
         Err(why) => add_refused(trial, at, why, cases),
     }
 }
@@ -106,7 +106,7 @@ fn add_found<F: BenchFiles>(
     trial: Trial<'_>,
     at: At<'_>,
     bench: &Bench,
-    found: Option<&Found>,
+    found: &Found,
     counted: &mut Counted,
     files: &mut F,
     cases: &mut Vec<Case>,
@@ -114,12 +114,11 @@ fn add_found<F: BenchFiles>(
     ensures { IfOk result (λ _. length cases.old.items < length cases.new.items) }
 {
     match found {
-        Some(Found::Net(opened)) => add_planned(trial, at, bench, opened, counted, files, cases),
-        Some(Found::Refused(why)) => match Vec::from_slice(trial.alloc, why.as_slice()) {
+        Found::Net(opened) => add_planned(trial, at, bench, opened, counted, files, cases),
+        Found::Refused(why) => match Vec::from_slice(trial.alloc, why.as_slice()) {
             Ok(why) => add_refused(trial, at, Refusal::NoNet(why), cases),
             Err(_) => Err(Fault::Memory),
         },
-        None => Err(Fault::Memory),
     }
 }
 

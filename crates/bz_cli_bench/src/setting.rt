@@ -6,6 +6,7 @@ ghost use Rattle.bz_cli_bench.specs.Cases.{IsPlayed};
 use crate::asked::{At, Trial};
 use crate::case::Case;
 use crate::counted::Counted;
+use crate::ended::Unlike;
 use crate::files::BenchFiles;
 use crate::learning::Came;
 use crate::opened::Opened;
@@ -17,6 +18,7 @@ use crate::unlike::first_unlike;
 use crate::verdict::Verdict;
 use bz_bench::Tally;
 use bz_cli_input::Fault;
+use std::mem;
 
 /// The most entries that the journal of a play may have.
 const MAX_JOURNAL: u32 = 16_777_216;
@@ -37,6 +39,14 @@ pub(crate) struct Had {
     pub tallies: Vec<Tally>,
 }
 
+impl Had {
+    /// What passed in a play, which has nothing of it then.
+    pub(crate) fn of(setting: Setting<'_>, seed: Option<u64>, played: &mut Played) -> Had {
+        let tallies = mem::replace(&mut played.tallies, Vec::new(setting.trial.alloc));
+        Had { seed, tallies }
+    }
+}
+
 /// The case of a bench that is played by a seed. `had` is of the first one that passed, if there is one by then.
 pub(crate) fn case_of<F: BenchFiles>(
     setting: Setting<'_>,
@@ -48,7 +58,7 @@ pub(crate) fn case_of<F: BenchFiles>(
     requires { length setting.plan.now.streams.items ≡ length setting.opened.now.ports }
 {
     match played(setting, seed) {
-        Ok(played) => case_in(setting, seed, played, had, counted, files),
+        Ok(mut played) => case_in(setting, seed, &mut played, had, counted, files),
         Err(fault) => Err(fault),
     }
 }
@@ -93,22 +103,21 @@ pub(crate) fn played(setting: Setting<'_>, seed: Option<u64>) -> Result<Played, 
 fn case_in<F: BenchFiles>(
     setting: Setting<'_>,
     seed: Option<u64>,
-    played: Played,
+    played: &mut Played,
     had: &mut Option<Had>,
     counted: &mut Counted,
     files: &mut F,
 ) -> Result<Case, Fault>
-    requires { IsPlayed played.verdict }
+    requires { IsPlayed played.old.verdict }
 {
     if setting.trial.asked.cover.is_some() {
         counted.add(setting.trial.alloc, played.stepping.net())?;
     }
-    let mut case = told_case(setting, seed, &played, had.as_ref())?;
+    let mut case = told_case(setting, seed, &*played, had.as_ref())?;
     if !case.is_passed() {
-        case.note_unkept(keep_trace(setting, seed, &played, files)?);
+        case.note_unkept(keep_trace(setting, seed, &*played, files)?);
     } else if had.is_none() {
-        let tallies = played.into_tallies();
-        *had = Some(Had { seed, tallies });
+        *had = Some(Had::of(setting, seed, played));
     }
     Ok(case)
 }
@@ -123,12 +132,20 @@ fn told_case(
     requires { IsPlayed played.now.verdict }
 {
     let place = setting.at.place;
-    if let (Verdict::Passed, Some(had)) = (played.verdict, had) {
-        if let Some(unlike) = first_unlike(setting.opened.flat(), had, &played.tallies) {
-            let told = told_of(setting, played, Some(unlike))?;
-            return Ok(Case::unlike(place, seed, unlike, told));
-        }
+    let unlike = unlike_of(setting, played, had);
+    match told_of(setting, played, unlike) {
+        Ok(told) => match unlike {
+            Some(unlike) => Ok(Case::unlike(place, seed, unlike, told)),
+            None => Ok(Case::judged(place, seed, played.verdict, told)),
+        },
+        Err(_) => Err(Fault::Memory),
     }
-    let told = told_of(setting, played, None)?;
-    Ok(Case::judged(place, seed, played.verdict, told))
+}
+
+// What passed otherwise than in the first play that passed, if this one did.
+fn unlike_of(setting: Setting<'_>, played: &Played, had: Option<&Had>) -> Option<Unlike> {
+    match (played.verdict, had) {
+        (Verdict::Passed, Some(had)) => first_unlike(setting.opened.flat(), had, &played.tallies),
+        _ => None,
+    }
 }

@@ -3,8 +3,8 @@
 use crate::asked::Trial;
 use crate::case::Case;
 use crate::forms::put_cases;
-use bz_cli_input::Fault;
-use bz_text::{Text, WriteFault, put};
+use bz_cli_input::{Fault, send_all};
+use bz_text::Text;
 use std::io::Write;
 
 /// Writes what is told of all cases, down to the last byte.
@@ -16,15 +16,7 @@ pub(crate) fn tell<W: Write>(
     let mut text = Text::new(trial.alloc);
     put_cases(&mut text, trial.asked, cases);
     match text.whole() {
-        Ok(bytes) => write_out(bytes, output),
+        Ok(bytes) => Ok(send_all(output, bytes)?),
         Err(_) => Err(Fault::Memory),
-    }
-}
-
-fn write_out<W: Write>(bytes: &[u8], output: &mut W) -> Result<(), Fault> {
-    put(output, bytes)?;
-    match output.flush() {
-        Ok(()) => Ok(()),
-        Err(_) => Err(Fault::from(WriteFault)),
     }
 }

@@ -7,6 +7,7 @@ use crate::blessing::Blessing;
 use crate::case::Case;
 use crate::files::{BenchFiles, FileFault, THERE};
 use crate::playing::Played;
+use crate::reading::bytes_of;
 use crate::setting::Setting;
 use bz_cli_input::Fault;
 use bz_net::Net;
@@ -134,7 +135,7 @@ fn path_of(
         path.say(".%", &[Piece::Wide(seed.into())]);
     }
     path.put(".trace");
-    match String::from_utf8(Vec::from_slice(alloc, path.whole()?)?) {
+    match String::from_utf8(bytes_of(alloc, &path)?) {
         Ok(path) => Ok(path),
         // (it is put together of texts)
         Err(_) => Err(AllocError),

@@ -1,6 +1,7 @@
 //! Two plays of one bench that passed with other values.
 
 use crate::ended::Unlike;
+use crate::playing::port_of;
 use crate::setting::Had;
 use bz_bench::Tally;
 use bz_flat::Flat;
@@ -10,8 +11,7 @@ use bz_model::{ChanKind, Value, numbered};
 /// plays alone nothing is said.
 pub(crate) fn first_unlike(flat: &Flat, had: &Had, tallies: &[Tally]) -> Option<Unlike> {
     for place in 0..flat.ports().len() {
-        let port = u32::try_from(place).unwrap_or(u32::MAX).saturating_add(1);
-        if let Some(unlike) = unlike_at(flat, had, tallies, port) {
+        if let Some(unlike) = unlike_at(flat, had, tallies, port_of(place)) {
             return Some(unlike);
         }
     }
@@ -20,8 +20,10 @@ pub(crate) fn first_unlike(flat: &Flat, had: &Had, tallies: &[Tally]) -> Option<
 
 fn unlike_at(flat: &Flat, had: &Had, tallies: &[Tally], port: u32) -> Option<Unlike> {
     let is_pull = is_pull(flat, port);
-    let before = passed(numbered(&had.tallies, port)?, is_pull);
-    let now = passed(numbered(tallies, port)?, is_pull);
+    let (Some(before), Some(now)) = (numbered(&had.tallies, port), numbered(tallies, port)) else {
+        return None;
+    };
+    let (before, now) = (passed(before, is_pull), passed(now, is_pull));
     for (place, (one, other)) in before.iter().zip(now.iter()).enumerate() {
         if *one != *other {
             return Some(Unlike {
@@ -39,7 +41,7 @@ fn unlike_at(flat: &Flat, had: &Had, tallies: &[Tally], port: u32) -> Option<Unl
 /// Whether values go with the ends of handshakes at a port.
 pub(crate) fn is_pull(flat: &Flat, port: u32) -> bool {
     match flat.chan(port) {
-        Some(chan) => chan.kind == ChanKind::Pull,
+        Some(chan) => matches!(chan.kind, ChanKind::Pull),
         None => false,
     }
 }

@@ -1,2 +1,3 @@
+pub mod Found
 pub mod Performed
-pub mod Missing
+pub mod Made

@@ -1,5 +1,5 @@
 -- How the program ends: with a status, or with the fault of its command, which it tells.
-use Rattle.std.specs.Prelude.{◌≡◌, ℕ, ◌<◌, ◌≤◌, ◌&&◌, ◌||◌, ⊤, is_some, Bool, if◌then◌else◌, Option, None, Some, Result, Ok, Err, List}
+use Rattle.std.specs.Prelude.{◌≡◌, ◌⊎◌, ℕ, ◌<◌, ◌≤◌, ◌&&◌, ◌||◌, ⊤, is_some, Bool, if◌then◌else◌, Option, None, Some, Result, Ok, Err, List, []}
 use Rattle.std.specs.Io.KnownBytes.{Keeps}
 use Rattle.bz_cli.specs.declared.pooling.Pooled.{Pooled}
 use Rattle.bz_cli_input.specs.declared.fault.Fault.{Fault}
@@ -8,11 +8,18 @@ use Rattle.bz_complete.specs.declared.fault.CompleteFault.TheVariants as complet
 use Rattle.bz_complete.specs.Completions as completing
 use Rattle.bz_cli_core.specs.declared.playing.Halt.{Halt}
 use Rattle.bz_cli_core.specs.declared.run.Played.{Played}
-use Rattle.bz_cli_trace.specs.declared.fault.TraceFault.{TraceFault}
-use Rattle.bz_cli_trace.specs.declared.fault.TraceFault.TheVariants.{Command}
-use Rattle.bz_cli_trace.specs.Making.{status_of}
-use Rattle.bz_cli_trace.specs.Checking.{passes}
-use Rattle.bz_cli_trace.specs.declared.checked.Checked.{Checked}
+use Rattle.bz_trace.specs.declared.checking.Verdict.{Verdict}
+use Rattle.bz_trace.specs.declared.checking.Verdict.TheVariants as verdict
+use Rattle.bz_cli_input.specs.Answering.{Answers, SendsOne}
+use Rattle.bz_cli_input.specs.Opening.{RefusesNet}
+use Rattle.bz_cli_input.specs.Stopping.{StopsAtInput}
+use Rattle.bz_cli_input.specs.declared.fault.Fault.TheVariants.{Memory, Write}
+use Rattle.bz_cli_trace.specs.declared.case.Case.{Case}
+use Rattle.bz_cli_trace.specs.declared.unmade.Unmade.{Unmade}
+use Rattle.bz_cli_trace.specs.declared.unmade.Unmade.TheVariants.{Command, Other}
+use Rattle.bz_cli_trace.specs.declared.way.CheckWay.{CheckWay}
+use Rattle.bz_cli_trace.specs.Judging.{IsCase, passes}
+use Rattle.bz_cli_trace.specs.Telling.{SaysVerdict}
 use Rattle.bz_cli_args.specs.declared.asked.ChartOptions.{ChartOptions}
 use Rattle.bz_cli_args.specs.declared.asked.WaitsOptions.{WaitsOptions}
 use Rattle.bz_cli_waits.specs.declared.asked.WaitsAsked.{WaitsAsked}
@@ -39,10 +46,27 @@ abbrev pub of_run : Result Played Fault → Result ℕ Fault
 of_run (Ok played) = Ok (of_halt played.halt)
 of_run (Err fault) = Err fault
 
--- 0 where the trace is that of a run, which ends at rest where it has to, and else 1
-abbrev pub of_check : Result Checked Fault → Result ℕ Fault
-of_check (Ok checked) = Ok (if passes checked then 0 else 1)
-of_check (Err fault) = Err fault
+-- The netlist or the trace is not taken, the netlist is refused, or what is found of the trace goes out: 0 where it is that of a run,
+-- which ends at rest where it has to, and else 1.
+abbrev pub SaysFound : CheckWay → List ℕ → List ℕ → Option (List ℕ) → ℕ → List ℕ → Type 0
+SaysFound way netlist trace part status text =
+    (case : Case) × IsCase way.to_first way.to_rest netlist trace part case × SaysVerdict [] case.judged.found text
+    × (status ≡ (if passes case then 0 else 1))
+
+abbrev pub ChecksOn : CheckWay → List ℕ → List ℕ → Option (List ℕ) → Option (List ℕ) → Option (List ℕ) → Result ℕ Fault → Type 0
+ChecksOn way netlist trace part old new result =
+    StopsAtInput old new result ⊎ Answers Write (SaysFound way netlist trace part) (RefusesNet netlist part) old new result
+
+-- the same of a trace that was judged, or of the fault for which it wasn't
+abbrev pub TellsCase : Result Case Fault → Option (List ℕ) → Option (List ℕ) → Result ℕ Fault → Type 0
+TellsCase (Ok case) old new result =
+    Answers Write (λ status text. SaysVerdict [] case.judged.found text × (status ≡ (if passes case then 0 else 1))) (λ fault. fault ≡ Memory) old new result
+TellsCase (Err fault) old new result = (result ≡ Err fault) × Keeps old new
+
+-- 1 where a trace is that of no run
+abbrev pub NoRunEnds : Verdict → Result ℕ Fault → Type 0
+NoRunEnds verdict.Memory result = result ≡ Err Memory
+NoRunEnds v result = result ≡ Ok 1
 
 -- 0 where there is a drawing, and else 2
 abbrev pub of_drawing : {N : Type 0} → Result (Option N) Fault → Result ℕ Fault
@@ -50,26 +74,28 @@ of_drawing (Ok None) = Ok 0
 of_drawing (Ok (Some why)) = Ok 2
 of_drawing (Err fault) = Err fault
 
--- the status that says why nothing is made of a trace
-abbrev pub of_unmade : {C : Type 0} → TraceFault C → Result ℕ Fault
+-- 2 where nothing is made of the trace of a run
+abbrev pub of_unmade : {C : Type 0} → Unmade C → Result ℕ Fault
 of_unmade (Command fault) = Err fault
-of_unmade fault = Ok (status_of fault)
+of_unmade (Other cause) = Ok 2
 
--- 0 where a drawing, a chart or a page is made of a trace, and else the status that says why none is
-abbrev pub of_made : {A C : Type 0} → Result A (TraceFault C) → Result ℕ Fault
+-- 0 where a page is made of it
+abbrev pub of_made : {A C : Type 0} → Result A (Unmade C) → Result ℕ Fault
 of_made (Ok u) = Ok 0
 of_made (Err fault) = of_unmade fault
+
+-- What was made of a trace goes out, with status 0, or 4 where that is asked for and something can never move again; or the status says
+-- why nothing was made.
+abbrev pub EndsWith : {A C : Type 0} → Result A (Unmade C) → (A → List ℕ) → (A → Bool) → Bool → Option (List ℕ) → Option (List ℕ) → Result ℕ Fault → Type 0
+EndsWith (Ok it) text is_stuck strict old new result =
+    SendsOne Write (λ status sent. (sent ≡ text it) × (status ≡ (if (is_stuck it && strict) then 4 else 0))) old new result
+EndsWith (Err fault) text is_stuck strict old new result = (result ≡ of_unmade fault) × Keeps old new
 
 -- 0 where a trace was made of a short one, and else the status that says why none is
 abbrev pub of_completed : Result ⊤ CompleteFault → Result ℕ Fault
 of_completed (Ok u) = Ok 0
 of_completed (Err (complete.Command fault)) = Err fault
 of_completed (Err fault) = Ok (completing.status_of fault)
-
--- 0 where it is told of a trace who waits, or 4 where something can never move again and that is asked for
-abbrev pub of_told : {C : Type 0} → Bool → Result Bool (TraceFault C) → Result ℕ Fault
-of_told strict (Ok is) = Ok (if (is && strict) then 4 else 0)
-of_told strict (Err fault) = of_unmade fault
 
 -- 0 where a pool was closed, or 4 where a session has not played all its words and that is asked for
 abbrev pub pooled_status : Bool → Bool → ℕ

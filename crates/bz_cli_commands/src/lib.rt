@@ -2,12 +2,13 @@
 #![tactic(auto)]
 
 mod benching;
+mod checking;
 mod commands;
-mod counted;
+mod makers;
 mod outcome;
 
 pub use benching::{has_traces, test};
-pub use commands::{
-    chart, check, complete, draw, kinds, lint, list, page, parts, pool, run, unmade, waits,
-};
+pub use checking::check;
+pub use commands::{complete, draw, kinds, lint, list, parts, pool, run};
+pub use makers::{Maker, make, make_waits, no_run};
 pub use outcome::{Ended, Outcome};

@@ -16,6 +16,7 @@ ghost use Rattle.bz_cli_core.specs.Sending.{GoesOut, PlaysOut, RunsOut};
 use crate::pending::Pending;
 use bz_model::{Cmd, Entry, HostCmd, NetError, Reply, Value, Who};
 use bz_net::{Play, RunEnd};
+use bz_trace::Watch;
 use bz_trace_text::Outgoing;
 use std::io::Write;
 
@@ -43,13 +44,14 @@ pub(crate) enum End {
 
 // Plays the words on a net that was just opened, host words as host 1 and firings as worker 1. A strict play halts at the first
 // refusal. A writer that fails doesn't end the play.
-pub(crate) fn play_out<W: Write>(
+pub(crate) fn play_out<W: Write, S: Watch>(
     play: &mut Play,
     strict: bool,
     cmds: &[Cmd],
     pending: &mut Pending,
     lines: &mut Outgoing,
     out: &mut W,
+    watch: &mut S,
 ) -> End
     requires told { IsToldBy play.old [] }
     requires room { 0 < vec_capacity pending.old.entries }
@@ -58,7 +60,7 @@ pub(crate) fn play_out<W: Write>(
 {
     for (place, cmd) in cmds.iter().enumerate() {
         let word = place + 1;
-        let refusal = match word_out(play, cmd, pending, lines, out) {
+        let refusal = match word_out(play, cmd, pending, lines, out, watch) {
             Ok(refusal) => refusal,
             Err(error) => return End::Stop(Stop { word, error }),
         };
@@ -78,12 +80,13 @@ fn halting(strict: bool, refusal: Option<Reply>) -> Option<Reply>
 
 // Plays one word: the reply to it that is a refusal, if one is. It is a call: so the loop of a run has its registers to itself.
 #[inline(never)]
-fn word_out<W: Write>(
+fn word_out<W: Write, S: Watch>(
     play: &mut Play,
     cmd: &Cmd,
     pending: &mut Pending,
     lines: &mut Outgoing,
     out: &mut W,
+    watch: &mut S,
 ) -> Result<Option<Reply>, NetError>
     requires { 0 < vec_capacity pending.old.entries }
     ensures ok { IfOk result (λ refusal. GoesOut play.old play.new (W.contents out.old) pending.old (W.contents out.new) pending.new (λ old new. PlaysOne old new cmd.now refusal)) }
@@ -92,8 +95,8 @@ fn word_out<W: Write>(
     ensures room { vec_capacity pending.old.entries ≤ vec_capacity pending.new.entries }
 {
     match cmd {
-        Cmd::Host(cmd) => command_out(play, cmd, pending, out),
-        Cmd::Run(fuel) => match run_out(play, *fuel, pending, lines, out) {
+        Cmd::Host(cmd) => command_out(play, cmd, pending, out, watch),
+        Cmd::Run(fuel) => match run_out(play, *fuel, pending, lines, out, watch) {
             RunEnd::Rest(_) => Ok(None),
             RunEnd::Spent(_) => Ok(None),
             RunEnd::Refused(_, error) => Err(error),
@@ -102,11 +105,12 @@ fn word_out<W: Write>(
 }
 
 // Makes a host command: the reply to it, if it is a refusal.
-fn command_out<W: Write>(
+fn command_out<W: Write, S: Watch>(
     play: &mut Play,
     cmd: &HostCmd,
     pending: &mut Pending,
     out: &mut W,
+    watch: &mut S,
 ) -> Result<Option<Reply>, NetError>
     requires { 0 < vec_capacity pending.old.entries }
     ensures ok { IfOk result (λ refusal. GoesOut play.old play.new (W.contents out.old) pending.old (W.contents out.new) pending.new (λ old new. PlaysOne old new (word.Host cmd.now) refusal)) }
@@ -117,6 +121,7 @@ fn command_out<W: Write>(
     pending.make_room(play.names(), out);
     match play.command(Who::Host(1), cmd) {
         Ok(entry) => {
+            watch.see(play, &entry);
             pending.entries.push(entry).unwrap();
             Ok(refusal_in(entry))
         }
@@ -139,26 +144,33 @@ fn refusal_in(entry: Entry) -> Option<Reply>
 
 // Fires so many times, or until no component can move. The lines go out as they come, behind those of the entries so far.
 #[inline(always)]
-fn run_out<W: Write>(
+fn run_out<W: Write, S: Watch>(
     play: &mut Play,
     fuel: u64,
     pending: &mut Pending,
     lines: &mut Outgoing,
     out: &mut W,
+    watch: &mut S,
 ) -> RunEnd
     ensures goes { GoesOut play.old play.new (W.contents out.old) pending.old (W.contents out.new) pending.new (λ old new. Ran old new (who.Worker 1) 1 fuel result) }
     ensures room { vec_capacity pending.old.entries ≤ vec_capacity pending.new.entries }
 {
     pending.put(play.names(), out);
     lines.begin(pending.failed);
-    let end = fire_out(play, fuel, lines, out);
+    let end = fire_out(play, fuel, lines, out, watch);
     pending.failed = lines.finish(out);
     end
 }
 
 // The same, where all lines so far are on a page or have gone out.
 #[inline(always)]
-fn fire_out<W: Write>(play: &mut Play, fuel: u64, lines: &mut Outgoing, out: &mut W) -> RunEnd
+fn fire_out<W: Write, S: Watch>(
+    play: &mut Play,
+    fuel: u64,
+    lines: &mut Outgoing,
+    out: &mut W,
+    watch: &mut S,
+) -> RunEnd
     ensures { RunsOut play.old play.new (W.contents out.old) lines.old (W.contents out.new) lines.new
         (λ old new. Ran old new (who.Worker 1) 1 fuel result) }
 {
@@ -168,7 +180,7 @@ fn fire_out<W: Write>(play: &mut Play, fuel: u64, lines: &mut Outgoing, out: &mu
     let (mut last, mut room, mut now) = (0, 0, had);
     while now > end {
         let stop = end.max(now.saturating_sub(lines.make_room(out)));
-        match fire_lines(play, stop, last, &mut room, lines, out) {
+        match fire_lines(play, stop, last, &mut room, lines, out, watch) {
             Some(comp) => {
                 last = comp;
                 now = stop;
@@ -186,13 +198,14 @@ fn fire_out<W: Write>(play: &mut Play, fuel: u64, lines: &mut Outgoing, out: &mu
 // Fires until only so many entries are still let in, where a page has room for the lines: the component that moved last, or the
 // one before the first. `None` where none can move before, which is told.
 #[inline(always)]
-fn fire_lines<W: Write>(
+fn fire_lines<W: Write, S: Watch>(
     play: &mut Play,
     stop: u64,
     from: usize,
     room: &mut Value,
     lines: &mut Outgoing,
     out: &mut W,
+    watch: &mut S,
 ) -> Option<usize>
     requires due { stop ≤ play.old.left }
     requires from { from ≤ length play.old.wiring.sites }
@@ -207,7 +220,9 @@ fn fire_lines<W: Write>(
 {
     let mut last = from;
     while play.left() > stop {
-        match play.step_after(Who::Worker(1), last, room) {
+        let entry = play.step_after(Who::Worker(1), last, room);
+        watch.see(play, &entry);
+        match entry {
             Entry::Fired {
                 who,
                 comp,

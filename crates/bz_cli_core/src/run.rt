@@ -24,7 +24,7 @@ use bz_cli_input::{Fault, flat_of_input, read_input};
 use bz_model::{Cmd, Entry, Names, NetError};
 use bz_net::Play;
 use bz_text::WriteFault;
-use bz_trace::write_trace;
+use bz_trace::{Watch, write_trace};
 use bz_trace_text::Outgoing;
 use bz_words::command;
 use std::alloc::Global;
@@ -50,8 +50,8 @@ impl Drop for Played {
 /// that the reader gives, up to `journal` entries, and writes the trace as it goes. A strict play halts after the first host
 /// command that is answered busy, not-yet or not-taken. Nothing is written before the net is open, and from there on no memory
 /// is taken. Where the writer fails the words are played on to their end. The exit status of the program is 0 where all was
-/// played, else that of the fault.
-pub fn run_cmd<R: Read, W: Write>(
+/// played, else that of the fault. Who watches sees each entry that is made, and the net behind it.
+pub fn run_cmd<R: Read, W: Write, S: Watch>(
     alloc: Global,
     asked: Option<&[u8]>,
     journal: u32,
@@ -59,6 +59,7 @@ pub fn run_cmd<R: Read, W: Write>(
     words: &[&str],
     input: &mut R,
     output: &mut W,
+    watch: &mut S,
 ) -> Result<Played, Fault>
     requires least { 0 < journal }
     requires most { journal ≤ 16777216 }
@@ -68,11 +69,13 @@ pub fn run_cmd<R: Read, W: Write>(
     // Whatever comes of it, it reads at most one byte past the limit.
     ensures bounded { ReadsWithin (R.remaining input.old) (R.remaining input.new) }
 {
-    run_in_pieces(alloc, asked, journal, strict, PIECE, words, input, output)
+    run_in_pieces(
+        alloc, asked, journal, strict, PIECE, words, input, output, watch,
+    )
 }
 
 /// `run_cmd` with a buffer of `room` entries.
-pub fn run_in_pieces<R: Read, W: Write>(
+pub fn run_in_pieces<R: Read, W: Write, S: Watch>(
     alloc: Global,
     asked: Option<&[u8]>,
     journal: u32,
@@ -81,6 +84,7 @@ pub fn run_in_pieces<R: Read, W: Write>(
     words: &[&str],
     input: &mut R,
     output: &mut W,
+    watch: &mut S,
 ) -> Result<Played, Fault>
     requires least { 0 < journal }
     requires most { journal ≤ 16777216 }
@@ -100,11 +104,12 @@ pub fn run_in_pieces<R: Read, W: Write>(
         text,
         cmds.as_slice(),
         output,
+        watch,
     )
 }
 
 // Plays the commands on the net of the text, and writes the trace through a buffer of so many entries.
-fn play_text<W: Write>(
+fn play_text<W: Write, S: Watch>(
     alloc: Global,
     asked: Option<&[u8]>,
     journal: u32,
@@ -113,6 +118,7 @@ fn play_text<W: Write>(
     text: Vec<u8>,
     cmds: &[Cmd],
     output: &mut W,
+    watch: &mut S,
 ) -> Result<Played, Fault>
     requires { 0 < room }
     ensures { PlaysText text.items (option_copied asked.entry) journal strict cmds.now (W.contents output.old) (W.contents output.new) result }
@@ -125,17 +131,19 @@ fn play_text<W: Write>(
     let Ok(play) = Play::open(alloc, flat, journal) else {
         return Err(Fault::Memory);
     };
-    play_net(play, strict, buffer, &mut lines, cmds, output)
+    watch.begin(alloc, &play);
+    play_net(play, strict, buffer, &mut lines, cmds, output, watch)
 }
 
 // Plays the commands on a net that was just opened, and writes the trace through a buffer.
-fn play_net<W: Write>(
+fn play_net<W: Write, S: Watch>(
     mut play: Play,
     strict: bool,
     buffer: Vec<Entry>,
     lines: &mut Outgoing,
     cmds: &[Cmd],
     output: &mut W,
+    watch: &mut S,
 ) -> Result<Played, Fault>
     requires told { IsToldBy play [] }
     requires empty { buffer.items ≡ [] }
@@ -143,20 +151,21 @@ fn play_net<W: Write>(
     ensures plays { PlaysNet play.wiring play.left strict cmds.now (W.contents output.old) (W.contents output.new) result }
     ensures memory { IfErr result (λ fault. fault ≢ Fault.Memory) }
 {
-    match play_lent(&mut play, strict, buffer, lines, cmds, output) {
+    match play_lent(&mut play, strict, buffer, lines, cmds, output, watch) {
         Ok(halt) => Ok(Played { net: play, halt }),
         Err(fault) => Err(fault),
     }
 }
 
 // The same on a net that is lent: where the play halted.
-fn play_lent<W: Write>(
+fn play_lent<W: Write, S: Watch>(
     play: &mut Play,
     strict: bool,
     buffer: Vec<Entry>,
     lines: &mut Outgoing,
     cmds: &[Cmd],
     output: &mut W,
+    watch: &mut S,
 ) -> Result<Option<Halt>, Fault>
     requires told { IsToldBy play.old [] }
     requires empty { buffer.items ≡ [] }
@@ -165,7 +174,7 @@ fn play_lent<W: Write>(
     ensures memory { IfErr result (λ fault. fault ≢ Fault.Memory) }
 {
     let mut pending = Pending::begin(buffer, output);
-    let end = play_out(play, strict, cmds, &mut pending, lines, output);
+    let end = play_out(play, strict, cmds, &mut pending, lines, output, watch);
     play.list_clashes();
     pending.finish(play.names(), play.clashes(), output)?;
     match end {

@@ -1,6 +1,8 @@
 -- Numbered lines, printed one after another.
 use Rattle.std.proofs.Common.{◌≡◌, ℕ, suc, ◌+◌, ◌<◌, ◌≤◌, Bool, List, [], ◌∷◌, ◌++◌, Option, map, length, take, get_or, append_assoc, append-nil, sym, ap, ◌∙◌, subst, arith}
 use Rattle.std.proofs.lemmas.List.{take_all, take_more, length-map, map_push, length-take-le}
+use Rattle.bz_text.specs.Growing.{Grows}
+use Rattle.bz_text.proofs.Grown.{grows_then}
 use Rattle.bz_trace_text.specs.Printing.{PrintsFrom}
 use Rattle.bz_trace_text.proofs.Printed.{prints_then}
 use Rattle.bz_cli_input.specs.Listing.{lines}
@@ -41,3 +43,8 @@ module _ {X Y : Type 0} (f : ℕ → X → List ℕ) (g : Y → X) (ys : List Y)
 pub printed_lines : {X Y : Type 0} (f : ℕ → X → List ℕ) (g : Y → X) (ys : List Y) (i : ℕ) → length ys ≤ i → (a b : Option (List ℕ)) (k l : Bool) (p q : List ℕ)
     → PrintsFrom a k p b l q (lines f 1 (map g (take i ys))) → PrintsFrom a k p b l q (lines f 1 (map g ys))
 printed_lines f g ys i le a b k l p q so_far = subst (λ zs. PrintsFrom a k p b l q (lines f 1 (map g zs))) (take_all i ys le) so_far
+
+-- lines that were added, and the next
+pub grown_line : {X Y : Type 0} (f : ℕ → X → List ℕ) (g : Y → X) (ys : List Y) (i : ℕ) (y : Y) → i < length ys → y ≡ get_or ys i y → (a b c : Option (List ℕ)) → Grows a b (lines f 1 (map g (take i ys))) → Grows b c (f (i + 1) (g y))
+    → Grows a c (lines f 1 (map g (take (i + 1) ys)))
+grown_line f g ys i y within read a b c p q = subst (Grows a c) (sym (lines_more f g ys i y within read)) (grows_then a b c _ _ p q)

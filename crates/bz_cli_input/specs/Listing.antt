@@ -6,7 +6,7 @@ use Rattle.bz_model.specs.Names.{External}
 use Rattle.bz_model.specs.Nets.{Site, Wiring, chan_in}
 use Rattle.bz_model.specs.Traces.{name_form}
 use Rattle.bz_model.specs.Words.{carried_text, spaced}
-use Rattle.bz_kind_rows.specs.KindWords.{kind_word}
+use Rattle.bz_model.specs.Rows.{kind_word}
 
 abbrev pub sense_text : Bool → List ℕ
 sense_text true = codes "passive"

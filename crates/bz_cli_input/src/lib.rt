@@ -7,6 +7,7 @@ mod list;
 mod listing;
 mod netlist;
 mod refusal;
+mod sending;
 mod tops;
 mod uses;
 
@@ -16,4 +17,5 @@ pub use list::list_cmd;
 pub use listing::{chan_at, print_head, print_port, print_ports};
 pub use netlist::{Netlist, flat_of, flat_of_input};
 pub use refusal::in_part;
+pub use sending::send_all;
 pub use uses::{mark_used, used_by_others};

@@ -6,7 +6,7 @@ ghost use Rattle.bz_model.specs.Nets.{chan_in};
 ghost use Rattle.bz_flat.specs.Flats.{site_of};
 ghost use Rattle.bz_text.specs.Writing.{Writes};
 ghost use Rattle.bz_trace_text.specs.Printing.{Prints};
-ghost use Rattle.bz_kind_rows.specs.KindWords.{kind_word};
+ghost use Rattle.bz_model.specs.Rows.{kind_word};
 ghost use Rattle.bz_cli_input.specs.Listing.{sense_text, port_line, ports_text, comp_line, lines, head_text, counts_text, list_text};
 
 use bz_arena::{Arena, Id};

@@ -2,8 +2,7 @@
 #![tactic(auto)]
 
 mod command;
-mod json;
-mod listing;
-mod rules;
+mod fields;
+mod items;
 
 pub use command::kinds_cmd;

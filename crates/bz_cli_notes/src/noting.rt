@@ -1,24 +1,22 @@
 //! How the program ends once its command has: a fault is reported, and notes are made where they were asked for.
 //!
-//! Of a trace that `check` reads from a file of its own only the line that its verdict names is kept, since it may be long. Of
-//! other commands such a file is opened and read again, where it is a file and no pipe.
+//! Of a trace with a reader of its own only the line that the verdict names is kept, since it may be long. The net that refused it goes
+//! with the status, so no trace is read again, and a pipe is told the same as a file.
 
 use crate::resting::{note_end, note_rest};
-use bz_cli_args::{
-    BAD_COMMAND_LINE, Command, Given, NO_RUN, Source, is_file, netlist_in, open_file, word_starts,
-};
-use bz_cli_input::{Fault, INPUT_LIMIT, read_input};
-use bz_cli_trace::{Checked, check_trace, split_trace};
+use bz_cli_args::{BAD_COMMAND_LINE, Command, Given, is_file, netlist_in, word_starts};
+use bz_cli_input::Fault;
+use bz_cli_trace::{Case, split_trace};
 use bz_explain::{Asked, Explained, WordFile, Words, explain};
 use bz_explain_notes::{Notes, tell, tell_findings, tell_notes};
 use bz_explain_trace::{Suspect, explain_no_trace, explain_trace, explain_unrested};
 use bz_net::Core;
-use bz_view::Piece::{Number, Text};
+use bz_view::Piece::Text;
 use std::alloc::Global;
 use std::io::Write;
 use std::rt::Files;
 
-/// Reports what a command came to, with notes where the input was kept for them: on the net that a trace was checked against, and on
+/// Reports what a command came to, with notes where the input was kept for them: on the net that a trace was judged on, and on
 /// the one that was played to its end. The status with which the program ends.
 pub fn end<F: Files, E: Write>(
     files: &F,
@@ -26,14 +24,14 @@ pub fn end<F: Files, E: Write>(
     given: &Given<'_, '_>,
     kept: Option<&[u8]>,
     status: Result<u8, Fault>,
-    checked: Option<Checked>,
+    case: Option<Case>,
     played: Option<&Core>,
     errors: &mut E,
 ) -> u8 {
     match status {
         Ok(status) => {
             if let Some(kept) = kept {
-                note_status(files, alloc, &*given, status, kept, checked, errors);
+                note_status(alloc, &*given, status, kept, case, errors);
                 if let Some(net) = played {
                     note_played(alloc, given, kept, net, errors);
                 }
@@ -45,19 +43,16 @@ pub fn end<F: Files, E: Write>(
 }
 
 // Notes what a command on a trace came to.
-fn note_status<'a, F: Files, E: Write>(
-    files: &F,
+fn note_status<'a, E: Write>(
     alloc: Global,
     given: &Given<'a, '_>,
     status: u8,
     kept: &'a [u8],
-    checked: Option<Checked>,
+    case: Option<Case>,
     errors: &mut E,
 ) {
-    if let Some(checked) = checked {
-        note_checked(alloc, &*given, kept, checked, errors);
-    } else if status == NO_RUN && makes_of_trace(given.command) {
-        note_trace(files, alloc, &*given, kept, errors);
+    if let Some(case) = case {
+        note_case(alloc, &*given, kept, case, errors);
     } else if status == BAD_COMMAND_LINE && misses_trace(given, kept) {
         let _ = tell_notes(alloc, &explain_no_trace(alloc, kept), errors);
     }
@@ -75,15 +70,6 @@ fn note_played<E: Write>(
     note_rest(alloc, given.part, netlist, net, errors);
 }
 
-// Whether something is made of a trace, which is not just checked.
-fn makes_of_trace(command: Command<'_>) -> bool {
-    match command {
-        Command::Check(_) => false,
-        Command::Draw(options) => options.trace.is_some(),
-        command => command.reads_trace(),
-    }
-}
-
 // Whether a trace is asked for after the netlist of a file, and there is none.
 fn misses_trace(given: &Given<'_, '_>, kept: &[u8]) -> bool {
     match given.command {
@@ -94,21 +80,21 @@ fn misses_trace(given: &Given<'_, '_>, kept: &[u8]) -> bool {
     }
 }
 
-// Notes on a trace by the net that it was checked against: why it is not that of a run, or why that goes no further.
-fn note_checked<'a, E: Write>(
+// Notes on a trace by the net that it was judged on: why it is not that of a run, or why that goes no further.
+fn note_case<'a, E: Write>(
     alloc: Global,
     given: &Given<'a, '_>,
     kept: &'a [u8],
-    mut checked: Checked,
+    mut case: Case,
     errors: &mut E,
 ) {
-    if checked.passes() {
-        return note_end(alloc, checked, errors);
+    if case.passes() {
+        return note_end(alloc, case, errors);
     }
-    let lines = checked.take_kept(alloc);
+    let lines = case.take_kept(alloc);
     let notes = match given.command.trace_file() {
-        _ if checked.unrested => explain_unrested(alloc, checked),
-        None => explain_trace(alloc, suspect_behind(given.command, kept), checked),
+        _ if case.found().unrested => explain_unrested(alloc, case),
+        None => explain_trace(alloc, suspect_behind(given.command, kept), case),
         Some(source) => match lines.lines() {
             Some(trace) => {
                 let suspect = Suspect {
@@ -117,7 +103,7 @@ fn note_checked<'a, E: Write>(
                     first: lines.first(),
                     file: Some(source.file().unwrap_or("standard input")),
                 };
-                explain_trace(alloc, suspect, checked)
+                explain_trace(alloc, suspect, case)
             }
             None => Notes::new(alloc),
         },
@@ -135,71 +121,6 @@ pub(crate) fn suspect_behind<'t>(command: Command<'_>, kept: &'t [u8]) -> Suspec
         first: 1,
         file: None,
     }
-}
-
-// Notes why a trace is not that of a run, of which nothing is made: it is checked once more.
-fn note_trace<'a, F: Files, E: Write>(
-    files: &F,
-    alloc: Global,
-    given: &Given<'a, '_>,
-    kept: &'a [u8],
-    errors: &mut E,
-) {
-    let notes = match given.command.trace_file() {
-        None => notes_on(alloc, given.part, suspect_behind(given.command, kept)),
-        Some(source) => notes_of(files, alloc, given.part, kept, source),
-    };
-    let _ = tell_notes(alloc, &notes, errors);
-}
-
-// The notes of a trace by a net that checks it once more.
-fn notes_on(alloc: Global, part: Option<&[u8]>, suspect: Suspect<'_>) -> Notes {
-    match check_trace(alloc, part, suspect.netlist, suspect.trace) {
-        Ok(checked) => explain_trace(alloc, suspect, checked),
-        Err(_) => Notes::new(alloc),
-    }
-}
-
-// The notes of a trace with a file of its own, which is read once more for them.
-fn notes_of<'a, F: Files>(
-    files: &F,
-    alloc: Global,
-    part: Option<&'a [u8]>,
-    netlist: &'a [u8],
-    source: Source<'a>,
-) -> Notes {
-    if let Some((path, trace)) = read_again(files, alloc, source) {
-        let suspect = Suspect {
-            netlist,
-            trace: trace.as_slice(),
-            first: 1,
-            file: Some(path),
-        };
-        return notes_on(alloc, part, suspect);
-    }
-    let mut notes = Notes::new(alloc);
-    notes.say(
-        "the reason is told only where the trace is a regular file of at most % bytes",
-        &[Number(INPUT_LIMIT)],
-    );
-    notes
-}
-
-// What a file has. Standard input, a pipe and a device can't be read twice.
-fn read_again<'a, F: Files>(
-    files: &F,
-    alloc: Global,
-    source: Source<'a>,
-) -> Option<(&'a str, Vec<u8>)> {
-    let Source::File(path) = source else {
-        return None;
-    };
-    if !is_file(files, path) {
-        return None;
-    }
-    let mut file = open_file(files, path).ok()?;
-    let trace = read_input(alloc, &mut file).ok()?;
-    Some((path, trace))
 }
 
 // Reports a fault by its line, with notes after it where the input was kept for them.

@@ -3,26 +3,26 @@
 use crate::noting::suspect_behind;
 use bz_cli_args::Given;
 use bz_cli_input::Fault;
-use bz_cli_trace::Checked;
+use bz_cli_trace::Case;
 use bz_explain_trace::{Suspect, put_found};
 use bz_text::{Text, put};
 use bz_view::Seen;
 use std::alloc::Global;
 use std::io::Write;
 
-/// Writes what was found of a trace that was checked, as an object. `kept` is the input, where it was kept.
+/// Writes what was found of a trace that was judged, as an object. `kept` is the input, where it was kept.
 pub fn put_checked<W: Write>(
     alloc: Global,
     given: &Given<'_, '_>,
     kept: Option<&[u8]>,
-    mut checked: Checked,
+    mut case: Case,
     output: &mut W,
 ) -> Result<(), Fault> {
-    let lines = checked.take_kept(alloc);
+    let lines = case.take_kept(alloc);
     match given.command.trace_file() {
         None => {
             let suspect = suspect_behind(given.command, kept.unwrap_or(b""));
-            put_suspect(alloc, suspect, checked, output)
+            put_suspect(alloc, suspect, case, output)
         }
         Some(source) => {
             let suspect = Suspect {
@@ -31,7 +31,7 @@ pub fn put_checked<W: Write>(
                 first: lines.first(),
                 file: Some(source.file().unwrap_or("-")),
             };
-            put_suspect(alloc, suspect, checked, output)
+            put_suspect(alloc, suspect, case, output)
         }
     }
 }
@@ -39,11 +39,11 @@ pub fn put_checked<W: Write>(
 fn put_suspect<W: Write>(
     alloc: Global,
     suspect: Suspect<'_>,
-    checked: Checked,
+    case: Case,
     output: &mut W,
 ) -> Result<(), Fault> {
-    let found = checked.finding();
-    let (net, source, part) = checked.into_parts();
+    let found = case.found();
+    let (net, source, part) = case.into_parts();
     let mut text = Text::new(alloc);
     match source.survey(alloc, part.as_slice()) {
         Ok(survey) => put_found(suspect, found, Seen::of(net.core(), &survey), &mut text),

@@ -1,7 +1,7 @@
 //! Notes on a net at rest: what can never move again, and the words of the host that would go on.
 
 use bz_cli_source::survey_of;
-use bz_cli_trace::Checked;
+use bz_cli_trace::Case;
 use bz_explain_notes::{Notes, tell_notes};
 use bz_model::Phase;
 use bz_net::Core;
@@ -29,11 +29,11 @@ pub(crate) fn note_rest<W: Write>(
 }
 
 /// The same of a net that the trace of a run was checked against. The netlist is not read once more.
-pub(crate) fn note_end<W: Write>(alloc: Global, checked: Checked, errors: &mut W) {
-    if !is_waiting(checked.net.core()) {
+pub(crate) fn note_end<W: Write>(alloc: Global, case: Case, errors: &mut W) {
+    if !is_waiting(case.judged.net.core()) {
         return;
     }
-    let (net, source, part) = checked.into_parts();
+    let (net, source, part) = case.into_parts();
     if let Ok(survey) = source.survey(alloc, part.as_slice()) {
         tell_rest(alloc, Seen::of(net.core(), &survey), errors);
     }

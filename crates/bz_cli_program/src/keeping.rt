@@ -1,11 +1,10 @@
 //! What runs have exercised, kept in a file of its own.
 
-use bz_cli_args::{ASKED, BAD_COMMAND_LINE, DONE, Given};
+use bz_cli_args::{ASKED, BAD_COMMAND_LINE, Command, DONE, Given};
 use bz_cli_bench::{BenchFiles, FileFault};
 use bz_cli_input::Fault;
-use bz_cli_several::{Covered, KeptTexts, exercised};
-use bz_cli_trace::Checked;
-use bz_cover::Coverage;
+use bz_cli_several::{Covered, Exercised, cover_of_run};
+use bz_cli_trace::Case;
 use bz_text::{Piece, put, put_pieces};
 use std::alloc::Global;
 use std::io::Write;
@@ -15,10 +14,10 @@ use std::io::Write;
 pub(crate) fn cover<F: BenchFiles, E: Write>(
     alloc: Global,
     given: &Given<'_, '_>,
-    texts: KeptTexts<'_>,
+    input: Option<&[u8]>,
     status: Result<u8, Fault>,
-    checked: &mut Option<Checked>,
-    coverage: Option<Coverage>,
+    case: &mut Option<Case>,
+    run: Exercised<'_>,
     files: &mut F,
     errors: &mut E,
 ) -> Result<u8, Fault> {
@@ -27,7 +26,7 @@ pub(crate) fn cover<F: BenchFiles, E: Write>(
     };
     match status {
         Ok(status) if status == DONE || status == ASKED => {
-            match exercised(alloc, given, texts, checked.take(), coverage) {
+            match cover_of_run(alloc, given, input, case.take(), run) {
                 Ok(covered) => keep(covered, path, status, files, errors),
                 Err(fault) => Err(fault),
             }
@@ -36,9 +35,23 @@ pub(crate) fn cover<F: BenchFiles, E: Write>(
     }
 }
 
-/// Writes what was exercised to a new file, and a few lines of it to `errors`. A file that is there is left as it is. The status,
-/// which is `status` where it was written.
-pub(crate) fn keep<F: BenchFiles, E: Write>(
+/// The same of several traces, of which this is told where one is that of a run.
+pub(crate) fn keep_told<F: BenchFiles, E: Write>(
+    command: Command<'_>,
+    status: Result<u8, Fault>,
+    covered: Option<Covered>,
+    files: &mut F,
+    errors: &mut E,
+) -> Result<u8, Fault> {
+    match (status, covered, command.cover_file()) {
+        (Ok(status), Some(covered), Some(path)) => keep(covered, path, status, files, errors),
+        (status, _, _) => status,
+    }
+}
+
+// Writes what was exercised to a new file, and a few lines of it to `errors`. A file that is there is left as it is. The status,
+// which is `status` where it was written.
+fn keep<F: BenchFiles, E: Write>(
     covered: Covered,
     path: &str,
     status: u8,

@@ -3,6 +3,7 @@
 
 mod exploring;
 mod keeping;
+mod naming;
 mod performing;
 mod playing;
 

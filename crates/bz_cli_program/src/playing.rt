@@ -1,17 +1,18 @@
 //! From a request to a status: the files that it names, and the command on one netlist after another.
 
-use crate::keeping::{cover, keep};
+use crate::keeping::{cover, keep_told};
+use crate::naming::Named;
 use crate::performing::program;
 use bz_cli_args::{
-    BAD_COMMAND_LINE, Command, DONE, Given, Refusal, Request, Source, Texts, mistake_in, open_file,
+    BAD_COMMAND_LINE, Command, Given, Refusal, Request, Source, Texts, mistake_in, open_file,
     shared_stdin,
 };
 use bz_cli_bench::BenchFiles;
 use bz_cli_commands::{Outcome, has_traces};
 use bz_cli_input::Fault;
 use bz_cli_notes::{end, put_checked, refuse, tell_unread};
-use bz_cli_several::{Copying, KeptTexts, check_several};
-use bz_cli_trace::Checked;
+use bz_cli_several::Exercised;
+use bz_cli_trace::Case;
 use bz_explain_notes::Keeping;
 use bz_explore::Files as NewFiles;
 use std::alloc::Global;
@@ -103,9 +104,6 @@ fn play_on<
         return refuse(rt.alloc(), Refusal::Memory, errors);
     };
     let given = texts.given(request, words.as_slice(), prompts);
-    if given.command.is_of_several() {
-        return play_several(rt, files, errors, request, &texts, &given, input);
-    }
     if let Command::Test(options) = given.command {
         match has_traces(alloc, &given, options, files, errors) {
             Ok(false) => {}
@@ -131,67 +129,14 @@ fn play_one<
             Err(cause) => return refuse(rt.alloc(), Refusal::File(path, cause), errors),
         },
     };
-    let (status, checked, ended, _) = outcome.into_parts();
+    let (status, case, ended, _, _) = outcome.into_parts();
     let played = match &ended {
-        Some(ended) => Some(ended.net()),
-        None => None,
+        Some(ended) if !ended.halted() => Some(ended.net()),
+        _ => None,
     };
     let kept = kept_for_notes(&*input, given.explains);
     let alloc = rt.alloc();
-    end(rt, alloc, given, kept, status, checked, played, errors)
-}
-
-// Checks several traces.
-fn play_several<N: Read + Drop, R: Files + Input + Print + AllocGlobal, F: BenchFiles, E: Write>(
-    rt: &R,
-    files: &mut F,
-    errors: &mut E,
-    request: &Request<'_>,
-    texts: &Texts,
-    given: &Given<'_, '_>,
-    input: &mut Keeping<N>,
-) -> u8 {
-    let alloc = rt.alloc();
-    let Ok(names) = texts.traces(alloc, request) else {
-        return refuse(rt.alloc(), Refusal::Memory, errors);
-    };
-    let status = check_traces(rt, files, errors, given, names.as_slice(), input);
-    let kept = kept_for_notes(&*input, given.explains);
-    end(rt, alloc, given, kept, status, None, None, errors)
-}
-
-// The same, with what they exercised in a file of its own where that is asked for.
-fn check_traces<N: Read + Drop, R: Files + Input + Print + AllocGlobal, F: BenchFiles, E: Write>(
-    rt: &R,
-    files: &mut F,
-    errors: &mut E,
-    given: &Given<'_, '_>,
-    names: &[&str],
-    input: &mut Keeping<N>,
-) -> Result<u8, Fault> {
-    let Command::Check(options) = given.command else {
-        return Ok(DONE);
-    };
-    let alloc = rt.alloc();
-    let Ok(mut output) = BufWriter::with_capacity(alloc, BUFFER_SIZE, io::writer(rt)) else {
-        return Err(Fault::Memory);
-    };
-    let mut covered = None;
-    let status = check_several(
-        rt,
-        alloc,
-        given,
-        options,
-        names,
-        input,
-        &mut covered,
-        &mut output,
-        errors,
-    );
-    match (status, covered, options.cover) {
-        (Ok(status), Some(covered), Some(path)) => { keep(covered, path, status, files, errors) }
-        (status, _, _) => status,
-    }
+    end(rt, alloc, given, kept, status, case, played, errors)
 }
 
 // Does what a command says, with a trace of its own where there is one.
@@ -213,8 +158,7 @@ fn perform<
     let Ok(output) = BufWriter::with_capacity(alloc, BUFFER_SIZE, io::writer(rt)) else {
         return Outcome::from(Fault::Memory);
     };
-    let covers = given.command.cover_file().is_some();
-    let mut output = Copying::new(alloc, output, covers);
+    let mut output = output;
     let mut trace = trace;
     let outcome = program(
         rt,
@@ -222,39 +166,31 @@ fn perform<
         given,
         input,
         trace.as_mut(),
+        &Named { rt },
         &mut rt.reader(),
         files,
         &mut output,
         errors,
     );
-    let (status, mut checked, ended, coverage) = outcome.into_parts();
-    let status = tell_object(
-        alloc,
-        given,
-        input.kept(),
-        status,
-        &mut checked,
-        &mut output,
-    );
-    let texts = KeptTexts {
-        input: input.kept(),
-        output: output.copy(),
+    let (status, mut case, ended, coverage, covered) = outcome.into_parts();
+    let kept = input.kept();
+    let status = tell_object(alloc, given, kept, status, &mut case, &mut output);
+    let status = if given.command.is_of_several() {
+        keep_told(given.command, status, covered, files, errors)
+    } else {
+        let net = match &ended {
+            Some(ended) => Some(ended.net()),
+            None => None,
+        };
+        let run = Exercised { coverage, net };
+        cover(alloc, given, kept, status, &mut case, run, files, errors)
     };
-    let status = cover(
-        alloc,
-        given,
-        texts,
-        status,
-        &mut checked,
-        coverage,
-        files,
-        errors,
-    );
     Outcome {
         status,
-        checked,
+        case,
         ended,
         coverage: None,
+        covered: None,
     }
 }
 
@@ -264,14 +200,14 @@ fn tell_object<W: Write>(
     given: &Given<'_, '_>,
     kept: Option<&[u8]>,
     status: Result<u8, Fault>,
-    checked: &mut Option<Checked>,
+    case: &mut Option<Case>,
     output: &mut W,
 ) -> Result<u8, Fault> {
     if !given.command.answers_findings() {
         return status;
     }
-    match (status, checked.take()) {
-        (Ok(status), Some(checked)) => match put_checked(alloc, given, kept, checked, output) {
+    match (status, case.take()) {
+        (Ok(status), Some(case)) => match put_checked(alloc, given, kept, case, output) {
             Ok(()) => Ok(status),
             Err(fault) => Err(fault),
         },

@@ -1,26 +1,23 @@
-//! What runs have exercised of their net, as a report and a few lines of it.
-//!
-//! A trace that a reader of its own gives is counted while it is checked. Any other that was checked, or that went out, is kept
-//! and read once more: so a command that covers nothing has nothing more to do at each move.
+//! What runs have exercised of their net, as a report and a few lines of it. It was counted while they were played, or while
+//! their traces were judged.
 
-use bz_cli_args::{Command, Given, netlist_in};
+use bz_cli_args::{Given, netlist_in};
 use bz_cli_input::Fault;
-use bz_cli_source::net_of;
-use bz_cli_trace::{Checked, split_trace};
-use bz_cover::{Coverage, Report, count_trace, put_lcov, put_report, put_summary};
-use bz_flat::Flat;
-use bz_net::Play;
-use bz_source::{Source, Survey};
+use bz_cli_source::survey_of;
+use bz_cli_trace::{Case, Opened};
+use bz_cover::{Counted, Coverage, Report, put_lcov, put_report, put_summary};
+use bz_net::{Core, Play};
+use bz_source::Source;
 use bz_text::Text;
-use bz_trace_text::{LineNames, MAX_ENTRIES};
 use bz_view::Seen;
 use std::alloc::Global;
 
-/// What was read and written, where it was kept: the input and the output.
-#[derive(Clone, Copy)]
-pub struct KeptTexts<'t> {
-    pub input: Option<&'t [u8]>,
-    pub output: Option<&'t [u8]>,
+/// What a run has exercised: what was counted of it, unless memory was wanting for that, and the net as it was left, where it
+/// is at hand.
+#[derive(Drop)]
+pub struct Exercised<'n> {
+    pub coverage: Option<Coverage>,
+    pub net: Option<&'n Core>,
 }
 
 /// What is told of what was exercised: a report, and a few lines of it.
@@ -39,116 +36,77 @@ impl Drop for Covered {
     }
 }
 
-// Where it stands what a run has exercised: it was counted, or the trace is here.
-#[derive(Drop)]
-enum Counts<'t> {
-    Made(Coverage),
-    In(&'t [u8]),
-}
-
-// Where it stands what the run of a command has exercised. `None` where memory was wanting.
-fn counts_in<'t>(
-    command: Command<'_>,
-    input: &'t [u8],
-    output: Option<&'t [u8]>,
-    made: Option<Coverage>,
-) -> Option<Counts<'t>> {
-    if let Some(coverage) = made {
-        return Some(Counts::Made(coverage));
-    }
-    let trace = match command {
-        Command::Check(options) if options.trace.is_some() => None,
-        Command::Check(_) => Some(split_trace(input).1),
-        _ => output,
-    };
-    match trace {
-        Some(trace) => Some(Counts::In(trace)),
-        None => None,
-    }
-}
-
-/// What the run of a command has exercised, of which this was checked or counted. Where it could not be counted, nor the texts be
-/// kept, memory was wanting for them.
-pub fn exercised(
-    alloc: Global,
-    given: &Given<'_, '_>,
-    texts: KeptTexts<'_>,
-    checked: Option<Checked>,
-    made: Option<Coverage>,
-) -> Result<Covered, Fault> {
-    let Some(input) = texts.input else {
-        return Err(Fault::Memory);
-    };
-    match counts_in(given.command, input, texts.output, made) {
-        Some(counts) => exercised_by(alloc, given, input, checked, counts),
-        None => Err(Fault::Memory),
-    }
-}
-
-// The same, with what was counted. The net is that of the input.
-fn exercised_by(
-    alloc: Global,
-    given: &Given<'_, '_>,
-    input: &[u8],
-    checked: Option<Checked>,
-    counts: Counts<'_>,
-) -> Result<Covered, Fault> {
-    let netlist = netlist_in(given.command, input);
-    let is_lcov = given.command.cover_file().unwrap_or("").ends_with(".info");
-    match opened(alloc, given.part, netlist, checked) {
-        Ok((net, source, part)) => match Exercise::of(alloc, net, counts) {
-            Ok(exercise) => report_of(alloc, &exercise, source, part.as_slice(), is_lcov),
-            Err(fault) => Err(fault),
-        },
-        Err(fault) => Err(fault),
-    }
-}
-
-// The net of a run: the one that was checked, or else one that is opened.
-fn opened(
-    alloc: Global,
-    part: Option<&[u8]>,
-    netlist: &[u8],
-    checked: Option<Checked>,
-) -> Result<(Play, Source, Vec<u8>), Fault> {
-    if let Some(checked) = checked {
-        return Ok(checked.into_parts());
-    }
-    let (flat, source, name) = net_of(alloc, part, netlist)?;
-    match Play::open(alloc, flat, MAX_ENTRIES as u32) {
-        Ok(net) => Ok((net, source, name)),
-        Err(_) => Err(Fault::Memory),
-    }
-}
-
-// What a run has exercised of a net whose netlist was this one.
-fn report_of(
-    alloc: Global,
-    exercise: &Exercise,
-    source: Source,
-    part: &[u8],
-    is_lcov: bool,
-) -> Result<Covered, Fault> {
-    let survey = source.survey(alloc, part).ok();
-    exercise.covered(alloc, survey.as_ref(), is_lcov)
-}
-
-// What was counted, or else what the trace comes to.
-fn coverage_of(alloc: Global, net: &Play, counts: Counts<'_>) -> Result<Coverage, Fault> {
-    match counts {
-        Counts::Made(coverage) => Ok(coverage),
-        Counts::In(trace) => {
-            let Ok(mut coverage) = Coverage::new(alloc, net.core()) else {
-                return Err(Fault::Memory);
-            };
-            count_trace(&mut coverage, &LineNames::new(alloc, net.names()), trace);
-            Ok(coverage)
+impl Covered {
+    // Memory was wanting for it.
+    fn lost(alloc: Global) -> Covered {
+        let mut report = Text::new(alloc);
+        report.lose();
+        Covered {
+            report,
+            summary: Text::new(alloc),
         }
     }
 }
 
-// What is written of a report.
-fn covered_of(alloc: Global, report: Report<'_>, is_lcov: bool) -> Result<Covered, Fault> {
+/// What the run of a command has exercised, of which this was judged or counted; `input` is what was read, where it was kept.
+/// Where it could not be counted, nor the input be kept, memory was wanting for them.
+pub fn cover_of_run(
+    alloc: Global,
+    given: &Given<'_, '_>,
+    input: Option<&[u8]>,
+    case: Option<Case>,
+    run: Exercised<'_>,
+) -> Result<Covered, Fault> {
+    let (Some(coverage), Some(input)) = (run.coverage, input) else {
+        return Err(Fault::Memory);
+    };
+    let netlist = netlist_in(given.command, input);
+    let is_lcov = given.command.cover_file().unwrap_or("").ends_with(".info");
+    match (case, run.net) {
+        (Some(case), _) => {
+            let (net, source, part) = case.into_parts();
+            covered_by(alloc, net, source, part.as_slice(), &coverage, is_lcov)
+        }
+        (None, Some(core)) => {
+            let (_, survey, _) = survey_of(alloc, given.part, netlist)?;
+            covered_of(alloc, Seen::of(core, &survey), &coverage, 1, is_lcov)
+        }
+        (None, None) => {
+            let (net, source, part) = Opened::of(alloc, given.part, netlist)?.into_parts();
+            covered_by(alloc, net, source, part.as_slice(), &coverage, is_lcov)
+        }
+    }
+}
+
+// The same of a net whose netlist was this one.
+fn covered_by(
+    alloc: Global,
+    net: Play,
+    source: Source,
+    part: &[u8],
+    coverage: &Coverage,
+    is_lcov: bool,
+) -> Result<Covered, Fault> {
+    match source.survey(alloc, part) {
+        Ok(survey) => covered_of(alloc, Seen::of(net.core(), &survey), coverage, 1, is_lcov),
+        Err(_) => Err(Fault::Memory),
+    }
+}
+
+// What is written of what so many traces have exercised.
+fn covered_of<'r>(
+    alloc: Global,
+    seen: Seen<'r>,
+    coverage: &'r Coverage,
+    traces: usize,
+    is_lcov: bool,
+) -> Result<Covered, Fault> {
+    let report = Report {
+        seen,
+        coverage,
+        traces,
+        name: None,
+    };
     let mut covered = Covered {
         report: Text::new(alloc),
         summary: Text::new(alloc),
@@ -167,8 +125,8 @@ fn covered_of(alloc: Global, report: Report<'_>, is_lcov: bool) -> Result<Covere
 
 /// What the traces of a call have exercised so far of one net.
 pub(crate) struct Exercise {
-    net: Play,
-    coverage: Coverage,
+    /// The counts, unless memory was wanting for some of them.
+    coverage: Option<Coverage>,
     traces: usize,
 }
 
@@ -176,7 +134,6 @@ pub(crate) struct Exercise {
 impl Drop for Exercise {
     fn drop(self) {
         let Exercise {
-            net: _,
             coverage: _,
             traces: _,
         } = self;
@@ -185,82 +142,48 @@ impl Drop for Exercise {
 
 impl Exercise {
     /// Of this net nothing was exercised yet.
-    pub(crate) fn open(alloc: Global, flat: &Flat) -> Result<Exercise, Fault> {
-        let Ok(flat) = flat.dup(alloc) else {
-            return Err(Fault::Memory);
-        };
-        let Ok(net) = Play::open(alloc, flat, MAX_ENTRIES as u32) else {
-            return Err(Fault::Memory);
-        };
-        let Ok(coverage) = Coverage::new(alloc, net.core()) else {
-            return Err(Fault::Memory);
-        };
-        Ok(Exercise {
-            net,
-            coverage,
+    pub(crate) fn open(alloc: Global, net: &Core) -> Exercise {
+        Exercise {
+            coverage: Coverage::new(alloc, net).ok(),
             traces: 0,
-        })
-    }
-
-    // What one run has exercised of this net.
-    fn of(alloc: Global, net: Play, counts: Counts<'_>) -> Result<Exercise, Fault> {
-        match coverage_of(alloc, &net, counts) {
-            Ok(coverage) => Ok(Exercise {
-                net,
-                coverage,
-                traces: 1,
-            }),
-            Err(fault) => Err(fault),
         }
     }
 
-    /// Counts what stands in a text, where it was kept; else memory was wanting for it. It is the trace of a run, or a piece of one.
-    pub(crate) fn count(&mut self, alloc: Global, text: Option<&[u8]>) -> Result<(), Fault> {
-        let Some(text) = text else {
-            return Err(Fault::Memory);
-        };
-        let names = LineNames::new(alloc, self.net.names());
-        count_trace(&mut self.coverage, &names, text);
-        Ok(())
-    }
-
-    /// One more trace is that of a run.
-    pub(crate) fn add_trace(&mut self) {
+    /// One more trace is that of a run, of which this was counted.
+    pub(crate) fn add(&mut self, counted: Counted) {
         self.traces = self.traces.saturating_add(1);
+        let is_added = match (&mut self.coverage, counted.into_coverage()) {
+            (Some(coverage), Some(more)) => {
+                coverage.add_all(&more);
+                true
+            }
+            _ => false,
+        };
+        if !is_added {
+            self.coverage = None;
+        }
     }
 
     /// What is told of it in a file of this name; where no trace is that of a run, nothing.
     pub(crate) fn told(
         &self,
         alloc: Global,
-        survey: Option<&Survey>,
+        seen: Option<Seen<'_>>,
         path: &str,
-    ) -> Result<Option<Covered>, Fault> {
+    ) -> Option<Covered> {
         if self.traces == 0 {
-            return Ok(None);
+            return None;
         }
-        match self.covered(alloc, survey, path.ends_with(".info")) {
-            Ok(covered) => Ok(Some(covered)),
-            Err(fault) => Err(fault),
+        let is_lcov = path.ends_with(".info");
+        let told = match (seen, &self.coverage) {
+            (Some(seen), Some(coverage)) => {
+                covered_of(alloc, seen, coverage, self.traces, is_lcov).ok()
+            }
+            _ => None,
+        };
+        match told {
+            Some(covered) => Some(covered),
+            None => Some(Covered::lost(alloc)),
         }
-    }
-
-    // What is written of it. Where there is no survey, memory was wanting for one.
-    fn covered(
-        &self,
-        alloc: Global,
-        survey: Option<&Survey>,
-        is_lcov: bool,
-    ) -> Result<Covered, Fault> {
-        let Some(survey) = survey else {
-            return Err(Fault::Memory);
-        };
-        let report = Report {
-            seen: Seen::of(self.net.core(), survey),
-            coverage: &self.coverage,
-            traces: self.traces,
-            name: None,
-        };
-        covered_of(alloc, report, is_lcov)
     }
 }

@@ -1,5 +1,5 @@
 pub mod Splits
-pub mod Makes
-pub mod Checks
-pub mod Found
+pub mod Judges
 pub mod Joins
+pub mod Takes
+pub mod Makes

@@ -1,46 +1,45 @@
--- What a command on a trace answers.
-use Rattle.std.proofs.Common.{◌≡◌, ℕ, List, Option, Some, None, inr, subst, sym}
-use Rattle.std.specs.Prelude.{Result, IfSome}
+-- What is made of a trace that was judged, or why nothing is.
+use Rattle.std.proofs.Common.{◌≡◌, ℕ, true, false, List, [], Option, Result, Ok, Err, inl, inr, refl, subst, sym, ◌⊎◌}
+use Rattle.std.proofs.KnownBytes.{Appends-nil, Keeps-refl}
 use Rattle.bz_model.specs.Nets.{Wiring}
+use Rattle.bz_trace.specs.declared.checking.Verdict.{Verdict}
 use Rattle.bz_trace.specs.declared.checking.Verdict.TheVariants as verdict
+use Rattle.bz_trace.specs.Reading.{JudgesTo}
 use Rattle.bz_trace.specs.Verdicts.{Judges}
 use Rattle.bz_cli_input.specs.Opening.{RefusesNet}
-use Rattle.bz_cli_trace.specs.declared.checked.Checked.{Checked}
-use Rattle.bz_cli_trace.specs.declared.fault.TraceFault.{TraceFault}
-use Rattle.bz_cli_trace.specs.declared.fault.TraceFault.TheVariants.{Command, NotRun, NotTrace, Other}
-use Rattle.bz_cli_trace.specs.Checking.{IsChecked}
-use Rattle.bz_cli_trace.specs.Making.{IsJudged, MakesNone, RefusesMaking, RefusesRun}
-use Rattle.bz_cli_trace.specs.Taking.{AnswersText, AnswersTwo, AreOfText, AreOfTwo}
-use Rattle.bz_cli_trace.specs.Texts.{TextPair}
+use Rattle.bz_cli_input.specs.declared.fault.Fault.{Fault}
+use Rattle.bz_cli_input.specs.declared.fault.Fault.TheVariants.{Memory}
+use Rattle.bz_cli_trace.specs.declared.case.Case.{Case}
+use Rattle.bz_cli_trace.specs.Judging.{IsCase, IsFound}
+use Rattle.bz_cli_trace.specs.Making.{IsJudged, IsNoRun, MakesOf}
 
-module _ {A F : Type 0} (IsOf : F → Type 0) (Does : List ℕ → List ℕ → Type 0) (texts : TextPair) (old new : Option (List ℕ)) (answer : Result A F) where
-  -- what the reader had is the text
-  pub taken_text : (known : Option (List ℕ)) → IfSome known (λ text. AreOfText text texts) → Does texts.netlist texts.trace → IfSome known (λ text. AnswersText IsOf Does text old new answer)
-  taken_text None are does = tt
-  taken_text (Some text) are does = inr (are.fits, (texts.netlist, texts.trace, are.splits, does))
+-- a verdict on all of a trace
+judged_whole : (netlist trace : List ℕ) (asked : Option (List ℕ)) (c : Case) (v : Verdict) → IsCase false false netlist trace asked c → c.judged.found.verdict ≡ v → IsJudged netlist trace asked v c.judged.net.wiring
+judged_whole netlist trace asked c v is so = record {
+  net = is.net;
+  judged = subst (Judges c.judged.net.wiring trace) so (subst (λ e. JudgesTo e c.judged.net.wiring trace c.judged.found.verdict) (is.found.whole refl) is.found.judges);
+}
 
-  -- the same of two readers
-  pub taken_two : (known had : Option (List ℕ)) → IfSome known (λ netlist. IfSome had (λ text. AreOfTwo netlist text texts)) → Does texts.netlist texts.trace
-      → IfSome known (λ netlist. IfSome had (λ text. AnswersTwo IsOf Does netlist text old new answer))
-  taken_two None had are does = tt
-  taken_two (Some netlist) None are does = tt
-  taken_two (Some netlist) (Some text) are does =
-      inr (are.fits, (are.short, subst (λ n. Does n text) are.netlist_is (subst (λ t. Does texts.netlist t) are.trace_is does)))
+pub run_judged : (netlist trace : List ℕ) (asked : Option (List ℕ)) (c : Case) → IsCase false false netlist trace asked c → c.judged.found.verdict ≡ verdict.Run → IsJudged netlist trace asked verdict.Run c.judged.net.wiring
+run_judged netlist trace asked c is run = judged_whole netlist trace asked c verdict.Run is run
 
-pub run_judged : (netlist trace : List ℕ) (asked : Option (List ℕ)) (c : Checked) → IsChecked netlist trace asked c → c.verdict ≡ verdict.Run → IsJudged netlist trace asked verdict.Run c.net.wiring
-run_judged netlist trace asked c checked run = record { net = checked.net; judged = subst (Judges c.net.wiring trace) run checked.judged }
+-- what is none
+abbrev pub NoRun : Verdict → Result ℕ Fault → Type 0
+NoRun verdict.Run result = ⊥
+NoRun verdict.Memory result = result ≡ Err Memory
+NoRun v result = result ≡ Ok 1
 
-module _ {C : Type 0} (Refuses : Wiring → C → Type 0) (netlist trace : List ℕ) (asked : Option (List ℕ)) where
-  -- a trace that is not that of a run
-  pub none_made : (f : TraceFault C) → RefusesRun netlist trace asked f → MakesNone Refuses netlist trace asked f
-  none_made (Command fault) so = so
-  none_made (NotRun line) so = so
-  none_made (NotTrace line) so = so
-  none_made (Other cause) so = absurd so.2
+module _ (Made : Wiring → ℕ → List ℕ → Type 0) (Refused : Wiring → Type 0) (netlist trace : List ℕ) (asked : Option (List ℕ)) (old : Option (List ℕ)) where
+  pub ends_no_run : (c : Case) (v : Verdict) (result : Result ℕ Fault) → IsCase false false netlist trace asked c → c.judged.found.verdict ≡ v → NoRun v result → MakesOf Made Refused netlist trace asked old old result
+  ends_no_run c verdict.Run result is so none = absurd none
+  ends_no_run c (verdict.Not line) result is so one =
+      subst (λ r. MakesOf Made Refused netlist trace asked old old r) (sym one)
+      (inr ([], (c.judged.net.wiring, inr (inr ((line, inl (judged_whole netlist trace asked c (verdict.Not line) is so)), refl, refl))), Appends-nil old))
+  ends_no_run c (verdict.Bad line) result is so one =
+      subst (λ r. MakesOf Made Refused netlist trace asked old old r) (sym one)
+      (inr ([], (c.judged.net.wiring, inr (inr ((line, inr (judged_whole netlist trace asked c (verdict.Bad line) is so)), refl, refl))), Appends-nil old))
+  ends_no_run c verdict.Memory result is so out = subst (λ r. MakesOf Made Refused netlist trace asked old old r) (sym out) (inl (tt, Keeps-refl old))
 
-  -- the trace of a run of which nothing is made
-  pub none_of_run : (w : Wiring) (f : TraceFault C) → IsJudged netlist trace asked verdict.Run w → RefusesMaking (Refuses w) f → MakesNone Refuses netlist trace asked f
-  none_of_run w (Command fault) judged is = subst (RefusesNet netlist asked) (sym is) tt
-  none_of_run w (NotRun line) judged none = absurd none
-  none_of_run w (NotTrace line) judged none = absurd none
-  none_of_run w (Other cause) judged so = (w, judged, so)
+  -- a run of which nothing is made
+  pub ends_refused : (w : Wiring) → IsJudged netlist trace asked verdict.Run w → Refused w → MakesOf Made Refused netlist trace asked old old (Ok 2)
+  ends_refused w judged why = inr ([], (w, inr (inl (judged, why, refl, refl))), Appends-nil old)

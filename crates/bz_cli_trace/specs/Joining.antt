@@ -5,7 +5,7 @@ use Rattle.bz_model.specs.Nets.{Wiring}
 use Rattle.bz_net.specs.Progress.{Progress}
 use Rattle.bz_trace.specs.Pieces.{GoesOver, JudgesPieceTo, StopsInFrontBehind}
 use Rattle.bz_trace.specs.declared.checking.Verdict.TheVariants as verdict
-use Rattle.bz_cli_trace.specs.Checking.{TellsRest}
+use Rattle.bz_cli_trace.specs.Judging.{TellsRest}
 use Rattle.bz_cli_trace.specs.declared.finding.Finding.{Finding}
 
 -- This is what was found of a piece behind those of these entries, and where the net is left.

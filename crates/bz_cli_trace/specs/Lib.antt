@@ -1,7 +1,7 @@
 pub mod Splitting
 pub mod Texts
 pub mod Taking
+pub mod Judging
+pub mod Telling
 pub mod Making
-pub mod Checking
-pub mod Several
 pub mod Joining

@@ -1,7 +1,7 @@
 //! What is said of a trace.
 
 ghost use Rattle.std.specs.Prelude.{◌≡◌};
-ghost use Rattle.bz_cli_trace.specs.Checking.{is_passed};
+ghost use Rattle.bz_cli_trace.specs.Judging.{entry_count, is_passed};
 
 use bz_trace::{Counts, Verdict};
 
@@ -22,5 +22,13 @@ impl Finding {
         ensures { result ≡ is_passed self.now }
     {
         matches!(self.verdict, Verdict::Run) && !self.unrested
+    }
+
+    /// How many entries were counted.
+    pub fn entries(&self) -> usize
+        ensures { result ≡ entry_count self.now.counts }
+    {
+        let Counts { fired, host, rests } = self.counts;
+        fired.saturating_add(host).saturating_add(rests)
     }
 }

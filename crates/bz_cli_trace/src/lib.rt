@@ -1,26 +1,25 @@
-//! What a command on a trace begins with: a netlist and a trace, the net of which the trace is a run, or why there is none; and
-//! the command `check`.
+//! What a command on a trace begins with: a netlist and a trace, which is judged on the net; and what is found of it, as a line.
 #![tactic(auto)]
 
-mod checked;
-mod checking;
-mod fault;
+mod case;
 mod finding;
 mod held;
 mod joining;
-mod run;
-mod several;
+mod judged;
+mod opened;
 mod splitting;
+mod telling;
 mod texts;
+mod unmade;
 mod way;
 
-pub use checked::{Checked, check_trace};
-pub use checking::{check_cmd, check_texts, check_trace_cmd};
-pub use fault::TraceFault;
+pub use case::Case;
 pub use finding::Finding;
-pub use joining::{CheckedPiece, check_piece, tell_found};
-pub use run::run_of;
-pub use several::{Opened, Traced, check_again, check_named};
+pub use joining::judge_piece;
+pub use judged::{Judged, judge};
+pub use opened::Opened;
 pub use splitting::split_trace;
+pub use telling::tell_found;
 pub use texts::Texts;
+pub use unmade::Unmade;
 pub use way::CheckWay;

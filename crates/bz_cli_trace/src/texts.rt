@@ -4,7 +4,8 @@ ghost use Rattle.std.specs.Prelude.{◌≡◌, ◌≤◌, length, IfOk, IfSome};
 ghost use Rattle.bz_cli_input.specs.Limits.{input_limit};
 ghost use Rattle.bz_cli_input.specs.Reading.{ReadsWithin};
 ghost use Rattle.bz_cli_trace.specs.Splitting.{Splits};
-ghost use Rattle.bz_cli_trace.specs.Taking.{AreOfText, AreOfTwo};
+ghost use Rattle.std.specs.Option.{option_map};
+ghost use Rattle.bz_cli_trace.specs.Taking.{AreOfText, AreOfTwo, AreTaken};
 
 use crate::held::Held;
 use crate::splitting::split_trace;
@@ -30,6 +31,23 @@ impl Model for Texts {
 }
 
 impl Texts {
+    /// Those of a command: the trace is that of a reader of its own, or stands after the netlist.
+    pub fn of<R: Read, T: Read>(
+        alloc: Global,
+        input: &mut R,
+        trace: Option<&mut T>,
+    ) -> Result<Texts, InputFault>
+        ensures taken { IfOk result (λ texts. AreTaken (R.remaining input.old) (option_map (λ apart. T.remaining apart.now) trace.entry) texts) }
+
+        // Whatever comes of it, it reads at most one byte past the limit.
+        ensures bounded { ReadsWithin (R.remaining input.old) (R.remaining input.new) }
+    {
+        match trace {
+            Some(trace) => Texts::read_apart(alloc, input, trace),
+            None => Texts::read(alloc, input),
+        }
+    }
+
     /// Those of one reader, the trace after the netlist.
     pub fn read<R: Read>(alloc: Global, input: &mut R) -> Result<Texts, InputFault>
         ensures taken { IfOk result (λ texts. IfSome (R.remaining input.old) (λ text. AreOfText text texts)) }

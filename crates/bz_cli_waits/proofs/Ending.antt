@@ -1,6 +1,6 @@
 -- Where the runs of a trace end, and what is told there.
-use Rattle.std.proofs.Common.{◌≡◌, ℕ, ◌+◌, ◌-◌, ◌<◌, ◌≤◌, Bool, cond, List, [], ◌∷◌, length, take, drop, refl, sym, ap, subst, ◌∙◌, arith}
-use Rattle.std.specs.Prelude.{MatchBool, Result, Ok, Err, IfOk, min}
+use Rattle.std.proofs.Common.{◌≡◌, ℕ, ◌+◌, ◌-◌, ◌<◌, ◌≤◌, Bool, false, cond, List, [], ◌∷◌, length, refl, sym, ap, subst, ◌∙◌, arith}
+use Rattle.std.specs.Prelude.{MatchBool, Result, Ok, Err, IfOk}
 use Rattle.std.specs.List.{count_by}
 use Rattle.std.proofs.lemmas.List.{take_all, drop_all}
 use Rattle.std.proofs.lemmas.List.Sums.{sum_by-cons}
@@ -14,11 +14,14 @@ use Rattle.bz_net.specs.Progress.{Progress}
 use Rattle.bz_trace_text.specs.declared.tally.Counts.{Counts}
 use Rattle.bz_trace_text.specs.Counting.{Tells, is_fired, is_host, is_rest}
 use Rattle.bz_trace.specs.declared.checking.Verdict.TheVariants as verdict
+use Rattle.bz_trace.specs.Reading.{LeavesTo}
 use Rattle.bz_trace.specs.Verdicts.{CountsRun, IsRunText, Leaves}
 use Rattle.bz_run_laws.proofs.Telling.{last-is-sole, text-tells-run}
 use Rattle.bz_since.specs.Since.{HasStuck, IsBehind}
+use Rattle.bz_cli_trace.specs.declared.judged.Judged.{Judged}
+use Rattle.bz_cli_trace.specs.Judging.{EndsRun, IsFound, entry_count}
 use Rattle.bz_cli_waits.specs.declared.told.Told.{Told}
-use Rattle.bz_cli_waits.specs.Telling.{EndsRun, IsTold}
+use Rattle.bz_cli_waits.specs.Telling.{IsTold}
 
 -- ---- how many entries a run has
 
@@ -66,19 +69,21 @@ module _ (w : Wiring) (wired : WellWired w) (trace : List ℕ) where
       (text-tells-run w wired trace run one).1
       ∙ last-is-sole w wired one.entries one.last net.state one.run (subst (λ (v : Wiring). Run v (opening v) one.entries net.state) is told.run)
 
-  count_of : (counts : Counts) (entries : ℕ) → CountsRun w trace counts → entries ≡ min (counts.fired + counts.host + counts.rests) 18446744073709551615 → (run : IsRunText w trace) → length run.entries ≤ entries
-  count_of counts entries (one, tells) is run =
+  count_of : (counts : Counts) → CountsRun w trace counts → (run : IsRunText w trace) → length run.entries ≤ entry_count counts
+  count_of counts (one, tells) run =
       let same = ap length (text-tells-run w wired trace run one).0 in
       let all = all_counted counts one.entries tells in
       let few = run.few in
-      omega (arith, same, all, few, is)
+      omega (arith, same, all, few)
 
-  pub ends_run : (net : Progress) (counts : Counts) (entries : ℕ) → net.wiring ≡ w → Leaves w trace net verdict.Run → CountsRun w trace counts
-      → entries ≡ min (counts.fired + counts.host + counts.rests) 18446744073709551615 → EndsRun net trace entries
-  ends_run net counts entries is leaves counted count = record {
-    state = subst (λ (v : Wiring). (run : IsRunText v trace) → run.last ≡ net.state) (sym is) (last_of net is leaves);
-    few = subst (λ (v : Wiring). (run : IsRunText v trace) → length run.entries ≤ entries) (sym is) (count_of counts entries counted count);
-  }
+-- the net on which the trace of a run was judged
+pub ends_of : (w : Wiring) (trace : List ℕ) (judged : Judged) → IsFound false false w trace judged → judged.found.verdict ≡ verdict.Run → EndsRun judged.net trace (entry_count judged.found.counts)
+ends_of w trace judged found run =
+    let leaves = subst (Leaves w trace judged.net) run (subst (λ e. LeavesTo e w trace judged.net judged.found.verdict) (found.whole refl) found.leaves) in
+    record {
+      state = subst (λ (v : Wiring). (run : IsRunText v trace) → run.last ≡ judged.net.state) (sym found.wiring) (last_of w found.wired trace judged.net found.wiring leaves);
+      few = subst (λ (v : Wiring). (run : IsRunText v trace) → length run.entries ≤ entry_count judged.found.counts) (sym found.wiring) (count_of w found.wired trace judged.found.counts (found.counted run));
+    }
 
 -- ---- what is told there
 

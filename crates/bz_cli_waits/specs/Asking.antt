@@ -1,11 +1,8 @@
 -- The line and the component that are asked for, or why they are not there.
-use Rattle.std.specs.Prelude.{◌≡◌, ◌⊎◌, ℕ, ◌<◌, ◌≤◌, ◌==◌, List, Some, unwrap_or, count_by, IfSome}
+use Rattle.std.specs.Prelude.{◌≡◌, ℕ, ◌<◌, ◌≤◌, Some, unwrap_or, IfSome}
 use Rattle.bz_cli_waits.specs.declared.asked.WaitsAsked.{WaitsAsked}
 use Rattle.bz_cli_waits.specs.declared.asked.WaitsFault.{WaitsFault}
 use Rattle.bz_cli_waits.specs.declared.asked.WaitsFault.TheVariants.{NoLine, NoComp}
-
-abbrev pub line_count : List ℕ → ℕ
-line_count text = count_by (λ b. b == 10) text
 
 -- the last line where none is named
 abbrev pub line_asked : WaitsAsked → ℕ → ℕ

@@ -2,10 +2,12 @@
 #![tactic(auto)]
 
 mod asked;
+mod behind;
 mod played;
 mod sourced;
 mod told;
-mod waits;
 
 pub use asked::{WaitsAsked, WaitsFault};
-pub use waits::{waits_cmd, waits_trace_cmd};
+pub use behind::waits;
+pub use played::Played;
+pub use told::Told;

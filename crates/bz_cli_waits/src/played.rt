@@ -1,99 +1,128 @@
-//! A net at the end of a run, with the records of its netlist.
+//! A trace that was judged on the net of a part of a netlist, of which no survey is made: that would take much of a large one.
 
-ghost use Rattle.std.specs.Prelude.{◌≡◌, ◌+◌, [], IfErr, IfOk, min};
+ghost use Rattle.std.specs.Prelude.{◌≡◌, ◌⊎◌, [], IfErr, IfOk, IfSome};
 ghost use Rattle.std.specs.Option.{option_copied};
 ghost use Rattle.bz_model.specs.Limits.{max_entries};
 ghost use Rattle.bz_net.specs.Progress.{IsToldBy};
+ghost use Rattle.bz_trace.specs.Watching.{ShowsTrace};
+ghost use Rattle.bz_trace.specs.declared.checking.Verdict.TheVariants as verdict;
 ghost use Rattle.bz_cli_input.specs.Opening.{Denotes, RefusesNet};
-ghost use Rattle.bz_cli_trace.specs.Making.{IsJudged, RefusesRun};
-ghost use Rattle.bz_cli_waits.specs.Telling.{EndsRun};
+ghost use Rattle.bz_cli_input.specs.Stopping.{IsOfInput};
+ghost use Rattle.bz_cli_trace.specs.Judging.{IsFound, entry_count, is_run};
 
+use bz_breeze_records::Parts;
 use bz_cli_input::{Fault, Netlist};
-use bz_cli_trace::TraceFault;
+use bz_cli_trace::{Case, CheckWay, Judged, judge};
 use bz_net::Play;
-use bz_source::{Records, pieces_of};
-use bz_trace::{Counts, MAX_ENTRIES, Verdict, check};
-use std::alloc::Global;
+use bz_source::{PartLines, PartPieces, Records, Source, lines_of, pieces_of};
+use bz_trace::{MAX_ENTRIES, Watch};
+use std::alloc::{AllocError, Global};
+use std::io::Read;
 
-/// A net at the end of a run, and the records of its netlist.
-pub(crate) struct Played<'t> {
-    pub net: Play,
-    pub records: Records<'t>,
-    /// How many entries the run has.
-    pub entries: usize,
+/// What is kept of a netlist whose net was opened: its parts, where their records are, and the name of the part.
+#[derive(Drop)]
+pub(crate) struct Kept {
+    parts: Parts,
+    pieces: Vec<PartPieces>,
+    /// The lines of the records, where notes may be wanted; else none.
+    lines: Vec<PartLines>,
+    name: Vec<u8>,
+}
+
+/// A trace that was judged on the net of a netlist.
+pub struct Played {
+    pub judged: Judged,
+    pub(crate) kept: Kept,
 }
 
 // By hand, so that who lets one go has one call to show and not all its parts.
-impl Drop for Played<'_> {
+impl Drop for Played {
     fn drop(self) {
-        let Played {
-            net: _,
-            records: _,
-            entries: _,
-        } = self;
+        let Played { judged: _, kept: _ } = self;
     }
 }
 
-impl<'t> Played<'t> {
-    /// The net, and the records.
-    pub fn into_parts(self) -> (Play, Records<'t>)
-        ensures { result.0 ≡ self.entry.net }
+impl Played {
+    /// Judges the trace that a reader gives on the net of a part of the netlist. Who watches sees each entry, and the net behind it.
+    pub fn of<T: Read, S: Watch>(
+        alloc: Global,
+        asked: Option<&[u8]>,
+        netlist: &[u8],
+        trace: &mut T,
+        way: CheckWay,
+        watch: &mut S,
+    ) -> Result<Played, Fault>
+        ensures net { IfOk result (λ played. Denotes netlist.now (option_copied asked.entry) played.judged.net.wiring) }
+        ensures found { IfOk result (λ played. IfSome (T.remaining trace.old) (λ text.
+            IsFound way.to_first way.to_rest played.judged.net.wiring text played.judged)) }
+        ensures watches { IfOk result (λ played. IfSome (T.remaining trace.old) (λ text. played.judged.found.verdict ≡ verdict.Run
+            → ShowsTrace S.behind played.judged.net.wiring [] text watch.new)) }
+        ensures err { IfErr result (λ fault. IsOfInput fault ⊎ RefusesNet netlist.now (option_copied asked.entry) fault) }
     {
-        let Played {
-            net,
-            records,
-            entries: _,
-        } = self;
-        (net, records)
+        let (net, kept) = match open(alloc, asked, netlist, way.keeps) {
+            Ok(opened) => opened,
+            Err(fault) => return Err(fault),
+        };
+        match judge(alloc, net, trace, way, watch) {
+            Ok(judged) => Ok(Played { judged, kept }),
+            Err(fault) => Err(fault),
+        }
+    }
+
+    /// Whether the trace is that of a run.
+    pub fn is_run(&self) -> bool
+        ensures { result ≡ is_run self.now.judged.found.verdict }
+    {
+        self.judged.is_run()
+    }
+
+    /// The same as any command has it, for notes on the trace.
+    pub fn into_case(self) -> Case
+        ensures { result.judged ≡ self.judged }
+    {
+        let Played { judged, kept } = self;
+        let Kept {
+            parts,
+            pieces: _,
+            lines,
+            name,
+        } = kept;
+        Case {
+            judged,
+            source: Source { parts, lines },
+            part: name,
+        }
+    }
+
+    /// The net, and the records of its netlist, which was this text; and how many entries the run has.
+    pub(crate) fn into_parts<'t>(
+        self,
+        alloc: Global,
+        netlist: &'t [u8],
+    ) -> Result<(Play, Records<'t>, usize), AllocError>
+        ensures net { IfOk result (λ r. r.0 ≡ self.judged.net) }
+        ensures entries { IfOk result (λ r. r.2 ≡ entry_count self.judged.found.counts) }
+    {
+        let Played { judged, kept } = self;
+        let Kept {
+            parts,
+            pieces,
+            lines: _,
+            name,
+        } = kept;
+        let records = Records::of(alloc, netlist, parts, pieces, name.as_slice())?;
+        let entries = judged.found.entries();
+        Ok((judged.into_net(), records, entries))
     }
 }
 
-/// The net of a part of the netlist, of which the trace is that of a run, where that ends.
-pub(crate) fn play_run<'t, C>(
+// The net of a part of the netlist at its opening, and what is kept of the netlist. Nothing is kept of the data that it spells.
+fn open(
     alloc: Global,
     asked: Option<&[u8]>,
-    netlist: &'t [u8],
-    trace: &[u8],
-) -> Result<Played<'t>, TraceFault<C>>
-    ensures judged { IfOk result (λ played. IsJudged netlist.now trace.now (option_copied asked.entry) Verdict.Run played.net.wiring) }
-    ensures ends { IfOk result (λ played. EndsRun played.net trace.now played.entries) }
-    ensures err { IfErr result (RefusesRun netlist.now trace.now (option_copied asked.entry)) }
-{
-    let (mut net, records) = match open(alloc, asked, netlist) {
-        Ok(opened) => opened,
-        Err(fault) => return Err(TraceFault::Command(fault)),
-    };
-    // what follows of a run holds of a net that is wired well, as its names tell
-    let _ = net.names();
-    let (verdict, counts) = check(alloc, &mut net, trace);
-    match verdict {
-        Verdict::Run => Ok(Played {
-            net,
-            records,
-            entries: entry_count(counts),
-        }),
-        Verdict::Not(line) => Err(TraceFault::NotRun(line)),
-        Verdict::Bad(line) => Err(TraceFault::NotTrace(line)),
-        Verdict::Memory => Err(TraceFault::Command(Fault::Memory)),
-    }
-}
-
-// How many entries were counted.
-fn entry_count(counts: Counts) -> usize
-    ensures { result ≡ min (counts.fired + counts.host + counts.rests) 18446744073709551615 }
-{
-    counts
-        .fired
-        .saturating_add(counts.host)
-        .saturating_add(counts.rests)
-}
-
-// The net of a part of the netlist at its opening, and the records of the netlist. Nothing is kept of the data that it spells.
-fn open<'t>(
-    alloc: Global,
-    asked: Option<&[u8]>,
-    netlist: &'t [u8],
-) -> Result<(Play, Records<'t>), Fault>
+    netlist: &[u8],
+    keeps: bool,
+) -> Result<(Play, Kept), Fault>
     ensures net { IfOk result (λ r. Denotes netlist.now (option_copied asked.entry) r.0.wiring) }
     ensures opened { IfOk result (λ r. IsToldBy r.0 []) }
     ensures left { IfOk result (λ r. r.0.left ≡ max_entries) }
@@ -102,13 +131,24 @@ fn open<'t>(
     let forest = bz_sexpr::read_forest(alloc, netlist)?;
     let parts = bz_breeze::parts_of(alloc, forest.forms())?;
     let pieces = pieces_of(alloc, forest.forms())?;
+    let lines = if keeps {
+        lines_of(alloc, netlist, forest.forms())?
+    } else {
+        Vec::new(alloc)
+    };
     drop(forest);
     let read = Netlist { parts };
     let name = read.name(alloc, asked)?;
     let flat = read.net(alloc, name.as_slice())?;
-    let records = Records::of(alloc, netlist, read.parts, pieces, name.as_slice())?;
+    let parts = read.parts;
+    let kept = Kept {
+        parts,
+        pieces,
+        lines,
+        name,
+    };
     match Play::open(alloc, flat, MAX_ENTRIES as u32) {
-        Ok(net) => Ok((net, records)),
+        Ok(net) => Ok((net, kept)),
         Err(_) => Err(Fault::Memory),
     }
 }

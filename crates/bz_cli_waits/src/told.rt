@@ -1,12 +1,14 @@
 //! What is told behind a line of a run.
 
-ghost use Rattle.std.specs.Prelude.{◌≡◌, ◌<◌, IfOk, MatchBool};
+ghost use Rattle.std.specs.Prelude.{◌≡◌, ◌<◌, IfOk, IfSome, MatchBool};
 ghost use Rattle.bz_since.specs.Since.{HasStuck};
-ghost use Rattle.bz_cli_waits.specs.Telling.{EndsRun, IsTold};
+ghost use Rattle.bz_since.specs.Keeping.{IsKept};
+ghost use Rattle.bz_cli_trace.specs.Judging.{EndsRun, entry_count};
+ghost use Rattle.bz_cli_waits.specs.Telling.{IsTold};
 
 use crate::played::Played;
 use bz_net::{Core, Play};
-use bz_since::{Behind, put_first, put_opening};
+use bz_since::{put_first, put_opening};
 use bz_source::Records;
 use bz_text::Text;
 use bz_view::{Shown, put_chain_of, put_waits_of};
@@ -16,7 +18,7 @@ use std::mem::forget;
 
 /// What is told behind a line, and whether something can never move again there.
 #[derive(Drop)]
-pub(crate) struct Told {
+pub struct Told {
     pub text: Vec<u8>,
     pub is_stuck: bool,
 }
@@ -29,22 +31,26 @@ pub(crate) struct Wanted {
     pub comp: Option<u32>,
 }
 
-/// What is told of a run.
+/// What is told of a run. `kept` is the net behind the line that is named, as it was kept while the trace was judged; where there is
+/// none, the line is behind all entries.
 pub(crate) fn told_of(
     alloc: Global,
-    played: Played<'_>,
+    played: Played,
+    kept: Option<Core>,
+    netlist: &[u8],
     trace: &[u8],
     wanted: Wanted,
 ) -> Result<Told, AllocError>
-    requires { EndsRun played.net trace.now played.entries }
-    ensures { IfOk result (λ told. IsTold played.entry.net.wiring trace.now wanted.line told.is_stuck) }
+    requires ends { EndsRun played.judged.net trace.now (entry_count played.judged.found.counts) }
+    requires behind { IfSome kept (IsKept played.judged.net.wiring trace.now wanted.line) }
+    ensures { IfOk result (λ told. IsTold played.judged.net.wiring trace.now wanted.line told.is_stuck) }
 {
-    let entries = played.entries;
-    let (net, records) = played.into_parts();
-    if wanted.line > entries {
-        told_at_end(alloc, net, records, entries, trace, wanted)
-    } else {
-        told_before(alloc, net, records, trace, wanted)
+    let (net, records, entries) = played.into_parts(alloc, netlist)?;
+    match kept {
+        Some(core) => told_before(alloc, net, core, records, trace, wanted),
+        None if wanted.line > entries => told_at_end(alloc, net, records, entries, trace, wanted),
+        // (a line before the end that was not kept, for which nothing but memory can be wanting)
+        None => Err(AllocError),
     }
 }
 
@@ -92,30 +98,27 @@ fn first_at_end(
     Ok(text)
 }
 
-// The same behind an earlier line, to which the net is played anew.
+// The same behind an earlier line: the net was kept there.
 fn told_before(
     alloc: Global,
     net: Play,
+    kept: Core,
     records: Records<'_>,
     trace: &[u8],
     wanted: Wanted,
 ) -> Result<Told, AllocError>
+    requires { IsKept net.wiring trace.now wanted.line kept }
     ensures { IfOk result (λ told. IsTold net.wiring trace.now wanted.line told.is_stuck) }
 {
-    let flat = net.into_flat(alloc)?;
-    let Ok(opened) = flat.dup(alloc) else {
-        return Err(AllocError);
-    };
-    // of a run nothing but memory can be wanting
-    let Ok(behind) = Behind::of(alloc, flat, trace, wanted.line) else {
-        return Err(AllocError);
-    };
-    let (is_stuck, told) = look(alloc, behind.net.core(), &records, wanted.comp)?;
-    drop(behind);
+    let (is_stuck, told) = look(alloc, &kept, &records, wanted.comp)?;
+    drop(kept);
     drop(records);
     let mut text = Text::new(alloc);
     if is_stuck {
+        let opened = net.into_flat(alloc)?;
         put_first(opened, trace, wanted.line, wanted.lines, &mut text);
+    } else {
+        forget(net);
     }
     whole(alloc, text, &told, is_stuck)
 }

@@ -2,7 +2,10 @@
 -- once, they have no choice.
 use Rattle.std.specs.Prelude.{◌≡◌, ◌≢◌, ⊤, ℕ, ◌==◌, ◌&&◌, Bool, true, false, if◌then◌else◌, List, [], ◌∷◌, take}
 use Rattle.bz_model.specs.declared.kind.Kind.{Kind}
-use Rattle.bz_model.specs.declared.kind.Kind.TheVariants.{Variable, Call, CallMux, CallDemux, DecisionWait, Arbiter, FalseVariable, Bar}
+use Rattle.bz_model.specs.declared.kind.Kind.TheVariants.{FalseVariable, Bar}
+use Rattle.bz_model.specs.declared.kind_rules.Callers.{Callers}
+use Rattle.bz_model.specs.declared.kind_rules.Callers.TheVariants.{Apart, Written, Meet, OneIsEnough, Arbitrated, Guarded}
+use Rattle.bz_model.specs.Rows.{callers_of}
 use Rattle.bz_model.specs.Nets.{Wiring, IsPort, chan_at, passive_at, site_at}
 use Rattle.bz_complete.specs.declared.short.Sent.{Sent}
 use Rattle.bz_complete.specs.declared.short.Sent.TheVariants.{Ask, Reply}
@@ -10,16 +13,16 @@ use Rattle.bz_complete.specs.declared.short.ShortMove.{ShortMove}
 
 -- Requests at two passive ports of a component of this kind are rivals: it matters which is taken first. So are a write and a read,
 -- and requests at two inputs.
+abbrev pub AreRivals : Callers → ℕ → ℕ → Type 0
+AreRivals Apart one other = ⊥
+AreRivals Written one other = one ≡ 1
+AreRivals Meet one other = ⊤
+AreRivals OneIsEnough one other = (one ≢ 1) × (other ≢ 1)
+AreRivals Arbitrated one other = ⊤
+AreRivals Guarded one other = ⊤
+
 abbrev pub Rivals : Kind → ℕ → ℕ → Type 0
-Rivals Variable one other = one ≡ 1
-Rivals FalseVariable one other = one ≡ 1
-Rivals DecisionWait one other = (one ≢ 1) × (other ≢ 1)
-Rivals Call one other = ⊤
-Rivals CallMux one other = ⊤
-Rivals CallDemux one other = ⊤
-Rivals Arbiter one other = ⊤
-Rivals Bar one other = ⊤
-Rivals kind one other = ⊥
+Rivals kind one other = AreRivals (callers_of kind) one other
 
 abbrev pub is_request : Sent → Bool
 is_request Ask = true

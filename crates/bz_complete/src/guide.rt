@@ -5,7 +5,8 @@ use crate::making::{Maker, maker_of};
 use crate::pending::is_guarding;
 use crate::short::{Sent, ShortMove};
 use bz_flat::FlatComp;
-use bz_model::Kind;
+use bz_kind_rows::row_of;
+use bz_model::Callers;
 use bz_net::Net;
 use std::alloc::{AllocError, Global};
 
@@ -105,9 +106,9 @@ fn telling(net: &Net, due: ShortMove) -> Option<(u32, u32)> {
 
 fn tells(site: &FlatComp, port: u32, sent: Sent) -> bool {
     let [size, _] = site.sizes;
-    match site.kind {
-        Kind::Call | Kind::CallMux | Kind::CallDemux => sent == Sent::Reply,
-        Kind::Bar => !is_guarding(size, port),
+    match row_of(&site.kind).callers {
+        Callers::Meet => sent == Sent::Reply,
+        Callers::Guarded => !is_guarding(size, port),
         _ => false,
     }
 }

@@ -7,7 +7,8 @@
 use crate::guide::Guide;
 use crate::short::ShortMove;
 use bz_flat::FlatComp;
-use bz_model::{Kind, Move, Value};
+use bz_kind_rows::row_of;
+use bz_model::{Callers, Move, Value};
 use bz_net::Net;
 
 /// A component on its way to a move at one of its ports.
@@ -37,18 +38,16 @@ impl Way {
     // The port whose request is taken, where the move that is due tells it.
     fn told(self, net: &Net, guide: &Guide, site: &FlatComp) -> Option<u32> {
         let [size, _] = site.sizes;
-        match site.kind {
-            Kind::Arbiter => self.port.checked_sub(2),
-            Kind::DecisionWait if self.port > size.saturating_add(1) => self.port.checked_sub(size),
-            Kind::Call | Kind::CallMux | Kind::CallDemux if self.port > size => {
-                match guide.next_port(self.comp) {
-                    Some(port) if self.brings(net, port) == Some(self.due.value) => Some(port),
-                    _ => self.with_value(net, size),
-                }
-            }
-            Kind::Variable | Kind::FalseVariable if self.brings(net, 1) == Some(self.due.value) => {
-                Some(1)
-            }
+        match row_of(&site.kind).callers {
+            Callers::Arbitrated => self.port.checked_sub(2),
+            Callers::OneIsEnough if self.port > size.saturating_add(1) => self
+                .port
+                .checked_sub(size),
+            Callers::Meet if self.port > size => match guide.next_port(self.comp) {
+                Some(port) if self.brings(net, port) == Some(self.due.value) => Some(port),
+                _ => self.with_value(net, size),
+            },
+            Callers::Written if self.brings(net, 1) == Some(self.due.value) => Some(1),
             _ => None,
         }
     }
@@ -69,7 +68,7 @@ impl Way {
     // activation, where another input would hinder that.
     fn leading(self, net: &Net, guide: &Guide, site: &FlatComp) -> Option<u32> {
         let [size, _] = site.sizes;
-        if !matches!(site.kind, Kind::Bar) || !self.is_open(net, 2) {
+        if !is_guarded(site) || !self.is_open(net, 2) {
             return None;
         }
         let told = match self.port {
@@ -120,10 +119,7 @@ impl Way {
     // Whether a port is of the same half of a component as the one of the move that is due. All but a Bar have one half.
     fn is_beside(self, site: &FlatComp, port: u32) -> bool {
         let [size, _] = site.sizes;
-        match site.kind {
-            Kind::Bar => is_guarding(size, port) == is_guarding(size, self.port),
-            _ => true,
-        }
+        !is_guarded(site) || is_guarding(size, port) == is_guarding(size, self.port)
     }
 
     // Whether a take or a got can be made at a port.
@@ -138,6 +134,11 @@ impl Way {
             _ => None,
         }
     }
+}
+
+// Whether a component is activated beside a guard, as a Bar is.
+fn is_guarded(site: &FlatComp) -> bool {
+    matches!(row_of(&site.kind).callers, Callers::Guarded)
 }
 
 /// Whether a port of a Bar with so many inputs is its guard or one of the inputs.

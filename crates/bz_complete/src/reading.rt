@@ -1,14 +1,11 @@
 //! The text of a short trace, read.
 
-ghost use Rattle.std.specs.Prelude.{◌≡◌, ◌∷◌, ◌++◌, ◌^◌, ◌<◌, IfOk, IfSome};
-ghost use Rattle.std.specs.Option.{SomeIff};
-ghost use Rattle.std.specs.Str.Parse.{IsNumeral, digits_value};
-ghost use Rattle.bz_model.specs.Limits.{max_width};
+ghost use Rattle.std.specs.Prelude.{◌≡◌, ◌∷◌, ◌++◌, IfOk, IfSome};
 ghost use Rattle.bz_complete.specs.ShortTexts.{AreOperands, BeginsWith, IsLine, Spells, Stands, line_end, sent_text};
 
 use crate::names::{ChanName, named};
 use crate::short::{Sent, ShortMove};
-use bz_model::Value;
+use bz_model::{Value, count_of, value_of};
 use std::alloc::{AllocError, AllocFailed, Global};
 use std::str;
 
@@ -97,7 +94,7 @@ fn operands_in(text: &str, names: &[ChanName]) -> Option<(u32, Option<Value>)>
 {
     match text.split_once(' ') {
         None => Some((chan(text, names)?, None)),
-        Some((word, digits)) => Some((chan(word, names)?, Some(value(digits)?))),
+        Some((word, digits)) => Some((chan(word, names)?, Some(value_of(digits)?))),
     }
 }
 
@@ -116,30 +113,8 @@ fn sent(word: &str) -> Option<Sent>
 pub(crate) fn chan(word: &str, names: &[ChanName]) -> Option<u32>
     ensures { IfSome result (Stands names.now word.now) }
 {
-    match number(word) {
+    match count_of(word) {
         Some(chan) => Some(chan),
         None => named(names, word.as_bytes()),
     }
-}
-
-// The number that decimal digits spell.
-fn number(digits: &str) -> Option<u32>
-    ensures { SomeIff result (IsNumeral 10 digits.now × (digits_value 10 digits.now < 2 ^ 32))
-        (digits_value 10 digits.now) }
-{
-    if digits.starts_with('+') {
-        return None;
-    }
-    digits.parse().ok()
-}
-
-// The value that decimal digits spell.
-fn value(digits: &str) -> Option<Value>
-    ensures { SomeIff result (IsNumeral 10 digits.now × (digits_value 10 digits.now < 2 ^ max_width))
-        (digits_value 10 digits.now) }
-{
-    if digits.starts_with('+') {
-        return None;
-    }
-    digits.parse().ok()
 }

@@ -9,7 +9,8 @@ use Rattle.bz_model.specs.declared.channel.Move.TheVariants.{Ask, Take, Reply, G
 use Rattle.bz_model.specs.declared.event.Entry.{Entry}
 use Rattle.bz_model.specs.declared.event.Entry.TheVariants.{Fired}
 use Rattle.bz_model.specs.declared.event.Who.{Who}
-use Rattle.bz_cover.specs.Counts.{AreCounts, CountEach, CountsOn, Raises, Tallies, counted, is_move_of, is_request, is_request_at, most_counted, tally}
+use Rattle.bz_model.specs.Nets.{Wiring}
+use Rattle.bz_cover.specs.Counts.{Adds, AreCounts, CountEach, CountsOn, HasPlaces, Raises, Tallies, counted, is_move_of, is_request, is_request_at, most_counted, tally}
 
 pub decided : (b : Bool) → (b ≡ true) ⊎ (b ≡ false)
 decided true = inl refl
@@ -148,3 +149,49 @@ raised_both m n = grind arith
 
 pub add_up : (p : Entry → Bool) (es fs : List Entry) → counted p (es ++ fs) ≡ min (counted p es + counted p fs) most_counted
 add_up p es fs = ap (λ n. min n most_counted) (sum_by-append (λ (x : Entry). cond (p x) 1 0) es fs) ∙ raised_both (count_by p es) (count_by p fs)
+
+-- ---- a row that is added to another
+
+-- so far it was added up to a place
+pub record AddsTo (old more : List ℕ) (place : ℕ) (now : List ℕ) : Type 0 where
+  pub long : length now ≡ length old
+  pub below : (k : ℕ) → k < place → tally now k ≡ min (tally old k + tally more k) most_counted
+  pub others : (k : ℕ) → place ≤ k → tally now k ≡ tally old k
+
+pub adds_start : (old more : List ℕ) → AddsTo old more 0 old
+adds_start old more = record { long = refl; below = λ k less. absurd (omega (arith, less)); others = λ k past. refl }
+
+pub adds_next : (old more now : List ℕ) (place v : ℕ) → AddsTo old more place now → place < length now → v ≡ min (get_or now place 0 + tally more place) most_counted → AddsTo old more (place + 1) (set now place v)
+adds_next old more now place v so within is = record {
+  long = length-set now place v ∙ so.long;
+  below = λ k less. elim (decided (place == k)) [
+    | inl same_place ↦
+        (let same = eqb-true place k same_place in
+        subst (λ n. tally (set now place v) n ≡ min (tally old n + tally more n) most_counted) same
+        (get_or-set_same now place v 0 within ∙ is ∙ ap (λ n. min (n + tally more place) most_counted) (so.others place (omega arith))))
+    | inr other ↦
+        (let apart = eqb-false place k other in
+        get_or-set_other now place k v 0 (λ is. apart (sym is)) ∙ so.below k (omega (arith, less, apart)))
+  ];
+  others = λ k past. get_or-set_other now place k v 0 (omega (arith, past)) ∙ so.others k (omega (arith, past));
+}
+
+pub adds_all : (old more now : List ℕ) (place : ℕ) → length old ≤ place → AddsTo old more place now → Adds old more now
+adds_all old more now place all so = record { long = so.long; each = λ k within. so.below k (omega (arith, within, all)) }
+
+row_adds : (p : ℕ → Entry → Bool) (old more new : List ℕ) (es fs : List Entry) → length more ≡ length old → Adds old more new → CountEach p old es → CountEach p more fs → CountEach p new (es ++ fs)
+row_adds p old more new es fs same adds each others k within =
+    let inside : k < length old = let long = adds.long in omega (arith, within, long) in
+    let inside_more : k < length more = omega (arith, inside, same) in
+    adds.each k inside ∙ ap (λ n. min (n + tally more k) most_counted) (each k inside) ∙ ap (λ n. min (counted (p k) es + n) most_counted) (others k inside_more) ∙ sym (add_up (p k) es fs)
+
+pub adds_counts : (w : Wiring) (old more new : Tallies) (fs : List Entry) → Adds old.comps more.comps new.comps → Adds old.asks more.asks new.asks → Adds old.takes more.takes new.takes
+    → HasPlaces w old → HasPlaces w more → AreCounts more fs → CountsOn old fs new
+adds_counts w old more new fs comps asks takes has others counts = record {
+  counts = λ before are. record {
+    comps = row_adds is_move_of old.comps more.comps new.comps before fs (others.comps ∙ sym has.comps) comps are.comps counts.comps;
+    asks = row_adds (λ k. is_request_at k false) old.asks more.asks new.asks before fs (others.asks ∙ sym has.asks) asks are.asks counts.asks;
+    takes = row_adds (λ k. is_request_at k true) old.takes more.takes new.takes before fs (others.takes ∙ sym has.takes) takes are.takes counts.takes;
+  };
+  places = λ v places. record { comps = comps.long ∙ places.comps; asks = asks.long ∙ places.asks; takes = takes.long ∙ places.takes };
+}

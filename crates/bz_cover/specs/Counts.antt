@@ -72,6 +72,11 @@ pub record Raises (old : List ℕ) (place : ℕ) (new : List ℕ) : Type 0 where
   pub here : place < length old → tally new place ≡ min (tally old place + 1) most_counted
   pub others : (k : ℕ) → k ≢ place → tally new k ≡ tally old k
 
+-- another row was added, place by place
+pub record Adds (old more new : List ℕ) : Type 0 where
+  pub long : length new ≡ length old
+  pub each : (k : ℕ) → k < length old → tally new k ≡ min (tally old k + tally more k) most_counted
+
 abbrev pub asks_or_takes : Move → Bool
 asks_or_takes Ask = true
 asks_or_takes Take = true

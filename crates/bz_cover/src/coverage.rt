@@ -3,10 +3,11 @@
 //! A port is the one end of its kind that its channel has. So a request is counted by its channel and its move, in one step,
 //! and no port is looked for.
 
-ghost use Rattle.std.specs.Prelude.{◌≡◌, ◌∷◌, [], ◌+◌, min, length, IfOk};
+ghost use Rattle.std.specs.Prelude.{◌≡◌, ◌∷◌, [], ◌+◌, min, length, IfOk, List};
+ghost use Rattle.bz_model.specs.declared.event.Entry.{Entry};
 ghost use Rattle.bz_model.specs.Names.{numbered};
-ghost use Rattle.bz_model.specs.Nets.{IsPort};
-ghost use Rattle.bz_cover.specs.Counts.{AreCounts, CountsOn, HasPlaces, Raises, port_tally, tally};
+ghost use Rattle.bz_model.specs.Nets.{IsPort, Wiring};
+ghost use Rattle.bz_cover.specs.Counts.{Adds, AreCounts, CountsOn, HasPlaces, Raises, port_tally, tally};
 
 use bz_kind_rows::is_passive;
 use bz_model::{Entry, Move, numbered};
@@ -55,6 +56,7 @@ impl Coverage {
     }
 
     /// Counts one entry more.
+    #[inline(always)]
     pub fn add(&mut self, entry: &Entry)
         ensures { CountsOn self.old (entry.now ∷ []) self.new }
     {
@@ -70,11 +72,21 @@ impl Coverage {
         }
     }
 
+    /// Counts also what another has counted of the same net.
+    pub fn add_all(&mut self, other: &Coverage)
+        ensures { (w : Wiring) (entries : List Entry) → HasPlaces w self.old → HasPlaces w other.now
+            → AreCounts other.now entries → CountsOn self.old entries self.new }
+    {
+        add_row(&mut self.comps, &other.comps);
+        add_row(&mut self.asks, &other.asks);
+        add_row(&mut self.takes, &other.takes);
+    }
+
     /// How often a component moved.
     pub fn of(&self, comp: u32) -> u64
         ensures { result ≡ tally self.now.comps comp }
     {
-        at(&self.comps, comp)
+        at(&self.comps, comp as usize)
     }
 
     /// How often a port of a component was used; 0 where there is no such port.
@@ -89,10 +101,19 @@ impl Coverage {
             return 0;
         };
         if is_passive(&site.kind, site.sizes, port) {
-            at(&self.takes, chan)
+            at(&self.takes, chan as usize)
         } else {
-            at(&self.asks, chan)
+            at(&self.asks, chan as usize)
         }
+    }
+}
+
+// Adds a row of counts to another.
+fn add_row(row: &mut [u64], other: &[u64])
+    ensures { Adds row.old other.now row.new }
+{
+    for place in 0..row.len() {
+        row[place] = row[place].saturating_add(at(other, place));
     }
 }
 
@@ -104,16 +125,17 @@ fn chan_at(chans: &[u32], port: u32) -> Option<u32>
 }
 
 // The count at a place, 0 where there is none.
-fn at(row: &[u64], place: u32) -> u64
+fn at(row: &[u64], place: usize) -> u64
     ensures { result ≡ tally row.now place }
 {
-    match row.get(place as usize) {
+    match row.get(place) {
         Some(count) => *count,
         None => 0,
     }
 }
 
 // Counts one more at a place, where there is one.
+#[inline(always)]
 #[tactic(auto, using(crate::proofs::Tallies::raises_here, crate::proofs::Tallies::raises_none))]
 fn raise(row: &mut Vec<u64>, place: u32)
     ensures { Raises row.old.items place row.new.items }

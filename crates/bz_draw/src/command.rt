@@ -1,12 +1,10 @@
 //! The command `draw`.
 
-ghost use Rattle.std.specs.Prelude.{IfErr, IfOk, IfSome, OnErr, OnOk};
+ghost use Rattle.std.specs.Prelude.{IfErr, IfOk, IfSome};
 ghost use Rattle.std.specs.Option.{option_copied};
-ghost use Rattle.std.specs.Io.KnownBytes.{Appends};
 ghost use Rattle.bz_flat.specs.Wires.{EndsOf, WellWired};
 ghost use Rattle.bz_cli_input.specs.Opening.{RefusesNet};
 ghost use Rattle.bz_cli_input.specs.Reading.{ReadsWithin};
-ghost use Rattle.bz_cli_input.specs.Stopping.{AppendsSome};
 ghost use Rattle.bz_cli_source.specs.Surveys.{wiring_in};
 ghost use Rattle.bz_draw.specs.Drawing.{Draws, DrawsText, HasNet, IsWhole};
 
@@ -16,11 +14,11 @@ use crate::folding::boxes_at;
 use crate::graph::put_graph;
 use crate::near::Near;
 use crate::view::{Moment, Scene, View};
-use bz_cli_input::{Fault, read_input};
+use bz_cli_input::{Fault, read_input, send_all};
 use bz_cli_source::survey_of;
 use bz_flat::Pieces;
 use bz_source::{Places, Survey};
-use bz_text::{Text, WriteFault, put};
+use bz_text::Text;
 use std::alloc::{AllocError, Global};
 use std::io::{Read, Write};
 
@@ -56,7 +54,7 @@ fn draw_text<W: Write>(
         Ok(graph) => graph,
         Err(why) => return Ok(Some(why)),
     };
-    write_out(output, graph.whole()?)?;
+    send_all(output, graph.whole()?)?;
     Ok(None)
 }
 
@@ -131,16 +129,4 @@ fn drawing_at(
         return Ok(Err(NoDrawing::TooMany { nodes }));
     }
     Ok(Ok(drawing))
-}
-
-/// Writes a graph, down to the last byte.
-pub(crate) fn write_out<W: Write>(output: &mut W, graph: &[u8]) -> Result<(), WriteFault>
-    ensures ok { OnOk result (Appends (W.contents output.old) (W.contents output.new) graph.now) }
-    ensures err { OnErr result (AppendsSome (W.contents output.old) (W.contents output.new) graph.now) }
-{
-    put(output, graph)?;
-    match output.flush() {
-        Ok(()) => Ok(()),
-        Err(_) => Err(WriteFault),
-    }
 }

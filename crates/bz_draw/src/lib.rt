@@ -15,7 +15,7 @@ mod nodes;
 mod piece;
 mod view;
 
-pub use behind::draw_trace_cmd;
+pub use behind::graph_at;
 pub use command::draw_cmd;
 pub use drawing::{Drawing, Edge, Tip, drawing_of};
 pub use fault::{NoDrawing, NoMoment};

@@ -4,14 +4,16 @@ use Rattle.std.specs.List.{All}
 use Rattle.std.proofs.lemmas.List.{take_more, drop_more, drop-drop}
 use Rattle.std.proofs.lemmas.List.Elements.{filter_map-append, All-nil, All-cons, All-head, All-tail, All-append}
 use Rattle.std.proofs.lemmas.List.Sums.{sum_by-cons}
-use Rattle.bz_model.specs.Rows.{PortRow, row_of}
-use Rattle.bz_kind_rows.specs.declared.table.PortRow as code
+use Rattle.bz_model.specs.Rows.{PortRow, row_of, rows, kind_name}
+use Rattle.bz_kind_rows.specs.declared.ports.PortRow as code
 use Rattle.bz_kind_rows.specs.Table.{seen}
 use Rattle.bz_breeze_records.specs.declared.part.Slot.{Slot}
 use Rattle.bz_breeze_records.specs.declared.part.Slot.TheVariants.{One, Many}
 use Rattle.bz_model.specs.declared.channel.Chan.{Chan}
 use Rattle.bz_model.specs.declared.kind.Kind.{Kind}
-use Rattle.bz_elab.specs.Entries.{flattened, named_in, singles, lists, list_of, first_list, in_row, pulls, guard_second, guard_in_front, has_guard, leads_with_guard, in_order, arranged}
+use Rattle.bz_model.specs.declared.kind_rules.EntryOrder.{EntryOrder}
+use Rattle.bz_model.specs.declared.kind_rules.EntryOrder.TheVariants.{AsPorts, GuardSecond, GuardInFront}
+use Rattle.bz_elab.specs.Entries.{flattened, named_in, singles, lists, list_of, first_list, in_row, pulls, guard_second, guard_in_front, put_by, arranged}
 use Rattle.std.proofs.Math.ListN.{get_or-map as read-map}
 
 pub drop_item : {X : Type 0} (xs : List X) (i : ℕ) (x : X) → i < length xs → x ≡ get_or xs i x → drop i xs ≡ x ∷ drop (i + 1) xs
@@ -212,20 +214,18 @@ length_front chans (a ∷ b ∷ ks) =
       | false ↦ elim (pulls chans b) as (λ v. length (if v then b ∷ a ∷ ks else a ∷ b ∷ ks) ≡ length (a ∷ b ∷ ks)) [ true ↦ refl | false ↦ refl ]
     ]
 
-all_order : (P : ℕ → Type 0) (kind : Kind) (chans : List Chan) (ks : List ℕ) → All P ks → All P (in_order kind chans ks)
-all_order P kind chans ks h = elim (has_guard kind) as (λ v. All P (if v then guard_second chans ks else (if leads_with_guard kind then guard_in_front chans ks else ks))) [
-  | true ↦ all_guard P chans ks h
-  | false ↦ elim (leads_with_guard kind) as (λ v. All P (if v then guard_in_front chans ks else ks)) [ true ↦ all_front P chans ks h | false ↦ h ]
-]
+all_order : (P : ℕ → Type 0) (order : EntryOrder) (chans : List Chan) (ks : List ℕ) → All P ks → All P (put_by order chans ks)
+all_order P AsPorts chans ks h = h
+all_order P GuardSecond chans ks h = all_guard P chans ks h
+all_order P GuardInFront chans ks h = all_front P chans ks h
 
-length_order : (kind : Kind) (chans : List Chan) (ks : List ℕ) → length (in_order kind chans ks) ≡ length ks
-length_order kind chans ks = elim (has_guard kind) as (λ v. length (if v then guard_second chans ks else (if leads_with_guard kind then guard_in_front chans ks else ks)) ≡ length ks) [
-  | true ↦ length_guard chans ks
-  | false ↦ elim (leads_with_guard kind) as (λ v. length (if v then guard_in_front chans ks else ks) ≡ length ks) [ true ↦ length_front chans ks | false ↦ refl ]
-]
+length_order : (order : EntryOrder) (chans : List Chan) (ks : List ℕ) → length (put_by order chans ks) ≡ length ks
+length_order AsPorts chans ks = refl
+length_order GuardSecond chans ks = length_guard chans ks
+length_order GuardInFront chans ks = length_front chans ks
 
 pub all_arranged : (P : ℕ → Type 0) (kind : Kind) (chans : List Chan) (es : List Slot) → All P (flattened es) → All P (arranged kind chans es)
-all_arranged P kind chans es h = all_order P kind chans (in_row (row_of kind) (singles es) (lists es)) (all_rows P (row_of kind) es h)
+all_arranged P kind chans es h = all_order P (rows (kind_name kind)).entries chans (in_row (row_of kind) (singles es) (lists es)) (all_rows P (row_of kind) es h)
 
 -- Where there is an entry for each port, none is left out.
 
@@ -267,7 +267,7 @@ length-in_row (r ∷ rs) ones (l ∷ ls) a b = elim (counts r rs) [
 -- all that entries name, and nothing else
 pub length-arranged : (kind : Kind) (chans : List Chan) (es : List Slot) → length (singles es) ≡ single_count (row_of kind) → length (lists es) ≡ array_count (row_of kind)
     → length (arranged kind chans es) ≡ length (flattened es)
-length-arranged kind chans es a b = length_order kind chans (in_row (row_of kind) (singles es) (lists es)) ∙ length-in_row (row_of kind) (singles es) (lists es) a b ∙ sym (length-flattened es)
+length-arranged kind chans es a b = length_order (rows (kind_name kind)).entries chans (in_row (row_of kind) (singles es) (lists es)) ∙ length-in_row (row_of kind) (singles es) (lists es) a b ∙ sym (length-flattened es)
 
 -- The order of a row, one port after another.
 

@@ -5,9 +5,10 @@ use Rattle.bz_model.specs.declared.channel.Chan.{Chan}
 use Rattle.bz_model.specs.declared.channel.ChanKind.{ChanKind}
 use Rattle.bz_model.specs.declared.channel.ChanKind.TheVariants.{Pull}
 use Rattle.bz_model.specs.declared.kind.Kind.{Kind}
-use Rattle.bz_model.specs.declared.kind.Kind.TheVariants.{While, Bar}
+use Rattle.bz_model.specs.declared.kind_rules.EntryOrder.{EntryOrder}
+use Rattle.bz_model.specs.declared.kind_rules.EntryOrder.TheVariants.{AsPorts, GuardSecond, GuardInFront}
 use Rattle.bz_model.specs.Nets.{chan_in}
-use Rattle.bz_model.specs.Rows.{PortRow, row_of, has_sizes, max_members}
+use Rattle.bz_model.specs.Rows.{PortRow, rows, kind_name, row_of, has_sizes, max_members}
 use Rattle.bz_breeze_records.specs.declared.part.Slot.{Slot}
 use Rattle.bz_breeze_records.specs.declared.part.Slot.TheVariants.{One, Many}
 
@@ -74,20 +75,14 @@ guard_in_front chans (a ∷ b ∷ ks) =
     else a ∷ b ∷ ks)
 guard_in_front chans ks = ks
 
--- single entries fill the single ports in order, but for those of a While and of a Bar, whose guard is on a pull channel
-abbrev pub has_guard : Kind → Bool
-has_guard While = true
-has_guard kind = false
-
-abbrev pub leads_with_guard : Kind → Bool
-leads_with_guard Bar = true
-leads_with_guard kind = false
+-- single entries fill the single ports in order, but for those of a kind with a guard, which is on a pull channel
+abbrev pub put_by : EntryOrder → List Chan → List ℕ → List ℕ
+put_by AsPorts chans ks = ks
+put_by GuardSecond chans ks = guard_second chans ks
+put_by GuardInFront chans ks = guard_in_front chans ks
 
 abbrev pub in_order : Kind → List Chan → List ℕ → List ℕ
-in_order kind chans ks =
-    if has_guard kind then guard_second chans ks
-    else (if leads_with_guard kind then guard_in_front chans ks
-    else ks)
+in_order kind chans ks = put_by (rows (kind_name kind)).entries chans ks
 
 -- the channels of a component's ports, in the order of the ports of its kind, by their numbers in a part with these
 -- channels

@@ -24,7 +24,7 @@ pub record IsSoundLeaf (chans : List Chan) (c : Component) (kind : Kind) : Type 
   pub fits : FitsPorts kind c.entries.items
   pub within : All (IsChannel chans) (flattened c.entries.items)
   pub kinds : kinds_of (chans_of chans kind c.entries.items) ≡ map (λ r. r.kind) (ports_of (row_of kind) (sizes_of c.entries.items))
-  pub widths : IsTrue (has_widths kind (chans_of chans kind c.entries.items))
+  pub widths : IsTrue (has_widths kind (sizes_of c.entries.items) (chans_of chans kind c.entries.items))
 
 pub record IsSoundInstance (chans : List Chan) (c : Component) (part : Part) : Type 0 where
   pub count : length (flattened c.entries.items) ≡ length part.ports.items

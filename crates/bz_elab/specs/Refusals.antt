@@ -47,7 +47,7 @@ HasFault chans c (of_kind kind) fault.PortCount = FitsPorts kind c.entries.items
 HasFault chans c (of_kind kind) fault.BadChannel = All (IsChannel chans) (flattened c.entries.items) → ⊥
 HasFault chans c (of_kind kind) fault.KindMismatch =
     kinds_of (chans_of chans kind c.entries.items) ≢ map (λ r. r.kind) (ports_of (row_of kind) (sizes_of c.entries.items))
-HasFault chans c (of_kind kind) fault.WidthMismatch = IsTrue (has_widths kind (chans_of chans kind c.entries.items)) → ⊥
+HasFault chans c (of_kind kind) fault.WidthMismatch = IsTrue (has_widths kind (sizes_of c.entries.items) (chans_of chans kind c.entries.items)) → ⊥
 HasFault chans c (instance part) fault.PortCount = length (flattened c.entries.items) ≢ length part.ports.items
 HasFault chans c (instance part) fault.BadChannel = All (IsChannel chans) (flattened c.entries.items) → ⊥
 HasFault chans c (instance part) fault.KindMismatch = kinds_of (actuals_of chans c.entries.items) ≢ kinds_of (formals_of part)

@@ -16,8 +16,8 @@ ghost use Rattle.bz_elab.specs.Order.{NoneBefore};
 use crate::error::Fault;
 use bz_breeze_records::{Component, Part, Slot};
 use bz_flat::{CHANS_IN_PLACE, ChanList, FlatComp};
-use bz_kind_rows::{PortRow, kind_of, kinds_are, port_table, sizes_fit, widths_fit};
-use bz_model::{Chan, ChanKind, Kind, MAX_MEMBERS};
+use bz_kind_rows::{PortRow, kind_of, kinds_are, port_table, row_of, sizes_fit, widths_fit};
+use bz_model::{Chan, ChanKind, EntryOrder, Kind, MAX_MEMBERS};
 use std::alloc::{AllocError, Global};
 
 /// A component that is no instance, by the numbers that its part's channels have in that part.
@@ -49,7 +49,7 @@ pub fn leaf_of(
     if !kinds_are(&kind, sizes, carried.as_slice()) {
         return Err(Fault::KindMismatch);
     }
-    if !widths_fit(&kind, carried.as_slice()) {
+    if !widths_fit(&kind, sizes, carried.as_slice()) {
         return Err(Fault::WidthMismatch);
     }
     Ok(FlatComp { kind, sizes, chans })
@@ -358,14 +358,14 @@ fn in_row(alloc: Global, rows: &[PortRow], entries: &[Slot]) -> Result<Vec<u32>,
     Ok(chans)
 }
 
-// Puts the entries of a While or a Bar in the order of its ports.
+// Puts the single entries of a kind that has a guard in the order of its ports.
 fn put_in_order(kind: &Kind, channels: &[Chan], chans: &mut [u32])
     ensures { chans.new ≡ in_order kind.now channels.now chans.old }
 {
-    match kind {
-        Kind::While => put_guard_second(channels, chans),
-        Kind::Bar => put_guard_in_front(channels, chans),
-        _ => {}
+    match row_of(kind).entries {
+        EntryOrder::AsPorts => {}
+        EntryOrder::GuardSecond => put_guard_second(channels, chans),
+        EntryOrder::GuardInFront => put_guard_in_front(channels, chans),
     }
 }
 

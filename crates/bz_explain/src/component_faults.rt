@@ -2,15 +2,15 @@
 
 use crate::data::{Head, Which, find, letters_of};
 use crate::kind_words::{
-    is_left_out, operations_of, params_rule, put_counts, put_kind, put_row, put_widths,
+    is_left_out, operations_of, put_counts, put_kind, put_parameters, put_row, put_widths,
 };
 use crate::site::Site;
 use bz_breeze_records::{Part, Parts, Slot};
 use bz_elab::{arranged, array_sizes};
 use bz_explain_notes::{Detail, NEAREST, Notes, port_names};
 use bz_flat::ElabError;
-use bz_kind_rows::{kind_names, port_at};
-use bz_model::{Chan, ChanKind, Kind, MAX_MEMBERS, Param};
+use bz_kind_rows::{kind_rows, port_at, row_of};
+use bz_model::{Chan, ChanKind, Kind, LengthRule, MAX_MEMBERS, Param};
 use bz_sexpr::Form;
 use bz_text::Text as Letters;
 use bz_view::Piece::{self, Carried, Count, Name, Number, Port, Shown, Text, Wide};
@@ -38,8 +38,8 @@ pub(crate) fn part_names(alloc: Global, parts: &Parts) -> Result<Vec<&[u8]>, All
 // The names of the parts, and behind these those of the kinds.
 fn known_names(alloc: Global, parts: &Parts) -> Result<Vec<&[u8]>, AllocError> {
     let mut names = part_names(alloc, parts)?;
-    for (name, _) in kind_names() {
-        names.push(name.as_bytes())?;
+    for row in kind_rows() {
+        names.push(row.name.as_bytes())?;
     }
     Ok(names)
 }
@@ -93,8 +93,9 @@ impl Site<'_> {
         notes.put(")", &[]);
         self.put_skipped(notes);
         let name = self.component.name.as_slice();
-        let args = [Name(name), Text(params_rule(name))];
-        notes.say("\nexpected: for % %", &args);
+        notes.put("\nexpected: for % ", &[Name(name)]);
+        put_parameters(notes, name);
+        notes.say("", &[]);
         self.say_operation(notes, name, params);
     }
 
@@ -110,11 +111,11 @@ impl Site<'_> {
 
     // Tells the operation that was probably meant.
     fn say_operation(&self, notes: &mut Notes, name: &[u8], params: &[Param]) {
-        let operations = operations_of(name);
+        let operations = notes.gathered(operations_of(notes.alloc(), name));
         if let Some(word) = first_word(params) {
             if !operations.iter().any(|operation| *operation == word) {
                 let form = "help: the nearest operation is %";
-                let nearest = notes.say_nearest(form, word, operations);
+                let nearest = notes.say_nearest(form, word, &operations);
                 add_replacement(notes, self.word_form(word), nearest);
             }
         }
@@ -193,10 +194,10 @@ impl Site<'_> {
         }
     }
 
-    // How many sets the text of a Case or a CaseFetch gives.
+    // How many sets its text gives, where the kind has a specification.
     fn set_count(&self, kind: &Kind) -> Option<usize> {
-        match kind {
-            Kind::Case(_) | Kind::CaseFetch(_) => {
+        match row_of(kind).lengths {
+            Some(LengthRule::Sets) => {
                 let text = first_word(self.component.params.as_slice())?;
                 let marks = text.iter().filter(|byte| **byte == b';').count();
                 Some(marks.saturating_add(1))

@@ -1,32 +1,18 @@
 //! What the kinds of component ask of their entries, channels and parameters.
 
 use bz_explain_notes::Notes;
-use bz_kind_rows::{KindName, PortAt, PortRow, kind_named, kind_word, port_table};
-use bz_model::{ChanKind, Kind};
+use bz_kind_rows::{
+    PortAt, PortRow, WidthRule, kind_named, kind_word, operation_names, port_table, row_named,
+    row_of,
+};
+use bz_model::{ChanKind, Kind, LengthRule, ParamMeaning, ParamPlace, ParamRow};
 use bz_view::Piece::{self, Bytes, Count, Port, Text};
+use std::alloc::{AllocError, Global};
 
 /// Kinds of Balsa's that there are not here.
 const LEFT_OUT: &str =
     "Memory InitVariable BuiltinVariable Mask Encode NullAdapt SynchPush CallActive \
     CallDemuxPush SplitEqual";
-
-/// The operations: the first two are those of a UnaryFunc.
-const OPERATIONS: [&[u8]; 14] = [
-    b"Negate",
-    b"Invert",
-    b"Add",
-    b"Subtract",
-    b"ReverseSubtract",
-    b"Equals",
-    b"NotEquals",
-    b"LessThan",
-    b"GreaterThan",
-    b"LessOrEquals",
-    b"GreaterOrEquals",
-    b"And",
-    b"Or",
-    b"Xor",
-];
 
 /// Whether a name is that of a kind of Balsa's that there is not here.
 pub(crate) fn is_left_out(name: &[u8]) -> bool {
@@ -36,22 +22,30 @@ pub(crate) fn is_left_out(name: &[u8]) -> bool {
     }
 }
 
-/// The operations of the kind of a name, if it has any.
-pub(crate) fn operations_of(name: &[u8]) -> &'static [&'static [u8]] {
+/// The operations that a parameter of the kind of a name may be.
+pub(crate) fn operations_of(alloc: Global, name: &[u8]) -> Result<Vec<&'static [u8]>, AllocError> {
+    let mut names = Vec::new(alloc);
+    for parameter in parameters_of(name) {
+        for operation in operation_names(parameter.meaning) {
+            names.push(operation.as_bytes())?;
+        }
+    }
+    Ok(names)
+}
+
+// The parameters that the kind of a name looks at.
+fn parameters_of(name: &[u8]) -> &'static [ParamRow] {
     match kind_named(name) {
-        Some(KindName::UnaryFunc) => &OPERATIONS[..2],
-        Some(KindName::BinaryFunc | KindName::BinaryFuncConstR) => &OPERATIONS[2..],
-        _ => &[],
+        Some(kind) => row_named(kind).parameters,
+        None => &[],
     }
 }
 
 // A kind's article and word: `a Fetch`, `an Arbiter`.
 fn word_of(kind: &Kind) -> (Piece<'static>, Piece<'static>) {
-    let article = match kind {
-        Kind::Arbiter | Kind::Adapt { .. } => "an",
-        _ => "a",
-    };
-    (Text(article), Bytes(kind_word(kind)))
+    let word = kind_word(kind);
+    let article = if word.starts_with(b"A") { "an" } else { "a" };
+    (Text(article), Bytes(word))
 }
 
 /// Goes on with the numbers of single entries and of lists.
@@ -82,10 +76,10 @@ pub(crate) fn put_row(notes: &mut Notes, kind: &Kind, behind: &str) {
 
 // What the lists of a kind have to be beside their number.
 fn list_rule(kind: &Kind) -> &'static str {
-    match kind {
-        Kind::Case(_) | Kind::CaseFetch(_) => ", a channel for each set of its text",
-        Kind::DecisionWait | Kind::Bar => ", both lists of one length",
-        _ => "",
+    match row_of(kind).lengths {
+        Some(LengthRule::Sets) => ", a channel for each set of its text",
+        Some(LengthRule::Equal) => ", both lists of one length",
+        None => "",
     }
 }
 
@@ -115,40 +109,106 @@ fn deed(row: PortRow) -> &'static str {
 
 /// Tells what widths a kind asks for.
 pub(crate) fn put_widths(notes: &mut Notes, kind: &Kind) {
-    let rule = match kind {
-        Kind::While => "1 bit for the guard of",
-        Kind::Bar => "1 bit for the guard and each inp of",
-        Kind::CaseFetch(_) => "one width for out and each inp of",
-        Kind::Slice(_) => "within the width of inp the lowest bit and the width of out of",
-        Kind::Combine => "for out the widths of ls and ms together, of",
-        Kind::Split => "for inp the widths of ls and ms together, of",
-        Kind::CombineEqual => "one width for each inp, and all of them together for out, of",
-        _ => "one width throughout",
-    };
+    let row = row_of(kind);
+    let mut before = "expected: ";
+    for rule in row.widths {
+        notes.put(before, &[]);
+        put_rule(notes, row.ports, rule);
+        before = ", and ";
+    }
     let (article, word) = word_of(kind);
-    notes.say("expected: % % %", &[Text(rule), article, word]);
+    notes.say(", of % %", &[article, word]);
 }
 
-/// The parameters that the kind of this name takes.
-pub(crate) fn params_rule(name: &[u8]) -> &'static str {
-    match kind_named(name) {
-        Some(KindName::Variable) => {
-            "no second text, or an empty one: each read is of the whole value"
+// Goes on with what a rule asks of the widths at these ports.
+fn put_rule(notes: &mut Notes, ports: &[PortRow], rule: &WidthRule) {
+    match *rule {
+        WidthRule::Equal(places) => put_ports(notes, "one width for", ports, places),
+        WidthRule::One(places) => put_ports(notes, "1 bit for", ports, places),
+        WidthRule::Sum(whole, places) => {
+            put_ports(notes, "for", ports, &[whole]);
+            put_ports(notes, " the widths of", ports, places);
+            notes.put(" together", &[]);
         }
-        Some(KindName::FalseVariable) => {
-            "no text, or an empty one as the last: each read is of the whole value"
+        WidthRule::Within(part, whole) => {
+            put_ports(notes, "within the width of", ports, &[whole]);
+            put_ports(notes, " the lowest bit and the width of", ports, &[part]);
         }
-        Some(KindName::Constant) => "a second number, its value",
-        Some(KindName::Slice) => "a third number, its lowest bit",
-        Some(KindName::UnaryFunc) => "a text that is Negate or Invert",
-        Some(KindName::BinaryFunc) => {
-            "a text that is one of Add Subtract ReverseSubtract Equals NotEquals LessThan \
-            GreaterThan LessOrEquals GreaterOrEquals And Or Xor"
+    }
+}
+
+// Goes on with the ports at these places.
+fn put_ports(notes: &mut Notes, front: &str, ports: &[PortRow], places: &[usize]) {
+    let mut before = front;
+    for place in places {
+        if let Some(port) = ports.get(*place) {
+            let form = if port.array { "% each %" } else { "% %" };
+            notes.put(form, &[Text(before), Text(port.name)]);
+            before = " and";
         }
-        Some(KindName::BinaryFuncConstR) => {
-            "a text that is an operation, a third number from 1 to 128, the width of its constant, and a \
-            fourth, the value"
+    }
+}
+
+/// Goes on with the parameters that a component of this name has to have.
+pub(crate) fn put_parameters(notes: &mut Notes, name: &[u8]) {
+    let mut before = "";
+    for parameter in parameters_of(name) {
+        if !is_sign(parameter.meaning) {
+            notes.put(before, &[]);
+            put_parameter(notes, *parameter);
+            before = "; ";
         }
-        _ => "a text that gives a set of numbers for each member, as in 0;1..3,5",
+    }
+}
+
+// Whether a parameter says if values have a sign: whatever it is, it is taken.
+fn is_sign(meaning: ParamMeaning) -> bool {
+    matches!(meaning, ParamMeaning::Sign(_) | ParamMeaning::ConstantSign)
+}
+
+fn put_parameter(notes: &mut Notes, parameter: ParamRow) {
+    let (place, shape) = match parameter.place {
+        ParamPlace::Number(place) => (ordinal(place), "number"),
+        ParamPlace::Flag(place) => (ordinal(place), "truth value"),
+        ParamPlace::Text(place) => (ordinal(place), "text"),
+        ParamPlace::LastText => ("last", "text"),
+    };
+    let condition = if parameter.is_optional {
+        ", if there is one"
+    } else {
+        ""
+    };
+    let args = [
+        Text(place),
+        Text(shape),
+        Text(condition),
+        Text(asked(parameter.meaning)),
+    ];
+    notes.put("a % %%, %", &args);
+    for operation in operation_names(parameter.meaning) {
+        notes.put(" %", &[Text(operation)]);
+    }
+}
+
+// The word for a place, counted from 0. No kind looks at a parameter behind the fourth of a shape.
+fn ordinal(place: usize) -> &'static str {
+    match place {
+        0 => "first",
+        1 => "second",
+        2 => "third",
+        _ => "fourth",
+    }
+}
+
+// What a parameter is to be; behind that of an operation stand the names.
+fn asked(meaning: ParamMeaning) -> &'static str {
+    match meaning {
+        ParamMeaning::Specification => "a set of numbers for each member, as in 0;1..3,5",
+        ParamMeaning::Unary | ParamMeaning::Binary => "one of",
+        ParamMeaning::Sign(_) | ParamMeaning::ConstantSign => "whether there is a sign",
+        ParamMeaning::ConstantWidth => "the width of its constant, from 1 to 128",
+        ParamMeaning::Constant => "the value",
+        ParamMeaning::Low => "the lowest bit",
+        ParamMeaning::Empty => "empty: each read is of the whole value",
     }
 }

@@ -14,8 +14,8 @@ use crate::site::NetlistText;
 use crate::skipped::warn_of_skipped;
 use bz_breeze_records::Component;
 use bz_explain_notes::{Detail, Notes, Severity};
-use bz_kind_rows::{KindName, kind_named};
-use bz_model::{Param, Value};
+use bz_kind_rows::{kind_named, row_named};
+use bz_model::{KindName, Param, ParamPlace, Value};
 use bz_text::{Piece as Part, Text};
 use bz_view::Piece::{self, Bytes, Name};
 use std::alloc::AllocError;
@@ -140,11 +140,16 @@ fn has_unused_flag(component: &Component) -> bool {
     let flags = component.params.iter();
     let flags = flags.filter(|param| matches!(param, Param::Flag(_)));
     match kind_named(component.name.as_slice()) {
-        Some(KindName::Adapt | KindName::BinaryFunc | KindName::BinaryFuncConstR) => {
-            flags.count() == 1
-        }
-        _ => false,
+        Some(kind) => has_flag(kind, 1) && !has_flag(kind, 0) && flags.count() == 1,
+        None => false,
     }
+}
+
+// Whether a kind looks at the truth value at this place.
+fn has_flag(kind: KindName, place: usize) -> bool {
+    row_named(kind).parameters.iter().any(
+        |parameter| matches!(parameter.place, ParamPlace::Flag(flag) if flag == place),
+    )
 }
 
 // The channels of each part that its components name.

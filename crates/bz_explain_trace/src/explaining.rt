@@ -1,10 +1,12 @@
 //! What is said of a trace that is not that of a run.
 
+ghost use Rattle.std.specs.Prelude.{◌≡◌};
+
 use crate::beginnings::{explain_beginning, explain_netlist};
 use crate::form_faults::explain_form;
 use crate::stops::{explain_end, explain_line};
 use crate::suspect::Suspect;
-use bz_cli_trace::{Checked, Finding};
+use bz_cli_trace::{Case, Finding};
 use bz_explain_notes::Notes;
 use bz_model::Names;
 use bz_net::Play;
@@ -13,11 +15,11 @@ use bz_trace::Verdict;
 use bz_view::Piece::Text;
 use std::alloc::Global;
 
-/// The notes of a trace that was checked and is not that of a run: on the line that the verdict names, by the net that refused it.
+/// The notes of a trace that was judged and is not that of a run: on the line that the verdict names, by the net that refused it.
 /// Of the trace of a run there are none, nor where memory is refused for some of them.
-pub fn explain_trace(alloc: Global, suspect: Suspect<'_>, checked: Checked) -> Notes {
-    let mut notes = begun(alloc, suspect, checked.verdict);
-    explain_checked(&mut notes, suspect, checked);
+pub fn explain_trace(alloc: Global, suspect: Suspect<'_>, case: Case) -> Notes {
+    let mut notes = begun(alloc, suspect, case.found().verdict);
+    explain_case(&mut notes, suspect, case);
     notes
 }
 
@@ -28,7 +30,10 @@ pub fn explain_found(
     found: Finding,
     net: &mut Play,
     survey: &Survey,
-) -> Notes {
+) -> Notes
+    // (a command of the host is tried on it)
+    ensures { net.new.wiring ≡ net.old.wiring }
+{
     let mut notes = begun(alloc, suspect, found.verdict);
     match found.verdict {
         Verdict::Run if found.unrested => explain_end(&mut notes, net.core(), survey),
@@ -49,12 +54,12 @@ fn begun(alloc: Global, suspect: Suspect<'_>, verdict: Verdict) -> Notes {
     notes
 }
 
-fn explain_checked(notes: &mut Notes, suspect: Suspect<'_>, checked: Checked) {
-    match checked.verdict {
+fn explain_case(notes: &mut Notes, suspect: Suspect<'_>, case: Case) {
+    match case.found().verdict {
         Verdict::Run => {}
-        Verdict::Bad(line) => explain_bad(notes, checked.net.names(), suspect, line),
+        Verdict::Bad(line) => explain_bad(notes, case.judged.net.names(), suspect, line),
         Verdict::Not(line) => {
-            let (mut net, source, part) = checked.into_parts();
+            let (mut net, source, part) = case.into_parts();
             match source.survey(notes.alloc(), part.as_slice()) {
                 Ok(survey) => explain_line(notes, &mut net, &survey, suspect, line),
                 Err(_) => notes.fail(),
@@ -80,9 +85,9 @@ pub fn explain_no_trace(alloc: Global, netlist: &[u8]) -> Notes {
 }
 
 /// The notes of the trace of a run that was to end at rest: what can move where it ends.
-pub fn explain_unrested(alloc: Global, checked: Checked) -> Notes {
+pub fn explain_unrested(alloc: Global, case: Case) -> Notes {
     let mut notes = Notes::new(alloc);
-    let (net, source, part) = checked.into_parts();
+    let (net, source, part) = case.into_parts();
     match source.survey(alloc, part.as_slice()) {
         Ok(survey) => explain_end(&mut notes, net.core(), &survey),
         Err(_) => notes.fail(),

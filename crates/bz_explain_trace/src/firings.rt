@@ -130,10 +130,10 @@ fn put_expected(notes: &mut Notes, scene: &Scene<'_>, comp: u32) {
     if scene.seen.net.is_ready(comp) {
         let args = [scene.kind(comp), Number(comp as usize)];
         notes.put("\nexpected: what % % can do: ", &args);
-        scene.put_moves_of(notes, comp, 0);
+        scene.put_moves(notes, Some(comp));
     } else if scene.seen.net.next_ready(1).is_some() {
         notes.put("\nexpected: what others can do: ", &[]);
-        scene.put_moves(notes);
+        scene.put_moves(notes, None);
     } else {
         notes.put("\nexpected: no firing: nothing can move", &[]);
     }
@@ -148,6 +148,6 @@ pub(crate) fn explain_rest(notes: &mut Notes, scene: &Scene<'_>, comp: u32) {
         " can move\nfound: a rest where a component can move\nexpected: ",
         &[],
     );
-    scene.put_moves(notes);
+    scene.put_moves(notes, None);
     notes.say("", &[]);
 }

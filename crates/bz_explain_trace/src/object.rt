@@ -5,22 +5,23 @@
 use crate::items::{LineAt, line_of};
 use crate::suspect::Suspect;
 use bz_cli_trace::Finding;
-use bz_model::{Move, Phase, Value, Verb};
+use bz_explore_moves::{put_move_objects, put_next};
+use bz_explore_net::{answered_words, offers_of};
+use bz_model::{Phase, Value};
 use bz_text::Text;
 use bz_trace::{Counts, Verdict};
-use bz_view::Piece::{self, Bytes, Number, Wide};
-use bz_view::{Seen, put_rest, say_json};
+use bz_view::Piece::{Flag, Json, Number, Wide};
+use bz_view::{Seen, gathered, put_json_lines, put_rest, say_json};
 
-/// The most moves that an object has, and the most words of the host.
+/// The most moves that an object has by the names of version 1, and the most words of the host.
 const MOST_TOLD: usize = 1000;
 
 /// Adds an object with what was found of a trace, and the end of the line. The net is where the trace ends that is that of a run,
 /// or before the line that no run allows.
 pub fn put_found(suspect: Suspect<'_>, found: Finding, seen: Seen<'_>, text: &mut Text) {
-    text.put("{\"version\": 1, \"trace\": ");
     match suspect.file {
-        Some(file) => text.put_json(file.as_bytes()),
-        None => text.put("null"),
+        Some(file) => text.say("{\"version\": 2, \"trace\": %", &[Json(file.as_bytes())]),
+        None => text.put("{\"version\": 2, \"trace\": null"),
     }
     match found.verdict {
         Verdict::Run => {
@@ -30,7 +31,7 @@ pub fn put_found(suspect: Suspect<'_>, found: Finding, seen: Seen<'_>, text: &mu
         Verdict::Not(line) => {
             text.put(", \"verdict\": \"not-a-run\"");
             put_line(suspect, line, text);
-            put_flag(", \"early\": ", found.early, text);
+            text.say(", \"early\": %", &[Flag(found.early)]);
             put_state(seen, text);
         }
         Verdict::Bad(line) => {
@@ -60,126 +61,52 @@ fn put_line(suspect: Suspect<'_>, number: usize, text: &mut Text) {
     text.say(", \"line\": %", &[Number(number)]);
     let rest = LineAt::of(suspect, number).rest;
     if !rest.is_empty() {
-        text.put(", \"text\": ");
-        text.put_json(line_of(rest));
+        text.say(", \"text\": %", &[Json(line_of(rest))]);
     }
 }
 
 // What can come next in a net, and who waits for whom where nothing can move.
 fn put_state(seen: Seen<'_>, text: &mut Text) {
     let is_at_rest = seen.net.next_ready(1).is_none();
-    put_flag(", \"at_rest\": ", is_at_rest, text);
-    text.put(", \"expected\": [");
-    put_moves(seen, text);
-    text.put("], \"host_words\": [");
-    put_words(seen, text);
-    text.put("], \"waits\": [");
+    text.say(", \"at_rest\": %", &[Flag(is_at_rest)]);
+    put_next(seen.net, text);
+    put_old_names(seen, text);
+    text.put(", \"waits\": [");
     if is_at_rest && !is_quiet(seen) {
         put_waits(seen, text);
     }
     text.put("]");
 }
 
-// The moves that components can make, by component and port.
-fn put_moves(seen: Seen<'_>, text: &mut Text) {
-    let mut told = 0usize;
-    let mut from = 1u32;
-    for _ in 0..MOST_TOLD {
-        match seen.net.next_ready(from) {
-            Some(comp) if comp >= from && told < MOST_TOLD => {
-                told = put_moves_of(seen, comp, told, text);
-                from = comp.saturating_add(1);
-            }
-            _ => break,
-        }
+// What can come next by the names of version 1: of moves and of words the first thousand, each word as it is typed.
+fn put_old_names(seen: Seen<'_>, text: &mut Text) {
+    let alloc = text.alloc();
+    let moves = gathered(offers_of(alloc, seen.net), text);
+    let words = gathered(answered_words(alloc, seen.net), text);
+    let offers = moves.as_slice();
+    text.put(", \"expected\": [");
+    put_move_objects(seen.net, offers.get(..MOST_TOLD).unwrap_or(offers), text);
+    text.put("], \"host_words\": [");
+    let mut before = "";
+    for word in words.iter().take(MOST_TOLD) {
+        text.put(before);
+        say_json(text, "%", &[seen.host_word(word.verb, word.port)]);
+        before = ", ";
     }
-}
-
-// Those of one component, behind so many others: how many there are then.
-fn put_moves_of(seen: Seen<'_>, comp: u32, before: usize, text: &mut Text) -> usize {
-    let mut told = before;
-    for port in 1..=seen.port_count(comp) {
-        if let Some((chan, mv, value)) = seen.net.foresee(comp, port) {
-            put_comma(told, text);
-            put_move(seen, (comp, port), (chan, mv, value), text);
-            told = told.saturating_add(1);
-        }
-    }
-    told
-}
-
-fn put_move(seen: Seen<'_>, at: (u32, u32), made: (u32, Move, Option<Value>), text: &mut Text) {
-    let (comp, port) = at;
-    let (chan, mv, value) = made;
-    let form = "{\"component\": %, \"kind\": \"%\", \"port\": %, \"move\": \"%\", \"channel\": %";
-    let pieces = [
-        Number(comp as usize),
-        Bytes(seen.kind(comp)),
-        Number(port as usize),
-        Piece::Text(mv.word()),
-        Number(chan as usize),
-    ];
-    text.say(form, &pieces);
-    if let Some(value) = value {
-        text.say(", \"value\": \"%\"", &[Wide(value)]);
-    }
-    text.put("}");
-}
-
-// The words of the host that would be answered by a move.
-fn put_words(seen: Seen<'_>, text: &mut Text) {
-    let mut told = 0usize;
-    let mut port = 0u32;
-    for _ in seen.net.names().ports().iter().take(MOST_TOLD) {
-        port = port.saturating_add(1);
-        if let Some(verb) = verb_at(seen, port) {
-            put_comma(told, text);
-            say_json(text, "%", &[seen.host_word(verb, port)]);
-            told = told.saturating_add(1);
-        }
-    }
-}
-
-// What the host can do at a port.
-fn verb_at(seen: Seen<'_>, port: u32) -> Option<Verb> {
-    match (seen.net.names().passive(port)?, seen.phase(port)) {
-        (true, Phase::Idle) => Some(Verb::Offer),
-        (true, Phase::Replied(_)) => Some(Verb::Collect),
-        (false, Phase::Asked(_)) => Some(Verb::Accept),
-        (false, Phase::Taken) => Some(Verb::Answer),
-        _ => None,
-    }
+    text.put("]");
 }
 
 // Who waits for whom, each line as a string.
 fn put_waits(seen: Seen<'_>, text: &mut Text) {
     let mut lines = Text::new(text.alloc());
     put_rest(seen, &mut lines);
-    let Ok(whole) = lines.whole() else {
-        return text.lose();
-    };
-    let mut told = 0usize;
-    for line in whole.split(|byte| *byte == b'\n') {
-        if !line.is_empty() {
-            put_comma(told, text);
-            text.put_json(line);
-            told = told.saturating_add(1);
-        }
+    match lines.whole() {
+        Ok(lines) => put_json_lines(text, lines),
+        Err(_) => text.lose(),
     }
 }
 
 // Whether no handshake is under way.
 fn is_quiet(seen: Seen<'_>) -> bool {
     (1..=seen.net.chan_count()).all(|chan| seen.phase(chan) == Phase::Idle)
-}
-
-fn put_comma(told: usize, text: &mut Text) {
-    if told > 0 {
-        text.put(", ");
-    }
-}
-
-fn put_flag(front: &str, flag: bool, text: &mut Text) {
-    text.put(front);
-    text.put(if flag { "true" } else { "false" });
 }

@@ -1,5 +1,7 @@
 //! Commands of hosts that no run has.
 
+ghost use Rattle.std.specs.Prelude.{◌≡◌};
+
 use crate::scene::Scene;
 use bz_explain_notes::Notes;
 use bz_model::{NetError, Phase, Reply, Value, Verb, Who, low_bits};
@@ -22,7 +24,9 @@ pub(crate) fn reply_of(
     verb: Verb,
     port: u32,
     value: Option<Value>,
-) -> Option<Result<Reply, NetError>> {
+) -> Option<Result<Reply, NetError>>
+    ensures { net.new.wiring ≡ net.old.wiring }
+{
     if port == 0 || port as usize > net.names().ports().len() {
         return None;
     }

@@ -1,5 +1,7 @@
 //! The line at which no run goes on.
 
+ghost use Rattle.std.specs.Prelude.{◌≡◌};
+
 use crate::clashes::explain_clash;
 use crate::firings::{Firing, explain_firing, explain_rest};
 use crate::items::LineAt;
@@ -20,7 +22,9 @@ pub(crate) fn explain_line(
     survey: &Survey,
     suspect: Suspect<'_>,
     number: usize,
-) {
+)
+    ensures { net.new.wiring ≡ net.old.wiring }
+{
     let line = LineAt::of(suspect, number);
     match line_entry(notes, net, line) {
         Ok(Some(entry)) => {
@@ -51,7 +55,7 @@ pub(crate) fn explain_end<'s>(notes: &mut Notes, net: &'s Core, survey: &'s Surv
         file: None,
     };
     notes.put("the end of the trace\nfound: what can move: ", &[]);
-    Scene::of(net, survey, LineAt::of(nothing, 1)).put_moves(notes);
+    Scene::of(net, survey, LineAt::of(nothing, 1)).put_moves(notes, None);
     notes.say("\nexpected: a run that ends at rest", &[]);
 }
 
@@ -79,7 +83,9 @@ fn explain_entry(
     survey: &Survey,
     line: LineAt<'_>,
     entry: Entry,
-) -> Option<()> {
+) -> Option<()>
+    ensures { net.new.wiring ≡ net.old.wiring }
+{
     match entry {
         Entry::Fired {
             who: _,

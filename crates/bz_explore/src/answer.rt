@@ -1,7 +1,6 @@
 //! The answer of a line.
 
 use crate::explored::Ending;
-use crate::object::{put_flag, put_number};
 use crate::table::{Form, words_of_commands};
 use crate::words::put_worded;
 use bz_explain_notes::nearest_name;
@@ -69,7 +68,7 @@ impl Answer {
     pub fn agree(&mut self) {
         self.text.put("as expected\n");
         if self.is_object {
-            put_flag("as_expected", true, &mut self.members);
+            self.members.put(", \"as_expected\": true");
         }
     }
 
@@ -77,14 +76,14 @@ impl Answer {
     pub fn differ(&mut self) {
         self.ending = self.ending.or(Ending::Differed);
         if self.is_object {
-            put_flag("as_expected", false, &mut self.members);
-            put_number("status", 1, &mut self.members);
+            let told = ", \"as_expected\": false, \"status\": 1";
+            self.members.put(told);
         }
     }
 
     /// Tells that a word doesn't fit a command of this form, and what it is instead.
     pub fn misfit(&mut self, form: Form, word: &str, what: &str) {
-        let (form, word) = (Piece::Text(form.0), Piece::Shown(word.as_bytes()));
+        let (form, word) = (Piece::Text(form.typed), Piece::Shown(word.as_bytes()));
         self.complain("%: `%` is %\n", &[form, word, Piece::Text(what)]);
     }
 

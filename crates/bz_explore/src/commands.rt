@@ -4,8 +4,9 @@
 //! the journal is answered as far as it went, and then that the journal is full.
 
 use crate::answer::Answer;
-use crate::table::Form;
-use bz_kind_rows::kind_names;
+use crate::table::{Command, Form};
+use bz_kind_rows::kind_rows;
+use bz_model::wide_count_of;
 use bz_view::Piece;
 use std::alloc::{AllocError, Global};
 
@@ -27,7 +28,7 @@ pub(crate) struct Call<'w> {
 impl Call<'_> {
     /// The number that stands first, as it was typed.
     pub fn number(self) -> Option<u64> {
-        number(self.first.unwrap_or(""))
+        wide_count_of(self.first.unwrap_or(""))
     }
 }
 
@@ -37,7 +38,7 @@ pub(crate) fn words_of<'l>(alloc: Global, line: &'l str) -> Result<Vec<&'l str>,
     let before = line.split('#').next().unwrap_or("");
     for (place, word) in before.split_whitespace().enumerate() {
         let rest = match word.strip_prefix("run:") {
-            Some(count) if place == 0 && number(count).is_some() => {
+            Some(count) if place == 0 && wide_count_of(count).is_some() => {
                 words.push("run")?;
                 count
             }
@@ -125,17 +126,12 @@ fn kind_before<'w>(form: Form, words: &'w [&'w str]) -> (Option<&'w str>, &'w [&
 }
 
 fn is_kind(word: &str) -> bool {
-    for (name, _) in kind_names() {
-        if name.strip_prefix("$Brz") == Some(word) {
-            return true;
-        }
-    }
-    false
+    kind_rows().iter().any(|row| row.word() == word.as_bytes())
 }
 
 fn has_number(words: &[&str]) -> bool {
     match words.first() {
-        Some(word) => number(word).is_some(),
+        Some(word) => wide_count_of(word).is_some(),
         None => false,
     }
 }
@@ -152,7 +148,7 @@ fn is_misfit(form: Form, words: &[&str], answer: &mut Answer) -> bool {
             );
         }
         (Some(wanting), _) if !wanting.starts_with('[') => {
-            let pieces = [Piece::Text(form.0), Piece::Text(wanting)];
+            let pieces = [Piece::Text(form.typed), Piece::Text(wanting)];
             answer.complain("%: % is missing\n", &pieces);
         }
         (_, Some(more)) if !form.takes_many() => answer.misfit(form, more, "too much"),
@@ -166,11 +162,11 @@ fn lacks_number(form: Form, words: &[&str], answer: &mut Answer) -> bool {
     for (place, word) in words.iter().enumerate() {
         let is_number = match form.taken_at(place) {
             Some("C") => chan_number(word).is_none(),
-            Some("[P]") => form.word() == "fire",
+            Some("[P]") => matches!(form.command, Command::Fire),
             Some("N" | "[N]") => true,
             _ => false,
         };
-        if is_number && number(word).is_none() {
+        if is_number && wide_count_of(word).is_none() {
             answer.misfit(form, word, "no number");
             return true;
         }
@@ -180,13 +176,5 @@ fn lacks_number(form: Form, words: &[&str], answer: &mut Answer) -> bool {
 
 /// The number of a channel that a word is, as `k133`.
 pub(crate) fn chan_number(word: &str) -> Option<u64> {
-    number(word.strip_prefix('k')?)
-}
-
-/// The number that a word is.
-pub(crate) fn number(word: &str) -> Option<u64> {
-    match word.parse::<u64>() {
-        Ok(number) if !word.starts_with('+') => Some(number),
-        _ => None,
-    }
+    wide_count_of(word.strip_prefix('k')?)
 }

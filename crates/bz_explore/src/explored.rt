@@ -1,7 +1,7 @@
 //! The command `explore`, over any readers and writers.
 //!
 //! Prompts are written only where standard input and output are both a terminal: else a log would have them, or a pipe.
-//! A trace behind which a session begins is refused as `check` refuses it. It stands as one command, so that one `undo` takes it
+//! A trace behind which a session begins was judged to be that of a run. It stands as one command, so that one `undo` takes it
 //! back.
 //!
 //! Ctrl-C ends it there and can't take the line back, since the toolchain's library has no handler of signals and no call
@@ -9,6 +9,7 @@
 
 ghost use Rattle.std.specs.Prelude.{◌≡◌};
 ghost use Rattle.bz_cli_input.specs.Reading.{ReadsWithin};
+ghost use Rattle.bz_explore.specs.Beginning.{IsPlayed};
 ghost use Rattle.bz_explore.specs.Statuses.{status_of};
 
 use crate::answer::Answer;
@@ -17,15 +18,16 @@ use crate::redoing::Redo;
 use crate::session::{Hand, Session};
 use bz_cli_input::{Fault, read_input};
 use bz_cli_source::survey_of;
-use bz_cli_trace::{TraceFault, run_of};
+use bz_cli_trace::Case;
 use bz_explore_net::Stepping;
 use bz_flat::Flat;
-use bz_since::Behind;
+use bz_model::Entry;
+use bz_net::{Net, Play};
+use bz_source::Survey;
 use bz_text::{Piece as Part, Text, put};
 use bz_trace_text::MAX_ENTRIES;
 use bz_view::Piece;
 use std::alloc::{AllocError, Global};
-use std::fmt;
 use std::io::{BufRead, Read, Write};
 
 /// The most entries of the journal.
@@ -95,65 +97,26 @@ pub enum Manner {
     Objects,
 }
 
-/// What else there is for which a session doesn't begin behind a trace: nothing.
-#[derive(Clone, Copy, PartialEq, Eq)]
-pub struct NoOther;
-
-impl fmt::Display for NoOther {
-    fn fmt<W: fmt::Write>(&self, _f: &mut fmt::Formatter<W>) -> fmt::Result {
-        Ok(())
-    }
-}
-
-/// Opens the net of the part that is asked for by name, or else of the only one that no other uses, in the netlist that a reader
-/// gives, behind a trace where one is given, and follows the lines of another, each with its answer. At a prompt a greeting and
-/// prompts are written too, else a line that can't be followed is told by its number. Answers are written at once.
-pub fn explore_cmd<R: Read, T: Read, L: BufRead, W: Write, F: Files>(
+/// Opens the net of the part that is asked for by name, or else of the only one that no other part uses, in the netlist that a
+/// reader gives, and follows the lines of another, each with its answer. At a prompt a greeting and prompts are written too, else
+/// a line that can't be followed is told by its number. Answers are written at once.
+pub fn explore_cmd<R: Read, L: BufRead, W: Write, F: Files>(
     alloc: Global,
     asked: Option<&[u8]>,
     manner: Manner,
     netlist: &mut R,
-    trace: Option<&mut T>,
     lines: &mut L,
     files: &mut F,
     output: &mut W,
-) -> Result<Ending, TraceFault<NoOther>>
+) -> Result<Ending, Fault>
     // Whatever comes of it, it reads at most one byte past the limit of a netlist.
     ensures { ReadsWithin (R.remaining netlist.old) (R.remaining netlist.new) }
 {
     let text = match read_input(alloc, netlist) {
         Ok(text) => text,
-        Err(fault) => return Err(TraceFault::Command(Fault::from(fault))),
+        Err(fault) => return Err(Fault::from(fault)),
     };
-    let trace = match trace {
-        Some(trace) => match run_text(alloc, asked, text.as_slice(), trace) {
-            Ok(trace) => Some(trace),
-            Err(fault) => return Err(fault),
-        },
-        None => None,
-    };
-    let text = text.as_slice();
-    match explore_text(alloc, asked, text, trace, manner, lines, files, output) {
-        Ok(ending) => Ok(ending),
-        Err(fault) => Err(TraceFault::Command(fault)),
-    }
-}
-
-// The text of a trace that is that of a run.
-fn run_text<T: Read>(
-    alloc: Global,
-    asked: Option<&[u8]>,
-    netlist: &[u8],
-    trace: &mut T,
-) -> Result<Vec<u8>, TraceFault<NoOther>> {
-    let text = match read_input(alloc, trace) {
-        Ok(text) => text,
-        Err(fault) => return Err(TraceFault::Command(Fault::from(fault))),
-    };
-    match run_of(alloc, asked, netlist, text.as_slice()) {
-        Ok(_) => Ok(text),
-        Err(fault) => Err(fault),
-    }
+    explore_text(alloc, asked, text.as_slice(), manner, lines, files, output)
 }
 
 // Opens the net of a part of the text.
@@ -161,18 +124,78 @@ fn explore_text<L: BufRead, W: Write, F: Files>(
     alloc: Global,
     asked: Option<&[u8]>,
     text: &[u8],
-    trace: Option<Vec<u8>>,
     manner: Manner,
     lines: &mut L,
     files: &mut F,
     output: &mut W,
 ) -> Result<Ending, Fault> {
     let (flat, survey, part) = survey_of(alloc, asked, text)?;
-    let mut stepping = begun(alloc, flat, trace)?;
+    let Ok(stepping) = opened(alloc, flat) else {
+        return Err(Fault::Memory);
+    };
+    explore_net(
+        alloc,
+        stepping,
+        &survey,
+        part.as_slice(),
+        manner,
+        lines,
+        files,
+        output,
+    )
+}
+
+/// The same behind the trace of a run, which was judged on the net; these are its entries.
+pub fn explore_behind<L: BufRead, W: Write, F: Files>(
+    alloc: Global,
+    case: Case,
+    journal: Vec<Entry>,
+    manner: Manner,
+    lines: &mut L,
+    files: &mut F,
+    output: &mut W,
+) -> Result<Ending, Fault>
+    requires { IsPlayed case.judged.net journal.items }
+{
+    let flat = case.judged.net.core().flat(alloc)?;
+    let (net, source, part) = case.into_parts();
+    // a part that has a net has places, so nothing but memory can be wanting
+    let Ok(survey) = source.survey(alloc, part.as_slice()) else {
+        return Err(Fault::Memory);
+    };
+    match behind(alloc, flat, net, journal) {
+        Ok(stepping) => {
+            explore_net(
+                alloc,
+                stepping,
+                &survey,
+                part.as_slice(),
+                manner,
+                lines,
+                files,
+                output,
+            )
+        }
+        Err(_) => Err(Fault::Memory),
+    }
+}
+
+// Follows the lines on a net.
+fn explore_net<L: BufRead, W: Write, F: Files>(
+    alloc: Global,
+    stepping: Stepping,
+    survey: &Survey,
+    part: &[u8],
+    manner: Manner,
+    lines: &mut L,
+    files: &mut F,
+    output: &mut W,
+) -> Result<Ending, Fault> {
+    let mut stepping = stepping;
     let mut session = Session {
         stepping: &mut stepping,
-        survey: &survey,
-        part: part.as_slice(),
+        survey,
+        part,
         typed: Vec::new(alloc),
         answer: Answer::new(alloc, manner == Manner::Objects),
         hosts: Vec::new(alloc),
@@ -188,18 +211,7 @@ fn explore_text<L: BufRead, W: Write, F: Files>(
     play(manner, &mut session, lines, files, output)
 }
 
-// The net at its opening, or behind a trace.
-fn begun(alloc: Global, flat: Flat, trace: Option<Vec<u8>>) -> Result<Stepping, Fault> {
-    let stepping = match trace {
-        Some(trace) => behind(alloc, flat, trace.as_slice()),
-        None => opened(alloc, flat),
-    };
-    match stepping {
-        Ok(stepping) => Ok(stepping),
-        Err(AllocError) => Err(Fault::Memory),
-    }
-}
-
+// The net at its opening.
 fn opened(alloc: Global, flat: Flat) -> Result<Stepping, AllocError> {
     match Stepping::open(alloc, flat, JOURNAL) {
         Ok(stepping) => Ok(stepping),
@@ -208,19 +220,16 @@ fn opened(alloc: Global, flat: Flat) -> Result<Stepping, AllocError> {
     }
 }
 
-// The net behind a trace, which is that of a run: so nothing but memory can be wanting.
-fn behind(alloc: Global, flat: Flat, trace: &[u8]) -> Result<Stepping, AllocError> {
-    let Ok(same) = flat.dup(alloc) else {
-        return Err(AllocError);
-    };
-    let Ok(behind) = Behind::of(alloc, same, trace, usize::MAX) else {
-        return Err(AllocError);
-    };
-    let net = behind.into_net();
-    if net.journal().is_empty() {
+// A net that was played, with the entries of its run. Where there are none it has no command to take back.
+fn behind(alloc: Global, flat: Flat, net: Play, journal: Vec<Entry>) -> Result<Stepping, AllocError>
+    requires played { IsPlayed net journal.items }
+    requires same { net.wiring ≡ flat.wiring }
+{
+    if journal.is_empty() {
         return opened(alloc, flat);
     }
-    Stepping::behind(alloc, flat, net, MAX_ENTRIES as u32, b"")
+    let most = MAX_ENTRIES as u32;
+    Stepping::behind(alloc, flat, Net::of(net, journal, most), most, b"")
 }
 
 // Follows the lines, behind a greeting at a prompt.

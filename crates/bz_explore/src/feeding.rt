@@ -1,12 +1,12 @@
 //! The commands by which a host stands by at a port, and leaves it.
 
 use crate::answer::{Answer, add};
-use crate::commands::{Call, number};
+use crate::commands::Call;
 use crate::hosts::{StandBy, Supply, place_of};
 use crate::refusals::{put_too_large, put_unknown};
 use crate::table::Form;
 use bz_bench::{Item, Times, Word, word_of};
-use bz_model::{Chan, ChanKind, HostCmd, Names, Value, Verb, fits};
+use bz_model::{Chan, ChanKind, HostCmd, Names, Value, Verb, fits, value_of, wide_count_of};
 use bz_net::Net;
 use bz_view::{Piece, gathered};
 use bz_words::read_name;
@@ -45,7 +45,7 @@ pub(crate) fn port_asked<'n>(
         Ok(Some(name)) => {
             let port = port_named(names, name.as_slice());
             if port.is_none() {
-                answer.complain("%: ", &[Piece::Text(form.0)]);
+                answer.complain("%: ", &[Piece::Text(form.typed)]);
                 put_unknown(names, name.as_slice(), &mut answer.text);
                 answer.text.put("\n");
             }
@@ -86,7 +86,7 @@ pub(crate) fn feed(net: &Net, hosts: &mut Vec<StandBy>, call: Call<'_>, answer: 
             .text
             .say("no host stands by at %\n", &[Piece::Called(port.name)]);
     } else if !port.takes_values() {
-        let pieces = [Piece::Text(call.form.0), Piece::Called(port.name)];
+        let pieces = [Piece::Text(call.form.typed), Piece::Called(port.name)];
         answer.complain("%: no value goes into the net at %\n", &pieces);
     } else if let Some(values) = values_of(call, port, given, answer) {
         stand_by(hosts, port, Supply::Values(values), entries, answer);
@@ -101,11 +101,11 @@ pub(crate) fn drain(net: &Net, hosts: &mut Vec<StandBy>, call: Call<'_>, answer:
         return;
     };
     if port.takes_values() {
-        let pieces = [Piece::Text(call.form.0), Piece::Called(port.name)];
+        let pieces = [Piece::Text(call.form.typed), Piece::Called(port.name)];
         answer.complain("%: the net wants a value at %\n", &pieces);
         return;
     }
-    let supply = match number(call.second.unwrap_or("")) {
+    let supply = match wide_count_of(call.second.unwrap_or("")) {
         Some(count) => Supply::Handshakes(count),
         None => Supply::Always,
     };
@@ -176,7 +176,7 @@ fn values_of(
                 }
             }
             Item::Value(value) => {
-                answer.complain("%: ", &[Piece::Text(call.form.0)]);
+                answer.complain("%: ", &[Piece::Text(call.form.typed)]);
                 put_too_large(*value, port.name, port.chan, &mut answer.text);
                 answer.text.put("\n");
                 return None;
@@ -244,20 +244,12 @@ impl Spelling {
 
 fn spelling_of(word: &str) -> Option<Spelling> {
     if let Some((first, last)) = word.split_once("..") {
-        let (first, last) = (value(first)?, value(last)?);
+        let (first, last) = (value_of(first)?, value_of(last)?);
         let more = u64::try_from(last.checked_sub(first)?).unwrap_or(u64::MAX);
         return Some(Spelling::From(first, more.saturating_add(1)));
     }
     match word_of(word) {
         Some(Word::Items(item, Times::Count(count))) => Some(Spelling::Same(item, count.into())),
-        _ => None,
-    }
-}
-
-// The value that a word is.
-fn value(word: &str) -> Option<Value> {
-    match word.parse::<Value>() {
-        Ok(value) if !word.starts_with('+') => Some(value),
         _ => None,
     }
 }

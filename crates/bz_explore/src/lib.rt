@@ -21,5 +21,5 @@ mod things;
 mod totals;
 mod words;
 
-pub use explored::{Ending, Files, Manner, NoFile, NoOther, explore_cmd};
+pub use explored::{Ending, Files, Manner, NoFile, explore_behind, explore_cmd};
 pub use saving::save;

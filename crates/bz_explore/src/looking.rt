@@ -2,14 +2,15 @@
 
 use crate::answer::Answer;
 use crate::commands::Call;
-use crate::object;
 use crate::saving::since_of;
+use crate::table::Command;
 use crate::things::asked;
 use crate::totals::{put_counts, put_unmoved, put_values};
-use bz_explore_moves::put_moves;
+use bz_explore_moves::{put_moves, put_next};
 use bz_explore_net::{Stepping, busy_chans};
 use bz_flat::FlatComp;
-use bz_model::{Entry, Kind, Move, Value};
+use bz_kind_rows::row_of;
+use bz_model::{Entry, Move, Value};
 use bz_since::{NoSince, put_since};
 use bz_source::{Survey, put_comp, put_label};
 use bz_text::Text;
@@ -29,23 +30,20 @@ clashes:";
 /// Answers a command that looks at the net and moves nothing.
 pub(crate) fn look(stepping: &Stepping, survey: &Survey, call: Call<'_>, answer: &mut Answer) {
     let seen = Seen::of(stepping.net().core(), survey);
-    match (call.form.word(), call.first) {
-        ("moves", _) if answer.is_object => {
-            object::put_moves(stepping, seen, &mut answer.members);
-        }
-        ("moves", _) => put_moves(stepping, survey, &mut answer.text),
-        ("values", _) => put_values(stepping, seen, &mut answer.text),
-        ("counts", _) if call.form.second().is_some() => {
-            put_unmoved(stepping, seen, &mut answer.text);
-        }
-        ("counts", _) => put_counts(stepping, seen, call.number(), &mut answer.text),
-        ("waits", None) => put_waits(seen, &mut answer.text),
-        ("waits", Some("since")) => put_first(stepping, survey, &mut answer.text),
-        ("waits", Some("all")) => put_all_waits(seen, &mut answer.text),
+    match (call.form.command, call.first) {
+        (Command::Moves, _) if answer.is_object => put_next(seen.net, &mut answer.members),
+        (Command::Moves, _) => put_moves(seen.net, survey, &mut answer.text),
+        (Command::Values, _) => put_values(stepping, seen, &mut answer.text),
+        (Command::CountsNever, _) => put_unmoved(stepping, seen, &mut answer.text),
+        (Command::Counts, _) => put_counts(stepping, seen, call.number(), &mut answer.text),
+        (Command::WaitsSince, _) => put_first(stepping, survey, &mut answer.text),
+        (Command::WaitsAll, _) => put_all_waits(seen, &mut answer.text),
+        (Command::Waits, None) => put_waits(seen, &mut answer.text),
         (_, None) => put_totals(stepping, seen, &mut answer.text),
         (command, Some(_)) => {
+            let is_asked_for = matches!(command, Command::Waits);
             for thing in &asked(seen, call, answer) {
-                put_thing(stepping, seen, command == "waits", *thing, &mut answer.text);
+                put_thing(stepping, seen, is_asked_for, *thing, &mut answer.text);
             }
         }
     }
@@ -119,7 +117,7 @@ fn put_state(stepping: &Stepping, seen: Seen<'_>, comp: u32, text: &mut Text) {
         let _ = put_label(text, seen.label(Thing::Comp(comp)));
         text.put("\n");
     }
-    if matches!(site.kind, Kind::Variable | Kind::FalseVariable) {
+    if row_of(&site.kind).is_variable {
         let kept = kept(stepping.net().journal(), comp);
         text.say("keeps %\n", &[Piece::Wide(kept)]);
     }

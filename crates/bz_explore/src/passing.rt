@@ -10,12 +10,11 @@ use bz_bench::{Item, Tally, tallies_of};
 use bz_explore_moves::{first_other, passed_at, put_came, put_passed};
 use bz_model::{Value, numbered};
 use bz_net::Net;
-use bz_source::Survey;
 use bz_text::Text;
-use bz_view::{Piece, Seen};
+use bz_view::Piece;
 
 /// Adds what passed at each port, or at the one that is asked for.
-pub(crate) fn tell_passed(net: &Net, survey: &Survey, call: Call<'_>, answer: &mut Answer) {
+pub(crate) fn tell_passed(net: &Net, call: Call<'_>, answer: &mut Answer) {
     let asked = match call.first {
         None => None,
         Some(word) => match port_asked(net.names(), call.form, word, answer) {
@@ -26,7 +25,7 @@ pub(crate) fn tell_passed(net: &Net, survey: &Survey, call: Call<'_>, answer: &m
     let ports = net.names().ports().len();
     match tallies_of(answer.text.alloc(), ports, net.journal()) {
         Ok(tallies) if answer.is_object => {
-            put_objects(net, survey, &tallies, asked, &mut answer.members);
+            put_objects(net, &tallies, asked, &mut answer.members);
         }
         Ok(tallies) => put_ports(net, &tallies, asked, &mut answer.text),
         Err(_) => answer.text.lose(),
@@ -46,13 +45,7 @@ fn put_ports(net: &Net, tallies: &[Tally], asked: Option<u32>, text: &mut Text)
 }
 
 // The same as objects.
-fn put_objects(
-    net: &Net,
-    survey: &Survey,
-    tallies: &[Tally],
-    asked: Option<u32>,
-    members: &mut Text,
-)
+fn put_objects(net: &Net, tallies: &[Tally], asked: Option<u32>, members: &mut Text)
     requires { Tells net.now.journal tallies.now }
 {
     let mut before = "";
@@ -62,8 +55,7 @@ fn put_objects(
         match numbered(tallies, port) {
             Some(tally) if asked.unwrap_or(port) == port => {
                 members.put(before);
-                let seen = Seen::of(net.core(), survey);
-                put_port_passed(seen, port, passed_at(net, port, tally), members);
+                put_port_passed(net.core(), port, passed_at(net, port, tally), members);
                 before = ", ";
             }
             _ => {}

@@ -1,7 +1,8 @@
 //! The lines of `moves` by their numbers, at a terminal.
 
-use bz_explore_net::{HostOffer, Offer, Stepping, answered_words, offers_of};
+use bz_explore_net::{HostOffer, Offer, answered_words, offers_of};
 use bz_model::Cmd;
+use bz_net::Core;
 use bz_text::Text;
 use bz_view::{Piece, Seen, count_lines, gathered, put_host_word};
 use std::alloc::{AllocError, Global};
@@ -19,12 +20,11 @@ pub(crate) enum Picked {
 /// The line of `moves` that has a number, if there is one.
 pub(crate) fn picked_at(
     alloc: Global,
-    stepping: &Stepping,
+    net: &Core,
     number: u64,
 ) -> Result<Option<Picked>, AllocError> {
-    let (flat, net) = (stepping.flat(), stepping.net());
-    let offers = offers_of(alloc, flat, net)?;
-    let words = answered_words(alloc, flat, net)?;
+    let offers = offers_of(alloc, net)?;
+    let words = answered_words(alloc, net)?;
     let Some(place) = number.checked_sub(1) else {
         return Ok(None);
     };

@@ -5,13 +5,13 @@
 //! Then all goes on as it did from that moment on.
 
 use crate::answer::{Answer, add};
-use crate::commands::{Call, number};
+use crate::commands::Call;
 use crate::feeding::port_named;
 use crate::hosts::{MovedPorts, StandBy, forget};
 use crate::session::Session;
 use crate::things::found;
 use bz_explore_net::{Rounds, Stepping};
-use bz_model::{Entry, NetError};
+use bz_model::{Entry, NetError, wide_count_of};
 use bz_net::RunEnd;
 use bz_view::{Seen, Thing};
 use bz_words::read_name;
@@ -65,7 +65,7 @@ pub(crate) fn things_asked(session: &mut Session<'_>, call: Call<'_>) -> Vec<Thi
 
 // The external port that a word names, which is no component's number.
 fn port_called(seen: Seen<'_>, word: &str, answer: &mut Answer) -> Option<u32> {
-    if number(word).is_some() {
+    if wide_count_of(word).is_some() {
         return None;
     }
     match read_name(answer.text.alloc(), word.as_bytes()) {

@@ -7,6 +7,7 @@
 ghost use Rattle.std.specs.Prelude.{OnOk, OnErr};
 ghost use Rattle.bz_explore.specs.Saving.{SavesSome, SavesTrace};
 
+use crate::table::Command;
 use bz_cli_core::write_out;
 use bz_cli_input::Fault;
 use bz_explore_net::{Mark, Picker, Stepping};
@@ -30,10 +31,10 @@ pub(crate) const MOST_COMPS: usize = 100_000;
 const SESSION: &str = "# a session of explore\n";
 
 /// How the file begins that a command writes.
-pub(crate) fn beginning_of(command: &str) -> &'static [u8] {
+pub(crate) fn beginning_of(command: Command) -> &'static [u8] {
     match command {
-        "page" => b"<!doctype html>",
-        "session" => SESSION.as_bytes(),
+        Command::Page => b"<!doctype html>",
+        Command::Session => SESSION.as_bytes(),
         _ => b"trace ",
     }
 }

@@ -1,7 +1,7 @@
 //! A session: a net that is played line by line.
 
 use crate::answer::Answer;
-use crate::commands::{Call, call_of, number, words_of};
+use crate::commands::{Call, call_of, words_of};
 use crate::explored::{Files, NoFile};
 use crate::feeding::{drain, feed};
 use crate::hosts::{StandBy, forget, put_hosts};
@@ -14,11 +14,11 @@ use crate::running::{Goal, RanTo, run_up_to, things_asked};
 use crate::saving::{
     MOST_COMPS, beginning_of, put_redone, put_script, put_trace_page, put_undone, save,
 };
-use crate::table::{Form, put_help};
+use crate::table::{Command, Form, put_help};
 use crate::telling::{put_again, put_fired, put_played, put_said, put_stop};
 use crate::things::place_asked;
 use bz_explore_net::{HostOffer, Stepping};
-use bz_model::{Cmd, HostCmd, NetError, Reply};
+use bz_model::{Cmd, HostCmd, NetError, Reply, wide_count_of};
 use bz_net::RunEnd;
 use bz_page::TooLarge;
 use bz_source::Survey;
@@ -84,7 +84,7 @@ impl<'s> Session<'s> {
         let words = gathered(words_of(alloc, line), &mut self.answer.text);
         let typed = words.as_slice().join(alloc, " ").map(String::into_bytes);
         self.typed = gathered(typed, &mut self.answer.text);
-        let first = number(words.first().copied().unwrap_or(""));
+        let first = wide_count_of(words.first().copied().unwrap_or(""));
         if let (true, Some(number)) = (self.hand.is_numbered, first) {
             self.pick(number, words.get(1).copied());
             return true;
@@ -101,7 +101,7 @@ impl<'s> Session<'s> {
             self.answer.complain(NOT_LISTED, &[]);
             return;
         }
-        match picked_at(self.answer.text.alloc(), &*self.stepping, number) {
+        match picked_at(self.answer.text.alloc(), self.stepping.net().core(), number) {
             Ok(Some(Picked::Move(_))) if given.is_some() => {
                 let given = Piece::Shown(given.unwrap_or("").as_bytes());
                 self.answer
@@ -144,36 +144,48 @@ impl<'s> Session<'s> {
 
     // Does what a line asks for; whether the session goes on.
     fn follow<F: Files>(&mut self, files: &mut F, call: Call<'_>) -> bool {
-        let word = call.form.word();
-        if !matches!(word, "help" | "undo" | "redo" | "quit") {
-            self.go_back();
-        }
-        match word {
-            "fire" => self.fire(call),
-            "run" => self.run(call),
-            "random" => self.random(call.number().unwrap_or(0)),
-            "seed" => self.seed(call.number().unwrap_or(0)),
-            "feed" | "drain" | "hosts" => self.stand_by(call),
-            "passed" => tell_passed(self.stepping.net(), self.survey, call, &mut self.answer),
-            "expect" if call.form.second().is_some() => {
-                expect_passed(self.stepping.net(), call, &mut self.answer);
+        match call.form.command {
+            Command::Help => self.help(call.first),
+            Command::Undo => self.undo(call.number().unwrap_or(1)),
+            Command::Redo => self.redo(),
+            Command::Quit => return false,
+            command => {
+                self.go_back();
+                self.do_now(files, command, call);
             }
-            "expect" => self.expect(),
-            "say" => put_said(self.typed.as_slice(), &mut self.answer.text),
-            "undo" => self.undo(call.number().unwrap_or(1)),
-            "redo" => self.redo(),
-            "names" => self.word_moves(call),
-            "trace" | "session" => self.write(files, call),
-            "page" => self.page(files, call),
-            "help" => self.help(call.first),
-            "moves" if self.hand.is_numbered => self.list_moves(call),
-            "moves" | "waits" | "state" | "values" | "counts" => {
+        }
+        true
+    }
+
+    // Does what is asked of the net as it is once all that is undone has been taken back.
+    fn do_now<F: Files>(&mut self, files: &mut F, command: Command, call: Call<'_>) {
+        match command {
+            Command::Fire => self.fire(call),
+            Command::Run | Command::RunTo => self.run(call),
+            Command::Random => self.random(call.number().unwrap_or(0)),
+            Command::Seed => self.seed(call.number().unwrap_or(0)),
+            Command::Host => self.word(call),
+            Command::Feed | Command::Drain | Command::Hosts => self.stand_by(command, call),
+            Command::Passed => tell_passed(self.stepping.net(), call, &mut self.answer),
+            Command::ExpectPassed => expect_passed(self.stepping.net(), call, &mut self.answer),
+            Command::Expect => self.expect(),
+            Command::Say => put_said(self.typed.as_slice(), &mut self.answer.text),
+            Command::Names => self.word_moves(call),
+            Command::Trace | Command::Session => self.write(files, call),
+            Command::Page => self.page(files, call),
+            Command::Moves if self.hand.is_numbered => self.list_moves(call),
+            Command::Moves
+            | Command::Waits
+            | Command::WaitsAll
+            | Command::WaitsSince
+            | Command::State
+            | Command::Values
+            | Command::Counts
+            | Command::CountsNever => {
                 look(&*self.stepping, self.survey, call, &mut self.answer);
             }
-            "quit" => {}
-            _ => self.word(call),
+            Command::Help | Command::Undo | Command::Redo | Command::Quit => {}
         }
-        word != "quit"
     }
 
     // Takes back in the net what is undone: of several commands in a row it is played but once again.
@@ -252,18 +264,18 @@ impl<'s> Session<'s> {
 
     // Fires in turn: up to a number of times, or until something has moved, or to rest and on with hosts that stand by.
     fn run(&mut self, call: Call<'_>) {
-        let things = match call.form.second() {
-            Some(_) => things_asked(self, call),
-            None => Vec::new(self.answer.text.alloc()),
+        let things = match call.form.command {
+            Command::RunTo => things_asked(self, call),
+            _ => Vec::new(self.answer.text.alloc()),
         };
-        let count = match call.form.second() {
-            Some(_) if things.is_empty() => return,
-            Some(_) => call.second,
-            None => call.first,
+        let count = match call.form.command {
+            Command::RunTo if things.is_empty() => return,
+            Command::RunTo => call.second,
+            _ => call.first,
         };
         let goal = Goal {
             things: things.as_slice(),
-            most: number(count.unwrap_or("")).unwrap_or(u64::MAX),
+            most: wide_count_of(count.unwrap_or("")).unwrap_or(u64::MAX),
             is_endless: count.is_none(),
         };
         self.run_up_to(goal);
@@ -321,12 +333,12 @@ impl<'s> Session<'s> {
     }
 
     // Lets a host stand by at a port, or leave it, or tells of all that stand by.
-    fn stand_by(&mut self, call: Call<'_>) {
-        let entries = self.entries();
-        match call.form.word() {
-            "feed" => feed(self.stepping.net(), &mut self.hosts, call, &mut self.answer),
-            "drain" => drain(self.stepping.net(), &mut self.hosts, call, &mut self.answer),
-            _ => put_hosts(self.hosts.as_slice(), entries, &mut self.answer),
+    fn stand_by(&mut self, command: Command, call: Call<'_>) {
+        let net = self.stepping.net();
+        match command {
+            Command::Feed => feed(net, &mut self.hosts, call, &mut self.answer),
+            Command::Drain => drain(net, &mut self.hosts, call, &mut self.answer),
+            _ => put_hosts(self.hosts.as_slice(), net.journal().len(), &mut self.answer),
         }
     }
 
@@ -445,12 +457,12 @@ impl<'s> Session<'s> {
 
     // Writes a file: the trace so far, a page on which it plays, or the commands that stand.
     fn write<F: Files>(&mut self, files: &mut F, call: Call<'_>) {
-        let (word, net) = (call.form.word(), self.stepping.net());
+        let (command, net) = (call.form.command, self.stepping.net());
         let path = call.first.unwrap_or("");
         let mut made = Text::new(self.answer.text.alloc());
-        match word {
-            "page" => put_trace_page(&*self.stepping, self.survey, self.part, &mut made),
-            "session" => put_script(&*self.stepping, &mut made),
+        match command {
+            Command::Page => put_trace_page(&*self.stepping, self.survey, self.part, &mut made),
+            Command::Session => put_script(&*self.stepping, &mut made),
             // (a text takes all that is written to it, and keeps that memory was refused)
             _ => {
                 let _ = save(net, &mut made);
@@ -461,29 +473,28 @@ impl<'s> Session<'s> {
             return;
         };
         let over = if call.over {
-            Some(beginning_of(word))
+            Some(beginning_of(command))
         } else {
             None
         };
         let saved = files.put(path, bytes, over);
-        let lines = match word {
-            "session" => count_lines(bytes),
+        let lines = match command {
+            Command::Session => count_lines(bytes),
             _ => 1usize
                 .saturating_add(net.journal().len())
                 .saturating_add(net.clashes().len()),
         };
-        self.saved(saved, word, path, lines);
+        self.saved(saved, call.form, path, lines);
     }
 
     // Tells that a file of so many lines was written, or why not.
-    fn saved(&mut self, saved: Result<(), NoFile>, word: &str, path: &str, lines: usize) {
+    fn saved(&mut self, saved: Result<(), NoFile>, form: Form, path: &str, lines: usize) {
         let path = Piece::Shown(path.as_bytes());
-        let form = match saved {
+        let told = match saved {
             Ok(()) => {
-                let plays = Piece::Text(if word == "page" {
-                    "a page that plays "
-                } else {
-                    ""
+                let plays = Piece::Text(match form.command {
+                    Command::Page => "a page that plays ",
+                    _ => "",
                 });
                 let lines = Piece::Count(lines, "line");
                 self.answer.text.say("wrote %: %%\n", &[path, plays, lines]);
@@ -499,7 +510,8 @@ impl<'s> Session<'s> {
             Err(NoFile::Barred) => "%: a session writes no such file; --files DIR allows it\n",
             Err(NoFile::Unwritable) => "% can't be written\n",
         };
-        self.answer.complain(form, &[path, Piece::Text(word), path]);
+        self.answer
+            .complain(told, &[path, Piece::Text(form.word()), path]);
     }
 
     // How many entries the journal has.

@@ -48,16 +48,93 @@ also a name of the source, or FILE:LINE or FILE:LINE:COLUMN; THING is any of the
 # begins a comment
 ";
 
-/// How a command is typed: its word, and what belongs behind it.
+/// What a line can ask for.
 #[derive(Clone, Copy)]
-pub(crate) struct Form(pub &'static str);
+pub(crate) enum Command {
+    Moves,
+    Fire,
+    Run,
+    RunTo,
+    Random,
+    Seed,
+    /// What the host does, which is one word.
+    Host,
+    Expect,
+    Feed,
+    Drain,
+    Hosts,
+    Passed,
+    ExpectPassed,
+    Waits,
+    WaitsAll,
+    WaitsSince,
+    State,
+    Values,
+    Counts,
+    CountsNever,
+    Names,
+    Undo,
+    Redo,
+    Trace,
+    Page,
+    Session,
+    Say,
+    Help,
+    Quit,
+}
+
+impl Command {
+    // That of a form, by its first two words.
+    fn of(word: &str, second: &str) -> Option<Command> {
+        let command = match (word, second) {
+            ("moves", _) => Command::Moves,
+            ("fire", _) => Command::Fire,
+            ("run", "to") => Command::RunTo,
+            ("run", _) => Command::Run,
+            ("random", _) => Command::Random,
+            ("seed", _) => Command::Seed,
+            ("offer" | "collect" | "accept" | "answer" | "watch", _) => Command::Host,
+            ("expect", "passed") => Command::ExpectPassed,
+            ("expect", _) => Command::Expect,
+            ("feed", _) => Command::Feed,
+            ("drain", _) => Command::Drain,
+            ("hosts", _) => Command::Hosts,
+            ("passed", _) => Command::Passed,
+            ("waits", "all") => Command::WaitsAll,
+            ("waits", "since") => Command::WaitsSince,
+            ("waits", _) => Command::Waits,
+            ("state", _) => Command::State,
+            ("values", _) => Command::Values,
+            ("counts", "never") => Command::CountsNever,
+            ("counts", _) => Command::Counts,
+            ("names", _) => Command::Names,
+            ("undo", _) => Command::Undo,
+            ("redo", _) => Command::Redo,
+            ("trace", _) => Command::Trace,
+            ("page", _) => Command::Page,
+            ("session", _) => Command::Session,
+            ("say", _) => Command::Say,
+            ("help", _) => Command::Help,
+            ("quit", _) => Command::Quit,
+            _ => return None,
+        };
+        Some(command)
+    }
+}
+
+/// How a command is typed: its words, and what belongs behind them.
+#[derive(Clone, Copy)]
+pub(crate) struct Form {
+    pub command: Command,
+    pub typed: &'static str,
+}
 
 impl Form {
     /// That of the command which a line's first word begins, if it begins one; of several the first.
     pub fn begun_by(head: &str) -> Option<Form> {
         let word = unaliased(head);
         for line in COMMANDS.lines() {
-            let form = form_of(line);
+            let form = form_of(line)?;
             if form.word() == word && (form.writes() || !head.ends_with('!')) {
                 return Some(form);
             }
@@ -69,21 +146,25 @@ impl Form {
     pub fn followed_by(self, second: Option<&str>) -> Form {
         let second = second.unwrap_or("");
         for line in COMMANDS.lines() {
-            let form = form_of(line);
-            if form.word() == self.word() && form.second() == Some(second) {
-                return form;
+            match form_of(line) {
+                Some(form) if form.word() == self.word() && form.second() == Some(second) => {
+                    return form;
+                }
+                _ => {}
             }
         }
         self
     }
 
-    /// The second word of the command, where it has one: that of a form which takes more than one word behind it.
+    /// The second word of the command, where it has one.
     pub fn second(self) -> Option<&'static str> {
-        let word = self.0.split(' ').nth(1)?;
-        if matches!(word, "to" | "passed" | "never") {
-            Some(word)
-        } else {
-            None
+        match self.command {
+            Command::RunTo
+            | Command::ExpectPassed
+            | Command::WaitsAll
+            | Command::WaitsSince
+            | Command::CountsNever => self.typed.split(' ').nth(1),
+            _ => None,
         }
     }
 
@@ -102,32 +183,35 @@ impl Form {
 
     /// The word of the command.
     pub fn word(self) -> &'static str {
-        self.0.split([' ', ':', '[']).next().unwrap_or("")
+        first_word(self.typed)
     }
 
     /// Whether it is something that the host does, which is one word.
     pub fn is_host(self) -> bool {
-        self.0.contains(':')
+        matches!(self.command, Command::Host)
     }
 
     /// Whether it writes a file: over one that is there where a `!` follows its word.
     fn writes(self) -> bool {
-        self.0.contains('!')
+        self.typed.contains('!')
     }
 
     /// How many words can stand behind its own.
     pub fn most(self) -> usize {
-        self.0.split_whitespace().skip(self.own()).count()
+        self.typed.split_whitespace().skip(self.own()).count()
     }
 
     /// What belongs at a place behind its own words, in brackets where it may be left out.
     pub fn taken_at(self, place: usize) -> Option<&'static str> {
-        self.0.split_whitespace().skip(self.own()).nth(place)
+        self.typed.split_whitespace().skip(self.own()).nth(place)
     }
 
     /// Whether as many words may stand behind its own as one likes: a reply may be of two.
     pub fn takes_many(self) -> bool {
-        matches!(self.0.split(' ').last(), Some("REPLY" | "[V..]" | "TEXT"))
+        matches!(
+            self.typed.split(' ').last(),
+            Some("REPLY" | "[V..]" | "TEXT")
+        )
     }
 
     /// Whether what comes first behind its own words is a component or a channel.
@@ -148,8 +232,17 @@ fn unaliased(head: &str) -> &str {
     }
 }
 
-fn form_of(line: &'static str) -> Form {
-    Form(line.split("  ").next().unwrap_or(""))
+// The form of a line of the commands.
+fn form_of(line: &'static str) -> Option<Form> {
+    let typed = line.split("  ").next().unwrap_or("");
+    let second = typed.split(' ').nth(1).unwrap_or("");
+    let command = Command::of(first_word(typed), second)?;
+    Some(Form { command, typed })
+}
+
+// The word of a command, with which its line begins.
+fn first_word(line: &'static str) -> &'static str {
+    line.split([' ', ':', '[']).next().unwrap_or("")
 }
 
 /// Adds what the commands of a form's word do, or the list of all.
@@ -160,9 +253,12 @@ pub(crate) fn put_help(form: Option<Form>, text: &mut Text) {
         return;
     };
     for line in COMMANDS.lines() {
-        if form_of(line).word() == form.word() {
-            text.put(line);
-            text.put("\n");
+        match form_of(line) {
+            Some(other) if other.word() == form.word() => {
+                text.put(line);
+                text.put("\n");
+            }
+            _ => {}
         }
     }
 }
@@ -171,7 +267,7 @@ pub(crate) fn put_help(form: Option<Form>, text: &mut Text) {
 pub(crate) fn words_of_commands(alloc: Global) -> Result<Vec<&'static [u8]>, AllocError> {
     let mut words = Vec::new(alloc);
     for line in COMMANDS.lines() {
-        words.push(form_of(line).word().as_bytes())?;
+        words.push(first_word(line).as_bytes())?;
     }
     Ok(words)
 }

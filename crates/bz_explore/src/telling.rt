@@ -1,7 +1,7 @@
 //! What a command has played, and how a run ended.
 
 use crate::answer::{Answer, put_added};
-use crate::object::{put_entries, put_flag, put_number, put_reply};
+use crate::object::{put_entries, put_reply};
 use bz_explore_net::Stepping;
 use bz_model::Reply;
 use bz_source::Survey;
@@ -24,7 +24,7 @@ pub(crate) fn put_played(
     let seen = Seen::of(net.core(), survey);
     let entries = net.journal().get(before..).unwrap_or(&[]);
     if answer.is_object {
-        put_entries(seen, entries, &mut answer.members);
+        put_entries(seen.net, entries, &mut answer.members);
         put_told(reply, &mut answer.members);
     } else {
         put_added(seen, entries, is_worded, &mut answer.text);
@@ -41,8 +41,8 @@ fn put_told(reply: Option<Reply>, members: &mut Text) {
 pub(crate) fn put_fired(seen: Seen<'_>, fired: u64, answer: &mut Answer) {
     let is_at_rest = seen.net.next_ready(1).is_none();
     if answer.is_object {
-        put_number("fired", fired, &mut answer.members);
-        put_flag("at_rest", is_at_rest, &mut answer.members);
+        let told = [Piece::Wide(fired.into()), Piece::Flag(is_at_rest)];
+        answer.members.say(", \"fired\": %, \"at_rest\": %", &told);
         return;
     }
     let form = if is_at_rest {

@@ -7,9 +7,10 @@
 //! without a column is a whole line; files are compared whole, as the compiler wrote them.
 
 use crate::answer::{Answer, add};
-use crate::commands::{Call, chan_number, number};
+use crate::commands::{Call, chan_number};
 use crate::table::Form;
 use bz_explain_notes::nearest_name;
+use bz_model::wide_count_of;
 use bz_source::{Label, Survey};
 use bz_text::Text;
 use bz_view::{Piece, Seen, Thing, chan_at, port_count, put_source};
@@ -29,7 +30,7 @@ pub(crate) fn asked(seen: Seen<'_>, call: Call<'_>, answer: &mut Answer) -> Vec<
 pub(crate) fn found(seen: Seen<'_>, call: Call<'_>, answer: &mut Answer) -> Vec<Thing> {
     let word = call.first.unwrap_or("");
     let things = things_of(seen, word, &mut answer.text);
-    match (number(word), things.first()) {
+    match (wide_count_of(word), things.first()) {
         (Some(number), None) => no_component(seen, number, answer),
         (None, None) => no_thing(seen, call.form, word, answer),
         (_, Some(Thing::Comp(comp))) if is_of_other_kind(seen, *comp, call.kind, answer) => {
@@ -66,7 +67,7 @@ pub(crate) fn place_asked(
             None
         }
         Some(chan) => place_on(seen, chan, answer),
-        None => place_of(seen, call, number(port), answer),
+        None => place_of(seen, call, wide_count_of(port), answer),
     }
 }
 
@@ -169,7 +170,7 @@ fn no_thing(seen: Seen<'_>, form: Form, word: &str, answer: &mut Answer) {
         answer.misfit(form, word, "no number");
         return;
     }
-    let (form, shown) = (Piece::Text(form.0), Piece::Shown(word.as_bytes()));
+    let (form, shown) = (Piece::Text(form.typed), Piece::Shown(word.as_bytes()));
     answer.complain("%: `%` is no number, name or place", &[form, shown]);
     match nearest_name(answer.text.alloc(), word.as_bytes(), names.as_slice()) {
         Ok(Some(name)) => answer
@@ -183,7 +184,7 @@ fn no_thing(seen: Seen<'_>, form: Form, word: &str, answer: &mut Answer) {
 // The component of a number, or else what is called so, or else the channel of a number.
 fn things_of(seen: Seen<'_>, word: &str, text: &mut Text) -> Vec<Thing> {
     let mut things = Vec::new(text.alloc());
-    match number(word) {
+    match wide_count_of(word) {
         Some(number) => {
             if let Some(comp) = numbered_comp(seen, number) {
                 add(&mut things, Thing::Comp(comp), text);

@@ -1,7 +1,8 @@
 //! What the trace so far amounts to: the values that are kept and under way, and how many handshakes have ended.
 
 use bz_explore_net::Stepping;
-use bz_model::{Entry, Kind, Move, Phase, Reply, Value, Verb};
+use bz_kind_rows::row_of;
+use bz_model::{Entry, Move, Phase, Reply, Value, Verb};
 use bz_text::{Piece as Part, Text};
 use bz_view::{HALVES, Piece, Seen, Thing, gathered, put_left_out, put_phase};
 use std::alloc::{AllocError, Global};
@@ -54,7 +55,7 @@ fn has_value(phase: Phase) -> bool {
 
 fn is_variable(seen: Seen<'_>, comp: u32) -> bool {
     match seen.net.comp(comp) {
-        Some(site) => matches!(site.kind, Kind::Variable | Kind::FalseVariable),
+        Some(site) => row_of(&site.kind).is_variable,
         None => false,
     }
 }

@@ -1,2 +1,4 @@
+mod Listed
+mod Members
 mod Offered
 mod Wanted

@@ -1,4 +1,4 @@
--- What `moves` writes.
+-- What `moves` writes, as lines and as JSON.
 use Rattle.std.proofs.Common.{◌≡◌, ◌≢◌, ℕ, zero, suc, Option, Some, None, Result, Ok, Err, List, [], ◌++◌, codes, length, refl, sym, ◌∙◌, subst, append_assoc, ◌⊎◌, inl, inr}
 use Rattle.std.specs.Prelude.{IfErr, IfOk, IfSome}
 use Rattle.std.specs.Fmt.{decimal}
@@ -14,6 +14,7 @@ use Rattle.bz_explore_net.specs.HostOffers.{HostOffers}
 use Rattle.bz_explore_net.specs.Offers.{Offers}
 use Rattle.bz_view.specs.Lines.{AreBlanks, InLine, InTurn}
 use Rattle.bz_explore_moves.specs.Moves.{IsMove, IsMoveLine, IsMoves, IsWordLine, end_line}
+use Rattle.bz_explore_moves.specs.Objects.{IsNext, next_members}
 use Rattle.bz_view.proofs.Lines.{line_grows}
 
 -- the words of a move, blanks, and the move
@@ -70,5 +71,16 @@ moves_grow w s offers words a b c d e (Some zs) first second (moves, are_moves, 
         are_answers = are_answers;
         whole = refl;
       },
+      grown,
+    )
+
+pub next_grows : (w : Wiring) (s : State) (offers : List Offer) (words : List HostOffer) (a b c d : Option (List ℕ))
+    → (b ≡ None) ⊎ ((b ≡ a) × Offers w.sites s offers) → (c ≡ None) ⊎ ((c ≡ b) × HostOffers w s words)
+    → Grows c d (next_members w offers words) → IfSome d (λ _. GrowsBy (IsNext w s) a d)
+next_grows w s offers words a b c None first second members = tt
+next_grows w s offers words a b c (Some zs) first second members =
+    let (listed, told, grown) = all_there a b c zs _ _ _ first second members in (
+      next_members w offers words,
+      record { offers = offers; words = words; can_be_made = listed; are_answered = told; whole = refl },
       grown,
     )

@@ -5,9 +5,10 @@ ghost use Rattle.bz_text.specs.Growing.{Grows, GrowsBy};
 ghost use Rattle.bz_view.specs.Lines.{InLine, InTurn};
 ghost use Rattle.bz_explore_moves.specs.Moves.{IsMove, IsMoveLine, IsMoves, IsWordLine, end_line, host_word};
 
-use bz_explore_net::{HostOffer, Offer, Stepping, answered_words, offers_of};
+use bz_explore_net::{HostOffer, Offer, answered_words, offers_of};
 use bz_kind_rows::{kind_word, port_at};
 use bz_model::{Chan, ChanKind, Value};
+use bz_net::Core;
 use bz_source::Survey;
 use bz_text::{Piece, Text};
 use bz_view::{
@@ -17,35 +18,35 @@ use bz_view::{
 
 /// Adds a line for each move that a component can make, and for each word of the host that would be answered, and last how many
 /// moves there are.
-pub fn put_moves(stepping: &Stepping, survey: &Survey, text: &mut Text)
+pub fn put_moves(net: &Core, survey: &Survey, text: &mut Text)
     // What is told of a state is exactly what can come next in it, where no memory was wanting.
     ensures { IfSome text.new (λ _.
-        GrowsBy (IsMoves stepping.now.net.wiring stepping.now.net.state) text.old text.new) }
+        GrowsBy (IsMoves net.now.wiring net.now.state) text.old text.new) }
 {
-    let (alloc, flat, net) = (text.alloc(), stepping.flat(), stepping.net());
-    let moves = gathered(offers_of(alloc, flat, net), text);
-    let words = gathered(answered_words(alloc, flat, net), text);
+    let alloc = text.alloc();
+    let moves = gathered(offers_of(alloc, net), text);
+    let words = gathered(answered_words(alloc, net), text);
     let offers = moves.as_slice();
-    put_offers(stepping, survey, offers, text);
-    put_words(stepping, words.as_slice(), text);
+    put_offers(net, survey, offers, text);
+    put_words(net, words.as_slice(), text);
     put_end(offers.len(), text);
 }
 
-fn put_offers(stepping: &Stepping, survey: &Survey, offers: &[Offer], text: &mut Text)
+fn put_offers(net: &Core, survey: &Survey, offers: &[Offer], text: &mut Text)
     ensures { GrowsBy (InTurn IsMoveLine offers.now) text.old text.new }
 {
     for offer in offers {
-        put_offer(stepping, survey, *offer, text);
+        put_offer(net, survey, *offer, text);
     }
 }
 
 // The command that makes a move, with the move, its port, and the instance that the component is in.
-fn put_offer(stepping: &Stepping, survey: &Survey, offer: Offer, text: &mut Text)
+fn put_offer(net: &Core, survey: &Survey, offer: Offer, text: &mut Text)
     ensures { GrowsBy (IsMoveLine offer) text.old text.new }
 {
     put_move(offer, text);
     fill(text, 28);
-    put_about(stepping, survey, offer, text);
+    put_about(net, survey, offer, text);
     text.put("\n");
 }
 
@@ -67,10 +68,10 @@ fn put_move(offer: Offer, text: &mut Text)
 }
 
 // What is told of the component, its port and its channel.
-fn put_about(stepping: &Stepping, survey: &Survey, offer: Offer, text: &mut Text)
+fn put_about(net: &Core, survey: &Survey, offer: Offer, text: &mut Text)
     ensures { GrowsBy InLine text.old text.new }
 {
-    put_comp_port(stepping, offer, text);
+    put_comp_port(net, offer, text);
     let mut column = 54;
     put_instance_of(survey, offer, &mut column, text);
     put_comp_name(survey, offer, &mut column, text);
@@ -78,10 +79,10 @@ fn put_about(stepping: &Stepping, survey: &Survey, offer: Offer, text: &mut Text
     put_chan_name(survey, offer, &mut column, text);
 }
 
-fn put_comp_port(stepping: &Stepping, offer: Offer, text: &mut Text)
+fn put_comp_port(net: &Core, offer: Offer, text: &mut Text)
     ensures { GrowsBy InLine text.old text.new }
 {
-    if let Some(comp) = stepping.flat().comp(offer.comp) {
+    if let Some(comp) = net.comp(offer.comp) {
         put_in_line(
             text,
             &[Piece::Name(kind_word(&comp.kind)), Piece::Bytes(b" ")],
@@ -142,36 +143,34 @@ fn put_chan_name(survey: &Survey, offer: Offer, column: &mut usize, text: &mut T
     }
 }
 
-fn put_words(stepping: &Stepping, words: &[HostOffer], text: &mut Text)
-    ensures { GrowsBy (InTurn (IsWordLine stepping.now.net.wiring) words.now) text.old text.new }
+fn put_words(net: &Core, words: &[HostOffer], text: &mut Text)
+    ensures { GrowsBy (InTurn (IsWordLine net.now.wiring) words.now) text.old text.new }
 {
     for word in words {
-        put_word(stepping, *word, text);
+        put_word(net, *word, text);
     }
 }
 
 // A word of the host, with its port and the phase there.
-fn put_word(stepping: &Stepping, word: HostOffer, text: &mut Text)
-    ensures { GrowsBy (IsWordLine stepping.now.net.wiring word) text.old text.new }
+fn put_word(net: &Core, word: HostOffer, text: &mut Text)
+    ensures { GrowsBy (IsWordLine net.now.wiring word) text.old text.new }
 {
-    put_word_alone(stepping, word, text);
+    put_word_alone(net, word, text);
     fill(text, 28);
-    put_port_state(stepping, word.port, text);
+    put_port_state(net, word.port, text);
     text.put("\n");
 }
 
-fn put_word_alone(stepping: &Stepping, word: HostOffer, text: &mut Text)
-    ensures { Grows text.old text.new (host_word stepping.now.net.wiring word.verb word.port) }
+fn put_word_alone(net: &Core, word: HostOffer, text: &mut Text)
+    ensures { Grows text.old text.new (host_word net.now.wiring word.verb word.port) }
 {
-    let net = stepping.net().core();
     let has_value = word.verb.wants_value(chan_of(net, word.port).kind);
     put_host_word(text, word.verb, port_name(net, word.port), has_value);
 }
 
-fn put_port_state(stepping: &Stepping, port: u32, text: &mut Text)
+fn put_port_state(net: &Core, port: u32, text: &mut Text)
     ensures { GrowsBy InLine text.old text.new }
 {
-    let net = stepping.net().core();
     let chan = chan_of(net, port);
     let (phase, value) = net.phase(port).parts();
     put_in_line(

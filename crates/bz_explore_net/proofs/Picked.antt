@@ -8,7 +8,7 @@ use Rattle.bz_model.specs.declared.event.Entry.TheVariants.{Fired, Host, Rested}
 use Rattle.bz_model.specs.declared.event.NetError.{NetError}
 use Rattle.bz_model.specs.declared.event.NetError.TheVariants as error
 use Rattle.bz_model.specs.Nets.{Site, State, Step, StepsAt, Wiring}
-use Rattle.bz_model.specs.Runs.{CanStep, IsNext, Rest}
+use Rattle.bz_model.specs.Runs.{Rest}
 use Rattle.bz_net.specs.Replies.{IsFiring, IsPicked, RefusesEntry, RefusesFire}
 use Rattle.bz_net.specs.Simulation.{Adds, Simulation}
 use Rattle.bz_explore_net.specs.Picking.{after, Below, IsPlace, HasMembers, IsPick, IsPickedEntry, Picks, PlaysPicks}

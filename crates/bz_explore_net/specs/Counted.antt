@@ -1,5 +1,5 @@
 -- A row of bits with the sums of a tree over it.
-use Rattle.std.specs.Prelude.{◌≡◌, ℕ, zero, suc, ◌+◌, ◌*◌, ◌<◌, ◌≤◌, ◌^◌, Bool, true, false, List, length, slice_index_or}
+use Rattle.std.specs.Prelude.{◌≡◌, ℕ, zero, suc, ◌+◌, ◌*◌, ◌<◌, ◌≤◌, ◌^◌, Bool, false, List, length, slice_index_or}
 use Rattle.std.specs.Int.{from_bool}
 
 -- the first of the leaves that lie so many levels below a node of the tree: below node n stand nodes 2 n and 2 n + 1

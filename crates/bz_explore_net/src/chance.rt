@@ -15,27 +15,24 @@ use crate::counted::CountedRow;
 use crate::movers::look_behind;
 use crate::offers::port_count;
 use crate::picker::Picker;
-use bz_flat::Flat;
 use bz_model::{Entry, NetError, Who};
 use bz_net::{Net, RunEnd};
 
-/// Fires up to `count` moves that are picked by chance; the net is one of the flat net, and `movers` has what can move in it.
+/// Fires up to `count` moves that are picked by chance; `movers` has what can move in the net.
 pub(crate) fn run_by_chance(
-    flat: &Flat,
     net: &mut Net,
     who: Who,
     picker: &mut Picker,
     movers: &mut CountedRow,
     count: u64,
 ) -> RunEnd
-    requires wiring { net.old.wiring ≡ flat.now.wiring }
     requires movers { MarksReady net.old.wiring net.old.state movers.old }
     ensures ran { RanByChance net.old net.new who count picker.old.state picker.new.state result }
     ensures seed { picker.new.seed ≡ picker.old.seed }
     ensures movers { MarksReady net.new.wiring net.new.state movers.new }
 {
     for made in 0..count {
-        match pick_move(flat, net, who, picker, movers) {
+        match pick_move(net, who, picker, movers) {
             Ok(Entry::Fired { .. }) => {}
             Ok(_) => return RunEnd::Rest(made),
             Err(error) => return RunEnd::Refused(made, error),
@@ -46,13 +43,11 @@ pub(crate) fn run_by_chance(
 
 // Fires the move that is picked, or notes that no component can move.
 fn pick_move(
-    flat: &Flat,
     net: &mut Net,
     who: Who,
     picker: &mut Picker,
     movers: &mut CountedRow,
 ) -> Result<Entry, NetError>
-    requires wiring { net.old.wiring ≡ flat.now.wiring }
     requires movers { MarksReady net.old.wiring net.old.state movers.old }
     ensures picked { IfOk result (IsPickedEntry net.old who picker.old.state picker.new.state) }
     ensures adds { IfOk result (λ entry. Adds net.old entry net.new) }
@@ -66,7 +61,7 @@ fn pick_move(
     let Some(comp) = pick_comp(movers, &mut ahead) else {
         return net.step(who, 1);
     };
-    let port = pick_port(flat, net, comp, &mut ahead);
+    let port = pick_port(net, comp, &mut ahead);
     let entry = net.fire_move(who, comp, port)?;
     look_behind(net, entry, movers);
     *picker = ahead;
@@ -90,15 +85,14 @@ fn pick_comp(movers: &CountedRow, picker: &mut Picker) -> Option<u32>
 }
 
 // One of the ports at which a component can move.
-fn pick_port(flat: &Flat, net: &Net, comp: u32, picker: &mut Picker) -> u32
-    requires wiring { net.now.wiring ≡ flat.now.wiring }
+fn pick_port(net: &Net, comp: u32, picker: &mut Picker) -> u32
     requires can { CanStep net.now.wiring.sites net.now.state comp }
     ensures port { (n : ℕ) × HasMembers (StepsAt net.now.wiring.sites net.now.state comp) n
         × IsPlace (StepsAt net.now.wiring.sites net.now.state comp) (drawn picker.old.state % n) result }
     ensures state { picker.new.state ≡ after picker.old.state }
     ensures seed { picker.new.seed ≡ picker.old.seed }
 {
-    let ports = port_count(flat, comp);
+    let ports = port_count(net.core(), comp);
     let count = count_ports(net, comp, ports);
     let place = picker.pick(count);
     port_with(net, comp, ports, place, count)

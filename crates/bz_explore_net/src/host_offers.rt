@@ -2,11 +2,11 @@
 
 ghost use Rattle.std.specs.Prelude.{◌≡◌, ◌<◌, ◌≤◌, ◌+◌, ◌-◌, IfOk};
 ghost use Rattle.bz_model.specs.Hosts.{port_is_passive};
+ghost use Rattle.bz_net.specs.Answering.{would_answer};
 ghost use Rattle.bz_explore_net.specs.HostOffers.{HostOffers, HostOffersUpTo, IsSoleAnswer, begins, ends};
 
-use bz_flat::Flat;
-use bz_model::Verb;
-use bz_net::Net;
+use bz_model::{Reply, Verb};
+use bz_net::Core;
 use std::alloc::{AllocError, Global};
 
 /// A word that the host may give at an external port.
@@ -16,13 +16,12 @@ pub struct HostOffer {
     pub port: u32,
 }
 
-/// The words that would be answered with `done` or a value, by their ports; the net is one of the flat net.
-pub fn answered_words(alloc: Global, flat: &Flat, net: &Net) -> Result<Vec<HostOffer>, AllocError>
-    requires { net.now.wiring ≡ flat.now.wiring }
+/// The words that would be answered with `done` or a value, by their ports.
+pub fn answered_words(alloc: Global, net: &Core) -> Result<Vec<HostOffer>, AllocError>
     ensures { IfOk result (λ v. HostOffers net.now.wiring net.now.state v.items) }
 {
     let mut offers = Vec::new(alloc);
-    for (place, port) in flat.ports().iter().enumerate() {
+    for (place, port) in net.names().ports().iter().enumerate() {
         add_word(net, place as u32 + 1, port.passive, &mut offers)?;
     }
     Ok(offers)
@@ -30,7 +29,7 @@ pub fn answered_words(alloc: Global, flat: &Flat, net: &Net) -> Result<Vec<HostO
 
 // The word that would be answered at a port, behind those of the ports before it.
 fn add_word(
-    net: &Net,
+    net: &Core,
     port: u32,
     passive: bool,
     offers: &mut Vec<HostOffer>,
@@ -50,16 +49,26 @@ fn add_word(
 }
 
 // The word that would be answered at a port of this sense: there is one at most.
-fn answered_at(net: &Net, port: u32, passive: bool) -> Option<Verb>
+fn answered_at(net: &Core, port: u32, passive: bool) -> Option<Verb>
     ensures { IsSoleAnswer net.now.state port passive result }
 {
-    if net.would_answer(begins(passive), port) {
+    if would_answer(net, begins(passive), port) {
         return Some(begins(passive));
     }
-    if net.would_answer(ends(passive), port) {
+    if would_answer(net, ends(passive), port) {
         return Some(ends(passive));
     }
     None
+}
+
+// Whether a word at a port would be replied to by none of `Busy`, `NotYet` and `NotTaken`.
+fn would_answer(net: &Core, verb: Verb, port: u32) -> bool
+    ensures { result ≡ would_answer net.now.state verb port }
+{
+    match net.reply(verb, port) {
+        Reply::Busy(_) | Reply::NotYet | Reply::NotTaken(_) => false,
+        Reply::Done | Reply::Value(_) | Reply::Watched(_) => true,
+    }
 }
 
 fn begins(passive: bool) -> Verb

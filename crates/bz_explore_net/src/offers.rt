@@ -4,9 +4,8 @@ ghost use Rattle.std.specs.Prelude.{◌≡◌, ◌<◌, ◌≤◌, ◌+◌, leng
 ghost use Rattle.bz_model.specs.Nets.{site_at};
 ghost use Rattle.bz_explore_net.specs.Offers.{Offers, OffersUpTo};
 
-use bz_flat::Flat;
 use bz_model::{Move, Value};
-use bz_net::Net;
+use bz_net::Core;
 use std::alloc::{AllocError, Global};
 
 /// A move that a component can make at a port, on this channel and with this value.
@@ -19,77 +18,57 @@ pub struct Offer {
     pub value: Option<Value>,
 }
 
-/// The moves that can be made, by component and port; the net is one of the flat net.
-pub fn offers_of(alloc: Global, flat: &Flat, net: &Net) -> Result<Vec<Offer>, AllocError>
-    requires { net.now.wiring ≡ flat.now.wiring }
+/// The moves that can be made in a net, by component and port.
+pub fn offers_of(alloc: Global, net: &Core) -> Result<Vec<Offer>, AllocError>
     ensures { IfOk result (λ v. Offers net.now.wiring.sites net.now.state v.items) }
 {
     let mut offers = Vec::new(alloc);
-    for place in 0..flat.comp_count() {
-        add_comp(alloc, flat, net, place + 1, &mut offers)?;
+    for place in 0..net.comp_count() {
+        add_comp(net, place + 1, &mut offers)?;
     }
     Ok(offers)
 }
 
 // How many ports a component has, 0 where there is no such component.
-pub(crate) fn port_count(flat: &Flat, comp: u32) -> u32
+pub(crate) fn port_count(net: &Core, comp: u32) -> u32
     requires { 0 < comp }
-    ensures { result ≡ length (site_at flat.now.wiring.sites comp).chans }
+    ensures { result ≡ length (site_at net.now.wiring.sites comp).chans }
 {
-    // the ports tell that there are fewer than 2^32 at each component
-    let _ = flat.ports();
-    match flat.comp(comp) {
+    // the names tell that there are fewer than 2^32 at each component
+    let _ = net.names();
+    match net.comp(comp) {
         Some(site) => site.chans.as_slice().len() as u32,
         None => 0,
     }
 }
 
 // The moves of a component, behind those of the components before it.
-fn add_comp(
-    alloc: Global,
-    flat: &Flat,
-    net: &Net,
-    comp: u32,
-    offers: &mut Vec<Offer>,
-) -> Result<(), AllocError>
+fn add_comp(net: &Core, comp: u32, offers: &mut Vec<Offer>) -> Result<(), AllocError>
     requires from { 0 < comp }
-    requires to { comp ≤ length flat.now.wiring.sites }
-    requires wiring { net.now.wiring ≡ flat.now.wiring }
+    requires to { comp ≤ length net.now.wiring.sites }
     requires before { OffersUpTo net.now.wiring.sites net.now.state comp 1 offers.old.items }
     ensures { IfOk result (λ _. OffersUpTo net.now.wiring.sites net.now.state (comp + 1) 1 offers.new.items) }
 {
     if !net.is_ready(comp) {
         return Ok(());
     }
-    add_ports(alloc, net, comp, port_count(flat, comp), offers)
+    add_ports(net, comp, port_count(net, comp), offers)
 }
 
 // The moves of a component at its ports.
-fn add_ports(
-    alloc: Global,
-    net: &Net,
-    comp: u32,
-    ports: u32,
-    offers: &mut Vec<Offer>,
-) -> Result<(), AllocError>
+fn add_ports(net: &Core, comp: u32, ports: u32, offers: &mut Vec<Offer>) -> Result<(), AllocError>
     requires ports { ports ≡ length (site_at net.now.wiring.sites comp).chans }
     requires before { OffersUpTo net.now.wiring.sites net.now.state comp 1 offers.old.items }
     ensures { IfOk result (λ _. OffersUpTo net.now.wiring.sites net.now.state (comp + 1) 1 offers.new.items) }
 {
     for place in 0..ports {
-        add_port(alloc, net, comp, place + 1, offers)?;
+        add_port(net, comp, place + 1, offers)?;
     }
     Ok(())
 }
 
 // The move of a component at a port, where it has one.
-fn add_port(
-    alloc: Global,
-    net: &Net,
-    comp: u32,
-    port: u32,
-    offers: &mut Vec<Offer>,
-) -> Result<(), AllocError>
+fn add_port(net: &Core, comp: u32, port: u32, offers: &mut Vec<Offer>) -> Result<(), AllocError>
     requires { OffersUpTo net.now.wiring.sites net.now.state comp port offers.old.items }
     ensures { IfOk result (λ _. OffersUpTo net.now.wiring.sites net.now.state comp (port + 1) offers.new.items) }
 {

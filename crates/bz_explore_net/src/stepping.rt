@@ -398,14 +398,7 @@ impl Stepping {
         let mark = self.mark(alloc, command)?;
         self.marks.reserve(1)?;
         let mut movers = taken(&mut self.movers, alloc, &self.net)?;
-        let end = run_by_chance(
-            &self.flat,
-            &mut self.net,
-            WORKER,
-            &mut self.picker,
-            &mut movers,
-            count,
-        );
+        let end = run_by_chance(&mut self.net, WORKER, &mut self.picker, &mut movers, count);
         self.movers = Some(movers);
         if self.net.journal().len() > mark.entries {
             self.marks.push(mark).unwrap();

@@ -1,4 +1,3 @@
 mod Tables
 pub mod Pieces
-pub mod Numbers
-mod Names
+pub mod Names

@@ -1,53 +1,66 @@
--- What is found by a name.
-use Rattle.std.proofs.Common.{◌≡◌, ℕ, true, cond, Some, List, [], ◌∷◌, map, refl, ap, ◌∙◌}
+-- The kinds by their names.
+use Rattle.std.proofs.Common.{◌≡◌, ◌≤◌, ℕ, true, cond, if◌then◌else◌, Option, None, Some, List, [], ◌∷◌, length, map, refl, ap, ap₂, ◌∙◌, arith}
 use Rattle.std.specs.List.{find}
 use Rattle.std.specs.Str.{bytes_eq}
 use Rattle.std.proofs.lemmas.Slice.Eq.{bytes_eq-Decides}
-use Rattle.bz_kind_rows.specs.Naming.{name_of, named, meant}
-use Rattle.bz_kind_rows.specs.declared.naming.KindName.{KindName}
-use Rattle.bz_kind_rows.specs.declared.naming.KindName.TheVariants as name
+use Rattle.bz_model.specs.Rows.{KindRow, rows, name_of}
+use Rattle.bz_kind_rows.specs.Naming.{named}
+use Rattle.bz_model.specs.declared.kind.KindName.{KindName}
+use Rattle.bz_model.specs.declared.kind.KindName.TheVariants as name
 
-of_name : (kind : KindName) → named (name_of kind) ≡ Some kind
-of_name name.Loop = refl
-of_name name.Sequence = refl
-of_name name.SequenceOptimised = refl
-of_name name.Concur = refl
-of_name name.Fork = refl
-of_name name.WireFork = refl
-of_name name.ForkPush = refl
-of_name name.While = refl
-of_name name.Case = refl
-of_name name.CaseFetch = refl
-of_name name.Fetch = refl
-of_name name.Variable = refl
-of_name name.Constant = refl
-of_name name.UnaryFunc = refl
-of_name name.BinaryFunc = refl
-of_name name.BinaryFuncConstR = refl
-of_name name.Slice = refl
-of_name name.Combine = refl
-of_name name.CombineEqual = refl
-of_name name.Adapt = refl
-of_name name.Split = refl
-of_name name.Halt = refl
-of_name name.HaltPush = refl
-of_name name.Continue = refl
-of_name name.ContinuePush = refl
-of_name name.Call = refl
-of_name name.CallMux = refl
-of_name name.CallDemux = refl
-of_name name.Passivator = refl
-of_name name.PassivatorPush = refl
-of_name name.Synch = refl
-of_name name.SynchPull = refl
-of_name name.DecisionWait = refl
-of_name name.Arbiter = refl
-of_name name.FalseVariable = refl
-of_name name.Bar = refl
+-- of each kind: it is found by its name, its row is its own, and its name is short
+abbrev Told : KindName → Type 0
+Told kind = (named (name_of kind) ≡ Some kind) × ((rows kind).kind ≡ kind) × (length (name_of kind) ≤ 21)
+
+told : (kind : KindName) → Told kind
+told name.Loop = (refl, refl, omega arith)
+told name.Sequence = (refl, refl, omega arith)
+told name.SequenceOptimised = (refl, refl, omega arith)
+told name.Concur = (refl, refl, omega arith)
+told name.Fork = (refl, refl, omega arith)
+told name.WireFork = (refl, refl, omega arith)
+told name.ForkPush = (refl, refl, omega arith)
+told name.While = (refl, refl, omega arith)
+told name.Case = (refl, refl, omega arith)
+told name.CaseFetch = (refl, refl, omega arith)
+told name.Fetch = (refl, refl, omega arith)
+told name.Variable = (refl, refl, omega arith)
+told name.Constant = (refl, refl, omega arith)
+told name.UnaryFunc = (refl, refl, omega arith)
+told name.BinaryFunc = (refl, refl, omega arith)
+told name.BinaryFuncConstR = (refl, refl, omega arith)
+told name.Slice = (refl, refl, omega arith)
+told name.Combine = (refl, refl, omega arith)
+told name.CombineEqual = (refl, refl, omega arith)
+told name.Adapt = (refl, refl, omega arith)
+told name.Split = (refl, refl, omega arith)
+told name.Halt = (refl, refl, omega arith)
+told name.HaltPush = (refl, refl, omega arith)
+told name.Continue = (refl, refl, omega arith)
+told name.ContinuePush = (refl, refl, omega arith)
+told name.Call = (refl, refl, omega arith)
+told name.CallMux = (refl, refl, omega arith)
+told name.CallDemux = (refl, refl, omega arith)
+told name.Passivator = (refl, refl, omega arith)
+told name.PassivatorPush = (refl, refl, omega arith)
+told name.Synch = (refl, refl, omega arith)
+told name.SynchPull = (refl, refl, omega arith)
+told name.DecisionWait = (refl, refl, omega arith)
+told name.Arbiter = (refl, refl, omega arith)
+told name.FalseVariable = (refl, refl, omega arith)
+told name.Bar = (refl, refl, omega arith)
+
+pub short_name : (kind : KindName) → length (name_of kind) ≤ 21
+short_name kind = (told kind).2
 
 pub is_named : (text : List ℕ) (kind : KindName) → bytes_eq text (name_of kind) ≡ true → named text ≡ Some kind
-is_named text kind e = ap named ((bytes_eq-Decides text (name_of kind)).0 e) ∙ of_name kind
+is_named text kind e = ap named ((bytes_eq-Decides text (name_of kind)).0 e) ∙ (told kind).0
 
-pub meant_named : (names : List KindName) (text : List ℕ) → meant (map (λ n. (name_of n, n)) names) text ≡ find (λ n. bytes_eq text (name_of n)) names
-meant_named [] text = refl
-meant_named (n ∷ names) text = ap (cond (bytes_eq text (name_of n)) (Some n)) (meant_named names text)
+-- the kind of the first of these rows that has this name
+abbrev pub found : List ℕ → List KindRow → Option KindName
+found text [] = None
+found text (row ∷ rows) = if bytes_eq text row.name then Some row.kind else found text rows
+
+pub found_named : (names : List KindName) (text : List ℕ) → found text (map rows names) ≡ find (λ n. bytes_eq text (name_of n)) names
+found_named [] text = refl
+found_named (n ∷ names) text = ap₂ (cond (bytes_eq text (name_of n))) (ap Some (told n).1) (found_named names text)

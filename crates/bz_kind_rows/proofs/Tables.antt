@@ -1,17 +1,18 @@
 -- The ports of a row of a table, one row after the other.
-use Rattle.std.proofs.Common.{◌≡◌, ◌≢◌, ℕ, zero, suc, ◌-◌, ◌≤◌, ◌↔◌, Bool, true, false, IsTrue, List, [], ◌∷◌, ◌++◌, length, map, take, drop, All, replicate, slice_index_or, ◌<◌, ◌==◌, eq-eqb, refl, sym, ap, arith}
+use Rattle.std.proofs.Common.{◌≡◌, ◌≢◌, ℕ, zero, suc, ◌-◌, ◌≤◌, ◌↔◌, Bool, true, false, IsTrue, List, [], ◌∷◌, ◌++◌, length, map, take, drop, All, replicate, slice_index_or, ◌<◌, ◌+◌, None, Some, if◌then◌else◌, refl, ap, arith}
 use Rattle.std.proofs.Math.Seq.{take-length}
 use Rattle.std.proofs.lemmas.List.{length-drop}
-use Rattle.std.specs.List.{list_all}
-use Rattle.std.proofs.lemmas.List.Folds.{list_all-map}
+use Rattle.std.specs.Prelude.{◌==◌, flat_map, nat_le, sum}
+use Rattle.std.proofs.lemmas.Bool.{leb-true, leb-false}
+use Rattle.std.proofs.lemmas.List.Sums.{sum_by-append, sum_by-cons}
 use Rattle.bz_model.specs.declared.channel.Chan.{Chan}
 use Rattle.bz_model.specs.declared.channel.ChanKind.{ChanKind}
 use Rattle.bz_model.specs.declared.channel.ChanKind.TheVariants.{Sync}
 use Rattle.bz_model.specs.declared.kind.Kind.{Kind}
-use Rattle.bz_model.specs.Rows.{PortRow, row_of, ports_of, is_passive, active_port, width}
+use Rattle.bz_model.specs.Rows.{PortRow, row_of, ports_of, count_of, others_of, is_passive, active_port, chans_at, widths, whole_width}
 use Rattle.std.proofs.lemmas.List.Elements.{All-cons}
-use Rattle.bz_kind_rows.specs.declared.table.PortRow as table
-use Rattle.bz_kind_rows.specs.Table.{seen, count_of, others_of, are_equal}
+use Rattle.bz_kind_rows.specs.declared.ports.PortRow as table
+use Rattle.bz_kind_rows.specs.Table.{seen, port_in, numbered_port, left_of}
 
 pub is_passive-port : (kind : Kind) (sizes : List ℕ) (p : ℕ) → p ≢ 0 → is_passive kind sizes p ≡ (slice_index_or (ports_of (row_of kind) sizes) (p - 1) (active_port [] Sync)).passive
 unfolding is_passive
@@ -67,10 +68,6 @@ carry-join (suc n) (c ∷ cs) row rows b =
     let others = carry-join n cs row rows (record { enough = (let e = b.enough in omega arith); all_carry = λ k d below. b.all_carry (suc k) d (omega arith); rest = b.rest }) in
     λ i. first i ∷ others i
 
-pub are_equal-width : (chans : List Chan) → list_all (λ c. c.width == width chans 1) chans ≡ are_equal (map (λ c. c.width) chans)
-are_equal-width [] = refl
-are_equal-width (c ∷ cs) = rw (eq-eqb c.width c.width refl) (sym (list_all-map (λ m. m == c.width) (λ c'. c'.width) cs))
-
 -- the first row of a table, and the rows after it
 ports_of-table : (rows : List table.PortRow) (d : table.PortRow) (sizes : List ℕ) → 1 ≤ length rows → ports_of (map seen rows) sizes ≡ replicate (count_of (seen (slice_index_or rows 0 d)) sizes) (seen (slice_index_or rows 0 d)) ++ ports_of (map seen (take (length rows - 1) (drop 1 rows))) (others_of (seen (slice_index_or rows 0 d)) sizes)
 ports_of-table [] d sizes some = absurd (omega arith)
@@ -107,10 +104,61 @@ module _ (rows : List table.PortRow) (d : table.PortRow) (some : 1 ≤ length ro
     λ all. follows.1 (rw (take-rest count chans, others_is) (split chans all).rest),
   )
 
--- the widths after the first two, and the first one
-pub inputs-width : (chans : List Chan) (d : Chan) → 2 ≤ length chans → list_all (λ c. c.width == (slice_index_or chans 0 d).width) (take (length chans - 2) (drop 2 chans)) ≡ are_equal (width chans 1 ∷ map (λ c. c.width) (drop 2 chans))
-inputs-width [] d two = absurd (omega arith)
-inputs-width (c ∷ []) d two = absurd (omega arith)
-inputs-width (c ∷ e ∷ cs) d two =
-    let all : suc (suc (length cs)) - 2 ≡ length cs = omega arith in
-    rw (all, take-length cs) (sym (list_all-map (λ m. m == c.width) (λ c'. c'.width) cs))
+pub numbered-behind : (rows : List PortRow) (sizes : List ℕ) (p : ℕ) → p ≢ 0 → port_in rows sizes (p - 1) ≡ numbered_port rows sizes p
+numbered-behind rows sizes zero some = absurd (some refl)
+numbered-behind rows sizes (suc i) some = let e : suc i - 1 ≡ i = omega arith in rw e refl
+
+-- the channels at a place, one row after the other
+pub chans_at-first : (rows : List table.PortRow) (d : table.PortRow) (sizes : List ℕ) (chans : List Chan) → 1 ≤ length rows → chans_at (map seen rows) sizes chans 0 ≡ take (count_of (seen (slice_index_or rows 0 d)) sizes) chans
+chans_at-first [] d sizes chans some = absurd (omega arith)
+chans_at-first (r ∷ rs) d sizes chans some = refl
+
+pub chans_at-next : (rows : List table.PortRow) (d : table.PortRow) (sizes : List ℕ) (chans : List Chan) (place : ℕ) → 1 ≤ length rows → place ≢ 0
+    → chans_at (map seen rows) sizes chans place ≡ chans_at (map seen (take (length rows - 1) (drop 1 rows))) (others_of (seen (slice_index_or rows 0 d)) sizes) (drop (count_of (seen (slice_index_or rows 0 d)) sizes) chans) (place - 1)
+chans_at-next [] d sizes chans place some behind = absurd (omega arith)
+chans_at-next (r ∷ rs) d sizes chans zero some behind = absurd (behind refl)
+chans_at-next (r ∷ rs) d sizes chans (suc place) some behind =
+    let all : suc (length rs) - 1 ≡ length rs = omega arith in
+    let one : suc place - 1 ≡ place = omega arith in
+    rw (all, one, take-length rs) refl
+
+-- what is left of a width, and a sum
+pub left-sum : (whole : ℕ) (ws : List ℕ) (left : ℕ) → left_of whole ws ≡ Some left → whole ≡ sum ws + left
+left-sum whole [] left e = let is : whole ≡ left = cc in omega (arith, is)
+left-sum whole (w ∷ ws) left e = elim (nat_le w whole) as (λ b. nat_le w whole ≡ b → (if b then left_of (whole - w) ws else None) ≡ Some left → whole ≡ sum (w ∷ ws) + left) [
+  | true ↦ λ le e. let rest = left-sum (whole - w) ws left e in let is = sum_by-cons (λ x. x) w ws in let fits = leb-true w whole le in omega (arith, rest, is, fits)
+  | false ↦ λ le e. absurd (cc)
+] refl e
+
+pub none-sum : (whole : ℕ) (ws : List ℕ) → left_of whole ws ≡ None → whole < sum ws
+none-sum whole [] e = absurd (cc)
+none-sum whole (w ∷ ws) e = elim (nat_le w whole) as (λ b. nat_le w whole ≡ b → (if b then left_of (whole - w) ws else None) ≡ None → whole < sum (w ∷ ws)) [
+  | true ↦ λ le e. let rest = none-sum (whole - w) ws e in let is = sum_by-cons (λ x. x) w ws in let fits = leb-true w whole le in omega (arith, rest, is, fits)
+  | false ↦ λ le e. let is = sum_by-cons (λ x. x) w ws in let more = leb-false w whole le in omega (arith, is, more)
+] refl e
+
+-- equal numbers stay so, and others don't become so, where one is added to both
+eq-added : (n a b : ℕ) → (a == b) ≡ (n + a == n + b)
+eq-added n a b = grind (arith)
+
+eq-less : (a b : ℕ) → a < b → false ≡ (a == b)
+eq-less a b lt = grind (arith)
+
+-- the widths at the first place, and those at the others
+pub whole-first : (here : ℕ → List Chan) (places : List ℕ) (d whole left : ℕ) → 1 ≤ length places → left_of whole (widths (here (slice_index_or places 0 d))) ≡ Some left
+    → (left == whole_width here (take (length places - 1) (drop 1 places))) ≡ (whole == whole_width here places)
+whole-first here [] d whole left some e = absurd (omega arith)
+whole-first here (p ∷ ps) d whole left some e =
+    let all : suc (length ps) - 1 ≡ length ps = omega arith in
+    let own = widths (here p) in
+    let rest = flat_map (λ q. widths (here q)) ps in
+    rw (all, take-length ps, left-sum whole own left e, sum_by-append (λ x. x) own rest) (eq-added (sum own) left (sum rest))
+
+pub whole-none : (here : ℕ → List Chan) (places : List ℕ) (d whole : ℕ) → 1 ≤ length places → left_of whole (widths (here (slice_index_or places 0 d))) ≡ None → false ≡ (whole == whole_width here places)
+whole-none here [] d whole some e = absurd (omega arith)
+whole-none here (p ∷ ps) d whole some e =
+    let own = widths (here p) in
+    let rest = flat_map (λ q. widths (here q)) ps in
+    let short = none-sum whole own e in
+    let both = sum_by-append (λ x. x) own rest in
+    eq-less whole (sum (own ++ rest)) (omega (arith, short, both))

@@ -2,4 +2,3 @@ pub use Rattle.bz_model.specs.Rows
 pub mod Texts
 pub mod Naming
 pub mod Table
-pub mod KindWords

@@ -8,61 +8,18 @@ use Rattle.bz_model.specs.declared.operation.BinaryOp.{BinaryOp}
 use Rattle.bz_model.specs.declared.operation.BinaryOp.TheVariants.{Add, Subtract, ReverseSubtract, Equals, NotEquals, LessThan, GreaterThan, LessOrEquals, GreaterOrEquals, And, Or, Xor}
 use Rattle.bz_model.specs.declared.kind.Kind.{Kind}
 use Rattle.bz_model.specs.declared.kind.Kind.TheVariants.{Loop, Sequence, SequenceOptimised, Concur, Fork, WireFork, ForkPush, While, Case, CaseFetch, Fetch, Variable, Constant, UnaryFunc, BinaryFunc, BinaryFuncConstR, Slice, Combine, CombineEqual, Adapt, Split, Halt, HaltPush, Continue, ContinuePush, Call, CallMux, CallDemux, Passivator, PassivatorPush, Synch, SynchPull, DecisionWait, Arbiter, FalseVariable, Bar}
+use Rattle.bz_model.specs.declared.kind_rules.ParamMeaning.{ParamMeaning}
+use Rattle.bz_model.specs.declared.kind_rules.ParamMeaning.TheVariants.{Unary, Binary}
 use Rattle.bz_model.specs.declared.kind.Param.{Param}
 use Rattle.bz_model.specs.declared.kind.Param.TheVariants.{Num, Flag, Word}
 use Rattle.bz_kind_rows.specs.Texts.{specification}
-use Rattle.bz_kind_rows.specs.declared.naming.KindName.{KindName}
-use Rattle.bz_kind_rows.specs.declared.naming.KindName.TheVariants as name
+use Rattle.bz_model.specs.declared.kind.KindName.{KindName}
+use Rattle.bz_model.specs.declared.kind.KindName.TheVariants as name
+use Rattle.bz_model.specs.Rows.{all_names, name_of}
 use Rattle.bz_model.specs.declared.error.KindError.{KindError}
 use Rattle.bz_model.specs.declared.error.KindError.TheVariants.{UnknownComponent, BadParameter}
 
--- the names of kinds have `$Brz` in front
-abbrev pub name_of : KindName → List ℕ
-name_of name.Loop = codes "$BrzLoop"
-name_of name.Sequence = codes "$BrzSequence"
-name_of name.SequenceOptimised = codes "$BrzSequenceOptimised"
-name_of name.Concur = codes "$BrzConcur"
-name_of name.Fork = codes "$BrzFork"
-name_of name.WireFork = codes "$BrzWireFork"
-name_of name.ForkPush = codes "$BrzForkPush"
-name_of name.While = codes "$BrzWhile"
-name_of name.Case = codes "$BrzCase"
-name_of name.CaseFetch = codes "$BrzCaseFetch"
-name_of name.Fetch = codes "$BrzFetch"
-name_of name.Variable = codes "$BrzVariable"
-name_of name.Constant = codes "$BrzConstant"
-name_of name.UnaryFunc = codes "$BrzUnaryFunc"
-name_of name.BinaryFunc = codes "$BrzBinaryFunc"
-name_of name.BinaryFuncConstR = codes "$BrzBinaryFuncConstR"
-name_of name.Slice = codes "$BrzSlice"
-name_of name.Combine = codes "$BrzCombine"
-name_of name.CombineEqual = codes "$BrzCombineEqual"
-name_of name.Adapt = codes "$BrzAdapt"
-name_of name.Split = codes "$BrzSplit"
-name_of name.Halt = codes "$BrzHalt"
-name_of name.HaltPush = codes "$BrzHaltPush"
-name_of name.Continue = codes "$BrzContinue"
-name_of name.ContinuePush = codes "$BrzContinuePush"
-name_of name.Call = codes "$BrzCall"
-name_of name.CallMux = codes "$BrzCallMux"
-name_of name.CallDemux = codes "$BrzCallDemux"
-name_of name.Passivator = codes "$BrzPassivator"
-name_of name.PassivatorPush = codes "$BrzPassivatorPush"
-name_of name.Synch = codes "$BrzSynch"
-name_of name.SynchPull = codes "$BrzSynchPull"
-name_of name.DecisionWait = codes "$BrzDecisionWait"
-name_of name.Arbiter = codes "$BrzArbiter"
-name_of name.FalseVariable = codes "$BrzFalseVariable"
-name_of name.Bar = codes "$BrzBar"
-
-abbrev pub all_names : List KindName
-all_names =
-    name.Loop ∷ name.Sequence ∷ name.SequenceOptimised ∷ name.Concur ∷ name.Fork ∷ name.WireFork ∷ name.ForkPush ∷ name.While ∷ name.Case ∷ name.CaseFetch ∷ name.Fetch ∷ name.Variable ∷ name.Constant ∷ name.UnaryFunc ∷ name.BinaryFunc ∷ name.BinaryFuncConstR ∷ name.Slice ∷ name.Combine ∷ name.CombineEqual ∷ name.Adapt ∷ name.Split ∷ name.Halt ∷ name.HaltPush ∷ name.Continue ∷ name.ContinuePush ∷ name.Call ∷ name.CallMux ∷ name.CallDemux ∷ name.Passivator ∷ name.PassivatorPush ∷ name.Synch ∷ name.SynchPull ∷ name.DecisionWait ∷ name.Arbiter ∷ name.FalseVariable ∷ name.Bar ∷ []
-
--- each with its name
-abbrev pub name_rows : List (List ℕ × KindName)
-name_rows = map (λ n. (name_of n, n)) all_names
-
+-- the kind of this name
 abbrev pub named : List ℕ → Option KindName
 named text = find (λ n. bytes_eq text (name_of n)) all_names
 
@@ -97,6 +54,12 @@ binary_ops = Add ∷ Subtract ∷ ReverseSubtract ∷ Equals ∷ NotEquals ∷ L
 
 abbrev pub binary_named : List ℕ → Option BinaryOp
 binary_named text = find (λ op. bytes_eq text (binary_name op)) binary_ops
+
+-- the names of the operations that a parameter may be
+abbrev pub operation_names : ParamMeaning → List (List ℕ)
+operation_names Unary = codes "Negate" ∷ codes "Invert" ∷ []
+operation_names Binary = map binary_name binary_ops
+operation_names meaning = []
 
 -- Parameters go by their shape, each shape counted in its own order from 0.
 
@@ -139,7 +102,6 @@ flag params i = is_set (given_flag params i)
 
 -- What the parameters make of a kind, `None` where it cannot have them.
 
--- there is no read specification
 -- a read specification, where there is one, must be empty
 abbrev pub reads_whole : Option (List ℕ) → Bool
 reads_whole None = true

@@ -1,53 +1,6 @@
 //! The kind that a name is likely to be, before all of its bytes are compared.
 
-ghost use Rattle.std.specs.Prelude.{◌≡◌};
-ghost use Rattle.bz_kind_rows.specs.Naming.{name_of};
-
-use crate::naming::KindName;
-
-/// The name of a kind in netlists.
-pub(crate) fn name_of(kind: KindName) -> &'static [u8]
-    ensures { result.now ≡ name_of kind }
-{
-    match kind {
-        KindName::Loop => b"$BrzLoop",
-        KindName::Sequence => b"$BrzSequence",
-        KindName::SequenceOptimised => b"$BrzSequenceOptimised",
-        KindName::Concur => b"$BrzConcur",
-        KindName::Fork => b"$BrzFork",
-        KindName::WireFork => b"$BrzWireFork",
-        KindName::ForkPush => b"$BrzForkPush",
-        KindName::While => b"$BrzWhile",
-        KindName::Case => b"$BrzCase",
-        KindName::CaseFetch => b"$BrzCaseFetch",
-        KindName::Fetch => b"$BrzFetch",
-        KindName::Variable => b"$BrzVariable",
-        KindName::Constant => b"$BrzConstant",
-        KindName::UnaryFunc => b"$BrzUnaryFunc",
-        KindName::BinaryFunc => b"$BrzBinaryFunc",
-        KindName::BinaryFuncConstR => b"$BrzBinaryFuncConstR",
-        KindName::Slice => b"$BrzSlice",
-        KindName::Combine => b"$BrzCombine",
-        KindName::CombineEqual => b"$BrzCombineEqual",
-        KindName::Adapt => b"$BrzAdapt",
-        KindName::Split => b"$BrzSplit",
-        KindName::Halt => b"$BrzHalt",
-        KindName::HaltPush => b"$BrzHaltPush",
-        KindName::Continue => b"$BrzContinue",
-        KindName::ContinuePush => b"$BrzContinuePush",
-        KindName::Call => b"$BrzCall",
-        KindName::CallMux => b"$BrzCallMux",
-        KindName::CallDemux => b"$BrzCallDemux",
-        KindName::Passivator => b"$BrzPassivator",
-        KindName::PassivatorPush => b"$BrzPassivatorPush",
-        KindName::Synch => b"$BrzSynch",
-        KindName::SynchPull => b"$BrzSynchPull",
-        KindName::DecisionWait => b"$BrzDecisionWait",
-        KindName::Arbiter => b"$BrzArbiter",
-        KindName::FalseVariable => b"$BrzFalseVariable",
-        KindName::Bar => b"$BrzBar",
-    }
-}
+use bz_model::KindName;
 
 /// The kind of this name, where it is one. Most are told apart by their length and the byte behind `$Brz`.
 pub(crate) fn likely(name: &[u8]) -> KindName {

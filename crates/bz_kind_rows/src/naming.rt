@@ -1,113 +1,17 @@
 //! Kinds by the names and parameters that netlists give them.
 
-ghost use Rattle.std.specs.Prelude.{◌≡◌, ◌⊎◌, ◌%◌, ◌^◌, ◌==◌, not, length, map, bytes_eq, IfOk, IfErr, Ok, Err};
+ghost use Rattle.std.specs.Prelude.{◌≡◌, ◌⊎◌, ◌==◌, not, length, map, bytes_eq, IfOk, IfErr, Ok, Err};
 ghost use Rattle.bz_model.specs.declared.kind.Kind.TheVariants.{Adapt};
 ghost use Rattle.bz_model.specs.declared.error.KindError.TheVariants.{Memory};
 ghost use Rattle.std.specs.Option.{option_copied};
-ghost use Rattle.bz_kind_rows.specs.Naming.{name_rows, named, meant, kind_by, kind_with, text, number, flag, given_flag, case_by, case_fetch_by, variable_by, false_variable_by, reads_whole, last_text, constant_by, unary_by, binary_by, const_by, slice_by, given, unary_named, binary_named};
+ghost use Rattle.bz_kind_rows.specs.Naming.{named, meant, kind_by, kind_with, text, number, flag, given_flag, case_by, case_fetch_by, variable_by, false_variable_by, reads_whole, last_text, constant_by, unary_by, binary_by, const_by, slice_by, given, unary_named, binary_named};
 
-use crate::likely::{likely, name_of};
+use crate::likely::likely;
+use crate::operations::{BINARY_OPS, UNARY_OPS};
+use crate::rows::{kind_rows, row_named};
 use crate::specification::specification;
-use bz_model::{BinaryOp, Kind, KindError, MAX_WIDTH, Param, UnaryOp};
+use bz_model::{BinaryOp, Kind, KindError, KindName, MAX_WIDTH, Param, UnaryOp};
 use std::alloc::{AllocError, Global};
-
-/// The kinds by their names, whatever their parameters.
-#[derive(Clone, Copy)]
-pub enum KindName {
-    Loop,
-    Sequence,
-    SequenceOptimised,
-    Concur,
-    Fork,
-    WireFork,
-    ForkPush,
-    While,
-    Case,
-    CaseFetch,
-    Fetch,
-    Variable,
-    Constant,
-    UnaryFunc,
-    BinaryFunc,
-    BinaryFuncConstR,
-    Slice,
-    Combine,
-    CombineEqual,
-    Adapt,
-    Split,
-    Halt,
-    HaltPush,
-    Continue,
-    ContinuePush,
-    Call,
-    CallMux,
-    CallDemux,
-    Passivator,
-    PassivatorPush,
-    Synch,
-    SynchPull,
-    DecisionWait,
-    Arbiter,
-    FalseVariable,
-    Bar,
-}
-
-// The names of kinds in netlists.
-static KIND_NAMES: [(&str, KindName); 36] = [
-    ("$BrzLoop", KindName::Loop),
-    ("$BrzSequence", KindName::Sequence),
-    ("$BrzSequenceOptimised", KindName::SequenceOptimised),
-    ("$BrzConcur", KindName::Concur),
-    ("$BrzFork", KindName::Fork),
-    ("$BrzWireFork", KindName::WireFork),
-    ("$BrzForkPush", KindName::ForkPush),
-    ("$BrzWhile", KindName::While),
-    ("$BrzCase", KindName::Case),
-    ("$BrzCaseFetch", KindName::CaseFetch),
-    ("$BrzFetch", KindName::Fetch),
-    ("$BrzVariable", KindName::Variable),
-    ("$BrzConstant", KindName::Constant),
-    ("$BrzUnaryFunc", KindName::UnaryFunc),
-    ("$BrzBinaryFunc", KindName::BinaryFunc),
-    ("$BrzBinaryFuncConstR", KindName::BinaryFuncConstR),
-    ("$BrzSlice", KindName::Slice),
-    ("$BrzCombine", KindName::Combine),
-    ("$BrzCombineEqual", KindName::CombineEqual),
-    ("$BrzAdapt", KindName::Adapt),
-    ("$BrzSplit", KindName::Split),
-    ("$BrzHalt", KindName::Halt),
-    ("$BrzHaltPush", KindName::HaltPush),
-    ("$BrzContinue", KindName::Continue),
-    ("$BrzContinuePush", KindName::ContinuePush),
-    ("$BrzCall", KindName::Call),
-    ("$BrzCallMux", KindName::CallMux),
-    ("$BrzCallDemux", KindName::CallDemux),
-    ("$BrzPassivator", KindName::Passivator),
-    ("$BrzPassivatorPush", KindName::PassivatorPush),
-    ("$BrzSynch", KindName::Synch),
-    ("$BrzSynchPull", KindName::SynchPull),
-    ("$BrzDecisionWait", KindName::DecisionWait),
-    ("$BrzArbiter", KindName::Arbiter),
-    ("$BrzFalseVariable", KindName::FalseVariable),
-    ("$BrzBar", KindName::Bar),
-];
-
-static UNARY_OPS: [(&str, UnaryOp); 2] = [("Negate", UnaryOp::Negate), ("Invert", UnaryOp::Invert)];
-
-static BINARY_OPS: [(&str, BinaryOp); 12] = [
-    ("Add", BinaryOp::Add),
-    ("Subtract", BinaryOp::Subtract),
-    ("ReverseSubtract", BinaryOp::ReverseSubtract),
-    ("Equals", BinaryOp::Equals),
-    ("NotEquals", BinaryOp::NotEquals),
-    ("LessThan", BinaryOp::LessThan),
-    ("GreaterThan", BinaryOp::GreaterThan),
-    ("LessOrEquals", BinaryOp::LessOrEquals),
-    ("GreaterOrEquals", BinaryOp::GreaterOrEquals),
-    ("And", BinaryOp::And),
-    ("Or", BinaryOp::Or),
-    ("Xor", BinaryOp::Xor),
-];
 
 /// The kind of this name with these parameters.
 ///
@@ -125,22 +29,20 @@ pub fn kind_of(alloc: Global, name: &[u8], params: &[Param]) -> Result<Kind, Kin
     Ok(kind)
 }
 
-/// The kinds by the names that netlists give them, `$Brz` in front.
-pub fn kind_names() -> &'static [(&'static str, KindName)]
-    ensures { name_rows ≡ map (λ row. (row.0.now, row.1)) result.now }
-{
-    &KIND_NAMES
-}
-
 /// The kind that has this name in netlists.
 pub fn kind_named(name: &[u8]) -> Option<KindName>
     ensures { result ≡ named name.now }
 {
     let likely = likely(name);
-    if is(name, name_of(likely)) {
+    if is(name, row_named(likely).name.as_bytes()) {
         return Some(likely);
     }
-    meant(kind_names(), name)
+    for row in kind_rows() {
+        if is(name, row.name.as_bytes()) {
+            return Some(row.kind);
+        }
+    }
+    None
 }
 
 // What stands beside a name in a table.

@@ -2,9 +2,10 @@
 
 ghost use Rattle.std.specs.Prelude.{◌≡◌, ◌∷◌, ◌<◌, ℕ, if◌then◌else◌, Some, None, IfOk, IfSome, length};
 ghost use Rattle.std.specs.Option.{option_copied};
-ghost use Rattle.bz_kind_rows.specs.Texts.{pieces, later, numeral, is_number, decimal_value, between, span_of, set_spans, both, specification};
+ghost use Rattle.bz_kind_rows.specs.Texts.{pieces, later, numeral, between, span_of, set_spans, both, specification};
 
 use bz_model::{Span, Spans};
+use bz_sexpr::number;
 use std::alloc::{AllocError, Global};
 
 /// The specification that a text is, if it is one.
@@ -100,17 +101,4 @@ fn numeral(text: &[u8]) -> Option<u128>
         return None;
     }
     number(text)
-}
-
-fn number(run: &[u8]) -> Option<u128>
-    ensures { result ≡ (if is_number run.now then Some (decimal_value run.now) else None) }
-{
-    let mut n: u128 = 0;
-    for b in run {
-        if !b.is_ascii_digit() {
-            return None;
-        }
-        n = n.checked_mul(10)?.checked_add(u128::from(*b - b'0'))?;
-    }
-    Some(n)
 }

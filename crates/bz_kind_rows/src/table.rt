@@ -1,338 +1,22 @@
-//! The ports of each kind.
+//! Whether what a component has meets the row of its kind.
 
-ghost use Rattle.std.specs.Prelude.{◌≡◌, ◌+◌, ◌*◌, ◌==◌, nat_le, ◌↔◌, ℕ, List, [], map, IsTrue, All, slice_index_or};
+ghost use Rattle.std.specs.Prelude.{◌≡◌, ◌+◌, ◌==◌, nat_le, ◌↔◌, ℕ, List, [], map, IsTrue, All, slice_index_or};
 ghost use Rattle.std.specs.List.{list_all};
 ghost use Rattle.bz_model.specs.declared.channel.ChanKind.TheVariants.{Sync};
-ghost use Rattle.bz_model.specs.Rows.{row_of, ports_of, is_passive, active_port, fits_sizes, has_sizes, asks_sizes, is_wide, least_width, has_bit, asks_widths, has_widths, width};
-ghost use Rattle.std.specs.Option.{option_map};
-ghost use Rattle.bz_kind_rows.specs.Table.{seen, seen_at, port_in, numbered_port, count_of, others_of, are_equal};
+ghost use Rattle.bz_model.specs.Rows.{row_of, ports_of, count_of, others_of, is_passive, active_port, fits_sizes, has_sizes, meets_lengths, is_wide, least_width, chans_at, have_width, number_of, whole_width, is_met, asks_widths, has_widths, width, widths};
+ghost use Rattle.std.specs.Option.{option_copied, option_map};
+ghost use Rattle.bz_kind_rows.specs.Table.{seen, seen_rule, seen_at, port_in, numbered_port, left_of};
 
-use bz_model::{Chan, ChanKind, Kind, MAX_MEMBERS, MAX_WIDTH, width};
-
-/// A port of a kind: its name, what its channel carries, whether it is the passive end, and whether it is an array of ports.
-#[derive(Clone, Copy, PartialEq, Eq)]
-pub struct PortRow {
-    pub name: &'static str,
-    pub kind: ChanKind,
-    pub passive: bool,
-    pub array: bool,
-}
-
-const ACTIVATE: PortRow = PortRow {
-    name: "activate",
-    kind: ChanKind::Sync,
-    passive: true,
-    array: false,
-};
-
-const ACTIVATE_OUT: PortRow = PortRow {
-    name: "activateOut",
-    kind: ChanKind::Sync,
-    passive: false,
-    array: false,
-};
-
-const GUARD: PortRow = PortRow {
-    name: "guard",
-    kind: ChanKind::Pull,
-    passive: false,
-    array: false,
-};
-
-const INDEX: PortRow = PortRow {
-    name: "index",
-    kind: ChanKind::Pull,
-    passive: false,
-    array: false,
-};
-
-const REPLIED: PortRow = PortRow {
-    name: "out",
-    kind: ChanKind::Pull,
-    passive: true,
-    array: false,
-};
-
-const PULLS_A: PortRow = PortRow {
-    name: "inpA",
-    kind: ChanKind::Pull,
-    passive: false,
-    array: false,
-};
-
-const PULLS_B: PortRow = PortRow {
-    name: "inpB",
-    kind: ChanKind::Pull,
-    passive: false,
-    array: false,
-};
-
-const PULLS_LOW: PortRow = PortRow {
-    name: "ls",
-    kind: ChanKind::Pull,
-    passive: false,
-    array: false,
-};
-
-const PULLS_HIGH: PortRow = PortRow {
-    name: "ms",
-    kind: ChanKind::Pull,
-    passive: false,
-    array: false,
-};
-
-const PUSHES_LOW: PortRow = PortRow {
-    name: "ls",
-    kind: ChanKind::Push,
-    passive: false,
-    array: false,
-};
-
-const PUSHES_HIGH: PortRow = PortRow {
-    name: "ms",
-    kind: ChanKind::Push,
-    passive: false,
-    array: false,
-};
-
-const PULLS_EACH: PortRow = PortRow {
-    name: "inp",
-    kind: ChanKind::Pull,
-    passive: false,
-    array: true,
-};
-
-const CALLED: PortRow = PortRow {
-    name: "inp",
-    kind: ChanKind::Sync,
-    passive: true,
-    array: false,
-};
-
-const PUSHED: PortRow = PortRow {
-    name: "inp",
-    kind: ChanKind::Push,
-    passive: true,
-    array: false,
-};
-
-const PULLS: PortRow = PortRow {
-    name: "inp",
-    kind: ChanKind::Pull,
-    passive: false,
-    array: false,
-};
-
-const PUSHES: PortRow = PortRow {
-    name: "out",
-    kind: ChanKind::Push,
-    passive: false,
-    array: false,
-};
-
-const CALLS_EACH: PortRow = PortRow {
-    name: "out",
-    kind: ChanKind::Sync,
-    passive: false,
-    array: true,
-};
-
-const PUSHES_EACH: PortRow = PortRow {
-    name: "out",
-    kind: ChanKind::Push,
-    passive: false,
-    array: true,
-};
-
-const WRITTEN: PortRow = PortRow {
-    name: "write",
-    kind: ChanKind::Push,
-    passive: true,
-    array: false,
-};
-
-const READ_EACH: PortRow = PortRow {
-    name: "read",
-    kind: ChanKind::Pull,
-    passive: true,
-    array: true,
-};
-
-const CALLED_EACH: PortRow = PortRow {
-    name: "inp",
-    kind: ChanKind::Sync,
-    passive: true,
-    array: true,
-};
-
-const PUSHED_EACH: PortRow = PortRow {
-    name: "inp",
-    kind: ChanKind::Push,
-    passive: true,
-    array: true,
-};
-
-const PULLED_EACH: PortRow = PortRow {
-    name: "inp",
-    kind: ChanKind::Pull,
-    passive: true,
-    array: true,
-};
-
-const REPLIED_EACH: PortRow = PortRow {
-    name: "out",
-    kind: ChanKind::Pull,
-    passive: true,
-    array: true,
-};
-
-const CALLS: PortRow = PortRow {
-    name: "out",
-    kind: ChanKind::Sync,
-    passive: false,
-    array: false,
-};
-
-const PULLS_OUT: PortRow = PortRow {
-    name: "out",
-    kind: ChanKind::Pull,
-    passive: false,
-    array: false,
-};
-
-const CALLED_A: PortRow = PortRow {
-    name: "inpA",
-    kind: ChanKind::Sync,
-    passive: true,
-    array: false,
-};
-
-const CALLED_B: PortRow = PortRow {
-    name: "inpB",
-    kind: ChanKind::Sync,
-    passive: true,
-    array: false,
-};
-
-const CALLS_A: PortRow = PortRow {
-    name: "outA",
-    kind: ChanKind::Sync,
-    passive: false,
-    array: false,
-};
-
-const CALLS_B: PortRow = PortRow {
-    name: "outB",
-    kind: ChanKind::Sync,
-    passive: false,
-    array: false,
-};
-
-const SIGNAL: PortRow = PortRow {
-    name: "signal",
-    kind: ChanKind::Sync,
-    passive: false,
-    array: false,
-};
-
-const GUARDED: PortRow = PortRow {
-    name: "guard",
-    kind: ChanKind::Pull,
-    passive: true,
-    array: false,
-};
-
-static LOOP: [PortRow; 2] = [ACTIVATE, ACTIVATE_OUT];
-
-static SEQUENCE: [PortRow; 2] = [ACTIVATE, CALLS_EACH];
-
-static FORK: [PortRow; 2] = [CALLED, CALLS_EACH];
-
-static FORK_PUSH: [PortRow; 2] = [PUSHED, PUSHES_EACH];
-
-static WHILE: [PortRow; 3] = [ACTIVATE, GUARD, ACTIVATE_OUT];
-
-static CONSTANT: [PortRow; 1] = [REPLIED];
-
-static FUNCTION: [PortRow; 2] = [REPLIED, PULLS];
-
-static TWO_INPUTS: [PortRow; 3] = [REPLIED, PULLS_A, PULLS_B];
-
-static COMBINE: [PortRow; 3] = [REPLIED, PULLS_LOW, PULLS_HIGH];
-
-static COMBINE_EQUAL: [PortRow; 2] = [REPLIED, PULLS_EACH];
-
-static SPLIT: [PortRow; 3] = [PUSHED, PUSHES_LOW, PUSHES_HIGH];
-
-static CASE: [PortRow; 2] = [PUSHED, CALLS_EACH];
-
-static CASE_FETCH: [PortRow; 3] = [REPLIED, INDEX, PULLS_EACH];
-
-static FETCH: [PortRow; 3] = [ACTIVATE, PULLS, PUSHES];
-
-static VARIABLE: [PortRow; 2] = [WRITTEN, READ_EACH];
-
-static CALLED_ALONE: [PortRow; 1] = [CALLED];
-
-static PUSHED_ALONE: [PortRow; 1] = [PUSHED];
-
-static CALL: [PortRow; 2] = [CALLED_EACH, CALLS];
-
-static CALL_MUX: [PortRow; 2] = [PUSHED_EACH, PUSHES];
-
-static CALL_DEMUX: [PortRow; 2] = [PULLED_EACH, PULLS_OUT];
-
-static PASSIVATOR: [PortRow; 1] = [CALLED_EACH];
-
-static PASSIVATOR_PUSH: [PortRow; 2] = [REPLIED_EACH, PUSHED];
-
-static SYNCH_PULL: [PortRow; 2] = [REPLIED_EACH, PULLS];
-
-static DECISION_WAIT: [PortRow; 3] = [ACTIVATE, CALLED_EACH, CALLS_EACH];
-
-static ARBITER: [PortRow; 4] = [CALLED_A, CALLED_B, CALLS_A, CALLS_B];
-
-static FALSE_VARIABLE: [PortRow; 3] = [WRITTEN, SIGNAL, READ_EACH];
-
-static BAR: [PortRow; 4] = [GUARDED, ACTIVATE, PULLS_EACH, CALLS_EACH];
+use crate::ports::PortRow;
+use crate::rows::{WidthRule, row_of};
+use bz_model::{Chan, ChanKind, Kind, LengthRule, MAX_MEMBERS, MAX_WIDTH, Spans, width};
 
 /// The ports of a kind, in their order.
+#[inline]
 pub fn port_table(kind: &Kind) -> &'static [PortRow]
     ensures { map seen result.now ≡ row_of kind.now }
 {
-    match kind {
-        Kind::Loop => &LOOP,
-        Kind::Sequence | Kind::SequenceOptimised | Kind::Concur => &SEQUENCE,
-        Kind::Fork => &FORK,
-        Kind::WireFork => &FORK,
-        Kind::ForkPush => &FORK_PUSH,
-        Kind::While => &WHILE,
-        Kind::Case(_) => &CASE,
-        Kind::CaseFetch(_) => &CASE_FETCH,
-        Kind::Fetch => &FETCH,
-        Kind::Variable => &VARIABLE,
-        Kind::Constant(_) => &CONSTANT,
-        Kind::UnaryFunc { .. } => &FUNCTION,
-        Kind::BinaryFunc { .. } => &TWO_INPUTS,
-        Kind::BinaryFuncConstR { .. } => &FUNCTION,
-        Kind::Slice(_) => &FUNCTION,
-        Kind::Combine => &COMBINE,
-        Kind::CombineEqual => &COMBINE_EQUAL,
-        Kind::Adapt { .. } => &FUNCTION,
-        Kind::Split => &SPLIT,
-        Kind::Halt | Kind::Continue => &CALLED_ALONE,
-        Kind::HaltPush | Kind::ContinuePush => &PUSHED_ALONE,
-        Kind::Call | Kind::Synch => &CALL,
-        Kind::CallMux => &CALL_MUX,
-        Kind::CallDemux => &CALL_DEMUX,
-        Kind::Passivator => &PASSIVATOR,
-        Kind::PassivatorPush => &PASSIVATOR_PUSH,
-        Kind::SynchPull => &SYNCH_PULL,
-        Kind::DecisionWait => &DECISION_WAIT,
-        Kind::Arbiter => &ARBITER,
-        Kind::FalseVariable => &FALSE_VARIABLE,
-        Kind::Bar => &BAR,
-    }
+    row_of(kind).ports
 }
 
 /// A port of a component: its row, and its place in its array, from 1, where its row is one.
@@ -353,6 +37,7 @@ pub fn port_at(kind: &Kind, sizes: [u32; 2], port: u32) -> Option<PortAt>
 }
 
 /// Whether a port is the passive end of its channel. `sizes` are the lengths of the kind's arrays, in the table's order.
+#[inline]
 pub fn is_passive(kind: &Kind, sizes: [u32; 2], port: u32) -> bool
     ensures { result ≡ is_passive kind.now sizes port }
 {
@@ -366,20 +51,13 @@ pub fn is_passive(kind: &Kind, sizes: [u32; 2], port: u32) -> bool
 pub fn sizes_fit(kind: &Kind, sizes: [u32; 2]) -> bool
     ensures { IsTrue result ↔ IsTrue (has_sizes kind.now sizes) }
 {
-    fits(port_table(kind), &sizes) && are_members(kind, sizes)
-}
-
-// Whether there are as many members as the kind asks.
-fn are_members(kind: &Kind, sizes: [u32; 2]) -> bool
-    ensures { result ≡ asks_sizes kind.now sizes }
-{
-    match kind {
-        Kind::Case(spans) => spans.has_sets(sizes[0]),
-        Kind::CaseFetch(spans) => spans.has_sets(sizes[0]),
-        Kind::DecisionWait => sizes[0] == sizes[1],
-        Kind::Bar => sizes[0] == sizes[1],
-        _ => true,
-    }
+    let row = row_of(kind);
+    fits(row.ports, &sizes)
+        && match (row.lengths, kind.spans()) {
+            (Some(LengthRule::Equal), _) => sizes[0] == sizes[1],
+            (Some(LengthRule::Sets), Some(spans)) => spans.has_sets(sizes[0]),
+            (Some(LengthRule::Sets), None) | (None, _) => true,
+        }
 }
 
 /// Whether channels, in the order of the ports, carry what the kind's ports do.
@@ -389,11 +67,11 @@ pub fn kinds_are(kind: &Kind, sizes: [u32; 2], chans: &[Chan]) -> bool
     carry(port_table(kind), &sizes, chans)
 }
 
-/// Whether channels, in the order of the ports, have widths that the kind allows.
-pub fn widths_fit(kind: &Kind, chans: &[Chan]) -> bool
-    ensures { IsTrue result ↔ IsTrue (has_widths kind.now chans.now) }
+/// Whether channels, in the order of the ports, have widths that the kind allows. `sizes` are the lengths of its arrays.
+pub fn widths_fit(kind: &Kind, sizes: [u32; 2], chans: &[Chan]) -> bool
+    ensures { IsTrue result ↔ IsTrue (has_widths kind.now sizes chans.now) }
 {
-    are_wide(chans) && are_asked(kind, chans)
+    are_wide(chans) && are_asked(kind, sizes, chans)
 }
 
 // Whether the widths are in the limits of what the channels carry.
@@ -413,55 +91,100 @@ fn least_width(kind: ChanKind) -> u32
 }
 
 // Whether the widths are as the kind asks.
-fn are_asked(kind: &Kind, chans: &[Chan]) -> bool
-    ensures { result ≡ asks_widths kind.now chans.now }
+fn are_asked(kind: &Kind, sizes: [u32; 2], chans: &[Chan]) -> bool
+    ensures { result ≡ asks_widths kind.now sizes chans.now }
 {
-    match kind {
-        Kind::ForkPush => have_one_width(chans),
-        Kind::While => width(chans, 1) == 1,
-        Kind::CaseFetch(_) => match chans {
-            [] => true,
-            [_] => true,
-            [out, _, inputs @ ..] => have_width(inputs, out.width),
-        },
-        Kind::Fetch => width(chans, 1) == width(chans, 2),
-        Kind::Variable => have_one_width(chans),
-        Kind::Slice(low) => is_within(*low, width(chans, 0), width(chans, 1)),
-        Kind::Combine => is_sum(width(chans, 0), width(chans, 1), width(chans, 2)),
-        Kind::CombineEqual => match chans {
-            [] => true,
-            [out, inputs @ ..] => {
-                have_one_width(inputs) && is_product(out.width, inputs.len(), width(inputs, 0))
-            }
-        },
-        Kind::Split => is_sum(width(chans, 0), width(chans, 1), width(chans, 2)),
-        Kind::CallMux => have_one_width(chans),
-        Kind::CallDemux => have_one_width(chans),
-        Kind::PassivatorPush => have_one_width(chans),
-        Kind::SynchPull => have_one_width(chans),
-        Kind::FalseVariable => match chans {
-            [] => true,
-            [_] => true,
-            [write, _, readers @ ..] => have_width(readers, write.width),
-        },
-        Kind::Bar => have_bits(chans),
-        _ => true,
+    let row = row_of(kind);
+    for rule in row.widths {
+        if !is_met(rule, kind, row.ports, &sizes, chans) {
+            return false;
+        }
+    }
+    true
+}
+
+// Whether widths are as a rule of a kind asks, which has these ports.
+fn is_met(rule: &WidthRule, kind: &Kind, rows: &[PortRow], sizes: &[u32], chans: &[Chan]) -> bool
+    ensures { result ≡ is_met (chans_at (map seen rows.now) sizes.now chans.now) (number_of kind.now) (seen_rule rule.now) }
+{
+    match rule {
+        WidthRule::Equal([]) => true,
+        WidthRule::Equal([first, rest @ ..]) => {
+            let members = chans_at(rows, sizes, chans, *first);
+            let asked = width(members, 0);
+            have_width(members, asked) && all_have(rows, sizes, chans, rest, asked)
+        }
+        WidthRule::One(places) => all_have(rows, sizes, chans, places, 1),
+        WidthRule::Sum(whole, places) => {
+            is_sum(
+                rows,
+                sizes,
+                chans,
+                places,
+                width_at(rows, sizes, chans, *whole),
+            )
+        }
+        WidthRule::Within(part, whole) => {
+            let end = width_at(rows, sizes, chans, *whole);
+            is_within(kind.number(), width_at(rows, sizes, chans, *part), end)
+        }
     }
 }
 
-// Whether each channel has one bit, where it carries values.
-fn have_bits(chans: &[Chan]) -> bool
-    ensures { result ≡ list_all (λ c. has_bit c.kind c.width) chans.now }
+// The width of the first channel at a place.
+fn width_at(rows: &[PortRow], sizes: &[u32], chans: &[Chan], place: usize) -> u32
+    ensures { result ≡ width (chans_at (map seen rows.now) sizes.now chans.now place) 1 }
 {
-    chans.iter().all(|chan| has_bit(chan.kind, chan.width))
+    width(chans_at(rows, sizes, chans, place), 0)
 }
 
-fn has_bit(kind: ChanKind, width: u32) -> bool
-    ensures { result ≡ has_bit kind width }
+// Whether each channel at these places has this width.
+fn all_have(rows: &[PortRow], sizes: &[u32], chans: &[Chan], places: &[usize], width: u32) -> bool
+    ensures { result ≡ list_all (λ p. have_width (chans_at (map seen rows.now) sizes.now chans.now p) width) places.now }
 {
-    match kind {
-        ChanKind::Sync => true,
-        ChanKind::Push | ChanKind::Pull => width == 1,
+    places.iter().all(|place| have_width(chans_at(rows, sizes, chans, *place), width))
+}
+
+// Whether this is the width of all channels at these places together.
+fn is_sum(rows: &[PortRow], sizes: &[u32], chans: &[Chan], places: &[usize], whole: u32) -> bool
+    ensures { result ≡ (whole == whole_width (chans_at (map seen rows.now) sizes.now chans.now) places.now) }
+{
+    let [place, rest @ ..] = places else {
+        return whole == 0;
+    };
+    match left_of(whole, chans_at(rows, sizes, chans, *place)) {
+        Some(left) => is_sum(rows, sizes, chans, rest, left),
+        None => false,
+    }
+}
+
+// What is left of a width once those of channels are taken from it.
+fn left_of(whole: u32, chans: &[Chan]) -> Option<u32>
+    ensures { result ≡ left_of whole (widths chans.now) }
+{
+    let mut left = whole;
+    for chan in chans {
+        match left.checked_sub(chan.width) {
+            Some(less) => left = less,
+            None => return None,
+        }
+    }
+    Some(left)
+}
+
+// The channels of the port or the array at a place.
+fn chans_at<'c>(rows: &[PortRow], sizes: &[u32], chans: &'c [Chan], place: usize) -> &'c [Chan]
+    ensures { result.now ≡ chans_at (map seen rows.now) sizes.now chans.now place }
+{
+    let [row, rest @ ..] = rows else {
+        return &[];
+    };
+    let (count, others) = ports_here(row, sizes);
+    let (here, behind) = chans.split_at(chans.len().min(count as usize));
+    if place == 0 {
+        here
+    } else {
+        chans_at(rest, others, behind, place - 1)
     }
 }
 
@@ -471,21 +194,6 @@ fn is_within(low: u128, width: u32, whole: u32) -> bool
 {
     match low.checked_add(u128::from(width)) {
         Some(end) => end <= u128::from(whole),
-        None => false,
-    }
-}
-
-fn is_sum(sum: u32, low: u32, high: u32) -> bool
-    ensures { result ≡ (sum == low + high) }
-{
-    u64::from(sum) == u64::from(low) + u64::from(high)
-}
-
-fn is_product(product: u32, count: usize, width: u32) -> bool
-    ensures { result ≡ (product == count * width) }
-{
-    match count.checked_mul(width as usize) {
-        Some(bits) => product as usize == bits,
         None => false,
     }
 }
@@ -571,14 +279,8 @@ fn all_carry(chans: &[Chan], kind: ChanKind) -> bool
     chans.iter().all(|chan| chan.kind == kind)
 }
 
-fn have_one_width(chans: &[Chan]) -> bool
-    ensures { result ≡ are_equal (map (λ c. c.width) chans.now) }
-{
-    have_width(chans, width(chans, 0))
-}
-
 fn have_width(chans: &[Chan], width: u32) -> bool
-    ensures { result ≡ list_all (λ c. c.width == width) chans.now }
+    ensures { result ≡ have_width chans.now width }
 {
     chans.iter().all(|chan| chan.width == width)
 }

@@ -5,16 +5,19 @@ use Rattle.bz_model.specs.declared.channel.Phase.{Phase}
 use Rattle.bz_model.specs.declared.channel.Phase.TheVariants.{Idle}
 use Rattle.bz_model.specs.declared.event.Entry.{Entry}
 use Rattle.bz_model.specs.declared.kind.Kind.{Kind}
-use Rattle.bz_model.specs.declared.kind.Kind.TheVariants.{Call, CallMux, CallDemux}
+use Rattle.bz_model.specs.declared.kind_rules.Callers.{Callers}
+use Rattle.bz_model.specs.declared.kind_rules.Callers.TheVariants.{Meet}
+use Rattle.bz_model.specs.Rows.{callers_of}
 use Rattle.bz_model.specs.Nets.{Site, Wiring, State, IsPort, chan_at, passive_at, site_at, opening}
 use Rattle.bz_model.specs.Runs.{Follows}
 
 -- the kinds at which requests may meet
+abbrev pub may_meet : Callers → Bool
+may_meet Meet = true
+may_meet callers = false
+
 abbrev pub is_mixer : Kind → Bool
-is_mixer Call = true
-is_mixer CallMux = true
-is_mixer CallDemux = true
-is_mixer kind = false
+is_mixer kind = may_meet (callers_of kind)
 
 -- the phase of channel k
 abbrev pub phase_of : List Phase → ℕ → Phase

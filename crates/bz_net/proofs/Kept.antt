@@ -1,5 +1,5 @@
 -- What a net keeps is kept by each event.
-use Rattle.std.proofs.Common.{◌≡◌, ℕ, ◌<◌, Option, List, [], ◌∷◌, ◌++◌, length, replicate, true, refl, subst, ◌∙◌, arith, length-append}
+use Rattle.std.proofs.Common.{◌≡◌, ◌↔◌, ℕ, ◌<◌, ◌≤◌, Contains, Option, List, [], ◌∷◌, ◌++◌, length, replicate, true, refl, subst, sym, ◌∙◌, arith, length-append}
 use Rattle.bz_model.specs.declared.channel.Move.{Move}
 use Rattle.bz_model.specs.declared.event.Entry.{Entry}
 use Rattle.bz_model.specs.declared.event.Entry.TheVariants.{Fired, Host, Rested}
@@ -10,15 +10,17 @@ use Rattle.bz_model.specs.Nets.{Wiring, State, Step, StepsAt, opening}
 use Rattle.bz_model.specs.Hosts.{HostStep}
 use Rattle.bz_model.specs.declared.event.NetError.{NetError}
 use Rattle.bz_model.specs.declared.event.NetError.TheVariants.{UnknownPort, WrongSide, ValueMissing, ValueUnwanted, TooLarge, NotEnabled, JournalFull, Memory}
+use Rattle.bz_model.specs.Clashes.{ClashesIn}
 use Rattle.bz_model.specs.Runs.{CanStep, Rest}
 use Rattle.bz_net.specs.Simulation.{Simulation}
 use Rattle.bz_net.specs.Replies.{RefusesEntry, RefusesFire, RefusesLowest}
 use Rattle.bz_flat.specs.Wires.{WellWired}
 use Rattle.bz_net.specs.Keeping.{Keeps}
+use Rattle.bz_net.specs.Progress.{IsToldBy, PlaysWell, Progress}
 use Rattle.bz_net.specs.Noted.{Notes, AskedBefore, NotedAt, NotedMove}
 use Rattle.bz_net.proofs.Clashing.{clashed_fired, clashed_commanded, clashed_rested, clashed_opening, noted_listed, noted_most, watches_opening}
 use Rattle.bz_net.proofs.Asking.{watches_after}
-use Rattle.bz_net.specs.Unbroken.{IsUnbroken}
+use Rattle.bz_net.specs.Unbroken.{IsUnbroken, UnbrokenRun}
 use Rattle.bz_net.proofs.Opening.{unbroken_opening}
 use Rattle.bz_net.proofs.Soundness.{Run-push, UnbrokenRun-last, UnbrokenRun-push}
 
@@ -98,3 +100,20 @@ refuses_lowest net c WrongSide can r = absurd r
 refuses_lowest net c ValueMissing can r = absurd r
 refuses_lowest net c ValueUnwanted can r = absurd r
 refuses_lowest net c TooLarge can r = absurd r
+
+-- what was played without a journal, and is listed from here on
+pub keeps_played : (play : Progress) (w : Wiring) (s : State) (journal : List Entry) (limit : ℕ) (notes listed : Notes) → w ≡ play.wiring → s ≡ play.state → notes.numbers ≡ play.clashed → listed ≡ record notes { listed = true; current = true } → PlaysWell play.wiring play.state notes
+    → IsToldBy play journal → UnbrokenRun play.wiring (opening play.wiring) journal play.state → length journal ≤ limit → Keeps w s journal limit listed
+keeps_played play w s journal limit notes listed same stands numbers is keeps told unbroken within =
+    subst (λ (v : Wiring). Keeps v s journal limit listed) (sym same)
+    (subst (λ (t : State). Keeps play.wiring t journal limit listed) (sym stands)
+    (subst (λ (n : Notes). Keeps play.wiring play.state journal limit n) (sym is) (record {
+      wired = keeps.wired;
+      run = told.run;
+      unbroken = unbroken;
+      within = within;
+      most = keeps.most;
+      listed = refl;
+      watches = record { held = keeps.watches.held; sole = keeps.watches.sole };
+      clashed = λ c. subst (λ (ns : List ℕ). Contains ns c ↔ ClashesIn play.wiring (opening play.wiring) journal c) (sym numbers) (told.clashed c);
+    })))

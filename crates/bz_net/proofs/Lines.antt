@@ -27,7 +27,8 @@ use Rattle.bz_model.specs.Runs.{Follows, Run}
 use Rattle.bz_model.specs.Widths.{Carries, FitsChan, Holds}
 use Rattle.bz_model.specs.Entries.{HasLine, HasWho, IsCarried, IsGiven, IsPhase, IsReply, IsValue, carries_at}
 use Rattle.bz_model.proofs.Fitting.{small-here}
-use Rattle.bz_model.proofs.Starts.{both-true, widest}
+use Rattle.bz_model.proofs.Ruled.{both-true}
+use Rattle.bz_model.proofs.Starts.{widest}
 use Rattle.bz_flat.specs.Wires.{WellWired}
 use Rattle.bz_net.proofs.Fitting.{Fits, carries_step, command_fits, fits_follows, fits_in, fits_opening, own_at, own_chans}
 
@@ -137,7 +138,7 @@ step_narrow : (w : Wiring) (s : State) (c p k : ℕ) (mv : Move) (value : Option
 step_narrow w s c p k mv value next wired step =
     let port = step.steps_at.is_port in
     let meets = wired.rows c port.comp_from port.comp_to in
-    let wide = (both-true (list_all is_wide (own_chans w c)) (asks_widths (site_at w.sites c).kind (own_chans w c)) meets.widths_fit).0 in
+    let wide = (both-true (list_all is_wide (own_chans w c)) (asks_widths (site_at w.sites c).kind (site_at w.sites c).sizes (own_chans w c)) meets.widths_fit).0 in
     subst (λ n. n ≤ MAX_WIDTH) (own_at w c p k port step.chan_is).1 (widest (own_chans w c) p wide)
 
 pub has_line : (w : Wiring) (s : State) (e : Entry) (next : State) → WellWired w → Fits w s → Follows w s e next → HasWho e → HasLine (outside w) e

@@ -249,6 +249,22 @@ impl Core {
         }))
     }
 
+    /// A copy of the flat net.
+    pub fn flat(&self, alloc: Global) -> Result<Flat, AllocError>
+        ensures { IfOk result (λ flat. flat.wiring ≡ self.now.wiring) }
+    {
+        let ports = dup_ports(alloc, self.names.ports())?;
+        let chans = chans_of(alloc, &self.names, self.chan_count())?;
+        let comps = dup_comps(alloc, &self.sites)?;
+        let ends = Vec::from_slice(alloc, &self.ends)?;
+        Ok(Flat::of(Pieces {
+            chans,
+            comps,
+            ports,
+            ends,
+        }))
+    }
+
     /// How many components there are.
     pub fn comp_count(&self) -> u32
         ensures { result ≡ length self.now.wiring.sites }

@@ -19,7 +19,8 @@ use crate::node_row::NodeRow;
 use crate::noted::Noted;
 use bz_arena::{Arena, Id};
 use bz_flat::{Ends, FlatComp};
-use bz_model::{Kind, Move, Names, NetError, Phase, Reply, Value, Verb};
+use bz_kind_rows::row_of;
+use bz_model::{Callers, Kind, Move, Names, NetError, Phase, Reply, Value, Verb};
 
 /// The channel at a component's port.
 pub(crate) fn chan_of(sites: &Arena<FlatComp>, comp: u32, port: u32) -> Option<u32>
@@ -121,11 +122,12 @@ pub(crate) fn next_of(phase: Phase) -> Option<Move>
     }
 }
 
-/// Whether a kind is one at which requests may meet.
+// Whether a kind is one at which requests may meet.
+#[inline(always)]
 fn is_mixer(kind: &Kind) -> bool
     ensures { result ≡ is_mixer kind.now }
 {
-    matches!(kind, Kind::Call | Kind::CallMux | Kind::CallDemux)
+    matches!(row_of(kind).callers, Callers::Meet)
 }
 
 /// Whether there is a component at which requests may meet.

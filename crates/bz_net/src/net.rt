@@ -10,6 +10,7 @@ ghost use Rattle.bz_model.specs.Runs.{CanStep, Rest, IsNext, Run};
 ghost use Rattle.bz_flat.specs.Wires.{WellWired};
 ghost use Rattle.bz_net.specs.Simulation.{Adds, IsOpened};
 ghost use Rattle.bz_net.specs.Due.{Foresees, TellsDue};
+ghost use Rattle.bz_net.specs.Progress.{IsToldBy};
 ghost use Rattle.bz_net.specs.Ends.{TellsEnds, TellsPort, IsSolePort, IsOn};
 ghost use Rattle.bz_net.specs.Sides.{answers};
 ghost use Rattle.bz_net.specs.Replies.{Admits, RefusesAt, RefusesEntry, RefusesFire, IsFiring, IsSoleStep, IsLowestFiring, RefusesLowest, IsPicked, Replies, RefusesCommand};
@@ -23,6 +24,7 @@ use crate::core_net::Core;
 use crate::event::{Answer, Event, RestReply, RunEnd};
 use crate::moves::{refusal_of, reply_to};
 use crate::noted::Noted;
+use crate::play::Play;
 use bz_flat::Flat;
 use bz_model::{Entry, HostCmd, Move, Names, NetError, Phase, Reply, Value, Verb, Who};
 use std::alloc::{AllocError, Global};
@@ -91,6 +93,26 @@ impl Net {
             journal: Vec::new(alloc),
             limit: limit as usize,
         })
+    }
+
+    /// A net that was played without a journal, with that of its run, and room for `limit` entries in all.
+    pub fn of(play: Play, journal: Vec<Entry>, limit: u32) -> Net
+        requires told { IsToldBy play journal.items }
+        requires unbroken { UnbrokenRun play.wiring (opening play.wiring) journal.items play.state }
+        requires within { length journal.items ≤ limit }
+        ensures net { (result.wiring ≡ play.wiring) × (result.state ≡ play.state) }
+        ensures journal { result.journal ≡ journal.items }
+        ensures limit { result.limit ≡ limit }
+    {
+        let (core, noted) = play.into_parts();
+        let noted = noted.into_listed();
+        let limit = limit as usize;
+        Net {
+            core,
+            noted,
+            journal,
+            limit,
+        }
     }
 
     /// The net in its state.

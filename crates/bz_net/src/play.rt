@@ -11,7 +11,7 @@ ghost use Rattle.bz_model.specs.Runs.{Rest};
 ghost use Rattle.bz_flat.specs.Wires.{WellWired};
 ghost use Rattle.bz_net.specs.Due.{GivesAsSteps, HasStep, LeadsOnlyTo};
 ghost use Rattle.bz_net.specs.Foretelling.{IsForetold};
-ghost use Rattle.bz_net.specs.Progress.{Enters, EntersRest, FiresAt, IsOneOf, IsToldBy, LeadsOn, RefusesAt, with_journal};
+ghost use Rattle.bz_net.specs.Progress.{Enters, EntersRest, FiresAt, IsOneOf, IsToldBy, LeadsOn, PlaysWell, RefusesAt, with_journal};
 ghost use Rattle.bz_net.specs.Replies.{IsPicked, RefusesCommand, RefusesEntry, Replies};
 ghost use Rattle.bz_net.specs.Told.{MayMove};
 
@@ -135,6 +135,20 @@ impl Play {
         core.into_flat(alloc)
     }
 
+    /// The net in its state, and the components at which requests met.
+    pub(crate) fn into_parts(self) -> (Core, Noted)
+        ensures core { (result.0.wiring ≡ self.wiring) × (result.0.state ≡ self.state) }
+        ensures noted { result.1.numbers ≡ self.clashed }
+        ensures keeps { PlaysWell self.wiring self.state result.1 }
+    {
+        let Play {
+            core,
+            noted,
+            left: _,
+        } = self;
+        (core, noted)
+    }
+
     /// The external ports and the channels of the net.
     pub fn names(&self) -> &Names
         ensures value { result.now ≡ outside self.now.wiring }
@@ -161,6 +175,7 @@ impl Play {
     }
 
     /// Makes one host command, whose entry it answers.
+    #[tactic(auto, using(crate::proofs::Hosts::refuses))]
     pub fn command(&mut self, who: Who, cmd: &HostCmd) -> Result<Entry, NetError>
         ensures replies { IfOk result (λ entry. (reply : Reply) × ((journal : List Entry) →
             Replies (with_journal self.old journal) (with_journal self.new (journal ++ entry ∷ []))

@@ -8,8 +8,8 @@ function unescaped(text) {
   return text.replace(/%([0-9A-F]{2})/g, (all, digits) => String.fromCharCode(parseInt(digits, 16)));
 }
 
-// The kinds at which no two requests may meet.
-const CALLS = new Set(['Call', 'CallMux', 'CallDemux']);
+// Letters that are bytes, as a text of UTF-8.
+const utf8 = letters => new TextDecoder().decode(Uint8Array.from(letters, letter => letter.charCodeAt(0)));
 
 const IDLE = 0, ASKED = 1, TAKEN = 2, REPLIED = 3;
 const PHASES = ['idle', 'asked', 'taken', 'replied'];
@@ -18,10 +18,10 @@ const PHASES = ['idle', 'asked', 'taken', 'replied'];
 // there, the stuck ones at the end, and the members of a ring with their lines.
 const nothingStuck = () => ({line: 0, first: 0, members: new Set(), ring: new Map()});
 
-// The rows of ports of each kind, the details of components, what is stuck, who waits for whom at the end, and sources: `source
-// FILE`, and then a row `text LINE` for each of its lines.
+// What each kind is, the details of components, what is stuck, who waits for whom at the end, and sources: `source FILE`, and
+// then a row `text LINE` for each of its lines.
 function readRows(text) {
-  const found = {ports: new Map(), details: new Map(), stuck: nothingStuck(), end: [], sources: new Map()};
+  const found = {kinds: new Map(), details: new Map(), stuck: nothingStuck(), end: [], sources: new Map()};
   let source = [];
   for (const line of text.split('\n')) {
     if (line.startsWith('text ')) {
@@ -30,7 +30,7 @@ function readRows(text) {
     }
     const words = line.split(' ');
     if (words[0] === 'source') found.sources.set(words[1], source = []);
-    if (words[0] === 'row') found.ports.set(words[1], words.slice(2).map(readPort));
+    if (words[0] === 'row') found.kinds.set(words[1], readKind(line));
     if (words[0] === 'detail') found.details.set(Number(words[1]), words.slice(2).join(' '));
     if (words[0] === 'stuck') {
       const [line, first, ...members] = words.slice(1).map(Number);
@@ -40,6 +40,16 @@ function readRows(text) {
     if (words[0] === 'end') found.end.push(line.slice(4));
   }
   return found;
+}
+
+// A row of a kind: its ports, what is so of it, and behind `s:` the sign by which handshake circuits are drawn. Others meet, or
+// values lie, at a kind with an array of passive ports and none of active ones. (On a damaged page a kind may have no row.)
+function readKind(line) {
+  const [front, sign = ''] = line.split(' s:'), words = front.split(' ').slice(2), isPort = word => word[1] === ':';
+  const ports = words.filter(isPort).map(readPort), marks = new Set(words);
+  const hasArray = isPassive => ports.some(port => port.isArray && port.isPassive === isPassive);
+  return {ports, sign: utf8(sign), isVariable: marks.has('variable'), isOrdered: marks.has('ordered'), isHub: marks.has('hub'),
+    isCall: marks.has('meet'), isMeeting: hasArray(true) && !hasArray(false)};
 }
 
 // A port of a row: `p:` or `a:` for passive or active, its name, and `*` for an array of ports.
@@ -77,10 +87,11 @@ function readChannel(words, ports) {
 // A component of the list, with the channels at its ports, counted from 1, and the names of its ports.
 function readComponent(words, rows) {
   const at = words.indexOf('at', 3), number = Number(words[1]), kind = words[2], place = readPlace(words, at);
-  const channels = [0, ...words.slice(3, at).map(Number)], detail = rows.details.get(number) || place.name;
-  const component = {number, kind, channels, detail, isShown: true, stubs: null, ...place};
-  namePorts(component, rows.ports.get(kind) || []);
-  tellSets(component);
+  const channels = [0, ...words.slice(3, at).map(Number)], told = rows.details.get(number) || '', detail = told || place.name;
+  const {ports, ...marks} = rows.kinds.get(kind) || readKind('');
+  const component = {number, kind, ...marks, channels, detail, isShown: true, stubs: null, ...place};
+  namePorts(component, ports);
+  tellSets(component, told.split(';'));
   component.title = `${number} ${kind}` + (component.detail ? ` ${component.detail}` : '');
   return component;
 }
@@ -97,10 +108,9 @@ function namePorts(component, row) {
   component.ports.forEach((port, p) => { if (port) (port.isPassive ? component.passive : component.active).push(p); });
 }
 
-// At the array of a Case each port has the set of values by which it is chosen.
-function tellSets(component) {
-  if (component.kind !== 'Case' && component.kind !== 'CaseFetch') return;
-  const sets = component.detail.split(';'), array = component.ports.filter(port => port && /\d$/.test(port.name));
+// Where parameters tell as many sets as an array has ports, each port has the set of values by which it is chosen.
+function tellSets(component, sets) {
+  const array = component.ports.filter(port => port && /\d$/.test(port.name));
   if (sets.length === array.length) array.forEach((port, i) => { port.set = sets[i]; });
 }
 
@@ -313,7 +323,7 @@ function auditMove(trace, net, line, seen, found) {
   seen.change[number] = line;
   found.moves++;
   const callee = channel.passive && channel.passive !== 'host' ? channel.passive.component : 0;
-  if (callee && CALLS.has(net.components[callee].kind) && (what === ASK || what === GOT)) {
+  if (callee && net.components[callee].isCall && (what === ASK || what === GOT)) {
     const open = (seen.open.get(callee) || 0) + (what === ASK ? 1 : -1);
     seen.open.set(callee, open);
     if (open === 2 && !found.met.has(callee)) found.met.set(callee, line);

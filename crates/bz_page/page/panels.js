@@ -132,7 +132,7 @@ function componentDetails(number) {
   const component = net.components[number], more = component.channels.length - 1 - MOST_PORTS;
   const shown = [html('div', 'title', component.title), html('div', 'under', placeOf(component))];
   if (isStill(net, trace, number, view.line)) shown.push(html('div', 'under stuck', 'never moves again'));
-  if (isVariable(component)) shown.push(html('div', 'under', `holds ${heldBy(trace, component, view.line)}`));
+  if (component.isVariable) shown.push(html('div', 'under', `holds ${heldBy(trace, component, view.line)}`));
   const ports = html('div', 'ports');
   for (let p = 1; p < component.channels.length && p <= MOST_PORTS; p++) ports.append(portRow(component, p));
   shown.push(ports);
@@ -396,7 +396,7 @@ function chartHeads({last, column, places, y}) {
 
 // What a head tells of a component beside its number.
 function headOf(component) {
-  const isTelling = isVariable(component) || component.kind.startsWith('Binary');
+  const isTelling = component.isVariable || isOperation(component.detail.split(' ')[0]);
   return isTelling && component.detail ? component.detail : component.kind;
 }
 

@@ -272,7 +272,7 @@ function stubName(end, isAnswering) {
   const component = net.components[end.component], box = boxOf(component);
   if (box) return `▸${box}`;
   if (!isAnswering) return String(component.number);
-  return isVariable(component) && component.detail ? signOf(component) : signOf(component) + component.number;
+  return component.isVariable && component.detail ? signOf(component) : signOf(component) + component.number;
 }
 
 // A component, a port of the host, or a copy that is folded.
@@ -298,7 +298,7 @@ function drawComponent({component, x, y, width, height, isCut, inPorts, outPorts
   return group;
 }
 
-// The set of values by which a port of a Case is chosen.
+// The set of values by which a port is chosen.
 const setOf = (text, {x, y}, dx, style) => svg('text', {class: `set ${style}`, x: x + dx, y: y - 4}, cut(text, 9));
 
 function drawPort({port, x, y, width, height}) {
@@ -409,13 +409,13 @@ function markComponent(number) {
   const {line} = view, component = net.components[number];
   const phases = component.passive.map(p => phaseAfter(trace, lastChange(trace, component.channels[p], line)));
   const open = phases.filter(phase => phase !== IDLE).length;
-  const isClash = CALLS.has(component.kind) && open > 1 || trace.what[line] === CLASH && trace.component[line] === number;
+  const isClash = component.isCall && open > 1 || trace.what[line] === CLASH && trace.component[line] === number;
   const isSelected = view.selected === `c${number}`;
   const stuck = isStill(net, trace, number, line);
   const styles = {stuck, 'in-ring': stuck && net.stuck.ring.has(number), busy: phases.includes(TAKEN),
     moved: moverAt(line) === number, selected: isSelected, clash: isClash};
   mark.group.setAttribute('class', ['component', ...Object.keys(styles).filter(style => styles[style])].join(' '));
-  if (isVariable(component)) mark.caption.textContent = `${number} ${component.kind} = ${cut(heldBy(trace, component, line), 9)}`;
+  if (component.isVariable) mark.caption.textContent = `${number} ${component.kind} = ${cut(heldBy(trace, component, line), 9)}`;
 }
 
 // A folded copy is ringed where something in it moved, and red where something in it is in the ring.

@@ -21,20 +21,17 @@ function linesOfSource(file) {
   return alike.length === 1 && filesOfNet().filter(isAlike).length === 1 ? sources.get(alike[0]) : null;
 }
 
-// Kinds at which others meet, and where values lie: their place in the source is a declaration. Where control is, those tell that
-// came there.
-const MEETINGS = new Set(['Passivator', 'PassivatorPush', 'Synch', 'SynchPull', 'SynchPush', 'Variable', 'FalseVariable',
-  ...CALLS]);
 const phaseNow = number => phaseAfter(trace, lastChange(trace, number, view.line));
 const isBusyNow = component => component.passive.some(p => phaseNow(component.channels[p]) === TAKEN);
 
-// Whether control is at a component: it holds a request, and has asked nobody who holds one.
+// Whether control is at a component: it holds a request, and has asked nobody who holds one. Where others meet, and where values
+// lie, the place in the source is a declaration: there those tell where control is that came.
 function isControlAt(component) {
-  if (MEETINGS.has(component.kind) || !isBusyNow(component)) return false;
+  if (component.isMeeting || !isBusyNow(component)) return false;
   return component.active.every(p => {
     const {number, passive} = net.channels[component.channels[p]];
     const callee = passive && passive !== 'host' && net.components[passive.component];
-    return !callee || MEETINGS.has(callee.kind) || phaseNow(number) === IDLE || !isBusyNow(callee);
+    return !callee || callee.isMeeting || phaseNow(number) === IDLE || !isBusyNow(callee);
   });
 }
 
@@ -81,9 +78,6 @@ function sourceLines(room) {
   for (let line = 1; !now && control.length === 0 && line <= room; line++) put(first, line);
   return [...shown.values()].sort((a, b) => (a.file < b.file ? -1 : a.file > b.file ? 1 : a.line - b.line));
 }
-
-// Letters that are bytes, as a text of UTF-8.
-const utf8 = letters => new TextDecoder().decode(Uint8Array.from(letters, letter => letter.charCodeAt(0)));
 
 function sourceRow({line, text, told, columns, isNow}) {
   const row = html('div', `row${told ? told.isRing ? ' stuck' : ' active' : ''}${isNow ? ' now' : ''}`), held = html('span');

@@ -10,7 +10,7 @@ const lastStreamed = () => (streams.to ? Math.min(streams.to, trace.count) : tra
 // The rows that there is room for: the ports of the host, what was pinned, and the variables.
 function streamRows(room) {
   const ports = net.ports.filter(port => port).map(port => `k${port.number}`), {pinned} = streams;
-  const variables = all.components.filter(isVariable).map(component => `c${component.number}`);
+  const variables = all.components.filter(component => component.isVariable).map(component => `c${component.number}`);
   const others = ports.filter(row => !pinned.includes(row)).slice(0, Math.max(1, room - pinned.length));
   return [...new Set([...others, ...pinned, ...variables])].slice(0, room);
 }
@@ -19,7 +19,7 @@ function streamName(row) {
   const number = numberOf(row);
   if (row[0] === 'k') return net.channels[number].port || channelName(net.channels[number]).replace('channel ', '');
   const component = net.components[number];
-  return isVariable(component) && component.detail ? component.detail.split(' ')[0] : component.title;
+  return component.isVariable && component.detail ? component.detail.split(' ')[0] : component.title;
 }
 
 // The lines at which a row changes, rising: of a channel its moves, of a component its moves, and of a variable those by which it
@@ -29,7 +29,7 @@ function streamLines(row) {
   const at = (lines, key) => ({countTo: line => countTo(lines, key, line), nth: i => nthOf(lines, key, i)});
   if (row[0] === 'k') return at(trace.changesOf, number);
   const component = net.components[number];
-  if (!isVariable(component)) return at(trace.linesOfComponent, number);
+  if (!component.isVariable) return at(trace.linesOfComponent, number);
   const moves = at(trace.changesOf, component.channels[1]);
   return {countTo: line => (moves.countTo(line) + 2) >> 2, nth: i => (i < 0 ? 0 : moves.nth(4 * i + 1))};
 }
@@ -43,7 +43,7 @@ function streamState(row, line) {
     return {style: PHASES[phase], text: isTaken ? valueIn(trace, line) : valueAfter(trace, line)};
   }
   const component = net.components[number];
-  if (isVariable(component)) return {style: 'held', text: line ? valueIn(trace, line) : '0'};
+  if (component.isVariable) return {style: 'held', text: line ? valueIn(trace, line) : '0'};
   const isBusy = component.passive.some(p => phaseAfter(trace, lastChange(trace, component.channels[p], line)) === TAKEN);
   return {style: isBusy ? 'taken' : 'idle', text: ''};
 }

@@ -2,36 +2,28 @@
 
 const cut = (text, most) => (text.length > most ? text.slice(0, most - 1) + '…' : text);
 const counted = (count, one, many = `${one}s`) => `${count} ${count === 1 ? one : many}`;
-const isVariable = component => component.kind === 'Variable' || component.kind === 'FalseVariable';
 
-// The sign in a component's circle, as handshake circuits are drawn.
-const SIGNS = {
-  Loop: '#', Sequence: ';', SequenceOptimised: ';', Concur: '‖', Fork: '⋔', WireFork: '⋔', ForkPush: '⋔', While: 'do', Bar: '[]',
-  Case: '@', CaseFetch: '@', Fetch: '→', Constant: 'k', Slice: '[ ]', Combine: '⟨⟩', CombineEqual: '⟨⟩', Split: '⟩⟨', Adapt: 'ad',
-  Variable: 'x', FalseVariable: 'fx', Call: '|', CallMux: '|', CallDemux: '|', Arbiter: 'arb', DecisionWait: 'DW',
-  Passivator: '•', PassivatorPush: '•', Synch: '•', SynchPull: '•', Halt: 'stop', HaltPush: 'stop',
-  Continue: 'run', ContinuePush: 'run', UnaryFunc: 'op', BinaryFunc: 'op', BinaryFuncConstR: 'op',
-};
+// The signs of operations.
 const OPERATIONS = {
   Add: '+', Subtract: '−', ReverseSubtract: '−r', Negate: '−', Equals: '=', NotEquals: '≠', LessThan: '<', GreaterThan: '>',
   LessOrEquals: '≤', GreaterOrEquals: '≥', And: '∧', Or: '∨', Xor: '⊕', Invert: '¬',
 };
+const isOperation = word => Object.hasOwn(OPERATIONS, word);
 
 // A name that fits in a circle: `x` of `x[0..7]`, since a compiler's names end so.
 const shortName = name => cut(name.length > 5 ? name.replace(/(.)\[.*$/, '$1') : name, 5);
 
-// A variable has its name in the circle, a constant its value, and an operation its sign, with its constant if it has one.
-function signOf(component) {
-  const [first, second] = component.detail.split(' ');
-  if (isVariable(component) && first) return shortName(first);
-  if (component.kind === 'Constant' && first) return cut(first, 5);
-  const operation = Object.hasOwn(OPERATIONS, first) ? OPERATIONS[first] : '';
-  if (operation) return operation + (component.kind === 'BinaryFuncConstR' && second ? cut(second, 4) : '');
-  return Object.hasOwn(SIGNS, component.kind) ? SIGNS[component.kind] : component.kind.slice(0, 4);
+// What stands in a circle: of a variable its name, of a constant, which asks nobody, its value, of an operation its sign, with
+// its constant if it has one, and else the sign of the kind.
+function signOf({isVariable, active, detail, sign, kind}) {
+  const [first, second] = detail.split(' ');
+  if (first && (isVariable || active.length === 0)) return shortName(first);
+  if (isOperation(first)) return OPERATIONS[first] + (second ? cut(second, 4) : '');
+  return sign || kind.slice(0, 4);
 }
 
 // The names by which components and channels are told. A variable goes by its name too, and so does a channel that has one.
-const componentName = it => `${it.kind} ${it.number}` + (isVariable(it) && it.detail ? ` ${it.detail.split(' ')[0]}` : '');
+const componentName = it => `${it.kind} ${it.number}` + (it.isVariable && it.detail ? ` ${it.detail.split(' ')[0]}` : '');
 const channelName = it => `channel ${it.number}` + (it.name ? ` ${it.name}` : '');
 
 // An end of a channel.

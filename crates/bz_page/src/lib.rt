@@ -12,7 +12,7 @@ mod sources;
 mod template;
 
 pub use around::Template;
-pub use command::{page_cmd, page_trace_cmd};
+pub use command::page;
 pub use ends::put_stuck_row;
 pub use escaping::put_escaped;
 pub use fault::TooLarge;

@@ -1,22 +1,23 @@
-//! What a page is told beside the list and the trace: the ports of each kind in the net, and what parameters say.
+//! What a page is told beside the list and the trace: what each kind in the net is, and what parameters say.
 //!
 //! The rows go by the table of kinds and not by components, so that the page has no table of its own; a kind that the net
 //! hasn't is left out.
 
-ghost use Rattle.std.specs.Prelude.{◌≡◌, ◌≤◌, drop, length, map, IfOk, IfSome};
+ghost use Rattle.std.specs.Prelude.{◌≡◌, ◌≤◌, length, map, IfOk, IfSome};
 ghost use Rattle.std.specs.List.{flat_map};
 ghost use Rattle.bz_text.specs.Growing.{Grows};
+ghost use Rattle.bz_model.specs.Clashes.{may_meet};
 ghost use Rattle.bz_flat.specs.Flats.{site_of};
-ghost use Rattle.bz_kind_rows.specs.Table.{seen};
+ghost use Rattle.bz_kind_rows.specs.Table.{seen, seen_row};
 ghost use Rattle.bz_source.specs.Details.{detail_text};
 ghost use Rattle.bz_source.specs.Views.{detail_of};
 ghost use Rattle.bz_cli_input.specs.Listing.{lines};
-ghost use Rattle.bz_page.specs.Rows.{array_mark, detail_line, kind_line, kind_lines, line_of, port_word, rows_text, sense_mark, told_detail};
+ghost use Rattle.bz_page.specs.Rows.{detail_line, has_kind, kind_line, kind_lines, mark, port_word, rows_text, sense_mark, told_detail};
 
 use bz_arena::{Arena, Id};
 use bz_flat::{FlatComp, Pieces};
-use bz_kind_rows::{PortRow, kind_names, kind_word, port_table};
-use bz_model::{Kind, Value};
+use bz_kind_rows::{KindRow, PortRow, kind_rows, kind_word};
+use bz_model::{Callers, Value};
 use bz_source::{Detail, Survey, put_detail};
 use bz_text::{Piece, Text, WriteFault};
 use std::alloc::{AllocError, Global};
@@ -37,38 +38,40 @@ pub(crate) fn rows_of(alloc: Global, net: &Pieces, survey: &Survey, ends: &[u8])
 fn put_kinds(rows: &mut Text, comps: &Arena<FlatComp>)
     ensures { Grows rows.old rows.new (kind_lines (map site_of comps.now)) }
 {
-    for row in kind_names() {
-        put_line_of(rows, comps, short_name(row.0.as_bytes()));
-    }
-}
-
-// The name of a kind without `$Brz`.
-fn short_name(name: &[u8]) -> &[u8]
-    ensures { result.now ≡ drop 4 name.now }
-{
-    name.get(4..).unwrap_or(&[])
-}
-
-// Adds the line of the kind of this word, if a component is of it.
-fn put_line_of(rows: &mut Text, comps: &Arena<FlatComp>, word: &[u8])
-    ensures { Grows rows.old rows.new (line_of (map site_of comps.now) word.now) }
-{
-    for i in 0..comps.len() {
-        let comp = comps.get(Id::at(i));
-        if word == kind_word(&comp.kind) {
-            put_kind(rows, &comp.kind);
-            return;
+    for row in kind_rows() {
+        if has_kind(comps, row.word()) {
+            put_kind(rows, row);
         }
     }
 }
 
-// Adds the line of a kind.
-fn put_kind(rows: &mut Text, kind: &Kind)
-    ensures { Grows rows.old rows.new (kind_line kind.now) }
+// Whether a component is of the kind of this word.
+fn has_kind(comps: &Arena<FlatComp>, word: &[u8]) -> bool
+    ensures { result ≡ has_kind (map site_of comps.now) word.now }
 {
-    rows.put_pieces(&[Piece::Bytes(b"row "), Piece::Bytes(kind_word(kind))]);
-    put_ports(rows, port_table(kind));
-    rows.put_bytes(b"\n");
+    for i in 0..comps.len() {
+        if word == kind_word(&comps.get(Id::at(i)).kind) {
+            return true;
+        }
+    }
+    false
+}
+
+// Adds the line of a kind.
+fn put_kind(rows: &mut Text, row: &KindRow)
+    ensures { Grows rows.old rows.new (kind_line (seen_row row.now)) }
+{
+    rows.put_pieces(&[Piece::Bytes(b"row "), Piece::Bytes(row.word())]);
+    put_ports(rows, row.ports);
+    rows.put_pieces(&[
+        Piece::Bytes(mark(row.is_variable, b" variable")),
+        Piece::Bytes(mark(row.has_ordered_ports, b" ordered")),
+        Piece::Bytes(mark(row.is_hub, b" hub")),
+        Piece::Bytes(mark(may_meet(row), b" meet")),
+        Piece::Bytes(b" s:"),
+        Piece::Bytes(row.sign.as_bytes()),
+        Piece::Bytes(b"\n"),
+    ]);
 }
 
 fn put_ports(rows: &mut Text, ports: &[PortRow])
@@ -85,7 +88,7 @@ fn put_port(rows: &mut Text, port: &PortRow)
     rows.put_pieces(&[
         Piece::Bytes(sense_mark(port.passive)),
         Piece::Bytes(port.name.as_bytes()),
-        Piece::Bytes(array_mark(port.array)),
+        Piece::Bytes(mark(port.array, b"*")),
     ]);
 }
 
@@ -95,10 +98,18 @@ fn sense_mark(is_passive: bool) -> &'static [u8]
     if is_passive { b" p:" } else { b" a:" }
 }
 
-fn array_mark(is_array: bool) -> &'static [u8]
-    ensures { result.now ≡ array_mark is_array }
+// What is written where something is so.
+fn mark(is_so: bool, text: &'static [u8]) -> &'static [u8]
+    ensures { result.now ≡ mark is_so text.now }
 {
-    if is_array { b"*" } else { b"" }
+    if is_so { text } else { b"" }
+}
+
+// Whether requests may meet at components of a kind.
+fn may_meet(row: &KindRow) -> bool
+    ensures { result ≡ may_meet row.now.callers }
+{
+    matches!(row.callers, Callers::Meet)
 }
 
 // Adds a line for each component of which the parameters say more than its kind and its name.

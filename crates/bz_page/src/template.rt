@@ -6,7 +6,7 @@ pub(crate) const HEAD: &str = r##"<!doctype html>
 <head>
 <meta charset="utf-8">
 <meta name="viewport" content="width=device-width">
-<meta http-equiv="Content-Security-Policy" content="default-src 'none'; style-src 'unsafe-inline'; script-src 'sha256-1MUM38urrcxn0YtoY6VNC/94IjH1dHZJshV7YAhQrEs='">
+<meta http-equiv="Content-Security-Policy" content="default-src 'none'; style-src 'unsafe-inline'; script-src 'sha256-I4N+ubMFmnT1S2cqq6wXTmZZB+Pi8PXkoGs0rjorh+w='">
 <title>breezesim</title>
 <style>
 /* Colours: light, and dark where the reader's system or the reader says so. Phases are told by dashes and marks too. */
@@ -421,7 +421,7 @@ function unescaped(text) {
   return text.replace(/%([0-9A-F]{2})/g, (all, digits) => String.fromCharCode(parseInt(digits, 16)));
 }
 
-const CALLS = new Set(['Call', 'CallMux', 'CallDemux']);
+const utf8 = letters => new TextDecoder().decode(Uint8Array.from(letters, letter => letter.charCodeAt(0)));
 
 const IDLE = 0, ASKED = 1, TAKEN = 2, REPLIED = 3;
 const PHASES = ['idle', 'asked', 'taken', 'replied'];
@@ -429,7 +429,7 @@ const PHASES = ['idle', 'asked', 'taken', 'replied'];
 const nothingStuck = () => ({line: 0, first: 0, members: new Set(), ring: new Map()});
 
 function readRows(text) {
-  const found = {ports: new Map(), details: new Map(), stuck: nothingStuck(), end: [], sources: new Map()};
+  const found = {kinds: new Map(), details: new Map(), stuck: nothingStuck(), end: [], sources: new Map()};
   let source = [];
   for (const line of text.split('\n')) {
     if (line.startsWith('text ')) {
@@ -438,7 +438,7 @@ function readRows(text) {
     }
     const words = line.split(' ');
     if (words[0] === 'source') found.sources.set(words[1], source = []);
-    if (words[0] === 'row') found.ports.set(words[1], words.slice(2).map(readPort));
+    if (words[0] === 'row') found.kinds.set(words[1], readKind(line));
     if (words[0] === 'detail') found.details.set(Number(words[1]), words.slice(2).join(' '));
     if (words[0] === 'stuck') {
       const [line, first, ...members] = words.slice(1).map(Number);
@@ -448,6 +448,14 @@ function readRows(text) {
     if (words[0] === 'end') found.end.push(line.slice(4));
   }
   return found;
+}
+
+function readKind(line) {
+  const [front, sign = ''] = line.split(' s:'), words = front.split(' ').slice(2), isPort = word => word[1] === ':';
+  const ports = words.filter(isPort).map(readPort), marks = new Set(words);
+  const hasArray = isPassive => ports.some(port => port.isArray && port.isPassive === isPassive);
+  return {ports, sign: utf8(sign), isVariable: marks.has('variable'), isOrdered: marks.has('ordered'), isHub: marks.has('hub'),
+    isCall: marks.has('meet'), isMeeting: hasArray(true) && !hasArray(false)};
 }
 
 function readPort(word) {
@@ -479,10 +487,11 @@ function readChannel(words, ports) {
 
 function readComponent(words, rows) {
   const at = words.indexOf('at', 3), number = Number(words[1]), kind = words[2], place = readPlace(words, at);
-  const channels = [0, ...words.slice(3, at).map(Number)], detail = rows.details.get(number) || place.name;
-  const component = {number, kind, channels, detail, isShown: true, stubs: null, ...place};
-  namePorts(component, rows.ports.get(kind) || []);
-  tellSets(component);
+  const channels = [0, ...words.slice(3, at).map(Number)], told = rows.details.get(number) || '', detail = told || place.name;
+  const {ports, ...marks} = rows.kinds.get(kind) || readKind('');
+  const component = {number, kind, ...marks, channels, detail, isShown: true, stubs: null, ...place};
+  namePorts(component, ports);
+  tellSets(component, told.split(';'));
   component.title = `${number} ${kind}` + (component.detail ? ` ${component.detail}` : '');
   return component;
 }
@@ -498,9 +507,8 @@ function namePorts(component, row) {
   component.ports.forEach((port, p) => { if (port) (port.isPassive ? component.passive : component.active).push(p); });
 }
 
-function tellSets(component) {
-  if (component.kind !== 'Case' && component.kind !== 'CaseFetch') return;
-  const sets = component.detail.split(';'), array = component.ports.filter(port => port && /\d$/.test(port.name));
+function tellSets(component, sets) {
+  const array = component.ports.filter(port => port && /\d$/.test(port.name));
   if (sets.length === array.length) array.forEach((port, i) => { port.set = sets[i]; });
 }
 
@@ -691,7 +699,7 @@ function auditMove(trace, net, line, seen, found) {
   seen.change[number] = line;
   found.moves++;
   const callee = channel.passive && channel.passive !== 'host' ? channel.passive.component : 0;
-  if (callee && CALLS.has(net.components[callee].kind) && (what === ASK || what === GOT)) {
+  if (callee && net.components[callee].isCall && (what === ASK || what === GOT)) {
     const open = (seen.open.get(callee) || 0) + (what === ASK ? 1 : -1);
     seen.open.set(callee, open);
     if (open === 2 && !found.met.has(callee)) found.met.set(callee, line);
@@ -779,10 +787,6 @@ function putGroup(net, {path, source, kind}) {
   net.instances.set(path, {path, name: source || kind});
   net.isGrouped = true;
 }
-
-const ORDERED = new Set(['Sequence', 'SequenceOptimised', 'Case', 'CaseFetch', 'While', 'BinaryFunc', 'Combine', 'CombineEqual',
-  'Split', 'DecisionWait', 'Bar']);
-const HUBS = new Set(['Variable', 'FalseVariable', 'Call', 'CallMux', 'CallDemux']);
 
 const RADIUS = 21, PORT_STEP = 14, CAPTION = 15, STUB_SPACE = 34, LETTER = 5.4;
 const COLUMN_GAP = 46, NODE_GAP = 22, THREAD_GAP = 12, BOX_STUBS = 12, BOX_CALLERS = 4;
@@ -991,7 +995,7 @@ class LevelLayout {
   }
 
   standHubsApart() {
-    const isHub = node => node.component && HUBS.has(node.component.kind);
+    const isHub = node => node.component && node.component.isHub;
     const isApart = node => node.component.stubs && node.in.length === 0 && node.out.every(edge => isHub(edge.to));
     const hubs = this.nodes.filter(node => isHub(node) && isApart(node));
     if (this.last <= 2 || hubs.length === 0) return;
@@ -1081,7 +1085,7 @@ class LevelLayout {
     for (const node of this.nodes) if (node.component) {
       const goOut = node.right.filter(thread => thread.tailAt === node);
       const comeIn = node.left.filter(thread => thread.headAt === node);
-      if (!ORDERED.has(node.component.kind)) turnSide(node, goOut, node.outPorts, 'b', 'tailPort', 'ay');
+      if (!node.component.isOrdered) turnSide(node, goOut, node.outPorts, 'b', 'tailPort', 'ay');
       turnSide(node, comeIn, node.inPorts, 'a', 'headPort', 'by');
     }
   }
@@ -1339,11 +1343,11 @@ function markStubs(net, isWanted) {
   for (const component of net.shownComponents) component.stubs = null;
   for (const channel of net.shownChannels) channel.isStub = false;
   if (!isWanted) return;
-  for (const component of net.shownComponents) if (component.passive.length > 4 && HUBS.has(component.kind))
+  for (const component of net.shownComponents) if (component.passive.length > 4 && component.isHub)
     for (const port of component.passive) {
       const channel = net.channels[component.channels[port]];
       const {active} = channel, asker = active && active !== 'host' ? net.components[active.component] : null;
-      if (channel.isShown && asker && !CALLS.has(asker.kind)) makeStub(net, channel);
+      if (channel.isShown && asker && !asker.isCall) makeStub(net, channel);
     }
 }
 
@@ -1482,32 +1486,23 @@ function onWalk(walk, way) {
 
 const cut = (text, most) => (text.length > most ? text.slice(0, most - 1) + '…' : text);
 const counted = (count, one, many = `${one}s`) => `${count} ${count === 1 ? one : many}`;
-const isVariable = component => component.kind === 'Variable' || component.kind === 'FalseVariable';
 
-const SIGNS = {
-  Loop: '#', Sequence: ';', SequenceOptimised: ';', Concur: '‖', Fork: '⋔', WireFork: '⋔', ForkPush: '⋔', While: 'do', Bar: '[]',
-  Case: '@', CaseFetch: '@', Fetch: '→', Constant: 'k', Slice: '[ ]', Combine: '⟨⟩', CombineEqual: '⟨⟩', Split: '⟩⟨', Adapt: 'ad',
-  Variable: 'x', FalseVariable: 'fx', Call: '|', CallMux: '|', CallDemux: '|', Arbiter: 'arb', DecisionWait: 'DW',
-  Passivator: '•', PassivatorPush: '•', Synch: '•', SynchPull: '•', Halt: 'stop', HaltPush: 'stop',
-  Continue: 'run', ContinuePush: 'run', UnaryFunc: 'op', BinaryFunc: 'op', BinaryFuncConstR: 'op',
-};
 const OPERATIONS = {
   Add: '+', Subtract: '−', ReverseSubtract: '−r', Negate: '−', Equals: '=', NotEquals: '≠', LessThan: '<', GreaterThan: '>',
   LessOrEquals: '≤', GreaterOrEquals: '≥', And: '∧', Or: '∨', Xor: '⊕', Invert: '¬',
 };
+const isOperation = word => Object.hasOwn(OPERATIONS, word);
 
 const shortName = name => cut(name.length > 5 ? name.replace(/(.)\[.*$/, '$1') : name, 5);
 
-function signOf(component) {
-  const [first, second] = component.detail.split(' ');
-  if (isVariable(component) && first) return shortName(first);
-  if (component.kind === 'Constant' && first) return cut(first, 5);
-  const operation = Object.hasOwn(OPERATIONS, first) ? OPERATIONS[first] : '';
-  if (operation) return operation + (component.kind === 'BinaryFuncConstR' && second ? cut(second, 4) : '');
-  return Object.hasOwn(SIGNS, component.kind) ? SIGNS[component.kind] : component.kind.slice(0, 4);
+function signOf({isVariable, active, detail, sign, kind}) {
+  const [first, second] = detail.split(' ');
+  if (first && (isVariable || active.length === 0)) return shortName(first);
+  if (isOperation(first)) return OPERATIONS[first] + (second ? cut(second, 4) : '');
+  return sign || kind.slice(0, 4);
 }
 
-const componentName = it => `${it.kind} ${it.number}` + (isVariable(it) && it.detail ? ` ${it.detail.split(' ')[0]}` : '');
+const componentName = it => `${it.kind} ${it.number}` + (it.isVariable && it.detail ? ` ${it.detail.split(' ')[0]}` : '');
 const channelName = it => `channel ${it.number}` + (it.name ? ` ${it.name}` : '');
 
 function endName(channel, end) {
@@ -1801,7 +1796,7 @@ function stubName(end, isAnswering) {
   const component = net.components[end.component], box = boxOf(component);
   if (box) return `▸${box}`;
   if (!isAnswering) return String(component.number);
-  return isVariable(component) && component.detail ? signOf(component) : signOf(component) + component.number;
+  return component.isVariable && component.detail ? signOf(component) : signOf(component) + component.number;
 }
 
 function nodeOf(node) {
@@ -1926,13 +1921,13 @@ function markComponent(number) {
   const {line} = view, component = net.components[number];
   const phases = component.passive.map(p => phaseAfter(trace, lastChange(trace, component.channels[p], line)));
   const open = phases.filter(phase => phase !== IDLE).length;
-  const isClash = CALLS.has(component.kind) && open > 1 || trace.what[line] === CLASH && trace.component[line] === number;
+  const isClash = component.isCall && open > 1 || trace.what[line] === CLASH && trace.component[line] === number;
   const isSelected = view.selected === `c${number}`;
   const stuck = isStill(net, trace, number, line);
   const styles = {stuck, 'in-ring': stuck && net.stuck.ring.has(number), busy: phases.includes(TAKEN),
     moved: moverAt(line) === number, selected: isSelected, clash: isClash};
   mark.group.setAttribute('class', ['component', ...Object.keys(styles).filter(style => styles[style])].join(' '));
-  if (isVariable(component)) mark.caption.textContent = `${number} ${component.kind} = ${cut(heldBy(trace, component, line), 9)}`;
+  if (component.isVariable) mark.caption.textContent = `${number} ${component.kind} = ${cut(heldBy(trace, component, line), 9)}`;
 }
 
 function markBoxes() {
@@ -2186,7 +2181,7 @@ function componentDetails(number) {
   const component = net.components[number], more = component.channels.length - 1 - MOST_PORTS;
   const shown = [html('div', 'title', component.title), html('div', 'under', placeOf(component))];
   if (isStill(net, trace, number, view.line)) shown.push(html('div', 'under stuck', 'never moves again'));
-  if (isVariable(component)) shown.push(html('div', 'under', `holds ${heldBy(trace, component, view.line)}`));
+  if (component.isVariable) shown.push(html('div', 'under', `holds ${heldBy(trace, component, view.line)}`));
   const ports = html('div', 'ports');
   for (let p = 1; p < component.channels.length && p <= MOST_PORTS; p++) ports.append(portRow(component, p));
   shown.push(ports);
@@ -2431,7 +2426,7 @@ function chartHeads({last, column, places, y}) {
 }
 
 function headOf(component) {
-  const isTelling = isVariable(component) || component.kind.startsWith('Binary');
+  const isTelling = component.isVariable || isOperation(component.detail.split(' ')[0]);
   return isTelling && component.detail ? component.detail : component.kind;
 }
 
@@ -2494,7 +2489,7 @@ const lastStreamed = () => (streams.to ? Math.min(streams.to, trace.count) : tra
 
 function streamRows(room) {
   const ports = net.ports.filter(port => port).map(port => `k${port.number}`), {pinned} = streams;
-  const variables = all.components.filter(isVariable).map(component => `c${component.number}`);
+  const variables = all.components.filter(component => component.isVariable).map(component => `c${component.number}`);
   const others = ports.filter(row => !pinned.includes(row)).slice(0, Math.max(1, room - pinned.length));
   return [...new Set([...others, ...pinned, ...variables])].slice(0, room);
 }
@@ -2503,7 +2498,7 @@ function streamName(row) {
   const number = numberOf(row);
   if (row[0] === 'k') return net.channels[number].port || channelName(net.channels[number]).replace('channel ', '');
   const component = net.components[number];
-  return isVariable(component) && component.detail ? component.detail.split(' ')[0] : component.title;
+  return component.isVariable && component.detail ? component.detail.split(' ')[0] : component.title;
 }
 
 function streamLines(row) {
@@ -2511,7 +2506,7 @@ function streamLines(row) {
   const at = (lines, key) => ({countTo: line => countTo(lines, key, line), nth: i => nthOf(lines, key, i)});
   if (row[0] === 'k') return at(trace.changesOf, number);
   const component = net.components[number];
-  if (!isVariable(component)) return at(trace.linesOfComponent, number);
+  if (!component.isVariable) return at(trace.linesOfComponent, number);
   const moves = at(trace.changesOf, component.channels[1]);
   return {countTo: line => (moves.countTo(line) + 2) >> 2, nth: i => (i < 0 ? 0 : moves.nth(4 * i + 1))};
 }
@@ -2523,7 +2518,7 @@ function streamState(row, line) {
     return {style: PHASES[phase], text: isTaken ? valueIn(trace, line) : valueAfter(trace, line)};
   }
   const component = net.components[number];
-  if (isVariable(component)) return {style: 'held', text: line ? valueIn(trace, line) : '0'};
+  if (component.isVariable) return {style: 'held', text: line ? valueIn(trace, line) : '0'};
   const isBusy = component.passive.some(p => phaseAfter(trace, lastChange(trace, component.channels[p], line)) === TAKEN);
   return {style: isBusy ? 'taken' : 'idle', text: ''};
 }
@@ -2690,17 +2685,15 @@ function linesOfSource(file) {
   return alike.length === 1 && filesOfNet().filter(isAlike).length === 1 ? sources.get(alike[0]) : null;
 }
 
-const MEETINGS = new Set(['Passivator', 'PassivatorPush', 'Synch', 'SynchPull', 'SynchPush', 'Variable', 'FalseVariable',
-  ...CALLS]);
 const phaseNow = number => phaseAfter(trace, lastChange(trace, number, view.line));
 const isBusyNow = component => component.passive.some(p => phaseNow(component.channels[p]) === TAKEN);
 
 function isControlAt(component) {
-  if (MEETINGS.has(component.kind) || !isBusyNow(component)) return false;
+  if (component.isMeeting || !isBusyNow(component)) return false;
   return component.active.every(p => {
     const {number, passive} = net.channels[component.channels[p]];
     const callee = passive && passive !== 'host' && net.components[passive.component];
-    return !callee || MEETINGS.has(callee.kind) || phaseNow(number) === IDLE || !isBusyNow(callee);
+    return !callee || callee.isMeeting || phaseNow(number) === IDLE || !isBusyNow(callee);
   });
 }
 
@@ -2743,8 +2736,6 @@ function sourceLines(room) {
   for (let line = 1; !now && control.length === 0 && line <= room; line++) put(first, line);
   return [...shown.values()].sort((a, b) => (a.file < b.file ? -1 : a.file > b.file ? 1 : a.line - b.line));
 }
-
-const utf8 = letters => new TextDecoder().decode(Uint8Array.from(letters, letter => letter.charCodeAt(0)));
 
 function sourceRow({line, text, told, columns, isNow}) {
   const row = html('div', `row${told ? told.isRing ? ' stuck' : ' active' : ''}${isNow ? ' now' : ''}`), held = html('span');

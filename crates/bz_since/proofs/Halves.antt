@@ -74,7 +74,7 @@ told_take (suc n) (x ∷ xs) (y ∷ ys) e =
     let both = cons_same e in
     ap₂ (λ u us. u ∷ us) both.0 (told_take n xs ys both.1)
 
-take_whole : {X : Type 0} (xs : List X) → take (length xs) xs ≡ xs
+pub take_whole : {X : Type 0} (xs : List X) → take (length xs) xs ≡ xs
 take_whole [] = refl
 take_whole (x ∷ xs) = ap (λ ys. x ∷ ys) (take_whole xs)
 

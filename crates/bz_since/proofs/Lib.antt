@@ -1,3 +1,5 @@
 pub mod Playing
 pub mod Halves
 pub mod OfRuns
+pub mod Kept
+pub mod Gathers

@@ -4,19 +4,19 @@ use Rattle.std.specs.Option.{option_map, option_and_then}
 use Rattle.bz_model.specs.Names.{numbered}
 use Rattle.bz_model.specs.Traces.{name_form}
 use Rattle.bz_model.specs.declared.kind.Kind.{Kind}
-use Rattle.bz_model.specs.declared.kind.Kind.TheVariants.{Constant, Slice, UnaryFunc, BinaryFunc, BinaryFuncConstR, Case, CaseFetch}
 use Rattle.bz_breeze_records.specs.declared.part.Part.{Part}
 use Rattle.bz_breeze_records.specs.declared.part.Component.{Component}
 use Rattle.bz_breeze_records.specs.declared.part.Slot.{Slot}
 use Rattle.bz_breeze_records.specs.declared.part.Slot.TheVariants.{One, Many}
 use Rattle.bz_kind_rows.specs.Naming.{named, text}
-use Rattle.bz_kind_rows.specs.declared.naming.KindName.{KindName}
-use Rattle.bz_kind_rows.specs.declared.naming.KindName.TheVariants as name
+use Rattle.bz_model.specs.declared.kind.KindName.{KindName}
+use Rattle.bz_model.specs.declared.kind_rules.DetailRule.{DetailRule}
+use Rattle.bz_model.specs.declared.kind_rules.DetailRule.TheVariants as rule
+use Rattle.bz_model.specs.Rows.{rows, kind_name, number_of, operand_width}
 
 abbrev pub is_variable_name : Option KindName → Bool
-is_variable_name (Some name.Variable) = true
-is_variable_name (Some name.FalseVariable) = true
-is_variable_name other = false
+is_variable_name (Some name) = (rows name).is_variable
+is_variable_name None = false
 
 abbrev pub is_variable : List ℕ → Bool
 is_variable name = is_variable_name (named name)
@@ -50,15 +50,15 @@ abbrev pub first_width : Part → Component → ℕ
 first_width part c = slot_width part (first_slot c.entries.items)
 
 -- an operation, a specification, the second operand in its width, the value of a constant in the width of its channel
+abbrev pub detail_by : DetailRule → Part → Component → Kind → Option Detail
+detail_by rule.Nothing part c kind = None
+detail_by rule.Text part c kind = option_map word (text c.params.items 0)
+detail_by rule.Applied part c kind = option_map (λ w. applied w (number_of kind % 2 ^ operand_width kind)) (text c.params.items 0)
+detail_by rule.Constant part c kind = Some (number (number_of kind % 2 ^ first_width part c))
+detail_by rule.Low part c kind = Some (from_bit (number_of kind))
+
 abbrev pub comp_detail : Part → Component → Kind → Option Detail
-comp_detail part c (Constant value) = Some (number (value % 2 ^ first_width part c))
-comp_detail part c (Slice low) = Some (from_bit low)
-comp_detail part c (BinaryFuncConstR op left right width value) = option_map (λ w. applied w (value % 2 ^ width)) (text c.params.items 0)
-comp_detail part c (UnaryFunc op signed) = option_map word (text c.params.items 0)
-comp_detail part c (BinaryFunc op left right) = option_map word (text c.params.items 0)
-comp_detail part c (Case spans) = option_map word (text c.params.items 0)
-comp_detail part c (CaseFetch spans) = option_map word (text c.params.items 0)
-comp_detail part c other = None
+comp_detail part c kind = detail_by (rows (kind_name kind)).detail part c kind
 
 abbrev pub detail_text : Detail → List ℕ
 detail_text (word w) = name_form w

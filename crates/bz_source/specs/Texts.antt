@@ -3,7 +3,7 @@ use Rattle.std.specs.Prelude.{ℕ, List, ◌++◌, codes, decimal}
 use Rattle.std.specs.List.{flat_map}
 use Rattle.bz_model.specs.Nets.{Site}
 use Rattle.bz_model.specs.Words.{spaced}
-use Rattle.bz_kind_rows.specs.KindWords.{kind_word}
+use Rattle.bz_model.specs.Rows.{kind_word}
 use Rattle.bz_text.specs.Pieces.{place_text}
 
 -- where a record stands: the name of its part, its position there, its line, and its path from the top

@@ -9,8 +9,8 @@ ghost use Rattle.bz_source.specs.Details.{comp_detail, detail_text, first_width,
 ghost use Rattle.bz_source.specs.Views.{detail_of};
 
 use bz_breeze_records::{Component, Part, Slot};
-use bz_kind_rows::{KindName, kind_named};
-use bz_model::{Kind, Param, Value, low_bits, numbered};
+use bz_kind_rows::{kind_named, row_named, row_of};
+use bz_model::{DetailRule, Kind, Param, Value, low_bits, numbered};
 use bz_text::{Piece, WriteFault, put_pieces};
 use std::io::Write;
 
@@ -57,10 +57,10 @@ pub(crate) fn variable_name(component: &Component) -> Option<&[u8]>
 fn is_variable(name: &[u8]) -> bool
     ensures { result ≡ is_variable name.now }
 {
-    matches!(
-        kind_named(name),
-        Some(KindName::Variable | KindName::FalseVariable)
-    )
+    match kind_named(name) {
+        Some(kind) => row_named(kind).is_variable,
+        None => false,
+    }
 }
 
 /// The detail of a component of a part, as its record has it and its kind goes by it.
@@ -71,27 +71,24 @@ pub(crate) fn comp_detail<'r>(
 ) -> Option<Detail<'r>>
     ensures { option_map detail_of result ≡ comp_detail part.now component.now kind.now }
 {
-    match kind {
-        Kind::Constant(value) => {
-            let width = first_width(part, component);
-            Some(Detail::Number(low_bits(*value, width)))
-        }
-        Kind::Slice(low) => Some(Detail::FromBit(*low)),
-        Kind::BinaryFuncConstR {
-            right_width,
-            right,
-            ..
-        } => match first_text(&component.params) {
-            Some(word) => Some(Detail::Applied(word, low_bits(*right, *right_width))),
+    match row_of(kind).detail {
+        DetailRule::Nothing => None,
+        DetailRule::Text => match first_text(&component.params) {
+            Some(word) => Some(Detail::Word(word)),
             None => None,
         },
-        Kind::UnaryFunc { .. } | Kind::BinaryFunc { .. } | Kind::Case(_) | Kind::CaseFetch(_) => {
-            match first_text(&component.params) {
-                Some(word) => Some(Detail::Word(word)),
-                None => None,
+        DetailRule::Applied => match first_text(&component.params) {
+            Some(word) => {
+                let operand = low_bits(kind.number(), kind.operand_width());
+                Some(Detail::Applied(word, operand))
             }
+            None => None,
+        },
+        DetailRule::Constant => {
+            let width = first_width(part, component);
+            Some(Detail::Number(low_bits(kind.number(), width)))
         }
-        _ => None,
+        DetailRule::Low => Some(Detail::FromBit(kind.number())),
     }
 }
 

@@ -2,3 +2,4 @@ pub mod Sent
 pub mod NameLaws
 pub mod Said
 pub mod JsonLaws
+pub mod Grown

@@ -254,6 +254,10 @@ follows_start names w past net text named wired behind room = record {
   stands = (subst (Along w net) (sym (append-nil past)) behind.along, omega (arith, room));
 }
 
+pub start_entries : (names : Outside) (w : Wiring) (past : List Entry) (net : Progress) (text : List ℕ) (named : names ≡ outside w) (wired : WellWired w) (behind : IsBehind w net past) (room : MAX_ENTRIES ≤ net.left) → (follows_start names w past net text named wired behind room).entries ≡ []
+unfolding follows_start
+start_entries names w past net text named wired behind room = refl
+
 stands_wired : (w : Wiring) (past : List Entry) (net : Progress) (entries : List Entry) (stop : Option ℕ) → Stands w past net entries stop → net.wiring ≡ w
 stands_wired w past net entries None (along, room) = along.wiring
 stands_wired w past net entries (Some line) (stops, along) = along.wiring
@@ -338,6 +342,12 @@ follows_more names w past old new text rest after far more later line f at fewer
       stands = stands_more w past old new f.entries line (far.count + 2) far.stop later f.wired f.before f.each stands.has_line (omega (arith, is)) f.stands plays;
     }
 
+-- the entries are those before with the one of the line
+pub more_entries : (names : Outside) (w : Wiring) (past : List Entry) (old new : Progress) (text rest after : List ℕ) (far : Followed) (more : Counts) (later : Option ℕ) (line : Entry) (f : FollowsText names w past old text rest far) (at : line_at names rest ≡ Some (line, after)) (fewer : far.count ≢ MAX_ENTRIES)
+    (plays : PlaysOn old new line (far.count + 2) far.stop later) (adds : (entries : List Entry) → Tells far.counts entries → Tells more (entries ++ line ∷ [])) → (follows_more names w past old new text rest after far more later line f at fewer plays adds).entries ≡ f.entries ++ line ∷ []
+unfolding follows_more
+more_entries names w past old new text rest after far more later line f at fewer plays adds = refl
+
 -- what is read behind the rest stands behind the text
 pub follows_longer : (names : Outside) (w : Wiring) (past : List Entry) (net : Progress) (text rest : List ℕ) (far : Followed) (more : List ℕ) → FollowsText names w past net text rest far → FollowsText names w past net (text ++ more) (rest ++ more) far
 follows_longer names w past net text rest far more f = record {
@@ -353,6 +363,10 @@ follows_longer names w past net text rest far more f = record {
   count_is = f.count_is;
   stands = f.stands;
 }
+
+pub longer_entries : (names : Outside) (w : Wiring) (past : List Entry) (net : Progress) (text rest : List ℕ) (far : Followed) (more : List ℕ) (f : FollowsText names w past net text rest far) → (follows_longer names w past net text rest far more f).entries ≡ f.entries
+unfolding follows_longer
+longer_entries names w past net text rest far more f = refl
 
 pub judges : (w : Wiring) (text : List ℕ) (net : Progress) (counts : Counts) (v : Verdict) → Concludes w text net counts v → Judges w text v
 judges w text net counts verdict.Run by = by.0

@@ -4,7 +4,7 @@ ghost use Rattle.std.specs.Prelude.{◌≡◌, ◌<◌, List, ℕ, IfNone, IfSom
 ghost use Rattle.bz_model.specs.declared.event.Entry.{Entry};
 ghost use Rattle.bz_model.specs.Nets.{Wiring};
 ghost use Rattle.bz_trace.specs.Following.{FollowsFront, FollowsText, GetsOn, IsFollowed};
-ghost use Rattle.bz_trace.specs.Watching.{ShowsFront, ShowsLines};
+ghost use Rattle.bz_trace.specs.Watching.{Shows, ShowsFront};
 
 use crate::following::follow_told;
 use crate::lines::{Followed, count_line};
@@ -63,7 +63,9 @@ pub(crate) fn play_asked<'t, S: Watch>(
     ensures follows { (w : Wiring) (past : List Entry) (before : List ℕ) → FollowsText names.now w past net.old before text.now followed.old
         → FollowsText names.now w past net.new before result.now followed.new }
     ensures gets_on { GetsOn followed.old followed.new text.now result.now }
-    ensures shows { ShowsLines S.sees names.now watch.old text.now result.now watch.new }
+    ensures shows { (w : Wiring) (past : List Entry) (before : List ℕ)
+        → Shows S.behind names.now w past net.old before text.now followed.old watch.old
+        → Shows S.behind names.now w past net.new before result.now followed.new watch.new }
 {
     if guess.wait > 0 {
         guess.wait -= 1;
@@ -90,7 +92,9 @@ fn play_foretold<'t, S: Watch>(
     ensures follows { (w : Wiring) (past : List Entry) (before : List ℕ) → FollowsText names.now w past net.old before text.now from
         → FollowsText names.now w past net.new before result.1.now result.0 }
     ensures gets_on { GetsOn from result.0 text.now result.1.now }
-    ensures shows { ShowsLines S.sees names.now watch.old text.now result.1.now watch.new }
+    ensures shows { (w : Wiring) (past : List Entry) (before : List ℕ)
+        → Shows S.behind names.now w past net.old before text.now from watch.old
+        → Shows S.behind names.now w past net.new before result.1.now result.0 watch.new }
 {
     let mut rest = text;
     let mut followed = from;
@@ -119,7 +123,7 @@ fn follow_foretold<'t, S: Watch>(
     ensures some { IfSome result (λ after. FollowsFront names.now net.old net.new text.now after.now followed.old followed.new) }
     ensures none { IfNone result ((net.new ≡ net.old) × (followed.new ≡ followed.old)) }
     ensures shows { MatchOption result (watch.new ≡ watch.old)
-        (λ after. ShowsFront S.sees names.now watch.old text.now after.now watch.new) }
+        (λ after. ShowsFront S.behind names.now net.new watch.old text.now after.now watch.new) }
 {
     if followed.stop.is_some() {
         return None;
@@ -138,6 +142,6 @@ fn follow_foretold<'t, S: Watch>(
         mv: told.mv,
         value,
     };
-    count_line(followed, line, watch);
+    count_line(net, followed, line, watch);
     Some(after)
 }

@@ -3,16 +3,15 @@
 ghost use Rattle.std.specs.Prelude.{◌≡◌, ◌≤◌, ◌↔◌, [], true, false, ℕ, List, IfErr, IfOk, IfSome, IsTrue, OnOk};
 ghost use Rattle.bz_model.specs.declared.event.Entry.{Entry};
 ghost use Rattle.bz_model.specs.Limits.{max_entries};
-ghost use Rattle.bz_trace.specs.Pieces.{GoesOver, IsBehind, JudgesPieceTo, StopsInFrontBehind};
+ghost use Rattle.bz_trace.specs.Pieces.{GoesOver, IsBehind, JudgesPieceTo, StandsSomewhere, StopsInFrontBehind};
 ghost use Rattle.bz_trace.specs.Reading.{IsEarly, IsTooLong};
+ghost use Rattle.bz_trace.specs.Watching.{ShowsTrace};
 ghost use Rattle.bz_trace.specs.declared.reading.ReadFault.TheVariants.{TooLong};
 
 use crate::checking::Verdict;
 use crate::kept::KeptLines;
 use crate::reading::{ReadFault, Said, read_text};
-use crate::watching::Unwatched;
-use bz_flat::Flat;
-use bz_model::NetError;
+use crate::watching::Watch;
 use bz_net::Play;
 use bz_trace_text::MAX_ENTRIES;
 use std::alloc::Global;
@@ -48,17 +47,12 @@ impl Model for Joined {
 }
 
 impl Joined {
-    /// The net at its opening: no piece was checked yet. Where memory is refused, the flat net is gone.
-    pub fn open(alloc: Global, flat: Flat) -> Result<Joined, NetError>
-        ensures wiring { IfOk result (λ joined. joined.wiring ≡ flat.wiring) }
-        ensures opened { IfOk result (λ joined. IsBehind flat.wiring joined []) }
-        ensures left { IfOk result (λ joined. joined.left ≡ 4294967295) }
-        ensures err { IfErr result (λ e. e ≡ NetError.Memory) }
+    /// A net that stands behind pieces of a run.
+    pub fn behind(net: Play) -> Joined
+        requires { StandsSomewhere net }
+        ensures { result ≡ net }
     {
-        match Play::open(alloc, flat, u32::MAX) {
-            Ok(net) => Ok(Joined { net }),
-            Err(fault) => Err(fault),
-        }
+        Joined { net }
     }
 
     /// Whether one piece more can be checked. Behind 4,278,190,079 entries there may be too many.
@@ -70,13 +64,15 @@ impl Joined {
 
     /// What is said of the next piece, which a reader gives, as the pieces before lead to it: the verdict on a trace with their
     /// entries before its own. Where it is a piece of a run, the net stands behind it. Clash lines are due in the last one alone.
-    pub fn check<R: Read>(
+    /// Each of its entries is shown to who watches, with the net behind it.
+    pub fn check<R: Read, S: Watch>(
         self,
         alloc: Global,
         input: &mut R,
         is_last: bool,
         to_first: bool,
         kept: &mut KeptLines,
+        watch: &mut S,
     ) -> Result<(Joined, Said), ReadFault>
         requires room { max_entries ≤ self.left }
         ensures right { IfOk result (λ r. (past : List Entry) → IsBehind self.wiring self past → IfSome (R.remaining input.old)
@@ -90,33 +86,21 @@ impl Joined {
             → IfSome (R.remaining input.old) (λ text. (line : ℕ) → StopsInFrontBehind self.wiring past text line → IsEarly line r.1)) }
         ensures wiring { IfOk result (λ r. r.0.wiring ≡ self.wiring) }
         ensures long { IfErr result (λ e. e ≡ TooLong → IfSome (R.remaining input.old) (IsTooLong self.wiring)) }
+        ensures shows { IfOk result (λ r. (past : List Entry) → IsBehind self.wiring self past → S.behind self.wiring past watch.old
+            → IfSome (R.remaining input.old) (λ text. r.1.verdict ≡ Verdict.Run → ShowsTrace S.behind self.wiring past text watch.new)) }
     {
         let Joined { net } = self;
         let mut net = net;
-        match read_text(
-            alloc,
-            &mut net,
-            input,
-            is_last,
-            to_first,
-            kept,
-            &mut Unwatched,
-        ) {
+        match read_text(alloc, &mut net, input, is_last, to_first, kept, watch) {
             Ok(said) => Ok((Joined { net }, said)),
             Err(fault) => Err(fault),
         }
     }
 
-    /// The net where it stands.
-    pub fn net(&self) -> &Play
-        ensures { result.now ≡ self.now }
-    {
-        &self.net
-    }
-
     /// The net where it stands: behind the pieces, or in front of the line that no run allows.
     pub fn into_net(self) -> Play
-        ensures { result ≡ self }
+        ensures net { result ≡ self }
+        ensures stands { StandsSomewhere result }
     {
         let Joined { net } = self;
         net

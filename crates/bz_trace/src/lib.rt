@@ -15,7 +15,7 @@ pub use bz_trace_text::{
     Counts, MAX_ENTRIES, TraceError, Version, counts, one_spelling, put_clashes, put_entries,
     put_first_line, read_trace, write_trace, write_trace_1,
 };
-pub use checking::{Verdict, check};
+pub use checking::Verdict;
 pub use joined::Joined;
 pub use kept::KeptLines;
 pub use laws::plays_are_accepted;

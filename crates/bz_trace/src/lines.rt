@@ -7,7 +7,7 @@ ghost use Rattle.bz_model.specs.Nets.{Wiring, outside};
 ghost use Rattle.bz_trace_text.specs.Counting.{AreFewer, Tells};
 ghost use Rattle.bz_trace_text.specs.Reading.{line_at};
 ghost use Rattle.bz_trace.specs.Following.{FollowsFront, FollowsOne, FollowsText, GetsOn, IsFollowed, IsLed, NoneToFollow};
-ghost use Rattle.bz_trace.specs.Watching.{ShowsFront, ShowsLines};
+ghost use Rattle.bz_trace.specs.Watching.{SeesLine, Shows, ShowsFront};
 
 use crate::following::play_on;
 use crate::foretelling::{Guess, play_asked};
@@ -36,7 +36,7 @@ impl Followed {
 }
 
 /// Follows the lines of entries at the front of a text, as many as a trace may have: how far, and what stands behind them. Each
-/// entry is shown to who watches.
+/// entry is shown to who watches, with the net behind it.
 pub(crate) fn play_lines<'t, S: Watch>(
     net: &mut Play,
     names: &LineNames,
@@ -49,7 +49,9 @@ pub(crate) fn play_lines<'t, S: Watch>(
         → FollowsText names.now w past net.new before result.1.now result.0 }
     ensures no_more { NoneToFollow names.now result.1.now result.0 }
     ensures gets_on { GetsOn from result.0 text.now result.1.now }
-    ensures shows { ShowsLines S.sees names.now watch.old text.now result.1.now watch.new }
+    ensures shows { (w : Wiring) (past : List Entry) (before : List ℕ)
+        → Shows S.behind names.now w past net.old before text.now from watch.old
+        → Shows S.behind names.now w past net.new before result.1.now result.0 watch.new }
 {
     let mut rest = text;
     let mut followed = from;
@@ -83,7 +85,7 @@ fn follow_front<'t, S: Watch>(
     ensures some { IfSome result (λ after. FollowsFront names.now net.old net.new text.now after.now followed.old followed.new) }
     ensures none { IfNone result ((line_at names.now text.now ≡ None) × (net.new ≡ net.old) × (followed.new ≡ followed.old)) }
     ensures shows { MatchOption result (watch.new ≡ watch.old)
-        (λ after. ShowsFront S.sees names.now watch.old text.now after.now watch.new) }
+        (λ after. ShowsFront S.behind names.now net.new watch.old text.now after.now watch.new) }
 {
     match firing_at(names, text) {
         Some((line, after)) => {
@@ -111,7 +113,7 @@ fn follow_other<'t, S: Watch>(
     ensures some { IfSome result (λ after. FollowsFront names.now net.old net.new text.now after.now followed.old followed.new) }
     ensures none { IfNone result ((line_at names.now text.now ≡ None) × (net.new ≡ net.old) × (followed.new ≡ followed.old)) }
     ensures shows { MatchOption result (watch.new ≡ watch.old)
-        (λ after. ShowsFront S.sees names.now watch.old text.now after.now watch.new) }
+        (λ after. ShowsFront S.behind names.now net.new watch.old text.now after.now watch.new) }
 {
     let (line, after) = line_at(names, text)?;
     follow_one(net, followed, line, watch);
@@ -127,23 +129,23 @@ fn follow_one<S: Watch>(net: &mut Play, followed: &mut Followed, line: Entry, wa
     requires counts { AreFewer followed.old.counts 18446744073709551615 }
     requires fewer { followed.old.count < MAX_ENTRIES }
     ensures follows { FollowsOne net.old net.new line followed.old followed.new }
-    ensures sees { S.sees watch.old line watch.new }
+    ensures sees { SeesLine S.behind net.new line watch.old watch.new }
 {
     followed.stop = play_on(net, line, followed.count + 2, followed.stop);
-    count_line(followed, line, watch);
+    count_line(net, followed, line, watch);
 }
 
-/// Counts a line, and shows it to who watches.
+/// Counts a line, and shows it to who watches, with the net behind it.
 #[inline(always)]
-pub(crate) fn count_line<S: Watch>(followed: &mut Followed, line: Entry, watch: &mut S)
+pub(crate) fn count_line<S: Watch>(net: &Play, followed: &mut Followed, line: Entry, watch: &mut S)
     requires counts { AreFewer followed.old.counts 18446744073709551615 }
     requires fewer { followed.old.count < MAX_ENTRIES }
     ensures counted { (entries : List Entry) → Tells followed.old.counts entries → Tells followed.new.counts (entries ++ line ∷ []) }
     ensures count { followed.new.count ≡ followed.old.count + 1 }
     ensures stop { followed.new.stop ≡ followed.old.stop }
-    ensures sees { S.sees watch.old line watch.new }
+    ensures sees { SeesLine S.behind net.now line watch.old watch.new }
 {
-    watch.see(&line);
+    watch.see(net, &line);
     followed.counts.add(&line);
     followed.count += 1;
 }

@@ -12,7 +12,7 @@ ghost use Rattle.bz_trace.specs.Reading.{AwaitsMore, IsOther, IsTooLong, ReadsMo
 ghost use Rattle.bz_trace.specs.Pieces.{IsBehind, StandsSomewhere};
 ghost use Rattle.bz_trace.specs.Reading.{ConcludesPieceTo, ConcludesTo, IsEarly, JudgesTo, LeavesTo, StopsInFront};
 ghost use Rattle.bz_trace.specs.Verdicts.{CountsRun, Judges};
-ghost use Rattle.bz_trace.specs.Watching.{ShowsAll, ShowsLines, ShowsTrace};
+ghost use Rattle.bz_trace.specs.Watching.{Shows, ShowsAll, ShowsTrace};
 ghost use Rattle.bz_trace.specs.declared.reading.ReadFault.TheVariants.{Memory, TooLong};
 
 use crate::checking::{Verdict, verdict_behind};
@@ -62,7 +62,7 @@ pub struct Said {
 
 /// What `check` says of the text that a reader gives, which may be longer than memory. Where it is no trace, no more of it is
 /// read than that takes. With `to_first` no more is read either once a line is that of no run: that is the verdict then, whatever
-/// comes after it. The line that the verdict names is kept in `kept`, and each entry is shown to who watches.
+/// comes after it. The line that the verdict names is kept in `kept`, and each entry is shown to who watches, with the net behind it.
 pub fn check_read<R: Read, S: Watch>(
     alloc: Global,
     net: &mut Play,
@@ -88,12 +88,13 @@ pub fn check_read<R: Read, S: Watch>(
         said.verdict ≡ Verdict.Run → CountsRun net.old.wiring text said.counts)) }
     ensures leaves { IfOk result (λ said. IfSome (R.remaining input.old) (λ text.
         LeavesTo said.early net.old.wiring text net.new said.verdict)) }
+    ensures wired { WellWired net.old.wiring }
     ensures wiring { OnOk result (net.new.wiring ≡ net.old.wiring) }
     ensures long { IfErr result (λ e. e ≡ TooLong → IfSome (R.remaining input.old) (IsTooLong net.old.wiring)) }
 
-    // Of the trace of a run all entries were shown, and no others.
-    ensures shows { IfOk result (λ said. IfSome (R.remaining input.old) (λ text. said.verdict ≡ Verdict.Run
-        → ShowsTrace S.sees net.old.wiring watch.old text watch.new)) }
+    // Of the trace of a run all entries were shown, and no others, each with the net behind it.
+    ensures shows { IfOk result (λ said. S.behind net.old.wiring [] watch.old → IfSome (R.remaining input.old) (λ text.
+        said.verdict ≡ Verdict.Run → ShowsTrace S.behind net.old.wiring [] text watch.new)) }
 {
     read_text(alloc, net, input, true, to_first, kept, watch)
 }
@@ -117,8 +118,8 @@ pub(crate) fn read_text<R: Read, S: Watch>(
     ensures wired { WellWired net.old.wiring }
     ensures wiring { OnOk result (net.new.wiring ≡ net.old.wiring) }
     ensures long { IfErr result (λ e. e ≡ TooLong → IfSome (R.remaining input.old) (IsTooLong net.old.wiring)) }
-    ensures shows { IfOk result (λ said. IfSome (R.remaining input.old) (λ text. said.verdict ≡ Verdict.Run
-        → ShowsTrace S.sees net.old.wiring watch.old text watch.new)) }
+    ensures shows { IfOk result (λ said. (past : List Entry) → IsBehind net.old.wiring net.old past → S.behind net.old.wiring past watch.old
+        → IfSome (R.remaining input.old) (λ text. said.verdict ≡ Verdict.Run → ShowsTrace S.behind net.old.wiring past text watch.new)) }
 {
     let Ok(names) = net.names().dup(alloc) else {
         return Err(ReadFault::Memory);
@@ -181,8 +182,9 @@ fn check_lines_of<R: Read, S: Watch>(
     ensures wiring { OnOk result (net.new.wiring ≡ net.old.wiring) }
     ensures long { IfErr result (λ e. e ≡ TooLong → IfSome (R.remaining input.old)
         (λ more. IsTooLong net.old.wiring (first_line version ++ (front.items ++ more)))) }
-    ensures shows { IfOk result (λ said. IfSome (R.remaining input.old) (λ more. said.verdict ≡ Verdict.Run
-        → ShowsAll S.sees (outside net.old.wiring) watch.old (front.items ++ more) watch.new)) }
+    ensures shows { IfOk result (λ said. (past : List Entry) → IsBehind net.old.wiring net.old past → S.behind net.old.wiring past watch.old
+        → IfSome (R.remaining input.old) (λ more. said.verdict ≡ Verdict.Run
+        → ShowsAll S.behind net.old.wiring past (front.items ++ more) watch.new)) }
 {
     let mut held = front;
     let mut followed = Followed::NONE;
@@ -250,7 +252,9 @@ fn follow_held<S: Watch>(
         → FollowsText names.now w past net.old text held.old.items from → FollowsText names.now w past net.new text held.new.items now) }
     ensures no_more { IfOk result (NoneToFollow names.now held.new.items) }
     ensures gets_on { IfOk result (λ now. GetsOn from now held.old.items held.new.items) }
-    ensures shows { OnOk result (ShowsLines S.sees names.now watch.old held.old.items held.new.items watch.new) }
+    ensures shows { IfOk result (λ now. (w : Wiring) (past : List Entry) (text : List ℕ)
+        → Shows S.behind names.now w past net.old text held.old.items from watch.old
+        → Shows S.behind names.now w past net.new text held.new.items now watch.new) }
 {
     let (now, rest) = play_lines(net, names, from, held.as_slice(), watch);
     keep_stop(kept, from, now, held.as_slice());

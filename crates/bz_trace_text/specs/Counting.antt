@@ -1,5 +1,5 @@
 -- How many entries there are of each kind.
-use Rattle.std.specs.Prelude.{◌≡◌, ℕ, ◌<◌, Bool, true, false, List}
+use Rattle.std.specs.Prelude.{◌≡◌, ℕ, ◌<◌, ◌==◌, Bool, true, false, List}
 use Rattle.std.specs.List.{count_by}
 use Rattle.bz_model.specs.declared.event.Entry.{Entry}
 use Rattle.bz_model.specs.declared.event.Entry.TheVariants.{Fired, Host, Rested}
@@ -25,3 +25,7 @@ pub record Tells (counts : Counts) (entries : List Entry) : Type 0 where
 -- one entry more can be counted, of any kind
 abbrev pub AreFewer : Counts → ℕ → Type 0
 AreFewer counts most = (counts.fired < most) × (counts.host < most) × (counts.rests < most)
+
+-- how many lines a text has: each ends with a line feed
+abbrev pub line_count : List ℕ → ℕ
+line_count text = count_by (λ b. b == 10) text

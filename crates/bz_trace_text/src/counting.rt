@@ -1,8 +1,8 @@
 //! How many entries there are of each kind.
 
-ghost use Rattle.std.specs.Prelude.{◌≡◌};
+ghost use Rattle.std.specs.Prelude.{◌≡◌, ◌≤◌, length};
 ghost use Rattle.std.specs.List.{count_by};
-ghost use Rattle.bz_trace_text.specs.Counting.{is_fired, is_host, is_rest};
+ghost use Rattle.bz_trace_text.specs.Counting.{is_fired, is_host, is_rest, line_count};
 
 use crate::tally::Counts;
 use bz_model::Entry;
@@ -18,4 +18,12 @@ pub fn counts(entries: &[Entry]) -> Counts
         counts.add(entry);
     }
     counts
+}
+
+/// How many lines a trace has.
+pub fn line_count(trace: &[u8]) -> usize
+    ensures count { result ≡ line_count trace.now }
+    ensures few { result ≤ length trace.now }
+{
+    trace.iter().filter(|byte| **byte == b'\n').count()
 }

@@ -19,7 +19,7 @@ mod tally;
 mod text;
 mod trace;
 
-pub use counting::counts;
+pub use counting::{counts, line_count};
 pub use firing::firing_at;
 pub use foretold::foretold_at;
 pub use outgoing::Outgoing;

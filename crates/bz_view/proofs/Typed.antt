@@ -1,10 +1,11 @@
 -- Names that are typed.
-use Rattle.std.proofs.Common.{◌≡◌, ℕ, ◌+◌, ◌<◌, ◌≤◌, ◌==◌, Bool, true, false, cond, Option, List, [], ◌∷◌, ◌++◌, codes, length, take, get_or, refl, sym, ap, ◌∙◌, subst, arith}
+use Rattle.std.proofs.Common.{◌≡◌, ℕ, ◌+◌, ◌<◌, ◌≤◌, ◌==◌, Bool, true, false, cond, Option, Some, List, [], ◌∷◌, ◌++◌, codes, length, take, get_or, refl, sym, ap, ◌∙◌, subst, arith}
 use Rattle.std.specs.List.{flat_map}
 use Rattle.std.proofs.lemmas.List.{append-nil, take_all, take_more}
 use Rattle.std.proofs.lemmas.Grind.{flat_map-append}
 use Rattle.bz_model.specs.Traces.{name_form}
 use Rattle.bz_text.specs.Growing.{Grows}
+use Rattle.bz_text.specs.Json.{json_text}
 use Rattle.bz_text.proofs.Said.{grows_then}
 use Rattle.bz_view.specs.Lines.{InLine}
 use Rattle.bz_view.specs.Naming.{typed_byte, typed_text}
@@ -37,3 +38,10 @@ typed_all (b ∷ name) i old new some le g = subst (λ s. Grows old new (flat_ma
 pub typed_none : (name : List ℕ) → length name ≡ 0 → typed_text name ≡ codes "%"
 typed_none [] e = refl
 typed_none (b ∷ name) e = absurd (omega (arith, e))
+
+-- a name that was put together by itself, and then added as a string of JSON
+pub typed_string : (name bytes : List ℕ) (typed old new : Option (List ℕ)) → Grows (Some []) typed (typed_text name) → typed ≡ Some bytes → Grows old new (json_text bytes)
+    → Grows old new (json_text (typed_text name))
+typed_string name bytes typed old new g is h =
+    let same : bytes ≡ typed_text name = subst (λ t. Grows (Some []) t (typed_text name)) is g in
+    subst (λ s. Grows old new (json_text s)) same h

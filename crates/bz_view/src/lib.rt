@@ -21,10 +21,12 @@ mod why;
 
 pub use chain::{put_chain, put_chain_of};
 pub use cutting::{HALVES, MORE, count_lines, put_left_out};
-pub use naming::{put_host_word, put_instance, put_name, put_port, put_source, put_typed};
+pub use naming::{
+    put_host_word, put_instance, put_name, put_port, put_source, put_typed, put_typed_json,
+};
 pub use parts::{fill, gathered, put_in_line};
-pub use piece::{Piece, Spot, copy_of, put_label, put_phase, say_json};
-pub use seen::{Seen, Thing, chan_at, chan_of, port_count, port_name, port_of};
+pub use piece::{Piece, Spot, copy_of, put_json_lines, put_label, put_phase, say_json};
+pub use seen::{Seen, Thing, chan_at, chan_of, kind_of, port_count, port_name, port_of};
 pub use shown::Shown;
 pub use stuck::{put_ring_rows, put_stuck};
 pub use waits::{graph_of, put_ends, put_held};

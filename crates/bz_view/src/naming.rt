@@ -2,6 +2,7 @@
 
 ghost use Rattle.std.specs.List.{flat_map};
 ghost use Rattle.bz_text.specs.Growing.{Grows, GrowsBy};
+ghost use Rattle.bz_text.specs.Json.{json_text};
 ghost use Rattle.bz_view.specs.Lines.{InLine};
 ghost use Rattle.bz_view.specs.Naming.{typed_byte, typed_text, word_text};
 
@@ -34,6 +35,19 @@ fn put_typed_byte(text: &mut Text, byte: u8)
         text.put("%23");
     } else {
         text.put_pieces(&[Piece::Name(&[byte])]);
+    }
+}
+
+/// Adds a name as it is typed, as a string of JSON.
+#[tactic(auto, using(crate::proofs::Typed::typed_string))]
+pub fn put_typed_json(text: &mut Text, name: &[u8])
+    ensures { Grows text.old text.new (json_text (typed_text name.now)) }
+{
+    let mut typed = Text::new(text.alloc());
+    put_typed(&mut typed, name);
+    match typed.whole() {
+        Ok(typed) => text.put_pieces(&[Piece::Json(typed)]),
+        Err(_) => text.lose(),
     }
 }
 

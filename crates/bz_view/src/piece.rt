@@ -1,6 +1,8 @@
 //! What stands for a mark in a form.
 
-use crate::naming::{put_host_word, put_instance, put_name, put_port, put_source, put_typed};
+use crate::naming::{
+    put_host_word, put_instance, put_name, put_port, put_source, put_typed, put_typed_json,
+};
 use bz_kind_rows::PortAt;
 use bz_model::{Chan, Phase, Reply, Value, Verb};
 use bz_source::{Label, LineAt, Records, Survey, put_path};
@@ -29,6 +31,12 @@ pub struct Spot {
 pub enum Piece<'a> {
     Text(&'a str),
     Bytes(&'a [u8]),
+    /// A string of JSON. What is no UTF-8 is U+FFFD there.
+    Json(&'a [u8]),
+    /// A name as it is typed in a session, as a string of JSON.
+    JsonTyped(&'a [u8]),
+    /// Whether something is so, as JSON has it.
+    Flag(bool),
     /// The name of a file: a control character is a question mark.
     File(&'a str),
     /// What was given: of more than 100 bytes the first 100, and two dots; a `?` for each byte that is not printable.
@@ -73,6 +81,9 @@ impl Put for Piece<'_> {
         match *self {
             Piece::Text(words) => text.put(words),
             Piece::Bytes(bytes) => text.put_bytes(bytes),
+            Piece::Json(bytes) => text.put_json(bytes),
+            Piece::JsonTyped(name) => put_typed_json(text, name),
+            Piece::Flag(flag) => text.put(if flag { "true" } else { "false" }),
             Piece::File(name) => text.put_pieces(&[Part::File(name.as_bytes())]),
             Piece::Shown(bytes) => put_shown(text, bytes),
             Piece::Name(name) => put_short(text, name),
@@ -118,6 +129,20 @@ pub fn say_json(text: &mut Text, form: &str, pieces: &[Piece<'_>]) {
     match said.whole() {
         Ok(said) => text.put_json(said),
         Err(_) => text.lose(),
+    }
+}
+
+/// Adds the lines of a text that aren't empty as strings of JSON, with a comma between.
+pub fn put_json_lines(text: &mut Text, lines: &[u8]) {
+    let mut is_first = true;
+    for line in lines.split(|byte| *byte == b'\n') {
+        if !line.is_empty() {
+            if !is_first {
+                text.put(", ");
+            }
+            text.put_json(line);
+            is_first = false;
+        }
     }
 }
 

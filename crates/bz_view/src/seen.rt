@@ -2,12 +2,12 @@
 
 ghost use Rattle.std.specs.Prelude.{◌≡◌, [], unwrap_or};
 ghost use Rattle.bz_model.specs.Names.{port_name};
-ghost use Rattle.bz_view.specs.Outside.{kind_at};
+ghost use Rattle.bz_view.specs.Outside.{kind_at, kind_of};
 
 use crate::piece::Piece;
 use crate::shown::Shown;
 use bz_flat::FlatComp;
-use bz_kind_rows::port_at;
+use bz_kind_rows::{kind_word, port_at};
 use bz_model::{Chan, ChanKind, Phase, Verb, numbered};
 use bz_net::Core;
 use bz_source::{Label, Survey};
@@ -116,6 +116,16 @@ pub fn chan_of(net: &Core, chan: u32) -> Chan
             kind: ChanKind::Sync,
             width: 0,
         },
+    }
+}
+
+/// The word of a component's kind, empty where there is none of this number.
+pub fn kind_of(net: &Core, comp: u32) -> &'static [u8]
+    ensures { result.now ≡ kind_of net.now.wiring.sites comp }
+{
+    match net.comp(comp) {
+        Some(site) => kind_word(&site.kind),
+        None => b"",
     }
 }
 

@@ -1,8 +1,7 @@
 //! A net in a state, with names of its components and channels where they are written.
 
 use crate::piece::{Piece, put_chan_in, put_comp_in};
-use crate::seen::{chan_of, port_count, port_name};
-use bz_kind_rows::kind_word;
+use crate::seen::{chan_of, kind_of, port_count, port_name};
 use bz_model::{Chan, Phase, Verb};
 use bz_net::Core;
 use bz_source::{Records, Survey};
@@ -65,10 +64,7 @@ impl<'v> Shown<'v> {
 
     /// The word of a component's kind, empty where there is none of this number.
     pub fn kind(self, comp: u32) -> &'static [u8] {
-        match self.net.comp(comp) {
-            Some(site) => kind_word(&site.kind),
-            None => b"",
-        }
+        kind_of(self.net, comp)
     }
 
     /// Adds a component, as it is called, with the copy in which it is.

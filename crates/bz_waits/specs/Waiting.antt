@@ -5,7 +5,8 @@ use Rattle.bz_model.specs.declared.channel.Move.{Move}
 use Rattle.bz_model.specs.declared.channel.Move.TheVariants.{Ask, Take, Reply, Got}
 use Rattle.bz_model.specs.declared.channel.Phase.{Phase}
 use Rattle.bz_model.specs.declared.channel.Phase.TheVariants.{Asked, Taken}
-use Rattle.bz_model.specs.declared.kind.Kind.TheVariants.{DecisionWait}
+use Rattle.bz_model.specs.declared.kind_rules.Callers.TheVariants.{OneIsEnough}
+use Rattle.bz_model.specs.Rows.{callers_of}
 use Rattle.bz_model.specs.Nets.{Site, State, IsPort, site_at, chan_at, passive_at, proc_at, phase_at}
 use Rattle.bz_model.specs.Runs.{CanStep}
 use Rattle.bz_flat.specs.Wires.{IsEnd, HasEnd}
@@ -68,7 +69,7 @@ IsWhom sites s other Busy = (0 < other) × (IsIdle sites s other → ⊥)
 
 -- one of the requests that component c waits for is enough: a DecisionWait that waits for several
 abbrev pub Chooses : List Site → State → ℕ → Move → Type 0
-Chooses sites s c due = (due ≡ Take) × ((site_at sites c).kind ≡ DecisionWait) × IsDueTwice sites s c Take
+Chooses sites s c due = (due ≡ Take) × (callers_of (site_at sites c).kind ≡ OneIsEnough) × IsDueTwice sites s c Take
 
 -- how this goes with what else the component waits for
 abbrev pub IsPlace : List Site → State → ℕ → Move → Place → Type 0

@@ -5,7 +5,8 @@ ghost use Rattle.bz_waits.specs.Adding.{IsFirstPast};
 ghost use Rattle.bz_waits.specs.Waiting.{Chooses, IsDue, IsDueTwice, IsIdle, Owes};
 
 use crate::sites::{chan_at, is_passive_at, port_count, site};
-use bz_model::{Kind, Move, Phase};
+use bz_kind_rows::row_of;
+use bz_model::{Callers, Move, Phase};
 use bz_net::Core;
 
 /// Whether this move comes next at a port of a component.
@@ -69,8 +70,8 @@ pub(crate) fn chooses(core: &Core, comp: u32, due: Move) -> bool
     ensures { MatchBool result (Chooses core.now.wiring.sites core.now.state comp due)
         (Chooses core.now.wiring.sites core.now.state comp due → ⊥) }
 {
-    match (&site(core, comp).kind, due) {
-        (Kind::DecisionWait, Move::Take) => has_two_due(core, comp),
+    match (row_of(&site(core, comp).kind).callers, due) {
+        (Callers::OneIsEnough, Move::Take) => has_two_due(core, comp),
         _ => false,
     }
 }

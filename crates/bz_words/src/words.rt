@@ -1,15 +1,13 @@
 //! Words of the command line as commands: `offer:i:5 run:9 watch:o`.
 
-ghost use Rattle.std.specs.Prelude.{◌≡◌, ◌≢◌, ℕ, ◌<◌, ◌^◌, ◌++◌, List, [], ◌∷◌, Option, IfOk, IfSome, IfNone};
+ghost use Rattle.std.specs.Prelude.{◌≡◌, ◌≢◌, ℕ, ◌<◌, ◌++◌, List, [], ◌∷◌, Option, IfOk, IfSome, IfNone};
 ghost use Rattle.std.specs.Option.{SomeIff};
 ghost use Rattle.std.specs.Char.{digit_value};
-ghost use Rattle.std.specs.Str.Parse.{IsNumeral, digits_value};
 ghost use Rattle.bz_model.specs.Traces.{verb_text};
-ghost use Rattle.bz_model.specs.Limits.{max_width};
 ghost use Rattle.bz_words.specs.Words.{Command, SpellsBytes, IsName, AreOperands, IsWord, takes_value, command_of, Outcome, ComesTo, outcome_of, texts};
 ghost use Rattle.bz_words.specs.declared.words.SessionError.TheVariants.{Memory};
 
-use bz_model::{Cmd, HostCmd, NetError, Value, Verb};
+use bz_model::{Cmd, HostCmd, NetError, Verb, value_of, wide_count_of};
 use std::alloc::{AllocError, AllocFailed, Global};
 use std::mem;
 use thiserror::Error;
@@ -85,7 +83,7 @@ pub fn command(alloc: Global, word: &str) -> Result<Option<Cmd>, AllocError>
         return Ok(None);
     };
     if head == "run" {
-        return Ok(count(rest).map(Cmd::Run));
+        return Ok(wide_count_of(rest).map(Cmd::Run));
     }
     let Some(verb) = verb(head) else {
         return Ok(None);
@@ -109,7 +107,7 @@ fn host_command(alloc: Global, verb: Verb, operands: &str) -> Result<Option<Host
             if !takes_value(verb) {
                 return Ok(None);
             }
-            let Some(value) = value(digits) else {
+            let Some(value) = value_of(digits) else {
                 return Ok(None);
             };
             (form, Some(value))
@@ -141,28 +139,6 @@ fn takes_value(verb: Verb) -> bool
     ensures { result ≡ takes_value verb }
 {
     matches!(verb, Verb::Offer | Verb::Answer)
-}
-
-// The value that decimal digits spell.
-fn value(digits: &str) -> Option<Value>
-    ensures { SomeIff result (IsNumeral 10 digits.now × (digits_value 10 digits.now < 2 ^ max_width))
-        (digits_value 10 digits.now) }
-{
-    if digits.starts_with('+') {
-        return None;
-    }
-    digits.parse().ok()
-}
-
-// The number of firings that decimal digits spell.
-fn count(digits: &str) -> Option<u64>
-    ensures { SomeIff result (IsNumeral 10 digits.now × (digits_value 10 digits.now < 2 ^ 64))
-        (digits_value 10 digits.now) }
-{
-    if digits.starts_with('+') {
-        return None;
-    }
-    digits.parse().ok()
 }
 
 /// The name that a name form spells, read freely, where it spells one.

@@ -1,10 +1,8 @@
-use Rattle.std.specs.Option.{option_copied}
-use Rattle.bz_words.specs.Words.{texts}
-use Rattle.bz_cli_core.specs.Running.{Runs}
-use Rattle.bz_cli_commands.specs.Endings.{of_run}
-use Rattle.bz_cli_commands.proofs.Performed.{does}
 use Rattle.bz_cli_commands.proofs.commands.run.Goals as goal
 
+-- (which of both ways it goes changes nothing: what is counted leaves the status)
+pub returns-then-is_none-clause-runs : goal.returns-then-is_none-clause-runs
+returns-then-is_none-clause-runs g c = λ within. c.run_watched.ensures.runs
+
 pub returns-clause-runs : goal.returns-clause-runs
-returns-clause-runs g c =
-    λ within. does of_run _ (λ text answer. Runs text (texts c.args.given.now.words.now) (option_copied c.args.given.now.part) c.args.options.journal c.args.options.strict _ _ answer) c.run_cmd-played.result _ c.run_cmd-played.ensures.runs c.ended.ensures
+returns-clause-runs g c = λ within. rw c.counted.ensures c.run_watched-2.ensures.runs

@@ -8,7 +8,6 @@ pub returns : goal.returns
 returns c =
     let net = c.args.net in
     let is = c.in_ok-is_stuck.is_stuck in
-    let looked = rw (c.core.ensures.wiring, c.core.ensures.state, c.in-Ok-of.ensures.wiring, c.in_ok-flat.ensures) at c.in_ok-is_stuck.ensures in
-    let behind = rw c.in_ok-flat.ensures at c.in-Ok-of.ensures.behind in
+    let looked = rw c.requires.wiring at c.in_ok-is_stuck.ensures in
     told_so c.whole.result is (λ (it : Bool). IsTold net.wiring c.args.trace.now c.args.wanted.line it) c.whole.ensures
-    (told_behind net.wiring c.args.trace.now c.args.wanted.line c.in-Ok-of.behind.net.state is behind looked)
+    (told_behind net.wiring c.args.trace.now c.args.wanted.line c.args.kept.state is c.requires.behind looked)

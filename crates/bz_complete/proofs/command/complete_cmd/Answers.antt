@@ -2,7 +2,7 @@ use Rattle.std.specs.Prelude.{⊤}
 use Rattle.std.specs.Option.{option_copied}
 use Rattle.bz_cli_input.proofs.Answered.{is_of_input, not_both}
 use Rattle.bz_cli_input.specs.Statuses.{of_input}
-use Rattle.bz_cli_trace.proofs.Makes.{taken_two}
+use Rattle.bz_cli_trace.proofs.Takes.{taken_two}
 use Rattle.bz_complete.specs.declared.fault.CompleteFault.TheVariants.{Command}
 use Rattle.bz_complete.specs.Completions.{CompletesTexts, IsOfInput}
 use Rattle.bz_complete.proofs.command.complete_cmd.Goals as goal

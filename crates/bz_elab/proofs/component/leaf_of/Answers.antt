@@ -45,7 +45,8 @@ returns-then-not-widths_fit-clause-err c =
     let role = role_kind c.args.component.now c.in_ok-kind.kind (rw (c.as_slice.ensures.value, c.as_slice-2.ensures.value) at c.in_ok-kind.ensures.ok) in
     let chans = rw c.as_slice-entries.ensures.value at c.in_ok-chans.ensures in
     let carried = rw (c.as_slice-3.ensures.value, chans) at c.in_ok-gather.ensures in
-    let tells = rw (c.as_slice-5.ensures.value, carried) at c.widths_fit.ensures in
+    let sizes = (rw c.as_slice-entries.ensures.value at c.in-Some.ensures.fits).1 in
+    let tells = rw (c.as_slice-5.ensures.value, carried, sizes) at c.widths_fit.ensures in
     leaf_fault c.args.channels.now c.args.component.now _ fault.WidthMismatch role (λ widths. not_both _ (tells.1 widths) c.if-not-widths_fit.true)
 
 pub returns-clause-ok : goal.returns-clause-ok
@@ -57,7 +58,7 @@ returns-clause-ok c =
     let carried = rw (c.as_slice-3.ensures.value, chans) at c.in_ok-gather.ensures in
     let sizes = (rw c.as_slice-entries.ensures.value at c.in-Some.ensures.fits).1 in
     let kinds = rw (c.as_slice-4.ensures.value, carried, sizes) at c.kinds_are.ensures in
-    let widths = rw (c.as_slice-5.ensures.value, carried) at c.widths_fit.ensures in
+    let widths = rw (c.as_slice-5.ensures.value, carried, sizes) at c.widths_fit.ensures in
     record {
       role_is = role;
       sizes_are = sizes;

@@ -1,6 +1,4 @@
 use Rattle.std.proofs.Common.{List, length, subst}
-use Rattle.std.specs.Prelude.{IfOk}
-use Rattle.bz_net.specs.Simulation.{Simulation}
 use Rattle.bz_text.specs.Growing.{Grows, GrowsBy}
 use Rattle.bz_explore_net.specs.declared.host_offers.HostOffer.{HostOffer}
 use Rattle.bz_explore_net.specs.declared.offers.Offer.{Offer}
@@ -13,12 +11,10 @@ use Rattle.bz_explore_moves.proofs.moves.put_moves.Goals as goal
 
 pub returns : goal.returns
 returns c =
-    let w = c.args.stepping.now.net.wiring in
-    let s = c.args.stepping.now.net.state in
-    let listed = subst (λ (net : Simulation). IfOk c.offers_of.result (λ v. Offers net.wiring.sites net.state v.items)) c.net-net.ensures c.offers_of.ensures in
-    let told = subst (λ (net : Simulation). IfOk c.answered_words.result (λ v. HostOffers net.wiring net.state v.items)) c.net-net.ensures c.answered_words.ensures in
-    let offers = gathered_is c.offers_of.result c.gathered-moves.result (λ v. Offers w.sites s v.items) _ _ listed c.gathered-moves.ensures.ok c.gathered-moves.ensures.err in
-    let words = gathered_is c.answered_words.result c.gathered-words.result (λ v. HostOffers w s v.items) _ _ told c.gathered-words.ensures.ok c.gathered-words.ensures.err in
+    let w = c.args.net.now.wiring in
+    let s = c.args.net.now.state in
+    let offers = gathered_is c.offers_of.result c.gathered-moves.result (λ v. Offers w.sites s v.items) _ _ c.offers_of.ensures c.gathered-moves.ensures.ok c.gathered-moves.ensures.err in
+    let words = gathered_is c.answered_words.result c.gathered-words.result (λ v. HostOffers w s v.items) _ _ c.answered_words.ensures c.gathered-words.ensures.ok c.gathered-words.ensures.err in
     let moves = subst (λ (xs : List Offer). GrowsBy (InTurn IsMoveLine xs) c.gathered-words.new.text c.put_offers.new.text) c.as_slice-offers.ensures.value c.put_offers.ensures in
     let answers = subst (λ (xs : List HostOffer). GrowsBy (InTurn (IsWordLine w) xs) c.put_offers.new.text c.put_words.new.text) c.as_slice.ensures.value c.put_words.ensures in
     let last = subst (λ (xs : List Offer). Grows c.put_words.new.text c.put_end.new.text (end_line (length xs))) c.as_slice-offers.ensures.value c.put_end.ensures in

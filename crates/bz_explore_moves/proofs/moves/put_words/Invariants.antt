@@ -5,4 +5,4 @@ use Rattle.bz_explore_moves.specs.Moves.{IsWordLine}
 use Rattle.bz_explore_moves.proofs.moves.put_words.Given as goal
 
 abbrev pub invariant-loop-word : goal.invariant-loop-word
-invariant-loop-word l = GrowsBy (InTurn (IsWordLine l.stepping.net.wiring) (take l.word-index l.words)) l.initial.text l.text
+invariant-loop-word l = GrowsBy (InTurn (IsWordLine l.net.wiring) (take l.word-index l.words)) l.initial.text l.text

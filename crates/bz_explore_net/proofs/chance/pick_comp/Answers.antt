@@ -1,8 +1,8 @@
-use Rattle.std.proofs.Common.{◌≡◌, ◌%◌, ◌<◌, ◌≤◌, ℕ, Option, Some, None, subst, arith}
+use Rattle.std.proofs.Common.{◌≤◌, ℕ, Option, Some, None, subst, arith}
 use Rattle.std.specs.Prelude.{IfNone}
 use Rattle.std.proofs.lemmas.Option.{IfSome_then}
 use Rattle.bz_net.specs.Keeping.{IsMarked}
-use Rattle.bz_explore_net.specs.Picking.{HasMembers, IsPlace, drawn}
+use Rattle.bz_explore_net.specs.Picking.{HasMembers, IsPlace}
 use Rattle.bz_explore_net.proofs.Picked.{has_none}
 use Rattle.bz_explore_net.proofs.chance.pick_comp.Goals as goal
 

@@ -20,9 +20,9 @@ returns-in_default-clause-movers c =
     let rest : Rest net.wiring.sites net.state = λ comp can. absurd (c.in_default.ensures.none comp ((c.requires.movers.exact comp).marks can)) in
     rested c.args.who net c.step.new.self c.args.movers.now c.step.result rest c.step.ensures.picked c.step.ensures.adds c.step.ensures.err c.requires.movers
 
-pub pick_port-port-requires-clause-can : goal.pick_port-port-requires-clause-can
-pick_port-port-requires-clause-can c =
-    let is = c.in-Some.ensures.comp.2.0 in (c.requires.movers.exact c.in-Some.comp).marked is
+pub pick_port-port-requires : goal.pick_port-port-requires
+pick_port-port-requires c =
+    let is = c.in-Some.ensures.comp.2.0 in record { can = (c.requires.movers.exact c.in-Some.comp).marked is }
 
 pub returns-in_err-entry-clause-cause : goal.returns-in_err-entry-clause-cause
 returns-in_err-entry-clause-cause c =

@@ -1,5 +1,4 @@
-use Rattle.std.proofs.Common.{◌≡◌, ◌*◌, ◌+◌, subst, sym, ap, ◌∙◌, arith}
-use Rattle.bz_explore_net.specs.Counted.{leaf_of}
+use Rattle.std.proofs.Common.{arith}
 use Rattle.bz_explore_net.proofs.Counting.{few_leaves, leaf_next}
 use Rattle.bz_explore_net.proofs.counted.tree_for.Goals as goal
 

@@ -1,4 +1,4 @@
-use Rattle.std.proofs.Common.{◌≡◌, ◌+◌, ◌∙◌, List, Bool, false, length, replicate, ap, arith}
+use Rattle.std.proofs.Common.{◌+◌, ◌∙◌, false, length, replicate, ap, arith}
 use Rattle.bz_model.specs.Nets.{Wiring}
 use Rattle.bz_net.proofs.Opening.{marks_more, marks_none, marks_ready}
 use Rattle.bz_explore_net.proofs.movers.movers_of.Goals as goal

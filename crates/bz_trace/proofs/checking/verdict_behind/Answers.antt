@@ -24,5 +24,5 @@ returns-clause-follows c w past text f =
 
 pub returns-clause-verdict : goal.returns-clause-verdict
 returns-clause-verdict c w past text f =
-    c.verdict_listed.ensures w past text (subst (λ (p : Progress). FollowsText c.args.names.now w past p text c.args.rest.now c.args.followed) (sym c.list_clashes.ensures)
+    c.verdict_listed.ensures.verdict w past text (subst (λ (p : Progress). FollowsText c.args.names.now w past p text c.args.rest.now c.args.followed) (sym c.list_clashes.ensures)
     (follows_listed c.args.names.now w past c.args.net.now text c.args.rest.now c.args.followed f))

@@ -1,9 +1,8 @@
 use Rattle.std.proofs.Common.{inl, refl}
-use Rattle.bz_trace.proofs.Showing.{shows_none}
 use Rattle.bz_trace.proofs.foretelling.play_asked.Goals as goal
 
 pub returns-then-guess-gt0-clause-gets_on : goal.returns-then-guess-gt0-clause-gets_on
 returns-then-guess-gt0-clause-gets_on g c = inl (refl, refl)
 
 pub returns-then-guess-gt0-clause-shows : goal.returns-then-guess-gt0-clause-shows
-returns-then-guess-gt0-clause-shows g c = shows_none g.S.Watch.sees c.args.names.now c.args.watch.now c.args.text.now
+returns-then-guess-gt0-clause-shows g c w past before s = s

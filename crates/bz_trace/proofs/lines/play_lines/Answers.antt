@@ -1,16 +1,18 @@
 use Rattle.std.proofs.Common.{◌≡◌, ◌<◌, ◌≢◌, inl, inr, refl, sym, subst, arith}
 use Rattle.bz_trace_text.proofs.Texts.{line_shorter}
 use Rattle.bz_trace_text.specs.declared.text.TheConstants.{MAX_ENTRIES}
+use Rattle.bz_net.specs.Progress.{Progress}
 use Rattle.bz_trace.specs.Following.{FollowsFront}
-use Rattle.bz_trace.specs.Watching.{ShowsLines}
+use Rattle.bz_trace.specs.Watching.{Shows}
+use Rattle.bz_trace.specs.declared.lines.Followed.{Followed}
 use Rattle.bz_trace.proofs.Along.{below, follows_one, gets_on_more, gets_on_then, no_longer, within}
-use Rattle.bz_trace.proofs.Showing.{shows_more, shows_none, shows_then}
+use Rattle.bz_trace.proofs.Showing.{shows_one}
 use Rattle.bz_trace.proofs.lines.play_lines.Goals as goal
 
 pub loop-followed-init : goal.loop-followed-init
 loop-followed-init g c =
     let (w, past, before, f) = c.requires in
-    record { follows = λ w past before f. f; gets_on = inl (refl, refl); within = within c.args.names.now w past c.args.net.now before c.args.text.now c.args.from f; shows = shows_none g.S.Watch.sees c.args.names.now c.args.watch.now c.args.text.now }
+    record { follows = λ w past before f. f; gets_on = inl (refl, refl); within = within c.args.names.now w past c.args.net.now before c.args.text.now c.args.from f; shows = λ w past before s. s }
 
 pub play_asked-behind-requires : goal.play_asked-behind-requires
 play_asked-behind-requires g c =
@@ -54,20 +56,21 @@ loop-followed-preserved g c =
       follows = λ w past before f. follows_one c.args.names.now w past asked.new.net c.follow_front.new.net before behind c.in-Some.after.now now c.follow_front.new.followed (asked.ensures.follows w past before (l.invariant.follows w past before f)) fewer front;
       gets_on = inr (let more = on.0 in omega (arith, more, is), on.1);
       within = omega (arith, fewer, is);
-      shows =
-          shows_more g.S.Watch.sees c.args.names.now c.args.watch.now asked.new.watch c.follow_front.new.watch c.args.text.now behind c.in-Some.after.now
-          (shows_then g.S.Watch.sees c.args.names.now c.args.watch.now l.watch asked.new.watch c.args.text.now l.rest.now behind l.invariant.shows asked.ensures.shows)
-          (rw c.in-Some.is at c.follow_front.ensures.shows);
+      shows = λ w past before s. shows_one g.S.Watch.behind c.args.names.now w past asked.new.net c.follow_front.new.net before behind c.in-Some.after.now now c.follow_front.new.followed asked.new.watch c.follow_front.new.watch (asked.ensures.shows w past before (l.invariant.shows w past before s)) fewer front (rw c.in-Some.is at c.follow_front.ensures.shows);
     }
 
 pub returns-then-followed-eq-MAX_ENTRIES-clause-shows : goal.returns-then-followed-eq-MAX_ENTRIES-clause-shows
-returns-then-followed-eq-MAX_ENTRIES-clause-shows g c =
-    let l = c.loop-followed in let asked = c.play_asked-behind in
-    shows_then g.S.Watch.sees c.args.names.now c.args.watch.now l.watch asked.new.watch c.args.text.now l.rest.now asked.result.now l.invariant.shows asked.ensures.shows
+returns-then-followed-eq-MAX_ENTRIES-clause-shows g c w past before s =
+    c.play_asked-behind.ensures.shows w past before (c.loop-followed.invariant.shows w past before s)
 
 pub returns-in_default-clause-shows : goal.returns-in_default-clause-shows
-returns-in_default-clause-shows g c =
-    let l = c.loop-followed in let asked = c.play_asked-behind in
+returns-in_default-clause-shows g c w past before s =
+    let asked = c.play_asked-behind in
     let same : c.follow_front.new.watch ≡ asked.new.watch = rw c.in_default.is at c.follow_front.ensures.shows in
-    subst (λ s. ShowsLines g.S.Watch.sees c.args.names.now c.args.watch.now c.args.text.now asked.result.now s) (sym same)
-    (shows_then g.S.Watch.sees c.args.names.now c.args.watch.now l.watch asked.new.watch c.args.text.now l.rest.now asked.result.now l.invariant.shows asked.ensures.shows)
+    let none = rw c.in_default.is at c.follow_front.ensures.none in
+    let net = none.1 in
+    let followed = none.2 in
+    let shows = asked.ensures.shows w past before (c.loop-followed.invariant.shows w past before s) in
+    subst (λ (n : Progress). Shows g.S.Watch.behind c.args.names.now w past n before asked.result.now c.follow_front.new.followed c.follow_front.new.watch) (sym net)
+    (subst (λ (f : Followed). Shows g.S.Watch.behind c.args.names.now w past asked.new.net before asked.result.now f c.follow_front.new.watch) (sym followed)
+    (subst (λ n. Shows g.S.Watch.behind c.args.names.now w past asked.new.net before asked.result.now asked.new.followed n) (sym same) shows))

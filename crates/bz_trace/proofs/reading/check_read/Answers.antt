@@ -1,5 +1,6 @@
 use Rattle.std.proofs.Common.{[]}
 use Rattle.bz_trace.proofs.Along.{behind_start}
+use Rattle.bz_trace.proofs.Showing.{shown_opened}
 use Rattle.bz_trace.proofs.Streams.{counted_of, first_of, leaves_of, only_of, right_of, said_opened}
 use Rattle.bz_trace.proofs.reading.check_read.Goals as goal
 
@@ -20,3 +21,6 @@ returns-clause-leaves g c = leaves_of c.args.to_first c.args.net.now.wiring _ c.
 
 pub returns-clause-first : goal.returns-clause-first
 returns-clause-first g c = first_of c.args.to_first c.args.net.now.wiring _ c.read_text.new.net c.read_text.result (said_opened c.args.to_first c.args.net.now _ c.read_text.new.net c.read_text.result c.requires.opened c.read_text.ensures.concludes)
+
+pub returns-clause-shows : goal.returns-clause-shows
+returns-clause-shows g c = shown_opened g.S.Watch.behind c.args.net.now.wiring c.args.net.now c.args.watch.now _ c.read_text.result c.read_text.new.watch (behind_start c.args.net.now c.requires.opened) c.read_text.ensures.shows

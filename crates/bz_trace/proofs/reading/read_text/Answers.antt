@@ -21,9 +21,9 @@ returns-in-Some-clause-long g c =
 
 pub returns-in-Some-clause-shows : goal.returns-in-Some-clause-shows
 returns-in-Some-clause-shows g c =
-    shown_text g.S.Watch.sees c.args.net.now.wiring _ _ c.new-held.result.items c.read_more.new.held.items c.as_slice.result.now c.in-Some.lines.now c.in_ok-front-in-Some.front.items c.in-Some.version _ c.in_ok-read_more.field-0 c.check_lines_of.result c.args.watch.now c.check_lines_of.new.watch
+    shown_text g.S.Watch.behind c.args.net.now.wiring c.args.net.now c.args.watch.now _ _ c.new-held.result.items c.read_more.new.held.items c.as_slice.result.now c.in-Some.lines.now c.in_ok-front-in-Some.front.items c.in-Some.version _ c.in_ok-read_more.field-0 c.check_lines_of.result c.check_lines_of.new.watch
     c.new-held.ensures.items c.in_ok-read_more.ensures.more c.as_slice.ensures.value c.in-Some.ensures c.in_ok-front-in-Some.ensures.items
     c.check_lines_of.ensures.shows
 
 pub returns-clause-shows : goal.returns-clause-shows
-returns-clause-shows g c = never_shown _ _ (λ is. let e = is in cc)
+returns-clause-shows g c past behind has = never_shown _ _ (λ is. let e = is in cc)

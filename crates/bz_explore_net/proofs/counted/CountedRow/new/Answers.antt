@@ -1,5 +1,4 @@
-use Rattle.std.proofs.Common.{◌≡◌, List, replicate, subst, sym, ap, ◌∙◌, ◌*◌, arith}
-use Rattle.bz_explore_net.specs.Counted.{IsCounted, leaf_of}
+use Rattle.std.proofs.Common.{arith}
 use Rattle.bz_explore_net.proofs.Counting.{none_counted}
 use Rattle.bz_explore_net.proofs.counted.CountedRow.new.Goals as goal
 

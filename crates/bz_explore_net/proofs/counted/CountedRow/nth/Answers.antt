@@ -1,4 +1,4 @@
-use Rattle.std.proofs.Common.{rules, ◌≡◌, ◌+◌, ◌-◌, ◌*◌, ◌/◌, ◌<◌, ◌≤◌, ◌∙◌, suc, List, Bool, length, refl, ap, subst, sym, arith}
+use Rattle.std.proofs.Common.{rules, ◌≡◌, ◌+◌, ◌-◌, ◌*◌, ◌/◌, ◌<◌, ◌≤◌, ◌∙◌, suc, List, Bool, length, ap, subst, sym, arith}
 use Rattle.std.proofs.lemmas.Grind.{get_or_default_zero}
 use Rattle.bz_net.specs.Keeping.{IsMarked}
 use Rattle.bz_explore_net.specs.Counted.{leaf_of, sum_at}

@@ -1,4 +1,4 @@
-use Rattle.std.proofs.Common.{ℕ, subst}
+use Rattle.std.proofs.Common.{subst}
 use Rattle.bz_model.specs.Runs.{CanStep}
 use Rattle.bz_net.specs.Keeping.{IsMarked}
 use Rattle.bz_explore_net.specs.Picking.{HasMembers}

@@ -1,0 +1,4 @@
+pub mod Tallies
+pub mod Told
+pub mod Lines
+pub mod Joins

@@ -1,7 +1,0 @@
-use Rattle.std.specs.Option.{option_copied}
-use Rattle.bz_cli_waits.proofs.Waited.{told_same}
-use Rattle.bz_cli_waits.proofs.waits.find_sourced.Goals as goal
-
-pub returns-in-Ok-with_source : goal.returns-in-Ok-with_source
-returns-in-Ok-with_source g c =
-    told_same c.args.netlist.now c.args.trace.now (option_copied c.args.part) c.args.asked c.in-Ok.told.is_stuck c.in-Ok-with_source.told.is_stuck c.in-Ok-with_source.ensures c.in-Ok.ensures
