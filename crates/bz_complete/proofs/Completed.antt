@@ -1,5 +1,5 @@
 -- What the command `complete` answers.
-use Rattle.std.proofs.Common.{◌≡◌, ◌≤◌, ℕ, List, Option, Some, None, length, refl, sym, subst, inl, inr}
+use Rattle.std.proofs.Common.{◌≤◌, ℕ, List, Option, length, refl, sym, subst}
 use Rattle.std.specs.Prelude.{Result, Ok, Err}
 use Rattle.bz_model.specs.Clashes.{AreClashed}
 use Rattle.bz_model.specs.Nets.{Wiring, opening}
@@ -7,10 +7,9 @@ use Rattle.bz_model.specs.Runs.{Run}
 use Rattle.bz_model.specs.Traces.{trace_text}
 use Rattle.bz_net.specs.Simulation.{Simulation}
 use Rattle.bz_trace_text.specs.declared.text.Version.TheVariants.{Two}
-use Rattle.bz_complete.specs.declared.completing.Completed.{Completed}
-use Rattle.bz_complete.specs.declared.names.ChanName.{ChanName}
+use Rattle.bz_complete.specs.Named.{AreNames, ChanTable}
 use Rattle.bz_complete.specs.declared.short.ShortMove.{ShortMove}
-use Rattle.bz_complete.specs.Completing.{IsCompleted, IsMade}
+use Rattle.bz_complete.specs.Completing.{IsMade}
 use Rattle.bz_complete.specs.ShortTexts.{Spells}
 use Rattle.bz_complete.specs.Stopping.{IsDeadEndAt}
 use Rattle.bz_cli_input.specs.Opening.{Denotes, RefusesNet}
@@ -51,22 +50,22 @@ run_of w moves front line net run made refuted = (
 )
 
 -- the moves of a text were made
-pub read_so : (w : Wiring) (names : List ChanName) (short : List ℕ) (moves : List ShortMove) (answer : Result Simulation CompleteFault) → Spells names short moves → Makes w moves answer → FindsIn w names short answer
+pub read_so : (w : Wiring) (names : ChanTable) (short : List ℕ) (moves : List ShortMove) (answer : Result Simulation CompleteFault) → Spells names short moves → Makes w moves answer → FindsIn w names short answer
 read_so w names short moves (Ok net) spelt made = (moves, spelt, made)
 read_so w names short moves (Err (Command fault)) spelt is = is
-read_so w names short moves (Err (NotShort line why)) spelt none = tt
+read_so w names short moves (Err (NotShort line why)) spelt none = absurd none
 read_so w names short moves (Err (Stopped line why)) spelt front = (moves, spelt, front)
 read_so w names short moves (Err (Unrested line why)) spelt none = tt
 read_so w names short moves (Err TooLong) spelt none = tt
 
--- on the net that the netlist denotes
-pub found : (netlist short : List ℕ) (part : Option (List ℕ)) (w : Wiring) (names : List ChanName) (answer : Result Simulation CompleteFault) → Denotes netlist part w → FindsIn w names short answer → Finds netlist short part answer
-found netlist short part w names (Ok net) denotes is = (w, is.0, record { net = denotes; names = names; spelt = is.1 }, is.2)
-found netlist short part w names (Err (Command fault)) denotes is = subst (RefusesNet netlist part) (sym is) tt
-found netlist short part w names (Err (NotShort line why)) denotes is = (w, denotes)
-found netlist short part w names (Err (Stopped line why)) denotes is = (w, denotes, (names, is))
-found netlist short part w names (Err (Unrested line why)) denotes is = (w, denotes)
-found netlist short part w names (Err TooLong) denotes is = (w, denotes)
+-- on the net that the netlist denotes, by its names
+pub found : (netlist short : List ℕ) (part : Option (List ℕ)) (w : Wiring) (names : ChanTable) (answer : Result Simulation CompleteFault) → Denotes netlist part w → AreNames netlist part w names → FindsIn w names short answer → Finds netlist short part answer
+found netlist short part w names (Ok net) denotes theirs is = (w, is.0, record { net = denotes; names = names; theirs = theirs; spelt = is.1 }, is.2)
+found netlist short part w names (Err (Command fault)) denotes theirs is = subst (RefusesNet netlist part) (sym is) tt
+found netlist short part w names (Err (NotShort line why)) denotes theirs is = (w, denotes, (names, theirs, is))
+found netlist short part w names (Err (Stopped line why)) denotes theirs is = (w, denotes, (names, theirs, is))
+found netlist short part w names (Err (Unrested line why)) denotes theirs is = (w, denotes, (names, theirs, is))
+found netlist short part w names (Err TooLong) denotes theirs is = (w, denotes, (names, theirs, is))
 
 pub completes : (netlist short : List ℕ) (part : Option (List ℕ)) (net : Simulation) (text : List ℕ) → Finds netlist short part (Ok net) → ((w : Wiring) (moves : List ShortMove) → IsMade w moves net → IsWhole w moves text) → Completes netlist short part text
 completes netlist short part net text is whole = (is.0, is.1, is.2, whole is.0 is.1 is.3)

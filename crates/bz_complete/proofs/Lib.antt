@@ -5,6 +5,7 @@ pub mod FreeKinds
 pub mod Gaining
 pub mod HostEnds
 pub mod Joined
+pub mod Naming
 pub mod Noticing
 pub mod Parts
 pub mod Plain

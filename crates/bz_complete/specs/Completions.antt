@@ -1,15 +1,13 @@
 -- What the command `complete` reads and writes: a netlist, a short trace, and the trace of a run that shows the same.
 use Rattle.std.specs.Prelude.{◌≡◌, ⊤, ℕ, List, Option, Result, Ok, Err}
 use Rattle.std.specs.Io.KnownBytes.{Appends}
-use Rattle.bz_model.specs.Clashes.{AreClashed}
 use Rattle.bz_model.specs.Nets.{Wiring}
-use Rattle.bz_model.specs.Traces.{trace_text}
 use Rattle.bz_net.specs.Simulation.{Simulation}
 use Rattle.bz_trace.specs.Verdicts.{IsRunText}
-use Rattle.bz_complete.specs.declared.names.ChanName.{ChanName}
 use Rattle.bz_complete.specs.declared.short.ShortMove.{ShortMove}
 use Rattle.bz_complete.specs.Completing.{IsFront, IsMade}
-use Rattle.bz_complete.specs.ShortTexts.{Spells}
+use Rattle.bz_complete.specs.Named.{AreNames, ChanTable}
+use Rattle.bz_complete.specs.ShortTexts.{GoesTo, Spells}
 use Rattle.bz_complete.specs.Shown.{shown}
 use Rattle.bz_complete.specs.Stopping.{HasRun, IsDeadEndAt, IsRefuted}
 use Rattle.bz_cli_input.specs.declared.fault.Fault.TheVariants.{Memory, Write}
@@ -51,32 +49,29 @@ abbrev pub Makes : Wiring → List ShortMove → Result Simulation CompleteFault
 Makes w moves (Ok net) = IsMade w moves net
 Makes w moves (Err fault) = RefusesMoves w moves fault
 
--- Why no trace is made on the net of a text by these names of channels. Of a line that is none of a short trace nothing is said.
-abbrev pub RefusesShort : Wiring → List ChanName → List ℕ → CompleteFault → Type 0
-RefusesShort w names short (NotShort line why) = ⊤
+-- Why no trace is made on the net of a text by these names of channels. Of a line that is none of a short trace it is said that those
+-- before it are; that it is none is not said.
+abbrev pub RefusesShort : Wiring → ChanTable → List ℕ → CompleteFault → Type 0
+RefusesShort w names short (NotShort line why) = GoesTo names short line
 RefusesShort w names short (Stopped line why) = (moves : List ShortMove) × Spells names short moves × RefusesMoves w moves (Stopped line why)
 RefusesShort w names short (Command fault) = fault ≡ Memory
 RefusesShort w names short (Unrested line why) = ⊤
 RefusesShort w names short TooLong = ⊤
 
-abbrev pub FindsIn : Wiring → List ChanName → List ℕ → Result Simulation CompleteFault → Type 0
+abbrev pub FindsIn : Wiring → ChanTable → List ℕ → Result Simulation CompleteFault → Type 0
 FindsIn w names short (Ok net) = (moves : List ShortMove) × Spells names short moves × IsMade w moves net
 FindsIn w names short (Err fault) = RefusesShort w names short fault
 
 -- why there is no trace
 abbrev pub RefusesComplete : List ℕ → List ℕ → Option (List ℕ) → CompleteFault → Type 0
 RefusesComplete netlist short part (Command fault) = RefusesNet netlist part fault
-RefusesComplete netlist short part (NotShort line why) = (w : Wiring) × Denotes netlist part w
-RefusesComplete netlist short part (Stopped line why) =
-    (w : Wiring) × Denotes netlist part w × ((names : List ChanName) × RefusesShort w names short (Stopped line why))
-RefusesComplete netlist short part (Unrested line why) = (w : Wiring) × Denotes netlist part w
-RefusesComplete netlist short part TooLong = (w : Wiring) × Denotes netlist part w
+RefusesComplete netlist short part fault = (w : Wiring) × Denotes netlist part w × ((names : ChanTable) × AreNames netlist part w names × RefusesShort w names short fault)
 
--- The netlist denotes a net, and the short trace spells moves by numbers of its channels and by some names. Of the names it is
--- not said that they are those of the netlist.
+-- The netlist denotes a net, and the short trace spells moves by numbers and names of its channels.
 pub record IsOfMoves (netlist short : List ℕ) (part : Option (List ℕ)) (w : Wiring) (moves : List ShortMove) : Type 0 where
   pub net : Denotes netlist part w
-  pub names : List ChanName
+  pub names : ChanTable
+  pub theirs : AreNames netlist part w names
   pub spelt : Spells names short moves
 
 abbrev pub Finds : List ℕ → List ℕ → Option (List ℕ) → Result Simulation CompleteFault → Type 0

@@ -1,5 +1,7 @@
 pub mod Shown
+pub mod Named
 pub mod ShortTexts
+pub mod Faults
 pub mod Completing
 pub mod Choosing
 pub mod Stopping

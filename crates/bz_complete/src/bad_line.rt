@@ -1,6 +1,6 @@
 //! Why a line is none of a short trace.
 
-use crate::names::ChanName;
+use crate::names::ChanNames;
 use crate::reading::chan;
 use crate::why::string_of;
 use bz_text::Text;
@@ -17,7 +17,7 @@ const VALUE: &str = "a value in decimal digits, below 2^128";
 
 /// Three notes, each behind a line end: the line of this number, from 1, what was found in it, and what was expected. Nothing where
 /// memory is wanting.
-pub(crate) fn why_bad(alloc: Global, short: &[u8], names: &[ChanName], number: usize) -> String {
+pub(crate) fn why_bad(alloc: Global, short: &[u8], names: &ChanNames, number: usize) -> String {
     let mut lines = short.split(|byte| *byte == b'\n');
     let line = lines.nth(number.wrapping_sub(1)).unwrap_or(b"");
     let (found, expected) = if lines.next().is_some() {
@@ -36,7 +36,7 @@ pub(crate) fn why_bad(alloc: Global, short: &[u8], names: &[ChanName], number: u
         "\nbreezesim: note: % | %\nbreezesim: note: found: %",
         &pieces,
     );
-    if let Some((one, other)) = both_of(found, names) {
+    if let Some((one, other)) = names.both(found) {
         let pieces = [Piece::Number(one), Piece::Number(other)];
         text.say(", the name of the channels % and %", &pieces);
     }
@@ -45,7 +45,7 @@ pub(crate) fn why_bad(alloc: Global, short: &[u8], names: &[ChanName], number: u
 }
 
 // What is bad in a line, and what was expected there.
-fn reason<'l>(line: &'l [u8], names: &[ChanName]) -> (&'l [u8], &'static str) {
+fn reason<'l>(line: &'l [u8], names: &ChanNames) -> (&'l [u8], &'static str) {
     if line.ends_with(b"\r") {
         return (b"a CR", "an LF alone at the end of the line");
     }
@@ -72,19 +72,9 @@ fn cut(bytes: &[u8]) -> (&[u8], &[u8]) {
     }
 }
 
-fn is_chan(word: &[u8], names: &[ChanName]) -> bool {
+fn is_chan(word: &[u8], names: &ChanNames) -> bool {
     match str::from_utf8(word) {
         Ok(word) => chan(word, names).is_some(),
         Err(_) => false,
     }
-}
-
-// Two channels that have a name, if there are two.
-fn both_of(name: &[u8], names: &[ChanName]) -> Option<(usize, usize)> {
-    for entry in names {
-        if entry.name.as_slice() == name {
-            return Some((entry.chan as usize, entry.other? as usize));
-        }
-    }
-    None
 }

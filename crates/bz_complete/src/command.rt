@@ -2,12 +2,14 @@
 //!
 //! The trace is made whole before any of it goes out, so nothing is written where there is none.
 
-ghost use Rattle.std.specs.Prelude.{List, IfSome, OnErr, OnOk};
+ghost use Rattle.std.specs.Prelude.{ℕ, List, Option, IfOk, IfSome, OnErr, OnOk};
 ghost use Rattle.std.specs.Option.{option_copied};
 ghost use Rattle.bz_cli_input.specs.Reading.{ReadsWithin};
+ghost use Rattle.bz_cli_source.specs.Surveys.{IsRead};
 ghost use Rattle.bz_complete.specs.Completions.{CompletesApart, CompletesTexts, Finds, FindsIn, Makes, SendsTrace, SendsTraceSome};
 ghost use Rattle.bz_complete.specs.Completing.{IsCompleted, IsMade};
 ghost use Rattle.bz_complete.specs.declared.short.ShortMove.{ShortMove};
+ghost use Rattle.bz_complete.specs.Named.{AreNames};
 ghost use Rattle.bz_complete.specs.Stopping.{IsDeadEndAt, IsRefuted};
 ghost use Rattle.bz_model.specs.Nets.{Wiring};
 
@@ -15,8 +17,7 @@ use crate::asked::CompleteAsked;
 use crate::bad_line::why_bad;
 use crate::completing::{Completed, complete};
 use crate::fault::CompleteFault;
-use crate::names::ChanName;
-use crate::naming::{has_names, names_of};
+use crate::names::{ChanNames, has_names};
 use crate::reading::{ShortFault, read_short};
 use crate::settling::settle;
 use crate::short::ShortMove;
@@ -105,7 +106,7 @@ fn find(
     };
     let names = names_for(alloc, short, source, name.as_slice(), &flat);
     match names {
-        Ok(names) => find_in(alloc, flat, asked, names.as_slice(), short),
+        Ok(names) => find_in(alloc, flat, asked, &names, short),
         Err(_) => Err(CompleteFault::Command(Fault::Memory)),
     }
 }
@@ -117,13 +118,16 @@ fn names_for(
     source: Source,
     part: &[u8],
     flat: &Flat,
-) -> Result<Vec<ChanName>, AllocError> {
+) -> Result<ChanNames, AllocError>
+    ensures { (netlist : List ℕ) (asked : Option (List ℕ))
+        → IsRead netlist asked part.now flat.now.wiring source.parts source.lines.items → IfOk result (AreNames netlist asked flat.now.wiring) }
+{
     if !has_names(short) {
-        return Ok(Vec::new(alloc));
+        return ChanNames::none(alloc);
     }
     // a part that has a net has places, so nothing but memory can be wanting
     match source.survey(alloc, part) {
-        Ok(survey) => names_of(alloc, &survey, flat),
+        Ok(survey) => ChanNames::of(alloc, &survey, flat),
         Err(_) => Err(AllocError),
     }
 }
@@ -133,7 +137,7 @@ fn find_in(
     alloc: Global,
     flat: Flat,
     asked: CompleteAsked,
-    names: &[ChanName],
+    names: &ChanNames,
     short: &[u8],
 ) -> Result<Net, CompleteFault>
     ensures { FindsIn flat.wiring names.now short.now result }
@@ -149,13 +153,7 @@ fn find_in(
 }
 
 // Notes on a line that is none of a short trace, where they are asked for.
-fn why_none(
-    alloc: Global,
-    explains: bool,
-    short: &[u8],
-    names: &[ChanName],
-    line: usize,
-) -> String {
+fn why_none(alloc: Global, explains: bool, short: &[u8], names: &ChanNames, line: usize) -> String {
     if explains {
         why_bad(alloc, short, names, line)
     } else {

@@ -10,7 +10,6 @@ mod fault;
 mod guide;
 mod making;
 mod names;
-mod naming;
 mod pending;
 mod reading;
 mod refusing;

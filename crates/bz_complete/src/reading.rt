@@ -1,12 +1,14 @@
 //! The text of a short trace, read.
 
-ghost use Rattle.std.specs.Prelude.{◌≡◌, ◌∷◌, ◌++◌, IfOk, IfSome};
+ghost use Rattle.std.specs.Prelude.{◌≡◌, ◌∷◌, ◌++◌, false, IfErr, IfOk, IfSome};
+ghost use Rattle.std.specs.Str.Parse.{IsNumeral};
+ghost use Rattle.bz_complete.specs.Faults.{StopsShort};
 ghost use Rattle.bz_complete.specs.ShortTexts.{AreOperands, BeginsWith, IsLine, Spells, Stands, line_end, sent_text};
 
-use crate::names::{ChanName, named};
+use crate::names::ChanNames;
 use crate::short::{Sent, ShortMove};
 use bz_model::{Value, count_of, value_of};
-use std::alloc::{AllocError, AllocFailed, Global};
+use std::alloc::Global;
 use std::str;
 
 /// Why a text is no short trace.
@@ -17,25 +19,14 @@ pub enum ShortFault {
     Memory,
 }
 
-impl From<AllocError> for ShortFault {
-    fn from(_e: AllocError) -> ShortFault {
-        ShortFault::Memory
-    }
-}
-
-impl<T: Drop> From<AllocFailed<T>> for ShortFault {
-    fn from(_e: AllocFailed<T>) -> ShortFault {
-        ShortFault::Memory
-    }
-}
-
 /// The moves that a text spells, by numbers of channels and by these names.
 pub(crate) fn read_short(
     alloc: Global,
     text: &[u8],
-    names: &[ChanName],
+    names: &ChanNames,
 ) -> Result<Vec<ShortMove>, ShortFault>
-    ensures { IfOk result (λ moves. Spells names.now text.now moves.items) }
+    ensures ok { IfOk result (λ moves. Spells names.now text.now moves.items) }
+    ensures err { IfErr result (StopsShort names.now text.now) }
 {
     let mut moves = Vec::new(alloc);
     let mut rest = text;
@@ -46,17 +37,19 @@ pub(crate) fn read_short(
         let Some((due, after)) = move_at(rest, names) else {
             return Err(ShortFault::Bad(before + 1));
         };
-        moves.push(due)?;
+        let Ok(()) = moves.push(due) else {
+            return Err(ShortFault::Memory);
+        };
         rest = after;
     }
     if rest.is_empty() {
         return Ok(moves);
     }
-    Err(ShortFault::Bad(text.len()))
+    Err(ShortFault::Bad(text.len() + 1))
 }
 
 // The move of the first line of a text, and what follows that line.
-fn move_at<'t>(text: &'t [u8], names: &[ChanName]) -> Option<(ShortMove, &'t [u8])>
+fn move_at<'t>(text: &'t [u8], names: &ChanNames) -> Option<(ShortMove, &'t [u8])>
     ensures { IfSome result (λ r. BeginsWith names.now text.now r.0 r.1.now) }
 {
     let (line, after) = cut_line(text)?;
@@ -79,7 +72,7 @@ fn cut_line(text: &[u8]) -> Option<(&[u8], &[u8])>
 }
 
 // The move of a line, if it has one.
-fn move_in(line: &str, names: &[ChanName]) -> Option<ShortMove>
+fn move_in(line: &str, names: &ChanNames) -> Option<ShortMove>
     ensures { IfSome result (IsLine names.now line.now) }
 {
     let (word, operands) = line.split_once(' ')?;
@@ -89,7 +82,7 @@ fn move_in(line: &str, names: &[ChanName]) -> Option<ShortMove>
 }
 
 // A channel, and a value where there is one.
-fn operands_in(text: &str, names: &[ChanName]) -> Option<(u32, Option<Value>)>
+fn operands_in(text: &str, names: &ChanNames) -> Option<(u32, Option<Value>)>
     ensures { IfSome result (λ r. AreOperands names.now text.now r.0 r.1) }
 {
     match text.split_once(' ') {
@@ -109,12 +102,27 @@ fn sent(word: &str) -> Option<Sent>
     }
 }
 
-/// The channel that a word stands for: the one of a number, or else that of a name.
-pub(crate) fn chan(word: &str, names: &[ChanName]) -> Option<u32>
+/// The channel that a word stands for: that of a number, or else that of a name.
+pub(crate) fn chan(word: &str, names: &ChanNames) -> Option<u32>
     ensures { IfSome result (Stands names.now word.now) }
 {
+    if !is_number(word) {
+        return names.chan(word.as_bytes());
+    }
     match count_of(word) {
         Some(chan) => Some(chan),
-        None => named(names, word.as_bytes()),
+        None => None,
     }
+}
+
+// Whether a word has digits, and nothing else.
+fn is_number(word: &str) -> bool
+    ensures { result ≡ false → IsNumeral 10 word.now → ⊥ }
+{
+    for byte in word.as_bytes() {
+        if !byte.is_ascii_digit() {
+            return false;
+        }
+    }
+    !word.is_empty()
 }

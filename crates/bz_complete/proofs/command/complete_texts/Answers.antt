@@ -1,6 +1,5 @@
 use Rattle.std.proofs.Common.{inl, inr, refl}
 use Rattle.std.proofs.KnownBytes.{Keeps-refl}
-use Rattle.std.specs.Option.{option_copied}
 use Rattle.bz_complete.proofs.Completed.{completes}
 use Rattle.bz_complete.proofs.command.complete_texts.Goals as goal
 
