@@ -3,6 +3,8 @@ import os
 import re
 
 CLAUSE = re.compile(r"(?ms)^\s*(?:ensures|requires)\b.*?(?=^\s*(?:ensures|requires|//|\{)|\Z)")
+# a public function up to its body
+PUBLIC = re.compile(r"(?ms)^( *)pub fn (\w+)\b(?:[^\n]*[{};]$|.*?^\1(?:\S[^\n]*)?\{\}?$)")
 
 
 def sources(top, crate):
@@ -25,3 +27,9 @@ def clauses_of(text, path):
         text = "\n".join(blocks)
     found = re.search(rf"(?ms)^( *)pub fn {name}\b.*?^\1\{{\}}?$", text)
     return "".join(CLAUSE.findall(found[0])) if found else ""
+
+
+def public_clauses(text):
+    """Returns the name of each public function of a source, with its clauses."""
+    for found in PUBLIC.finditer(text):
+        yield found[2], "".join(CLAUSE.findall(found[0]))
