@@ -12,7 +12,7 @@ use Rattle.bz_cli_core.specs.declared.playing.End.{End}
 use Rattle.bz_cli_core.specs.declared.playing.End.TheVariants as end
 use Rattle.bz_cli_core.specs.declared.run.Played.{Played}
 use Rattle.bz_model.specs.Nets.{Wiring}
-use Rattle.bz_cli_core.specs.Running.{AreCommands, PlaysNet, PlaysText, Runs, WritesTrace, fault_for}
+use Rattle.bz_cli_core.specs.Running.{AreCommands, PlaysNet, RunsText, Runs, WritesTrace, fault_for}
 use Rattle.bz_cli_input.specs.Stopping.{AppendsSome}
 use Rattle.bz_cli_input.specs.Limits.{input_limit}
 
@@ -43,8 +43,8 @@ pub cut_short : (w : Wiring) (limit : ℕ) (strict : Bool) (cmds : List Cmd) (ol
 cut_short w limit strict cmds old new fault is end p = rw is (end, p)
 
 -- what the reader had is the text
-pub runs_on : (known : Option (List ℕ)) (items : List ℕ) (words : List (List ℕ)) (asked : Option (List ℕ)) (limit : ℕ) (strict : Bool) (cmds : List Cmd) (old new : Option (List ℕ)) (answer : Result Played Fault) → IfSome known (λ xs. items ≡ xs) → length items ≤ input_limit → AreCommands words (map command_of cmds) → PlaysText items asked limit strict cmds old new answer
+pub runs_on : (known : Option (List ℕ)) (items : List ℕ) (words : List (List ℕ)) (asked : Option (List ℕ)) (limit : ℕ) (strict : Bool) (cmds : List Cmd) (old new : Option (List ℕ)) (answer : Result Played Fault) → IfSome known (λ xs. items ≡ xs) → length items ≤ input_limit → AreCommands words (map command_of cmds) → RunsText items asked limit strict cmds old new answer
     → IfSome known (λ text. Runs text words asked limit strict old new answer)
 runs_on None items words asked limit strict cmds old new answer whole fits are plays = tt
 runs_on (Some xs) items words asked limit strict cmds old new answer whole fits are plays =
-    inr (cmds, are, inr (subst (λ text. (length text ≤ input_limit) × PlaysText text asked limit strict cmds old new answer) whole (fits, plays)))
+    inr (cmds, are, inr (subst (λ text. (length text ≤ input_limit) × RunsText text asked limit strict cmds old new answer) whole (fits, plays)))

@@ -129,8 +129,8 @@ PlaysNet w limit strict cmds old new (Err fault) = ⊥
 
 -- What went out of commands played on the net of a text, and what was answered: no net was opened and nothing went out, or the
 -- commands were played on the net that the text denotes.
-abbrev pub PlaysText : List ℕ → Option (List ℕ) → ℕ → Bool → List Cmd → Option (List ℕ) → Option (List ℕ) → Result Played Fault → Type 0
-PlaysText text asked limit strict cmds old new answer =
+abbrev pub RunsText : List ℕ → Option (List ℕ) → ℕ → Bool → List Cmd → Option (List ℕ) → Option (List ℕ) → Result Played Fault → Type 0
+RunsText text asked limit strict cmds old new answer =
     IsErrAnd answer (λ fault. RefusesNet text asked fault × Keeps old new)
     ⊎ ((w : Wiring) × Denotes text asked w × PlaysNet w limit strict cmds old new answer)
 
@@ -143,4 +143,4 @@ abbrev pub Runs : List ℕ → List (List ℕ) → Option (List ℕ) → ℕ →
 Runs text words asked limit strict old new answer =
     StopsAtWords words old new answer
     ⊎ ((cmds : List Cmd) × AreCommands words (map command_of cmds)
-    × (StopsAtInput old new answer ⊎ ((length text ≤ input_limit) × PlaysText text asked limit strict cmds old new answer)))
+    × (StopsAtInput old new answer ⊎ ((length text ≤ input_limit) × RunsText text asked limit strict cmds old new answer)))

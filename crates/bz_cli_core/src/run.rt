@@ -14,7 +14,7 @@ ghost use Rattle.bz_model.specs.Traces.{trace_text};
 ghost use Rattle.bz_net.specs.Progress.{IsToldBy};
 ghost use Rattle.bz_cli_input.specs.Reading.{ReadsWithin};
 ghost use Rattle.bz_words.specs.Words.{command_of, texts};
-ghost use Rattle.bz_cli_core.specs.Running.{AreCommands, PlaysNet, PlaysText, RefusesWords, Runs, fault_of};
+ghost use Rattle.bz_cli_core.specs.Running.{AreCommands, PlaysNet, RunsText, RefusesWords, Runs, fault_of};
 ghost use Rattle.bz_cli_core.specs.Sending.{with_net};
 ghost use Rattle.bz_cli_input.specs.Stopping.{AppendsSome};
 
@@ -95,7 +95,7 @@ pub fn run_in_pieces<R: Read, W: Write, S: Watch>(
 {
     let cmds = run_words(alloc, words)?;
     let text = read_input(alloc, input)?;
-    play_text(
+    run_text(
         alloc,
         asked,
         journal,
@@ -109,7 +109,7 @@ pub fn run_in_pieces<R: Read, W: Write, S: Watch>(
 }
 
 // Plays the commands on the net of the text, and writes the trace through a buffer of so many entries.
-fn play_text<W: Write, S: Watch>(
+fn run_text<W: Write, S: Watch>(
     alloc: Global,
     asked: Option<&[u8]>,
     journal: u32,
@@ -121,7 +121,7 @@ fn play_text<W: Write, S: Watch>(
     watch: &mut S,
 ) -> Result<Played, Fault>
     requires { 0 < room }
-    ensures { PlaysText text.items (option_copied asked.entry) journal strict cmds.now (W.contents output.old) (W.contents output.new) result }
+    ensures { RunsText text.items (option_copied asked.entry) journal strict cmds.now (W.contents output.old) (W.contents output.new) result }
 {
     let buffer = Vec::with_capacity(alloc, room)?;
     let flat = flat_of_input(alloc, asked, text)?;
