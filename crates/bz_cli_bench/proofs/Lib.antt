@@ -1,3 +1,4 @@
+pub mod Groups
 pub mod Statuses
 pub mod Ports
 pub mod Repeated

@@ -1,5 +1,8 @@
 //! What `test` is asked.
 
+ghost use Rattle.std.specs.Prelude.{◌≡◌};
+ghost use Rattle.bz_cli_bench.specs.Cases.{more_of, seed_at};
+
 use crate::blessing::Blessing;
 use std::alloc::Global;
 
@@ -23,7 +26,9 @@ pub enum Seeds {
 
 impl Seeds {
     /// How often a bench is played behind the first time.
-    pub(crate) fn more(self) -> u32 {
+    pub(crate) fn more(self) -> u32
+        ensures { result ≡ more_of self }
+    {
         match self {
             Seeds::Without | Seeds::One(_) => 0,
             Seeds::Upto(last) => last.saturating_sub(1),
@@ -31,11 +36,13 @@ impl Seeds {
     }
 
     /// The seed of a round. Rounds count from 0.
-    pub(crate) fn at(self, round: u32) -> Option<u64> {
+    pub(crate) fn at(self, round: u32) -> Option<u64>
+        ensures { result ≡ seed_at self round }
+    {
         match self {
             Seeds::Without => None,
             Seeds::One(seed) => Some(seed),
-            Seeds::Upto(_) => Some(u64::from(round).saturating_add(1)),
+            Seeds::Upto(_) => Some(u64::from(round) + 1),
         }
     }
 }

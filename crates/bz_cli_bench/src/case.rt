@@ -1,7 +1,7 @@
 //! What a case came to.
 
-ghost use Rattle.std.specs.Prelude.{◌≡◌};
-ghost use Rattle.bz_cli_bench.specs.Cases.{IsFailed, IsPassed, IsPlayed};
+ghost use Rattle.std.specs.Prelude.{◌≡◌, true};
+ghost use Rattle.bz_cli_bench.specs.Cases.{IsFailed, IsPassed, IsPlayed, is_unplayed, is_unwritten, status_of};
 
 use crate::blessing::Blessing;
 use crate::ended::{Ended, REFUSED, Unlike};
@@ -58,7 +58,9 @@ impl Told {
     }
 
     // Whether the bench is missing that was to be written. (That its trace was not kept says nothing of the case.)
-    fn is_unwritten(&self) -> bool {
+    fn is_unwritten(&self) -> bool
+        ensures { result ≡ is_unwritten self.now.blessing }
+    {
         matches!(self.blessing, Blessing::Unwritten(_))
     }
 }
@@ -85,12 +87,11 @@ impl Drop for Case {
 }
 
 impl Model for Case {
-    ghost use Rattle.bz_cli_bench.specs.Cases.{IsCase};
-    ghost use Rattle.bz_cli_bench.specs.declared.ended.Ended.{Ended};
+    ghost use Rattle.bz_cli_bench.specs.Cases.{CaseSeen, IsCase, is_unwritten};
 
-    ghost Value = { Ended };
+    ghost Value = { CaseSeen };
 
-    ghost view = { λ c. c.ended };
+    ghost view = { λ c. record { ended = c.ended; bench = c.bench; seed = c.seed; unwritten = is_unwritten c.told.blessing } };
 
     ghost invariant = { λ c. IsCase c.ended };
 }
@@ -99,7 +100,9 @@ impl Case {
     /// A case that was played and ended by this verdict.
     pub(crate) fn judged(bench: usize, seed: Option<u64>, verdict: Verdict, told: Told) -> Case
         requires { IsPlayed verdict }
-        ensures { result ≡ Ended.Judged verdict }
+        ensures ended { result.ended ≡ Ended.Judged verdict }
+        ensures bench { result.bench ≡ bench }
+        ensures seed { result.seed ≡ seed }
     {
         Case {
             ended: Ended::Judged(verdict),
@@ -110,7 +113,10 @@ impl Case {
     }
 
     /// A case that passed, but not with the values of another.
-    pub(crate) fn unlike(bench: usize, seed: Option<u64>, unlike: Unlike, told: Told) -> Case {
+    pub(crate) fn unlike(bench: usize, seed: Option<u64>, unlike: Unlike, told: Told) -> Case
+        ensures bench { result.bench ≡ bench }
+        ensures seed { result.seed ≡ seed }
+    {
         Case {
             ended: Ended::Unlike(unlike),
             bench,
@@ -120,7 +126,10 @@ impl Case {
     }
 
     /// A case whose bench is none.
-    pub(crate) fn bad_bench(bench: usize, at: Spot, cause: Cause, told: Told) -> Case {
+    pub(crate) fn bad_bench(bench: usize, at: Spot, cause: Cause, told: Told) -> Case
+        ensures bench { result.bench ≡ bench }
+        ensures unplayed { is_unplayed result.ended ≡ true }
+    {
         Case {
             ended: Ended::BadBench(at, cause),
             bench,
@@ -130,7 +139,10 @@ impl Case {
     }
 
     /// A case that has no net.
-    pub(crate) fn no_net(bench: usize, told: Told) -> Case {
+    pub(crate) fn no_net(bench: usize, told: Told) -> Case
+        ensures bench { result.bench ≡ bench }
+        ensures unplayed { is_unplayed result.ended ≡ true }
+    {
         Case {
             ended: Ended::NoNet,
             bench,
@@ -141,7 +153,7 @@ impl Case {
 
     /// How it ended.
     pub fn ended(&self) -> Ended
-        ensures { result ≡ self.now }
+        ensures { result ≡ self.now.ended }
     {
         self.ended
     }
@@ -160,7 +172,9 @@ impl Case {
     }
 
     /// Notes why its trace was not kept, where it was to be.
-    pub(crate) fn note_unkept(&mut self, why: Option<&'static str>) {
+    pub(crate) fn note_unkept(&mut self, why: Option<&'static str>)
+        ensures { self.new ≡ self.old }
+    {
         self.told.unkept = why;
     }
 
@@ -171,6 +185,7 @@ impl Case {
 
     /// The status of a call that has this case alone.
     pub(crate) fn status(&self) -> u8
+        ensures status { result ≡ status_of self.now }
         ensures passed { result ≡ 0 → IsPassed self.now }
         ensures failed { result ≡ 1 → IsFailed self.now }
     {

@@ -1,5 +1,7 @@
 //! What the plays of benches have exercised of their nets.
 
+ghost use Rattle.std.specs.Prelude.{◌≡◌, false, true, is_some, IfOk};
+
 use crate::asked::Trial;
 use crate::files::{BenchFiles, FileFault};
 use crate::nets::{Found, Nets};
@@ -58,7 +60,9 @@ pub(crate) fn tell_counted<F: BenchFiles, E: Write>(
     nets: &Nets,
     files: &mut F,
     errors: &mut E,
-) -> Result<bool, Fault> {
+) -> Result<bool, Fault>
+    ensures { is_some trial.entry.asked.cover ≡ false → IfOk result (λ is_written. is_written ≡ true) }
+{
     let Some(path) = trial.asked.cover else {
         return Ok(true);
     };

@@ -1,7 +1,7 @@
 //! How a case ends.
 
 ghost use Rattle.std.specs.Prelude.{◌≡◌, true};
-ghost use Rattle.bz_cli_bench.specs.Cases.{is_failed};
+ghost use Rattle.bz_cli_bench.specs.Cases.{is_failed, status_by};
 
 use crate::verdict::Verdict;
 use bz_bench::{Cause, Spot};
@@ -47,6 +47,7 @@ pub enum Ended {
 impl Ended {
     /// The status of a call that has one case alone, which ended so.
     pub(crate) fn status(self) -> u8
+        ensures status { result ≡ status_by self }
         ensures passed { result ≡ 0 → self ≡ Ended.Judged Verdict.Passed }
         ensures failed { result ≡ 1 → is_failed self ≡ true }
     {

@@ -1,6 +1,7 @@
 //! The cases of a bench: its plays, one for each seed, or why it is not played.
 
-ghost use Rattle.std.specs.Prelude.{◌≡◌, ◌<◌, length, IfOk};
+ghost use Rattle.std.specs.Prelude.{◌≡◌, ◌∷◌, ◌++◌, [], length, Ok, IfOk};
+ghost use Rattle.bz_cli_bench.specs.Cases.{AddsCase, AddsGroup, CaseSeen, IsPlay, IsRefused, seed_at};
 
 use crate::asked::{At, Trial};
 use crate::blessing::{Blessing, bless};
@@ -24,7 +25,7 @@ pub(crate) fn add_cases<F: BenchFiles>(
     files: &mut F,
     cases: &mut Vec<Case>,
 ) -> Result<(), Fault>
-    ensures { IfOk result (λ _. length cases.old.items < length cases.new.items) }
+    ensures { IfOk result (λ _. AddsGroup trial.entry.asked.seeds at.entry.place cases.old.items cases.new.items) }
 {
     match bless(trial, at, nets, files) {
         Ok(blessing) => add_bench(trial, At { blessing, ..at }, nets, files, cases),
@@ -40,7 +41,7 @@ fn add_bench<F: BenchFiles>(
     files: &mut F,
     cases: &mut Vec<Case>,
 ) -> Result<(), Fault>
-    ensures { IfOk result (λ _. length cases.old.items < length cases.new.items) }
+    ensures { IfOk result (λ _. AddsGroup trial.entry.asked.seeds at.entry.place cases.old.items cases.new.items) }
 {
     match bench_of(trial.alloc, at.path, files) {
         Ok(bench) => add_read(trial, at, &bench, nets, files, cases),
@@ -57,7 +58,7 @@ fn add_read<F: BenchFiles>(
     files: &mut F,
     cases: &mut Vec<Case>,
 ) -> Result<(), Fault>
-    ensures { IfOk result (λ _. length cases.old.items < length cases.new.items) }
+    ensures { IfOk result (λ _. AddsGroup trial.entry.asked.seeds at.entry.place cases.old.items cases.new.items) }
 {
     match place_of(trial, at, bench, nets, files) {
         Ok(place) => match nets.at(place) {
@@ -111,7 +112,7 @@ fn add_found<F: BenchFiles>(
     files: &mut F,
     cases: &mut Vec<Case>,
 ) -> Result<(), Fault>
-    ensures { IfOk result (λ _. length cases.old.items < length cases.new.items) }
+    ensures { IfOk result (λ _. AddsGroup trial.entry.asked.seeds at.entry.place cases.old.items cases.new.items) }
 {
     match found {
         Found::Net(opened) => add_planned(trial, at, bench, opened, counted, files, cases),
@@ -132,7 +133,7 @@ fn add_planned<F: BenchFiles>(
     files: &mut F,
     cases: &mut Vec<Case>,
 ) -> Result<(), Fault>
-    ensures { IfOk result (λ _. length cases.old.items < length cases.new.items) }
+    ensures { IfOk result (λ _. AddsGroup trial.entry.asked.seeds at.entry.place cases.old.items cases.new.items) }
 {
     match plan_of(trial.alloc, opened.flat(), bench) {
         Ok(plan) => add_plays(trial, at, opened, &plan, counted, files, cases),
@@ -151,7 +152,7 @@ fn add_plays<F: BenchFiles>(
     cases: &mut Vec<Case>,
 ) -> Result<(), Fault>
     requires { length plan.now.streams.items ≡ length opened.now.ports }
-    ensures { IfOk result (λ _. length cases.old.items < length cases.new.items) }
+    ensures { IfOk result (λ _. AddsGroup trial.entry.asked.seeds at.entry.place cases.old.items cases.new.items) }
 {
     let setting = Setting {
         trial,
@@ -172,14 +173,7 @@ fn add_plays<F: BenchFiles>(
         plan,
     };
     for round in 0..trial.asked.seeds.more() {
-        add_play(
-            setting,
-            round.saturating_add(1),
-            &mut had,
-            counted,
-            files,
-            cases,
-        )?;
+        add_play(setting, round + 1, &mut had, counted, files, cases)?;
     }
     Ok(())
 }
@@ -194,7 +188,7 @@ fn add_play<F: BenchFiles>(
     cases: &mut Vec<Case>,
 ) -> Result<(), Fault>
     requires { length setting.plan.now.streams.items ≡ length setting.opened.now.ports }
-    ensures { IfOk result (λ _. length cases.old.items < length cases.new.items) }
+    ensures { IfOk result (λ _. AddsCase (IsPlay setting.entry.at.place (seed_at setting.entry.trial.asked.seeds round)) cases.old.items cases.new.items) }
 {
     let seed = setting.trial.asked.seeds.at(round);
     add_case(case_of(setting, seed, had, counted, files), cases)
@@ -202,7 +196,7 @@ fn add_play<F: BenchFiles>(
 
 // Adds a case, if there is one.
 fn add_case(case: Result<Case, Fault>, cases: &mut Vec<Case>) -> Result<(), Fault>
-    ensures { IfOk result (λ _. length cases.old.items < length cases.new.items) }
+    ensures { IfOk result (λ _. (made : CaseSeen) × (case ≡ Ok made) × (cases.new.items ≡ cases.old.items ++ made ∷ [])) }
 {
     match case {
         Ok(case) => match cases.push(case) {
@@ -220,12 +214,14 @@ fn add_refused(
     why: Refusal,
     cases: &mut Vec<Case>,
 ) -> Result<(), Fault>
-    ensures { IfOk result (λ _. length cases.old.items < length cases.new.items) }
+    ensures { IfOk result (λ _. AddsGroup trial.entry.asked.seeds at.entry.place cases.old.items cases.new.items) }
 {
     add_case(refused(trial, at, why), cases)
 }
 
-fn refused(trial: Trial<'_>, at: At<'_>, why: Refusal) -> Result<Case, Fault> {
+fn refused(trial: Trial<'_>, at: At<'_>, why: Refusal) -> Result<Case, Fault>
+    ensures { IfOk result (IsRefused at.entry.place) }
+{
     match why {
         Refusal::Bench(spot, cause) => {
             let told = Told::none(trial.alloc);

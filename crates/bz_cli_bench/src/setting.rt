@@ -1,7 +1,7 @@
 //! A play of a bench, and the case that it makes.
 
 ghost use Rattle.std.specs.Prelude.{◌≡◌, length, IfOk};
-ghost use Rattle.bz_cli_bench.specs.Cases.{IsPlayed};
+ghost use Rattle.bz_cli_bench.specs.Cases.{IsPlay, IsPlayed};
 
 use crate::asked::{At, Trial};
 use crate::case::Case;
@@ -56,6 +56,7 @@ pub(crate) fn case_of<F: BenchFiles>(
     files: &mut F,
 ) -> Result<Case, Fault>
     requires { length setting.plan.now.streams.items ≡ length setting.opened.now.ports }
+    ensures { IfOk result (IsPlay setting.entry.at.place seed) }
 {
     match played(setting, seed) {
         Ok(mut played) => case_in(setting, seed, &mut played, had, counted, files),
@@ -109,6 +110,7 @@ fn case_in<F: BenchFiles>(
     files: &mut F,
 ) -> Result<Case, Fault>
     requires { IsPlayed played.old.verdict }
+    ensures { IfOk result (IsPlay setting.entry.at.place seed) }
 {
     if setting.trial.asked.cover.is_some() {
         counted.add(setting.trial.alloc, played.stepping.net())?;
@@ -130,6 +132,7 @@ fn told_case(
     had: Option<&Had>,
 ) -> Result<Case, Fault>
     requires { IsPlayed played.now.verdict }
+    ensures { IfOk result (IsPlay setting.entry.at.place seed) }
 {
     let place = setting.at.place;
     let unlike = unlike_of(setting, played, had);

@@ -1,7 +1,7 @@
 //! The command `test`.
 
-ghost use Rattle.std.specs.Prelude.{◌≡◌, ◌≤◌, length, IfOk};
-ghost use Rattle.bz_cli_bench.specs.Cases.{Tests};
+ghost use Rattle.std.specs.Prelude.{length, is_some, IfOk};
+ghost use Rattle.bz_cli_bench.specs.Cases.{AreOf, Tests};
 ghost use Rattle.bz_cli_input.specs.Reading.{ReadsWithin};
 
 use crate::asked::{Asked, At, Trial};
@@ -28,7 +28,7 @@ pub fn test_cmd<R: Read, F: BenchFiles, W: Write, E: Write>(
     output: &mut W,
     errors: &mut E,
 ) -> Result<u8, Fault>
-    ensures tests { Tests (length asked.entry.benches.now) result }
+    ensures tests { Tests asked.entry.seeds (length asked.entry.benches.now) (is_some asked.entry.cover) result }
 
     // Whatever comes of it, it reads at most one byte past the limit.
     ensures bounded { ReadsWithin (R.remaining input.old) (R.remaining input.new) }
@@ -85,7 +85,7 @@ fn test<F: BenchFiles, W: Write, E: Write>(
     output: &mut W,
     errors: &mut E,
 ) -> Result<u8, Fault>
-    ensures { Tests (length trial.entry.asked.benches.now) result }
+    ensures { Tests trial.entry.asked.seeds (length trial.entry.asked.benches.now) (is_some trial.entry.asked.cover) result }
 {
     match names_of(trial.alloc, trial.asked.benches) {
         Ok(names) => test_named(
@@ -108,7 +108,7 @@ fn test_named<F: BenchFiles, W: Write, E: Write>(
     output: &mut W,
     errors: &mut E,
 ) -> Result<u8, Fault>
-    ensures { Tests (length trial.entry.asked.benches.now) result }
+    ensures { Tests trial.entry.asked.seeds (length trial.entry.asked.benches.now) (is_some trial.entry.asked.cover) result }
 {
     let mut nets = Nets::new(trial.alloc);
     match cases_of(trial, &mut nets, files) {
@@ -117,13 +117,13 @@ fn test_named<F: BenchFiles, W: Write, E: Write>(
     }
 }
 
-// All cases: for each bench there is one at least.
+// All cases, those of one bench after another.
 fn cases_of<F: BenchFiles>(
     trial: Trial<'_>,
     nets: &mut Nets,
     files: &mut F,
 ) -> Result<Vec<Case>, Fault>
-    ensures { IfOk result (λ cases. length trial.entry.asked.benches.now ≤ length cases.items) }
+    ensures { IfOk result (λ cases. AreOf trial.entry.asked.seeds (length trial.entry.asked.benches.now) cases.items) }
 {
     let mut cases = Vec::new(trial.alloc);
     for (place, path) in trial.asked.benches.iter().enumerate() {
@@ -146,13 +146,13 @@ fn told<F: BenchFiles, W: Write, E: Write>(
     output: &mut W,
     errors: &mut E,
 ) -> Result<u8, Fault>
-    requires { length trial.asked.benches.now ≤ length cases.now }
-    ensures { Tests (length trial.entry.asked.benches.now) result }
+    requires { AreOf trial.asked.seeds (length trial.asked.benches.now) cases.now }
+    ensures { Tests trial.entry.asked.seeds (length trial.entry.asked.benches.now) (is_some trial.entry.asked.cover) result }
 {
     tell_unkept(trial, cases, errors);
     match tell(trial, cases, output) {
         Ok(()) => match tell_counted(trial, nets, files, errors) {
-            Ok(is_written) => Ok(status_behind(cases, is_written)),
+            Ok(is_written) => Ok(status_behind(cases, trial.asked.cover.is_some(), is_written)),
             Err(fault) => Err(fault),
         },
         Err(fault) => Err(fault),

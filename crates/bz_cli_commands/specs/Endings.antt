@@ -22,6 +22,10 @@ use Rattle.bz_cli_trace.specs.Judging.{IsCase, passes}
 use Rattle.bz_cli_trace.specs.Telling.{SaysVerdict}
 use Rattle.bz_cli_args.specs.declared.asked.ChartOptions.{ChartOptions}
 use Rattle.bz_cli_args.specs.declared.asked.WaitsOptions.{WaitsOptions}
+use Rattle.bz_cli_args.specs.declared.asked.SeedsAsked.{SeedsAsked}
+use Rattle.bz_cli_args.specs.declared.asked.SeedsAsked.TheVariants as asked
+use Rattle.bz_cli_bench.specs.declared.asked.Seeds.{Seeds}
+use Rattle.bz_cli_bench.specs.declared.asked.Seeds.TheVariants as seeds
 use Rattle.bz_cli_waits.specs.declared.asked.WaitsAsked.{WaitsAsked}
 use Rattle.bz_chart.specs.declared.range.LineRange.{LineRange}
 
@@ -112,6 +116,12 @@ lines_asked options = record { from = options.from; to = options.to; picks = is_
 -- the line and the component that are asked for
 abbrev pub waits_asked : WaitsOptions → WaitsAsked
 waits_asked options = record { line = options.line; comp = options.comp }
+
+-- the seeds that are asked for
+abbrev pub seeds_asked : SeedsAsked → Seeds
+seeds_asked asked.None = seeds.Without
+seeds_asked (asked.One seed) = seeds.One seed
+seeds_asked (asked.Upto last) = seeds.Upto last
 
 -- the most entries of a journal, and the number of workers, that a command line may name
 abbrev pub IsJournal : ℕ → Type 0

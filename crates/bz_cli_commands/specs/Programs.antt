@@ -1,5 +1,5 @@
 -- What the program does of each command, with these words and this input: with what status or fault it ends, and what went out.
-use Rattle.std.specs.Prelude.{◌≡◌, ◌≢◌, ◌⊎◌, ℕ, ⊤, Bool, false, true, ◌&&◌, if◌then◌else◌, length, Option, None, Some, Result, List, [], IfSome}
+use Rattle.std.specs.Prelude.{◌≡◌, ◌≢◌, ◌⊎◌, ℕ, ⊤, Bool, false, true, ◌&&◌, if◌then◌else◌, is_some, length, Option, None, Some, Result, List, [], IfSome}
 use Rattle.bz_model.specs.Nets.{Wiring}
 use Rattle.bz_chart.specs.Charting.{HasPiece, RefusesPiece}
 use Rattle.bz_cli.specs.Pooling.{Pools}
@@ -41,7 +41,7 @@ use Rattle.bz_page.specs.declared.fault.TooLarge.{TooLarge}
 use Rattle.bz_trace.specs.declared.checking.Verdict.TheVariants as verdict
 use Rattle.bz_cli_commands.specs.declared.makers.Maker.{Maker}
 use Rattle.bz_cli_commands.specs.declared.makers.Maker.TheVariants as maker
-use Rattle.bz_cli_commands.specs.Endings.{AreWorkers, ChecksOn, Does, IsDone, IsJournal, IsRefused, lines_asked, of_completed, of_drawing, of_pooled, of_run, waits_asked}
+use Rattle.bz_cli_commands.specs.Endings.{AreWorkers, ChecksOn, Does, IsDone, IsJournal, IsRefused, lines_asked, of_completed, of_drawing, of_pooled, of_run, seeds_asked, waits_asked}
 
 -- `run`, where the journal may be as long as is asked for
 abbrev pub RunEnds : RunOptions → List (List ℕ) → Option (List ℕ) → Option (List ℕ) → Option (List ℕ) → Option (List ℕ) → Result ℕ Fault → Type 0
@@ -172,4 +172,4 @@ ProgramDoes (asked.Draw options) named words sources is_file part known trace ol
 ProgramDoes (asked.Chart options) named words sources is_file part known trace old new result = Makes (maker.Chart options) sources part known trace old new result
 ProgramDoes (asked.Page options) named words sources is_file part known trace old new result = Makes maker.Page sources part known trace old new result
 ProgramDoes (asked.Pool options) named words sources is_file part known trace old new result = PoolEnds options words part known old new result
-ProgramDoes (asked.Test options) named words sources is_file part known trace old new result = Tests (length words) result
+ProgramDoes (asked.Test options) named words sources is_file part known trace old new result = Tests (seeds_asked options.seeds) (length words) (is_some options.cover) result

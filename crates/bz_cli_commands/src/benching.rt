@@ -1,7 +1,8 @@
 //! The command `test`, as the command line asks for it.
 
-ghost use Rattle.std.specs.Prelude.{length};
+ghost use Rattle.std.specs.Prelude.{◌≡◌, is_some, length};
 ghost use Rattle.bz_cli_bench.specs.Cases.{Tests};
+ghost use Rattle.bz_cli_commands.specs.Endings.{seeds_asked};
 ghost use Rattle.bz_cli_input.specs.Reading.{ReadsWithin};
 ghost use Rattle.bz_words.specs.Words.{texts};
 
@@ -21,7 +22,7 @@ pub fn test<R: Read, F: BenchFiles, W: Write, E: Write>(
     output: &mut W,
     errors: &mut E,
 ) -> Result<u8, Fault>
-    ensures tests { Tests (length (texts given.now.words.now)) result }
+    ensures tests { Tests (seeds_asked options.entry.seeds) (length (texts given.now.words.now)) (is_some options.entry.cover) result }
 
     // Whatever comes of it, it reads at most one byte past the limit.
     ensures bounded { ReadsWithin (R.remaining input.old) (R.remaining input.new) }
@@ -62,7 +63,9 @@ pub fn has_traces<F: BenchFiles, E: Write>(
     }
 }
 
-fn seeds_of(seeds: SeedsAsked) -> Seeds {
+fn seeds_of(seeds: SeedsAsked) -> Seeds
+    ensures { result ≡ seeds_asked seeds }
+{
     match seeds {
         SeedsAsked::None => Seeds::Without,
         SeedsAsked::One(seed) => Seeds::One(seed),
