@@ -97,10 +97,11 @@ gravity status = if status == 0 then 0 else (if status == 4 then 1 else (if stat
 abbrev pub graver : ℕ → ℕ → ℕ
 graver left right = if nat_lt (gravity left) (gravity right) then right else left
 
--- the gravest status of cases: 2, then 1, then 4, then 0
+-- whether a case has this status
 abbrev pub has_status : ℕ → List CaseSeen → Bool
 has_status status cases = list_any (λ case. status_of case == status) cases
 
+-- the gravest status of cases: 2, then 1, then 4, then 0
 abbrev pub gravest : List CaseSeen → ℕ
 gravest cases = if has_status 2 cases then 2 else (if has_status 1 cases then 1 else (if has_status 4 cases then 4 else 0))
 
@@ -133,7 +134,7 @@ more_of Without = 0
 more_of (One seed) = 0
 more_of (Upto last) = last - 1
 
--- The cases of the bench at a place: a play by each seed, in order; or the one that says why it isn't played.
+-- whether a case says why its bench isn't played
 abbrev pub is_unplayed : Ended → Bool
 is_unplayed (BadBench at cause) = true
 is_unplayed NoNet = true
@@ -142,6 +143,8 @@ is_unplayed ended = false
 abbrev pub IsRefusal : List CaseSeen → Type 0
 IsRefusal group = (case : CaseSeen) × (group ≡ case ∷ []) × (is_unplayed case.ended ≡ true)
 
+-- The cases of the bench at a place: one for each seed, in their order; or one that says why the bench isn't played. That a case is
+-- played by its seed is not said.
 pub record IsGroup (seeds : Seeds) (place : ℕ) (group : List CaseSeen) : Type 0 where
   pub bench : AllByRecursion (λ case. case.bench ≡ place) group
   pub plays : (map (λ case. case.seed) group ≡ seeds_from seeds 0 (suc (more_of seeds))) ⊎ IsRefusal group
@@ -150,6 +153,7 @@ pub record IsGroup (seeds : Seeds) (place : ℕ) (group : List CaseSeen) : Type 
 abbrev pub AddsCase : (CaseSeen → Type 0) → List CaseSeen → List CaseSeen → Type 0
 AddsCase Is old new = (case : CaseSeen) × (new ≡ old ++ case ∷ []) × Is case
 
+-- the case of this bench that is told with this seed, and one that says why this bench isn't played
 abbrev pub IsPlay : ℕ → Option ℕ → CaseSeen → Type 0
 IsPlay place seed case = (case.bench ≡ place) × (case.seed ≡ seed)
 
